@@ -1,0 +1,24 @@
+# Two commands do everything on a machine that has the Rattle kit (the command `rt` on the PATH):
+#   make demo   builds the proved program and runs the first job on a sample file
+#   make test   the whole gate: every proof from nothing, the must-fail edits, the tests, then end-to-end runs
+PROGRAM = crates/segywb/out/segywb
+
+.PHONY: demo test program bench
+
+demo: program
+	bash tests/demo.sh $(PROGRAM)
+
+test:
+	rt ci
+	$(MAKE) --no-print-directory program
+	bash tests/run.sh $(PROGRAM)
+
+# Proves what is not proved yet and builds the program; its answer to a command line without words is no failure.
+program:
+	cd crates/segywb && { rt run > out.log 2>&1 || true; }
+	test -x $(PROGRAM) || { cat crates/segywb/out.log; exit 1; }
+	rm -f crates/segywb/out.log
+
+# Speed, as ratios to cp and md5sum of the same file in the same run.
+bench: program
+	bash bench/run $(PROGRAM)

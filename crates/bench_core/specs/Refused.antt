@@ -1,0 +1,47 @@
+-- The first refusal that an edit meets.
+use Rattle.std.specs.Prelude.{ℕ, ◌+◌, ◌-◌, ◌*◌, ◌==◌, Bool, not, false, ℤ, List, length, Option, Some, None, if◌then◌else◌}
+use Rattle.std.specs.Option.{option_or}
+use Rattle.num_order.specs.Number.{bytes, fits}
+use Rattle.field_map.specs.declared.place.Place.{Place}
+use Rattle.field_map.specs.Pairs.{Pairs}
+use Rattle.frame_cut.specs.declared.head.Head.{Head}
+use Rattle.frame_cut.specs.Splice.{splice}
+use Rattle.frame_cut.specs.Frames.{trace_length}
+use Rattle.frame_cut.specs.Traces.{count_of, is_trace, trace_at}
+use Rattle.frame_cut.specs.Volume.{Volume}
+use Rattle.trace_view.specs.Values.{has_place}
+use Rattle.bench_core.specs.declared.edit.Edit.{Edit}
+use Rattle.bench_core.specs.declared.edit.Edit.TheVariants.{Set}
+use Rattle.bench_core.specs.declared.refusal.Refusal.{Refusal}
+use Rattle.bench_core.specs.declared.refusal.Refusal.TheVariants as refusals
+use Rattle.bench_core.specs.Places.{place_in_trace}
+use Rattle.bench_core.specs.State.{State}
+
+-- there is no trace p
+abbrev pub no_trace : Volume → ℕ → Option Refusal
+no_trace v p = if is_trace v p then None else Some (refusals.NoTrace p (count_of v))
+
+-- the trace with the value over the place
+abbrev pub with_value : Head → List ℕ → Place → ℤ → List ℕ
+with_value h t place x = splice t (240 * place.extension + place.byte - 1) place.kind.size (bytes h.order place.kind x)
+
+-- the length is this one
+abbrev pub is_length : Option ℕ → ℕ → Bool
+is_length None n = false
+is_length (Some m) n = m == n
+
+-- with the value over the place the trace's headers give it another length than it has, or none
+abbrev pub changes_length : Head → List ℕ → Place → ℤ → Bool
+changes_length h t place x = not (is_length (trace_length h (with_value h t place x)) (length t))
+
+-- the refusal of a value at the place that a field of the trace has; a field that is a place always has one
+abbrev pub set_refusal : Head → List ℕ → Option Place → ℤ → Option Refusal
+set_refusal h t None x = Some refusals.NoPlace
+set_refusal h t (Some place) x =
+    if not (has_place h t place) then Some refusals.NoPlace else
+    if not (fits place.kind x) then Some refusals.DoesNotFit else
+    if changes_length h t place x then Some refusals.Frame else None
+
+-- the first refusal of the edit, if it meets one; want of memory is none of these
+abbrev pub refused : State → Edit → Option Refusal
+refused s (Set p field x) = option_or (no_trace s.volume p) (set_refusal s.volume.head (trace_at s.volume p) (place_in_trace s.fields field) x)

@@ -1,0 +1,8 @@
+// What holds of edits, as contracts of calls that do nothing.
+ghost use Rattle.bench_core.specs.EditLaws.{StaysCut};
+
+/// A file that is cut is cut again, under the same reading and limits and with the same head, after any edit that is not
+/// refused: an accepted edit leaves a file that loads again.
+pub fn stays_cut()
+    ensures { StaysCut }
+{}

@@ -1,0 +1,148 @@
+// Edits, queries and saves over a small file that is made by hand.
+use crate::{Answer, AskFault, Bench, Edit, Field, Query, Refusal};
+use device_io::{Sink, Source, StepReader, StepWriter};
+use edit_overlay::SaveFault;
+use field_map::Place;
+use frame_cut::{Limits, Reading};
+use num_order::Kind;
+use std::alloc::Global;
+use std::test::Fail;
+
+// Big-endian, revision 1.0, two 16-bit samples a trace, three traces on inline 10 (bytes 189-192).
+fn sample_file(alloc: Global) -> Result<Vec<u8>, Fail> {
+    let mut file = vec![in alloc; 0u8; 4332]?;
+    let bytes = file.as_mut_slice();
+    bytes[3221] = 2;
+    bytes[3225] = 3;
+    bytes[3500] = 1;
+    bytes[3503] = 1;
+    bytes[3791] = 10;
+    bytes[4035] = 10;
+    bytes[4279] = 10;
+    Ok(file)
+}
+
+fn load(alloc: Global, file: &[u8], reading: Reading) -> Result<Bench, Fail> {
+    let limits = Limits::new(1 << 32, u32::MAX).ok_or("limits")?;
+    let mut reader = Source::new(StepReader::new(file, 1000, u64::MAX));
+    Ok(Bench::load(alloc, &mut reader, reading, limits)?)
+}
+
+fn signed(extension: u16, byte: u16, size: u8) -> Field {
+    Field::Place(Place {
+        extension,
+        byte,
+        kind: Kind { size, signed: true },
+    })
+}
+
+fn value(bench: &mut Bench, alloc: Global, p: u32, field: Field) -> Result<i128, Fail> {
+    number(bench.ask(alloc, &Query::Get(p, field))?)
+}
+
+fn number(answer: Answer) -> Result<i128, Fail> {
+    match answer {
+        Answer::Value(value) => Ok(value),
+        _ => Err("a value".into()),
+    }
+}
+
+#[test]
+fn sets_and_gets_a_field(rt: HostRuntime) -> Result<(), Fail> {
+    let alloc = rt.alloc();
+    let file = sample_file(alloc)?;
+    let mut bench = load(alloc, file.as_slice(), Reading::AsWritten)?;
+    assert_eq!(rt; bench.count(), 3);
+    assert_eq!(rt; bench.length(), 4332);
+    bench.apply(alloc, &Edit::Set(2, signed(0, 189, 4), 7))?;
+    assert_eq!(rt; value(&mut bench, alloc, 2, signed(0, 189, 4))?, 7);
+    assert_eq!(rt; value(&mut bench, alloc, 1, signed(0, 189, 4))?, 10);
+
+    let mut writer = Sink::new(Vec::new(alloc));
+    bench.save(&mut writer)?;
+    let mut expected = sample_file(alloc)?;
+    expected.as_mut_slice()[4035] = 7;
+    assert!(rt; writer.into_inner().as_slice() == expected.as_slice());
+    Ok(())
+}
+
+#[test]
+fn names_the_first_refusal(rt: HostRuntime) -> Result<(), Fail> {
+    let alloc = rt.alloc();
+    let file = sample_file(alloc)?;
+    let mut bench = load(alloc, file.as_slice(), Reading::AsWritten)?;
+    let cases = [
+        (Edit::Set(0, signed(0, 0, 5), 1 << 100), Refusal::NoTrace(0, 3)),
+        (Edit::Set(4, signed(0, 1, 4), 0), Refusal::NoTrace(4, 3)),
+        (Edit::Set(1, signed(0, 0, 4), 1 << 100), Refusal::NoPlace),
+        (Edit::Set(1, signed(0, 1, 5), 0), Refusal::NoPlace),
+        (Edit::Set(1, signed(0, 238, 4), 0), Refusal::NoPlace),
+        (Edit::Set(1, signed(1, 1, 4), 0), Refusal::NoPlace),
+        (Edit::Set(1, signed(0, 1, 2), 32768), Refusal::DoesNotFit),
+        (Edit::Set(1, signed(0, 1, 2), -32769), Refusal::DoesNotFit),
+    ];
+    for (edit, refusal) in &cases {
+        assert_eq!(rt; bench.apply(alloc, edit).err(), Some(*refusal));
+    }
+    assert_eq!(rt; bench.ask(alloc, &Query::Get(4, signed(0, 0, 4))).err(), Some(AskFault::NoTrace(4, 3)));
+    assert_eq!(rt; bench.ask(alloc, &Query::Get(3, signed(0, 0, 4))).err(), Some(AskFault::NoPlace));
+
+    let mut writer = Sink::new(Vec::new(alloc));
+    bench.save(&mut writer)?;
+    assert!(rt; writer.into_inner().as_slice() == file.as_slice());
+    Ok(())
+}
+
+#[test]
+fn tells_counts_and_samples(rt: HostRuntime) -> Result<(), Fail> {
+    let alloc = rt.alloc();
+    let mut file = sample_file(alloc)?;
+    file.as_mut_slice()[3842] = 0xff;
+    file.as_mut_slice()[3843] = 0xfe;
+    let mut bench = load(alloc, file.as_slice(), Reading::AsWritten)?;
+    assert!(rt; matches!(bench.ask(alloc, &Query::Count), Ok(Answer::Count(3))));
+    match bench.ask(alloc, &Query::Info)? {
+        Answer::Info(info) => {
+            assert_eq!(rt; info.traces, 3);
+            assert_eq!(rt; info.bytes, 4332);
+            assert_eq!(rt; info.head.traces_at, 3600);
+        }
+        _ => return Err("info".into()),
+    }
+    assert_eq!(rt; number(bench.ask(alloc, &Query::Sample(1, 1))?)?, -2);
+    assert_eq!(rt; number(bench.ask(alloc, &Query::Sample(3, 0))?)?, 0);
+    assert_eq!(rt; bench.ask(alloc, &Query::Sample(1, 2)).err(), Some(AskFault::NoSample(2, 2)));
+    assert_eq!(rt; bench.ask(alloc, &Query::Sample(1, 9)).err(), Some(AskFault::NoSample(9, 2)));
+    assert_eq!(rt; bench.ask(alloc, &Query::Sample(4, 9)).err(), Some(AskFault::NoTrace(4, 3)));
+    Ok(())
+}
+
+#[test]
+fn no_set_moves_the_end_of_a_trace(rt: HostRuntime) -> Result<(), Fail> {
+    let alloc = rt.alloc();
+    let mut file = sample_file(alloc)?;
+    file.as_mut_slice()[3503] = 0;
+    let mut bench = load(alloc, file.as_slice(), Reading::AsWritten)?;
+    assert_eq!(rt; bench.apply(alloc, &Edit::Set(1, signed(0, 115, 2), 4)).err(), Some(Refusal::Frame));
+    assert_eq!(rt; bench.apply(alloc, &Edit::Set(1, signed(0, 113, 4), 2)).err(), None);
+    let mut fixed = load(alloc, file.as_slice(), Reading::Fixed)?;
+    assert_eq!(rt; fixed.apply(alloc, &Edit::Set(1, signed(0, 115, 2), 4)).err(), None);
+    Ok(())
+}
+
+#[test]
+fn names_the_bytes_that_a_failing_writer_took(rt: HostRuntime) -> Result<(), Fail> {
+    let alloc = rt.alloc();
+    let file = sample_file(alloc)?;
+    let bench = load(alloc, file.as_slice(), Reading::AsWritten)?;
+    let mut room = [0u8; 4332];
+    let mut writer = Sink::new(StepWriter::new(&mut room, 1, 4000));
+    assert_eq!(rt; bench.save(&mut writer).err(), Some(SaveFault { written: 4000 }));
+    let _writer = writer.into_inner();
+    assert!(rt; room[..4000] == file.as_slice()[..4000]);
+
+    let mut writer = Sink::new(Vec::new(alloc));
+    bench.save(&mut writer)?;
+    assert!(rt; writer.into_inner().as_slice() == file.as_slice());
+    Ok(())
+}

@@ -1,0 +1,4 @@
+pub mod Faults
+pub mod Growth
+pub mod Joined
+pub mod Pieces

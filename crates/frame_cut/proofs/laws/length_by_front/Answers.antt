@@ -1,0 +1,5 @@
+use Rattle.frame_cut.proofs.Edits.{trace_length-front}
+use Rattle.frame_cut.proofs.laws.length_by_front.Goals as goal
+
+pub returns : goal.returns
+returns c = trace_length-front

@@ -1,0 +1,5 @@
+use Rattle.frame_cut.proofs.OneCut.{not_cut_and_stuck}
+use Rattle.frame_cut.proofs.laws.not_cut_and_stuck.Goals as goal
+
+pub returns : goal.returns
+returns c = not_cut_and_stuck

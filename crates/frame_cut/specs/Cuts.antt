@@ -1,0 +1,60 @@
+-- A file is cut into its parts, or its traces stop at one that is refused.
+use Rattle.std.specs.Prelude.{ℕ, ◌≡◌, ◌+◌, ◌<◌, ◌≤◌, ◌⊎◌, ◌++◌, nat_lt, List, length, All, Option, Some, None, Ok, Err, if◌then◌else◌}
+use Rattle.std.specs.List.{concat}
+use Rattle.frame_cut.specs.declared.head.Head.{Head}
+use Rattle.frame_cut.specs.declared.limits.Limits.{Limits}
+use Rattle.frame_cut.specs.declared.reading.Reading.{Reading}
+use Rattle.frame_cut.specs.declared.load_fault.LoadFault.{LoadFault}
+use Rattle.frame_cut.specs.declared.load_fault.LoadFault.TheVariants.{ExtensionCount, Truncated, TooManyTraces}
+use Rattle.frame_cut.specs.Volume.{Volume, front_of, bytes_of}
+use Rattle.frame_cut.specs.Heads.{head_of}
+use Rattle.frame_cut.specs.Frames.{trace_length, front_length}
+
+-- the bytes are a whole trace: their headers give them the length that they have
+pub record IsTrace (h : Head) (t : List ℕ) : Type 0 where
+  pub whole : front_length h ≤ length t
+  pub exact : trace_length h t ≡ Some (length t)
+
+-- so many blocks of 3200 bytes
+pub record AreBlocks (n : ℕ) (blocks : List (List ℕ)) : Type 0 where
+  pub count : length blocks ≡ n
+  pub whole : All (λ b. length b ≡ 3200) blocks
+
+-- the parts are as the file's head says, and within the limits
+pub record AreParts (file : List ℕ) (reading : Reading) (limits : Limits) (v : Volume) : Type 0 where
+  pub head : head_of file reading limits ≡ Ok v.head
+  pub text : length v.text ≡ 3200
+  pub bin : length v.bin ≡ 400
+  pub blocks : AreBlocks v.head.blocks v.blocks
+  pub traces : All (λ t. IsTrace v.head t) v.traces
+  pub few : length v.traces ≤ limits.traces
+  pub tail : AreBlocks v.head.trailer v.tail
+
+-- the parts are the whole file
+pub record IsCut (file : List ℕ) (reading : Reading) (limits : Limits) (v : Volume) : Type 0 where
+  pub joined : bytes_of v ≡ file
+  pub parts : AreParts file reading limits v
+
+-- the refusal of trace p where so many bytes are left and its headers give it this length, if it meets one
+abbrev pub refusal_by_length : Limits → ℕ → ℕ → Option ℕ → Option LoadFault
+refusal_by_length limits p left None = Some (ExtensionCount p)
+refusal_by_length limits p left (Some n) =
+    if nat_lt left n then Some (Truncated p) else if nat_lt limits.traces p then Some TooManyTraces else None
+
+-- the first refusal of trace p at the front of the bytes that are left, if it meets one
+abbrev pub trace_refusal : Head → Limits → ℕ → List ℕ → Option LoadFault
+trace_refusal h limits p rest =
+    if nat_lt (length rest) (front_length h) then Some (Truncated p)
+    else refusal_by_length limits p (length rest) (trace_length h rest)
+
+-- the traces before these bytes are whole, and the next one is refused
+pub record IsStuck (file : List ℕ) (reading : Reading) (limits : Limits) (v : Volume) (rest : List ℕ) (fault : LoadFault) : Type 0 where
+  pub joined : front_of v ++ concat v.traces ++ rest ++ concat v.tail ≡ file
+  pub parts : AreParts file reading limits v
+  pub some : 0 < length rest
+  pub refused : trace_refusal v.head limits (length v.traces + 1) rest ≡ Some fault
+
+-- the file is refused for this reason: by its head, or at a trace
+abbrev pub IsRefused : List ℕ → Reading → Limits → LoadFault → Type 0
+IsRefused file reading limits fault =
+    (head_of file reading limits ≡ Err fault) ⊎ ((v : Volume) × (rest : List ℕ) × IsStuck file reading limits v rest fault)

@@ -1,0 +1,86 @@
+-- The head of a file, or the first reason to refuse it.
+use Rattle.std.specs.Prelude.{ℕ, zero, suc, ◌+◌, ◌*◌, ◌-◌, ◌/◌, ◌==◌, ◌||◌, ◌&&◌, nat_lt, nat_le, Bool, true, not, List, [], ◌∷◌, length, take, drop, position, Option, Some, None, option_map, Result, Ok, Err, ℤ, pos, negsuc, int_lt, nat_abs, if◌then◌else◌}
+use Rattle.sample_codes.specs.declared.format.Format.{Format}
+use Rattle.sample_codes.specs.declared.format_fault.FormatFault.{FormatFault}
+use Rattle.sample_codes.specs.declared.format_fault.FormatFault.TheVariants as formats
+use Rattle.sample_codes.specs.Formats.{format_of}
+use Rattle.frame_cut.specs.declared.head.Head.{Head}
+use Rattle.frame_cut.specs.declared.limits.Limits.{Limits}
+use Rattle.frame_cut.specs.declared.reading.Reading.{Reading}
+use Rattle.frame_cut.specs.declared.load_fault.LoadFault.{LoadFault}
+use Rattle.frame_cut.specs.declared.load_fault.LoadFault.TheVariants.{TooLarge, Short, PairSwapped, Revision, FloatFormat, GainFormat, UnknownFormat, TextCount, Extensions, Trailer, FirstTrace}
+use Rattle.text_block.specs.Blocks.{ends_text}
+use Rattle.frame_cut.specs.BinaryHeader.{order_of, is_pair_swapped, is_unknown_revision, major_of, minor_of, format_code, text_count, extensions_field, trailer_field, first_trace, samples_field, is_fixed}
+
+-- the first n blocks of 3200 bytes
+abbrev pub blocks_of : ℕ → List ℕ → List (List ℕ)
+blocks_of zero rest = []
+blocks_of (suc n) rest = take 3200 rest ∷ blocks_of n (drop 3200 rest)
+
+-- how many blocks there are up to the first that ends the text, where some whole block does
+abbrev pub blocks_to_end : List ℕ → Option ℕ
+blocks_to_end rest = option_map (λ i. i + 1) (position ends_text (blocks_of (length rest / 3200) rest))
+
+-- how many extended textual headers stand at the front of the bytes, if they have so many as the text count says
+abbrev pub blocks_for : ℤ → List ℕ → Option ℕ
+blocks_for (pos n) rest = if nat_le (3200 * n) (length rest) then Some n else None
+blocks_for (negsuc zero) rest = blocks_to_end rest
+blocks_for (negsuc (suc n)) rest = None
+
+-- where the traces begin
+abbrev pub traces_at : ℕ → ℕ
+traces_at blocks = 3600 + 3200 * blocks
+
+-- why a sample format code is refused
+abbrev pub format_refusal : FormatFault → ℕ → LoadFault
+format_refusal formats.Float code = FloatFormat code
+format_refusal formats.Gain code = GainFormat
+format_refusal formats.Unknown code = UnknownFormat code
+
+-- what the binary header says, with the sample format and the number of blocks
+abbrev pub head_in : Reading → List ℕ → Format → ℕ → Head
+head_in reading bin format blocks = record {
+  order = order_of bin;
+  major = major_of bin;
+  minor = minor_of bin;
+  format = format;
+  samples = samples_field bin;
+  fixed = is_fixed reading bin;
+  extensions = nat_abs (extensions_field bin);
+  blocks = blocks;
+  trailer = nat_abs (trailer_field bin);
+  traces_at = traces_at blocks;
+}
+
+-- whether the number of trailer records is negative, or more than the bytes behind the blocks hold
+abbrev pub is_trailer_refused : ℤ → ℕ → Bool
+is_trailer_refused (pos n) left = nat_lt left (3200 * n)
+is_trailer_refused (negsuc n) left = true
+
+-- the checks behind the number of blocks
+abbrev pub with_blocks : Reading → List ℕ → List ℕ → Format → Option ℕ → Result Head LoadFault
+with_blocks reading bin rest format None = Err (TextCount (text_count bin))
+with_blocks reading bin rest format (Some blocks) =
+    if int_lt (extensions_field bin) (pos 0) || int_lt (pos 255) (extensions_field bin) then Err (Extensions (extensions_field bin)) else
+    if is_trailer_refused (trailer_field bin) (length rest - 3200 * blocks) then Err (Trailer (trailer_field bin)) else
+    if not (first_trace bin == 0) && not (first_trace bin == traces_at blocks) then Err (FirstTrace (first_trace bin)) else
+    Ok (head_in reading bin format blocks)
+
+-- the checks behind the sample format
+abbrev pub with_format : Reading → List ℕ → List ℕ → Result Format FormatFault → Result Head LoadFault
+with_format reading bin rest (Err fault) = Err (format_refusal fault (format_code bin))
+with_format reading bin rest (Ok format) = with_blocks reading bin rest format (blocks_for (text_count bin) rest)
+
+-- the head that the binary header gives, with the bytes that follow it
+abbrev pub head_from : Reading → List ℕ → List ℕ → Result Head LoadFault
+head_from reading bin rest =
+    if is_pair_swapped bin then Err PairSwapped else
+    if is_unknown_revision bin then Err (Revision (major_of bin) (minor_of bin)) else
+    with_format reading bin rest (format_of (format_code bin))
+
+-- the head of the file
+abbrev pub head_of : List ℕ → Reading → Limits → Result Head LoadFault
+head_of file reading limits =
+    if nat_lt limits.bytes (length file) then Err TooLarge else
+    if nat_lt (length file) 3600 then Err (Short (length file)) else
+    head_from reading (take 400 (drop 3200 file)) (drop 3600 file)

@@ -1,0 +1,12 @@
+pub mod Splice
+pub mod BinaryHeader
+pub mod Heads
+pub mod Frames
+pub mod Volume
+pub mod Traces
+pub mod Layout
+pub mod Cuts
+pub mod Walk
+pub mod Laws
+pub mod SmallFiles
+pub mod Examples

@@ -1,0 +1,173 @@
+// The head of a file: the checks of the file headers, in their order.
+ghost use Rattle.std.specs.Prelude.{◌≡◌, ◌≤◌, ◌*◌, ◌^◌, ◌||◌, ◌&&◌, ◌==◌, not, false, pos, int_lt, length};
+ghost use Rattle.frame_cut.specs.BinaryHeader.{order_of as order_in, major_of, is_unknown_revision as is_unknown_in, text_count as text_count_in, extensions_field, trailer_field};
+ghost use Rattle.frame_cut.specs.Heads.{head_of, head_from as head_from_parts, head_in as head_in_parts, with_blocks as with_blocks_found, blocks_for as blocks_in, format_refusal as format_refusal_of, is_trailer_refused as is_trailer_refused_at};
+
+use crate::binary_header::{
+    extensions, first_trace, format_code, is_fixed, is_pair_swapped, major, minor, order_of,
+    samples, text_count, trailer,
+};
+use crate::head::Head;
+use crate::limits::Limits;
+use crate::load_fault::LoadFault;
+use crate::reading::Reading;
+use crate::text_headers::blocks_for;
+use num_order::Order;
+use sample_codes::{Format, FormatFault};
+
+/// The head of the file with these bytes, or the first of L02 to L12 that holds, in this order:
+/// more bytes than the limit (L02), no whole file headers (L03), swapped pairs of bytes (L04), an
+/// unknown revision (L05), a sample format that is no integer (L06, L07, L08), extended textual
+/// headers that are not there (L09), a number of trace header extensions outside 0 to 255 (L10),
+/// data trailer records that are not there (L11), another place of the first trace (L12). Reads the
+/// binary file header (bytes 3201 to 3600) alone and, where the extended textual headers end by
+/// themselves, those. Takes no memory.
+pub fn read_head(bytes: &[u8], reading: Reading, limits: Limits) -> Result<Head, LoadFault>
+    ensures { result ≡ head_of bytes.now reading limits }
+{
+    let length = bytes.len() as u64;
+    if length > limits.bytes() {
+        return Err(LoadFault::TooLarge);
+    }
+    if length < 3600 {
+        return Err(LoadFault::Short(length));
+    }
+    head_from(reading, &bytes[3200..3600], &bytes[3600..])
+}
+
+// The head of a file with this binary header and these bytes behind it.
+fn head_from(reading: Reading, bin: &[u8], rest: &[u8]) -> Result<Head, LoadFault>
+    requires whole { length bin.now ≡ 400 }
+    requires small { length rest.now ≤ 2 ^ 40 }
+    ensures { result ≡ head_from_parts reading bin.now rest.now }
+{
+    if is_pair_swapped(bin) {
+        return Err(LoadFault::PairSwapped);
+    }
+    let order = order_of(bin);
+    let major = major(order, bin);
+    let minor = minor(order, bin);
+    if major > 2 || (major == 2 && minor != 0) {
+        return Err(LoadFault::Revision(major, minor));
+    }
+    let code = format_code(order, bin);
+    match Format::of(code) {
+        Ok(format) => with_format(reading, order, bin, rest, format),
+        Err(fault) => Err(format_refusal(fault, code)),
+    }
+}
+
+// Why a sample format is refused.
+fn format_refusal(fault: FormatFault, code: u16) -> LoadFault
+    ensures { result ≡ format_refusal_of fault code }
+{
+    match fault {
+        FormatFault::Float => LoadFault::FloatFormat(code),
+        FormatFault::Gain => LoadFault::GainFormat,
+        FormatFault::Unknown => LoadFault::UnknownFormat(code),
+    }
+}
+
+// The checks behind the sample format.
+fn with_format(
+    reading: Reading,
+    order: Order,
+    bin: &[u8],
+    rest: &[u8],
+    format: Format,
+) -> Result<Head, LoadFault>
+    requires whole { length bin.now ≡ 400 }
+    requires order { order ≡ order_in bin.now }
+    requires small { length rest.now ≤ 2 ^ 40 }
+    ensures { result ≡ with_blocks_found reading bin.now rest.now format
+        (blocks_in (text_count_in bin.now) rest.now) }
+{
+    let count = text_count(order, major(order, bin), bin);
+    match blocks_for(count, rest) {
+        Some(blocks) => with_blocks(reading, order, bin, rest, format, blocks),
+        None => Err(LoadFault::TextCount(count)),
+    }
+}
+
+// The checks behind the number of extended textual headers.
+fn with_blocks(
+    reading: Reading,
+    order: Order,
+    bin: &[u8],
+    rest: &[u8],
+    format: Format,
+    blocks: u32,
+) -> Result<Head, LoadFault>
+    requires whole { length bin.now ≡ 400 }
+    requires order { order ≡ order_in bin.now }
+    requires inside { 3200 * blocks ≤ length rest.now }
+    ensures { result ≡ with_blocks_found reading bin.now rest.now format (Some blocks) }
+{
+    let major = major(order, bin);
+    let extensions = extensions(order, major, bin);
+    if is_extensions_refused(extensions) {
+        return Err(LoadFault::Extensions(extensions));
+    }
+    let records = trailer(order, major, bin);
+    if is_trailer_refused(records, rest.len() as u64 - 3200 * u64::from(blocks)) {
+        return Err(LoadFault::Trailer(records));
+    }
+    let first = first_trace(order, major, bin);
+    if is_elsewhere(first, 3600 + 3200 * u64::from(blocks)) {
+        return Err(LoadFault::FirstTrace(first));
+    }
+    Ok(head_in(reading, order, bin, format, blocks, extensions, records))
+}
+
+// Whether the most header extensions of a trace are not 0 to 255.
+fn is_extensions_refused(extensions: i32) -> bool
+    ensures { result ≡ (int_lt extensions (pos 0) || int_lt (pos 255) extensions) }
+{
+    extensions < 0 || extensions > 255
+}
+
+// Whether there are no so many data trailer records in the bytes that are left.
+fn is_trailer_refused(records: i32, left: u64) -> bool
+    ensures { result ≡ is_trailer_refused_at records left }
+{
+    records < 0 || 3200 * u64::from(records.unsigned_abs()) > left
+}
+
+// Whether the binary header names another place of the first trace than where the traces begin.
+fn is_elsewhere(first: u64, traces_at: u64) -> bool
+    ensures { result ≡ (not (first == 0) && not (first == traces_at)) }
+{
+    first != 0 && first != traces_at
+}
+
+// What the binary header says, when all checks are passed.
+fn head_in(
+    reading: Reading,
+    order: Order,
+    bin: &[u8],
+    format: Format,
+    blocks: u32,
+    extensions: i32,
+    records: i32,
+) -> Head
+    requires whole { length bin.now ≡ 400 }
+    requires order { order ≡ order_in bin.now }
+    requires extensions { extensions ≡ extensions_field bin.now }
+    requires few { (int_lt extensions (pos 0) || int_lt (pos 255) extensions) ≡ false }
+    requires records { records ≡ trailer_field bin.now }
+    ensures { result ≡ head_in_parts reading bin.now format blocks }
+{
+    let major = major(order, bin);
+    Head {
+        order,
+        major,
+        minor: minor(order, bin),
+        format,
+        samples: samples(order, major, bin),
+        fixed: is_fixed(reading, order, major, bin),
+        extensions: extensions.unsigned_abs() as u8,
+        blocks,
+        trailer: records.unsigned_abs(),
+        traces_at: 3600 + 3200 * u64::from(blocks),
+    }
+}

@@ -1,0 +1,123 @@
+// The walk over the traces of a file: where each one lies, or why one is refused.
+ghost use Rattle.std.specs.Prelude.{◌≡◌, ◌+◌, ◌*◌, ◌<◌, ◌≤◌, ◌↔◌, ◌⊎◌, ℕ, List, [], true, length, IfOk, IfErr, IsSome, IfSome};
+ghost use Rattle.std.specs.Option.{ForSome};
+ghost use Rattle.frame_cut.specs.declared.extent.Extent.{Extent};
+ghost use Rattle.frame_cut.specs.Frames.{trace_length as trace_length_of, front_length as front_length_of};
+ghost use Rattle.frame_cut.specs.Cuts.{trace_refusal};
+ghost use Rattle.frame_cut.specs.Walk.{AreWhole, StopsAt, IsFixedLength, traces_end};
+
+use crate::extent::Extent;
+use crate::frames::{front_length, length_with, trace_length};
+use crate::head::Head;
+use crate::limits::Limits;
+use crate::load_fault::LoadFault;
+use std::alloc::{AllocError, Global};
+
+// Where the traces of a file with this head lie.
+pub(crate) fn walk(
+    alloc: Global,
+    head: &Head,
+    limits: Limits,
+    bytes: &[u8],
+) -> Result<Vec<Extent>, LoadFault>
+    requires { head.now.traces_at + 3200 * head.now.trailer ≤ length bytes.now }
+    ensures whole { IfOk result (λ extents.
+        AreWhole bytes.now head.now limits extents.items (traces_end bytes.now head.now)) }
+    ensures stops { IfErr result (λ fault. (fault ≡ LoadFault.OutOfMemory)
+        ⊎ ((extents : List Extent) × (at : ℕ) × StopsAt bytes.now head.now limits extents at fault)) }
+{
+    let end = bytes.len() - 3200 * head.trailer as usize;
+    let mut at = head.traces_at as usize;
+    let fixed = fixed_length(head);
+    let Ok(mut extents) = empty_list(alloc, fixed, (end - at) as u64, limits) else {
+        return Err(LoadFault::OutOfMemory);
+    };
+    'traces: while at < end {
+        let trace = extents.len() as u64 + 1;
+        let length = match next_length(head, fixed, limits, trace, &bytes[at..end]) {
+            Ok(length) => length,
+            Err(fault) => return Err(fault),
+        };
+        let extent = Extent {
+            start: at as u64,
+            length,
+        };
+        if extents.push(extent).is_err() {
+            return Err(LoadFault::OutOfMemory);
+        }
+        at += length as usize;
+    }
+    Ok(extents)
+}
+
+// The length of every trace, where it is one whatever their headers say.
+fn fixed_length(head: &Head) -> Option<u64>
+    ensures when { IsSome result ↔ ((head.now.fixed ≡ true) × (head.now.extensions ≡ 0)) }
+    ensures length { IfSome result (IsFixedLength head.now) }
+    ensures some { IfSome result (λ length. 0 < length) }
+{
+    if head.fixed && head.extensions == 0 {
+        Some(length_with(head, 0, head.samples))
+    } else {
+        None
+    }
+}
+
+// An empty list, with room for all traces where their number is known from their length.
+fn empty_list(
+    alloc: Global,
+    fixed: Option<u64>,
+    left: u64,
+    limits: Limits,
+) -> Result<Vec<Extent>, AllocError>
+    requires { ForSome fixed (λ length. 0 < length) }
+    ensures { IfOk result (λ extents. extents.items ≡ []) }
+{
+    match fixed {
+        Some(length) => Vec::with_capacity(
+            alloc,
+            (left / length).min(u64::from(limits.traces())) as usize,
+        ),
+        None => Ok(Vec::new(alloc)),
+    }
+}
+
+// The length of the trace at the front of the bytes that are left, or why it is refused.
+fn next_length(
+    head: &Head,
+    fixed: Option<u64>,
+    limits: Limits,
+    trace: u64,
+    rest: &[u8],
+) -> Result<u64, LoadFault>
+    requires { ForSome fixed (IsFixedLength head.now) }
+    ensures whole { IfOk result (λ length. (trace_refusal head.now limits trace rest.now ≡ None)
+        × (trace_length_of head.now rest.now ≡ Some length)) }
+    ensures refused { IfErr result (λ fault. trace_refusal head.now limits trace rest.now ≡ Some fault) }
+{
+    if rest.len() < front_length(head) {
+        return Err(LoadFault::Truncated(trace));
+    }
+    let Some(length) = length_here(head, fixed, rest) else {
+        return Err(LoadFault::ExtensionCount(trace));
+    };
+    if (rest.len() as u64) < length {
+        return Err(LoadFault::Truncated(trace));
+    }
+    if trace > u64::from(limits.traces()) {
+        return Err(LoadFault::TooManyTraces);
+    }
+    Ok(length)
+}
+
+// The length of the trace at the front of the bytes that are left, if its headers give it one.
+fn length_here(head: &Head, fixed: Option<u64>, rest: &[u8]) -> Option<u64>
+    requires fixed { ForSome fixed (IsFixedLength head.now) }
+    requires front { front_length_of head.now ≤ length rest.now }
+    ensures { result ≡ trace_length_of head.now rest.now }
+{
+    match fixed {
+        Some(length) => Some(length),
+        None => trace_length(head, rest),
+    }
+}

@@ -1,0 +1,4 @@
+pub mod InRange
+pub mod NumberLemmas
+pub mod Ranges
+pub mod RoundTrip

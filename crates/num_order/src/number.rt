@@ -1,0 +1,269 @@
+// Integers of a kind read from bytes, written to bytes, and tested for their range.
+ghost use Rattle.std.specs.Prelude.{◌≡◌, ◌^◌, ◌*◌, ◌-◌, ◌<◌, ℤ, pos, MatchBool, length};
+ghost use Rattle.num_order.specs.Number.{num, bytes as bytes_of_number, fits as fits_kind, residue, IsSize, InRange, ReadsBack};
+ghost use Rattle.byteorder.specs.Endian.{twos_complement};
+
+use crate::kind::Kind;
+use crate::order::Order;
+use byteorder::{BigEndian, ByteOrder, LittleEndian};
+
+/// The number of the bytes, as many as the kind has. Takes no memory.
+pub fn read(order: Order, kind: Kind, bytes: &[u8]) -> i128
+    requires size { IsSize kind.size }
+    requires whole { length bytes.now ≡ kind.size }
+    ensures { result ≡ num order kind bytes.now }
+{
+    match order {
+        Order::Big => read_by::<BigEndian>(kind, bytes),
+        Order::Little => read_by::<LittleEndian>(kind, bytes),
+    }
+}
+
+// The number of the bytes in the order T.
+fn read_by<T: ByteOrder>(kind: Kind, bytes: &[u8]) -> i128
+    requires size { IsSize kind.size }
+    requires whole { length bytes.now ≡ kind.size }
+    ensures { MatchBool kind.signed (result ≡ twos_complement kind.size (T.number_of kind.size bytes.now))
+        (result ≡ pos (T.number_of kind.size bytes.now)) }
+{
+    let number = unsigned_of::<T>(kind.size, bytes);
+    if kind.signed {
+        from_unsigned(kind.size, number)
+    } else {
+        i128::from(number)
+    }
+}
+
+// The number in two's complement.
+fn from_unsigned(size: u8, number: u64) -> i128
+    requires { IsSize size }
+    ensures { result ≡ twos_complement size number }
+{
+    let half = half(size);
+    let number = i128::from(number);
+    if number < half {
+        number
+    } else {
+        number - half - half
+    }
+}
+
+// The number without a sign in the order T. A call for each size is much faster than one for any number of bytes.
+fn unsigned_of<T: ByteOrder>(size: u8, bytes: &[u8]) -> u64
+    requires size { IsSize size }
+    requires whole { length bytes.now ≡ size }
+    ensures { result ≡ T.number_of size bytes.now }
+{
+    match size {
+        1 => T::read_uint(bytes, 1),
+        2 => u64::from(T::read_u16(bytes)),
+        3 => u64::from(T::read_u24(bytes)),
+        4 => u64::from(T::read_u32(bytes)),
+        _ => T::read_u64(bytes),
+    }
+}
+
+// 256 to the power of the size.
+fn modulus(size: u8) -> u128
+    requires { IsSize size }
+    ensures value { result ≡ 2 ^ (8 * size) }
+{
+    match size {
+        1 => 0x100,
+        2 => 0x1_0000,
+        3 => 0x100_0000,
+        4 => 0x1_0000_0000,
+        _ => 0x1_0000_0000_0000_0000,
+    }
+}
+
+// Half of that.
+fn half(size: u8) -> i128
+    requires { IsSize size }
+    ensures value { result ≡ pos (2 ^ (8 * size - 1)) }
+{
+    match size {
+        1 => 0x80,
+        2 => 0x8000,
+        3 => 0x80_0000,
+        4 => 0x8000_0000,
+        _ => 0x8000_0000_0000_0000,
+    }
+}
+
+/// Whether the number is one of the kind's: whether its bytes can hold it. Takes no memory.
+pub fn fits(kind: Kind, value: i128) -> bool
+    requires { IsSize kind.size }
+    ensures { result ≡ fits_kind kind value }
+{
+    if kind.signed {
+        let half = half(kind.size);
+        -half <= value && value < half
+    } else {
+        0 <= value && value.unsigned_abs() < modulus(kind.size)
+    }
+}
+
+/// Writes the number over the bytes, as many as the kind has. Takes no memory.
+pub fn write(order: Order, kind: Kind, value: i128, bytes: &mut [u8])
+    requires size { IsSize kind.size }
+    requires whole { length bytes.old ≡ kind.size }
+    requires fits { InRange kind value }
+    ensures { bytes.new ≡ bytes_of_number order kind value }
+{
+    let rest = residue_of(kind, value);
+    match order {
+        Order::Big => write_unsigned::<BigEndian>(kind.size, rest, bytes),
+        Order::Little => write_unsigned::<LittleEndian>(kind.size, rest, bytes),
+    }
+}
+
+// Writes the number without a sign in the order T. A call for each size is much faster than one for any number of bytes.
+fn write_unsigned<T: ByteOrder>(size: u8, number: u64, bytes: &mut [u8])
+    requires size { IsSize size }
+    requires whole { length bytes.old ≡ size }
+    requires fits { number < 2 ^ (8 * size) }
+    ensures { bytes.new ≡ T.bytes_of size number }
+{
+    match size {
+        1 => T::write_uint(bytes, number, 1),
+        2 => T::write_u16(bytes, number as u16),
+        3 => T::write_u24(bytes, number as u32),
+        4 => T::write_u32(bytes, number as u32),
+        _ => T::write_u64(bytes, number),
+    }
+}
+
+// The number below 256 ^ size with the same last bytes.
+#[tactic(auto, using(crate::proofs::Ranges::ranges))]
+fn residue_of(kind: Kind, value: i128) -> u64
+    requires size { IsSize kind.size }
+    requires fits { InRange kind value }
+    ensures value { result ≡ residue kind.size value }
+    ensures fits { result < 2 ^ (8 * kind.size) }
+{
+    if value < 0 {
+        (modulus(kind.size) - value.unsigned_abs()) as u64
+    } else {
+        value.unsigned_abs() as u64
+    }
+}
+
+/// What is written is read again, in both orders, at each size, with a sign and without one. Takes no memory.
+pub fn reads_back()
+    ensures { ReadsBack }
+{}
+
+#[cfg(test)]
+mod tests {
+    use super::*;
+
+    const I8: Kind = Kind {
+        size: 1,
+        signed: true,
+    };
+
+    const U8: Kind = Kind {
+        size: 1,
+        signed: false,
+    };
+
+    const I16: Kind = Kind {
+        size: 2,
+        signed: true,
+    };
+
+    const U16: Kind = Kind {
+        size: 2,
+        signed: false,
+    };
+
+    const I24: Kind = Kind {
+        size: 3,
+        signed: true,
+    };
+
+    const U24: Kind = Kind {
+        size: 3,
+        signed: false,
+    };
+
+    const I32: Kind = Kind {
+        size: 4,
+        signed: true,
+    };
+
+    const U32: Kind = Kind {
+        size: 4,
+        signed: false,
+    };
+
+    const I64: Kind = Kind {
+        size: 8,
+        signed: true,
+    };
+
+    const U64: Kind = Kind {
+        size: 8,
+        signed: false,
+    };
+
+    #[test]
+    fn reads_each_size(rt: HostRuntime) {
+        let bytes = [0x80, 0x01, 0x02, 0x03, 0x04, 0x05, 0x06, 0x07];
+        assert_eq!(rt; read(Order::Big, I8, &bytes[..1]), -128);
+        assert_eq!(rt; read(Order::Little, U8, &bytes[..1]), 128);
+        assert_eq!(rt; read(Order::Big, I16, &bytes[..2]), -32_767);
+        assert_eq!(rt; read(Order::Little, U16, &bytes[..2]), 384);
+        assert_eq!(rt; read(Order::Big, I24, &bytes[..3]), -8_388_350);
+        assert_eq!(rt; read(Order::Little, U24, &bytes[..3]), 131_456);
+        assert_eq!(rt; read(Order::Big, U32, &bytes[..4]), 2_147_549_699);
+        assert_eq!(rt; read(Order::Little, I32, &bytes[..4]), 50_463_104);
+        assert_eq!(rt; read(Order::Big, I64, &bytes), -9_223_088_349_902_469_625);
+        assert_eq!(rt; read(Order::Little, U64, &bytes), 506_097_522_914_230_656);
+    }
+
+    #[test]
+    fn writes_each_size(rt: HostRuntime) {
+        let mut bytes = [0; 8];
+        write(Order::Little, I8, -1, &mut bytes[..1]);
+        assert_eq!(rt; bytes[0], 0xFF);
+        write(Order::Big, U16, 65_534, &mut bytes[..2]);
+        assert_eq!(rt; &bytes[..2], [0xFF, 0xFE].as_slice());
+        write(Order::Little, I24, -8_388_608, &mut bytes[..3]);
+        assert_eq!(rt; &bytes[..3], [0x00, 0x00, 0x80].as_slice());
+        write(Order::Big, I24, -2, &mut bytes[..3]);
+        assert_eq!(rt; &bytes[..3], [0xFF, 0xFF, 0xFE].as_slice());
+        write(Order::Little, U32, 4_294_967_294, &mut bytes[..4]);
+        assert_eq!(rt; &bytes[..4], [0xFE, 0xFF, 0xFF, 0xFF].as_slice());
+        write(Order::Big, I64, -9_223_372_036_854_775_808, &mut bytes);
+        assert_eq!(rt; bytes, [0x80, 0, 0, 0, 0, 0, 0, 0]);
+        write(Order::Little, U64, 18_446_744_073_709_551_614, &mut bytes);
+        assert_eq!(rt; bytes, [0xFE, 0xFF, 0xFF, 0xFF, 0xFF, 0xFF, 0xFF, 0xFF]);
+    }
+
+    // Whether these are the least and the greatest number of the kind.
+    fn has_range(kind: Kind, least: i64, greatest: u64) -> bool
+        requires { IsSize kind.size }
+    {
+        let (least, greatest) = (i128::from(least), i128::from(greatest));
+        fits(kind, least)
+            && !fits(kind, least - 1)
+            && fits(kind, greatest)
+            && !fits(kind, greatest + 1)
+    }
+
+    #[test]
+    fn knows_each_range(rt: HostRuntime) {
+        assert!(rt; has_range(I8, -128, 127));
+        assert!(rt; has_range(U8, 0, 255));
+        assert!(rt; has_range(I16, -32_768, 32_767));
+        assert!(rt; has_range(U16, 0, 65_535));
+        assert!(rt; has_range(I24, -8_388_608, 8_388_607));
+        assert!(rt; has_range(U24, 0, 16_777_215));
+        assert!(rt; has_range(I32, -2_147_483_648, 2_147_483_647));
+        assert!(rt; has_range(U32, 0, 4_294_967_295));
+        assert!(rt; has_range(I64, -9_223_372_036_854_775_808, 9_223_372_036_854_775_807));
+        assert!(rt; has_range(U64, 0, 18_446_744_073_709_551_615));
+    }
+}

@@ -1,0 +1,59 @@
+-- The ends of a run, from those of its steps.
+use Rattle.std.proofs.Common.{◌≡◌, ℕ, List, sym, subst, inl, inr}
+use Rattle.std.specs.Prelude.{IsTrue}
+use Rattle.frame_cut.specs.declared.load_fault.LoadFault.{LoadFault}
+use Rattle.bench_core.specs.State.{State}
+use Rattle.script_run.specs.declared.options.Options.{Options}
+use Rattle.script_run.specs.declared.run_end.RunEnd.{RunEnd}
+use Rattle.script_run.specs.declared.run_end.RunEnd.TheVariants as ends
+use Rattle.script_run.specs.declared.script_fault.ScriptFault.{ScriptFault}
+use Rattle.script_run.specs.RefusalTexts.{load_refused, script_refused}
+use Rattle.script_run.specs.Devices.{Takes, TakesPart}
+use Rattle.script_run.specs.Loading.{Loads, ReadsScript}
+use Rattle.script_run.specs.Runs.{RunsWhole, StopsAt, BreaksOff}
+use Rattle.script_run.specs.Ends.{Devices, RefusesLoad, RefusesScript, RunsThrough, Stops, LosesAnswer, IsTold, Runs}
+
+pub load_end : (options : Options) (old new : Devices) (fault : LoadFault) (result : RunEnd) → RefusesLoad options old new fault
+    → IsTold old.answers new.answers (load_refused fault) (ends.Load fault) result → Runs options old new result
+load_end options old new fault result refuses (inl told) = subst (λ r. Runs options old new r) (sym told.0) (refuses, told.1)
+load_end options old new fault result refuses (inr (written, is, part)) = subst (λ r. Runs options old new r) (sym is) (inl (fault, refuses, part))
+
+pub script_end : (options : Options) (old new : Devices) (fault : ScriptFault) (result : RunEnd) → RefusesScript options old new fault
+    → IsTold old.answers new.answers (script_refused fault) (ends.Script fault) result → Runs options old new result
+script_end options old new fault result refuses (inl told) = subst (λ r. Runs options old new r) (sym told.0) (refuses, told.1)
+script_end options old new fault result refuses (inr (written, is, part)) = subst (λ r. Runs options old new r) (sym is) (inr (inl (fault, refuses, part)))
+
+module _ (options : Options) (old new : Devices) (start end : State) (script : List ℕ)
+    (loaded : Loads old.reader new.reader options.reading options.limits start) (read : ReadsScript old.script new.script script) where
+  pub runs_through : (refused : ℕ) → (text : List ℕ) × RunsWhole start script options.stop text refused end × Takes old.answers new.answers text
+      → RunsThrough options old new refused end
+  runs_through refused (text, lines, printed) =
+      record { start = start; script = script; text = text; begins = record { loaded = loaded; read = read }; lines = lines; printed = printed }
+
+  pub stops : (line : ℕ) → new.out ≡ old.out
+      → (text : List ℕ) × StopsAt start script line text end × Takes old.answers new.answers text × IsTrue options.stop → Stops options old new line
+  stops line unsaved (text, lines, printed, asked) = record {
+    start = start;
+    end = end;
+    script = script;
+    text = text;
+    begins = record { loaded = loaded; read = read };
+    asked = asked;
+    lines = lines;
+    printed = printed;
+    unsaved = unsaved;
+  }
+
+  pub loses_answer : (written : ℕ) → new.out ≡ old.out
+      → (text : List ℕ) × BreaksOff start script options.stop written text end × TakesPart old.answers new.answers text written
+      → LosesAnswer options old new written
+  loses_answer written unsaved (text, lines, printed) = record {
+    start = start;
+    end = end;
+    script = script;
+    text = text;
+    begins = record { loaded = loaded; read = read };
+    lines = lines;
+    printed = printed;
+    unsaved = unsaved;
+  }

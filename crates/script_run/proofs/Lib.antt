@@ -1,0 +1,9 @@
+pub mod Positions
+pub mod WordLemmas
+pub mod NumberLemmas
+pub mod PlaceLemmas
+pub mod LineLemmas
+pub mod TextLemmas
+pub mod ScriptLemmas
+pub mod RunLemmas
+pub mod EndLemmas

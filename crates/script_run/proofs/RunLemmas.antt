@@ -1,0 +1,169 @@
+-- How a run goes on by one line.
+use Rattle.std.proofs.Common.{◌≡◌, ℕ, suc, ◌+◌, ◌<◌, ◌≤◌, List, [], ◌∷◌, ◌++◌, length, take, drop, map, Bool, true, false, cond, Option, Some, None, refl, ap, ap₂, sym, subst, ◌∙◌, arith, append_assoc, append-nil, length-append}
+use Rattle.std.specs.Prelude.{IsTrue, count_by, flat_map}
+use Rattle.std.specs.List.{onto_first}
+use Rattle.std.specs.Io.KnownBytes.{Appends}
+use Rattle.std.proofs.Math.Seq.{take-add}
+use Rattle.std.proofs.lemmas.List.{take_at, drop_at, length-map}
+use Rattle.std.proofs.lemmas.List.Sums.{sum_by_push}
+use Rattle.std.proofs.lemmas.List.Concat.{flat_map-append}
+use Rattle.device_io.specs.Failures.{one_more as one_more_failure}
+use Rattle.bench_core.specs.State.{State}
+use Rattle.script_run.specs.Words.{is_line_feed, parts_by_line_feed, script_lines, without_return}
+use Rattle.script_run.specs.Replies.{Printed}
+use Rattle.script_run.specs.Devices.{Device, Takes, TakesPart}
+use Rattle.script_run.specs.Runs.{LineStep, LineSteps, printed_text, refusals, RunsWhole, StopsAt, BreaksOff}
+use Rattle.device_io.specs.Growth.{Appends_more}
+
+-- ---- a script has no more lines than bytes
+
+onto_first-le : (b : ℕ) (ps : List (List ℕ)) → length (onto_first b ps) ≤ suc (length ps)
+onto_first-le b [] = omega arith
+onto_first-le b (p ∷ ps) = omega arith
+
+parts-le : (script : List ℕ) → length (parts_by_line_feed script) ≤ length script
+parts-le [] = omega arith
+parts-le (b ∷ bs) =
+    let rest = parts-le bs in
+    elim (is_line_feed b) as (λ v. length (cond v ([] ∷ parts_by_line_feed bs) (onto_first b (parts_by_line_feed bs))) ≤ suc (length bs))
+    [ true ↦ omega arith | false ↦ let one = onto_first-le b (parts_by_line_feed bs) in omega arith ]
+
+pub lines-le : (script : List ℕ) → length (script_lines script) ≤ length script
+lines-le script = let parts = parts-le script in omega (arith, length-map (parts_by_line_feed script) without_return)
+
+-- ---- one line more
+
+steps_more : (old mid new : State) (lines : List (List ℕ)) (line : List ℕ) (ps : List Printed) (p : Printed)
+    → LineSteps old lines ps mid → LineStep mid line p new → LineSteps old (lines ++ line ∷ []) (ps ++ p ∷ []) new
+steps_more old mid new [] line [] p h step = (new, subst (λ s. LineStep s line p new) h step, refl)
+steps_more old mid new [] line (q ∷ qs) p h step = absurd h
+steps_more old mid new (l ∷ ls) line [] p h step = absurd h
+steps_more old mid new (l ∷ ls) line (q ∷ qs) p (s, first, rest) step = (s, first, steps_more s mid new ls line qs p rest step)
+
+steps-length : (old new : State) (lines : List (List ℕ)) (ps : List Printed) → LineSteps old lines ps new → length lines ≡ length ps
+steps-length old new [] [] h = refl
+steps-length old new [] (p ∷ ps) h = absurd h
+steps-length old new (l ∷ ls) [] h = absurd h
+steps-length old new (l ∷ ls) (p ∷ ps) (s, first, rest) = ap suc (steps-length s new ls ps rest)
+
+text_more : (ps : List Printed) (p : Printed) → printed_text (ps ++ p ∷ []) ≡ printed_text ps ++ p.text
+text_more ps p = flat_map-append (λ q. q.text) ps (p ∷ []) ∙ ap (λ t. printed_text ps ++ t) (append-nil p.text)
+
+refusals_more : (ps : List Printed) (p : Printed) → refusals (ps ++ p ∷ []) ≡ refusals ps + cond p.is_refusal 1 0
+refusals_more ps p = sum_by_push (λ q. cond q.is_refusal 1 0) ps p
+
+-- ---- where a run stands
+
+-- the lines before these are run, with what they printed
+pub record SoFar (start : State) (all rest : List (List ℕ)) (stop : Bool) (number refused written : ℕ) (before after : Device) (now : State) : Type 0 where
+  pub done : List (List ℕ)
+  pub printed : List Printed
+  pub lines : all ≡ done ++ rest
+  pub steps : LineSteps start done printed now
+  pub number_is : number ≡ length printed
+  pub refused_is : refused ≡ refusals printed
+  pub written_is : written ≡ length (printed_text printed)
+  pub goes_on : IsTrue stop → refused ≡ 0
+  pub taken : Takes before after (printed_text printed)
+
+pub none_yet : (start : State) (all : List (List ℕ)) (stop : Bool) (before : Device) → Appends before.bytes before.bytes [] → SoFar start all all stop 0 0 0 before before start
+none_yet start all stop before same = record {
+  done = [];
+  printed = [];
+  lines = refl;
+  steps = refl;
+  number_is = refl;
+  refused_is = refl;
+  written_is = refl;
+  goes_on = λ _. refl;
+  taken = record { bytes = same; failures = refl };
+}
+
+pub stays : (known : Option (List ℕ)) → Appends known known []
+stays None = tt
+stays (Some bytes) = sym (append-nil bytes)
+
+takes_more : (before mid after : Device) (xs ys : List ℕ) → Takes before mid xs → Takes mid after ys → Takes before after (xs ++ ys)
+takes_more before mid after xs ys p q = record {
+  bytes = Appends_more before.bytes mid.bytes after.bytes xs ys p.bytes q.bytes;
+  failures = q.failures ∙ p.failures;
+}
+
+module _ (start : State) (all rest : List (List ℕ)) (line : List ℕ) (stop : Bool) (number refused written : ℕ) (before mid : Device) (now next : State) (p : Printed)
+    (so_far : SoFar start all (line ∷ rest) stop number refused written before mid now) (step : LineStep now line p next) where
+  through : LineSteps start (so_far.done ++ line ∷ []) (so_far.printed ++ p ∷ []) next
+  through = steps_more start now next so_far.done line so_far.printed p so_far.steps step
+
+  whole_is : all ≡ (so_far.done ++ line ∷ []) ++ rest
+  whole_is = so_far.lines ∙ sym (append_assoc so_far.done (line ∷ []) rest)
+
+  first_are : (n : ℕ) → n ≡ length so_far.printed + 1 → take n all ≡ so_far.done ++ line ∷ []
+  first_are n n_is =
+      let long : length (so_far.done ++ line ∷ []) ≡ n =
+      omega (arith, length-append so_far.done (line ∷ []), steps-length start now so_far.done so_far.printed so_far.steps) in
+      ap (take n) whole_is ∙ take_at (so_far.done ++ line ∷ []) rest n long
+
+  -- a line whose reply is written
+  pub one_more : (after : Device) (more : ℕ) → Takes mid after p.text → more ≡ refused + cond p.is_refusal 1 0 → (IsTrue stop → p.is_refusal ≡ false)
+      → SoFar start all rest stop (number + 1) more (written + length p.text) before after next
+  one_more after more taken more_is not_refused = record {
+    done = so_far.done ++ line ∷ [];
+    printed = so_far.printed ++ p ∷ [];
+    lines = whole_is;
+    steps = through;
+    number_is = omega (arith, so_far.number_is, length-append so_far.printed (p ∷ []));
+    refused_is = more_is ∙ ap (λ n. n + cond p.is_refusal 1 0) so_far.refused_is ∙ sym (refusals_more so_far.printed p);
+    written_is = omega (arith, so_far.written_is, ap length (text_more so_far.printed p), length-append (printed_text so_far.printed) p.text);
+    goes_on = λ s. let none : refused ≡ 0 = so_far.goes_on s in more_is ∙ ap₂ (λ n b. n + cond b 1 0) none (not_refused s);
+    taken = rw (text_more so_far.printed p) (takes_more before mid after (printed_text so_far.printed) p.text so_far.taken taken);
+  }
+
+  part_more : (xs ys : List ℕ) (n : ℕ) → take (length xs + n) (xs ++ ys) ≡ xs ++ take n ys
+  part_more xs ys n =
+      take-add (length xs) n (xs ++ ys) ∙ ap₂ (λ a b. a ++ take n b) (take_at xs ys (length xs) refl) (drop_at xs ys (length xs) refl)
+
+  -- a line whose reply is not written whole
+  pub breaks_off : (script : List ℕ) (after : Device) (k : ℕ) → all ≡ script_lines script → TakesPart mid after p.text k
+      → (text : List ℕ) × BreaksOff start script stop (written + k) text next × TakesPart before after text (written + k)
+  breaks_off script after k all_is part =
+      let text : List ℕ = printed_text (so_far.printed ++ p ∷ []) in
+      let text_is : text ≡ printed_text so_far.printed ++ p.text = text_more so_far.printed p in
+      let long : length text ≡ length (printed_text so_far.printed) + length p.text =
+      ap length text_is ∙ length-append (printed_text so_far.printed) p.text in
+      let bytes : Appends before.bytes after.bytes (take (written + k) text) =
+      rw (so_far.written_is, text_is, part_more (printed_text so_far.printed) p.text k)
+      (Appends_more before.bytes mid.bytes after.bytes (printed_text so_far.printed) (take k p.text) so_far.taken.bytes part.bytes) in (
+        text,
+        record {
+          before = so_far.printed;
+          last = p;
+          steps = rw (← all_is, first_are (length so_far.printed + 1) refl) through;
+          text_is = refl;
+          goes_on = λ s. sym so_far.refused_is ∙ so_far.goes_on s;
+          taken_before = omega (arith, so_far.written_is);
+          not_taken = omega (arith, long, so_far.written_is, part.short);
+        },
+        record {
+          bytes = bytes;
+          short = omega (arith, long, so_far.written_is, part.short);
+          failures = part.failures ∙ ap one_more_failure so_far.taken.failures;
+        },
+      )
+
+  -- a refused line at which the run stops
+  pub stops : (script : List ℕ) (after : Device) → all ≡ script_lines script → Takes mid after p.text → IsTrue p.is_refusal → IsTrue stop
+      → (text : List ℕ) × StopsAt start script (number + 1) text next × Takes before after text × IsTrue stop
+  stops script after all_is taken refused_is stop_is = (
+    printed_text (so_far.printed ++ p ∷ []),
+    record {
+      before = so_far.printed;
+      last = p;
+      steps = rw (← all_is, first_are (number + 1) (omega (arith, so_far.number_is))) through;
+      line_is = omega (arith, so_far.number_is);
+      text_is = refl;
+      none_before = sym so_far.refused_is ∙ so_far.goes_on stop_is;
+      refused_last = refused_is;
+    },
+    rw (text_more so_far.printed p) (takes_more before mid after (printed_text so_far.printed) p.text so_far.taken taken),
+    stop_is,
+  )

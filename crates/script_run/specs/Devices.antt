@@ -1,0 +1,23 @@
+-- What readers and writers tell.
+use Rattle.std.specs.Prelude.{ℕ, ◌≡◌, ◌<◌, List, length, take, Option, Result, MatchResult}
+use Rattle.std.specs.Io.KnownBytes.{Appends}
+use Rattle.device_io.specs.Failures.{one_more}
+
+-- the bytes that a reader has left or that a writer holds, where they are known, and how often it has failed
+pub record Device : Type 0 where
+  pub bytes : Option (List ℕ)
+  pub failures : ℕ
+
+abbrev pub device : Option (List ℕ) → ℕ → Device
+device bytes failures = record { bytes = bytes; failures = failures }
+
+-- a writer takes all of a text
+pub record Takes (old new : Device) (text : List ℕ) : Type 0 where
+  pub bytes : Appends old.bytes new.bytes text
+  pub failures : new.failures ≡ old.failures
+
+-- a writer takes the first `written` bytes of a text, not all, and then a write fails
+pub record TakesPart (old new : Device) (text : List ℕ) (written : ℕ) : Type 0 where
+  pub bytes : Appends old.bytes new.bytes (take written text)
+  pub short : written < length text
+  pub failures : new.failures ≡ one_more old.failures

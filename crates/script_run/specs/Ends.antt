@@ -1,0 +1,98 @@
+-- How a run ends, and what the readers and writers told.
+use Rattle.std.specs.Prelude.{◌≡◌, ◌⊎◌, ℕ, Bool, true, false, IsTrue, List, length}
+use Rattle.frame_cut.specs.declared.load_fault.LoadFault.{LoadFault}
+use Rattle.frame_cut.specs.Volume.{bytes_of}
+use Rattle.edit_overlay.specs.declared.save_fault.SaveFault.{SaveFault}
+use Rattle.bench_core.specs.State.{State}
+use Rattle.script_run.specs.declared.options.Options.{Options}
+use Rattle.script_run.specs.declared.run_end.RunEnd.{RunEnd}
+use Rattle.script_run.specs.declared.run_end.RunEnd.TheVariants as ends
+use Rattle.script_run.specs.declared.script_fault.ScriptFault.{ScriptFault}
+use Rattle.script_run.specs.Devices.{Device, Takes, TakesPart}
+use Rattle.script_run.specs.Loading.{Loads, IsLoadRefused, ReadsScript, IsScriptRefused}
+use Rattle.script_run.specs.RefusalTexts.{load_refused, script_refused}
+use Rattle.script_run.specs.Runs.{RunsWhole, StopsAt, BreaksOff}
+
+-- the readers of the volume and of the script, the writers of the answers and of the saved volume
+pub record Devices : Type 0 where
+  pub reader : Device
+  pub script : Device
+  pub answers : Device
+  pub out : Device
+
+abbrev pub devices : Device → Device → Device → Device → Devices
+devices reader script answers out = record { reader = reader; script = script; answers = answers; out = out }
+
+-- the volume is loaded, then the script is read whole
+pub record Begins (options : Options) (old new : Devices) (start : State) (script : List ℕ) : Type 0 where
+  pub loaded : Loads old.reader new.reader options.reading options.limits start
+  pub read : ReadsScript old.script new.script script
+
+-- the volume is refused: the script is not read, and nothing is saved
+pub record RefusesLoad (options : Options) (old new : Devices) (fault : LoadFault) : Type 0 where
+  pub refused : IsLoadRefused old.reader new.reader options.reading options.limits fault
+  pub unread : new.script ≡ old.script
+  pub unsaved : new.out ≡ old.out
+
+-- the volume is loaded and the script refused: nothing is saved
+pub record RefusesScript (options : Options) (old new : Devices) (fault : ScriptFault) : Type 0 where
+  pub start : State
+  pub loaded : Loads old.reader new.reader options.reading options.limits start
+  pub refused : IsScriptRefused old.script new.script fault
+  pub unsaved : new.out ≡ old.out
+
+-- all lines are run, with so many refused, and the writer of the answers takes what they print
+pub record RunsThrough (options : Options) (old new : Devices) (refused : ℕ) (end : State) : Type 0 where
+  pub start : State
+  pub script : List ℕ
+  pub text : List ℕ
+  pub begins : Begins options old new start script
+  pub lines : RunsWhole start script options.stop text refused end
+  pub printed : Takes old.answers new.answers text
+
+-- the lines are run up to the first that is refused; nothing is saved
+pub record Stops (options : Options) (old new : Devices) (line : ℕ) : Type 0 where
+  pub start : State
+  pub end : State
+  pub script : List ℕ
+  pub text : List ℕ
+  pub begins : Begins options old new start script
+  pub asked : IsTrue options.stop
+  pub lines : StopsAt start script line text end
+  pub printed : Takes old.answers new.answers text
+  pub unsaved : new.out ≡ old.out
+
+-- the lines are run up to one whose answer is not written whole; nothing is saved
+pub record LosesAnswer (options : Options) (old new : Devices) (written : ℕ) : Type 0 where
+  pub start : State
+  pub end : State
+  pub script : List ℕ
+  pub text : List ℕ
+  pub begins : Begins options old new start script
+  pub lines : BreaksOff start script options.stop written text end
+  pub printed : TakesPart old.answers new.answers text written
+  pub unsaved : new.out ≡ old.out
+
+-- where it is asked for, the writer takes the volume's bytes; else nothing is saved
+abbrev pub SavesIf : Bool → Device → Device → List ℕ → Type 0
+SavesIf true old new bytes = Takes old new bytes
+SavesIf false old new bytes = new ≡ old
+
+-- the line of a refusal is written and this is the end, or it is written in part
+abbrev pub IsTold : Device → Device → List ℕ → RunEnd → RunEnd → Type 0
+IsTold old new line end result =
+    ((result ≡ end) × Takes old new line) ⊎ ((written : ℕ) × (result ≡ ends.Answers written) × TakesPart old new line written)
+
+-- the readers and writers from before a run to its end
+abbrev pub Runs : Options → Devices → Devices → RunEnd → Type 0
+Runs options old new (ends.Done refused) =
+    (end : State) × RunsThrough options old new refused end × SavesIf options.save old.out new.out (bytes_of end.volume)
+Runs options old new (ends.Stopped line) = Stops options old new line
+Runs options old new (ends.Load fault) = RefusesLoad options old new fault × Takes old.answers new.answers (load_refused fault)
+Runs options old new (ends.Script fault) = RefusesScript options old new fault × Takes old.answers new.answers (script_refused fault)
+Runs options old new (ends.Answers written) =
+    ((fault : LoadFault) × RefusesLoad options old new fault × TakesPart old.answers new.answers (load_refused fault) written)
+    ⊎ ((fault : ScriptFault) × RefusesScript options old new fault × TakesPart old.answers new.answers (script_refused fault) written)
+    ⊎ LosesAnswer options old new written
+Runs options old new (ends.Save fault) =
+    (refused : ℕ) × (end : State) × RunsThrough options old new refused end × IsTrue options.save × TakesPart old.out new.out (bytes_of end.volume) fault.written

@@ -1,0 +1,13 @@
+pub mod Words
+pub mod Numbers
+pub mod Commands
+pub mod Texts
+pub mod RefusalTexts
+pub mod AnswerTexts
+pub mod Replies
+pub mod Runs
+pub mod Devices
+pub mod Loading
+pub mod LineRuns
+pub mod Ends
+pub mod Examples

@@ -1,0 +1,16 @@
+-- How the lines of a script end.
+use Rattle.std.specs.Prelude.{ℕ, Bool, IsTrue, List}
+use Rattle.bench_core.specs.State.{State}
+use Rattle.script_run.specs.declared.lines_end.LinesEnd.{LinesEnd}
+use Rattle.script_run.specs.declared.lines_end.LinesEnd.TheVariants.{Whole, Stopped, Answers}
+use Rattle.script_run.specs.Devices.{Device, Takes, TakesPart}
+use Rattle.script_run.specs.Runs.{RunsWhole, StopsAt, BreaksOff}
+
+-- the lines are run from one state to another, and the writer of the answers takes what they print
+abbrev pub RunsLines : State → State → List ℕ → Bool → Device → Device → LinesEnd → Type 0
+RunsLines old new script stop before after (Whole refused) =
+    (text : List ℕ) × RunsWhole old script stop text refused new × Takes before after text
+RunsLines old new script stop before after (Stopped line) =
+    (text : List ℕ) × StopsAt old script line text new × Takes before after text × IsTrue stop
+RunsLines old new script stop before after (Answers written) =
+    (text : List ℕ) × BreaksOff old script stop written text new × TakesPart before after text written

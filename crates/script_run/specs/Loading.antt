@@ -1,0 +1,42 @@
+-- How the volume and the script are read before a run.
+use Rattle.std.specs.Prelude.{ℕ, ◌≡◌, ◌≢◌, ◌⊎◌, ◌<◌, ◌≤◌, List, length, Option, IfSome}
+use Rattle.std.specs.Io.KnownBytes.{Consumes, IsAtEnd}
+use Rattle.device_io.specs.Failures.{one_more}
+use Rattle.field_map.specs.Binding.{geometry_at_load}
+use Rattle.frame_cut.specs.declared.limits.Limits.{Limits}
+use Rattle.frame_cut.specs.declared.reading.Reading.{Reading}
+use Rattle.frame_cut.specs.declared.load_fault.LoadFault.{LoadFault}
+use Rattle.frame_cut.specs.Cuts.{IsCut}
+use Rattle.frame_cut.specs.Volume.{bytes_of}
+use Rattle.edit_overlay.specs.Loading.{IsLoadFault, FailuresAfterRefusal}
+use Rattle.bench_core.specs.State.{State}
+use Rattle.script_run.specs.declared.script_fault.ScriptFault.{ScriptFault}
+use Rattle.script_run.specs.declared.script_fault.ScriptFault.TheVariants.{ReadFailed, TooLarge, OutOfMemory}
+use Rattle.script_run.specs.Devices.{Device}
+
+-- the reader gives a whole file, which is cut under the reading and limits, with the six geometry names bound
+pub record Loads (old new : Device) (reading : Reading) (limits : Limits) (state : State) : Type 0 where
+  pub bytes : Consumes old.bytes new.bytes (bytes_of state.volume)
+  pub end : IsAtEnd new.bytes
+  pub cut : IsCut (bytes_of state.volume) reading limits state.volume
+  pub fields : state.fields ≡ geometry_at_load
+  pub reading_is : state.reading ≡ reading
+  pub limits_are : state.limits ≡ limits
+  pub failures : new.failures ≡ old.failures
+
+-- the file is refused, for want of a read, of memory or for what it is; the failures rise by one exactly at L01
+pub record IsLoadRefused (old new : Device) (reading : Reading) (limits : Limits) (fault : LoadFault) : Type 0 where
+  pub reason : IsLoadFault old.bytes reading limits fault
+  pub failures : FailuresAfterRefusal fault old.failures new.failures
+
+-- the reader gives a whole script
+pub record ReadsScript (old new : Device) (script : List ℕ) : Type 0 where
+  pub bytes : Consumes old.bytes new.bytes script
+  pub end : IsAtEnd new.bytes
+  pub within : length script ≤ 16777216
+  pub failures : new.failures ≡ old.failures
+
+-- the script is refused: P01 where a read failed, P02 where there are more than 16777216 bytes, P03 for want of memory
+pub record IsScriptRefused (old new : Device) (fault : ScriptFault) : Type 0 where
+  pub reason : (fault ≡ ReadFailed) ⊎ (fault ≡ OutOfMemory) ⊎ ((fault ≡ TooLarge) × IfSome old.bytes (λ script. 16777216 < length script))
+  pub failures : ((fault ≡ ReadFailed) × (new.failures ≡ one_more old.failures)) ⊎ ((fault ≢ ReadFailed) × (new.failures ≡ old.failures))

@@ -1,0 +1,34 @@
+-- What a line of a script prints.
+use Rattle.std.specs.Prelude.{ℕ, Bool, true, false, List, [], Result, Ok, Err}
+use Rattle.bench_core.specs.declared.refusal.Refusal.{Refusal}
+use Rattle.bench_core.specs.declared.answer.Answer.{Answer}
+use Rattle.bench_core.specs.declared.ask_fault.AskFault.{AskFault}
+use Rattle.script_run.specs.declared.line_fault.LineFault.{LineFault}
+use Rattle.script_run.specs.AnswerTexts.{answer_text}
+use Rattle.script_run.specs.RefusalTexts.{accepted, refused, refusal_text, ask_fault_text, line_fault_text}
+
+-- what a line prints, and whether that is a refusal
+pub record Printed : Type 0 where
+  pub text : List ℕ
+  pub is_refusal : Bool
+
+-- a note or a blank line
+abbrev pub nothing : Printed
+nothing = record { text = []; is_refusal = false }
+
+abbrev pub refusal : List ℕ → Printed
+refusal text = record { text = refused text; is_refusal = true }
+
+-- the reply to a line that is no command
+abbrev pub fault_printed : LineFault → Printed
+fault_printed fault = refusal (line_fault_text fault)
+
+-- the reply to an edit
+abbrev pub edit_printed : {T : Type 0} → Result T Refusal → Printed
+edit_printed (Ok done) = record { text = accepted; is_refusal = false }
+edit_printed (Err fault) = refusal (refusal_text fault)
+
+-- the reply to a query
+abbrev pub query_printed : Result Answer AskFault → Printed
+query_printed (Ok answer) = record { text = answer_text answer; is_refusal = false }
+query_printed (Err fault) = refusal (ask_fault_text fault)

@@ -1,0 +1,73 @@
+-- A script run over a volume, line by line.
+use Rattle.std.specs.Prelude.{◌≡◌, ℕ, Bool, IsTrue, ◌+◌, ◌<◌, ◌≤◌, List, [], ◌∷◌, ◌++◌, length, take, flat_map, count_by, Option, Some, None, Result, Ok, Err}
+use Rattle.bench_core.specs.declared.refusal.Refusal.{Refusal}
+use Rattle.bench_core.specs.State.{State}
+use Rattle.bench_core.specs.Steps.{Step}
+use Rattle.bench_core.specs.Answer.{Reply, IsReply}
+use Rattle.script_run.specs.declared.command.Command.{Command}
+use Rattle.script_run.specs.declared.command.Command.TheVariants.{Apply, Ask}
+use Rattle.script_run.specs.declared.line_fault.LineFault.{LineFault}
+use Rattle.script_run.specs.Words.{script_lines}
+use Rattle.script_run.specs.Commands.{line_result}
+use Rattle.script_run.specs.Replies.{Printed, nothing, fault_printed, edit_printed, query_printed}
+
+-- a command with what it prints: an edit is one step, a query changes nothing
+abbrev pub CommandStep : State → Command → Printed → State → Type 0
+CommandStep old (Apply edit) printed new =
+    (reply : Result (Unit {0}) Refusal) × Step old edit reply new × (printed ≡ edit_printed reply)
+CommandStep old (Ask query) printed new =
+    (reply : Reply) × IsReply old query reply × (printed ≡ query_printed reply) × (new ≡ old)
+
+-- a line that was read, with what it prints
+abbrev pub ReadStep : State → Result (Option Command) LineFault → Printed → State → Type 0
+ReadStep old (Ok None) printed new = (printed ≡ nothing) × (new ≡ old)
+ReadStep old (Ok (Some command)) printed new = CommandStep old command printed new
+ReadStep old (Err fault) printed new = (printed ≡ fault_printed fault) × (new ≡ old)
+
+-- a line with what it prints
+abbrev pub LineStep : State → List ℕ → Printed → State → Type 0
+LineStep old line printed new = ReadStep old (line_result line) printed new
+
+-- the lines one after another, with what each prints
+abbrev pub LineSteps : State → List (List ℕ) → List Printed → State → Type 0
+LineSteps old [] [] new = new ≡ old
+LineSteps old [] (p ∷ ps) new = ⊥
+LineSteps old (line ∷ lines) [] new = ⊥
+LineSteps old (line ∷ lines) (p ∷ ps) new =
+    (mid : State) × LineStep old line p mid × LineSteps mid lines ps new
+
+-- all that the lines print
+abbrev pub printed_text : List Printed → List ℕ
+printed_text ps = flat_map (λ p. p.text) ps
+
+-- how many lines are refused
+abbrev pub refusals : List Printed → ℕ
+refusals ps = count_by (λ p. p.is_refusal) ps
+
+-- the whole script is run: what it prints, and how many of its lines are refused; none, if a refusal stops it
+pub record RunsWhole (old : State) (script : List ℕ) (stop : Bool) (text : List ℕ) (number : ℕ) (new : State) : Type 0 where
+  pub printed : List Printed
+  pub steps : LineSteps old (script_lines script) printed new
+  pub text_is : text ≡ printed_text printed
+  pub number_is : number ≡ refusals printed
+  pub goes_on : IsTrue stop → number ≡ 0
+
+-- the script is run up to this line, counted from 1, which is the first that is refused
+pub record StopsAt (old : State) (script : List ℕ) (line : ℕ) (text : List ℕ) (new : State) : Type 0 where
+  pub before : List Printed
+  pub last : Printed
+  pub steps : LineSteps old (take line (script_lines script)) (before ++ last ∷ []) new
+  pub line_is : line ≡ length before + 1
+  pub text_is : text ≡ printed_text (before ++ last ∷ [])
+  pub none_before : refusals before ≡ 0
+  pub refused_last : IsTrue last.is_refusal
+
+-- the script is run up to a line whose text the writer does not take whole: it takes `written` bytes of what is printed
+pub record BreaksOff (old : State) (script : List ℕ) (stop : Bool) (written : ℕ) (text : List ℕ) (new : State) : Type 0 where
+  pub before : List Printed
+  pub last : Printed
+  pub steps : LineSteps old (take (length before + 1) (script_lines script)) (before ++ last ∷ []) new
+  pub text_is : text ≡ printed_text (before ++ last ∷ [])
+  pub goes_on : IsTrue stop → refusals before ≡ 0
+  pub taken_before : length (printed_text before) ≤ written
+  pub not_taken : written < length text

@@ -1,0 +1,14 @@
+use frame_cut::{Limits, Reading};
+
+/// How a run goes.
+#[derive(Clone, Copy, Debug, PartialEq, Eq)]
+pub struct Options {
+    /// How the fixed length flag of the volume is taken.
+    pub reading: Reading,
+    /// How large the volume may be.
+    pub limits: Limits,
+    /// Whether the first refused line is the last that is run.
+    pub stop: bool,
+    /// Whether the volume is saved behind the last line.
+    pub save: bool,
+}

@@ -1,0 +1,139 @@
+// The lines that are printed for refusals.
+ghost use Rattle.std.specs.Prelude.{◌≡◌, ◌≤◌, ◌+◌, ◌++◌, length};
+ghost use Rattle.script_run.specs.RefusalTexts.{load_fault_text, load_refused, script_fault_text, script_refused, line_fault_text, refusal_text, ask_fault_text, no_trace, no_sample, refused};
+
+use crate::line_fault::LineFault;
+use crate::script_fault::ScriptFault;
+use crate::text_buffer::TextBuffer;
+use bench_core::{AskFault, Refusal};
+use frame_cut::LoadFault;
+
+/// The line for a refused file.
+pub(crate) fn load_fault_line(fault: LoadFault) -> TextBuffer
+    ensures { result ≡ load_refused fault }
+{
+    let mut line = TextBuffer::new();
+    line.push(b"load refused ");
+    push_load_fault(&mut line, fault);
+    line.push(b"\n");
+    line
+}
+
+/// The line for a refused script.
+pub(crate) fn script_fault_line(fault: ScriptFault) -> TextBuffer
+    ensures { result ≡ script_refused fault }
+{
+    let mut line = TextBuffer::new();
+    line.push(b"script refused ");
+    line.push(match fault {
+        ScriptFault::ReadFailed => b"P01 read failed".as_slice(),
+        ScriptFault::TooLarge => b"P02 too large",
+        ScriptFault::OutOfMemory => b"P03 out of memory",
+    });
+    line.push(b"\n");
+    line
+}
+
+/// The line for a line that is no command.
+pub(crate) fn line_fault_line(fault: LineFault) -> TextBuffer
+    ensures { result ≡ refused (line_fault_text fault) }
+{
+    let mut line = TextBuffer::new();
+    line.push(b"refused ");
+    line.push(match fault {
+        LineFault::Unknown => b"S01 unknown word".as_slice(),
+        LineFault::Words => b"S02 words",
+        LineFault::Number => b"S03 number",
+        LineFault::NotText => b"S04 not text",
+        LineFault::OutOfMemory => b"E11 out of memory",
+    });
+    line.push(b"\n");
+    line
+}
+
+/// The line for a refused edit.
+pub(crate) fn refusal_line(refusal: Refusal) -> TextBuffer
+    ensures { result ≡ refused (refusal_text refusal) }
+{
+    let mut line = TextBuffer::new();
+    line.push(b"refused ");
+    match refusal {
+        Refusal::NoTrace(p, count) => push_no_trace(&mut line, p, count),
+        Refusal::NoPlace => line.push(b"E03 no place"),
+        Refusal::DoesNotFit => line.push(b"E04 does not fit"),
+        Refusal::Frame => line.push(b"E06 frame"),
+        Refusal::OutOfMemory => line.push(b"E11 out of memory"),
+    }
+    line.push(b"\n");
+    line
+}
+
+/// The line for a refused query.
+pub(crate) fn ask_fault_line(fault: AskFault) -> TextBuffer
+    ensures { result ≡ refused (ask_fault_text fault) }
+{
+    let mut line = TextBuffer::new();
+    line.push(b"refused ");
+    match fault {
+        AskFault::NoTrace(p, count) => push_no_trace(&mut line, p, count),
+        AskFault::NoPlace => line.push(b"E03 no place"),
+        AskFault::NoSample(k, number) => push_no_sample(&mut line, k, number),
+        AskFault::OutOfMemory => line.push(b"E11 out of memory"),
+    }
+    line.push(b"\n");
+    line
+}
+
+// No trace p among so many.
+fn push_no_trace(line: &mut TextBuffer, p: u32, count: u32)
+    requires { length line.old ≤ 8 }
+    ensures text { line.new ≡ line.old ++ no_trace p count }
+    ensures short { length line.new ≤ 127 }
+{
+    line.push(b"E01 no trace ");
+    line.push_number(p);
+    line.push(b" of ");
+    line.push_number(count);
+}
+
+// No sample k among so many.
+fn push_no_sample(line: &mut TextBuffer, k: u32, number: u32)
+    requires { length line.old ≤ 8 }
+    ensures text { line.new ≡ line.old ++ no_sample k number }
+    ensures short { length line.new ≤ 127 }
+{
+    line.push(b"E05 no sample ");
+    line.push_number(k);
+    line.push(b" of ");
+    line.push_number(number);
+}
+
+fn push_load_fault(line: &mut TextBuffer, fault: LoadFault)
+    requires { length line.old ≤ 13 }
+    ensures text { line.new ≡ line.old ++ load_fault_text fault }
+    ensures short { length line.new ≤ 127 }
+{
+    match fault {
+        LoadFault::ReadFailed => line.push(b"L01 read failed"),
+        LoadFault::TooLarge => line.push(b"L02 too large"),
+        LoadFault::Short(length) => line.push_numbered(b"L03 short ", length),
+        LoadFault::PairSwapped => line.push(b"L04 pair swapped"),
+        LoadFault::Revision(major, minor) => {
+            line.push_numbered(b"L05 revision ", major);
+            line.push_numbered(b".", minor);
+        }
+        LoadFault::FloatFormat(code) => line.push_numbered(b"L06 float format ", code),
+        LoadFault::GainFormat => line.push(b"L07 gain format"),
+        LoadFault::UnknownFormat(code) => line.push_numbered(b"L08 unknown format ", code),
+        LoadFault::TextCount(number) => line.push_numbered(b"L09 text count ", number),
+        LoadFault::Extensions(number) => line.push_numbered(b"L10 extensions ", number),
+        LoadFault::Trailer(number) => line.push_numbered(b"L11 trailer ", number),
+        LoadFault::FirstTrace(place) => line.push_numbered(b"L12 first trace ", place),
+        LoadFault::ExtensionCount(trace) => {
+            line.push_numbered(b"L13 extension count trace ", trace);
+        }
+        LoadFault::Truncated(trace) => line.push_numbered(b"L14 truncated trace ", trace),
+        LoadFault::TooManyTraces => line.push(b"L15 too many traces"),
+        LoadFault::OutOfMemory => line.push(b"L16 out of memory"),
+    }
+}

@@ -1,0 +1,326 @@
+// Lines and runs: what a script prints and saves, over small files that are made by hand.
+use crate::{Command, LineFault, Options, RunEnd, ScriptFault, parse_line, run};
+use bench_core::{Edit, Field, Query};
+use device_io::{Sink, Source, StepReader, StepWriter};
+use edit_overlay::SaveFault;
+use field_map::Place;
+use frame_cut::{Limits, LoadFault, Reading};
+use num_order::Kind;
+use std::alloc::Global;
+use std::test::Fail;
+
+// Writes the bytes at a place, counted from 1, where they fit.
+fn put(file: &mut [u8], byte: usize, bytes: &[u8]) {
+    if byte >= 1 && byte <= file.len() && bytes.len() <= file.len() - (byte - 1) {
+        file[byte - 1..byte - 1 + bytes.len()].copy_from_slice(bytes);
+    }
+}
+
+// A trace of 244 bytes at this byte of the file: its numbers, and two samples of two bytes.
+fn put_trace(file: &mut [u8], byte: usize, sequence: u8, samples: [u8; 4]) {
+    if byte < 10000 {
+        put(file, byte + 7, &[sequence]);
+        put(file, byte + 39, &[100]);
+        put(file, byte + 115, &[2]);
+        put(file, byte + 116, &[0x0f, 0xa0]);
+        put(file, byte + 191, &[10]);
+        put(file, byte + 195, &[21]);
+        put(file, byte + 240, &samples);
+    }
+}
+
+// A textual header of blanks in EBCDIC and three traces of two samples in format 3; big-endian, revision 1.0.
+fn sample_file(alloc: Global) -> Result<Vec<u8>, Fail> {
+    let mut file = vec![in alloc; 0u8; 4332]?;
+    for byte in file.iter_mut().take(3200) {
+        *byte = 0x40;
+    }
+    put(
+        file.as_mut_slice(),
+        3217,
+        &[0x0f, 0xa0, 0, 0, 0, 2, 0, 0, 0, 3],
+    );
+    put(file.as_mut_slice(), 3501, &[1, 0, 0, 1]);
+    put_trace(file.as_mut_slice(), 3601, 1, [0, 1, 0xff, 0xfe]);
+    put_trace(file.as_mut_slice(), 3845, 2, [0, 3, 0, 4]);
+    put_trace(file.as_mut_slice(), 4089, 3, [0xff, 0xfb, 0, 6]);
+    Ok(file)
+}
+
+fn options(stop: bool, save: bool) -> Result<Options, Fail> {
+    Ok(Options {
+        reading: Reading::AsWritten,
+        limits: Limits::new(1 << 32, u32::MAX).ok_or("limits")?,
+        stop,
+        save,
+    })
+}
+
+// What a run printed and saved.
+#[derive(Drop)]
+struct Told {
+    end: RunEnd,
+    answers: Vec<u8>,
+    saved: Vec<u8>,
+}
+
+fn run_script(alloc: Global, file: &[u8], script: &[u8], options: Options) -> Result<Told, Fail> {
+    let mut reader = Source::new(StepReader::new(file, 1000, u64::MAX));
+    let mut lines = Source::new(StepReader::new(script, 4096, u64::MAX));
+    let mut answers = Sink::new(Vec::new(alloc));
+    let mut out = Sink::new(Vec::new(alloc));
+    let end = run(
+        alloc,
+        &mut reader,
+        &mut lines,
+        &mut answers,
+        &mut out,
+        options,
+    );
+    Ok(Told {
+        end,
+        answers: answers.into_inner(),
+        saved: out.into_inner(),
+    })
+}
+
+#[test]
+fn reads_commands(rt: HostRuntime) -> Result<(), Fail> {
+    let place = Place {
+        extension: 1,
+        byte: 157,
+        kind: Kind {
+            size: 2,
+            signed: false,
+        },
+    };
+    match parse_line(rt.alloc(), b"\tset\t007  @1.157:2u -2 ")? {
+        Some(Command::Apply(Edit::Set(p, Field::Place(at), value))) => {
+            assert_eq!(rt; p, 7);
+            assert_eq!(rt; at, place);
+            assert_eq!(rt; value, -2);
+        }
+        _ => return Err("a set".into()),
+    }
+    match parse_line(rt.alloc(), b"get 4294967295 @0:255")? {
+        Some(Command::Ask(Query::Get(p, Field::Place(at)))) => {
+            assert_eq!(rt; p, 4294967295);
+            assert_eq!(rt; at.kind.size, 255);
+        }
+        _ => return Err("a get".into()),
+    }
+    Ok(())
+}
+
+#[test]
+fn tells_what_a_file_is(rt: HostRuntime) -> Result<(), Fail> {
+    let alloc = rt.alloc();
+    let file = sample_file(alloc)?;
+    let script = b"count\ninfo\nsample 1 1\nsample 1 2\nsample 4 0\ncount 1\nsample 1\n";
+    let printed = b"traces 3\ninfo order big revision 1.0 format 3 samples 2 fixed yes extensions 0 blocks 0 trailer 0 traces 3 bytes 4332\nvalue -2\nrefused E05 no sample 2 of 2\nrefused E01 no trace 4 of 3\nrefused S02 words\nrefused S02 words\n";
+    let told = run_script(alloc, file.as_slice(), script, options(false, false)?)?;
+    assert_eq!(rt; told.end, RunEnd::Done { refused: 4 });
+    assert!(rt; told.answers.as_slice() == printed.as_slice());
+    assert!(rt; told.saved.is_empty());
+    Ok(())
+}
+
+#[test]
+fn refuses_lines(rt: HostRuntime) {
+    let cases: [(&[u8], LineFault); 12] = [
+        (b"sett 1 @1:4 7", LineFault::Unknown),
+        (b"get\r 1 @1:4", LineFault::Unknown),
+        (b"set 1 @1:4", LineFault::Words),
+        (b"get 1 @1:4 7", LineFault::Words),
+        (b"set a @1:4 b", LineFault::Number),
+        (b"set 1 inline 7", LineFault::Number),
+        (b"set 1 @1:4 +7", LineFault::Number),
+        (b"get 4294967296 @1:4", LineFault::Number),
+        (b"get 1 @65536:4", LineFault::Number),
+        (b"get 1 @1:256", LineFault::Number),
+        (
+            b"set 1 @1:4 170141183460469231731687303715884105728",
+            LineFault::Number,
+        ),
+        (b"# \xff", LineFault::NotText),
+    ];
+    for (line, fault) in cases {
+        assert_eq!(rt; parse_line(rt.alloc(), line).err(), Some(fault));
+    }
+}
+
+// A value set by its place, and read again: one byte of the saved file is another.
+#[test]
+fn sets_and_saves(rt: HostRuntime) -> Result<(), Fail> {
+    let mut file = sample_file(rt.alloc())?;
+    let script = b"set 2 @189:4 7\nget 2 @189:4\r\n";
+    let told = run_script(rt.alloc(), file.as_slice(), script, options(false, true)?)?;
+    assert_eq!(rt; told.end, RunEnd::Done { refused: 0 });
+    assert_eq!(rt; told.answers.as_slice(), b"ok\nvalue 7\n".as_slice());
+    put(file.as_mut_slice(), 4036, &[7]);
+    assert_eq!(rt; told.saved.as_slice(), file.as_slice());
+    Ok(())
+}
+
+// Refusals, notes and blank lines, with and without a stop.
+#[test]
+fn counts_and_stops(rt: HostRuntime) -> Result<(), Fail> {
+    let file = sample_file(rt.alloc())?;
+    let script =
+        b"# note\n\nget 3 @5:4\nget 4 @5:4\nset 1 @189:2 65536\nset 1 @240:2 0\nsett\nset 1\nget 1 x\n\xc3\nset 1 @37:4 -1";
+    let printed =
+        b"value 3\nrefused E01 no trace 4 of 3\nrefused E04 does not fit\nrefused E03 no place\nrefused S01 unknown word\nrefused S02 words\nrefused S03 number\nrefused S04 not text\nok\n";
+    let whole = run_script(rt.alloc(), file.as_slice(), script, options(false, false)?)?;
+    assert_eq!(rt; whole.end, RunEnd::Done { refused: 7 });
+    assert_eq!(rt; whole.answers.as_slice(), printed.as_slice());
+    assert_eq!(rt; whole.saved.len(), 0);
+    let stopped = run_script(rt.alloc(), file.as_slice(), script, options(true, true)?)?;
+    assert_eq!(rt; stopped.end, RunEnd::Stopped { line: 4 });
+    assert_eq!(rt;
+        stopped.answers.as_slice(),
+        b"value 3\nrefused E01 no trace 4 of 3\n".as_slice()
+    );
+    assert_eq!(rt; stopped.saved.len(), 0);
+    Ok(())
+}
+
+#[test]
+fn tells_refused_files(rt: HostRuntime) -> Result<(), Fail> {
+    let file = sample_file(rt.alloc())?;
+    let whole = file.as_slice();
+    let cases: [(usize, LoadFault, &[u8]); 2] = [
+        (
+            4331,
+            LoadFault::Truncated(3),
+            b"load refused L14 truncated trace 3\n",
+        ),
+        (
+            3599,
+            LoadFault::Short(3599),
+            b"load refused L03 short 3599\n",
+        ),
+    ];
+    for (length, fault, line) in cases {
+        let cut = whole.get(..length).ok_or("a shorter file")?;
+        let told = run_script(rt.alloc(), cut, b"get 1 @5:4", options(false, true)?)?;
+        assert_eq!(rt; told.end, RunEnd::Load(fault));
+        assert_eq!(rt; told.answers.as_slice(), line);
+        assert_eq!(rt; told.saved.len(), 0);
+    }
+    Ok(())
+}
+
+// 16777216 bytes of blanks are a script, and one byte more is too much.
+#[test]
+fn limits_scripts(rt: HostRuntime) -> Result<(), Fail> {
+    let file = sample_file(rt.alloc())?;
+    let blanks = vec![in rt.alloc(); b' '; 16777217]?;
+    let large = run_script(
+        rt.alloc(),
+        file.as_slice(),
+        blanks.as_slice(),
+        options(false, true)?,
+    )?;
+    assert_eq!(rt; large.end, RunEnd::Script(ScriptFault::TooLarge));
+    assert_eq!(rt;
+        large.answers.as_slice(),
+        b"script refused P02 too large\n".as_slice()
+    );
+    assert_eq!(rt; large.saved.len(), 0);
+    let blanks = vec![in rt.alloc(); b' '; 16777216]?;
+    let most = run_script(
+        rt.alloc(),
+        file.as_slice(),
+        blanks.as_slice(),
+        options(false, true)?,
+    )?;
+    assert_eq!(rt; most.end, RunEnd::Done { refused: 0 });
+    assert_eq!(rt; most.answers.len(), 0);
+    assert_eq!(rt; most.saved.as_slice(), file.as_slice());
+    Ok(())
+}
+
+// Readers that fail at a later call.
+#[test]
+fn tells_failed_reads(rt: HostRuntime) -> Result<(), Fail> {
+    let file = sample_file(rt.alloc())?;
+    for (file_calls, script_calls, end, line) in [
+        (
+            2,
+            9,
+            RunEnd::Load(LoadFault::ReadFailed),
+            b"load refused L01 read failed\n".as_slice(),
+        ),
+        (
+            9,
+            1,
+            RunEnd::Script(ScriptFault::ReadFailed),
+            b"script refused P01 read failed\n",
+        ),
+    ] {
+        let mut reader = Source::new(StepReader::new(file.as_slice(), 1000, file_calls));
+        let mut lines = Source::new(StepReader::new(b"get 1 @5:4", 7, script_calls));
+        let mut answers = Sink::new(Vec::new(rt.alloc()));
+        let mut out = Sink::new(Vec::new(rt.alloc()));
+        let ended = run(
+            rt.alloc(),
+            &mut reader,
+            &mut lines,
+            &mut answers,
+            &mut out,
+            options(false, true)?,
+        );
+        assert_eq!(rt; ended, end);
+        assert_eq!(rt; answers.into_inner().as_slice(), line);
+        assert_eq!(rt; out.into_inner().len(), 0);
+    }
+    Ok(())
+}
+
+// Writers that fail within an answer, within a refusal's line and within the save.
+#[test]
+fn tells_failed_writes(rt: HostRuntime) -> Result<(), Fail> {
+    let file = sample_file(rt.alloc())?;
+    for (length, answers_limit, out_limit, end, held) in [
+        (
+            4332,
+            12,
+            9000,
+            RunEnd::Answers { written: 12 },
+            b"value 1\nvalu".as_slice(),
+        ),
+        (3599, 5, 9000, RunEnd::Answers { written: 5 }, b"load "),
+        (
+            4332,
+            99,
+            100,
+            RunEnd::Save(SaveFault { written: 100 }),
+            b"value 1\nvalue 1\n",
+        ),
+    ] {
+        let mut printed = [0u8; 99];
+        let mut saved = [0u8; 100];
+        let mut reader = Source::new(StepReader::new(
+            file.as_slice().get(..length).ok_or("a file")?,
+            1000,
+            99,
+        ));
+        let mut lines = Source::new(StepReader::new(b"get 1 @5:4\nget 1 @5:4", 7, 99));
+        let mut answers = Sink::new(StepWriter::new(&mut printed, 3, answers_limit));
+        let mut out = Sink::new(StepWriter::new(&mut saved, 7, out_limit));
+        let ended = run(
+            rt.alloc(),
+            &mut reader,
+            &mut lines,
+            &mut answers,
+            &mut out,
+            options(false, true)?,
+        );
+        let _answers = answers.into_inner();
+        let _out = out.into_inner();
+        assert_eq!(rt; ended, end);
+        assert_eq!(rt; printed.get(..held.len()), Some(held));
+        assert_eq!(rt; saved[16] == 0, out_limit != 100);
+    }
+    Ok(())
+}

@@ -1,0 +1,50 @@
+-- The command line of the program, as clap sees it.
+use Rattle.std.specs.Prelude.{◌≡◌, ℕ, Bool, true, false, List, map, Option, Some, None, codes, if◌then◌else◌}
+use Rattle.std.specs.Str.{bytes_eq}
+use Rattle.std.specs.Str.Parse.{digits_value, without_leading_plus}
+use Rattle.std.specs.String.{string_bytes}
+use Rattle.std.specs.Prelude.{refl}
+use Rattle.clap.proofs.OnLiterals.{clap_on_literals}
+use Rattle.clap.specs.Words.{is_simple, App, Row, Rule, first_of, one_of, matches_of, new_app, new_rule, with_rule}
+use Rattle.clap.specs.declared.builder.ArgAction.TheVariants.{Set, SetTrue}
+use Rattle.clap.specs.declared.builder.value_parser.ValueParser.TheVariants as vp
+
+abbrev pub file_rule : Rule
+file_rule = record (new_rule (codes "FILE")) { required = true }
+
+abbrev pub script_rule : Rule
+script_rule = record (new_rule (codes "script")) { long = Some (codes "script"); required = true }
+
+abbrev pub out_rule : Rule
+out_rule = record (new_rule (codes "out")) { long = Some (codes "out") }
+
+abbrev pub fixed_rule : Rule
+fixed_rule = record (new_rule (codes "fixed")) { long = Some (codes "fixed"); action = Some SetTrue }
+
+abbrev pub limit_rule : Rule
+limit_rule = record (new_rule (codes "max-bytes")) { long = Some (codes "max-bytes"); parser = Some (vp.Unsigned 1 1099511627776) }
+
+abbrev pub stop_rule : Rule
+stop_rule = record (new_rule (codes "stop")) { long = Some (codes "stop"); action = Some SetTrue }
+
+-- `segywb FILE --script S [--out O] [--fixed] [--max-bytes N] [--stop]`
+unfoldable pub segywb : App
+segywb = with_rule (with_rule (with_rule (with_rule (with_rule (with_rule (new_app (codes "segywb")) file_rule) script_rule) out_rule) fixed_rule) limit_rule) stop_rule
+
+-- what clap matches for the words
+abbrev pub matched : List (List ℕ) → List Row
+matched words = matches_of segywb words
+
+-- a flag is read from the text that clap keeps for it
+abbrev pub ReadsFlag : Option (List ℕ) → Bool → Type 0
+ReadsFlag text b = (text ≡ Some (codes "true") → b ≡ true) × (text ≡ Some (codes "false") → b ≡ false) × (text ≡ None → b ≡ false)
+
+-- the limit is the number whose digits clap keeps for it, and there is none where it keeps none
+abbrev pub ReadsLimit : Option (List ℕ) → Option ℕ → Type 0
+ReadsLimit None limit = limit ≡ None
+ReadsLimit (Some text) limit = limit ≡ Some (digits_value 10 (without_leading_plus text))
+
+-- the command is one of which clap's words give the matches
+pub segywb-is_simple : is_simple segywb ≡ true
+unfolding segywb clap_on_literals
+segywb-is_simple = refl

@@ -1,0 +1,81 @@
+// The command line, read by clap.
+ghost use Rattle.std.specs.Prelude.{◌≡◌, ◌≤◌, ℕ, List, Some, None, IfOk, IfSome, IfErr, codes, map, option_map, OnOk, true, false};
+ghost use Rattle.std.specs.String.{string_bytes};
+ghost use Rattle.clap.specs.Words.{app_of, first_of, one_of, is_simple, found_of, rows_of, first_value, one_text};
+ghost use Rattle.segywb.specs.CommandLine.{segywb, matched, ReadsFlag, ReadsLimit};
+
+use clap::error::ErrorKind;
+use clap::{ArgMatches, Command, Error};
+use std::alloc::{AllocError, Global};
+
+mod args;
+mod read;
+
+pub use crate::command_line::read::Arguments;
+
+const MAX_BYTES: u64 = 1099511627776;
+
+fn command<'a>(alloc: Global) -> Result<Command<'a>, AllocError>
+    ensures { IfOk result (λ c. app_of c ≡ segywb) }
+{
+    let command = Command::new(alloc, "segywb")
+        .arg(args::file(alloc))?
+        .arg(args::script(alloc))?
+        .arg(args::out(alloc))?
+        .arg(args::fixed(alloc))?
+        .arg(args::limit(alloc))?
+        .arg(args::stop(alloc))?;
+    Ok(command)
+}
+
+// `None` never comes where the matches are those of `command`.
+fn read_matches<'a>(matches: &ArgMatches<'a>) -> Option<Arguments<'a>>
+    ensures file { IfSome result (λ a. first_value (found_of matches.now) (codes "FILE") ≡ Some a.file.now) }
+    ensures script { IfSome result (λ a. first_value (found_of matches.now) (codes "script") ≡ Some a.script.now) }
+    ensures out { IfSome result (λ a. first_value (found_of matches.now) (codes "out") ≡ option_map (λ s. s.now) a.out) }
+    ensures limit { IfSome result (λ a. ReadsLimit (one_text (found_of matches.now) (codes "max-bytes")) a.max_bytes) }
+    ensures range { IfSome result (λ a. IfSome a.max_bytes (λ n. (1 ≤ n) × (n ≤ 1099511627776))) }
+    ensures fixed { IfSome result (λ a. ReadsFlag (one_text (found_of matches.now) (codes "fixed")) a.fixed) }
+    ensures stop { IfSome result (λ a. ReadsFlag (one_text (found_of matches.now) (codes "stop")) a.stop) }
+{
+    let file = matches.get_str("FILE")?;
+    let script = matches.get_str("script")?;
+    let out = matches.get_str("out");
+    let max_bytes = matches.try_get_one::<u64>("max-bytes").ok()?;
+    if let Some(n) = max_bytes {
+        if n < 1 || n > MAX_BYTES {
+            return None;
+        }
+    }
+    let fixed = matches.get_flag("fixed");
+    let stop = matches.get_flag("stop");
+    Some(Arguments {
+        file,
+        script,
+        out,
+        max_bytes,
+        fixed,
+        stop,
+    })
+}
+
+/// What the words of a command line say, the program's name first: `FILE --script S [--out O] [--fixed] [--max-bytes N]
+/// [--stop]`, N from 1 to 1099511627776. Refused with clap's text where they are not accepted, `--help` too, or where a
+/// growth was refused. Takes memory.
+pub fn arguments<'a>(alloc: Global, words: &'a [String]) -> Result<Arguments<'a>, Error>
+    ensures file { IfOk result (λ a. first_of (codes "FILE") (matched (map string_bytes words.now)) ≡ Some a.file.now) }
+    ensures script { IfOk result (λ a. first_of (codes "script") (matched (map string_bytes words.now)) ≡ Some a.script.now) }
+    ensures out { IfOk result (λ a. first_of (codes "out") (matched (map string_bytes words.now)) ≡ option_map (λ s. s.now) a.out) }
+    ensures limit { IfOk result (λ a. ReadsLimit (one_of (codes "max-bytes") (matched (map string_bytes words.now))) a.max_bytes) }
+    ensures range { IfOk result (λ a. IfSome a.max_bytes (λ n. (1 ≤ n) × (n ≤ 1099511627776))) }
+    ensures fixed { IfOk result (λ a. ReadsFlag (one_of (codes "fixed") (matched (map string_bytes words.now))) a.fixed) }
+    ensures stop { IfOk result (λ a. ReadsFlag (one_of (codes "stop") (matched (map string_bytes words.now))) a.stop) }
+{
+    let mut command = command(alloc)?;
+    let matches = command.try_get_matches_from_mut(words)?;
+    match read_matches(&matches) {
+        Some(read) => Ok(read),
+        None => Err(command.error(ErrorKind::MissingRequiredArgument, "FILE, --script")?),
+    }
+}
+

@@ -1,0 +1,16 @@
+/// What the command line says.
+#[derive(Drop)]
+pub struct Arguments<'a> {
+    /// The path of the file to load.
+    pub file: &'a str,
+    /// The path of the script.
+    pub script: &'a str,
+    /// The path of the file to save to.
+    pub out: Option<&'a str>,
+    /// The most bytes that the file may have, from 1 to 2^40.
+    pub max_bytes: Option<u64>,
+    /// Whether the file is read as one of fixed length.
+    pub fixed: bool,
+    /// Whether the first refused line ends the run.
+    pub stop: bool,
+}

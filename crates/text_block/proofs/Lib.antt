@@ -1,0 +1,5 @@
+pub mod CharacterTables
+pub mod Encoded
+pub mod EndStanza
+pub mod LineLemmas
+pub mod StanzaLemmas

@@ -1,0 +1,51 @@
+// Bytes as they are shown.
+ghost use Rattle.std.specs.Prelude.{◌≡◌, ◌≤◌, ◌<◌, ◌++◌, length, OnOk, IfOk, IsAscii, string_bytes};
+ghost use Rattle.std.specs.Char.{digit_char};
+ghost use Rattle.text_block.specs.Characters.{shown as shown_bytes, shown_byte};
+
+use crate::characters::character;
+use crate::code::Code;
+use crate::out_of_memory::OutOfMemory;
+use std::alloc::Global;
+
+// The bytes as they are shown: each as its character, or else as a backslash and two hexadecimal digits.
+pub(crate) fn shown(alloc: Global, code: Code, bytes: &[u8]) -> Result<String, OutOfMemory>
+    requires { length bytes.now ≤ 3200 }
+    ensures text { IfOk result (λ text. string_bytes text ≡ shown_bytes code bytes.now) }
+    ensures ascii { IfOk result (λ text. IsAscii (string_bytes text)) }
+{
+    let mut text = String::with_capacity(alloc, 3 * bytes.len())?;
+    for &byte in bytes {
+        push_shown(&mut text, code, byte)?;
+    }
+    Ok(text)
+}
+
+// One byte more.
+fn push_shown(text: &mut String, code: Code, byte: u8) -> Result<(), OutOfMemory>
+    ensures text { OnOk result (string_bytes text.new ≡ string_bytes text.old ++ shown_byte code byte) }
+    ensures ascii { OnOk result (IsAscii (shown_byte code byte)) }
+{
+    match character(code, byte) {
+        Some(character) => text.push(char::from(character))?,
+        None => {
+            text.push('\\')?;
+            text.push(digit(byte / 16))?;
+            text.push(digit(byte % 16))?;
+        }
+    }
+    Ok(())
+}
+
+// The character of a hexadecimal digit.
+fn digit(value: u8) -> char
+    requires { value < 16 }
+    ensures value { result ≡ digit_char value }
+    ensures ascii { result < 128 }
+{
+    if value < 10 {
+        char::from(b'0' + value)
+    } else {
+        char::from(b'a' + (value - 10))
+    }
+}

@@ -1,0 +1,45 @@
+# Each growth of memory is refused in turn: the program runs under a preloaded library that refuses the nth, for n = 1, 2, ..
+# until a run meets none. Each run ends as the definitions allow: a file refused with L16, a script refused with P03, a line
+# answered E11 that changes nothing (every other line then answers as if that line were not there), or a command line that is
+# not accepted for want of memory. Sourced by run.sh.
+
+cc=${CC:-}
+for name in cc gcc clang; do [ -n "$cc" ] || { command -v $name > /dev/null && cc=$name; }; done
+[ -n "$cc" ] || cc=$(ls /opt/rattle/toolchain/bin/clang /opt/rattle/toolchain/*/bin/clang 2> /dev/null | head -n 1)
+"$cc" -shared -fPIC -O1 -o "$work/refuse_growth.so" "$here/refuse_growth.c" -ldl || tell 'build of refuse_growth.so' 'failed'
+
+# meets NUMBER: runs the program with that growth refused; the growths that were asked for are in the file `asked`
+meets() {
+    rm -f asked o.sgy
+    REFUSE=$1 REFUSE_COUNT=$work/asked LD_PRELOAD=$work/refuse_growth.so "$program" s.sgy --script script --out o.sgy > answers 2> errors
+    got=$?
+}
+
+printf 'set 2 @189:4 7\nget 2 @189:4\n' > script
+"$program" s.sgy --script script --out whole.sgy > /dev/null
+refusals=0
+for number in $(seq 1 400); do
+    meets "$number"
+    asked=$(cat asked 2> /dev/null || echo 0)
+    [ "$number" -gt "$asked" ] && break
+    refusals=$((refusals + 1))
+    outcome="status $got with growth $number of $asked refused: $(head -c 100 answers) $(head -c 100 errors)"
+    case $got in
+        0) # met a growth that the program can do without
+            printf 'ok\nvalue 7\n' | cmp -s - answers && cmp -s o.sgy whole.sgy && [ ! -s errors ] && outcome=ok ;;
+        1) # the edit was refused, and changed nothing
+            printf 'refused E11 out of memory\nvalue 10\n' | cmp -s - answers && cmp -s o.sgy s.sgy && [ ! -s errors ] && outcome=ok ;;
+        2) # the command line was not read
+            [ ! -s answers ] && [ ! -e o.sgy ] && outcome=ok ;;
+        3) # the file could not be opened, or was refused
+            if [ -s errors ]; then printf 'segywb: cannot open s.sgy\n' | cmp -s - errors && [ ! -s answers ] && [ ! -e o.sgy ] && outcome=ok
+            else printf 'load refused L16 out of memory\n' | cmp -s - answers && [ ! -e o.sgy ] && outcome=ok; fi ;;
+        4) # the script, the answers or the save failed
+            if grep -qs 'segywb: save failed after 0 bytes' errors; then printf 'ok\nvalue 7\n' | cmp -s - answers && [ ! -e o.sgy ] && outcome=ok
+            elif [ -s errors ]; then printf 'segywb: cannot open script\n' | cmp -s - errors && [ ! -s answers ] && [ ! -e o.sgy ] && outcome=ok
+            else printf 'script refused P03 out of memory\n' | cmp -s - answers && [ ! -e o.sgy ] && outcome=ok; fi ;;
+    esac
+    tell "growth $number refused" "$outcome"
+done
+# the last run met no refusal, and at least the file, the list of its traces and the script grew
+if [ "$refusals" -ge 3 ] && [ "$got" = 0 ] && cmp -s o.sgy whole.sgy; then tell 'a run with no growth refused' ok; else tell 'a run with no growth refused' "status $got after $refusals"; fi

@@ -1,0 +1,188 @@
+#!/usr/bin/env bash
+# End-to-end runs of the built program on files: answers, exit status, standard error, and the saved file byte by byte.
+# usage: tests/run.sh [PROGRAM]
+set -u
+here=$(cd "$(dirname "$0")" && pwd)
+program=$(realpath "${1:-$here/../crates/segywb/out/segywb}")
+. "$here/files.sh"
+work=$(mktemp -d)
+trap 'rm -rf "$work"' EXIT
+cd "$work" || exit 1
+passed=0
+failed=0
+
+# tell NAME OUTCOME: counts one test
+tell() {
+    if [ "$2" = ok ]; then passed=$((passed + 1)); else failed=$((failed + 1)); printf 'FAILED %s: %s\n' "$1" "$2"; fi
+}
+
+# expect NAME STATUS ANSWERS ERRORS WORD..: runs the program on the words, with printf's escapes in the texts
+expect() {
+    local name=$1 status=$2 answers=$3 errors=$4 outcome=ok
+    shift 4
+    "$program" "$@" > answers 2> errors
+    local got=$?
+    [ "$got" = "$status" ] || outcome="status $got, not $status"
+    printf "$answers" | cmp -s - answers || outcome="answers: $(head -c 300 answers)"
+    printf "$errors" | cmp -s - errors || outcome="standard error: $(head -c 300 errors)"
+    tell "$name" "$outcome"
+}
+
+# differs NAME FILE OTHER LINES: the places, from 1, where two files of one length differ, with both bytes in octal
+differs() {
+    local lines
+    lines=$(cmp -l "$2" "$3" | tr -s ' ' | sed 's/^ //' | tr '\n' ';')
+    if [ "$(wc -c < "$2")" = "$(wc -c < "$3")" ] && [ "$lines" = "$4" ]; then tell "$1" ok; else tell "$1" "differs at: $lines"; fi
+}
+
+# is_absent NAME FILE
+is_absent() { if [ -e "$2" ]; then tell "$1" "$2 was made"; else tell "$1" ok; fi; }
+
+survey s.sgy
+extended x.sgy
+little t.sgy
+varying v.sgy
+
+# ---- a field is set and read by its byte place
+printf 'set 2 @189:4 7\nget 2 @189:4\n' > script
+expect 'sets and gets' 0 'ok\nvalue 7\n' '' s.sgy --script script --out o.sgy
+differs 'changes one byte' s.sgy o.sgy '4036 12 7;'
+expect 'needs no out' 0 'ok\nvalue 7\n' '' s.sgy --script script
+cp s.sgy own.sgy
+expect 'saves over its own file' 0 'ok\nvalue 7\n' '' own.sgy --script script --out own.sgy
+differs 'its own file has the byte' s.sgy own.sgy '4036 12 7;'
+printf '' > script
+expect 'an empty script saves the file as it is' 0 '' '' s.sgy --script script --out o.sgy
+differs 'and no byte differs' s.sgy o.sgy ''
+
+# ---- sizes, signs, orders
+printf 'set 1 @10:2 258\nget 1 @9:4\nset 1 @11:4 -1\nget 1 @9:4\nset 1 @1.1:8 -1\nget 1 @1.1:8u\nset 1 @1.157:2 1\nset 1 @1.157:2 2\nget 1 @2.1:4\nget 1 @1.238:4\n' > script
+expect 'header extensions' 1 'ok\nvalue 66048\nok\nvalue 131071\nok\nvalue 18446744073709551615\nok\nrefused E06 frame\nrefused E03 no place\nrefused E03 no place\n' '' x.sgy --script script --out o.sgy
+printf 'get 1 @240:3\nset 1 @1:4 258\nget 1 @1:4\nget 1 @1:1u\n' > script
+expect 'little-endian' 1 'refused E03 no place\nok\nvalue 258\nvalue 2\n' '' t.sgy --script script --out o.sgy
+differs 'little-endian bytes' t.sgy o.sgy '3601 0 2;3602 0 1;'
+printf 'set 1 @189:2 32768\nset 1 @189:2 32767\nset 1 @189:2u 65535\nget 1 @189:2\nset 1 @189:3 -8388608\nget 1 @189:3\nget 1 @189:8\nget 1 @189:5\nget 1 @0:4\nget 0 @1:4\nget 4 @1:4\n' > script
+expect 'ranges and places' 1 'refused E04 does not fit\nok\nok\nvalue -1\nok\nvalue -8388608\nvalue -9223371993905102827\nrefused E03 no place\nrefused E03 no place\nrefused E01 no trace 0 of 3\nrefused E01 no trace 4 of 3\n' '' s.sgy --script script
+
+# ---- what a file is, and its samples
+printf 'count\ninfo\nsample 1 1\nsample 1 2\nsample 4 0\ncount 1\nsample 1\nsample 1 -1\n' > script
+expect 'counts and samples' 1 'traces 3\ninfo order big revision 1.0 format 3 samples 2 fixed yes extensions 0 blocks 0 trailer 0 traces 3 bytes 4332\nvalue -2\nrefused E05 no sample 2 of 2\nrefused E01 no trace 4 of 3\nrefused S02 words\nrefused S02 words\nrefused S03 number\n' '' s.sgy --script script
+printf 'sample 1 0\nsample 1 1\ninfo\n' > script
+expect 'little-endian samples of 24 bits' 0 'value -1\nvalue -8388608\ninfo order little revision 2.0 format 7 samples 2 fixed yes extensions 0 blocks 0 trailer 0 traces 1 bytes 3846\n' '' t.sgy --script script
+head -c 3600 s.sgy > none.sgy
+printf 'info\ncount\n' > script
+expect 'a file without traces' 0 'info order big revision 1.0 format 3 samples 2 fixed yes extensions 0 blocks 0 trailer 0 traces 0 bytes 3600\ntraces 0\n' '' none.sgy --script script
+cp x.sgy deep.sgy; put deep.sgy 3502 0000; put deep.sgy 3506 00000003
+head -c 4080 deep.sgy > part; zeros 240 >> part; printf '\0\1\0\2' >> part; mv part deep.sgy
+put deep.sgy 3714 0002; put deep.sgy 3996 0002
+printf 'info\nget 1 @2.1:4\nget 1 @3.1:4\nset 1 @1.157:2u 3\nset 1 @1.157:2u 0\nset 1 @1.137:4u 2\nsample 1 1\n' > script
+expect 'header extensions counted for each trace' 1 'info order big revision 2.0 format 3 samples 2 fixed no extensions 3 blocks 0 trailer 0 traces 1 bytes 4324\nvalue 0\nrefused E03 no place\nrefused E06 frame\nrefused E06 frame\nok\nvalue 2\n' '' deep.sgy --script script
+cp x.sgy tail.sgy; put tail.sgy 3528 00000002; zeros 6400 >> tail.sgy
+printf 'info\nset 1 @5:4 9\n' > script
+expect 'data trailer records' 0 'info order big revision 2.0 format 3 samples 2 fixed yes extensions 1 blocks 0 trailer 2 traces 1 bytes 10484\nok\n' '' tail.sgy --script script --out o.sgy
+differs 'are saved behind the traces' tail.sgy o.sgy '3608 1 11;'
+head -c 10483 tail.sgy > bad.sgy
+expect 'a torn trace in front of them' 3 'load refused L14 truncated trace 1\n' '' bad.sgy --script script
+{ head -c 3504 s.sgy; printf '\377\377'; tail -c +3507 s.sgy | head -c 94; printf '((Acme: Note))'; zeros 3186 | tr '\0' ' '; printf '((Seg:  ENDtext))'; zeros 3183 | tr '\0' ' '; tail -c 732 s.sgy; } > ended.sgy
+printf 'info\nsample 3 1\n' > script
+expect 'text headers that end by themselves' 0 'info order big revision 1.0 format 3 samples 2 fixed yes extensions 0 blocks 2 trailer 0 traces 3 bytes 10732\nvalue 6\n' '' ended.sgy --script script
+
+# ---- the frame holds
+printf 'set 1 @115:2u 4\nset 2 @115:2u 2\nset 3 @115:2u 65535\n' > script
+expect 'no edit moves the end of a trace' 1 'refused E06 frame\nok\nok\n' '' v.sgy --script script --out o.sgy
+differs 'a count that says the same is written' v.sgy o.sgy '3962 0 2;'
+cp s.sgy loose.sgy
+put loose.sgy 3502 0000
+printf 'set 1 @115:2u 4\n' > script
+expect 'the reading fixed' 0 'ok\n' '' loose.sgy --script script --fixed --out o.sgy
+differs 'leaves bytes 3503-3504' loose.sgy o.sgy '3716 2 4;'
+expect 'as written' 1 'refused E06 frame\n' '' loose.sgy --script script
+
+# ---- lines of a script
+printf 'sett 1 @1:4 7\nset 1 @1:4\nset a @1:4 7\nget 1 nothing\n# note\n\nget 3 @5:4\r\nget 3 @5:4 ' > script
+expect 'lines' 1 'refused S01 unknown word\nrefused S02 words\nrefused S03 number\nrefused S03 number\nvalue 3\nvalue 3\n' '' s.sgy --script script
+printf 'get 1 @5:4\n# \377\n' > script
+expect 'not text' 1 'value 1\nrefused S04 not text\n' '' s.sgy --script script
+printf '  \t get\t1 \t@5:4\t\n #note\nget +1 @5:4\nget 1 @5:4u\nget 00001 @05:4\nget -0 @5:4\nset 1 @1:8 170141183460469231731687303715884105727\nset 1 @1:8 170141183460469231731687303715884105728\n' > script
+expect 'words and numbers' 1 'value 1\nrefused S03 number\nvalue 1\nvalue 1\nrefused E01 no trace 0 of 3\nrefused E04 does not fit\nrefused S03 number\n' '' s.sgy --script script
+
+# ---- stop
+printf 'get 9 @1:4\nget 1 @5:4\n' > script
+rm -f o.sgy
+expect 'stops' 1 'refused E01 no trace 9 of 3\n' '' s.sgy --script script --stop --out o.sgy
+is_absent 'a stopped run saves nothing' o.sgy
+expect 'goes on' 1 'refused E01 no trace 9 of 3\nvalue 1\n' '' s.sgy --script script --out o.sgy
+differs 'and saves' s.sgy o.sgy ''
+
+# ---- refused files
+rm -f o.sgy
+printf 'set 1 @1:4 1\n' > script
+refused() { # NAME TEXT FILE WORD..
+    local name=$1 text=$2
+    shift 2
+    expect "$name" 3 "load refused $text\n" '' "$@" --script script --out o.sgy
+}
+head -c 4331 s.sgy > bad.sgy; refused 'torn' 'L14 truncated trace 3' bad.sgy
+head -c 3599 s.sgy > bad.sgy; refused 'short' 'L03 short 3599' bad.sgy
+: > bad.sgy; refused 'empty' 'L03 short 0' bad.sgy
+{ cat s.sgy; printf 'x'; } > bad.sgy; refused 'one byte more' 'L14 truncated trace 4' bad.sgy
+cp s.sgy bad.sgy; put bad.sgy 3296 02010403; refused 'pairs' 'L04 pair swapped' bad.sgy
+cp s.sgy bad.sgy; put bad.sgy 3500 0201; refused 'revision' 'L05 revision 2.1' bad.sgy
+cp s.sgy bad.sgy; put bad.sgy 3224 0001; refused 'float' 'L06 float format 1' bad.sgy
+cp s.sgy bad.sgy; put bad.sgy 3224 0004; refused 'gain' 'L07 gain format' bad.sgy
+cp s.sgy bad.sgy; put bad.sgy 3224 000d; refused 'format' 'L08 unknown format 13' bad.sgy
+cp s.sgy bad.sgy; put bad.sgy 3504 fffe; refused 'text count' 'L09 text count -2' bad.sgy
+cp s.sgy bad.sgy; put bad.sgy 3504 ffff; refused 'no end of text' 'L09 text count -1' bad.sgy
+cp x.sgy bad.sgy; put bad.sgy 3506 00000100; refused 'extensions' 'L10 extensions 256' bad.sgy
+cp x.sgy bad.sgy; put bad.sgy 3528 00000001; refused 'trailer' 'L11 trailer 1' bad.sgy
+cp x.sgy bad.sgy; put bad.sgy 3520 ffffffffffffffff; refused 'first trace' 'L12 first trace 18446744073709551615' bad.sgy
+cp x.sgy bad.sgy; put bad.sgy 3996 ffff; refused 'extension count' 'L13 extension count trace 1' bad.sgy
+cp x.sgy bad.sgy; put bad.sgy 3268 ffffffff; refused 'hostile samples' 'L14 truncated trace 1' bad.sgy
+refused 'limit' 'L02 too large' s.sgy --max-bytes 4331
+is_absent 'a refused file saves nothing' o.sgy
+expect 'within the limit' 0 'ok\n' '' s.sgy --script script --max-bytes 4332
+mkdir -p folder
+refused 'a folder' 'L01 read failed' folder
+expect 'a folder as script' 4 'script refused P01 read failed\n' '' s.sgy --script folder
+head -c 16777217 /dev/zero | tr '\0' ' ' > big
+expect 'a large script' 4 'script refused P02 too large\n' '' s.sgy --script big
+head -c 16777216 big > bigger
+expect 'and one that just fits' 0 '' '' s.sgy --script bigger
+
+# ---- paths and devices
+expect 'no file' 3 '' 'segywb: cannot open none.sgy\n' none.sgy --script script
+expect 'no script' 4 '' 'segywb: cannot open none.txt\n' s.sgy --script none.txt
+expect 'no place for the save' 4 'ok\n' 'segywb: save failed after 0 bytes\n' s.sgy --script script --out none/o.sgy
+if [ -e /dev/full ]; then
+    expect 'a full disk' 4 'ok\n' 'segywb: save failed after 0 bytes\n' s.sgy --script script --out /dev/full
+    "$program" s.sgy --script script --out o.sgy > /dev/full 2> errors
+    got=$?
+    if [ "$got" = 4 ] && printf 'segywb: answers failed\n' | cmp -s - errors; then tell 'answers fail' ok; else tell 'answers fail' "status $got"; fi
+    is_absent 'lost answers save nothing' o.sgy
+    "$program" bad.sgy --script script > /dev/full 2> errors
+    got=$?
+    if [ "$got" = 4 ] && printf 'segywb: answers failed\n' | cmp -s - errors; then tell 'a lost refusal' ok; else tell 'a lost refusal' "status $got"; fi
+fi
+
+# ---- the command line
+line() { # NAME WORD..: not accepted
+    local name=$1
+    shift
+    "$program" "$@" > answers 2> errors
+    local got=$?
+    if [ "$got" = 2 ] && [ ! -s answers ] && [ -s errors ]; then tell "$name" ok; else tell "$name" "status $got"; fi
+}
+line 'no words'
+line 'no script word' s.sgy
+line 'an unknown word' s.sgy --script script --nothing
+line 'two files' s.sgy x.sgy --script script
+line 'a limit of 0' s.sgy --script script --max-bytes 0
+line 'a limit above 2^40' s.sgy --script script --max-bytes 1099511627777
+line 'a limit that is no number' s.sgy --script script --max-bytes many
+line 'help' --help
+expect 'the greatest limit' 0 'ok\n' '' s.sgy --script script --max-bytes 1099511627776
+
+. "$here/growth.sh"
+
+printf 'segywb: %d passed, %d failed\n' "$passed" "$failed"
+[ "$failed" = 0 ]

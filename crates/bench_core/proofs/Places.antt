@@ -35,10 +35,10 @@ stands h t place e =
     let inner = both _ _ outer.0 in
     let sized = both _ _ inner.0 in
     record {
-        size = sized.0;
-        first = ltb-true 0 place.byte sized.1;
-        last = ltb-true (place.byte + place.kind.size) 242 inner.1;
-        header = leb-true place.extension (extensions_of h t) outer.1;
+      size = sized.0;
+      first = ltb-true 0 place.byte sized.1;
+      last = ltb-true (place.byte + place.kind.size) 242 inner.1;
+      header = leb-true place.extension (extensions_of h t) outer.1;
     }
 
 -- a whole trace has its headers
@@ -112,9 +112,9 @@ length_within h t at new is inside =
     let long : front_length h ≤ length u = omega (arith, length-splice front at new fits, size) in
     let zero_at : 0 + at ≡ at = omega arith in
     let whole : splice t at (length new) new ≡ u ++ drop f t =
-        ap (λ (s : List ℕ). splice s at (length new) new) (sym (take-append-drop f t))
-        ∙ ap (λ (i : ℕ). splice (front ++ drop f t) i (length new) new) (sym zero_at)
-        ∙ splice_inside [] front (drop f t) at (length new) new fits in
+    ap (λ (s : List ℕ). splice s at (length new) new) (sym (take-append-drop f t))
+    ∙ ap (λ (i : ℕ). splice (front ++ drop f t) i (length new) new) (sym zero_at)
+    ∙ splice_inside [] front (drop f t) at (length new) new fits in
     sym (trace_length-append h u (drop f t) long) ∙ ap (trace_length h) (sym whole)
 
 -- whether a length is the trace's

@@ -23,7 +23,7 @@ sample_here h t k e w at x inside ext wide place is =
     let at_is : at ≡ 240 * (1 + extensions_of h t) + width h.format * k = place ∙ rw (wide, some) refl in
     let bytes : drop at t ≡ drop (width h.format * k) (sample_bytes h t) = ap (λ (i : ℕ). drop i t) at_is ∙ sym (drop-drop (width h.format * k) (240 * (1 + extensions_of h t)) t) in
     let same : x ≡ sample_value h.order h.format (take (width h.format) (drop (width h.format * k) (sample_bytes h t))) =
-        is ∙ ap (λ (m : ℕ). sample_value h.order h.format (take m (drop at t))) n ∙ ap (λ (s : List ℕ). sample_value h.order h.format (take (width h.format) s)) bytes in
+    is ∙ ap (λ (m : ℕ). sample_value h.order h.format (take m (drop at t))) n ∙ ap (λ (s : List ℕ). sample_value h.order h.format (take (width h.format) s)) bytes in
     ap (λ (y : ℤ). let o : Option ℤ = Some y in o) same ∙ rw (lt-ltb k (sample_count h t) inside) refl
 
 -- the answer at the trace that was found

@@ -77,11 +77,11 @@ accepted s p place x e =
     let same = unless (is_length (trace_length v.head (with_value v.head (trace_at v p) place x)) (length (trace_at v p))) Frame None fit.1 in
     let range = both _ _ there.0 in
     record {
-        first = leb-true 1 p range.0;
-        last = leb-true p (count_of v) range.1;
-        has = has.0;
-        fits = fit.0;
-        length = same_length _ _ same.0;
+      first = leb-true 1 p range.0;
+      last = leb-true p (count_of v) range.1;
+      has = has.0;
+      fits = fit.0;
+      length = same_length _ _ same.0;
     }
 
 -- ---- what the value makes of the volume
@@ -106,12 +106,12 @@ is_after s p place x cut a =
     let recut = cut_with_trace s.reading s.limits v (p - 1) (with_value v.head t place x) cut there same is_length in
     let place_is : start_of v (p - 1) + 240 * place.extension + place.byte - 1 ≡ start_of v (p - 1) + at = omega (arith, (stands v.head t place a.has).first) in
     let bytes_are : bytes_of (with_trace v p (with_value v.head t place x)) ≡ splice (bytes_of v) (start_of v (p - 1) + 240 * place.extension + place.byte - 1) place.kind.size new =
-        bytes_with_splice v (p - 1) at place.kind.size new there (place_inside v.head t place is a.has) ∙ ap (λ (i : ℕ). splice (bytes_of v) i place.kind.size new) (sym place_is) in
+    bytes_with_splice v (p - 1) at place.kind.size new there (place_inside v.head t place is a.has) ∙ ap (λ (i : ℕ). splice (bytes_of v) i place.kind.size new) (sym place_is) in
     record {
-        volume = subst (λ (file : List ℕ). IsCut file s.reading s.limits (with_trace v p (with_value v.head t place x))) bytes_are recut;
-        fields = refl;
-        reading = refl;
-        limits = refl;
+      volume = subst (λ (file : List ℕ). IsCut file s.reading s.limits (with_trace v p (with_value v.head t place x))) bytes_are recut;
+      fields = refl;
+      reading = refl;
+      limits = refl;
     }
 
 -- ---- the refusal that is computed

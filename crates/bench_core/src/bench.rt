@@ -112,7 +112,8 @@ impl Bench {
         let mut buffer = [0u8; 8];
         let new = &mut buffer[..usize::from(place.kind.size)];
         write(self.overlay.head().order, place.kind, value, new);
-        self.overlay.put(alloc, p, u64::from(offset_of(place)), new)?;
+        self.overlay
+            .put(alloc, p, u64::from(offset_of(place)), new)?;
         Ok(())
     }
 

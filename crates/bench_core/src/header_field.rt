@@ -17,7 +17,9 @@ fn is_in_one_header(place: Place) -> bool
     ensures { result ≡ is_in_header place }
 {
     let size = place.kind.size;
-    matches!(size, 1 | 2 | 3 | 4 | 8) && place.byte > 0 && u32::from(place.byte) + u32::from(size) < 242
+    matches!(size, 1 | 2 | 3 | 4 | 8)
+        && place.byte > 0
+        && u32::from(place.byte) + u32::from(size) < 242
 }
 
 // Whether the trace has the place.
@@ -48,7 +50,11 @@ pub fn value_of(head: &Head, trace: &[u8], place: Place) -> Option<i128>
         return None;
     }
     let at = offset_of(place) as usize;
-    Some(read(head.order, place.kind, &trace[at..at + usize::from(place.kind.size)]))
+    Some(read(
+        head.order,
+        place.kind,
+        &trace[at..at + usize::from(place.kind.size)],
+    ))
 }
 
 // The bytes of a front, with the new ones over them.

@@ -72,7 +72,10 @@ fn names_the_first_refusal(rt: HostRuntime) -> Result<(), Fail> {
     let file = sample_file(alloc)?;
     let mut bench = load(alloc, file.as_slice(), Reading::AsWritten)?;
     let cases = [
-        (Edit::Set(0, signed(0, 0, 5), 1 << 100), Refusal::NoTrace(0, 3)),
+        (
+            Edit::Set(0, signed(0, 0, 5), 1 << 100),
+            Refusal::NoTrace(0, 3),
+        ),
         (Edit::Set(4, signed(0, 1, 4), 0), Refusal::NoTrace(4, 3)),
         (Edit::Set(1, signed(0, 0, 4), 1 << 100), Refusal::NoPlace),
         (Edit::Set(1, signed(0, 1, 5), 0), Refusal::NoPlace),
@@ -84,8 +87,14 @@ fn names_the_first_refusal(rt: HostRuntime) -> Result<(), Fail> {
     for (edit, refusal) in &cases {
         assert_eq!(rt; bench.apply(alloc, edit).err(), Some(*refusal));
     }
-    assert_eq!(rt; bench.ask(alloc, &Query::Get(4, signed(0, 0, 4))).err(), Some(AskFault::NoTrace(4, 3)));
-    assert_eq!(rt; bench.ask(alloc, &Query::Get(3, signed(0, 0, 4))).err(), Some(AskFault::NoPlace));
+    assert_eq!(rt;
+        bench.ask(alloc, &Query::Get(4, signed(0, 0, 4))).err(),
+        Some(AskFault::NoTrace(4, 3))
+    );
+    assert_eq!(rt;
+        bench.ask(alloc, &Query::Get(3, signed(0, 0, 4))).err(),
+        Some(AskFault::NoPlace)
+    );
 
     let mut writer = Sink::new(Vec::new(alloc));
     bench.save(&mut writer)?;
@@ -111,9 +120,18 @@ fn tells_counts_and_samples(rt: HostRuntime) -> Result<(), Fail> {
     }
     assert_eq!(rt; number(bench.ask(alloc, &Query::Sample(1, 1))?)?, -2);
     assert_eq!(rt; number(bench.ask(alloc, &Query::Sample(3, 0))?)?, 0);
-    assert_eq!(rt; bench.ask(alloc, &Query::Sample(1, 2)).err(), Some(AskFault::NoSample(2, 2)));
-    assert_eq!(rt; bench.ask(alloc, &Query::Sample(1, 9)).err(), Some(AskFault::NoSample(9, 2)));
-    assert_eq!(rt; bench.ask(alloc, &Query::Sample(4, 9)).err(), Some(AskFault::NoTrace(4, 3)));
+    assert_eq!(rt;
+        bench.ask(alloc, &Query::Sample(1, 2)).err(),
+        Some(AskFault::NoSample(2, 2))
+    );
+    assert_eq!(rt;
+        bench.ask(alloc, &Query::Sample(1, 9)).err(),
+        Some(AskFault::NoSample(9, 2))
+    );
+    assert_eq!(rt;
+        bench.ask(alloc, &Query::Sample(4, 9)).err(),
+        Some(AskFault::NoTrace(4, 3))
+    );
     Ok(())
 }
 
@@ -123,10 +141,25 @@ fn no_set_moves_the_end_of_a_trace(rt: HostRuntime) -> Result<(), Fail> {
     let mut file = sample_file(alloc)?;
     file.as_mut_slice()[3503] = 0;
     let mut bench = load(alloc, file.as_slice(), Reading::AsWritten)?;
-    assert_eq!(rt; bench.apply(alloc, &Edit::Set(1, signed(0, 115, 2), 4)).err(), Some(Refusal::Frame));
-    assert_eq!(rt; bench.apply(alloc, &Edit::Set(1, signed(0, 113, 4), 2)).err(), None);
+    assert_eq!(rt;
+        bench
+            .apply(alloc, &Edit::Set(1, signed(0, 115, 2), 4))
+            .err(),
+        Some(Refusal::Frame)
+    );
+    assert_eq!(rt;
+        bench
+            .apply(alloc, &Edit::Set(1, signed(0, 113, 4), 2))
+            .err(),
+        None
+    );
     let mut fixed = load(alloc, file.as_slice(), Reading::Fixed)?;
-    assert_eq!(rt; fixed.apply(alloc, &Edit::Set(1, signed(0, 115, 2), 4)).err(), None);
+    assert_eq!(rt;
+        fixed
+            .apply(alloc, &Edit::Set(1, signed(0, 115, 2), 4))
+            .err(),
+        None
+    );
     Ok(())
 }
 
@@ -137,7 +170,10 @@ fn names_the_bytes_that_a_failing_writer_took(rt: HostRuntime) -> Result<(), Fai
     let bench = load(alloc, file.as_slice(), Reading::AsWritten)?;
     let mut room = [0u8; 4332];
     let mut writer = Sink::new(StepWriter::new(&mut room, 1, 4000));
-    assert_eq!(rt; bench.save(&mut writer).err(), Some(SaveFault { written: 4000 }));
+    assert_eq!(rt;
+        bench.save(&mut writer).err(),
+        Some(SaveFault { written: 4000 })
+    );
     let _writer = writer.into_inner();
     assert!(rt; room[..4000] == file.as_slice()[..4000]);
 

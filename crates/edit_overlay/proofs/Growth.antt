@@ -14,4 +14,3 @@ Appends_more (Some a) (Some b) (Some c) xs ys p q = rw (q, p) (append_assoc a xs
 -- a growth by the next bytes of a list
 pub Appends_next : (old mid new : Option (List ℕ)) (all : List ℕ) (n m : ℕ) → Appends old mid (take n all) → Appends mid new (take m (drop n all)) → Appends old new (take (n + m) all)
 Appends_next old mid new all n m p q = rw (take-add n m all) (Appends_more old mid new _ _ p q)
-

@@ -29,10 +29,10 @@ joined-laid file h es laid =
     let end : ℕ = length file - 3200 * h.trailer in
     let bin : take 3200 file ++ take 400 (drop 3200 file) ≡ take 3600 file = up_to file 3200 400 3600 refl in
     let blocks : take 3600 file ++ concat (blocks_of h.blocks (drop 3600 file)) ≡ take h.traces_at file =
-        ap (λ (s : List ℕ). take 3600 file ++ s) (concat-blocks_of h.blocks (drop 3600 file)) ∙ up_to file 3600 (3200 * h.blocks) h.traces_at (sym laid.front) in
+    ap (λ (s : List ℕ). take 3600 file ++ s) (concat-blocks_of h.blocks (drop 3600 file)) ∙ up_to file 3600 (3200 * h.blocks) h.traces_at (sym laid.front) in
     let traces : take h.traces_at file ++ concat (pieces file es) ≡ take end file = joined-pieces file h.traces_at es end laid.laid in
     let tail : concat (blocks_of h.trailer (drop end file)) ≡ drop end file =
-        concat-blocks_of h.trailer (drop end file) ∙ take_all (3200 * h.trailer) (drop end file) (omega (arith, length-drop end file, laid.whole)) in
+    concat-blocks_of h.trailer (drop end file) ∙ take_all (3200 * h.trailer) (drop end file) (omega (arith, length-drop end file, laid.whole)) in
     ap (λ (s : List ℕ). s ++ concat (blocks_of h.blocks (drop 3600 file)) ++ concat (pieces file es) ++ concat (blocks_of h.trailer (drop end file))) bin
     ∙ ap (λ (s : List ℕ). s ++ concat (pieces file es) ++ concat (blocks_of h.trailer (drop end file))) blocks
     ∙ ap (λ (s : List ℕ). s ++ concat (blocks_of h.trailer (drop end file))) traces

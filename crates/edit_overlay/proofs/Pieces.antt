@@ -123,16 +123,16 @@ volume-put file h es k b d new laid l w =
     let bin : take 400 (drop 3200 s) ≡ take 400 (drop 3200 file) = before file a (length new) new 3200 400 (omega arith) (omega arith) in
     let blocks : blocks_of h.blocks (drop 3600 s) ≡ blocks_of h.blocks (drop 3600 file) = blocks-before h.blocks file a (length new) new 3600 low (omega arith) in
     let tail : blocks_of h.trailer (drop (length s - 3200 * h.trailer) s) ≡ blocks_of h.trailer (drop end file) =
-        ap (λ (n : ℕ). blocks_of h.trailer (drop (n - 3200 * h.trailer) s)) same ∙ ap (blocks_of h.trailer) (drop-splice file a new end (omega arith) high) in
+    ap (λ (n : ℕ). blocks_of h.trailer (drop (n - 3200 * h.trailer) s)) same ∙ ap (blocks_of h.trailer) (drop-splice file a new end (omega arith) high) in
     let traces : pieces s es ≡ set (pieces file es) k (splice (bytes_at file (get_or es k d)) b (length new) new) = pieces-put file h.traces_at es end k b d new laid.laid (omega arith) l w in
     rw (text, bin, blocks, tail, traces) refl
 
 -- the extents stay laid in a file of the same length
 pub laid-length : (file other : List ℕ) (h : Head) (es : List Extent) → length other ≡ length file → AreLaid file h es → AreLaid other h es
 laid-length file other h es e laid = record {
-    front = laid.front;
-    laid = rw e laid.laid;
-    whole = rw e laid.whole;
+  front = laid.front;
+  laid = rw e laid.laid;
+  whole = rw e laid.whole;
 }
 
 -- ---- what a method reads and writes, seen by the traces

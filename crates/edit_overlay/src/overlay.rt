@@ -126,7 +126,11 @@ impl Overlay {
     {
         let _ = alloc;
         let extent = self.extents[p as usize - 1];
-        overwrite(self.bytes.as_mut_slice(), (extent.start + at) as usize, bytes);
+        overwrite(
+            self.bytes.as_mut_slice(),
+            (extent.start + at) as usize,
+            bytes,
+        );
         Ok(())
     }
 

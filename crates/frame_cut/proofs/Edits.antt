@@ -12,7 +12,6 @@ use Rattle.frame_cut.specs.Volume.{Volume, front_of, bytes_of, start_of}
 use Rattle.frame_cut.specs.Heads.{head_of, traces_at}
 use Rattle.frame_cut.specs.Frames.{trace_length, front_length}
 use Rattle.frame_cut.specs.Cuts.{IsTrace, IsCut}
-pub use Rattle.frame_cut.proofs.Laid.{joined-laid}
 use Rattle.frame_cut.proofs.HeadFront.{has_head, head_of-front}
 use Rattle.frame_cut.proofs.OneCut.{trace_length-append, IsBlock, length-blocks}
 

@@ -1,4 +1,7 @@
-use crate::test_files::{texted_file, plain_file, little_file, varying_file, extended_file, counted_file, trailed_file, put};
+use crate::test_files::{
+    counted_file, extended_file, little_file, plain_file, put, texted_file, trailed_file,
+    varying_file,
+};
 use crate::{
     Extent, Head, Limits, LoadFault, Reading, cut_file, extension_count, front_length, read_head,
     sample_count, trace_length,
@@ -31,7 +34,11 @@ fn front(bytes: &[u8], length: usize) -> &[u8] {
 fn cuts_files(rt: HostRuntime) -> Result<(), Fail> {
     let alloc = rt.alloc();
     let files = [
-        (plain_file(alloc)?, [(3600, 244), (3844, 244), (4088, 244)], 3),
+        (
+            plain_file(alloc)?,
+            [(3600, 244), (3844, 244), (4088, 244)],
+            3,
+        ),
         (
             varying_file(alloc)?,
             [(3600, 246), (3846, 244), (4090, 131310)],
@@ -69,10 +76,9 @@ fn cuts_files(rt: HostRuntime) -> Result<(), Fail> {
     Ok(())
 }
 
-#[test]
-fn reads_heads(rt: HostRuntime) -> Result<(), Fail> {
-    let alloc = rt.alloc();
-    let s = Head {
+// The head of the file of three traces of 244 bytes.
+fn head_s() -> Head {
+    Head {
         order: Order::Big,
         major: 1,
         minor: 0,
@@ -83,71 +89,81 @@ fn reads_heads(rt: HostRuntime) -> Result<(), Fail> {
         blocks: 0,
         trailer: 0,
         traces_at: 3600,
-    };
-    let x = Head {
-        major: 2,
-        extensions: 1,
-        ..s
-    };
+    }
+}
+
+#[test]
+fn reads_heads(rt: HostRuntime) -> Result<(), Fail> {
+    let alloc = rt.alloc();
+    let mut v = head_s();
+    v.fixed = false;
+    let mut k = head_s();
+    k.blocks = 2;
+    k.traces_at = 10000;
+    let mut t = head_s();
+    t.order = Order::Little;
+    t.major = 2;
+    t.format = Format::Signed24;
+    let mut counted = texted_file(alloc)?;
+    put(&mut counted, 3505, &[0, 2]);
     let heads = [
-        (plain_file(alloc)?, s),
-        (varying_file(alloc)?, Head { fixed: false, ..s }),
-        (extended_file(alloc)?, x),
-        (
-            counted_file(alloc)?,
-            Head {
-                fixed: false,
-                extensions: 3,
-                ..x
-            },
-        ),
-        (trailed_file(alloc)?, Head { trailer: 2, ..x }),
-        (
-            little_file(alloc)?,
-            Head {
-                order: Order::Little,
-                major: 2,
-                format: Format::Signed24,
-                ..s
-            },
-        ),
-        (
-            texted_file(alloc)?,
-            Head {
-                blocks: 2,
-                traces_at: 10000,
-                ..s
-            },
-        ),
+        (plain_file(alloc)?, head_s()),
+        (varying_file(alloc)?, v),
+        (texted_file(alloc)?, k),
+        (counted, k),
+        (little_file(alloc)?, t),
     ];
-    for (mut file, head) in heads {
+    for (file, head) in heads {
         assert_eq!(rt; read_head(&file, Reading::AsWritten, wide(&rt))?, head);
-        let fixed = Head {
-            fixed: true,
-            ..head
-        };
+    }
+    Ok(())
+}
+
+#[test]
+fn reads_heads_with_trace_header_extensions(rt: HostRuntime) -> Result<(), Fail> {
+    let alloc = rt.alloc();
+    let mut x = head_s();
+    x.major = 2;
+    x.extensions = 1;
+    let mut y = x;
+    y.fixed = false;
+    y.extensions = 3;
+    let mut z = x;
+    z.trailer = 2;
+    for (file, head) in [
+        (extended_file(alloc)?, x),
+        (counted_file(alloc)?, y),
+        (trailed_file(alloc)?, z),
+    ] {
+        assert_eq!(rt; read_head(&file, Reading::AsWritten, wide(&rt))?, head);
+        let mut fixed = head;
+        fixed.fixed = true;
         assert_eq!(rt;
             read_head(&file, Reading::Fixed, wide(&rt))?,
             fixed,
             "as fixed"
         );
-        // In revision 0 bytes 3503 to 3532 do not count, and the wide number of samples neither.
+    }
+    Ok(())
+}
+
+// In revision 0 bytes 3503 to 3532 do not count, and the wide number of samples neither.
+#[test]
+fn reads_heads_of_revision_0(rt: HostRuntime) -> Result<(), Fail> {
+    let alloc = rt.alloc();
+    let mut head = head_s();
+    head.major = 0;
+    head.minor = 7;
+    head.fixed = false;
+    for mut file in [
+        plain_file(alloc)?,
+        extended_file(alloc)?,
+        trailed_file(alloc)?,
+        texted_file(alloc)?,
+    ] {
         put(&mut file, 3269, &[0, 0, 0, 9]);
         put(&mut file, 3501, &[0, 7]);
-        let first = read_head(&file, Reading::AsWritten, wide(&rt))?;
-        assert_eq!(rt;
-            first,
-            Head {
-                major: 0,
-                minor: 7,
-                fixed: false,
-                extensions: 0,
-                blocks: 0,
-                trailer: 0,
-                traces_at: 3600,
-                ..head
-            }
-        );
+        assert_eq!(rt; read_head(&file, Reading::AsWritten, wide(&rt))?, head);
     }
     Ok(())
 }
@@ -182,56 +198,54 @@ fn refuses_by_the_head(rt: HostRuntime) -> Result<(), Fail> {
 #[test]
 fn refuses_hostile_counts(rt: HostRuntime) -> Result<(), Fail> {
     let alloc = rt.alloc();
-    let changes: [(usize, &[u8], Result<u32, LoadFault>); 13] = [
-        (
-            3269,
-            &[0xFF, 0xFF, 0xFF, 0xFF],
-            Err(LoadFault::Truncated(1)),
-        ),
-        (
-            3507,
-            &[0xFF, 0xFF, 0xFF, 0xFF],
-            Err(LoadFault::Extensions(-1)),
-        ),
-        (3507, &[0, 0, 1, 0], Err(LoadFault::Extensions(256))),
-        (3507, &[0, 0, 0, 255], Err(LoadFault::Truncated(1))),
-        (3529, &[0xFF, 0xFF, 0xFF, 0xFF], Err(LoadFault::Trailer(-1))),
-        (3529, &[0, 0, 0, 1], Err(LoadFault::Trailer(1))),
+    let changes: [(usize, &[u8], LoadFault); 10] = [
+        (3269, &[0xFF; 4], LoadFault::Truncated(1)),
+        (3507, &[0xFF; 4], LoadFault::Extensions(-1)),
+        (3507, &[0, 0, 1, 0], LoadFault::Extensions(256)),
+        (3507, &[0, 0, 0, 255], LoadFault::Truncated(1)),
+        (3529, &[0xFF; 4], LoadFault::Trailer(-1)),
+        (3529, &[0, 0, 0, 1], LoadFault::Trailer(1)),
         (
             3529,
             &[0x7F, 0xFF, 0xFF, 0xFF],
-            Err(LoadFault::Trailer(i32::MAX)),
+            LoadFault::Trailer(i32::MAX),
         ),
-        (3521, &[0xFF; 8], Err(LoadFault::FirstTrace(u64::MAX))),
-        (
-            3521,
-            &[0, 0, 0, 0, 0, 0, 0x0E, 0x11],
-            Err(LoadFault::FirstTrace(3601)),
-        ),
-        (3521, &[0, 0, 0, 0, 0, 0, 0x0E, 0x10], Ok(1)),
-        (
-            3600 + 240 + 157,
-            &[0xFF, 0xFF],
-            Err(LoadFault::ExtensionCount(1)),
-        ),
-        (3513, &[0xFF; 8], Ok(1)),
-        // In a file of traces of one length a trace's own numbers do not count.
-        (3600 + 115, &[0xFF, 0xFF], Ok(1)),
+        (3521, &[0xFF; 8], LoadFault::FirstTrace(u64::MAX)),
+        (3527, &[0x0E, 0x11], LoadFault::FirstTrace(3601)),
+        (3997, &[0xFF, 0xFF], LoadFault::ExtensionCount(1)),
     ];
-    for (byte, new, outcome) in changes {
+    for (byte, new, fault) in changes {
         let mut file = extended_file(alloc)?;
         put(&mut file, byte, new);
-        assert_eq!(rt; traces(alloc, &file, wide(&rt)), outcome, "at {byte}");
+        assert_eq!(rt; traces(alloc, &file, wide(&rt)), Err(fault), "at {byte}");
     }
-    let mut file = varying_file(alloc)?;
-    put(&mut file, 3846 + 115, &[0xFF, 0xFF]);
-    assert_eq!(rt; traces(alloc, &file, wide(&rt)), Ok(3));
     let mut file = counted_file(alloc)?;
-    put(&mut file, 3600 + 240 + 157, &[0, 4]);
+    put(&mut file, 3997, &[0, 4]);
     assert_eq!(rt;
         traces(alloc, &file, wide(&rt)),
         Err(LoadFault::ExtensionCount(1))
     );
+    Ok(())
+}
+
+// The place of the first trace may be named, the number of traces decides nothing, and in a file of
+// traces of one length a trace's own number of samples does not count.
+#[test]
+fn passes_over_other_counts(rt: HostRuntime) -> Result<(), Fail> {
+    let alloc = rt.alloc();
+    let changes: [(usize, &[u8]); 3] = [
+        (3527, &[0x0E, 0x10]),
+        (3513, &[0xFF; 8]),
+        (3715, &[0xFF, 0xFF]),
+    ];
+    for (byte, new) in changes {
+        let mut file = extended_file(alloc)?;
+        put(&mut file, byte, new);
+        assert_eq!(rt; traces(alloc, &file, wide(&rt)), Ok(1), "at {byte}");
+    }
+    let mut file = varying_file(alloc)?;
+    put(&mut file, 3846 + 115, &[0xFF, 0xFF]);
+    assert_eq!(rt; traces(alloc, &file, wide(&rt)), Ok(3));
     Ok(())
 }
 

@@ -1,5 +1,5 @@
 -- How the value of digits is read one by one.
-use Rattle.std.proofs.Common.{◌≡◌, ℕ, ◌+◌, ◌*◌, ◌^◌, ◌<◌, ◌≤◌, suc, length, List, [], ◌∷◌, Bool, true, false, not, cond, get_or, take, drop, arith, refl, Option, Some, None, ◌∙◌, sym, ap, ◌&&◌, zero, ◌-◌, lit≤}
+use Rattle.std.proofs.Common.{◌≡◌, ℕ, ◌+◌, ◌*◌, ◌<◌, ◌≤◌, suc, length, List, [], ◌∷◌, Bool, true, false, get_or, take, arith, refl, Some, None, ◌∙◌, sym, ap, ◌&&◌, zero, ◌-◌, lit≤}
 use Rattle.std.specs.Prelude.{nat_lt, nat_le}
 use Rattle.std.specs.List.{list_all}
 use Rattle.std.specs.Str.{all_ascii_digits}

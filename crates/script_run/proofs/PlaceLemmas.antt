@@ -1,9 +1,8 @@
 -- Words that are places, by their parts.
-use Rattle.std.proofs.Common.{◌≡◌, ℕ, ◌+◌, ◌<◌, ◌≤◌, suc, length, List, [], ◌∷◌, Bool, true, false, not, drop, take, arith, refl, Option, Some, None, ◌∙◌, sym, ap, ap₂, cond, codes, nat_eq}
+use Rattle.std.proofs.Common.{◌≡◌, ℕ, List, [], ◌∷◌, Bool, true, false, not, drop, take, arith, refl, Option, Some, None, ◌∙◌, sym, ap, ap₂, cond, codes, nat_eq}
 use Rattle.std.specs.List.{list_any, before_first, after_first, starts_with}
 use lib.Pointwise.{pointwise}
 use Rattle.std.proofs.lemmas.Bool.Decides.{nat_tests}
-use Rattle.field_map.specs.declared.place.Place.{Place}
 use Rattle.script_run.specs.Numbers.{place_of_word, place_in, place_of_numbers, natural_up_to, without_u, ends_with_u, is_dot, is_colon, extension_digits, behind_extension}
 use Rattle.script_run.proofs.Positions.{nothing_behind}
 

@@ -1,7 +1,7 @@
 -- What the place of the first element that passes a test says of a list.
-use Rattle.std.proofs.Common.{◌≡◌, ℕ, ◌+◌, ◌<◌, ◌≤◌, length, List, Bool, true, false, not, cond, get_or, take, drop, arith, refl, Option, Some, None, ◌∙◌, sym, ap, suc, ◌-◌, ◌||◌, [], ◌∷◌, drop-drop}
-use Rattle.std.specs.Prelude.{position, nat_lt, unwrap_or}
-use Rattle.std.specs.List.{position_or_len, prefix_len, list_any, before_first, after_first}
+use Rattle.std.proofs.Common.{◌≡◌, ℕ, ◌+◌, ◌<◌, ◌≤◌, length, List, Bool, true, false, not, cond, get_or, take, drop, arith, refl, Some, None, ◌∙◌, sym, ap, suc, ◌-◌, ◌||◌, [], ◌∷◌, drop-drop}
+use Rattle.std.specs.Prelude.{position, unwrap_or}
+use Rattle.std.specs.List.{position_or_len, list_any, before_first, after_first}
 use Rattle.std.proofs.lemmas.List.Sums.{prefix_len-le-length, passes_at_first}
 use Rattle.std.proofs.lemmas.List.{take_rest, drop_all}
 use Rattle.std.proofs.lemmas.List.Folds.{list_any_at}

@@ -1,6 +1,6 @@
 -- How a run goes on by one line.
-use Rattle.std.proofs.Common.{◌≡◌, ℕ, suc, ◌+◌, ◌<◌, ◌≤◌, List, [], ◌∷◌, ◌++◌, length, take, drop, map, Bool, true, false, cond, Option, Some, None, refl, ap, ap₂, sym, subst, ◌∙◌, arith, append_assoc, append-nil, length-append}
-use Rattle.std.specs.Prelude.{IsTrue, count_by, flat_map}
+use Rattle.std.proofs.Common.{◌≡◌, ℕ, suc, ◌+◌, ◌≤◌, List, [], ◌∷◌, ◌++◌, length, take, Bool, true, false, cond, Option, Some, None, refl, ap, ap₂, sym, subst, ◌∙◌, arith, append_assoc, append-nil, length-append}
+use Rattle.std.specs.Prelude.{IsTrue}
 use Rattle.std.specs.List.{onto_first}
 use Rattle.std.specs.Io.KnownBytes.{Appends}
 use Rattle.std.proofs.Math.Seq.{take-add}
@@ -12,7 +12,7 @@ use Rattle.bench_core.specs.State.{State}
 use Rattle.script_run.specs.Words.{is_line_feed, parts_by_line_feed, script_lines, without_return}
 use Rattle.script_run.specs.Replies.{Printed}
 use Rattle.script_run.specs.Devices.{Device, Takes, TakesPart}
-use Rattle.script_run.specs.Runs.{LineStep, LineSteps, printed_text, refusals, RunsWhole, StopsAt, BreaksOff}
+use Rattle.script_run.specs.Runs.{LineStep, LineSteps, printed_text, refusals, StopsAt, BreaksOff}
 use Rattle.device_io.specs.Growth.{Appends_more}
 
 -- ---- a script has no more lines than bytes

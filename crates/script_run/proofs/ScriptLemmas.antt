@@ -1,5 +1,5 @@
 -- How the lines of a script are taken one by one.
-use Rattle.std.proofs.Common.{◌≡◌, ℕ, ◌+◌, ◌<◌, ◌≤◌, suc, length, List, [], ◌∷◌, Bool, true, false, not, cond, take, drop, map, arith, refl, ◌∙◌, ap, ap₂, sym, ◌||◌, ◌==◌}
+use Rattle.std.proofs.Common.{◌≡◌, ℕ, ◌+◌, suc, length, List, [], ◌∷◌, true, false, take, drop, map, arith, refl, ◌∙◌, ap, ap₂, sym, ◌||◌, ◌==◌}
 use Rattle.std.specs.List.{list_any, before_first, after_first, position_or_len, onto_first}
 use Rattle.script_run.specs.Words.{is_line_feed, parts_by_line_feed, script_lines, without_return}
 

@@ -1,10 +1,10 @@
 -- How the words of a line are taken one by one.
-use Rattle.std.proofs.Common.{◌≡◌, ℕ, ◌+◌, ◌<◌, ◌≤◌, suc, length, List, [], ◌∷◌, Bool, true, false, not, cond, get_or, take, drop, filter, arith, refl, Option, Some, None, ◌∙◌, sym, ap, drop-cons, length-take, add-one, ap₂, drop-drop, inl, inr}
-use Rattle.std.specs.Prelude.{position, nat_lt}
-use Rattle.std.specs.List.{position_or_len, prefix_len, slice_split, onto_first}
+use Rattle.std.proofs.Common.{◌≡◌, ℕ, ◌+◌, ◌<◌, ◌≤◌, suc, length, List, [], ◌∷◌, Bool, true, false, not, cond, get_or, take, drop, filter, arith, refl, Some, None, ◌∙◌, sym, ap, drop-cons, length-take, add-one, ap₂, drop-drop, inl, inr}
+use Rattle.std.specs.Prelude.{position}
+use Rattle.std.specs.List.{position_or_len, slice_split, onto_first}
 use Rattle.std.proofs.lemmas.List.{drop_all, take_all}
-use Rattle.std.proofs.lemmas.List.Sums.{prefix_len-le-length, prefix_len-drop_yes, passes_at_first, fails_before_first}
-use Rattle.std.proofs.lemmas.List.Splits.{slice_split-cons_yes, slice_split-cons_no, slice_split_first, slice_split_none}
+use Rattle.std.proofs.lemmas.List.Sums.{prefix_len-le-length, prefix_len-drop_yes, passes_at_first}
+use Rattle.std.proofs.lemmas.List.Splits.{slice_split-cons_yes, slice_split-cons_no, slice_split_first}
 use Rattle.std.proofs.lemmas.Bool.Decides.{nat_tests, leb_tells}
 use Rattle.script_run.specs.Words.{is_word, is_gap, words_of}
 use Rattle.script_run.proofs.Positions.{none_is, some_is, some_in, some_passes}

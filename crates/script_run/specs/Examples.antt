@@ -1,5 +1,5 @@
 -- Worked examples of lines, words, numbers, places and texts.
-use Rattle.std.specs.Prelude.{◌≡◌, ◌^◌, ◌-◌, pos, negsuc, [], ◌∷◌, ◌++◌, codes, Some, None, Ok, Err, refl}
+use Rattle.std.specs.Prelude.{◌≡◌, ◌^◌, ◌-◌, negsuc, [], ◌∷◌, ◌++◌, codes, Some, None, Ok, Err, refl}
 use Rattle.std.specs.Fmt.{digits}
 use Rattle.std.specs.Str.{is_utf8, chars}
 use Rattle.std.specs.Char.{encode_utf8}
@@ -8,7 +8,7 @@ use Rattle.frame_cut.specs.declared.load_fault.LoadFault.TheVariants.{TextCount}
 use Rattle.bench_core.specs.declared.field.Field.TheVariants as fields
 use Rattle.bench_core.specs.declared.edit.Edit.TheVariants as edits
 use Rattle.script_run.specs.declared.command.Command.TheVariants.{Apply}
-use Rattle.script_run.specs.declared.line_fault.LineFault.TheVariants.{Unknown, Words, Number, NotText}
+use Rattle.script_run.specs.declared.line_fault.LineFault.TheVariants.{Words, NotText}
 use Rattle.script_run.specs.Words.{script_lines}
 use Rattle.script_run.specs.Numbers.{number_of, position_of, place_of_word}
 use Rattle.script_run.specs.Commands.{line_result}

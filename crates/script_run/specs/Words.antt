@@ -1,5 +1,5 @@
 -- The lines of a script and the words of a line.
-use Rattle.std.specs.Prelude.{ℕ, ◌-◌, ◌==◌, Bool, true, not, ◌||◌, List, [], ◌∷◌, length, take, map, filter, nat_eq, nat_lt, codes, if◌then◌else◌}
+use Rattle.std.specs.Prelude.{ℕ, ◌-◌, ◌==◌, Bool, true, ◌||◌, List, [], ◌∷◌, length, take, map, filter, nat_eq, nat_lt, codes, if◌then◌else◌}
 use Rattle.std.specs.List.{onto_first, slice_split, starts_with, ends_with}
 use Rattle.std.specs.Str.{byte}
 

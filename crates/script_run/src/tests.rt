@@ -117,7 +117,8 @@ fn tells_what_a_file_is(rt: HostRuntime) -> Result<(), Fail> {
     let alloc = rt.alloc();
     let file = sample_file(alloc)?;
     let script = b"count\ninfo\nsample 1 1\nsample 1 2\nsample 4 0\ncount 1\nsample 1\n";
-    let printed = b"traces 3\ninfo order big revision 1.0 format 3 samples 2 fixed yes extensions 0 blocks 0 trailer 0 traces 3 bytes 4332\nvalue -2\nrefused E05 no sample 2 of 2\nrefused E01 no trace 4 of 3\nrefused S02 words\nrefused S02 words\n";
+    let printed =
+        b"traces 3\ninfo order big revision 1.0 format 3 samples 2 fixed yes extensions 0 blocks 0 trailer 0 traces 3 bytes 4332\nvalue -2\nrefused E05 no sample 2 of 2\nrefused E01 no trace 4 of 3\nrefused S02 words\nrefused S02 words\n";
     let told = run_script(alloc, file.as_slice(), script, options(false, false)?)?;
     assert_eq!(rt; told.end, RunEnd::Done { refused: 4 });
     assert!(rt; told.answers.as_slice() == printed.as_slice());

@@ -28,6 +28,18 @@ fn command<'a>(alloc: Global) -> Result<Command<'a>, AllocError>
     Ok(command)
 }
 
+// The limit on the file's bytes; `None` where it is no number from 1 to 2^40, which the matches of `command` rule out.
+fn max_bytes(matches: &ArgMatches) -> Option<Option<u64>>
+    ensures text { IfSome result (λ limit. ReadsLimit (one_text (found_of matches.now) (codes "max-bytes")) limit) }
+    ensures range { IfSome result (λ limit. IfSome limit (λ n. (1 ≤ n) × (n ≤ 1099511627776))) }
+{
+    match matches.try_get_one::<u64>("max-bytes") {
+        Ok(None) => Some(None),
+        Ok(Some(n)) if 1 <= n && n <= MAX_BYTES => Some(Some(n)),
+        _ => None,
+    }
+}
+
 // `None` never comes where the matches are those of `command`.
 fn read_matches<'a>(matches: &ArgMatches<'a>) -> Option<Arguments<'a>>
     ensures file { IfSome result (λ a. first_value (found_of matches.now) (codes "FILE") ≡ Some a.file.now) }
@@ -41,12 +53,7 @@ fn read_matches<'a>(matches: &ArgMatches<'a>) -> Option<Arguments<'a>>
     let file = matches.get_str("FILE")?;
     let script = matches.get_str("script")?;
     let out = matches.get_str("out");
-    let max_bytes = matches.try_get_one::<u64>("max-bytes").ok()?;
-    if let Some(n) = max_bytes {
-        if n < 1 || n > MAX_BYTES {
-            return None;
-        }
-    }
+    let max_bytes = max_bytes(matches)?;
     let fixed = matches.get_flag("fixed");
     let stop = matches.get_flag("stop");
     Some(Arguments {
@@ -78,4 +85,3 @@ pub fn arguments<'a>(alloc: Global, words: &'a [String]) -> Result<Arguments<'a>
         None => Err(command.error(ErrorKind::MissingRequiredArgument, "FILE, --script")?),
     }
 }
-

@@ -64,7 +64,11 @@ fn open_and_run<R: Files + AllocGlobal + Print + Eprint>(rt: &R, arguments: &Arg
 fn options(arguments: &Arguments) -> Options
     requires { IfSome arguments.now.max_bytes (λ n. n ≤ 1099511627776) }
 {
-    let reading = if arguments.fixed { Reading::Fixed } else { Reading::AsWritten };
+    let reading = if arguments.fixed {
+        Reading::Fixed
+    } else {
+        Reading::AsWritten
+    };
     let limits = match Limits::new(arguments.max_bytes.unwrap_or(MAX_BYTES), u32::MAX) {
         Some(limits) => limits,
         None => unreachable!(),

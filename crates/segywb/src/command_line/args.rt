@@ -36,7 +36,9 @@ pub fn fixed<'a>(alloc: Global) -> Arg<'a>
     ensures rule { rule_of result ≡ fixed_rule }
     ensures local { result.global ≡ false }
 {
-    Arg::new(alloc, "fixed").long("fixed").action(ArgAction::SetTrue)
+    Arg::new(alloc, "fixed")
+        .long("fixed")
+        .action(ArgAction::SetTrue)
 }
 
 // `--max-bytes N`: the most bytes that the file may have.
@@ -44,7 +46,9 @@ pub fn limit<'a>(alloc: Global) -> Arg<'a>
     ensures rule { rule_of result ≡ limit_rule }
     ensures local { result.global ≡ false }
 {
-    Arg::new(alloc, "max-bytes").long("max-bytes").value_parser(ValueParser::unsigned(1, 1099511627776))
+    Arg::new(alloc, "max-bytes")
+        .long("max-bytes")
+        .value_parser(ValueParser::unsigned(1, 1099511627776))
 }
 
 // `--stop`: the first refused line ends the run.
@@ -52,5 +56,7 @@ pub fn stop<'a>(alloc: Global) -> Arg<'a>
     ensures rule { rule_of result ≡ stop_rule }
     ensures local { result.global ≡ false }
 {
-    Arg::new(alloc, "stop").long("stop").action(ArgAction::SetTrue)
+    Arg::new(alloc, "stop")
+        .long("stop")
+        .action(ArgAction::SetTrue)
 }

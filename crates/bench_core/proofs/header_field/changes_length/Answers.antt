@@ -14,9 +14,9 @@ pub returns : goal.returns
 returns c =
     let left : c.args.at + length c.args.new.now ≤ front_length c.args.head.now = omega (arith, c.front_length-front.ensures, c.if-at-front.false, c.requires.one_header) in
     let front : c.copy_changed.new.out ≡ splice (take (front_length c.args.head.now) c.args.trace.now) c.args.at (length c.args.new.now) c.args.new.now =
-        c.copy_changed.ensures ∙ ap (λ (f : ℕ). splice (take f c.args.trace.now) c.args.at (length c.args.new.now) c.args.new.now) c.front_length-front.ensures in
+    c.copy_changed.ensures ∙ ap (λ (f : ℕ). splice (take f c.args.trace.now) c.args.at (length c.args.new.now) c.args.new.now) c.front_length-front.ensures in
     let whole : c.trace_length.result ≡ trace_length c.args.head.now (splice c.args.trace.now c.args.at (length c.args.new.now) c.args.new.now) =
-        c.trace_length.ensures ∙ ap (trace_length c.args.head.now) front ∙ length_within c.args.head.now c.args.trace.now c.args.at c.args.new.now c.requires.trace left in
+    c.trace_length.ensures ∙ ap (trace_length c.args.head.now) front ∙ length_within c.args.head.now c.args.trace.now c.args.at c.args.new.now c.requires.trace left in
     c.ne.ensures
     ∙ ap (λ (o : Option ℕ). not (option_eq nat_eq o (Some (length c.args.trace.now)))) whole
     ∙ same_test (trace_length c.args.head.now (splice c.args.trace.now c.args.at (length c.args.new.now) c.args.new.now)) (length c.args.trace.now)

@@ -21,12 +21,12 @@ pub returns-then-changes_length : goal.returns-then-changes_length
 returns-then-changes_length c =
     let fit : SFits w128 c.args.value = search rules in
     by_length c.args.head.now c.args.trace.now c.args.place (to_z w128 (of_z w128 c.args.value)) c.offset_of.result c.write.new.bytes true
-        (sym c.if-not-has_place.ensures) (sym c.if-not-fits.ensures) c.offset_of.ensures c.write.ensures c.if-changes_length.ensures
+    (sym c.if-not-has_place.ensures) (sym c.if-not-fits.ensures) c.offset_of.ensures c.write.ensures c.if-changes_length.ensures
     ∙ ap (set_refusal c.args.head.now c.args.trace.now (Some c.args.place)) (to_z-of_z w128 c.args.value fit)
 
 pub returns : goal.returns
 returns c =
     let fit : SFits w128 c.args.value = search rules in
     by_length c.args.head.now c.args.trace.now c.args.place (to_z w128 (of_z w128 c.args.value)) c.offset_of.result c.write.new.bytes false
-        (sym c.if-not-has_place.ensures) (sym c.if-not-fits.ensures) c.offset_of.ensures c.write.ensures c.if-changes_length.ensures
+    (sym c.if-not-has_place.ensures) (sym c.if-not-fits.ensures) c.offset_of.ensures c.write.ensures c.if-changes_length.ensures
     ∙ ap (set_refusal c.args.head.now c.args.trace.now (Some c.args.place)) (to_z-of_z w128 c.args.value fit)

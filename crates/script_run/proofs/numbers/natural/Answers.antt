@@ -1,6 +1,6 @@
-use Rattle.std.proofs.Common.{sym, ◌∙◌, arith, ◌<◌, ◌*◌, ◌≤◌, ◌^◌}
+use Rattle.std.proofs.Common.{sym, ◌∙◌, arith, ◌*◌, ◌≤◌}
 use Rattle.std.specs.Str.Parse.{digits_value}
-use Rattle.script_run.proofs.NumberLemmas.{no_digits, no_digit_at, too_large, value_is, one_more_digit, value_more, grows}
+use Rattle.script_run.proofs.NumberLemmas.{no_digits, no_digit_at, too_large, one_more_digit, value_more, grows}
 use Rattle.script_run.proofs.numbers.natural.Goals as goal
 use Rattle.script_run.proofs.numbers.natural.Goals.{then-not-is_ascii_digit-via-then-not-is_ascii_digit, then-not-is_ascii_digit-via-else-not-is_ascii_digit+then-value-ge-ROOM_FOR_A_DIGIT}
 

@@ -1,5 +1,4 @@
-use Rattle.std.proofs.Common.{◌≡◌, ◌∙◌}
-use Rattle.std.specs.Str.{IsValidUpTo}
+use Rattle.std.proofs.Common.{◌∙◌}
 use Rattle.script_run.proofs.LineLemmas.{text_is}
 use Rattle.script_run.proofs.parse.is_text.Goals as goal
 

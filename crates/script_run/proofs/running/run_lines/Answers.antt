@@ -1,4 +1,4 @@
-use Rattle.std.proofs.Common.{◌≤◌, ◌+◌, length, false, true, refl, arith, ap, add-zero, Bool, ◌≡◌}
+use Rattle.std.proofs.Common.{◌≤◌, ◌+◌, length, false, refl, arith, ap, add-zero, Bool, ◌≡◌}
 use Rattle.std.specs.Prelude.{IsTrue}
 use Rattle.script_run.specs.Devices.{device}
 use Rattle.script_run.specs.Words.{script_lines}

@@ -1,4 +1,4 @@
-use Rattle.std.proofs.Common.{◌≡◌, ◌≤◌, ◌+◌, ◌*◌, length}
+use Rattle.std.proofs.Common.{◌≤◌, ◌+◌, ◌*◌, length}
 use Rattle.script_run.specs.Devices.{device}
 use Rattle.script_run.specs.Words.{script_lines}
 use Rattle.script_run.proofs.RunLemmas.{SoFar}

@@ -26,11 +26,11 @@ invariant_of-self-2 c =
     let fit : SFits w128 c.args.value = search rules in
     let new : c.write.new.bytes ≡ bytes c.self.inside.overlay.head.order c.args.place.kind c.args.value = rw (c.head.ensures, to_z-of_z) at c.write.ensures in
     cut_again (state_of c.self.inside) c.args.p c.args.place c.args.value c.put.new.self
-        (after_put (state_of c.self.inside) c.args.p c.args.place c.args.value c.put.new.self c.from-2.result c.write.new.bytes c.self.invariant (rw (← c.self.view_is) at c.requires) (c.from-2.ensures ∙ c.offset_of.ensures) new c.in_ok-put.ensures.ok)
+    (after_put (state_of c.self.inside) c.args.p c.args.place c.args.value c.put.new.self c.from-2.result c.write.new.bytes c.self.invariant (rw (← c.self.view_is) at c.requires) (c.from-2.ensures ∙ c.offset_of.ensures) new c.in_ok-put.ensures.ok)
 
 pub returns-clause-ok : goal.returns-clause-ok
 returns-clause-ok c =
     let fit : SFits w128 c.args.value = search rules in
     let new : c.write.new.bytes ≡ bytes c.self.inside.overlay.head.order c.args.place.kind c.args.value = rw (c.head.ensures, to_z-of_z) at c.write.ensures in
     rw (← c.self.view_is)
-        (after_put (state_of c.self.inside) c.args.p c.args.place c.args.value c.put.new.self c.from-2.result c.write.new.bytes c.self.invariant (rw (← c.self.view_is) at c.requires) (c.from-2.ensures ∙ c.offset_of.ensures) new c.in_ok-put.ensures.ok)
+    (after_put (state_of c.self.inside) c.args.p c.args.place c.args.value c.put.new.self c.from-2.result c.write.new.bytes c.self.invariant (rw (← c.self.view_is) at c.requires) (c.from-2.ensures ∙ c.offset_of.ensures) new c.in_ok-put.ensures.ok)

@@ -10,10 +10,10 @@ use Rattle.edit_overlay.proofs.overlay.Overlay.load.Goals as goal
 pub returns-clause-refused : goal.returns-clause-refused
 returns-clause-refused g c =
     IfErr-weaker c.from_bytes.result
-        (λ (fault : LoadFault). (fault ≡ OutOfMemory) ⊎ IsRefused c.in_ok-bytes.bytes.items c.args.reading c.args.limits fault)
-        (λ (fault : LoadFault). IsLoadFault (g.R.Read.remaining c.args.reader.now.0) c.args.reading c.args.limits fault)
-        (λ fault h. load_fault (g.R.Read.remaining c.args.reader.now.0) (g.R.Read.remaining c.read_file.new.reader.0) c.in_ok-bytes.bytes.items c.args.reading c.args.limits fault c.in_ok-bytes.ensures.taken c.in_ok-bytes.ensures.all h)
-        c.from_bytes.ensures.refused
+    (λ (fault : LoadFault). (fault ≡ OutOfMemory) ⊎ IsRefused c.in_ok-bytes.bytes.items c.args.reading c.args.limits fault)
+    (λ (fault : LoadFault). IsLoadFault (g.R.Read.remaining c.args.reader.now.0) c.args.reading c.args.limits fault)
+    (λ fault h. load_fault (g.R.Read.remaining c.args.reader.now.0) (g.R.Read.remaining c.read_file.new.reader.0) c.in_ok-bytes.bytes.items c.args.reading c.args.limits fault c.in_ok-bytes.ensures.taken c.in_ok-bytes.ensures.all h)
+    c.from_bytes.ensures.refused
 
 pub returns-clause-failures : goal.returns-clause-failures
 returns-clause-failures g c =

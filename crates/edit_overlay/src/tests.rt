@@ -18,6 +18,18 @@ fn small_file(alloc: Global) -> Result<Vec<u8>, Fail> {
     Ok(file)
 }
 
+// Whether both have so many bytes, and the same ones in front.
+fn begins_alike(a: &[u8], b: &[u8], count: usize) -> bool {
+    a.len() >= count && b.len() >= count && a[..count] == b[..count]
+}
+
+// Writes a byte at a place, where the file has it.
+fn put_byte(file: &mut [u8], at: usize, byte: u8) {
+    if at < file.len() {
+        file[at] = byte;
+    }
+}
+
 fn limits() -> Result<Limits, Fail> {
     Ok(Limits::new(4088, 2).ok_or("limits")?)
 }
@@ -74,8 +86,8 @@ fn puts_and_saves(rt: HostRuntime) -> Result<(), Fail> {
             }
         }
     }
-    expected.as_mut_slice()[4084] = 1;
-    expected.as_mut_slice()[4085] = 2;
+    put_byte(expected.as_mut_slice(), 4084, 1);
+    put_byte(expected.as_mut_slice(), 4085, 2);
 
     let mut writer = Sink::new(Vec::new(alloc));
     volume.write_to(&mut writer)?;
@@ -87,7 +99,7 @@ fn puts_and_saves(rt: HostRuntime) -> Result<(), Fail> {
     assert_eq!(rt; fault, Some(SaveFault { written: 4000 }));
     assert_eq!(rt; writer.failures(), 1);
     let _writer = writer.into_inner();
-    assert!(rt; room[..4000] == expected.as_slice()[..4000]);
+    assert!(rt; begins_alike(&room, expected.as_slice(), 4000));
     assert_eq!(rt; room[4000], 0);
     Ok(())
 }

@@ -10,7 +10,7 @@ demo: program
 
 test:
 	rt ci
-	$(MAKE) --no-print-directory program
+	test -x $(PROGRAM) || $(MAKE) --no-print-directory program
 	bash tests/run.sh $(PROGRAM)
 
 # Proves what is not proved yet and builds the program; its answer to a command line without words is no failure.

@@ -150,8 +150,8 @@ head -c 16777216 big > bigger
 expect 'and one that just fits' 0 '' '' s.sgy --script bigger
 
 # ---- paths and devices
-expect 'no file' 3 '' 'segywb: cannot open none.sgy\n' none.sgy --script script
-expect 'no script' 4 '' 'segywb: cannot open none.txt\n' s.sgy --script none.txt
+expect 'no file' 3 '' 'segywb: cannot open absent.sgy\n' absent.sgy --script script
+expect 'no script' 4 '' 'segywb: cannot open absent.txt\n' s.sgy --script absent.txt
 expect 'no place for the save' 4 'ok\n' 'segywb: save failed after 0 bytes\n' s.sgy --script script --out none/o.sgy
 if [ -e /dev/full ]; then
     expect 'a full disk' 4 'ok\n' 'segywb: save failed after 0 bytes\n' s.sgy --script script --out /dev/full

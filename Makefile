@@ -9,12 +9,15 @@ demo: program
 	bash tests/demo.sh $(PROGRAM)
 
 test:
+	rm -f $(PROGRAM)
 	rt ci
 	test -x $(PROGRAM) || $(MAKE) --no-print-directory program
 	bash tests/run.sh $(PROGRAM)
 
-# Proves what is not proved yet and builds the program; its answer to a command line without words is no failure.
+# Proves what is not proved yet and builds the program anew, so that an older one is never taken for it; its answer to a
+# command line without words is no failure.
 program:
+	rm -f $(PROGRAM)
 	cd crates/segywb && { rt run > out.log 2>&1 || true; }
 	test -x $(PROGRAM) || { cat crates/segywb/out.log; exit 1; }
 	rm -f crates/segywb/out.log

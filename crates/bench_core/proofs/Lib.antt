@@ -1,3 +1,5 @@
 pub mod Places
 pub mod SampleLemmas
 pub mod Sets
+mod HeaderEdits
+mod CutAgain

@@ -1,11 +1,11 @@
 -- A place that a trace has lies in one of its headers.
-use Rattle.std.proofs.Common.{◌≡◌, ◌⊎◌, ℕ, ℤ, zero, suc, ◌+◌, ◌*◌, ◌-◌, ◌<◌, ◌≤◌, Bool, true, false, ◌&&◌, cond, eqb, List, [], append_assoc, length, take, drop, ◌++◌, Option, Some, None, refl, sym, ap, ◌∙◌, arith, inl, inr, ltb, leb}
+use Rattle.std.proofs.Common.{◌≡◌, ◌⊎◌, ℕ, ℤ, zero, suc, ◌+◌, ◌*◌, ◌-◌, ◌<◌, ◌≤◌, Bool, true, false, ◌&&◌, cond, eqb, List, [], append_assoc, length, take, drop, ◌++◌, Option, Some, None, refl, sym, ap, ◌∙◌, arith, inl, inr}
 use Rattle.std.specs.Prelude.{nat_eq, not, option_map, unwrap_or}
 use Rattle.std.specs.Option.{option_eq}
 use Rattle.std.proofs.lemmas.Bool.{ltb-true, leb-true, eq-eqb}
 use Rattle.std.proofs.lemmas.List.{length-take, length-take-le, take-append-le, take-append-drop}
 use Rattle.field_map.specs.declared.place.Place.{Place}
-use Rattle.num_order.specs.Number.{IsSize, is_size, num}
+use Rattle.num_order.specs.Number.{is_size, num}
 use Rattle.frame_cut.specs.declared.head.Head.{Head}
 use Rattle.frame_cut.specs.Cuts.{IsTrace}
 use Rattle.frame_cut.specs.Frames.{front_length, extension_count, extensions_of, sample_count, trace_length, length_with}
@@ -13,7 +13,7 @@ use Rattle.frame_cut.specs.Splice.{splice}
 use Rattle.frame_cut.proofs.Edits.{trace_length-front, length-splice, splice_inside}
 use Rattle.frame_cut.proofs.OneCut.{trace_length-append}
 use Rattle.sample_codes.specs.Formats.{width}
-use Rattle.trace_view.specs.Values.{is_in_header, has_place, value_at, value_of}
+use Rattle.trace_view.specs.Values.{has_place, value_at, value_of}
 use Rattle.bench_core.specs.Refused.{is_length}
 
 both : (a b : Bool) → (a && b) ≡ true → (a ≡ true) × (b ≡ true)

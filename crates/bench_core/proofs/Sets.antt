@@ -1,5 +1,5 @@
 -- A value set in a header of a trace.
-use Rattle.std.proofs.Common.{◌≡◌, ◌⊎◌, ℕ, suc, ◌+◌, ◌*◌, ◌-◌, ◌<◌, ◌≤◌, Bool, true, false, ◌&&◌, cond, List, [], length, take, drop, set, get_or, Option, Some, None, Result, Ok, Err, ℤ, refl, sym, ap, subst, ◌∙◌, arith, All}
+use Rattle.std.proofs.Common.{◌≡◌, ℕ, ◌+◌, ◌*◌, ◌-◌, ◌<◌, ◌≤◌, Bool, true, false, ◌&&◌, cond, List, [], length, Option, Some, None, ℤ, refl, sym, ap, subst, ◌∙◌, arith}
 use Rattle.std.specs.Prelude.{not}
 use Rattle.std.specs.Option.{option_or}
 use Rattle.std.proofs.lemmas.Bool.{leb-true, eqb-true}
@@ -19,10 +19,9 @@ use Rattle.bench_core.specs.declared.field.Field.TheVariants as field
 use Rattle.bench_core.specs.declared.refusal.Refusal.{Refusal}
 use Rattle.bench_core.specs.declared.refusal.Refusal.TheVariants.{NoTrace, NoPlace, DoesNotFit, Frame}
 use Rattle.bench_core.specs.State.{State}
-use Rattle.bench_core.specs.Refused.{no_trace, with_value, is_length, changes_length, set_refusal, refused}
-use Rattle.bench_core.specs.EditLaws.{StaysCut}
+use Rattle.bench_core.specs.Refused.{with_value, is_length, changes_length, set_refusal, refused}
 use Rattle.bench_core.specs.Steps.{IsAfter}
-use Rattle.bench_core.proofs.Places.{Stands, stands, place_inside}
+use Rattle.bench_core.proofs.Places.{stands, place_inside}
 use Rattle.num_order.proofs.InRange.{length-number}
 
 -- ---- the first refusal
@@ -55,7 +54,7 @@ none_of_either : {X : Type 0} → (b : Bool) (x : X) (o : Option X) → option_o
 none_of_either true x o e = (refl, e)
 none_of_either false x o e = absurd cc
 
-unless : {X : Type 0} → (b : Bool) (x : X) (o : Option X) → cond (not b) (Some x) o ≡ None → (b ≡ true) × (o ≡ None)
+pub unless : {X : Type 0} → (b : Bool) (x : X) (o : Option X) → cond (not b) (Some x) o ≡ None → (b ≡ true) × (o ≡ None)
 unless true x o e = (refl, e)
 unless false x o e = absurd cc
 
@@ -63,7 +62,7 @@ same_length : (o : Option ℕ) (n : ℕ) → is_length o n ≡ true → o ≡ So
 same_length None n e = absurd cc
 same_length (Some m) n e = ap (λ (k : ℕ). let o : Option ℕ = Some k in o) (eqb-true m n e)
 
-both : (a b : Bool) → (a && b) ≡ true → (a ≡ true) × (b ≡ true)
+pub both : (a b : Bool) → (a && b) ≡ true → (a ≡ true) × (b ≡ true)
 both true true e = (refl, refl)
 both true false e = absurd cc
 both false b e = absurd cc
@@ -167,9 +166,3 @@ put_inside s p place x at new cut none e f =
     let size : length new ≡ place.kind.size = ap (λ (u : List ℕ). length u) f ∙ length-number s.volume.head.order place.kind x in
     let inside = place_inside s.volume.head (trace_at s.volume p) place (whole_trace s p cut a.first a.last) a.has in
     rw (e, size) inside
-
--- an edit that is not refused leaves a file that is cut
-pub set_stays_cut : StaysCut
-set_stays_cut s (Set p (field.Place place) x) cut none =
-    let v : Volume = with_trace s.volume p (with_value s.volume.head (trace_at s.volume p) place x) in
-    (v, (is_after s p place x cut (accepted s p place x none)).volume, refl)

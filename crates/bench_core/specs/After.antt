@@ -1,23 +1,38 @@
 -- What an edit makes of a volume's bytes and of the field map.
 use Rattle.std.specs.Prelude.{ℕ, ◌+◌, ◌-◌, ◌*◌, ℤ, List}
 use Rattle.std.specs.Option.{option_map_or}
+use Rattle.std.specs.Str.{chars}
 use Rattle.num_order.specs.Number.{bytes}
 use Rattle.field_map.specs.declared.place.Place.{Place}
-use Rattle.field_map.specs.Pairs.{Pairs}
+use Rattle.field_map.specs.Pairs.{Pairs, bound, unbound}
+use Rattle.text_block.specs.Blocks.{code_of}
+use Rattle.text_block.specs.Lines.{encoded_line}
 use Rattle.frame_cut.specs.Splice.{splice}
 use Rattle.frame_cut.specs.Volume.{Volume, bytes_of, start_of}
 use Rattle.bench_core.specs.declared.edit.Edit.{Edit}
-use Rattle.bench_core.specs.declared.edit.Edit.TheVariants.{Set}
-use Rattle.bench_core.specs.Places.{place_in_trace}
+use Rattle.bench_core.specs.declared.edit.Edit.TheVariants.{Set, SetBin, SetText, Map, Unmap}
+use Rattle.bench_core.specs.Places.{place_in_trace, place_in_binary}
 
 -- the value over a place of trace p
 abbrev pub put_in_trace : Volume → ℕ → Place → ℤ → List ℕ → List ℕ
 put_in_trace v p place x file = splice file (start_of v (p - 1) + 240 * place.extension + place.byte - 1) place.kind.size (bytes v.head.order place.kind x)
 
+-- the value over a place of the binary header
+abbrev pub put_in_binary : Volume → Place → ℤ → List ℕ → List ℕ
+put_in_binary v place x file = splice file (place.byte - 1) place.kind.size (bytes v.head.order place.kind x)
+
 -- the file's bytes after the edit
 abbrev pub bytes_after : Volume → Pairs → Edit → List ℕ
 bytes_after v fields (Set p field x) = option_map_or (λ place. put_in_trace v p place x (bytes_of v)) (place_in_trace fields field) (bytes_of v)
+bytes_after v fields (SetBin field x) = option_map_or (λ place. put_in_binary v place x (bytes_of v)) (place_in_binary field) (bytes_of v)
+bytes_after v fields (SetText q text) = splice (bytes_of v) (80 * (q - 1)) 80 (encoded_line (code_of v.text) (chars text))
+bytes_after v fields (Map name place) = bytes_of v
+bytes_after v fields (Unmap name) = bytes_of v
 
 -- the field map after the edit
 abbrev pub fields_after : Pairs → Edit → Pairs
-fields_after fields edit = fields
+fields_after fields (Map name place) = bound fields name place
+fields_after fields (Unmap name) = unbound fields name
+fields_after fields (Set p field x) = fields
+fields_after fields (SetBin field x) = fields
+fields_after fields (SetText q text) = fields

@@ -1,14 +1,16 @@
 -- How a bench holds its state.
-use Rattle.field_map.specs.Binding.{geometry_at_load}
+use Rattle.std.specs.Prelude.{◌≡◌}
 use Rattle.frame_cut.specs.Cuts.{IsCut}
 use Rattle.frame_cut.specs.Volume.{bytes_of}
 use Rattle.bench_core.specs.State.{State}
 use Rattle.bench_core.specs.declared.bench.Bench.TheInside.{Inside}
 
--- the state that is held; the field map is the one of a load
+-- the state that is held
 abbrev pub state_of : Inside → State
-state_of b = record { volume = b.overlay; fields = geometry_at_load; reading = b.reading; limits = b.limits }
+state_of b = record { volume = b.overlay; fields = b.fields.pairs; reading = b.reading; limits = b.limits }
 
--- the parts of the volume are the one cut of its bytes
-abbrev pub IsHeld : Inside → Type 0
-IsHeld b = IsCut (bytes_of b.overlay) b.reading b.limits b.overlay
+-- the parts of the volume are the one cut of its bytes, and the field map is that of a file with as many header
+-- extensions for a trace
+pub record IsHeld (b : Inside) : Type 0 where
+  pub cut : IsCut (bytes_of b.overlay) b.reading b.limits b.overlay
+  pub extensions : b.fields.extensions ≡ b.overlay.head.extensions

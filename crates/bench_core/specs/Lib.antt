@@ -1,5 +1,6 @@
 pub mod State
 pub mod Places
+pub mod MapFaults
 pub mod After
 pub mod Refused
 pub mod Steps

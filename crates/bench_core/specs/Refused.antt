@@ -1,9 +1,12 @@
 -- The first refusal that an edit meets.
-use Rattle.std.specs.Prelude.{ℕ, ◌+◌, ◌-◌, ◌*◌, ◌==◌, Bool, not, false, ℤ, List, length, Option, Some, None, if◌then◌else◌}
+use Rattle.std.specs.Prelude.{ℕ, ◌+◌, ◌-◌, ◌*◌, ◌==◌, ◌&&◌, nat_le, Bool, not, false, ℤ, List, length, Option, Some, None, option_map, if◌then◌else◌}
 use Rattle.std.specs.Option.{option_or}
+use Rattle.std.specs.Str.{chars}
 use Rattle.num_order.specs.Number.{bytes, fits}
 use Rattle.field_map.specs.declared.place.Place.{Place}
-use Rattle.field_map.specs.Pairs.{Pairs}
+use Rattle.field_map.specs.Binding.{bind_fault, unbind_fault}
+use Rattle.text_block.specs.Blocks.{code_of}
+use Rattle.text_block.specs.Lines.{text_fault}
 use Rattle.frame_cut.specs.declared.head.Head.{Head}
 use Rattle.frame_cut.specs.Splice.{splice}
 use Rattle.frame_cut.specs.Frames.{trace_length}
@@ -11,10 +14,10 @@ use Rattle.frame_cut.specs.Traces.{count_of, is_trace, trace_at}
 use Rattle.frame_cut.specs.Volume.{Volume}
 use Rattle.trace_view.specs.Values.{has_place}
 use Rattle.bench_core.specs.declared.edit.Edit.{Edit}
-use Rattle.bench_core.specs.declared.edit.Edit.TheVariants.{Set}
+use Rattle.bench_core.specs.declared.edit.Edit.TheVariants.{Set, SetBin, SetText, Map, Unmap}
 use Rattle.bench_core.specs.declared.refusal.Refusal.{Refusal}
 use Rattle.bench_core.specs.declared.refusal.Refusal.TheVariants as refusals
-use Rattle.bench_core.specs.Places.{place_in_trace}
+use Rattle.bench_core.specs.Places.{place_in_trace, place_in_binary, is_in_binary, touches_frame}
 use Rattle.bench_core.specs.State.{State}
 
 -- there is no trace p
@@ -34,14 +37,36 @@ is_length (Some m) n = m == n
 abbrev pub changes_length : Head → List ℕ → Place → ℤ → Bool
 changes_length h t place x = not (is_length (trace_length h (with_value h t place x)) (length t))
 
--- the refusal of a value at the place that a field of the trace has; a field that is a place always has one
+-- the refusal of a value at the place that a field of the trace has, if it has one
 abbrev pub set_refusal : Head → List ℕ → Option Place → ℤ → Option Refusal
-set_refusal h t None x = Some refusals.NoPlace
+set_refusal h t None x = Some refusals.NoField
 set_refusal h t (Some place) x =
     if not (has_place h t place) then Some refusals.NoPlace else
     if not (fits place.kind x) then Some refusals.DoesNotFit else
     if changes_length h t place x then Some refusals.Frame else None
 
+-- the refusal of a value at the place that a field of the binary header has, if it has one
+abbrev pub set_bin_refusal : Option Place → ℤ → Option Refusal
+set_bin_refusal None x = Some refusals.NoField
+set_bin_refusal (Some place) x =
+    if not (is_in_binary place) then Some refusals.NoPlace else
+    if not (fits place.kind x) then Some refusals.DoesNotFit else
+    if touches_frame place then Some refusals.Frame else None
+
+-- a line of a block, from 1 to 40
+abbrev pub is_line : ℕ → Bool
+is_line q = nat_le 1 q && nat_le q 40
+
+-- the refusal of a text as line q of the textual header
+abbrev pub text_refusal : List ℕ → ℕ → List ℕ → Option Refusal
+text_refusal block q text =
+    if not (is_line q) then Some refusals.NoPlace else
+    option_map (λ fault. refusals.Text fault) (text_fault (code_of block) (chars text))
+
 -- the first refusal of the edit, if it meets one; want of memory is none of these
 abbrev pub refused : State → Edit → Option Refusal
 refused s (Set p field x) = option_or (no_trace s.volume p) (set_refusal s.volume.head (trace_at s.volume p) (place_in_trace s.fields field) x)
+refused s (SetBin field x) = set_bin_refusal (place_in_binary field) x
+refused s (SetText q text) = text_refusal s.volume.text q text
+refused s (Map name place) = option_map (λ fault. refusals.Map fault) (bind_fault s.volume.head.extensions s.fields name place)
+refused s (Unmap name) = option_map (λ fault. refusals.Map fault) (unbind_fault s.fields name)

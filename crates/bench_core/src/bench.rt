@@ -1,42 +1,51 @@
-ghost use Rattle.std.specs.Prelude.{◌≡◌, length, None, Some, IfOk, IfErr, OnOk, MatchResult};
+ghost use Rattle.std.specs.Prelude.{◌≡◌, ◌≤◌, ◌-◌, ◌++◌, length, None, Some, IfOk, IfErr, OnOk, MatchResult, option_map, slice_get};
+ghost use Rattle.std.specs.Option.{option_or};
 ghost use Rattle.std.specs.Io.KnownBytes.{Consumes, IsAtEnd};
 ghost use Rattle.device_io.specs.Failures.{CountsFailure};
 ghost use Rattle.field_map.specs.Binding.{geometry_at_load};
 ghost use Rattle.frame_cut.specs.Cuts.{IsCut};
-ghost use Rattle.frame_cut.specs.Traces.{count_of};
+ghost use Rattle.frame_cut.specs.Traces.{count_of, is_trace};
 ghost use Rattle.frame_cut.specs.Volume.{bytes_of};
 ghost use Rattle.edit_overlay.specs.Loading.{IsLoadFault, FailuresAfterRefusal};
 ghost use Rattle.edit_overlay.specs.Saving.{Saves};
 ghost use Rattle.bench_core.specs.declared.edit.Edit.TheVariants as edits;
 ghost use Rattle.bench_core.specs.declared.field.Field.TheVariants as fields;
 ghost use Rattle.bench_core.specs.declared.query.Query.TheVariants as queries;
-ghost use Rattle.bench_core.specs.declared.refusal.Refusal.TheVariants.{OutOfMemory as no_memory};
-ghost use Rattle.bench_core.specs.Refused.{refused};
+ghost use Rattle.bench_core.specs.declared.refusal.Refusal.TheVariants.{OutOfMemory as no_memory, NoField as no_such_field};
+ghost use Rattle.bench_core.specs.Places.{place_in_trace};
+ghost use Rattle.bench_core.specs.Refused.{refused, no_trace};
 ghost use Rattle.bench_core.specs.Steps.{IsAfter, Step};
-ghost use Rattle.bench_core.specs.Answer.{answer, IsReply};
+ghost use Rattle.bench_core.specs.Answer.{answer, text_blocks, IsReply};
 
 use crate::answer::Answer;
 use crate::ask_fault::AskFault;
+use crate::binary_header::{self, place_in_binary, set_bin_refusal};
 use crate::edit::Edit;
 use crate::field::Field;
 use crate::header_field::{offset_of, set_refusal, value_of};
 use crate::info::Info;
+use crate::listed::Listed;
 use crate::query::Query;
 use crate::refusal::Refusal;
 use crate::samples::trace_sample;
+use crate::stanzas::add_stanzas;
+use crate::text::Text;
+use crate::text_lines::is_line;
 use device_io::{Sink, Source};
 use edit_overlay::{Overlay, SaveFault};
-use field_map::Place;
+use field_map::{FieldMap, Place, standard};
 use frame_cut::{Limits, LoadFault, Reading};
 use num_order::write;
 use std::alloc::Global;
 use std::io::{Read, Write};
 use std::marker::Model;
+use text_block::{code_of, encode_line, line};
 
 /// One volume: a file that was loaded, with the edits that were accepted since.
 #[derive(Drop)]
 pub struct Bench {
     overlay: Overlay,
+    fields: FieldMap,
     reading: Reading,
     limits: Limits,
 }
@@ -74,14 +83,16 @@ impl Bench {
         ensures failures { MatchResult result (λ _. reader.new.1 ≡ reader.old.1)
             (λ fault. FailuresAfterRefusal fault reader.old.1 reader.new.1) }
     {
-        match Overlay::load(alloc, reader, reading, limits) {
-            Ok(overlay) => Ok(Bench {
-                overlay,
-                reading,
-                limits,
-            }),
-            Err(fault) => Err(fault),
-        }
+        let overlay = Overlay::load(alloc, reader, reading, limits)?;
+        let Ok(fields) = FieldMap::standard(alloc, overlay.head().extensions) else {
+            return Err(LoadFault::OutOfMemory);
+        };
+        Ok(Bench {
+            overlay,
+            fields,
+            reading,
+            limits,
+        })
     }
 
     /// One edit: done, or refused and nothing is changed.
@@ -89,7 +100,58 @@ impl Bench {
         ensures { Step self.old edit.now result self.new }
     {
         match edit {
-            Edit::Set(p, Field::Place(place), value) => self.set(alloc, *p, *place, *value),
+            Edit::Set(p, field, value) => self.set_field(alloc, *p, field, *value),
+            Edit::SetBin(field, value) => self.set_bin(field, *value),
+            Edit::SetText(q, text) => self.set_text(*q, text),
+            Edit::Map(name, place) => self.bind(alloc, name, *place),
+            Edit::Unmap(name) => self.unbind(name),
+        }
+    }
+
+    // The place of a trace's field, where it has one.
+    fn place_in_trace(&self, field: &Field) -> Option<Place>
+        ensures { result ≡ place_in_trace self.now.fields field.now }
+    {
+        match field {
+            Field::Place(place) => Some(*place),
+            Field::Name(name) => match self.fields.place(name.as_str()) {
+                Some(place) => Some(place),
+                None => standard(name.as_str()),
+            },
+        }
+    }
+
+    // Whether there is a trace p.
+    fn has_trace(&self, p: u32) -> bool
+        ensures { result ≡ is_trace self.now.volume p }
+    {
+        p >= 1 && p <= self.overlay.count()
+    }
+
+    // The value into the field of trace p, or the first refusal: E01, E02, E03, E04, E06.
+    fn set_field(
+        &mut self,
+        alloc: Global,
+        p: u32,
+        field: &Field,
+        value: i128,
+    ) -> Result<(), Refusal>
+        ensures { Step self.old (edits.Set p field.now value) result self.new }
+    {
+        match self.place_in_trace(field) {
+            Some(place) => self.set(alloc, p, place, value),
+            None => Err(self.no_field(p)),
+        }
+    }
+
+    // The first refusal of a field without a place: E01, E02.
+    fn no_field(&self, p: u32) -> Refusal
+        ensures { Some result ≡ option_or (no_trace self.now.volume p) (Some no_such_field) }
+    {
+        if self.has_trace(p) {
+            Refusal::NoField
+        } else {
+            Refusal::NoTrace(p, self.overlay.count())
         }
     }
 
@@ -128,18 +190,173 @@ impl Bench {
         }
     }
 
+    // The value into the field of the binary header, or the first refusal: E02, E03, E04, E06.
+    fn set_bin(&mut self, field: &Field, value: i128) -> Result<(), Refusal>
+        ensures { Step self.old (edits.SetBin field.now value) result self.new }
+    {
+        let Some(place) = place_in_binary(field) else {
+            return Err(Refusal::NoField);
+        };
+        match set_bin_refusal(place, value) {
+            Some(refusal) => Err(refusal),
+            None => {
+                self.put_in_binary(place, value);
+                Ok(())
+            }
+        }
+    }
+
+    // The value into the place of the binary header, where nothing refuses it.
+    fn put_in_binary(&mut self, place: Place, value: i128)
+        requires { refused self.old (edits.SetBin (fields.Place place) value) ≡ None }
+        ensures { IsAfter self.old (edits.SetBin (fields.Place place) value) self.new }
+    {
+        let mut buffer = [0u8; 8];
+        let new = &mut buffer[..usize::from(place.kind.size)];
+        write(self.overlay.head().order, place.kind, value, new);
+        self.overlay
+            .put_head(u32::from(binary_header::offset_of(place)), new);
+    }
+
+    // The text as line q of the textual header, or the first refusal: E03, E07.
+    fn set_text(&mut self, q: u32, text: &Text) -> Result<(), Refusal>
+        ensures { Step self.old (edits.SetText q text.now) result self.new }
+    {
+        if !is_line(q) {
+            return Err(Refusal::NoPlace);
+        }
+        let line = encode_line(code_of(self.overlay.text()), text.as_str())?;
+        self.overlay.put_text(q, &line);
+        Ok(())
+    }
+
+    // The name bound to the place, or the first refusal.
+    fn bind(&mut self, alloc: Global, name: &Text, place: Place) -> Result<(), Refusal>
+        ensures { Step self.old (edits.Map name.now place) result self.new }
+    {
+        self.fields.bind(alloc, name.as_str(), place)?;
+        Ok(())
+    }
+
+    // The name no longer bound, or the first refusal.
+    fn unbind(&mut self, name: &Text) -> Result<(), Refusal>
+        ensures { Step self.old (edits.Unmap name.now) result self.new }
+    {
+        self.fields.unbind(name.as_str())?;
+        Ok(())
+    }
+
     /// The answer to a query, which changes nothing.
     pub fn ask(&mut self, alloc: Global, query: &Query) -> Result<Answer, AskFault>
         ensures reply { IsReply self.old query.now result }
         ensures unchanged { self.new ≡ self.old }
     {
-        let _ = alloc;
         match query {
             Query::Count => Ok(Answer::Count(self.overlay.count())),
             Query::Info => Ok(Answer::Info(self.info())),
-            Query::Get(p, Field::Place(place)) => self.get(*p, *place),
+            Query::Get(p, field) => self.get_field(*p, field),
+            Query::GetBin(field) => self.get_bin(field),
+            Query::Line(b, q) => self.line(alloc, *b, *q),
+            Query::Code(b) => self.code(*b),
+            Query::Stanzas => self.stanzas(alloc),
+            Query::Fields => self.bound_fields(alloc),
             Query::Sample(p, k) => self.sample(*p, *k),
         }
+    }
+
+    // The value of the field of trace p: E01, E02, E03.
+    fn get_field(&self, p: u32, field: &Field) -> Result<Answer, AskFault>
+        ensures { result ≡ answer self.now (queries.Get p field.now) }
+    {
+        match self.place_in_trace(field) {
+            Some(place) => self.get(p, place),
+            None if self.has_trace(p) => Err(AskFault::NoField),
+            None => Err(AskFault::NoTrace(p, self.overlay.count())),
+        }
+    }
+
+    // The value of the field of the binary header: E02, E03.
+    fn get_bin(&self, field: &Field) -> Result<Answer, AskFault>
+        ensures { result ≡ answer self.now (queries.GetBin field.now) }
+    {
+        let Some(place) = place_in_binary(field) else {
+            return Err(AskFault::NoField);
+        };
+        let order = self.overlay.head().order;
+        match binary_header::value_of(order, self.overlay.bin(), place) {
+            Some(value) => Ok(Answer::Value(value)),
+            None => Err(AskFault::NoPlace),
+        }
+    }
+
+    // Line q of block b: E03.
+    fn line(&self, alloc: Global, b: u32, q: u32) -> Result<Answer, AskFault>
+        ensures { IsReply self.now (queries.Line b q) result }
+    {
+        if !is_line(q) {
+            return Err(AskFault::NoPlace);
+        }
+        let Some(block) = self.overlay.block(b) else {
+            return Err(AskFault::NoPlace);
+        };
+        Ok(Answer::Line(Text::new(line(alloc, block, q)?)))
+    }
+
+    // The code of block b: E03.
+    fn code(&self, b: u32) -> Result<Answer, AskFault>
+        ensures { result ≡ answer self.now (queries.Code b) }
+    {
+        match self.overlay.block(b) {
+            Some(block) => Ok(Answer::Code(code_of(block))),
+            None => Err(AskFault::NoPlace),
+        }
+    }
+
+    // The number of extended textual headers and data trailer records.
+    fn text_block_count(&self) -> u64
+        ensures { result ≡ length (text_blocks self.now.volume) }
+    {
+        let head = self.overlay.head();
+        u64::from(head.blocks) + u64::from(head.trailer)
+    }
+
+    // The extended textual header n, counted from 1, or behind the last the data trailer record.
+    fn text_block(&self, n: u64) -> Option<&[u8; 3200]>
+        requires first { 1 ≤ n }
+        requires last { n ≤ length (text_blocks self.now.volume) }
+        ensures { option_map (λ x. x.now) result ≡ slice_get (text_blocks self.now.volume) (n - 1) }
+    {
+        let blocks = u64::from(self.overlay.head().blocks);
+        if n <= blocks {
+            self.overlay.block(n as u32)
+        } else {
+            self.overlay.trailer((n - blocks) as u32)
+        }
+    }
+
+    // The stanzas of all extended textual headers and data trailer records.
+    fn stanzas(&self, alloc: Global) -> Result<Answer, AskFault>
+        ensures { IsReply self.now queries.Stanzas result }
+    {
+        let mut all = Vec::new(alloc);
+        for before in 0..self.text_block_count() {
+            let Some(block) = self.text_block(before + 1) else {
+                unreachable!()
+            };
+            add_stanzas(alloc, &mut all, before + 1, block)?;
+        }
+        Ok(Answer::Stanzas(Listed::new(all)))
+    }
+
+    // The bound names with their places.
+    fn bound_fields(&self, alloc: Global) -> Result<Answer, AskFault>
+        ensures { IsReply self.now queries.Fields result }
+    {
+        let mut all = Vec::new(alloc);
+        for (name, place) in self.fields.entries() {
+            all.push((Text::new(String::from_str(alloc, name)?), place))?;
+        }
+        Ok(Answer::Fields(Listed::new(all)))
     }
 
     // The value at the place of trace p: E01, E03.

@@ -1,3 +1,4 @@
+use crate::text::Text;
 use field_map::Place;
 
 /// A field of a header.
@@ -5,4 +6,6 @@ use field_map::Place;
 pub enum Field {
     /// The number at this place.
     Place(Place),
+    /// The field of this name: of a trace a bound name, else a standard one; of the binary header a name of its own.
+    Name(Text),
 }

@@ -8,14 +8,19 @@
 mod answer;
 mod ask_fault;
 mod bench;
+mod binary_header;
 mod edit;
 mod field;
 mod header_field;
 mod info;
 mod laws;
+mod listed;
 mod query;
 mod refusal;
 mod samples;
+mod stanzas;
+mod text;
+mod text_lines;
 
 pub use crate::answer::Answer;
 pub use crate::ask_fault::AskFault;
@@ -24,8 +29,10 @@ pub use crate::edit::Edit;
 pub use crate::field::Field;
 pub use crate::info::Info;
 pub use crate::laws::stays_cut;
+pub use crate::listed::Listed;
 pub use crate::query::Query;
 pub use crate::refusal::Refusal;
+pub use crate::text::Text;
 
 #[cfg(test)]
 mod tests;

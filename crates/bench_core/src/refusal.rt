@@ -1,6 +1,8 @@
 ghost use Rattle.std.specs.Prelude.{◌≡◌};
 
 use edit_overlay::OutOfMemory;
+use field_map::MapFault;
+use text_block::TextFault;
 use thiserror::Error;
 
 /// Why an edit is refused. A refused edit changes nothing.
@@ -9,15 +11,26 @@ pub enum Refusal {
     /// `NoTrace(p, count)`: no position p among so many traces.
     #[error("E01 no trace {0} of {1}")]
     NoTrace(u32, u32),
-    /// The place has a size other than 1, 2, 3, 4 or 8, or does not lie inside a header that the trace has.
+    /// The name is neither bound nor standard, or no name of a binary header field.
+    #[error("E02 no field")]
+    NoField,
+    /// The place has a size other than 1, 2, 3, 4 or 8, or does not lie inside a header that the trace has or inside the
+    /// binary header; or the textual header has no such line.
     #[error("E03 no place")]
     NoPlace,
     /// The value is outside the range of the place's kind.
     #[error("E04 does not fit")]
     DoesNotFit,
-    /// The change would give the trace another length.
+    /// The change would give the trace another length, or touch a field of the binary header that says how the file is
+    /// cut.
     #[error("E06 frame")]
     Frame,
+    /// The text is no line: T01 or T02.
+    #[error("E07 {0}")]
+    Text(TextFault),
+    /// The name is not bound or not unbound: M01 to M07.
+    #[error("E08 {0}")]
+    Map(MapFault),
     /// A growth was refused.
     #[error("E11 out of memory")]
     OutOfMemory,
@@ -30,5 +43,28 @@ impl From<OutOfMemory> for Refusal {
 
     fn from(_: OutOfMemory) -> Refusal {
         Refusal::OutOfMemory
+    }
+}
+
+impl From<TextFault> for Refusal {
+    ghost use Rattle.bench_core.specs.declared.refusal.Refusal.TheVariants.{Text};
+
+    ghost from_gives = { λ fault refusal. refusal ≡ Text fault };
+
+    fn from(fault: TextFault) -> Refusal {
+        Refusal::Text(fault)
+    }
+}
+
+impl From<MapFault> for Refusal {
+    ghost use Rattle.bench_core.specs.MapFaults.{refusal_of};
+
+    ghost from_gives = { λ fault refusal. refusal ≡ refusal_of fault };
+
+    fn from(fault: MapFault) -> Refusal {
+        match fault {
+            MapFault::OutOfMemory => Refusal::OutOfMemory,
+            _ => Refusal::Map(fault),
+        }
     }
 }

@@ -1,12 +1,13 @@
 // Edits, queries and saves over a small file that is made by hand.
-use crate::{Answer, AskFault, Bench, Edit, Field, Query, Refusal};
+use crate::{Answer, AskFault, Bench, Edit, Field, Query, Refusal, Text};
 use device_io::{Sink, Source, StepReader, StepWriter};
 use edit_overlay::SaveFault;
-use field_map::Place;
+use field_map::{MapFault, Place};
 use frame_cut::{Limits, Reading};
 use num_order::Kind;
 use std::alloc::Global;
 use std::test::Fail;
+use text_block::{Code, TextFault};
 
 // Big-endian, revision 1.0, two 16-bit samples a trace, three traces on inline 10 (bytes 189-192).
 fn sample_file(alloc: Global) -> Result<Vec<u8>, Fail> {
@@ -192,5 +193,166 @@ fn names_the_bytes_that_a_failing_writer_took(rt: HostRuntime) -> Result<(), Fai
     let mut writer = Sink::new(Vec::new(alloc));
     bench.save(&mut writer)?;
     assert!(rt; writer.into_inner().as_slice() == file.as_slice());
+    Ok(())
+}
+
+fn text(alloc: Global, text: &str) -> Result<Text, Fail> {
+    Ok(Text::new(String::from_str(alloc, text)?))
+}
+
+fn named(alloc: Global, name: &str) -> Result<Field, Fail> {
+    Ok(Field::Name(text(alloc, name)?))
+}
+
+// The refusal of an edit, if it met one.
+fn refusal(bench: &mut Bench, alloc: Global, edit: Edit) -> Option<Refusal> {
+    bench.apply(alloc, &edit).err()
+}
+
+#[test]
+fn sets_fields_by_their_names(rt: HostRuntime) -> Result<(), Fail> {
+    let alloc = rt.alloc();
+    let file = sample_file(alloc)?;
+    let mut bench = load(alloc, file.as_slice(), Reading::AsWritten)?;
+    let inline = Edit::Set(2, named(alloc, "inline")?, 7);
+    assert_eq!(rt; refusal(&mut bench, alloc, inline), None);
+    assert_eq!(rt; value(&mut bench, alloc, 2, signed(0, 189, 4))?, 7);
+    assert_eq!(rt;
+        value(&mut bench, alloc, 2, named(alloc, "inline_number")?)?,
+        7
+    );
+    let nothing = Edit::Set(2, named(alloc, "nothing")?, 7);
+    assert_eq!(rt; refusal(&mut bench, alloc, nothing), Some(Refusal::NoField));
+    let nothing = Edit::Set(4, named(alloc, "nothing")?, 7);
+    assert_eq!(rt;
+        refusal(&mut bench, alloc, nothing),
+        Some(Refusal::NoTrace(4, 3))
+    );
+    // A standard name that stands in an extension that the trace lacks.
+    let deep = Edit::Set(1, named(alloc, "ext_count")?, 1);
+    assert_eq!(rt; refusal(&mut bench, alloc, deep), Some(Refusal::NoPlace));
+    let get = Query::Get(1, named(alloc, "nothing")?);
+    assert_eq!(rt; bench.ask(alloc, &get).err(), Some(AskFault::NoField));
+    let get = Query::Get(0, named(alloc, "nothing")?);
+    assert_eq!(rt; bench.ask(alloc, &get).err(), Some(AskFault::NoTrace(0, 3)));
+    Ok(())
+}
+
+#[test]
+fn sets_the_binary_header(rt: HostRuntime) -> Result<(), Fail> {
+    let alloc = rt.alloc();
+    let file = sample_file(alloc)?;
+    let mut bench = load(alloc, file.as_slice(), Reading::AsWritten)?;
+    let interval = Edit::SetBin(named(alloc, "interval")?, 4000);
+    assert_eq!(rt; refusal(&mut bench, alloc, interval), None);
+    let get = Query::GetBin(signed(0, 3217, 2));
+    assert_eq!(rt; number(bench.ask(alloc, &get)?)?, 4000);
+    let get = Query::GetBin(named(alloc, "inline")?);
+    assert_eq!(rt; bench.ask(alloc, &get).err(), Some(AskFault::NoField));
+    let cases = [
+        (Edit::SetBin(named(alloc, "inline")?, 1), Refusal::NoField),
+        (Edit::SetBin(signed(0, 3200, 2), 1), Refusal::NoPlace),
+        (Edit::SetBin(signed(0, 3600, 2), 1), Refusal::NoPlace),
+        (Edit::SetBin(signed(1, 3217, 2), 1), Refusal::NoPlace),
+        (
+            Edit::SetBin(signed(0, 3225, 2), 1 << 100),
+            Refusal::DoesNotFit,
+        ),
+        (Edit::SetBin(signed(0, 3225, 2), 2), Refusal::Frame),
+        (Edit::SetBin(signed(0, 3494, 8), 0), Refusal::Frame),
+    ];
+    for (edit, fault) in &cases {
+        assert_eq!(rt; bench.apply(alloc, edit).err(), Some(*fault));
+    }
+    let beside = Edit::SetBin(signed(0, 3493, 8), -1);
+    assert_eq!(rt; refusal(&mut bench, alloc, beside), None);
+    Ok(())
+}
+
+#[test]
+fn writes_and_shows_lines(rt: HostRuntime) -> Result<(), Fail> {
+    let alloc = rt.alloc();
+    let file = sample_file(alloc)?;
+    let mut bench = load(alloc, file.as_slice(), Reading::AsWritten)?;
+    assert!(rt;
+        matches!(
+            bench.ask(alloc, &Query::Code(0)),
+            Ok(Answer::Code(Code::Ascii))
+        )
+    );
+    let line = Edit::SetText(2, text(alloc, "C 2 LINE")?);
+    assert_eq!(rt; refusal(&mut bench, alloc, line), None);
+    match bench.ask(alloc, &Query::Line(0, 2))? {
+        Answer::Line(shown) => {
+            let shown = shown.into_string();
+            assert_eq!(rt; shown.len(), 80);
+            assert!(rt; shown.as_str().starts_with("C 2 LINE "));
+        }
+        _ => return Err("a line".into()),
+    }
+    let line = Edit::SetText(41, text(alloc, "C")?);
+    assert_eq!(rt; refusal(&mut bench, alloc, line), Some(Refusal::NoPlace));
+    let line = Edit::SetText(1, text(alloc, "C 1 \\")?);
+    assert_eq!(rt;
+        refusal(&mut bench, alloc, line),
+        Some(Refusal::Text(TextFault::NoCode(5)))
+    );
+    assert_eq!(rt;
+        bench.ask(alloc, &Query::Line(1, 1)).err(),
+        Some(AskFault::NoPlace)
+    );
+    assert_eq!(rt;
+        bench.ask(alloc, &Query::Line(0, 0)).err(),
+        Some(AskFault::NoPlace)
+    );
+    assert_eq!(rt;
+        bench.ask(alloc, &Query::Code(1)).err(),
+        Some(AskFault::NoPlace)
+    );
+    match bench.ask(alloc, &Query::Stanzas)? {
+        Answer::Stanzas(stanzas) => assert!(rt; stanzas.as_slice().is_empty()),
+        _ => return Err("stanzas".into()),
+    }
+    Ok(())
+}
+
+#[test]
+fn binds_names(rt: HostRuntime) -> Result<(), Fail> {
+    let alloc = rt.alloc();
+    let file = sample_file(alloc)?;
+    let mut bench = load(alloc, file.as_slice(), Reading::AsWritten)?;
+    let mine = Place {
+        extension: 0,
+        byte: 189,
+        kind: Kind {
+            size: 4,
+            signed: true,
+        },
+    };
+    let bind = Edit::Map(text(alloc, "mine")?, mine);
+    assert_eq!(rt; refusal(&mut bench, alloc, bind), None);
+    assert_eq!(rt; value(&mut bench, alloc, 1, named(alloc, "mine")?)?, 10);
+    let bad = Edit::Map(text(alloc, "bad-name")?, mine);
+    assert_eq!(rt;
+        refusal(&mut bench, alloc, bad),
+        Some(Refusal::Map(MapFault::BadName))
+    );
+    match bench.ask(alloc, &Query::Fields)? {
+        Answer::Fields(fields) => {
+            let fields = fields.into_vec();
+            assert_eq!(rt; fields.len(), 7);
+            let last = fields.as_slice().last().ok_or("a field")?;
+            assert_eq!(rt; last.0.as_str(), "mine");
+            assert_eq!(rt; last.1, mine);
+        }
+        _ => return Err("fields".into()),
+    }
+    let unbind = Edit::Unmap(text(alloc, "mine")?);
+    assert_eq!(rt; refusal(&mut bench, alloc, unbind), None);
+    let unbind = Edit::Unmap(text(alloc, "mine")?);
+    assert_eq!(rt;
+        refusal(&mut bench, alloc, unbind),
+        Some(Refusal::Map(MapFault::Unknown))
+    );
     Ok(())
 }

@@ -1,5 +1,5 @@
 -- Why a load is refused.
-use Rattle.std.proofs.Common.{◌≡◌, ◌≢◌, ℕ, ◌+◌, ◌<◌, Bool, true, false, cond, List, ◌++◌, [], length, take, drop, Option, Some, None, Result, Ok, Err, IfSome, IfErr, MatchResult, ◌⊎◌, inl, inr, refl, ap, sym, subst, ◌∙◌, append-nil}
+use Rattle.std.proofs.Common.{◌≡◌, ◌≢◌, ℕ, ◌<◌, Bool, true, false, cond, List, ◌++◌, [], length, take, drop, Option, Some, None, Result, Ok, Err, IfSome, IfErr, MatchResult, ◌⊎◌, inl, inr, refl, ap, sym, subst, ◌∙◌, append-nil}
 use Rattle.std.specs.Io.KnownBytes.{Consumes, IsAtEnd}
 use Rattle.std.proofs.lemmas.Bool.{lt-ltb}
 use Rattle.sample_codes.specs.declared.format.Format.{Format}
@@ -14,7 +14,7 @@ use Rattle.frame_cut.specs.declared.load_fault.LoadFault.TheVariants.{ReadFailed
 use Rattle.frame_cut.specs.BinaryHeader.{text_count, format_code}
 use Rattle.frame_cut.specs.Heads.{blocks_for, with_blocks, with_format, head_from, head_of}
 use Rattle.frame_cut.specs.Frames.{trace_length}
-use Rattle.frame_cut.specs.Cuts.{IsStuck, IsRefused, refusal_by_length, trace_refusal}
+use Rattle.frame_cut.specs.Cuts.{IsRefused, refusal_by_length, trace_refusal}
 use Rattle.edit_overlay.specs.Loading.{IsLoadFault, FailuresAfterRefusal}
 
 -- ---- no file is refused by its bytes because a read failed

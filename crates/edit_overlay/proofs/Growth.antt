@@ -1,7 +1,6 @@
 -- How growths of a writer's bytes follow one another.
-use Rattle.std.proofs.Common.{◌≡◌, ℕ, ◌+◌, ◌<◌, List, ◌++◌, length, take, drop, get_or, Option, Some, None, append_assoc, ap, sym, ◌∙◌, length-append, arith, refl}
+use Rattle.std.proofs.Common.{ℕ, ◌+◌, List, ◌++◌, take, drop, Option, Some, None, append_assoc}
 use Rattle.std.proofs.Math.Seq.{take-add}
-use Rattle.std.proofs.lemmas.List.{at_drop_more, drop-drop, drop_at, take_at, take-append-le}
 use Rattle.std.specs.Io.KnownBytes.{Appends}
 
 -- two growths are one

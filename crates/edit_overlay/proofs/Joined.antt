@@ -1,5 +1,5 @@
 -- The parts of a file whose traces lie one behind the other, joined, are the file.
-use Rattle.std.proofs.Common.{◌≡◌, ℕ, ◌+◌, ◌-◌, ◌*◌, ◌≤◌, List, [], ◌∷◌, ◌++◌, length, take, drop, refl, ap, sym, ◌∙◌, arith, length-drop, append_assoc, append-nil}
+use Rattle.std.proofs.Common.{◌≡◌, ℕ, ◌+◌, ◌-◌, ◌*◌, List, [], ◌∷◌, ◌++◌, length, take, drop, refl, ap, sym, ◌∙◌, arith, length-drop, append_assoc, append-nil}
 use Rattle.std.specs.List.{concat}
 use Rattle.std.proofs.Math.Seq.{take-add}
 use Rattle.std.proofs.lemmas.List.{take-append-drop, take_all}
@@ -9,7 +9,6 @@ use Rattle.frame_cut.specs.Heads.{blocks_of}
 use Rattle.frame_cut.specs.Volume.{Volume, bytes_of}
 use Rattle.frame_cut.specs.Layout.{pieces, IsLaid, volume_at, AreLaid}
 use Rattle.frame_cut.proofs.Blocks.{concat-blocks_of}
-use Rattle.edit_overlay.proofs.Pieces.{laid-le}
 
 -- the bytes up to a place, a run of them, are the bytes up to the run's end
 up_to : (file : List ℕ) (at n end : ℕ) → at + n ≡ end → take at file ++ take n (drop at file) ≡ take end file

@@ -1,13 +1,13 @@
 -- Traces that lie one behind the other in a file, and a splice inside one of them.
-use Rattle.std.proofs.Common.{◌≡◌, ℕ, suc, zero, ◌+◌, ◌-◌, ◌*◌, ◌<◌, ◌≤◌, List, [], ◌∷◌, ◌++◌, length, take, drop, set, get_or, refl, ap, sym, subst, ◌∙◌, arith, Some, slice_get, rules, length-append, length-take, length-drop, append_assoc}
-use Rattle.std.specs.List.{concat}
-use Rattle.std.proofs.lemmas.List.{drop_all, drop-drop, take-append-drop, take-append-le, drop-append-le, take_all, drop_at, length-map, drop-take, same_lists, places}
+use Rattle.std.proofs.Common.{◌≡◌, ℕ, suc, zero, ◌+◌, ◌-◌, ◌*◌, ◌<◌, ◌≤◌, List, [], ◌∷◌, ◌++◌, length, take, drop, set, get_or, refl, ap, sym, subst, ◌∙◌, arith, Option, Some, None, slice_get, rules, length-append, length-take, length-drop, append_assoc}
+use Rattle.std.proofs.lemmas.List.{drop-drop, take-append-drop, take-append-le, drop-append-le, drop_at, length-map, drop-take, same_lists, places}
 use Rattle.frame_cut.specs.declared.extent.Extent.{Extent}
 use Rattle.frame_cut.specs.declared.head.Head.{Head}
 use Rattle.frame_cut.specs.Heads.{blocks_of}
-use Rattle.frame_cut.specs.Volume.{Volume, bytes_of}
+use Rattle.frame_cut.specs.Volume.{Volume}
 use Rattle.frame_cut.specs.Splice.{splice}
 use Rattle.frame_cut.specs.Layout.{bytes_at, pieces, IsLaid, volume_at, AreLaid}
+use Rattle.edit_overlay.specs.Parts.{block_of, trailer_of}
 
 -- so many bytes from a place on
 abbrev slice_at : List ℕ → ℕ → ℕ → List ℕ
@@ -163,3 +163,92 @@ put_view file new h es v i at e laid view l is w =
     let r = volume-put file h es i at e new laid l (subst (λ (x : Extent). at + length new ≤ x.length) is room) in
     let s : volume_at (splice file (e.start + at) (length new) new) h es ≡ record (volume_at file h es) { traces = set (pieces file es) i (splice (bytes_at file e) at (length new) new) } = rw (← is) at r in
     s ∙ rw (t, ← view) refl
+
+-- ---- a splice in front of the traces
+
+-- what stands behind the bytes up to 3600 is as it was
+behind_front : (file : List ℕ) (h : Head) (es : List Extent) (a : ℕ) (new : List ℕ) → AreLaid file h es → a + length new ≤ 3600
+    → (blocks_of h.blocks (drop 3600 (splice file a (length new) new)) ≡ blocks_of h.blocks (drop 3600 file))
+    × (blocks_of h.trailer (drop (length (splice file a (length new) new) - 3200 * h.trailer) (splice file a (length new) new)) ≡ blocks_of h.trailer (drop (length file - 3200 * h.trailer) file))
+    × (pieces (splice file a (length new) new) es ≡ pieces file es)
+behind_front file h es a new laid w =
+    let s : List ℕ = splice file a (length new) new in
+    let end : ℕ = length file - 3200 * h.trailer in
+    let high : a + length new ≤ length file = omega (arith, laid.front, laid.whole) in
+    let same : length s ≡ length file = length-splice file a new high in
+    let blocks : blocks_of h.blocks (drop 3600 s) ≡ blocks_of h.blocks (drop 3600 file) = ap (blocks_of h.blocks) (drop-splice file a new 3600 w high) in
+    let tail : blocks_of h.trailer (drop (length s - 3200 * h.trailer) s) ≡ blocks_of h.trailer (drop end file) =
+    ap (λ (n : ℕ). blocks_of h.trailer (drop (n - 3200 * h.trailer) s)) same ∙ ap (blocks_of h.trailer) (drop-splice file a new end (omega (arith, laid.front, laid.whole)) high) in
+    (blocks, tail, pieces-behind file a new h.traces_at es end laid.laid (omega (arith, laid.front)) high)
+
+-- in the textual header
+pub volume-text : (file : List ℕ) (h : Head) (es : List Extent) (a : ℕ) (new : List ℕ) → AreLaid file h es → a + length new ≤ 3200
+    → volume_at (splice file a (length new) new) h es ≡ record (volume_at file h es) { text = splice (take 3200 file) a (length new) new }
+volume-text file h es a new laid w =
+    let s : List ℕ = splice file a (length new) new in
+    let high : a + length new ≤ length file = omega (arith, laid.front, laid.whole) in
+    let rest = behind_front file h es a new laid (omega arith) in
+    let text : take 3200 s ≡ splice (take 3200 file) a (length new) new = subst (λ (i : ℕ). take 3200 (splice file i (length new) new) ≡ splice (take 3200 file) a (length new) new) (omega arith) (held file 0 3200 a new w (omega (arith, laid.front, laid.whole))) in
+    let bin : take 400 (drop 3200 s) ≡ take 400 (drop 3200 file) = ap (take 400) (drop-splice file a new 3200 w high) in
+    rw (text, bin, rest.0, rest.1, rest.2) refl
+
+-- in the binary header
+pub volume-bin : (file : List ℕ) (h : Head) (es : List Extent) (a : ℕ) (new : List ℕ) → AreLaid file h es → a + length new ≤ 400
+    → volume_at (splice file (3200 + a) (length new) new) h es ≡ record (volume_at file h es) { bin = splice (take 400 (drop 3200 file)) a (length new) new }
+volume-bin file h es a new laid w =
+    let s : List ℕ = splice file (3200 + a) (length new) new in
+    let rest = behind_front file h es (3200 + a) new laid (omega arith) in
+    let text : take 3200 s ≡ take 3200 file = before file (3200 + a) (length new) new 0 3200 (omega arith) (omega (arith, laid.front, laid.whole)) in
+    let bin : take 400 (drop 3200 s) ≡ splice (take 400 (drop 3200 file)) a (length new) new = held file 3200 400 a new w (omega (arith, laid.front, laid.whole)) in
+    rw (text, bin, rest.0, rest.1, rest.2) refl
+
+-- ---- blocks by their number
+
+pub slice_get-blocks : (n : ℕ) (rest : List ℕ) (i : ℕ) → i < n → slice_get (blocks_of n rest) i ≡ Some (take 3200 (drop (3200 * i) rest))
+slice_get-blocks zero rest i l = absurd (omega arith)
+slice_get-blocks (suc n) rest zero l = refl
+slice_get-blocks (suc n) rest (suc i) l =
+    let at : 3200 + 3200 * i ≡ 3200 * suc i = omega arith in
+    slice_get-blocks n (drop 3200 rest) i (omega arith)
+    ∙ ap (λ (s : List ℕ). let o : Option (List ℕ) = Some (take 3200 s) in o) (drop-drop (3200 * i) 3200 rest ∙ ap (λ (k : ℕ). drop k rest) at)
+
+pub slice_get-none : (n : ℕ) (rest : List ℕ) (i : ℕ) → n ≤ i → slice_get (blocks_of n rest) i ≡ None
+slice_get-none zero rest i l = refl
+slice_get-none (suc n) rest zero l = absurd (omega arith)
+slice_get-none (suc n) rest (suc i) l = slice_get-none n (drop 3200 rest) i (omega arith)
+
+-- ---- what a method reads, seen by the volume
+
+-- block b + 1, behind the headers
+pub read_block : (file : List ℕ) (h : Head) (es : List Extent) (v : Volume) (i : ℕ) → volume_at file h es ≡ v → i < h.blocks → slice_get v.blocks i ≡ Some (take 3200 (drop (3600 + 3200 * i) file))
+read_block file h es v i view l =
+    ap (λ (w : Volume). slice_get w.blocks i) (sym view) ∙ slice_get-blocks h.blocks (drop 3600 file) i l
+    ∙ ap (λ (s : List ℕ). let o : Option (List ℕ) = Some (take 3200 s) in o) (drop-drop (3200 * i) 3600 file)
+
+pub no_block : (file : List ℕ) (h : Head) (es : List Extent) (v : Volume) (i : ℕ) → volume_at file h es ≡ v → h.blocks ≤ i → slice_get v.blocks i ≡ None
+no_block file h es v i view l = ap (λ (w : Volume). slice_get w.blocks i) (sym view) ∙ slice_get-none h.blocks (drop 3600 file) i l
+
+pub read_record : (file : List ℕ) (h : Head) (es : List Extent) (v : Volume) (i : ℕ) → volume_at file h es ≡ v → i < h.trailer → slice_get v.tail i ≡ Some (take 3200 (drop (length file - 3200 * h.trailer + 3200 * i) file))
+read_record file h es v i view l =
+    ap (λ (w : Volume). slice_get w.tail i) (sym view) ∙ slice_get-blocks h.trailer (drop (length file - 3200 * h.trailer) file) i l
+    ∙ ap (λ (s : List ℕ). let o : Option (List ℕ) = Some (take 3200 s) in o) (drop-drop (3200 * i) (length file - 3200 * h.trailer) file)
+
+pub no_record : (file : List ℕ) (h : Head) (es : List Extent) (v : Volume) (i : ℕ) → volume_at file h es ≡ v → h.trailer ≤ i → slice_get v.tail i ≡ None
+no_record file h es v i view l = ap (λ (w : Volume). slice_get w.tail i) (sym view) ∙ slice_get-none h.trailer (drop (length file - 3200 * h.trailer) file) i l
+
+-- a number of a block counts the textual header first, and one of a record counts from 1
+pub block_number : (v : Volume) (b : ℕ) → (b ≡ 0 → ⊥) → block_of v b ≡ slice_get v.blocks (b - 1)
+block_number v zero h = absurd (h refl)
+block_number v (suc i) h = let e : i ≡ suc i - 1 = omega arith in ap (λ (k : ℕ). slice_get v.blocks k) e
+
+pub record_number : (v : Volume) (j : ℕ) → (j ≡ 0 → ⊥) → trailer_of v j ≡ slice_get v.tail (j - 1)
+record_number v zero h = absurd (h refl)
+record_number v (suc i) h = let e : i ≡ suc i - 1 = omega arith in ap (λ (k : ℕ). slice_get v.tail k) e
+
+pub text_view : (file new : List ℕ) (h : Head) (es : List Extent) (v : Volume) (a : ℕ) → AreLaid file h es → volume_at file h es ≡ v → a + length new ≤ 3200
+    → volume_at (splice file a (length new) new) h es ≡ record v { text = splice v.text a (length new) new }
+text_view file new h es v a laid view l = volume-text file h es a new laid l ∙ rw (← view) refl
+
+pub bin_view : (file new : List ℕ) (h : Head) (es : List Extent) (v : Volume) (a : ℕ) → AreLaid file h es → volume_at file h es ≡ v → a + length new ≤ 400
+    → volume_at (splice file (3200 + a) (length new) new) h es ≡ record v { bin = splice v.bin a (length new) new }
+bin_view file new h es v a laid view l = volume-bin file h es a new laid l ∙ rw (← view) refl

@@ -1,5 +1,5 @@
 -- How an overlay holds a volume: the file's bytes, its head, and where each trace lies.
-use Rattle.std.specs.Prelude.{ℕ, ◌<◌, ◌^◌, length}
+use Rattle.std.specs.Prelude.{◌<◌, ◌^◌, length}
 use Rattle.frame_cut.specs.Volume.{Volume}
 use Rattle.frame_cut.specs.Layout.{volume_at, AreLaid}
 use Rattle.edit_overlay.specs.declared.overlay.Overlay.TheInside.{Inside}

@@ -1,3 +1,4 @@
 pub mod Loading
 pub mod Saving
 pub mod Held
+pub mod Parts

@@ -1,5 +1,5 @@
 // Parts of one vector of bytes.
-ghost use Rattle.std.specs.Prelude.{◌≡◌, ◌+◌, ◌≤◌, length};
+ghost use Rattle.std.specs.Prelude.{◌≡◌, ◌+◌, ◌≤◌, length, take, drop};
 ghost use Rattle.frame_cut.specs.Layout.{bytes_at};
 ghost use Rattle.frame_cut.specs.Splice.{splice};
 
@@ -21,4 +21,15 @@ pub fn overwrite(all: &mut [u8], at: usize, new: &[u8])
     ensures { all.new ≡ splice all.old at (length new.now) new.now }
 {
     all[at..at + new.len()].copy_from_slice(new);
+}
+
+// So many bytes from a place on.
+pub fn array_at<const N: usize>(bytes: &[u8], at: usize) -> &[u8; N]
+    requires { at + N ≤ length bytes.now }
+    ensures { result.now ≡ take N (drop at bytes.now) }
+{
+    match bytes[at..].first_chunk::<N>() {
+        Some(array) => array,
+        None => unreachable!(),
+    }
 }

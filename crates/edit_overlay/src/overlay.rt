@@ -7,9 +7,10 @@ ghost use Rattle.frame_cut.specs.Traces.{count_of, trace_at, trace_of, with_trac
 ghost use Rattle.frame_cut.specs.Volume.{bytes_of};
 ghost use Rattle.frame_cut.specs.declared.load_fault.LoadFault.TheVariants.{OutOfMemory as no_memory};
 ghost use Rattle.edit_overlay.specs.Loading.{IsLoadFault, FailuresAfterRefusal};
+ghost use Rattle.edit_overlay.specs.Parts.{block_of, trailer_of, with_line, with_header_bytes};
 ghost use Rattle.edit_overlay.specs.Saving.{Saves};
 
-use crate::bytes::{overwrite, piece};
+use crate::bytes::{array_at, overwrite, piece};
 use crate::out_of_memory::OutOfMemory;
 use crate::reading_in::read_file;
 use crate::save_fault::SaveFault;
@@ -112,6 +113,67 @@ impl Overlay {
         }
         let extent = self.extents[p as usize - 1];
         Some(piece(self.bytes.as_slice(), extent))
+    }
+
+    /// The textual header (bytes 1 to 3200 of the file).
+    pub fn text(&self) -> &[u8; 3200]
+        ensures { result.now ≡ self.now.text }
+    {
+        array_at(self.bytes.as_slice(), 0)
+    }
+
+    /// The binary header (bytes 3201 to 3600 of the file).
+    pub fn bin(&self) -> &[u8; 400]
+        ensures { result.now ≡ self.now.bin }
+    {
+        array_at(self.bytes.as_slice(), 3200)
+    }
+
+    /// Block b, where there is one: the textual header is block 0, the extended textual headers are blocks 1 and up.
+    pub fn block(&self, b: u32) -> Option<&[u8; 3200]>
+        ensures { option_map (λ x. x.now) result ≡ block_of self.now b }
+    {
+        if b == 0 {
+            return Some(self.text());
+        }
+        if b > self.head.blocks {
+            return None;
+        }
+        let at = 3600 + 3200 * (b as usize - 1);
+        Some(array_at(self.bytes.as_slice(), at))
+    }
+
+    /// Data trailer record j, counted from 1, where there is one.
+    pub fn trailer(&self, j: u32) -> Option<&[u8; 3200]>
+        ensures { option_map (λ x. x.now) result ≡ trailer_of self.now j }
+    {
+        if j == 0 {
+            return None;
+        }
+        if j > self.head.trailer {
+            return None;
+        }
+        let start = self.bytes.len() - 3200 * self.head.trailer as usize;
+        let at = start + 3200 * (j as usize - 1);
+        Some(array_at(self.bytes.as_slice(), at))
+    }
+
+    /// Writes line q of the textual header, from 1 to 40. Takes no memory.
+    pub fn put_text(&mut self, q: u32, line: &[u8; 80])
+        requires first { 1 ≤ q }
+        requires last { q ≤ 40 }
+        ensures { self.new ≡ with_line self.old q line.now }
+    {
+        let at = 80 * (q as usize - 1);
+        overwrite(self.bytes.as_mut_slice(), at, line);
+    }
+
+    /// Writes the bytes over those of the binary header from place `at` on, counted from 0 in it. Takes no memory.
+    pub fn put_head(&mut self, at: u32, bytes: &[u8])
+        requires { at + length bytes.now ≤ 400 }
+        ensures { self.new ≡ with_header_bytes self.old at bytes.now }
+    {
+        overwrite(self.bytes.as_mut_slice(), 3200 + at as usize, bytes);
     }
 
     /// Writes the bytes over those of trace p, counted from 1, from place `at` on, counted from 0 in the trace.

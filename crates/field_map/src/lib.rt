@@ -1,8 +1,25 @@
 //! Names bound to places in trace headers, and the standard names of trace and binary header fields.
+//!
+//! A place is a header, a first byte counted from 1, a size and a sign. [`standard`] and [`bin_field`] look up the names
+//! that are always there, and take no memory. A [`FieldMap`] holds the names that a user binds, in order, among them the
+//! six geometry names; contracts see it as the list of its names and places, with the number of header extensions that
+//! bounds what may be bound. Making one and `bind` take memory; no other call does.
 #![tactic(auto)]
 
+mod entries;
+mod field_map;
 mod map_fault;
+mod names;
+mod out_of_memory;
 mod place;
+mod rules;
 
+pub use crate::entries::Entries;
+pub use crate::field_map::FieldMap;
 pub use crate::map_fault::MapFault;
+pub use crate::names::{bin_field, standard};
+pub use crate::out_of_memory::OutOfMemory;
 pub use crate::place::Place;
+
+#[cfg(test)]
+mod tests;

@@ -8,7 +8,7 @@ use Rattle.script_run.specs.declared.run_end.RunEnd.{RunEnd}
 use Rattle.script_run.specs.declared.run_end.RunEnd.TheVariants as ends
 use Rattle.script_run.specs.declared.script_fault.ScriptFault.{ScriptFault}
 use Rattle.script_run.specs.RefusalTexts.{load_refused, script_refused}
-use Rattle.script_run.specs.Devices.{Takes, TakesPart}
+use Rattle.script_run.specs.Devices.{Takes, TakesPart, counted}
 use Rattle.script_run.specs.Loading.{Loads, ReadsScript}
 use Rattle.script_run.specs.Runs.{RunsWhole, StopsAt, BreaksOff}
 use Rattle.script_run.specs.Ends.{Devices, RefusesLoad, RefusesScript, RunsThrough, Stops, LosesAnswer, IsTold, Runs}
@@ -45,15 +45,19 @@ module _ (options : Options) (old new : Devices) (start end : State) (script : L
   }
 
   pub loses_answer : (written : ℕ) → new.out ≡ old.out
-      → (text : List ℕ) × BreaksOff start script options.stop written text end × TakesPart old.answers new.answers text written
-      → LosesAnswer options old new written
-  loses_answer written unsaved (text, lines, printed) = record {
-    start = start;
-    end = end;
-    script = script;
-    text = text;
-    begins = record { loaded = loaded; read = read };
-    lines = lines;
-    printed = printed;
-    unsaved = unsaved;
-  }
+      → (text : List ℕ) × (taken : ℕ) × (written ≡ counted taken) × BreaksOff start script options.stop taken text end × TakesPart old.answers new.answers text taken
+      → (taken : ℕ) × (written ≡ counted taken) × LosesAnswer options old new taken
+  loses_answer written unsaved (text, taken, told, lines, printed) = (
+    taken,
+    told,
+    record {
+      start = start;
+      end = end;
+      script = script;
+      text = text;
+      begins = record { loaded = loaded; read = read };
+      lines = lines;
+      printed = printed;
+      unsaved = unsaved;
+    },
+  )

@@ -1,7 +1,9 @@
 pub mod Positions
+pub mod Boundaries
 pub mod WordLemmas
 pub mod NumberLemmas
 pub mod PlaceLemmas
+pub mod ParseLemmas
 pub mod LineLemmas
 pub mod TextLemmas
 pub mod ScriptLemmas

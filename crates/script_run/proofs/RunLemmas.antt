@@ -1,6 +1,7 @@
 -- How a run goes on by one line.
-use Rattle.std.proofs.Common.{◌≡◌, ℕ, suc, ◌+◌, ◌≤◌, List, [], ◌∷◌, ◌++◌, length, take, Bool, true, false, cond, Option, Some, None, refl, ap, ap₂, sym, subst, ◌∙◌, arith, append_assoc, append-nil, length-append}
-use Rattle.std.specs.Prelude.{IsTrue}
+use Rattle.std.proofs.Common.{◌≡◌, ℕ, suc, ◌+◌, ◌≤◌, List, [], ◌∷◌, ◌++◌, length, take, Bool, true, false, cond, Option, Some, None, Result, Ok, Err, refl, ap, ap₂, sym, subst, ◌∙◌, arith, append_assoc, append-nil, length-append}
+use Rattle.std.specs.Prelude.{IsTrue, MatchResult}
+use Rattle.std.specs.Result.{IsErrAnd}
 use Rattle.std.specs.List.{onto_first}
 use Rattle.std.specs.Io.KnownBytes.{Appends}
 use Rattle.std.proofs.Math.Seq.{take-add}
@@ -11,7 +12,7 @@ use Rattle.device_io.specs.Failures.{one_more as one_more_failure}
 use Rattle.bench_core.specs.State.{State}
 use Rattle.script_run.specs.Words.{is_line_feed, parts_by_line_feed, script_lines, without_return}
 use Rattle.script_run.specs.Replies.{Printed}
-use Rattle.script_run.specs.Devices.{Device, Takes, TakesPart}
+use Rattle.script_run.specs.Devices.{Device, Takes, TakesPart, counted}
 use Rattle.script_run.specs.Runs.{LineStep, LineSteps, printed_text, refusals, StopsAt, BreaksOff}
 use Rattle.device_io.specs.Growth.{Appends_more}
 
@@ -62,7 +63,7 @@ pub record SoFar (start : State) (all rest : List (List ℕ)) (stop : Bool) (num
   pub steps : LineSteps start done printed now
   pub number_is : number ≡ length printed
   pub refused_is : refused ≡ refusals printed
-  pub written_is : written ≡ length (printed_text printed)
+  pub written_is : written ≡ counted (length (printed_text printed))
   pub goes_on : IsTrue stop → refused ≡ 0
   pub taken : Takes before after (printed_text printed)
 
@@ -104,16 +105,16 @@ module _ (start : State) (all rest : List (List ℕ)) (line : List ℕ) (stop : 
       ap (take n) whole_is ∙ take_at (so_far.done ++ line ∷ []) rest n long
 
   -- a line whose reply is written
-  pub one_more : (after : Device) (more : ℕ) → Takes mid after p.text → more ≡ refused + cond p.is_refusal 1 0 → (IsTrue stop → p.is_refusal ≡ false)
-      → SoFar start all rest stop (number + 1) more (written + length p.text) before after next
-  one_more after more taken more_is not_refused = record {
+  pub one_more : (after : Device) (more told : ℕ) → Takes mid after p.text → more ≡ refused + cond p.is_refusal 1 0 → told ≡ counted (written + length p.text) → (IsTrue stop → p.is_refusal ≡ false)
+      → SoFar start all rest stop (number + 1) more told before after next
+  one_more after more told taken more_is told_is not_refused = record {
     done = so_far.done ++ line ∷ [];
     printed = so_far.printed ++ p ∷ [];
     lines = whole_is;
     steps = through;
     number_is = omega (arith, so_far.number_is, length-append so_far.printed (p ∷ []));
     refused_is = more_is ∙ ap (λ n. n + cond p.is_refusal 1 0) so_far.refused_is ∙ sym (refusals_more so_far.printed p);
-    written_is = omega (arith, so_far.written_is, ap length (text_more so_far.printed p), length-append (printed_text so_far.printed) p.text);
+    written_is = omega (arith, told_is, so_far.written_is, ap length (text_more so_far.printed p), length-append (printed_text so_far.printed) p.text);
     goes_on = λ s. let none : refused ≡ 0 = so_far.goes_on s in more_is ∙ ap₂ (λ n b. n + cond b 1 0) none (not_refused s);
     taken = rw (text_more so_far.printed p) (takes_more before mid after (printed_text so_far.printed) p.text so_far.taken taken);
   }
@@ -123,29 +124,32 @@ module _ (start : State) (all rest : List (List ℕ)) (line : List ℕ) (stop : 
       take-add (length xs) n (xs ++ ys) ∙ ap₂ (λ a b. a ++ take n b) (take_at xs ys (length xs) refl) (drop_at xs ys (length xs) refl)
 
   -- a line whose reply is not written whole
-  pub breaks_off : (script : List ℕ) (after : Device) (k : ℕ) → all ≡ script_lines script → TakesPart mid after p.text k
-      → (text : List ℕ) × BreaksOff start script stop (written + k) text next × TakesPart before after text (written + k)
-  breaks_off script after k all_is part =
+  pub breaks_off : (script : List ℕ) (after : Device) (k told : ℕ) → all ≡ script_lines script → TakesPart mid after p.text k → told ≡ counted (written + k)
+      → (text : List ℕ) × (taken : ℕ) × (told ≡ counted taken) × BreaksOff start script stop taken text next × TakesPart before after text taken
+  breaks_off script after k told all_is part told_is =
       let text : List ℕ = printed_text (so_far.printed ++ p ∷ []) in
+      let taken : ℕ = length (printed_text so_far.printed) + k in
       let text_is : text ≡ printed_text so_far.printed ++ p.text = text_more so_far.printed p in
       let long : length text ≡ length (printed_text so_far.printed) + length p.text =
       ap length text_is ∙ length-append (printed_text so_far.printed) p.text in
-      let bytes : Appends before.bytes after.bytes (take (written + k) text) =
-      rw (so_far.written_is, text_is, part_more (printed_text so_far.printed) p.text k)
+      let bytes : Appends before.bytes after.bytes (take taken text) =
+      rw (text_is, part_more (printed_text so_far.printed) p.text k)
       (Appends_more before.bytes mid.bytes after.bytes (printed_text so_far.printed) (take k p.text) so_far.taken.bytes part.bytes) in (
         text,
+        taken,
+        omega (arith, told_is, so_far.written_is),
         record {
           before = so_far.printed;
           last = p;
           steps = rw (← all_is, first_are (length so_far.printed + 1) refl) through;
           text_is = refl;
           goes_on = λ s. sym so_far.refused_is ∙ so_far.goes_on s;
-          taken_before = omega (arith, so_far.written_is);
-          not_taken = omega (arith, long, so_far.written_is, part.short);
+          taken_before = omega arith;
+          not_taken = omega (arith, long, part.short);
         },
         record {
           bytes = bytes;
-          short = omega (arith, long, so_far.written_is, part.short);
+          short = omega (arith, long, part.short);
           failures = part.failures ∙ ap one_more_failure so_far.taken.failures;
         },
       )
@@ -167,3 +171,8 @@ module _ (start : State) (all rest : List (List ℕ)) (line : List ℕ) (stop : 
     rw (text_more so_far.printed p) (takes_more before mid after (printed_text so_far.printed) p.text so_far.taken taken),
     stop_is,
   )
+
+-- a reply that was not written whole, told by its fault
+pub by_fault : {T E : Type 0} (r : Result T E) (fault : E) (P : T → Type 0) (Q : E → Type 0) → IsErrAnd r (λ x. x ≡ fault) → Q fault → MatchResult r P Q
+by_fault (Ok x) fault P Q is q = absurd is
+by_fault (Err e) fault P Q is q = subst Q (sym is) q

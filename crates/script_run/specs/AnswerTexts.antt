@@ -1,13 +1,16 @@
 -- What is printed for an answer.
-use Rattle.std.specs.Prelude.{ℕ, Bool, List, [], ◌∷◌, ◌++◌, decimal, codes, if◌then◌else◌}
+use Rattle.std.specs.Prelude.{ℕ, Bool, List, [], ◌∷◌, ◌++◌, map, decimal, codes, if◌then◌else◌}
 use Rattle.std.specs.Fmt.{signed_decimal}
 use Rattle.num_order.specs.declared.order.Order.{Order}
 use Rattle.num_order.specs.declared.order.Order.TheVariants.{Big, Little}
+use Rattle.text_block.specs.declared.code.Code.{Code}
+use Rattle.text_block.specs.declared.code.Code.TheVariants.{Ebcdic, Ascii}
+use Rattle.field_map.specs.declared.place.Place.{Place}
 use Rattle.sample_codes.specs.Formats.{code_of}
 use Rattle.bench_core.specs.declared.info.Info.{Info}
 use Rattle.bench_core.specs.declared.answer.Answer.{Answer}
 use Rattle.bench_core.specs.declared.answer.Answer.TheVariants as answers
-use Rattle.script_run.specs.Texts.{spaced, ended}
+use Rattle.script_run.specs.Texts.{spaced, ended, listed, without_blanks, place_text}
 
 -- the order of bytes
 abbrev pub order_text : Order → List ℕ
@@ -32,8 +35,25 @@ info_text i =
     ++ codes " traces " ++ decimal i.traces
     ++ codes " bytes " ++ decimal i.bytes
 
+-- the code of a block
+abbrev pub code_text : Code → List ℕ
+code_text Ebcdic = codes "ebcdic"
+code_text Ascii = codes "ascii"
+
+-- a stanza's block and name
+abbrev pub stanza_text : ℕ × List ℕ → List ℕ
+stanza_text s = codes "stanza " ++ decimal s.0 ++ codes " " ++ s.1
+
+-- a name and its place
+abbrev pub field_text : List ℕ × Place → List ℕ
+field_text f = codes "field " ++ f.0 ++ codes " " ++ place_text f.1
+
 -- an answer, each line with its end
 abbrev pub answer_text : Answer → List ℕ
 answer_text (answers.Count n) = ended (spaced (codes "traces" ∷ decimal n ∷ []))
 answer_text (answers.Info info) = ended (info_text info)
 answer_text (answers.Value v) = ended (spaced (codes "value" ∷ signed_decimal v ∷ []))
+answer_text (answers.Line text) = ended (codes "line |" ++ without_blanks text ++ codes "|")
+answer_text (answers.Code code) = ended (codes "code " ++ code_text code)
+answer_text (answers.Stanzas stanzas) = listed (codes "stanzas") (map stanza_text stanzas)
+answer_text (answers.Fields fields) = listed (codes "fields") (map field_text fields)

@@ -1,21 +1,27 @@
 -- The command of a line.
-use Rattle.std.specs.Prelude.{ℕ, ℤ, not, List, [], ◌∷◌, bytes_eq, codes, Option, Some, None, option_map, option_and_then, ok_or, Result, Ok, Err, if◌then◌else◌}
+use Rattle.std.specs.Prelude.{◌≡◌, ◌⊎◌, ℕ, not, List, [], ◌∷◌, bytes_eq, codes, Option, Some, None, option_map, option_and_then, ok_or, Result, Ok, Err, if◌then◌else◌}
 use Rattle.std.specs.Str.{is_utf8}
 use Rattle.std.specs.Map.{lookup}
 use Rattle.bench_core.specs.declared.field.Field.{Field}
 use Rattle.bench_core.specs.declared.field.Field.TheVariants as fields
+use Rattle.bench_core.specs.declared.edit.Edit.{Edit}
 use Rattle.bench_core.specs.declared.edit.Edit.TheVariants as edits
+use Rattle.bench_core.specs.declared.query.Query.{Query}
 use Rattle.bench_core.specs.declared.query.Query.TheVariants as queries
 use Rattle.script_run.specs.declared.command.Command.{Command}
 use Rattle.script_run.specs.declared.command.Command.TheVariants.{Apply, Ask}
 use Rattle.script_run.specs.declared.line_fault.LineFault.{LineFault}
-use Rattle.script_run.specs.declared.line_fault.LineFault.TheVariants.{Unknown, Words, Number, NotText}
-use Rattle.script_run.specs.Words.{words_of, is_silent}
-use Rattle.script_run.specs.Numbers.{number_of, position_of, place_of_word}
+use Rattle.script_run.specs.declared.line_fault.LineFault.TheVariants.{Unknown, Words, Number, NotText, OutOfMemory}
+use Rattle.script_run.specs.Words.{words_of, behind_word, text_behind_word, is_note}
+use Rattle.script_run.specs.Numbers.{number_of, position_of, begins_with_at, place_of_word}
 
--- a field: a place
+-- any word is a name, to be judged later
+abbrev pub name_of : List ℕ → Option (List ℕ)
+name_of word = Some word
+
+-- a field: a place where the word begins with `@`, else a name
 abbrev pub field_of : List ℕ → Option Field
-field_of word = option_map fields.Place (place_of_word word)
+field_of word = if begins_with_at word then option_map fields.Place (place_of_word word) else Some (fields.Name word)
 
 -- ---- what may follow a command's word
 
@@ -27,6 +33,12 @@ Reader = List (List ℕ) → Result Command LineFault
 abbrev pub alone : Command → Reader
 alone command [] = Ok command
 alone command (word ∷ words) = Err Words
+
+-- one word
+abbrev pub one : {A : Type 0} → (List ℕ → Option A) → (A → Command) → Reader
+one a command (v ∷ []) = ok_or (option_map command (a v)) Number
+one a command (v ∷ w ∷ words) = Err Words
+one a command [] = Err Words
 
 -- two words
 abbrev pub two : {A B : Type 0} → (List ℕ → Option A) → (List ℕ → Option B) → (A → B → Command) → Reader
@@ -44,6 +56,11 @@ three a b c command (v ∷ w ∷ []) = Err Words
 three a b c command (w ∷ []) = Err Words
 three a b c command [] = Err Words
 
+-- one word, and then a text, whatever words that is
+abbrev pub one_and_text : {A : Type 0} → (List ℕ → Option A) → (A → Command) → Reader
+one_and_text a command (v ∷ words) = ok_or (option_map command (a v)) Number
+one_and_text a command [] = Err Words
+
 -- ---- the commands
 
 -- `set P FIELD NUMBER`
@@ -53,6 +70,42 @@ read_set = three position_of field_of number_of (λ p field value. Apply (edits.
 -- `get P FIELD`
 abbrev pub read_get : Reader
 read_get = two position_of field_of (λ p field. Ask (queries.Get p field))
+
+-- `bin FIELD NUMBER`
+abbrev pub read_bin : Reader
+read_bin = two field_of number_of (λ field value. Apply (edits.SetBin field value))
+
+-- `getbin FIELD`
+abbrev pub read_getbin : Reader
+read_getbin = one field_of (λ field. Ask (queries.GetBin field))
+
+-- `text L TEXT`: the text is what stands behind L in the rest of the line, further blanks included
+abbrev pub read_text : List ℕ → Reader
+read_text rest = one_and_text position_of (λ q. Apply (edits.SetText q (text_behind_word rest)))
+
+-- `line B L`
+abbrev pub read_line : Reader
+read_line = two position_of position_of (λ block q. Ask (queries.Line block q))
+
+-- `code B`
+abbrev pub read_code : Reader
+read_code = one position_of (λ block. Ask (queries.Code block))
+
+-- `stanzas`
+abbrev pub read_stanzas : Reader
+read_stanzas = alone (Ask queries.Stanzas)
+
+-- `map NAME PLACE`
+abbrev pub read_map : Reader
+read_map = two name_of place_of_word (λ name place. Apply (edits.Map name place))
+
+-- `unmap NAME`
+abbrev pub read_unmap : Reader
+read_unmap = one name_of (λ name. Apply (edits.Unmap name))
+
+-- `fields`
+abbrev pub read_fields : Reader
+read_fields = alone (Ask queries.Fields)
 
 -- `count`
 abbrev pub read_count : Reader
@@ -66,11 +119,20 @@ read_info = alone (Ask queries.Info)
 abbrev pub read_sample : Reader
 read_sample = two position_of position_of (λ p k. Ask (queries.Sample p k))
 
--- each command's word with what reads the words behind it
-abbrev pub commands : List (List ℕ × Reader)
-commands =
+-- each command's word with what reads the words behind it, which stand in this rest of the line
+abbrev pub commands : List ℕ → List (List ℕ × Reader)
+commands rest =
     (codes "set", read_set)
     ∷ (codes "get", read_get)
+    ∷ (codes "bin", read_bin)
+    ∷ (codes "getbin", read_getbin)
+    ∷ (codes "text", read_text rest)
+    ∷ (codes "line", read_line)
+    ∷ (codes "code", read_code)
+    ∷ (codes "stanzas", read_stanzas)
+    ∷ (codes "map", read_map)
+    ∷ (codes "unmap", read_unmap)
+    ∷ (codes "fields", read_fields)
     ∷ (codes "count", read_count)
     ∷ (codes "info", read_info)
     ∷ (codes "sample", read_sample)
@@ -81,18 +143,75 @@ abbrev pub read_by : Option Reader → List (List ℕ) → Result Command LineFa
 read_by None words = Err Unknown
 read_by (Some reader) words = reader words
 
--- the command of a line whose words are these
-abbrev pub command_of : List (List ℕ) → Result Command LineFault
-command_of [] = Err Unknown
-command_of (word ∷ words) = read_by (lookup (bytes_eq word) commands) words
+-- the command of a first word and of what stands behind it
+abbrev pub command_of : List ℕ → List ℕ → Result Command LineFault
+command_of word rest = read_by (lookup (bytes_eq word) (commands rest)) (words_of rest)
 
 abbrev pub spoken : Result Command LineFault → Result (Option Command) LineFault
 spoken (Ok command) = Ok (Some command)
 spoken (Err fault) = Err fault
 
+-- what a line with these words gives: nothing, a command, or the first fault
+abbrev pub words_result : List ℕ → List (List ℕ) → Result (Option Command) LineFault
+words_result line [] = Ok None
+words_result line (word ∷ words) = if is_note word then Ok None else spoken (command_of word (behind_word line))
+
 -- what a line gives: nothing, a command, or the first fault
 abbrev pub line_result : List ℕ → Result (Option Command) LineFault
-line_result line =
-    if not (is_utf8 line) then Err NotText
-    else (if is_silent (words_of line) then Ok None
-    else spoken (command_of (words_of line)))
+line_result line = if not (is_utf8 line) then Err NotText else words_result line (words_of line)
+
+-- ---- want of memory
+
+-- a field that is a name holds a text
+abbrev pub IsName : Field → Type 0
+IsName (fields.Place place) = ⊥
+IsName (fields.Name name) = Unit {0}
+
+-- what is read as a field: S03 for none, else the field, or want of memory for a name
+abbrev pub IsFieldRead : Option Field → Result Field LineFault → Type 0
+IsFieldRead None result = result ≡ Err Number
+IsFieldRead (Some field) result = (result ≡ Ok field) ⊎ ((result ≡ Err OutOfMemory) × IsName field)
+
+-- an edit that holds a text
+abbrev pub EditHoldsText : Edit → Type 0
+EditHoldsText (edits.Set p field x) = IsName field
+EditHoldsText (edits.SetBin field x) = IsName field
+EditHoldsText (edits.SetText q text) = Unit {0}
+EditHoldsText (edits.Map name place) = Unit {0}
+EditHoldsText (edits.Unmap name) = Unit {0}
+
+-- a query that holds a text
+abbrev pub QueryHoldsText : Query → Type 0
+QueryHoldsText queries.Count = ⊥
+QueryHoldsText queries.Info = ⊥
+QueryHoldsText (queries.Get p field) = IsName field
+QueryHoldsText (queries.GetBin field) = IsName field
+QueryHoldsText (queries.Line b q) = ⊥
+QueryHoldsText (queries.Code b) = ⊥
+QueryHoldsText queries.Stanzas = ⊥
+QueryHoldsText queries.Fields = ⊥
+QueryHoldsText (queries.Sample p k) = ⊥
+
+-- a command that holds a text
+abbrev pub HoldsText : Command → Type 0
+HoldsText (Apply edit) = EditHoldsText edit
+HoldsText (Ask query) = QueryHoldsText query
+
+-- to read a command takes memory where it holds a text
+abbrev pub CommandTakesMemory : Result Command LineFault → Type 0
+CommandTakesMemory (Ok command) = HoldsText command
+CommandTakesMemory (Err fault) = ⊥
+
+-- to read a line takes memory where it is a command that holds a text
+abbrev pub LineTakesMemory : Result (Option Command) LineFault → Type 0
+LineTakesMemory (Ok None) = ⊥
+LineTakesMemory (Ok (Some command)) = HoldsText command
+LineTakesMemory (Err fault) = ⊥
+
+-- what is read as a command: what it has to be, or want of memory where it holds a text
+abbrev pub IsRead : Result Command LineFault → Result Command LineFault → Type 0
+IsRead expected result = (result ≡ expected) ⊎ ((result ≡ Err OutOfMemory) × CommandTakesMemory expected)
+
+-- what is read from a line: what it gives, or want of memory where its command holds a text
+abbrev pub IsParsed : List ℕ → Result (Option Command) LineFault → Type 0
+IsParsed line result = (result ≡ line_result line) ⊎ ((result ≡ Err OutOfMemory) × LineTakesMemory (line_result line))

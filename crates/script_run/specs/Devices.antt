@@ -1,5 +1,5 @@
 -- What readers and writers tell.
-use Rattle.std.specs.Prelude.{ℕ, ◌≡◌, ◌<◌, List, length, take, Option}
+use Rattle.std.specs.Prelude.{ℕ, ◌≡◌, ◌<◌, ◌-◌, ◌^◌, min, List, length, take, Option}
 use Rattle.std.specs.Io.KnownBytes.{Appends}
 use Rattle.device_io.specs.Failures.{one_more}
 
@@ -21,3 +21,7 @@ pub record TakesPart (old new : Device) (text : List ℕ) (written : ℕ) : Type
   pub bytes : Appends old.bytes new.bytes (take written text)
   pub short : written < length text
   pub failures : new.failures ≡ one_more old.failures
+
+-- a number of bytes as it is told: a count of 64 bits stays at its top
+abbrev pub counted : ℕ → ℕ
+counted n = min n (2 ^ 64 - 1)

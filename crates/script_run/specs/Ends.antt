@@ -7,7 +7,7 @@ use Rattle.script_run.specs.declared.options.Options.{Options}
 use Rattle.script_run.specs.declared.run_end.RunEnd.{RunEnd}
 use Rattle.script_run.specs.declared.run_end.RunEnd.TheVariants as ends
 use Rattle.script_run.specs.declared.script_fault.ScriptFault.{ScriptFault}
-use Rattle.script_run.specs.Devices.{Device, Takes, TakesPart}
+use Rattle.script_run.specs.Devices.{Device, Takes, TakesPart, counted}
 use Rattle.script_run.specs.Loading.{Loads, IsLoadRefused, ReadsScript, IsScriptRefused}
 use Rattle.script_run.specs.RefusalTexts.{load_refused, script_refused}
 use Rattle.script_run.specs.Runs.{RunsWhole, StopsAt, BreaksOff}
@@ -61,15 +61,16 @@ pub record Stops (options : Options) (old new : Devices) (line : ℕ) : Type 0 w
   pub printed : Takes old.answers new.answers text
   pub unsaved : new.out ≡ old.out
 
--- the lines are run up to one whose answer is not written whole; nothing is saved
-pub record LosesAnswer (options : Options) (old new : Devices) (written : ℕ) : Type 0 where
+-- the lines are run up to one whose answer is not written whole, of which so many bytes of what is printed are taken;
+-- nothing is saved
+pub record LosesAnswer (options : Options) (old new : Devices) (taken : ℕ) : Type 0 where
   pub start : State
   pub end : State
   pub script : List ℕ
   pub text : List ℕ
   pub begins : Begins options old new start script
-  pub lines : BreaksOff start script options.stop written text end
-  pub printed : TakesPart old.answers new.answers text written
+  pub lines : BreaksOff start script options.stop taken text end
+  pub printed : TakesPart old.answers new.answers text taken
   pub unsaved : new.out ≡ old.out
 
 -- where it is asked for, the writer takes the volume's bytes; else nothing is saved
@@ -92,6 +93,6 @@ Runs options old new (ends.Script fault) = RefusesScript options old new fault �
 Runs options old new (ends.Answers written) =
     ((fault : LoadFault) × RefusesLoad options old new fault × TakesPart old.answers new.answers (load_refused fault) written)
     ⊎ ((fault : ScriptFault) × RefusesScript options old new fault × TakesPart old.answers new.answers (script_refused fault) written)
-    ⊎ LosesAnswer options old new written
+    ⊎ ((taken : ℕ) × (written ≡ counted taken) × LosesAnswer options old new taken)
 Runs options old new (ends.Save fault) =
     (refused : ℕ) × (end : State) × RunsThrough options old new refused end × IsTrue options.save × TakesPart old.out new.out (bytes_of end.volume) fault.written

@@ -5,6 +5,7 @@ pub mod Texts
 pub mod RefusalTexts
 pub mod AnswerTexts
 pub mod Replies
+pub mod Held
 pub mod Runs
 pub mod Devices
 pub mod Loading

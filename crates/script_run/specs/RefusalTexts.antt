@@ -3,6 +3,10 @@ use Rattle.std.specs.Prelude.{ℕ, List, [], ◌∷◌, ◌++◌, decimal, codes
 use Rattle.std.specs.Fmt.{signed_decimal}
 use Rattle.frame_cut.specs.declared.load_fault.LoadFault.{LoadFault}
 use Rattle.frame_cut.specs.declared.load_fault.LoadFault.TheVariants as load_faults
+use Rattle.field_map.specs.declared.map_fault.MapFault.{MapFault}
+use Rattle.field_map.specs.declared.map_fault.MapFault.TheVariants as map_faults
+use Rattle.text_block.specs.declared.text_fault.TextFault.{TextFault}
+use Rattle.text_block.specs.declared.text_fault.TextFault.TheVariants as text_faults
 use Rattle.bench_core.specs.declared.refusal.Refusal.{Refusal}
 use Rattle.bench_core.specs.declared.refusal.Refusal.TheVariants as refusals
 use Rattle.bench_core.specs.declared.ask_fault.AskFault.{AskFault}
@@ -51,15 +55,35 @@ no_trace p count = spaced (codes "E01 no trace" ∷ decimal p ∷ codes "of" ∷
 abbrev pub no_sample : ℕ → ℕ → List ℕ
 no_sample k number = spaced (codes "E05 no sample" ∷ decimal k ∷ codes "of" ∷ decimal number ∷ [])
 
+-- why a text is no line
+abbrev pub text_fault_text : TextFault → List ℕ
+text_fault_text text_faults.TooLong = codes "E07 T01 too long"
+text_fault_text (text_faults.NoCode column) = codes "E07 T02 no code for column " ++ decimal column
+
+-- why a name is not bound or not unbound; want of memory is the line's own
+abbrev pub map_fault_text : MapFault → List ℕ
+map_fault_text map_faults.BadName = codes "E08 M01 bad name"
+map_fault_text map_faults.OutsideHeader = codes "E08 M02 outside header"
+map_fault_text map_faults.BadKind = codes "E08 M03 bad kind"
+map_fault_text map_faults.Full = codes "E08 M04 full"
+map_fault_text map_faults.Geometry = codes "E08 M05 geometry"
+map_fault_text map_faults.Unknown = codes "E08 M06 unknown"
+map_fault_text map_faults.Standard = codes "E08 M07 standard"
+map_fault_text map_faults.OutOfMemory = codes "E11 out of memory"
+
 abbrev pub refusal_text : Refusal → List ℕ
 refusal_text (refusals.NoTrace p count) = no_trace p count
+refusal_text refusals.NoField = codes "E02 no field"
 refusal_text refusals.NoPlace = codes "E03 no place"
 refusal_text refusals.DoesNotFit = codes "E04 does not fit"
 refusal_text refusals.Frame = codes "E06 frame"
+refusal_text (refusals.Text fault) = text_fault_text fault
+refusal_text (refusals.Map fault) = map_fault_text fault
 refusal_text refusals.OutOfMemory = codes "E11 out of memory"
 
 abbrev pub ask_fault_text : AskFault → List ℕ
 ask_fault_text (ask_faults.NoTrace p count) = no_trace p count
+ask_fault_text ask_faults.NoField = codes "E02 no field"
 ask_fault_text ask_faults.NoPlace = codes "E03 no place"
 ask_fault_text (ask_faults.NoSample k number) = no_sample k number
 ask_fault_text ask_faults.OutOfMemory = codes "E11 out of memory"

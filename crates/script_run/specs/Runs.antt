@@ -8,15 +8,15 @@ use Rattle.script_run.specs.declared.command.Command.{Command}
 use Rattle.script_run.specs.declared.command.Command.TheVariants.{Apply, Ask}
 use Rattle.script_run.specs.declared.line_fault.LineFault.{LineFault}
 use Rattle.script_run.specs.Words.{script_lines}
-use Rattle.script_run.specs.Commands.{line_result}
-use Rattle.script_run.specs.Replies.{Printed, nothing, fault_printed, edit_printed, query_printed}
+use Rattle.script_run.specs.Commands.{IsParsed}
+use Rattle.script_run.specs.Replies.{Printed, nothing, fault_printed, edit_printed, QueryPrints}
 
 -- a command with what it prints: an edit is one step, a query changes nothing
 abbrev pub CommandStep : State → Command → Printed → State → Type 0
 CommandStep old (Apply edit) printed new =
     (reply : Result (Unit {0}) Refusal) × Step old edit reply new × (printed ≡ edit_printed reply)
 CommandStep old (Ask query) printed new =
-    (reply : Reply) × IsReply old query reply × (printed ≡ query_printed reply) × (new ≡ old)
+    (reply : Reply) × IsReply old query reply × QueryPrints reply printed × (new ≡ old)
 
 -- a line that was read, with what it prints
 abbrev pub ReadStep : State → Result (Option Command) LineFault → Printed → State → Type 0
@@ -26,7 +26,8 @@ ReadStep old (Err fault) printed new = (printed ≡ fault_printed fault) × (new
 
 -- a line with what it prints
 abbrev pub LineStep : State → List ℕ → Printed → State → Type 0
-LineStep old line printed new = ReadStep old (line_result line) printed new
+LineStep old line printed new =
+    (read : Result (Option Command) LineFault) × IsParsed line read × ReadStep old read printed new
 
 -- the lines one after another, with what each prints
 abbrev pub LineSteps : State → List (List ℕ) → List Printed → State → Type 0

@@ -1,6 +1,6 @@
 -- The lines of a script and the words of a line.
-use Rattle.std.specs.Prelude.{ℕ, ◌-◌, ◌==◌, Bool, true, ◌||◌, List, [], ◌∷◌, length, take, map, filter, nat_eq, nat_lt, codes, if◌then◌else◌}
-use Rattle.std.specs.List.{onto_first, slice_split, starts_with, ends_with}
+use Rattle.std.specs.Prelude.{ℕ, ◌-◌, ◌==◌, Bool, not, ◌||◌, List, [], ◌∷◌, length, take, drop, map, filter, nat_eq, nat_lt, codes, if◌then◌else◌}
+use Rattle.std.specs.List.{onto_first, slice_split, starts_with, ends_with, prefix_len}
 use Rattle.std.specs.Str.{byte}
 
 -- a line feed
@@ -32,7 +32,23 @@ is_word part = nat_lt 0 (length part)
 abbrev pub words_of : List ℕ → List (List ℕ)
 words_of line = filter is_word (slice_split is_gap line)
 
--- a line with these words gives no answer: there are none, or it is a note
-abbrev pub is_silent : List (List ℕ) → Bool
-is_silent [] = true
-is_silent (word ∷ words) = starts_with nat_eq word (codes "#")
+-- without the blanks and tabs in front
+abbrev pub without_gap : List ℕ → List ℕ
+without_gap line = drop (prefix_len is_gap line) line
+
+-- what follows the first word
+abbrev pub behind_word : List ℕ → List ℕ
+behind_word line = let rest = without_gap line in drop (prefix_len (λ c. not (is_gap c)) rest) rest
+
+-- without one blank or tab in front
+abbrev pub without_one_gap : List ℕ → List ℕ
+without_one_gap [] = []
+without_one_gap (c ∷ cs) = if is_gap c then cs else c ∷ cs
+
+-- what follows the blank or tab behind the first word, further blanks included
+abbrev pub text_behind_word : List ℕ → List ℕ
+text_behind_word line = without_one_gap (behind_word line)
+
+-- a line whose first word is this is a note, and gives no answer
+abbrev pub is_note : List ℕ → Bool
+is_note word = starts_with nat_eq word (codes "#")

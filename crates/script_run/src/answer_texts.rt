@@ -1,23 +1,41 @@
 // The lines that are printed for answers.
-ghost use Rattle.std.specs.Prelude.{◌≡◌, ◌≤◌, [], length};
-ghost use Rattle.script_run.specs.AnswerTexts.{answer_text, info_text, order_text, yes_or_no};
+ghost use Rattle.std.specs.Prelude.{◌≡◌, ◌≤◌, ◌++◌, [], length, codes, IfSome, IfNone};
+ghost use Rattle.script_run.specs.AnswerTexts.{answer_text, info_text, order_text, yes_or_no, code_text};
+ghost use Rattle.script_run.specs.Replies.{IsLong};
 
 use crate::text_buffer::TextBuffer;
 use bench_core::{Answer, Info};
 use num_order::Order;
+use text_block::Code;
 
-/// The line for an answer.
-pub(crate) fn answer_line(answer: Answer) -> TextBuffer
-    ensures { result ≡ answer_text answer }
+/// The line for an answer that is no text and no list, or nothing.
+pub(crate) fn answer_line(answer: &Answer) -> Option<TextBuffer>
+    ensures short { IfSome result (λ line. line ≡ answer_text answer.now) }
+    ensures long { IfNone result (IsLong answer.now) }
 {
     let mut line = TextBuffer::new();
     match answer {
-        Answer::Count(count) => line.push_numbered(b"traces ", count),
-        Answer::Info(info) => push_info(&mut line, info),
-        Answer::Value(value) => line.push_numbered(b"value ", value),
+        Answer::Count(count) => line.push_numbered(b"traces ", *count),
+        Answer::Info(info) => push_info(&mut line, *info),
+        Answer::Value(value) => line.push_numbered(b"value ", *value),
+        Answer::Code(code) => push_code(&mut line, *code),
+        _ => return None,
     }
     line.push(b"\n");
-    line
+    Some(line)
+}
+
+// The code of a block.
+fn push_code(line: &mut TextBuffer, code: Code)
+    requires { line.old ≡ [] }
+    ensures text { line.new ≡ codes "code " ++ code_text code }
+    ensures short { length line.new ≤ 639 }
+{
+    line.push(b"code ");
+    line.push(match code {
+        Code::Ebcdic => b"ebcdic".as_slice(),
+        Code::Ascii => b"ascii",
+    });
 }
 
 // What a file is.

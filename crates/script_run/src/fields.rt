@@ -1,19 +1,22 @@
 // Words that are places, and fields of a header.
-ghost use Rattle.std.specs.Prelude.{◌≡◌};
+ghost use Rattle.std.specs.Prelude.{◌≡◌, IfOk, IfErr};
 ghost use Rattle.script_run.specs.Numbers.{place_of_word, place_in};
-ghost use Rattle.script_run.specs.Commands.{field_of};
+ghost use Rattle.script_run.specs.Commands.{field_of, IsFieldRead};
+ghost use Rattle.script_run.specs.declared.line_fault.LineFault.TheVariants.{OutOfMemory as no_memory};
 
 use crate::cuts::split_once;
+use crate::line_fault::LineFault;
 use crate::numbers::natural;
-use bench_core::Field;
+use bench_core::{Field, Text};
 use field_map::Place;
 use num_order::Kind;
+use std::alloc::Global;
 
 /// The place that a word is: `@`, perhaps an extension and `.`, a byte, `:`, a size, perhaps `u`.
-pub(crate) fn place(word: &[u8]) -> Option<Place>
+pub(crate) fn place(word: &str) -> Option<Place>
     ensures { result ≡ place_of_word word.now }
 {
-    let text = word.strip_prefix(b"@")?;
+    let text = word.as_bytes().strip_prefix(b"@")?;
     match split_once(text, b'.') {
         Some((extension, rest)) => place_from(extension, rest),
         None => place_from(b"0", text),
@@ -39,9 +42,27 @@ fn place_from(extension: &[u8], text: &[u8]) -> Option<Place>
     })
 }
 
-/// The field that a word is: a place.
-pub(crate) fn field(word: &[u8]) -> Option<Field>
-    ensures { result ≡ field_of word.now }
+/// The text of some characters. Takes memory.
+pub(crate) fn text_of(alloc: Global, characters: &str) -> Result<Text, LineFault>
+    ensures ok { IfOk result (λ text. text ≡ characters.now) }
+    ensures err { IfErr result (λ fault. fault ≡ no_memory) }
 {
-    Some(Field::Place(place(word)?))
+    match String::from_str(alloc, characters) {
+        Ok(text) => Ok(Text::new(text)),
+        Err(_) => Err(LineFault::OutOfMemory),
+    }
+}
+
+/// The field that a word is: a place where it begins with `@`, else a name. Refused: S03, or E11 for a name.
+pub(crate) fn field(alloc: Global, word: &str) -> Result<Field, LineFault>
+    ensures { IsFieldRead (field_of word.now) result }
+{
+    if word.as_bytes().starts_with(b"@") {
+        match place(word) {
+            Some(place) => Ok(Field::Place(place)),
+            None => Err(LineFault::Number),
+        }
+    } else {
+        Ok(Field::Name(text_of(alloc, word)?))
+    }
 }

@@ -24,9 +24,10 @@ pub(crate) fn natural(word: &[u8], most: u128) -> Option<u128>
 }
 
 /// The number that a word is: perhaps `-`, and digits; inside the range of an `i128`.
-pub(crate) fn number(word: &[u8]) -> Option<i128>
+pub(crate) fn number(word: &str) -> Option<i128>
     ensures { result ≡ number_of word.now }
 {
+    let word = word.as_bytes();
     match word.strip_prefix(b"-") {
         Some(digits) => Some(negative(natural(digits, 1 << 127)?)),
         None => Some(natural(word, (1 << 127) - 1)? as i128),
@@ -34,7 +35,7 @@ pub(crate) fn number(word: &[u8]) -> Option<i128>
 }
 
 /// The position that a word is: a number from 0 to 4294967295.
-pub(crate) fn position(word: &[u8]) -> Option<u32>
+pub(crate) fn position(word: &str) -> Option<u32>
     ensures { result ≡ position_of word.now }
 {
     let value = number(word)?;

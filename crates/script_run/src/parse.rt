@@ -1,10 +1,10 @@
 // A line of a script into a command.
 ghost use Rattle.std.specs.Prelude.{◌≡◌, ◌≢◌, ◌∷◌, [], length, IfSome, IfNone};
-ghost use Rattle.std.specs.Str.{is_utf8};
-ghost use Rattle.script_run.specs.Commands.{line_result, read_set, read_get, read_count, read_info, read_sample, command_of};
+ghost use Rattle.script_run.specs.Words.{words_of, behind_word};
+ghost use Rattle.script_run.specs.Commands.{command_of, read_set, read_get, read_bin, read_getbin, read_text, read_line, read_code, read_stanzas, read_map, read_unmap, read_fields, read_count, read_info, read_sample, IsRead, IsParsed};
 
 use crate::command::Command;
-use crate::fields::field;
+use crate::fields::{field, place, text_of};
 use crate::line_fault::LineFault;
 use crate::numbers::{number, position};
 use crate::words::Words;
@@ -17,65 +17,143 @@ use std::str;
 ///
 /// Words are separated by blanks and tabs. A line that is not UTF-8 is S04, a first word that is no command S01, too few
 /// or too many words S02, and a word that has to be a number or a place and is none S03; the first of these that holds
-/// is told. Takes memory only where the command holds a text or a list, which none does yet: no line
-/// is E11.
+/// is told. Takes memory only where the command holds a text or a name, and is E11 where that was refused.
 pub fn parse_line(alloc: Global, line: &[u8]) -> Result<Option<Command>, LineFault>
-    ensures { result ≡ line_result line.now }
+    ensures { IsParsed line.now result }
 {
-    // No command holds a text or a list.
-    let _ = alloc;
-    if !is_text(line) {
+    let Ok(text) = str::from_utf8(line) else {
         return Err(LineFault::NotText);
-    }
-    let mut words = Words::new(line);
+    };
+    let mut words = Words::new(text);
     match words.next() {
         None => Ok(None),
-        Some(word) if word.starts_with(b"#") => Ok(None),
-        Some(word) => Ok(Some(command(word, words)?)),
+        Some(word) if word.as_bytes().starts_with(b"#") => Ok(None),
+        Some(word) => Ok(Some(command(alloc, word, words)?)),
     }
 }
 
-fn is_text(line: &[u8]) -> bool
-    ensures { result ≡ is_utf8 line.now }
-{
-    str::from_utf8(line).is_ok()
-}
-
-// The command of a word and the words behind it.
-fn command(word: &[u8], words: Words) -> Result<Command, LineFault>
-    ensures { result ≡ command_of (word.now ∷ words.entry) }
+// The command of a word and of what stands behind it.
+fn command(alloc: Global, word: &str, words: Words) -> Result<Command, LineFault>
+    ensures { IsRead (command_of word.now words.entry) result }
 {
     match word {
-        b"set" => set(words),
-        b"get" => get(words),
-        b"count" => count(words),
-        b"info" => info(words),
-        b"sample" => sample(words),
+        "set" => set(alloc, words),
+        "get" => get(alloc, words),
+        "bin" => bin(alloc, words),
+        "getbin" => getbin(alloc, words),
+        "text" => text(alloc, words),
+        "line" => line(words),
+        "code" => code(words),
+        "stanzas" => stanzas(words),
+        "map" => map(alloc, words),
+        "unmap" => unmap(alloc, words),
+        "fields" => fields(words),
+        "count" => count(words),
+        "info" => info(words),
+        "sample" => sample(words),
         _ => Err(LineFault::Unknown),
     }
 }
 
-fn set(words: Words) -> Result<Command, LineFault>
-    ensures { result ≡ read_set words.entry }
+fn set(alloc: Global, words: Words) -> Result<Command, LineFault>
+    ensures { IsRead (read_set (words_of words.entry)) result }
 {
     let (p, at, value) = three(words).ok_or(LineFault::Words)?;
     let p = position(p).ok_or(LineFault::Number)?;
-    let at = field(at).ok_or(LineFault::Number)?;
     let value = number(value).ok_or(LineFault::Number)?;
+    let at = field(alloc, at)?;
     Ok(Command::Apply(Edit::Set(p, at, value)))
 }
 
-fn get(words: Words) -> Result<Command, LineFault>
-    ensures { result ≡ read_get words.entry }
+fn get(alloc: Global, words: Words) -> Result<Command, LineFault>
+    ensures { IsRead (read_get (words_of words.entry)) result }
 {
     let (p, at) = two(words).ok_or(LineFault::Words)?;
     let p = position(p).ok_or(LineFault::Number)?;
-    let at = field(at).ok_or(LineFault::Number)?;
+    let at = field(alloc, at)?;
     Ok(Command::Ask(Query::Get(p, at)))
 }
 
+fn bin(alloc: Global, words: Words) -> Result<Command, LineFault>
+    ensures { IsRead (read_bin (words_of words.entry)) result }
+{
+    let (at, value) = two(words).ok_or(LineFault::Words)?;
+    let value = number(value).ok_or(LineFault::Number)?;
+    let at = field(alloc, at)?;
+    Ok(Command::Apply(Edit::SetBin(at, value)))
+}
+
+fn getbin(alloc: Global, words: Words) -> Result<Command, LineFault>
+    ensures { IsRead (read_getbin (words_of words.entry)) result }
+{
+    let at = one(words).ok_or(LineFault::Words)?;
+    let at = field(alloc, at)?;
+    Ok(Command::Ask(Query::GetBin(at)))
+}
+
+fn text(alloc: Global, mut words: Words) -> Result<Command, LineFault>
+    ensures { IsRead (read_text words.entry (words_of words.entry)) result }
+{
+    let q = words.next().ok_or(LineFault::Words)?;
+    let q = position(q).ok_or(LineFault::Number)?;
+    let text = text_of(alloc, words.text_behind())?;
+    Ok(Command::Apply(Edit::SetText(q, text)))
+}
+
+fn line(words: Words) -> Result<Command, LineFault>
+    ensures { result ≡ read_line (words_of words.entry) }
+{
+    let (b, q) = two(words).ok_or(LineFault::Words)?;
+    let b = position(b).ok_or(LineFault::Number)?;
+    let q = position(q).ok_or(LineFault::Number)?;
+    Ok(Command::Ask(Query::Line(b, q)))
+}
+
+fn code(words: Words) -> Result<Command, LineFault>
+    ensures { result ≡ read_code (words_of words.entry) }
+{
+    let b = one(words).ok_or(LineFault::Words)?;
+    let b = position(b).ok_or(LineFault::Number)?;
+    Ok(Command::Ask(Query::Code(b)))
+}
+
+fn stanzas(words: Words) -> Result<Command, LineFault>
+    ensures { result ≡ read_stanzas (words_of words.entry) }
+{
+    match none(words) {
+        Some(()) => Ok(Command::Ask(Query::Stanzas)),
+        None => Err(LineFault::Words),
+    }
+}
+
+fn map(alloc: Global, words: Words) -> Result<Command, LineFault>
+    ensures { IsRead (read_map (words_of words.entry)) result }
+{
+    let (name, at) = two(words).ok_or(LineFault::Words)?;
+    let at = place(at).ok_or(LineFault::Number)?;
+    let name = text_of(alloc, name)?;
+    Ok(Command::Apply(Edit::Map(name, at)))
+}
+
+fn unmap(alloc: Global, words: Words) -> Result<Command, LineFault>
+    ensures { IsRead (read_unmap (words_of words.entry)) result }
+{
+    let name = one(words).ok_or(LineFault::Words)?;
+    let name = text_of(alloc, name)?;
+    Ok(Command::Apply(Edit::Unmap(name)))
+}
+
+fn fields(words: Words) -> Result<Command, LineFault>
+    ensures { result ≡ read_fields (words_of words.entry) }
+{
+    match none(words) {
+        Some(()) => Ok(Command::Ask(Query::Fields)),
+        None => Err(LineFault::Words),
+    }
+}
+
 fn count(words: Words) -> Result<Command, LineFault>
-    ensures { result ≡ read_count words.entry }
+    ensures { result ≡ read_count (words_of words.entry) }
 {
     match none(words) {
         Some(()) => Ok(Command::Ask(Query::Count)),
@@ -84,7 +162,7 @@ fn count(words: Words) -> Result<Command, LineFault>
 }
 
 fn info(words: Words) -> Result<Command, LineFault>
-    ensures { result ≡ read_info words.entry }
+    ensures { result ≡ read_info (words_of words.entry) }
 {
     match none(words) {
         Some(()) => Ok(Command::Ask(Query::Info)),
@@ -93,7 +171,7 @@ fn info(words: Words) -> Result<Command, LineFault>
 }
 
 fn sample(words: Words) -> Result<Command, LineFault>
-    ensures { result ≡ read_sample words.entry }
+    ensures { result ≡ read_sample (words_of words.entry) }
 {
     let (p, k) = two(words).ok_or(LineFault::Words)?;
     let p = position(p).ok_or(LineFault::Number)?;
@@ -103,8 +181,8 @@ fn sample(words: Words) -> Result<Command, LineFault>
 
 // Nothing, where there are no words.
 fn none(mut words: Words) -> Option<()>
-    ensures none { IfNone result (words.entry ≢ []) }
-    ensures some { IfSome result (λ _. words.entry ≡ []) }
+    ensures none { IfNone result (words_of words.entry ≢ []) }
+    ensures some { IfSome result (λ _. words_of words.entry ≡ []) }
 {
     match words.next() {
         Some(_) => None,
@@ -112,10 +190,22 @@ fn none(mut words: Words) -> Option<()>
     }
 }
 
+// The word, where there is one alone.
+fn one(mut words: Words) -> Option<&str>
+    ensures none { IfNone result (length (words_of words.entry) ≢ 1) }
+    ensures some { IfSome result (λ word. words_of words.entry ≡ word.now ∷ []) }
+{
+    let one = words.next()?;
+    match words.next() {
+        Some(_) => None,
+        None => Some(one),
+    }
+}
+
 // The two words, where they are two.
-fn two(mut words: Words) -> Option<(&[u8], &[u8])>
-    ensures none { IfNone result (length words.entry ≢ 2) }
-    ensures some { IfSome result (λ t. words.entry ≡ t.0.now ∷ t.1.now ∷ []) }
+fn two(mut words: Words) -> Option<(&str, &str)>
+    ensures none { IfNone result (length (words_of words.entry) ≢ 2) }
+    ensures some { IfSome result (λ t. words_of words.entry ≡ t.0.now ∷ t.1.now ∷ []) }
 {
     let two = (words.next()?, words.next()?);
     match words.next() {
@@ -125,9 +215,9 @@ fn two(mut words: Words) -> Option<(&[u8], &[u8])>
 }
 
 // The three words, where they are three.
-fn three(mut words: Words) -> Option<(&[u8], &[u8], &[u8])>
-    ensures none { IfNone result (length words.entry ≢ 3) }
-    ensures some { IfSome result (λ t. words.entry ≡ t.0.now ∷ t.1.now ∷ t.2.now ∷ []) }
+fn three(mut words: Words) -> Option<(&str, &str, &str)>
+    ensures none { IfNone result (length (words_of words.entry) ≢ 3) }
+    ensures some { IfSome result (λ t. words_of words.entry ≡ t.0.now ∷ t.1.now ∷ t.2.now ∷ []) }
 {
     let three = (words.next()?, words.next()?, words.next()?);
     match words.next() {

@@ -1,12 +1,14 @@
 // The lines that are printed for refusals.
 ghost use Rattle.std.specs.Prelude.{◌≡◌, ◌≤◌, ◌+◌, ◌++◌, length};
-ghost use Rattle.script_run.specs.RefusalTexts.{load_fault_text, load_refused, script_fault_text, script_refused, line_fault_text, refusal_text, ask_fault_text, no_trace, no_sample, refused};
+ghost use Rattle.script_run.specs.RefusalTexts.{load_fault_text, load_refused, script_fault_text, script_refused, line_fault_text, refusal_text, ask_fault_text, no_trace, no_sample, text_fault_text, map_fault_text, refused};
 
 use crate::line_fault::LineFault;
 use crate::script_fault::ScriptFault;
 use crate::text_buffer::TextBuffer;
 use bench_core::{AskFault, Refusal};
+use field_map::MapFault;
 use frame_cut::LoadFault;
+use text_block::TextFault;
 
 /// The line for a refused file.
 pub(crate) fn load_fault_line(fault: LoadFault) -> TextBuffer
@@ -59,9 +61,12 @@ pub(crate) fn refusal_line(refusal: Refusal) -> TextBuffer
     line.push(b"refused ");
     match refusal {
         Refusal::NoTrace(p, count) => push_no_trace(&mut line, p, count),
+        Refusal::NoField => line.push(b"E02 no field"),
         Refusal::NoPlace => line.push(b"E03 no place"),
         Refusal::DoesNotFit => line.push(b"E04 does not fit"),
         Refusal::Frame => line.push(b"E06 frame"),
+        Refusal::Text(fault) => push_text_fault(&mut line, fault),
+        Refusal::Map(fault) => line.push(map_fault(fault)),
         Refusal::OutOfMemory => line.push(b"E11 out of memory"),
     }
     line.push(b"\n");
@@ -76,12 +81,42 @@ pub(crate) fn ask_fault_line(fault: AskFault) -> TextBuffer
     line.push(b"refused ");
     match fault {
         AskFault::NoTrace(p, count) => push_no_trace(&mut line, p, count),
+        AskFault::NoField => line.push(b"E02 no field"),
         AskFault::NoPlace => line.push(b"E03 no place"),
         AskFault::NoSample(k, number) => push_no_sample(&mut line, k, number),
         AskFault::OutOfMemory => line.push(b"E11 out of memory"),
     }
     line.push(b"\n");
     line
+}
+
+// Why a text is no line.
+fn push_text_fault(line: &mut TextBuffer, fault: TextFault)
+    requires { length line.old ≤ 8 }
+    ensures text { line.new ≡ line.old ++ text_fault_text fault }
+    ensures short { length line.new ≤ 127 }
+{
+    match fault {
+        TextFault::TooLong => line.push(b"E07 T01 too long"),
+        TextFault::NoCode(column) => line.push_numbered(b"E07 T02 no code for column ", column),
+    }
+}
+
+// Why a name is not bound or not unbound.
+fn map_fault(fault: MapFault) -> &'static [u8]
+    ensures text { result.now ≡ map_fault_text fault }
+    ensures short { length result.now ≤ 100 }
+{
+    match fault {
+        MapFault::BadName => b"E08 M01 bad name",
+        MapFault::OutsideHeader => b"E08 M02 outside header",
+        MapFault::BadKind => b"E08 M03 bad kind",
+        MapFault::Full => b"E08 M04 full",
+        MapFault::Geometry => b"E08 M05 geometry",
+        MapFault::Unknown => b"E08 M06 unknown",
+        MapFault::Standard => b"E08 M07 standard",
+        MapFault::OutOfMemory => b"E11 out of memory",
+    }
 }
 
 // No trace p among so many.

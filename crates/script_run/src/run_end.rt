@@ -13,8 +13,8 @@ pub enum RunEnd {
     Load(LoadFault),
     /// The script was not read. No line was run.
     Script(ScriptFault),
-    /// The writer of the answers failed when it had taken the first `written` bytes of what is printed. Nothing was
-    /// saved.
+    /// The writer of the answers failed when it had taken the first `written` bytes of what is printed, or `u64::MAX` and
+    /// more. Nothing was saved.
     Answers { written: u64 },
     /// All lines were run, and the save failed.
     Save(SaveFault),

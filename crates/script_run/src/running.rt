@@ -1,7 +1,8 @@
 // Runs the lines of a script over a volume.
-ghost use Rattle.std.specs.Prelude.{◌≡◌, ◌≤◌, length};
-ghost use Rattle.script_run.specs.Devices.{device};
+ghost use Rattle.std.specs.Prelude.{◌≡◌, ◌≤◌, length, MatchResult};
+ghost use Rattle.script_run.specs.Devices.{device, Takes, TakesPart};
 ghost use Rattle.script_run.specs.LineRuns.{RunsLines};
+ghost use Rattle.script_run.specs.Replies.{Printed};
 ghost use Rattle.script_run.specs.Runs.{LineStep, CommandStep};
 
 use crate::command::Command;
@@ -9,7 +10,7 @@ use crate::lines::Lines;
 use crate::lines_end::LinesEnd;
 use crate::parse::parse_line;
 use crate::reply::{Reply, edit_reply, fault_reply, query_reply, silent};
-use crate::telling::write_all;
+use crate::telling::{WriteFault, write_all};
 use bench_core::Bench;
 use device_io::Sink;
 use std::alloc::Global;
@@ -32,41 +33,72 @@ pub(crate) fn run_lines<A: Write>(
     let mut refused = 0u64;
     let mut written = 0u64;
     'lines: while let Some(line) = lines.next() {
-        let reply = run_line(alloc, bench, line);
         number += 1;
-        let text = reply.text.as_slice();
-        if let Err(fault) = write_all(answers, text) {
-            return LinesEnd::Answers {
-                written: written + fault.written,
-            };
-        }
-        written += text.len() as u64;
-        if reply.is_refusal {
-            if stop {
-                return LinesEnd::Stopped { line: number };
+        match answer_line(alloc, bench, line, answers) {
+            Ok(told) => {
+                written = written.saturating_add(told.length);
+                if told.is_refusal {
+                    if stop {
+                        return LinesEnd::Stopped { line: number };
+                    }
+                    refused += 1;
+                }
             }
-            refused += 1;
+            Err(fault) => {
+                return LinesEnd::Answers {
+                    written: written.saturating_add(fault.written),
+                };
+            }
         }
     }
     LinesEnd::Whole { refused }
 }
 
+// What was written for a line.
+#[derive(Clone, Copy)]
+struct Told {
+    length: u64,
+    is_refusal: bool,
+}
+
+// Runs one line and writes its reply.
+fn answer_line<A: Write>(
+    alloc: Global,
+    bench: &mut Bench,
+    line: &[u8],
+    answers: &mut Sink<A>,
+) -> Result<Told, WriteFault>
+    ensures { let old = device (A.contents answers.old.0) answers.old.1 in
+        let new = device (A.contents answers.new.0) answers.new.1 in
+        (printed : Printed) × LineStep bench.old line.now printed bench.new
+        × MatchResult result (λ told. Takes old new printed.text × (told.length ≡ length printed.text) × (told.is_refusal ≡ printed.is_refusal))
+        (λ fault. TakesPart old new printed.text fault.written) }
+{
+    let reply = run_line(alloc, bench, line);
+    let text = reply.text();
+    write_all(answers, text)?;
+    Ok(Told {
+        length: text.len() as u64,
+        is_refusal: reply.is_refusal(),
+    })
+}
+
 // Runs one line.
 fn run_line(alloc: Global, bench: &mut Bench, line: &[u8]) -> Reply
-    ensures { LineStep bench.old line.now (record { text = result.text; is_refusal = result.is_refusal }) bench.new }
+    ensures { LineStep bench.old line.now result bench.new }
 {
     match parse_line(alloc, line) {
-        Ok(None) => silent(),
+        Ok(None) => silent(alloc),
         Ok(Some(command)) => run_command(alloc, bench, &command),
-        Err(fault) => fault_reply(fault),
+        Err(fault) => fault_reply(alloc, fault),
     }
 }
 
 fn run_command(alloc: Global, bench: &mut Bench, command: &Command) -> Reply
-    ensures { CommandStep bench.old command.now (record { text = result.text; is_refusal = result.is_refusal }) bench.new }
+    ensures { CommandStep bench.old command.now result bench.new }
 {
     match command {
-        Command::Apply(edit) => edit_reply(bench.apply(alloc, edit)),
-        Command::Ask(query) => query_reply(bench.ask(alloc, query)),
+        Command::Apply(edit) => edit_reply(alloc, bench.apply(alloc, edit)),
+        Command::Ask(query) => query_reply(alloc, bench.ask(alloc, query)),
     }
 }

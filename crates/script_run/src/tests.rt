@@ -128,13 +128,15 @@ fn tells_what_a_file_is(rt: HostRuntime) -> Result<(), Fail> {
 
 #[test]
 fn refuses_lines(rt: HostRuntime) {
-    let cases: [(&[u8], LineFault); 12] = [
+    let cases: [(&[u8], LineFault); 14] = [
         (b"sett 1 @1:4 7", LineFault::Unknown),
         (b"get\r 1 @1:4", LineFault::Unknown),
         (b"set 1 @1:4", LineFault::Words),
         (b"get 1 @1:4 7", LineFault::Words),
         (b"set a @1:4 b", LineFault::Number),
-        (b"set 1 inline 7", LineFault::Number),
+        (b"set 1 inline x", LineFault::Number),
+        (b"map mine 233:8", LineFault::Number),
+        (b"unmap", LineFault::Words),
         (b"set 1 @1:4 +7", LineFault::Number),
         (b"get 4294967296 @1:4", LineFault::Number),
         (b"get 1 @65536:4", LineFault::Number),
@@ -170,9 +172,9 @@ fn counts_and_stops(rt: HostRuntime) -> Result<(), Fail> {
     let script =
         b"# note\n\nget 3 @5:4\nget 4 @5:4\nset 1 @189:2 65536\nset 1 @240:2 0\nsett\nset 1\nget 1 x\n\xc3\nset 1 @37:4 -1";
     let printed =
-        b"value 3\nrefused E01 no trace 4 of 3\nrefused E04 does not fit\nrefused E03 no place\nrefused S01 unknown word\nrefused S02 words\nrefused S03 number\nrefused S04 not text\nok\n";
+        b"value 3\nrefused E01 no trace 4 of 3\nrefused E04 does not fit\nrefused E03 no place\nrefused S01 unknown word\nrefused S02 words\nvalue 0\nrefused S04 not text\nok\n";
     let whole = run_script(rt.alloc(), file.as_slice(), script, options(false, false)?)?;
-    assert_eq!(rt; whole.end, RunEnd::Done { refused: 7 });
+    assert_eq!(rt; whole.end, RunEnd::Done { refused: 6 });
     assert_eq!(rt; whole.answers.as_slice(), printed.as_slice());
     assert_eq!(rt; whole.saved.len(), 0);
     let stopped = run_script(rt.alloc(), file.as_slice(), script, options(true, true)?)?;
@@ -323,5 +325,62 @@ fn tells_failed_writes(rt: HostRuntime) -> Result<(), Fail> {
         assert_eq!(rt; printed.get(..held.len()), Some(held));
         assert_eq!(rt; saved[16] == 0, out_limit != 100);
     }
+    Ok(())
+}
+
+// What a script prints over a file, without a stop and without a save.
+fn prints(alloc: Global, file: &[u8], script: &[u8], refused: u64, printed: &[u8]) -> Result<bool, Fail> {
+    let told = run_script(alloc, file, script, options(false, false)?)?;
+    Ok(told.end == RunEnd::Done { refused } && told.answers.as_slice() == printed)
+}
+
+#[test]
+fn binds_names_and_lists_them(rt: HostRuntime) -> Result<(), Fail> {
+    let file = sample_file(rt.alloc())?;
+    let script =
+        b"map bad-name @1:4\nmap mine @239:4\nmap mine @1:5\nmap inline @189:4u\nmap inline @1.5:4\nmap delay @5:4\nunmap inline\nunmap mine\nmap mine @233:8u\nget 1 mine\nfields\nunmap mine\nget 1 mine\n";
+    let printed =
+        b"refused E08 M01 bad name\nrefused E08 M02 outside header\nrefused E08 M03 bad kind\nrefused E08 M03 bad kind\nrefused E08 M02 outside header\nrefused E08 M07 standard\nrefused E08 M05 geometry\nrefused E08 M06 unknown\nok\nvalue 0\nfields 7\nfield inline @189:4\nfield crossline @193:4\nfield offset @37:4\nfield x @181:4\nfield y @185:4\nfield scalar @71:2\nfield mine @233:8u\nok\nrefused E02 no field\n";
+    assert!(rt; prints(rt.alloc(), file.as_slice(), script, 9, printed)?);
+    Ok(())
+}
+
+#[test]
+fn sets_by_names(rt: HostRuntime) -> Result<(), Fail> {
+    let file = sample_file(rt.alloc())?;
+    let script =
+        b"set 1 scalar -32768\nset 1 x -2147483648\nset 1 x 2147483648\nmap scalar @189:2\nset 1 inline 327680\nget 1 scalar\ngetbin interval\nbin @3225:2 2\nbin samples 3\nbin inline 3\nbin job 77\ngetbin job\ngetbin @3201:4\n";
+    let printed =
+        b"ok\nok\nrefused E04 does not fit\nok\nok\nvalue 5\nvalue 4000\nrefused E06 frame\nrefused E06 frame\nrefused E02 no field\nok\nvalue 77\nvalue 77\n";
+    assert!(rt; prints(rt.alloc(), file.as_slice(), script, 4, printed)?);
+    Ok(())
+}
+
+#[test]
+fn writes_and_shows_text(rt: HostRuntime) -> Result<(), Fail> {
+    let file = sample_file(rt.alloc())?;
+    let script =
+        b"code 0\ntext 1 C 1 LINE[\ntext 1 C2345678901234567890123456789012345678901234567890123456789012345678901234567890\ntext 1 C 1 LINE  \nline 0 1\ntext 41 C\ntext 1\nline 0 1\nline 1 1\ncode 1\nstanzas\n";
+    let printed =
+        b"code ebcdic\nrefused E07 T02 no code for column 9\nok\nok\nline |C 1 LINE|\nrefused E03 no place\nok\nline ||\nrefused E03 no place\nrefused E03 no place\nstanzas 0\n";
+    assert!(rt; prints(rt.alloc(), file.as_slice(), script, 4, printed)?);
+    Ok(())
+}
+
+// Two extended textual headers, of which the second ends them, and no trace.
+#[test]
+fn lists_stanzas(rt: HostRuntime) -> Result<(), Fail> {
+    let mut file = vec![in rt.alloc(); b' '; 10000]?;
+    for byte in file.iter_mut().skip(3200).take(400) {
+        *byte = 0;
+    }
+    put(file.as_mut_slice(), 3221, &[0, 2, 0, 0, 0, 3]);
+    put(file.as_mut_slice(), 3501, &[1, 0, 0, 1, 0xff, 0xff]);
+    put(file.as_mut_slice(), 3601, b"((Acme: Note))");
+    put(file.as_mut_slice(), 6801, b"((Seg:  ENDtext))");
+    let script = b"count\nstanzas\nline 1 1\nline 2 1\nline 3 1\n";
+    let printed =
+        b"traces 0\nstanzas 2\nstanza 1 Acme: Note\nstanza 2 Seg:  ENDtext\nline |((Acme: Note))|\nline |((Seg:  ENDtext))|\nrefused E03 no place\n";
+    assert!(rt; prints(rt.alloc(), file.as_slice(), script, 1, printed)?);
     Ok(())
 }

@@ -1,43 +1,55 @@
 // The words of a line.
 ghost use Rattle.std.specs.Prelude.{◌≡◌, ◌∷◌, [], not, IfSome, IfNone, position};
 ghost use Rattle.std.specs.List.{position_or_len};
-ghost use Rattle.script_run.specs.Words.{is_gap};
+ghost use Rattle.script_run.specs.Words.{is_gap, words_of, behind_word, without_one_gap};
 
 use std::marker::Model;
 
-/// The words of a line that are still to be read, seen as their list.
+/// What is still to be read of a line, seen as its characters.
 #[derive(Drop)]
 pub(crate) struct Words<'a> {
-    rest: &'a [u8],
+    rest: &'a str,
 }
 
 impl<'a> Model for Words<'a> {
     ghost use Rattle.std.specs.Prelude.{ℕ, List};
-    ghost use Rattle.script_run.specs.Words.{words_of};
 
-    ghost Value = { List (List ℕ) };
+    ghost Value = { List ℕ };
 
-    ghost view = { λ w. words_of w.rest.now };
+    ghost view = { λ w. w.rest.now };
 }
 
 impl<'a> Words<'a> {
-    ghost use Rattle.script_run.specs.Words.{words_of};
-
-    pub(crate) fn new(line: &'a [u8]) -> Words<'a>
-        ensures { result ≡ words_of line.now }
+    pub(crate) fn new(line: &'a str) -> Words<'a>
+        ensures { result ≡ line.now }
     {
         Words { rest: line }
     }
 
     /// The next word, which is read by that.
-    pub(crate) fn next(&mut self) -> Option<&'a [u8]>
-        ensures none { IfNone result (self.old ≡ []) }
-        ensures some { IfSome result (λ word. self.old ≡ word.now ∷ self.new) }
+    pub(crate) fn next(&mut self) -> Option<&'a str>
+        ensures none { IfNone result (words_of self.old ≡ []) }
+        ensures some { IfSome result (λ word. words_of self.old ≡ word.now ∷ words_of self.new) }
+        ensures rest { IfSome result (λ _. self.new ≡ behind_word self.old) }
     {
-        let (_, text) = self.rest.split_at(first_character(self.rest)?);
-        let (word, rest) = text.split_at(word_length(text));
+        let first = first_character(self.rest.as_bytes())?;
+        let (_, text) = self.rest.split_at(first);
+        let (word, rest) = text.split_at(word_length(text.as_bytes()));
         self.rest = rest;
         Some(word)
+    }
+
+    /// What stands behind the one blank or tab that comes first.
+    pub(crate) fn text_behind(&self) -> &'a str
+        ensures { result.now ≡ without_one_gap self.now }
+    {
+        match self.rest.as_bytes().first() {
+            Some(byte) if is_gap_byte(*byte) => {
+                let (_, text) = self.rest.split_at(1);
+                text
+            }
+            _ => self.rest,
+        }
     }
 }
 

@@ -1,4 +1,4 @@
-use Rattle.std.proofs.Common.{◌≡◌, ◌+◌, ◌≤◌, ◌∙◌, ℕ, Option, Some, List, ap, arith, length, take}
+use Rattle.std.proofs.Common.{◌≡◌, ◌+◌, ◌≤◌, ◌∙◌, ℕ, Option, Some, ap, arith, length, take}
 use Rattle.std.specs.Prelude.{nat_eq, not}
 use Rattle.std.specs.Option.{option_eq}
 use Rattle.frame_cut.specs.Frames.{front_length, trace_length}

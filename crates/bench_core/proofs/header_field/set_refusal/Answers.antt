@@ -1,8 +1,7 @@
-use Rattle.std.proofs.Common.{◌≡◌, ◌⊎◌, ◌+◌, ◌*◌, ◌-◌, ◌≤◌, ◌∙◌, sym, ap, subst, length, rules, ℕ, ℤ, List, true, false, Some}
+use Rattle.std.proofs.Common.{◌≡◌, ◌∙◌, sym, ap, length, rules, ℕ, List, true, false, Some}
 use Rattle.std.proofs.lemmas.Int.{to_z-of_z}
 use Rattle.std.specs.Int.{w128}
 use mir.Val.{SFits, to_z, of_z}
-use Rattle.frame_cut.specs.Frames.{front_length}
 use Rattle.bench_core.specs.Refused.{set_refusal}
 use Rattle.bench_core.proofs.Places.{one_header}
 use Rattle.num_order.proofs.InRange.{in_range, length-number}

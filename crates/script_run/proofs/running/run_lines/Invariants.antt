@@ -1,4 +1,4 @@
-use Rattle.std.proofs.Common.{◌≤◌, ◌+◌, ◌*◌, length}
+use Rattle.std.proofs.Common.{◌≤◌, ◌+◌, length}
 use Rattle.script_run.specs.Devices.{device}
 use Rattle.script_run.specs.Words.{script_lines}
 use Rattle.script_run.proofs.RunLemmas.{SoFar}
@@ -9,7 +9,6 @@ invariant-lines g l =
     SoFar l.initial.bench (script_lines l.script) l.lines l.stop l.number l.refused l.written
     (device (g.A.Write.contents l.initial.answers.0) l.initial.answers.1) (device (g.A.Write.contents l.answers.0) l.answers.1) l.bench
     × (l.number + length l.lines ≤ 16777216)
-    × (l.written ≤ 640 * l.number)
     × (l.refused ≤ l.number)
 
 abbrev pub decreases-lines : goal.decreases-lines

@@ -1,7 +1,7 @@
 use Rattle.std.proofs.Common.{◌∙◌, ap, rules, Some}
 use Rattle.std.proofs.lemmas.Int.{to_z-of_z}
 use Rattle.std.specs.Int.{w128}
-use mir.Val.{SFits, to_z, of_z}
+use mir.Val.{SFits}
 use Rattle.bench_core.specs.Refused.{set_refusal}
 use Rattle.bench_core.specs.State.{State}
 use Rattle.bench_core.proofs.Sets.{refused_by}

@@ -1,0 +1,33 @@
+-- An edit that is not refused leaves a file that is cut.
+use Rattle.std.proofs.Common.{◌≡◌, Option, Some, None, refl, sym, ◌∙◌}
+use Rattle.field_map.specs.declared.place.Place.{Place}
+use Rattle.frame_cut.specs.Cuts.{IsCut}
+use Rattle.frame_cut.specs.Volume.{Volume}
+use Rattle.frame_cut.specs.Traces.{trace_at, with_trace}
+use Rattle.bench_core.specs.declared.edit.Edit.TheVariants.{Set, SetBin, SetText, Map, Unmap}
+use Rattle.bench_core.specs.EditLaws.{StaysCut}
+use Rattle.bench_core.specs.Places.{place_in_trace, place_in_binary}
+use Rattle.bench_core.specs.Refused.{with_value}
+use Rattle.bench_core.specs.After.{bytes_after}
+use Rattle.bench_core.proofs.Sets.{accepted, is_after}
+use Rattle.bench_core.proofs.HeaderEdits.{same_refused, same_after, no_place, bin_accepted, with_binary, bin_is_after, text_accepted, with_text, text_is_after, no_bin_place}
+
+pub stays_cut : StaysCut
+stays_cut s (Set p f x) cut none = by (place_in_trace s.fields f) refl
+  where
+    by : (o : Option Place) → place_in_trace s.fields f ≡ o → (v : Volume) × IsCut (bytes_after s.volume s.fields (Set p f x)) s.reading s.limits v × (v.head ≡ s.volume.head)
+    by None e = absurd (no_place s p f x e none)
+    by (Some place) e =
+        let v : Volume = with_trace s.volume p (with_value s.volume.head (trace_at s.volume p) place x) in
+        let a = is_after s p place x cut (accepted s p place x (sym (same_refused s p f place x e) ∙ none)) in
+        (v, (same_after s p f place x (record s { volume = v }) e a).volume, refl)
+stays_cut s (SetBin f x) cut none = by (place_in_binary f) refl
+  where
+    by : (o : Option Place) → place_in_binary f ≡ o → (v : Volume) × IsCut (bytes_after s.volume s.fields (SetBin f x)) s.reading s.limits v × (v.head ≡ s.volume.head)
+    by None e = absurd (no_bin_place s f x e none)
+    by (Some place) e =
+        let v : Volume = with_binary s.volume place x in
+        (v, (bin_is_after s f place x e cut (bin_accepted s f place x e none)).volume, refl)
+stays_cut s (SetText q text) cut none = (with_text s.volume q text, (text_is_after s q text cut (text_accepted s q text none)).volume, refl)
+stays_cut s (Map name place) cut none = (s.volume, cut, refl)
+stays_cut s (Unmap name) cut none = (s.volume, cut, refl)

@@ -1,0 +1,168 @@
+ghost use Rattle.std.specs.Prelude.{◌≡◌, ◌⊎◌, Some, None, IfOk, IfErr, OnOk, OnErr, MatchResult};
+ghost use Rattle.field_map.specs.Pairs.{bound, unbound, place_of, is_bound};
+ghost use Rattle.field_map.specs.Binding.{geometry_at_load, bind_fault, unbind_fault, further_names, is_full};
+ghost use Rattle.field_map.specs.declared.map_fault.MapFault.TheVariants.{OutOfMemory as no_memory};
+
+use crate::entries::Entries;
+use crate::map_fault::MapFault;
+use crate::names::{signed_at, standard};
+use crate::out_of_memory::OutOfMemory;
+use crate::place::Place;
+use crate::rules::{is_bad_kind, is_geometry, is_name, is_outside};
+use indexmap::IndexMap;
+use std::alloc::Global;
+use std::marker::Model;
+
+/// The names that are bound to places in trace headers, in the order of their first binding: the six geometry names
+/// `inline`, `crossline`, `offset`, `x`, `y` and `scalar`, which are always bound, and up to 64 further ones.
+#[derive(Drop)]
+pub struct FieldMap {
+    extensions: u8,
+    map: IndexMap<String, Place>,
+}
+
+impl Model for FieldMap {
+    ghost use Rattle.field_map.specs.Maps.{NameMap};
+
+    ghost Value = { NameMap };
+
+    ghost use Rattle.field_map.specs.Held.{map_of};
+
+    ghost view = { map_of };
+}
+
+impl FieldMap {
+    /// The map of a file that was just loaded, whose traces have at most so many header extensions: the six geometry
+    /// names at their standard places. Takes memory, and is refused for want of it alone.
+    pub fn standard(alloc: Global, extensions: u8) -> Result<FieldMap, OutOfMemory>
+        ensures extensions { IfOk result (λ m. m.extensions ≡ extensions) }
+        ensures pairs { IfOk result (λ m. m.pairs ≡ geometry_at_load) }
+    {
+        let mut fields = FieldMap {
+            extensions,
+            map: IndexMap::new(alloc),
+        };
+        fields.put(alloc, "inline", signed_at(189, 4))?;
+        fields.put(alloc, "crossline", signed_at(193, 4))?;
+        fields.put(alloc, "offset", signed_at(37, 4))?;
+        fields.put(alloc, "x", signed_at(181, 4))?;
+        fields.put(alloc, "y", signed_at(185, 4))?;
+        fields.put(alloc, "scalar", signed_at(71, 2))?;
+        Ok(fields)
+    }
+
+    // Binds the name, whatever it is.
+    fn put(&mut self, alloc: Global, name: &str, place: Place) -> Result<(), OutOfMemory>
+        ensures extensions { self.new.extensions ≡ self.old.extensions }
+        ensures ok { OnOk result (self.new.pairs ≡ bound self.old.pairs name.now place) }
+        ensures err { OnErr result (self.new ≡ self.old) }
+    {
+        let key = String::from_str(alloc, name)?;
+        self.map.insert(key, place)?;
+        Ok(())
+    }
+
+    /// The place of a bound name. Takes no memory.
+    pub fn place(&self, name: &str) -> Option<Place>
+        ensures { result ≡ place_of self.now.pairs name.now }
+    {
+        self.map.get(name).copied()
+    }
+
+    /// The bound names with their places, in the order of their first binding. Takes no memory.
+    pub fn entries(&self) -> Entries<'_>
+        ensures { result ≡ self.now.pairs }
+    {
+        Entries::new(self.map.iter())
+    }
+
+    // Whether the name is bound.
+    fn is_bound(&self, name: &str) -> bool
+        ensures { result ≡ is_bound self.now.pairs name.now }
+    {
+        self.map.get(name).is_some()
+    }
+
+    /// Binds the name to the place: a bound name gets its new place where it stands, and a new one goes last. Takes
+    /// memory. Refused, and nothing is changed: M01 for a name that is none, M02 where the place goes past its header or
+    /// stands in an extension that the name may not stand in, M03 for a kind that no number or no geometry name has,
+    /// M04 for a new name where 64 further names are bound, M07 for a standard name; then where a growth was refused.
+    pub fn bind(&mut self, alloc: Global, name: &str, place: Place) -> Result<(), MapFault>
+        ensures ok { OnOk result ((bind_fault self.old.extensions self.old.pairs name.now place ≡ None)
+            × (self.new.pairs ≡ bound self.old.pairs name.now place)) }
+        ensures extensions { self.new.extensions ≡ self.old.extensions }
+        ensures fault { IfErr result (λ fault. (bind_fault self.old.extensions self.old.pairs name.now place ≡ Some fault)
+            ⊎ ((bind_fault self.old.extensions self.old.pairs name.now place ≡ None) × (fault ≡ no_memory))) }
+        ensures err { OnErr result (self.new ≡ self.old) }
+    {
+        match self.binding_refusal(name, place) {
+            Some(fault) => Err(fault),
+            None => Ok(self.put(alloc, name, place)?),
+        }
+    }
+
+    /// Leaves out the name, and keeps the order of the rest. Takes no memory. Refused, and nothing is changed: M05 for a
+    /// geometry name, M06 for a name that is not bound.
+    pub fn unbind(&mut self, name: &str) -> Result<(), MapFault>
+        ensures ok { OnOk result ((unbind_fault self.old.pairs name.now ≡ None)
+            × (self.new.pairs ≡ unbound self.old.pairs name.now)) }
+        ensures extensions { self.new.extensions ≡ self.old.extensions }
+        ensures fault { IfErr result (λ fault. unbind_fault self.old.pairs name.now ≡ Some fault) }
+        ensures err { OnErr result (self.new ≡ self.old) }
+    {
+        if is_geometry(name) {
+            return Err(MapFault::Geometry);
+        }
+        if !self.is_bound(name) {
+            return Err(MapFault::Unknown);
+        }
+        self.take_out(name);
+        Ok(())
+    }
+
+    fn take_out(&mut self, name: &str)
+        ensures pairs { self.new.pairs ≡ unbound self.old.pairs name.now }
+        ensures extensions { self.new.extensions ≡ self.old.extensions }
+    {
+        let _place = self.map.shift_remove(name);
+    }
+
+    // The first reason not to bind the name to the place.
+    fn binding_refusal(&self, name: &str, place: Place) -> Option<MapFault>
+        ensures { result ≡ bind_fault self.now.extensions self.now.pairs name.now place }
+    {
+        if !is_name(name) {
+            Some(MapFault::BadName)
+        } else if is_outside(self.extensions, name, place) {
+            Some(MapFault::OutsideHeader)
+        } else if is_bad_kind(name, place.kind) {
+            Some(MapFault::BadKind)
+        } else if self.is_full(name) {
+            Some(MapFault::Full)
+        } else if standard(name).is_some() {
+            Some(MapFault::Standard)
+        } else {
+            None
+        }
+    }
+
+    // Whether a new name finds no room.
+    fn is_full(&self, name: &str) -> bool
+        ensures { result ≡ is_full self.now.pairs name.now }
+    {
+        !self.is_bound(name) && self.further_names() >= 64
+    }
+
+    // How many further names are bound.
+    fn further_names(&self) -> usize
+        ensures { result ≡ further_names self.now.pairs }
+    {
+        let mut count = 0;
+        for (name, _) in self.map.iter() {
+            if !is_geometry(name.as_str()) {
+                count += 1;
+            }
+        }
+        count
+    }
+}

@@ -1,0 +1,147 @@
+// Names that are bound, looked up and left out.
+use crate::{FieldMap, MapFault, Place, bin_field, standard};
+use num_order::Kind;
+use std::alloc::Global;
+use std::test::Fail;
+
+fn signed(extension: u16, byte: u16, size: u8) -> Place {
+    Place {
+        extension,
+        byte,
+        kind: Kind { size, signed: true },
+    }
+}
+
+fn unsigned(extension: u16, byte: u16, size: u8) -> Place {
+    Place {
+        extension,
+        byte,
+        kind: Kind {
+            size,
+            signed: false,
+        },
+    }
+}
+
+#[test]
+fn looks_up_standard_names(rt: HostRuntime) -> Result<(), Fail> {
+    let _ = rt;
+    assert_eq!(rt; standard("sequence_line"), Some(signed(0, 1, 4)));
+    assert_eq!(rt; standard("samples"), Some(unsigned(0, 115, 2)));
+    assert_eq!(rt; standard("shotpoint_scalar"), Some(signed(0, 201, 2)));
+    assert_eq!(rt; standard("ext_count"), Some(unsigned(1, 157, 2)));
+    assert_eq!(rt; standard("inline"), None);
+    assert_eq!(rt; standard("sequence_lin"), None);
+    assert_eq!(rt; bin_field("interval"), Some(unsigned(0, 3217, 2)));
+    assert_eq!(rt; bin_field("trailer"), Some(signed(0, 3529, 4)));
+    assert_eq!(rt; bin_field("delay"), None);
+    Ok(())
+}
+
+#[test]
+fn names_the_first_refusal(rt: HostRuntime) -> Result<(), Fail> {
+    let alloc = rt.alloc();
+    let mut fields = FieldMap::standard(alloc, 0)?;
+    let cases = [
+        ("bad-name", signed(0, 1, 4), MapFault::BadName),
+        ("", signed(0, 1, 4), MapFault::BadName),
+        ("mine", signed(0, 239, 4), MapFault::OutsideHeader),
+        ("mine", signed(0, 65535, 255), MapFault::OutsideHeader),
+        ("mine", signed(0, 0, 4), MapFault::OutsideHeader),
+        ("inline", signed(1, 5, 4), MapFault::OutsideHeader),
+        ("mine", signed(0, 1, 5), MapFault::BadKind),
+        ("mine", signed(0, 241, 0), MapFault::BadKind),
+        ("inline", unsigned(0, 189, 4), MapFault::BadKind),
+        ("scalar", signed(0, 71, 4), MapFault::BadKind),
+        ("delay", signed(0, 5, 4), MapFault::Standard),
+    ];
+    for (name, place, fault) in &cases {
+        assert_eq!(rt; fields.bind(alloc, name, *place).err(), Some(*fault));
+    }
+    assert_eq!(rt; fields.unbind("inline").err(), Some(MapFault::Geometry));
+    assert_eq!(rt; fields.unbind("mine").err(), Some(MapFault::Unknown));
+    assert_eq!(rt; fields.unbind("delay").err(), Some(MapFault::Unknown));
+    assert_eq!(rt; fields.unbind("bad-name").err(), Some(MapFault::Unknown));
+    Ok(())
+}
+
+// Whether the names with their places are these.
+fn lists(fields: &FieldMap, expected: &[(&str, Place)]) -> bool {
+    let mut at = 0;
+    for (name, place) in fields.entries() {
+        if at >= expected.len() || expected[at].0 != name || expected[at].1 != place {
+            return false;
+        }
+        at += 1;
+    }
+    at == expected.len()
+}
+
+#[test]
+fn binds_in_order(rt: HostRuntime) -> Result<(), Fail> {
+    let alloc = rt.alloc();
+    let mut fields = FieldMap::standard(alloc, 1)?;
+    fields.bind(alloc, "mine", signed(0, 233, 8))?;
+    fields.bind(alloc, "yours", unsigned(1, 5, 3))?;
+    fields.bind(alloc, "mine", signed(1, 1, 1))?;
+    fields.bind(alloc, "x", signed(0, 73, 4))?;
+    assert_eq!(rt; fields.place("mine"), Some(signed(1, 1, 1)));
+    assert_eq!(rt; fields.place("delay"), None);
+    let bound = [
+        ("inline", signed(0, 189, 4)),
+        ("crossline", signed(0, 193, 4)),
+        ("offset", signed(0, 37, 4)),
+        ("x", signed(0, 73, 4)),
+        ("y", signed(0, 185, 4)),
+        ("scalar", signed(0, 71, 2)),
+        ("mine", signed(1, 1, 1)),
+        ("yours", unsigned(1, 5, 3)),
+    ];
+    assert!(rt; lists(&fields, &bound));
+    fields.unbind("mine")?;
+    fields.bind(alloc, "mine", signed(0, 1, 2))?;
+    assert_eq!(rt; fields.unbind("none").err(), Some(MapFault::Unknown));
+    let again = [
+        ("inline", signed(0, 189, 4)),
+        ("crossline", signed(0, 193, 4)),
+        ("offset", signed(0, 37, 4)),
+        ("x", signed(0, 73, 4)),
+        ("y", signed(0, 185, 4)),
+        ("scalar", signed(0, 71, 2)),
+        ("yours", unsigned(1, 5, 3)),
+        ("mine", signed(0, 1, 2)),
+    ];
+    assert!(rt; lists(&fields, &again));
+    Ok(())
+}
+
+fn bind_many(fields: &mut FieldMap, alloc: Global) -> Result<(), Fail> {
+    for number in 1..65u8 {
+        let name = format!(in alloc; "n{number}")?;
+        fields.bind(alloc, name.as_str(), signed(0, 1, 4))?;
+    }
+    Ok(())
+}
+
+#[test]
+fn holds_64_further_names(rt: HostRuntime) -> Result<(), Fail> {
+    let alloc = rt.alloc();
+    let mut fields = FieldMap::standard(alloc, 0)?;
+    bind_many(&mut fields, alloc)?;
+    assert_eq!(rt;
+        fields.bind(alloc, "n65", signed(0, 1, 4)).err(),
+        Some(MapFault::Full)
+    );
+    // A full map is told before a standard name.
+    assert_eq!(rt;
+        fields.bind(alloc, "delay", signed(0, 5, 4)).err(),
+        Some(MapFault::Full)
+    );
+    fields.bind(alloc, "n1", signed(0, 5, 4))?;
+    fields.bind(alloc, "x", signed(0, 5, 4))?;
+    assert_eq!(rt; fields.place("n1"), Some(signed(0, 5, 4)));
+    fields.unbind("n1")?;
+    fields.bind(alloc, "n65", signed(0, 1, 4))?;
+    assert_eq!(rt; fields.place("n65"), Some(signed(0, 1, 4)));
+    Ok(())
+}

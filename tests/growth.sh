@@ -43,3 +43,25 @@ for number in $(seq 1 400); do
 done
 # the last run met no refusal, and at least the file, the list of its traces and the script grew
 if [ "$refusals" -ge 3 ] && [ "$got" = 0 ] && cmp -s o.sgy whole.sgy; then tell 'a run with no growth refused' ok; else tell 'a run with no growth refused' "status $got after $refusals"; fi
+
+# A script whose lines hold names and texts: lines that were answered E11 changed nothing, so that without them the program
+# prints and saves the same.
+printf 'map mine @189:4\nset 2 mine 7\nget 2 inline\ntext 1 C 1 LINE\nline 0 1\nunmap mine\nfields\n' > script
+refusals=0
+for number in $(seq 1 400); do
+    meets "$number"
+    asked=$(cat asked 2> /dev/null || echo 0)
+    [ "$number" -gt "$asked" ] && break
+    refusals=$((refusals + 1))
+    outcome="status $got with growth $number of $asked refused: $(head -c 100 answers) $(head -c 100 errors)"
+    case $got in
+        0 | 1) # some lines were answered E11
+            paste -d '\t' script <(head -n 7 answers) | grep -v 'refused E11 out of memory$' | cut -f 1 > fewer
+            "$program" s.sgy --script fewer --out fewer.sgy > expected
+            grep -v '^refused E11 out of memory$' answers | cmp -s - expected && cmp -s o.sgy fewer.sgy && [ ! -s errors ] && outcome=ok ;;
+        2 | 3 | 4) # told as above
+            [ ! -e o.sgy ] && outcome=ok ;;
+    esac
+    tell "growth $number refused among names and texts" "$outcome"
+done
+if [ "$refusals" -ge 8 ] && [ "$got" = 0 ]; then tell 'names and texts with no growth refused' ok; else tell 'names and texts with no growth refused' "status $got after $refusals"; fi

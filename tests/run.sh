@@ -87,6 +87,35 @@ expect 'a torn trace in front of them' 3 'load refused L14 truncated trace 1\n' 
 printf 'info\nsample 3 1\n' > script
 expect 'text headers that end by themselves' 0 'info order big revision 1.0 format 3 samples 2 fixed yes extensions 0 blocks 2 trailer 0 traces 3 bytes 10732\nvalue 6\n' '' ended.sgy --script script
 
+# ---- fields by name, the field map
+printf 'set 1 scalar 100\nset 1 x 3\nget 1 source_x\nget 1 @181:4\nget 1 samples\nget 1 nothing\nset 4 nothing 1\nset 1 ext_count 1\nset 1 x 2147483648\n' > script
+expect 'names' 1 'ok\nok\nvalue 0\nvalue 3\nvalue 2\nrefused E02 no field\nrefused E01 no trace 4 of 3\nrefused E03 no place\nrefused E04 does not fit\n' '' s.sgy --script script --out o.sgy
+differs 'names change their own bytes' s.sgy o.sgy '3672 0 144;3783 3 0;3784 350 3;'
+printf 'map bad-name @1:4\nmap mine @239:4\nmap mine @1:5\nmap inline @189:4u\nmap inline @1.5:4\nmap delay @5:4\nunmap inline\nunmap mine\nmap mine @233:8\nget 1 mine\nfields\nunmap mine\n' > script
+expect 'the field map' 1 'refused E08 M01 bad name\nrefused E08 M02 outside header\nrefused E08 M03 bad kind\nrefused E08 M03 bad kind\nrefused E08 M02 outside header\nrefused E08 M07 standard\nrefused E08 M05 geometry\nrefused E08 M06 unknown\nok\nvalue 0\nfields 7\nfield inline @189:4\nfield crossline @193:4\nfield offset @37:4\nfield x @181:4\nfield y @185:4\nfield scalar @71:2\nfield mine @233:8\nok\n' '' s.sgy --script script
+{ for n in $(seq 64); do echo "map n$n @1:4"; done; printf 'map n65 @1:4\nmap delay @5:4\nmap n1 @5:4\nget 3 n1\nunmap n1\nmap n65 @1:4\n'; } > script
+expect 'a full map' 1 "$(for _ in $(seq 64); do printf 'ok\\n'; done)refused E08 M04 full\nrefused E08 M04 full\nok\nvalue 3\nok\nok\n" '' s.sgy --script script
+printf 'map scalar @189:2\nset 1 inline 327680\nget 1 scalar\nmap deep @1.137:4u\nget 1 deep\nfields\n' > script
+expect 'a name of an extension' 0 'ok\nok\nvalue 5\nok\nvalue 0\nfields 7\nfield inline @189:4\nfield crossline @193:4\nfield offset @37:4\nfield x @181:4\nfield y @185:4\nfield scalar @189:2\nfield deep @1.137:4u\n' '' x.sgy --script script
+
+# ---- the binary header
+printf 'getbin interval\nbin interval 2000\nbin @3225:2 2\nbin samples 3\nbin trace_count 2\nbin @3494:8 0\nbin @3493:8 -1\nbin inline 1\ngetbin @3200:2\ngetbin @3599:2u\ngetbin @3600:2\nbin @1.3217:2 1\nbin job 2147483648\n' > script
+expect 'the binary header' 1 'value 4000\nok\nrefused E06 frame\nrefused E06 frame\nok\nrefused E06 frame\nok\nrefused E02 no field\nrefused E03 no place\nvalue 0\nrefused E03 no place\nrefused E03 no place\nrefused E04 does not fit\n' '' s.sgy --script script --out o.sgy
+differs 'its bytes' s.sgy o.sgy '3217 17 7;3218 240 320;3493 0 377;3494 0 377;3495 0 377;3496 0 377;3497 0 377;3498 0 377;3499 0 377;3500 0 377;3520 0 2;'
+
+# ---- text
+printf 'code 0\ntext 1 C 1 LINE[\ntext 1 %s\ntext 1 C 1 LINE \nline 0 1\nline 0 2\ntext 41 C\ntext 0 C\nline 0 41\nline 1 1\ncode 1\ntext 2\nline 0 2\ntext 3  two  blanks\nline 0 3\ntext\nline 0\n' "$(printf 'C%.0s' $(seq 81))" > script
+expect 'text' 1 'code ebcdic\nrefused E07 T02 no code for column 9\nrefused E07 T01 too long\nok\nline |C 1 LINE|\nline |C|\nrefused E03 no place\nrefused E03 no place\nrefused E03 no place\nrefused E03 no place\nrefused E03 no place\nok\nline ||\nok\nline | two  blanks|\nrefused S02 words\nrefused S02 words\n' '' s.sgy --script script --out o.sgy
+cmp -s <(head -c 8 o.sgy | od -An -tx1 | tr -d ' ') <(printf 'c340f140d3c9d5c5\n') && tell 'text in EBCDIC' ok || tell 'text in EBCDIC' "$(head -c 8 o.sgy | od -An -tx1)"
+cmp -s <(tail -c +241 o.sgy) <(tail -c +241 s.sgy) && tell 'no other byte differs' ok || tell 'no other byte differs' 'some do'
+{ zeros 3200; tail -c +3201 s.sgy; } > ascii.sgy
+printf 'code 0\ntext 1 C\nline 0 1\nline 0 2\n' > script
+expect 'text in ASCII' 0 "code ascii\nok\nline |C|\nline |$(printf '\\\\00%.0s' $(seq 80))|\n" '' ascii.sgy --script script --out o.sgy
+printf 'stanzas\nline 1 1\nline 2 1\nline 3 1\ncode 2\n' > script
+expect 'stanzas' 1 'stanzas 2\nstanza 1 Acme: Note\nstanza 2 Seg:  ENDtext\nline |((Acme: Note))|\nline |((Seg:  ENDtext))|\nrefused E03 no place\ncode ascii\n' '' ended.sgy --script script
+cp tail.sgy noted.sgy; printf '((Acme: Tail))' | dd of=noted.sgy bs=1 seek=4084 conv=notrunc status=none
+expect 'stanzas of data trailer records' 1 'stanzas 1\nstanza 1 Acme: Tail\nrefused E03 no place\nrefused E03 no place\nrefused E03 no place\nrefused E03 no place\n' '' noted.sgy --script script
+
 # ---- the frame holds
 printf 'set 1 @115:2u 4\nset 2 @115:2u 2\nset 3 @115:2u 65535\n' > script
 expect 'no edit moves the end of a trace' 1 'refused E06 frame\nok\nok\n' '' v.sgy --script script --out o.sgy
@@ -100,7 +129,7 @@ expect 'as written' 1 'refused E06 frame\n' '' loose.sgy --script script
 
 # ---- lines of a script
 printf 'sett 1 @1:4 7\nset 1 @1:4\nset a @1:4 7\nget 1 nothing\n# note\n\nget 3 @5:4\r\nget 3 @5:4 ' > script
-expect 'lines' 1 'refused S01 unknown word\nrefused S02 words\nrefused S03 number\nrefused S03 number\nvalue 3\nvalue 3\n' '' s.sgy --script script
+expect 'lines' 1 'refused S01 unknown word\nrefused S02 words\nrefused S03 number\nrefused E02 no field\nvalue 3\nvalue 3\n' '' s.sgy --script script
 printf 'get 1 @5:4\n# \377\n' > script
 expect 'not text' 1 'value 1\nrefused S04 not text\n' '' s.sgy --script script
 printf '  \t get\t1 \t@5:4\t\n #note\nget +1 @5:4\nget 1 @5:4u\nget 00001 @05:4\nget -0 @5:4\nset 1 @1:8 170141183460469231731687303715884105727\nset 1 @1:8 170141183460469231731687303715884105728\n' > script

@@ -329,7 +329,13 @@ fn tells_failed_writes(rt: HostRuntime) -> Result<(), Fail> {
 }
 
 // What a script prints over a file, without a stop and without a save.
-fn prints(alloc: Global, file: &[u8], script: &[u8], refused: u64, printed: &[u8]) -> Result<bool, Fail> {
+fn prints(
+    alloc: Global,
+    file: &[u8],
+    script: &[u8],
+    refused: u64,
+    printed: &[u8],
+) -> Result<bool, Fail> {
     let told = run_script(alloc, file, script, options(false, false)?)?;
     Ok(told.end == RunEnd::Done { refused } && told.answers.as_slice() == printed)
 }

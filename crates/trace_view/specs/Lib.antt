@@ -1,1 +1,6 @@
+pub mod Runs
+pub mod Puts
+pub mod Fronts
 pub mod Values
+pub mod Shown
+pub mod Examples

@@ -1,5 +1,36 @@
-//! One trace: its headers and samples as the file's head cuts them.
+//! One trace of a SEG-Y file as a view: the bytes that it has in the file, with runs of changed bytes
+//! laid over them, borrowed in pieces and never joined. A `TraceView` gives the trace's length, its
+//! headers and its sample bytes as pieces, the number at a place of a header, and its samples.
+//! Where the trace has no such header, value or sample the answer is None. `changed_length` and
+//! `overlaid_length` tell the length that changed headers would give the trace. `put_run` lays one
+//! more run over others.
 //!
-//! Here stand the definitions of a trace's values and samples. The views that read them from borrowed pieces
-//! come with the overlay of runs.
+//! `put_run` takes memory, and the other calls take none. Bytes of a header count from 1, as in the
+//! standard, header extensions from 1, and samples from 0; the place of a run, and any other place
+//! in the whole trace, is counted from 0.
 #![tactic(auto)]
+
+mod cursor;
+mod gap;
+mod lengths;
+mod out_of_memory;
+mod overlaid;
+mod part;
+mod pieces;
+mod put;
+mod run;
+mod samples;
+mod stretches;
+mod view;
+
+pub use crate::lengths::overlaid_length;
+pub use crate::out_of_memory::OutOfMemory;
+pub use crate::part::Part;
+pub use crate::pieces::Pieces;
+pub use crate::put::put_run;
+pub use crate::run::Run;
+pub use crate::samples::Samples;
+pub use crate::view::TraceView;
+
+#[cfg(test)]
+mod tests;

@@ -1,0 +1,4 @@
+pub mod Faults
+pub mod OfFaults
+pub mod Laws
+pub mod Examples

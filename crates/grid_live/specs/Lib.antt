@@ -1,0 +1,4 @@
+pub mod Cells
+pub mod OfTally
+pub mod Laws
+pub mod Examples

@@ -1,0 +1,5 @@
+use Rattle.range_stats.proofs.TallyRange.{range_of_tally}
+use Rattle.range_stats.proofs.laws.range_of_tally.Goals as goal
+
+pub returns : goal.returns
+returns c = range_of_tally

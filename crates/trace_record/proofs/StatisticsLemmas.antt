@@ -1,0 +1,43 @@
+-- Statistics of lists one after the other.
+use Rattle.std.specs.Prelude.{◌≡◌, ℕ, ℤ, ◌+ℤ◌, List, [], ◌∷◌, ◌++◌, Option, Some, refl}
+use Rattle.std.proofs.Common.{arith, ap, ◌∙◌, length-append}
+use Rattle.std.proofs.lemmas.Int.{ints}
+use Rattle.std.specs.Int.{int_min, int_max}
+use Rattle.trace_record.specs.Statistics.{least_of, greatest_of, int_sum, statistics_of}
+use Rattle.trace_record.specs.declared.statistics.Statistics.{Statistics}
+use Rattle.trace_record.specs.Laws.{StatisticsOfJoined}
+
+min_assoc : (a b c : ℤ) → int_min a (int_min b c) ≡ int_min (int_min a b) c
+min_assoc a b c = grind (arith, ints)
+
+max_assoc : (a b c : ℤ) → int_max a (int_max b c) ≡ int_max (int_max a b) c
+max_assoc a b c = grind (arith, ints)
+
+pub least_of-append : (v : ℤ) (vs : List ℤ) (w : ℤ) (ws : List ℤ) → least_of ((v ∷ vs) ++ (w ∷ ws)) ≡ int_min (least_of (v ∷ vs)) (least_of (w ∷ ws))
+least_of-append v [] w ws = refl
+least_of-append v (u ∷ us) w ws = ap (λ m. int_min v m) (least_of-append u us w ws) ∙ min_assoc v (least_of (u ∷ us)) (least_of (w ∷ ws))
+
+pub greatest_of-append : (v : ℤ) (vs : List ℤ) (w : ℤ) (ws : List ℤ) → greatest_of ((v ∷ vs) ++ (w ∷ ws)) ≡ int_max (greatest_of (v ∷ vs)) (greatest_of (w ∷ ws))
+greatest_of-append v [] w ws = refl
+greatest_of-append v (u ∷ us) w ws = ap (λ m. int_max v m) (greatest_of-append u us w ws) ∙ max_assoc v (greatest_of (u ∷ us)) (greatest_of (w ∷ ws))
+
+pub int_sum-append : (vs ws : List ℤ) → int_sum (vs ++ ws) ≡ int_sum vs +ℤ int_sum ws
+int_sum-append [] ws = omega (arith, ints)
+int_sum-append (v ∷ vs) ws = let e = int_sum-append vs ws in omega (arith, ints)
+
+append-none : (vs : List ℤ) → vs ++ [] ≡ vs
+append-none [] = refl
+append-none (v ∷ vs) = ap (λ us. v ∷ us) (append-none vs)
+
+-- the statistics of these four
+abbrev four : ℤ → ℤ → ℤ → ℕ → Option Statistics
+four l g s n = Some (record { least = l; greatest = g; sum = s; number = n })
+
+same_four : (l g s : ℤ) (n : ℕ) (m h t : ℤ) (k : ℕ) → l ≡ m → g ≡ h → s ≡ t → n ≡ k → four l g s n ≡ four m h t k
+same_four l g s n m h t k a b c d = λ i. four (a i) (b i) (c i) (d i)
+
+pub statistics_of_joined : StatisticsOfJoined
+statistics_of_joined [] ys = refl
+statistics_of_joined (v ∷ vs) [] = ap statistics_of (append-none (v ∷ vs))
+statistics_of_joined (v ∷ vs) (w ∷ ws) =
+    same_four _ _ _ _ _ _ _ _ (least_of-append v vs w ws) (greatest_of-append v vs w ws) (int_sum-append (v ∷ vs) (w ∷ ws)) (length-append (v ∷ vs) (w ∷ ws))

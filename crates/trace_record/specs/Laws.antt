@@ -1,0 +1,45 @@
+-- Laws of statistics, ratios and tallies, whatever traces they are of.
+use Rattle.std.specs.Prelude.{◌≡◌, ℤ, List, ◌∷◌, ◌++◌, IsPermutation}
+use Rattle.std.specs.declared.cmp.Ordering.TheVariants.{Equal}
+use Rattle.trace_record.specs.declared.ratio.Ratio.{Ratio}
+use Rattle.trace_record.specs.RatioOrder.{ratio_cmp}
+use Rattle.trace_record.specs.Statistics.{statistics_of, joined}
+use Rattle.trace_record.specs.Facts.{Facts}
+use Rattle.trace_record.specs.Keys.{Counted}
+use Rattle.trace_record.specs.Tally.{Tally, tally_of, plus, minus, Same, Holds}
+
+-- the statistics of two lists one after the other are those of both together
+abbrev pub StatisticsOfJoined : Type 0
+StatisticsOfJoined = (xs ys : List ℤ) → statistics_of (xs ++ ys) ≡ joined (statistics_of xs) (statistics_of ys)
+
+-- ratios of one value are one ratio
+abbrev pub EqualRatiosAreOne : Type 0
+EqualRatiosAreOne = (x y : Ratio) → ratio_cmp x y ≡ Equal → x ≡ y
+
+-- the tally does not depend on the order of the traces
+abbrev pub TallyInAnyOrder : Type 0
+TallyInAnyOrder = (c : Counted) (fs gs : List Facts) → IsPermutation fs gs → Same (tally_of c gs) (tally_of c fs)
+
+-- the tally of a list with one trace more, wherever it stands
+abbrev pub TallyOfOneMore : Type 0
+TallyOfOneMore = (c : Counted) (before after : List Facts) (f : Facts) → Same (tally_of c (before ++ f ∷ after)) (plus c (tally_of c (before ++ after)) f)
+
+-- the tally of a list with one trace less
+abbrev pub TallyOfOneLess : Type 0
+TallyOfOneLess = (c : Counted) (before after : List Facts) (f : Facts) → Same (tally_of c (before ++ after)) (minus c (tally_of c (before ++ f ∷ after)) f)
+
+-- the tally of a list holds each of its traces
+abbrev pub TallyHoldsEach : Type 0
+TallyHoldsEach = (c : Counted) (before after : List Facts) (f : Facts) → Holds c (tally_of c (before ++ f ∷ after)) f
+
+-- two traces counted in either order
+abbrev pub PlusInAnyOrder : Type 0
+PlusInAnyOrder = (c : Counted) (t : Tally) (f g : Facts) → Same (plus c (plus c t f) g) (plus c (plus c t g) f)
+
+-- taking a trace out undoes putting it in
+abbrev pub MinusUndoesPlus : Type 0
+MinusUndoesPlus = (c : Counted) (t : Tally) (f : Facts) → Same (minus c (plus c t f) f) t
+
+-- and putting it in undoes taking it out, where the tally has it
+abbrev pub PlusUndoesMinus : Type 0
+PlusUndoesMinus = (c : Counted) (t : Tally) (f : Facts) → Holds c t f → Same (plus c (minus c t f) f) t

@@ -1,0 +1,13 @@
+pub mod FractionLaws
+pub mod RatioOrder
+pub mod Scaled
+pub mod Statistics
+pub mod Facts
+pub mod OfTrace
+pub mod Counts
+pub mod Keys
+pub mod Tally
+pub mod Rising
+pub mod Laws
+pub mod SmallSurvey
+pub mod Examples

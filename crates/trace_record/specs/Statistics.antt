@@ -1,0 +1,39 @@
+-- The least, the greatest, the sum and the number of a list of samples.
+use Rattle.std.specs.Prelude.{ℤ, pos, ◌+◌, ◌+ℤ◌, List, [], ◌∷◌, length, Option, Some, None}
+use Rattle.std.specs.Int.{int_min, int_max}
+use Rattle.trace_record.specs.declared.statistics.Statistics.{Statistics}
+
+-- the least of the numbers, and 0 of none
+abbrev pub least_of : List ℤ → ℤ
+least_of [] = pos 0
+least_of (v ∷ []) = v
+least_of (v ∷ w ∷ ws) = int_min v (least_of (w ∷ ws))
+
+-- the greatest of the numbers, and 0 of none
+abbrev pub greatest_of : List ℤ → ℤ
+greatest_of [] = pos 0
+greatest_of (v ∷ []) = v
+greatest_of (v ∷ w ∷ ws) = int_max v (greatest_of (w ∷ ws))
+
+-- the sum of the numbers
+abbrev pub int_sum : List ℤ → ℤ
+int_sum [] = pos 0
+int_sum (v ∷ vs) = v +ℤ int_sum vs
+
+-- all four, and none without samples
+abbrev pub statistics_of : List ℤ → Option Statistics
+statistics_of [] = None
+statistics_of (v ∷ vs) =
+    Some (record { least = least_of (v ∷ vs); greatest = greatest_of (v ∷ vs); sum = int_sum (v ∷ vs); number = length (v ∷ vs) })
+
+-- the statistics of two lists together
+abbrev pub joined : Option Statistics → Option Statistics → Option Statistics
+joined None r = r
+joined (Some s) None = Some s
+joined (Some s) (Some r) =
+    Some (record {
+      least = int_min s.least r.least;
+      greatest = int_max s.greatest r.greatest;
+      sum = s.sum +ℤ r.sum;
+      number = s.number + r.number;
+    })

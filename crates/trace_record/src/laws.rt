@@ -1,0 +1,47 @@
+// Laws, each the contract of a call that does nothing.
+ghost use Rattle.trace_record.specs.Laws.{StatisticsOfJoined, EqualRatiosAreOne, TallyInAnyOrder, TallyOfOneMore, TallyOfOneLess, TallyHoldsEach, PlusInAnyOrder, MinusUndoesPlus, PlusUndoesMinus};
+
+/// The statistics of two lists one after the other are those of both together.
+pub fn statistics_of_joined()
+    ensures { StatisticsOfJoined }
+{}
+
+/// Ratios of one value are one ratio.
+pub fn equal_ratios_are_one()
+    ensures { EqualRatiosAreOne }
+{}
+
+/// The tally does not depend on the order of the traces.
+pub fn tally_in_any_order()
+    ensures { TallyInAnyOrder }
+{}
+
+/// The tally of a list with one trace more, wherever it stands, is the tally with it counted.
+pub fn tally_of_one_more()
+    ensures { TallyOfOneMore }
+{}
+
+/// The tally of a list with one trace less is the tally with it no longer counted.
+pub fn tally_of_one_less()
+    ensures { TallyOfOneLess }
+{}
+
+/// The tally of a list holds each of its traces.
+pub fn tally_holds_each()
+    ensures { TallyHoldsEach }
+{}
+
+/// Two traces are counted in either order.
+pub fn plus_in_any_order()
+    ensures { PlusInAnyOrder }
+{}
+
+/// No longer counting a trace undoes counting it.
+pub fn minus_undoes_plus()
+    ensures { MinusUndoesPlus }
+{}
+
+/// Counting a trace undoes no longer counting it, where the tally has it.
+pub fn plus_undoes_minus()
+    ensures { PlusUndoesMinus }
+{}

@@ -1,0 +1,9 @@
+pub mod Written
+pub mod Plain
+pub mod Steps
+pub mod SampleSteps
+pub mod Places
+pub mod Sizes
+pub mod Gaps
+pub mod Puts
+pub mod Fronts

@@ -1,0 +1,43 @@
+-- Values and samples of small traces, worked by hand.
+use Rattle.std.specs.Prelude.{◌≡◌, ℕ, [], ◌∷◌, pos, negsuc, true, Some, None, refl}
+use Rattle.field_map.specs.declared.place.Place.{Place}
+use Rattle.frame_cut.specs.SmallFiles.{put, head_plain, head_extended, head_counted, head_little, trace_plain_2, trace_extended, trace_counted, trace_little}
+use Rattle.trace_view.specs.Runs.{written}
+use Rattle.trace_view.specs.Values.{value_of, sample_of, samples_of}
+
+-- the place of a signed number
+abbrev place : ℕ → ℕ → ℕ → Place
+place extension byte size = record { extension = extension; byte = byte; kind = record { size = size; signed = true } }
+
+pub inline-plain : value_of head_plain trace_plain_2 (place 0 189 4) ≡ Some (pos 10)
+inline-plain = refl
+
+-- byte 240 is the last of a header
+pub last_byte : value_of head_plain trace_plain_2 (place 0 240 1) ≡ Some (pos 0)
+last_byte = refl
+
+pub past_header : value_of head_plain trace_plain_2 (place 0 240 2) ≡ None
+past_header = refl
+
+pub size_5 : value_of head_plain trace_plain_2 (place 0 1 5) ≡ None
+size_5 = refl
+
+pub in_extension : value_of head_extended (put 241 (0xFF ∷ 0xFE ∷ []) trace_extended) (place 1 1 2) ≡ Some (negsuc 1)
+in_extension = refl
+
+-- of three header extensions the trace has two
+pub extension_3 : value_of head_counted trace_counted (place 3 1 4) ≡ None
+extension_3 = refl
+
+pub samples-counted : samples_of head_counted trace_counted ≡ pos 1 ∷ pos 2 ∷ []
+samples-counted = refl
+
+pub samples-little : samples_of head_little trace_little ≡ negsuc 0 ∷ negsuc 8388607 ∷ []
+samples-little = refl
+
+pub sample-2-little : sample_of head_little trace_little 2 ≡ None
+sample-2-little = refl
+
+-- a run in place of two of five bytes
+pub one_run : written (1 ∷ 2 ∷ 3 ∷ 4 ∷ 5 ∷ []) (record { at = 1; bytes = record { items = 8 ∷ 9 ∷ []; capacity = 16 } } ∷ []) ≡ 1 ∷ 8 ∷ 9 ∷ 4 ∷ 5 ∷ []
+one_run = refl

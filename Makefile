@@ -22,6 +22,8 @@ program:
 	test -x $(PROGRAM) || { cat crates/segywb/out.log; exit 1; }
 	rm -f crates/segywb/out.log
 
-# Speed, as ratios to cp and md5sum of the same file in the same run.
+# Speed: the program as ratios to cp and md5sum of the same file in the same run, and the order of traces at three sizes.
 bench: program
 	bash bench/run $(PROGRAM)
+	cd crates/seq_bench && { rt run > out.log 2>&1 || true; }
+	bash bench/orders crates/seq_bench/out/seq_bench

@@ -1,0 +1,4 @@
+pub mod Times
+pub mod Joined
+pub mod Sound
+pub mod Positions

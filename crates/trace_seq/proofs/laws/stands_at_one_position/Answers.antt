@@ -1,0 +1,5 @@
+use Rattle.trace_seq.proofs.Positions.{stands_at_one_position}
+use Rattle.trace_seq.proofs.laws.stands_at_one_position.Goals as goal
+
+pub returns : goal.returns
+returns c = stands_at_one_position

@@ -1,0 +1,38 @@
+-- Orders worked out, read by the definitions.
+use Rattle.std.specs.Prelude.{◌≡◌, [], ◌∷◌, Some, None, refl}
+use Rattle.trace_seq.specs.Order.{times, id_at, inserted, removed, moved}
+
+-- an id in front of all, and behind all
+pub put_in_front : inserted (4 ∷ 7 ∷ []) 1 9 ≡ 9 ∷ 4 ∷ 7 ∷ []
+put_in_front = refl
+
+pub put_behind : inserted (4 ∷ 7 ∷ []) 3 9 ≡ 4 ∷ 7 ∷ 9 ∷ []
+put_behind = refl
+
+pub taken_out : removed (4 ∷ 7 ∷ 9 ∷ []) 2 ≡ 4 ∷ 9 ∷ []
+taken_out = refl
+
+-- the target counts in what is left: to 3 of three is behind all
+pub moved_behind : moved (4 ∷ 7 ∷ 9 ∷ []) 1 3 ≡ 7 ∷ 9 ∷ 4 ∷ []
+moved_behind = refl
+
+pub moved_by_one : moved (4 ∷ 7 ∷ 9 ∷ []) 1 2 ≡ 7 ∷ 4 ∷ 9 ∷ []
+moved_by_one = refl
+
+pub moved_in_front : moved (4 ∷ 7 ∷ 9 ∷ []) 3 1 ≡ 9 ∷ 4 ∷ 7 ∷ []
+moved_in_front = refl
+
+pub moved_nowhere : moved (4 ∷ 7 ∷ 9 ∷ []) 2 2 ≡ 4 ∷ 7 ∷ 9 ∷ []
+moved_nowhere = refl
+
+pub first : id_at (4 ∷ 7 ∷ []) 1 ≡ Some 4
+first = refl
+
+pub none_at_zero : id_at (4 ∷ 7 ∷ []) 0 ≡ None
+none_at_zero = refl
+
+pub none_behind : id_at (4 ∷ 7 ∷ []) 3 ≡ None
+none_behind = refl
+
+pub twice : times 7 (7 ∷ 4 ∷ 7 ∷ []) ≡ 2
+twice = refl

@@ -1,0 +1,4 @@
+pub mod Order
+pub mod Chunks
+pub mod Examples
+pub mod Laws

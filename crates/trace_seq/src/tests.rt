@@ -1,0 +1,156 @@
+// Values from outside: orders written down by hand, and two bodies that are compared over the same operations.
+use crate::{ChunkSeq, FlatSeq, TraceSeq};
+use std::alloc::Global;
+use std::process::Abort;
+use std::test::Fail;
+
+// Reserves and inserts, where the call may be made; whether it was.
+fn try_insert<S: TraceSeq>(alloc: Global, seq: &mut S, p: u32, id: usize) -> Result<bool, Fail> {
+    let mut probes = 0;
+    if id == usize::MAX || p == 0 || seq.len() == u32::MAX || p > seq.len() + 1 {
+        return Ok(false);
+    }
+    if seq.place_of(id, &mut probes).is_some() {
+        return Ok(false);
+    }
+    seq.reserve_one(alloc, id)?;
+    seq.insert(p, id);
+    Ok(true)
+}
+
+// Reserves and moves, where the call may be made; whether it was.
+fn try_move<S: TraceSeq>(alloc: Global, seq: &mut S, a: u32, b: u32) -> Result<bool, Fail> {
+    if a == 0 || b == 0 || a > seq.len() || b > seq.len() {
+        return Ok(false);
+    }
+    seq.reserve_one(alloc, 0)?;
+    seq.move_to(a, b);
+    Ok(true)
+}
+
+// Removes, where the call may be made; whether it was.
+fn try_remove<S: TraceSeq>(seq: &mut S, p: u32) -> bool {
+    if p == 0 || p > seq.len() {
+        return false;
+    }
+    seq.remove(p);
+    true
+}
+
+fn get<S: TraceSeq>(seq: &S, p: u32) -> Option<usize> {
+    let mut probes = 0;
+    seq.get(p, &mut probes)
+}
+
+fn place_of<S: TraceSeq>(seq: &S, id: usize) -> Option<u32> {
+    let mut probes = 0;
+    seq.place_of(id, &mut probes)
+}
+
+// 2000 ids, each put in front; the first of them moved behind all; removed there.
+fn fills_and_moves<S: TraceSeq, R: Abort>(rt: &R, alloc: Global, seq: &mut S) -> Result<(), Fail> {
+    for id in 0..2000 {
+        assert!(rt; try_insert(alloc, seq, 1, id)?);
+    }
+    assert_eq!(rt; seq.len(), 2000);
+    assert!(rt; seq.bound() >= 2000);
+    assert_eq!(rt; get(seq, 1), Some(1999));
+    assert!(rt; try_move(alloc, seq, 1, 2000)?);
+    assert_eq!(rt; place_of(seq, 1999), Some(2000));
+    assert_eq!(rt; place_of(seq, 0), Some(1999));
+    assert!(rt; try_remove(seq, 2000));
+    assert_eq!(rt; place_of(seq, 1999), None);
+    assert_eq!(rt; get(seq, 2000), None);
+    assert_eq!(rt; get(seq, 0), None);
+    Ok(())
+}
+
+// Removes each position that 20 does not divide, the last first.
+fn thins<S: TraceSeq>(seq: &mut S) {
+    for p in (1..2000).rev() {
+        if p % 20 != 0 {
+            let _ = try_remove(seq, p);
+        }
+    }
+}
+
+#[test]
+fn flat_row(rt: HostRuntime) -> Result<(), Fail> {
+    let mut seq = FlatSeq::new(rt.alloc());
+    assert_eq!(rt; seq.len(), 0);
+    fills_and_moves(&rt, rt.alloc(), &mut seq)?;
+    thins(&mut seq);
+    assert_eq!(rt; seq.len(), 99);
+    assert_eq!(rt; get(&seq, 1), Some(1979));
+    assert_eq!(rt; get(&seq, 99), Some(19));
+    Ok(())
+}
+
+#[test]
+fn chunk_row(rt: HostRuntime) -> Result<(), Fail> {
+    let mut seq = ChunkSeq::new(rt.alloc());
+    assert_eq!(rt; seq.chunks(), 0);
+    fills_and_moves(&rt, rt.alloc(), &mut seq)?;
+    assert!(rt; seq.chunks() <= 16);
+    assert!(rt; seq.chunks() > 3);
+    thins(&mut seq);
+    assert_eq!(rt; seq.len(), 99);
+    assert_eq!(rt; seq.chunks(), 1);
+    assert_eq!(rt; get(&seq, 1), Some(1979));
+    assert_eq!(rt; get(&seq, 99), Some(19));
+    for p in 0..101 {
+        let mut probes = 0;
+        let _ = seq.get(p, &mut probes);
+        assert!(rt; probes <= 2);
+    }
+    for id in 0..2000 {
+        let mut probes = 0;
+        let _ = seq.place_of(id, &mut probes);
+        assert!(rt; probes <= 513);
+    }
+    let mut probes = u64::MAX;
+    assert_eq!(rt; seq.get(1, &mut probes), Some(1979));
+    assert_eq!(rt; probes, u64::MAX);
+    assert_eq!(rt; seq.place_of(19, &mut probes), Some(99));
+    assert_eq!(rt; probes, u64::MAX);
+    Ok(())
+}
+
+// The next of the pseudo-random numbers.
+fn next(state: &mut u64) -> u32 {
+    *state = state
+        .wrapping_mul(6364136223846793005)
+        .wrapping_add(1442695040888963407);
+    (*state >> 33) as u32
+}
+
+#[test]
+fn answers_alike(rt: HostRuntime) -> Result<(), Fail> {
+    let mut flat = FlatSeq::new(rt.alloc());
+    let mut chunks = ChunkSeq::new(rt.alloc());
+    let mut state = 1;
+    for step in 0..2000 {
+        let len = flat.len();
+        let p = next(&mut state) % (len.saturating_add(2)).max(1);
+        let q = next(&mut state) % (len.saturating_add(2)).max(1);
+        let id = next(&mut state) as usize % 3000;
+        match next(&mut state) % (if step < 1200 { 4 } else { 8 }) {
+            0 => {
+                let moved = try_move(rt.alloc(), &mut flat, p, q)?;
+                assert_eq!(rt; try_move(rt.alloc(), &mut chunks, p, q)?, moved);
+            }
+            1 | 2 | 3 => {
+                let put = try_insert(rt.alloc(), &mut flat, p, id)?;
+                assert_eq!(rt; try_insert(rt.alloc(), &mut chunks, p, id)?, put);
+            }
+            _ => assert_eq!(rt; try_remove(&mut chunks, p), try_remove(&mut flat, p)),
+        }
+        assert_eq!(rt; chunks.len(), flat.len());
+        assert_eq!(rt; get(&chunks, q), get(&flat, q));
+        assert_eq!(rt; place_of(&chunks, id), place_of(&flat, id));
+    }
+    for p in 0..3002 {
+        assert_eq!(rt; get(&chunks, p), get(&flat, p));
+    }
+    Ok(())
+}

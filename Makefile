@@ -22,8 +22,11 @@ program:
 	test -x $(PROGRAM) || { cat crates/segywb/out.log; exit 1; }
 	rm -f crates/segywb/out.log
 
-# Speed: the program as ratios to cp and md5sum of the same file in the same run, and the order of traces at three sizes.
+# Speed: the program as ratios to cp and md5sum of the same file in the same run, the order of traces at three sizes, and the
+# running reports over a million records.
 bench: program
 	bash bench/run $(PROGRAM)
 	cd crates/seq_bench && { rt run > out.log 2>&1 || true; }
 	bash bench/orders crates/seq_bench/out/seq_bench
+	cd crates/report_bench && { rt run > out.log 2>&1 || true; }
+	bash bench/reports crates/report_bench/out/report_bench

@@ -1,0 +1,90 @@
+//! Counts made records in the running reports and takes them out again, so that it can be timed from outside.
+//! Arguments: how many records, at most 16777216; `make`, `add` or `remove`, which makes them, adds them too, and takes them out
+//! too. It prints the number of records.
+#![tactic(auto)]
+
+ghost use Rattle.std.specs.Prelude.{◌≡◌, ◌≤◌, ◌^◌, All, IfOk, length};
+
+mod through;
+
+use crate::through::{drain, fill};
+use fault_live::Faults;
+use std::alloc::Global;
+use std::{env, io};
+use trace_record::{OutOfMemory, Ratio, Record, Running};
+
+// A record of a survey with a thousand traces on each inline.
+fn make(i: u32) -> Record
+    ensures { result.number ≡ 2 }
+{
+    let inline = (i / 1000) as i32;
+    let crossline = (i % 1000) as i32;
+    Record {
+        least: -5,
+        greatest: 6,
+        sum: 1,
+        x: Ratio::scaled(crossline, -10),
+        y: Ratio::whole(inline),
+        inline,
+        crossline,
+        offset: 100,
+        sequence: 1,
+        number: 2,
+        scalar: -10,
+        units: 0,
+        interval: 4000,
+        samples_field: 2,
+        has_known_name: true,
+    }
+}
+
+fn make_all(alloc: Global, count: u32) -> Result<Vec<Record>, OutOfMemory>
+    requires { count ≤ 2 ^ 24 }
+    ensures few { IfOk result (λ v. length v.items ≤ 2 ^ 24) }
+    ensures short { IfOk result (λ v. All (λ r. r.number ≤ 4) v.items) }
+{
+    let mut records = Vec::new(alloc);
+    for i in 0..count {
+        records.push(make(i))?;
+    }
+    Ok(records)
+}
+
+// Counts the records by faults' triples, and takes them out again where that is asked for.
+fn count_faults(alloc: Global, records: &[Record], back: bool) -> Result<(), OutOfMemory>
+    requires { length records.now ≤ 2 ^ 24 }
+{
+    let mut faults = Faults::new(alloc);
+    fill(&mut faults, records)?;
+    if back {
+        drain(&mut faults, records);
+    }
+    Ok(())
+}
+
+fn work(alloc: Global, count: u32, name: &str) -> Result<usize, OutOfMemory>
+    requires { count ≤ 2 ^ 24 }
+{
+    let records = make_all(alloc, count)?;
+    if name != "make" {
+        let back = name == "remove";
+        count_faults(alloc, records.as_slice(), back)?;
+    }
+    Ok(records.len())
+}
+
+fn main(rt: HostRuntime) -> io::Result<()> {
+    let mut words = env::args(&rt)?;
+    let _program = words.next();
+    let count = words
+        .next()
+        .and_then(|w| w.parse::<u32>().ok())
+        .unwrap_or(0);
+    let mut done = 0;
+    if let Some(name) = words.next() {
+        if count <= 1 << 24 {
+            done = work(rt.alloc(), count, name.as_str()).unwrap_or(0);
+        }
+    }
+    println!(rt; "{done}")
+}

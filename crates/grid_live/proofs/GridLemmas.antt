@@ -1,24 +1,27 @@
 -- The grid that a tally shows.
 use Rattle.std.specs.Prelude.{◌≡◌, ℕ, ℤ, ◌&&◌, List, [], ◌∷◌, map, refl}
 use Rattle.std.proofs.Common.{sym, ap, ◌∙◌, subst}
-use Rattle.std.proofs.lemmas.Map.Lookups.{CmpEqualImpliesEq, exact_signed, exact_pairs}
-use Rattle.std.specs.Ordering.{int_cmp, int_eq}
+use Rattle.std.proofs.lemmas.Map.Lookups.{CmpEqualImpliesEq, exact_signed, exact_unsigned, exact_pairs}
+use Rattle.std.specs.Ordering.{int_cmp, int_eq, nat_cmp}
+use Rattle.std.proofs.lemmas.Cmp.{nat_cmp_total}
+use Rattle.trace_record.specs.Counts.{count_of}
 use Rattle.std.specs.Cmp.{IsTotalOrder, int_cmp_total, then_total, on_total}
 use Rattle.trace_record.specs.Keys.{grid_counted, cell, inline, crossline}
-use Rattle.trace_record.specs.Rising.{Shows}
+use Rattle.trace_record.specs.Rising.{Shows, times_in}
 use Rattle.trace_record.specs.Tally.{Tally, tally_of}
 use Rattle.trace_record.proofs.KeyLemmas.{is_eq-pair}
 use Rattle.trace_record.proofs.ShownLemmas.{Shows-same, Shows-occurrences, one_shown, times_in-map}
 use Rattle.grid_live.specs.declared.cell.Cell.{Cell}
 use Rattle.grid_live.specs.declared.line.Line.{Line}
-use Rattle.grid_live.specs.Cells.{cell_cmp, cell_with, line_with, cells, histogram_of}
+use Rattle.grid_live.specs.declared.times.Times.{Times}
+use Rattle.grid_live.specs.Cells.{cell_cmp, cell_with, line_with, times_with, cells, histogram_of}
 use Rattle.grid_live.specs.OfTally.{ShowsCells, ShowsInlines, ShowsCrosslines}
 use Rattle.grid_live.specs.Laws.{FoldOfTally, CellsAreShown, InlinesAreShown, CrosslinesAreShown, HistogramIsShown, AtMostOneListOfCells, AtMostOneListOfInlines, AtMostOneListOfCrosslines, AtMostOneHistogram}
 
 cell_total : IsTotalOrder cell_cmp
 cell_total = then_total (on_total (λ (e : ℤ × ℤ). e.0) int_cmp_total) (on_total (λ (e : ℤ × ℤ). e.1) int_cmp_total)
 
-exact_cells : CmpEqualImpliesEq cell_cmp
+pub exact_cells : CmpEqualImpliesEq cell_cmp
 exact_cells = exact_pairs int_cmp int_cmp exact_signed exact_signed
 
 -- entries and back
@@ -37,6 +40,30 @@ lines-back (e ∷ es) = ap (λ r. e ∷ r) (lines-back es)
 lines-forth : (ls : List Line) → map line_with (map (λ (l : Line). (l.number, l.traces)) ls) ≡ ls
 lines-forth [] = refl
 lines-forth (l ∷ ls) = ap (λ r. l ∷ r) (lines-forth ls)
+
+times-back : (es : List (ℕ × ℕ)) → map (λ (t : Times). (t.fold, t.cells)) (map times_with es) ≡ es
+times-back [] = refl
+times-back (e ∷ es) = ap (λ r. e ∷ r) (times-back es)
+
+times-forth : (ts : List Times) → map times_with (map (λ (t : Times). (t.fold, t.cells)) ts) ≡ ts
+times-forth [] = refl
+times-forth (t ∷ ts) = ap (λ r. t ∷ r) (times-forth ts)
+
+-- entries that show counts do so as lines, and as folds with their cells
+pub lines-shown : (number : ℤ → ℕ) (es : List (ℤ × ℕ)) (ls : List Line) → ls ≡ map line_with es → Shows int_cmp number es → Shows int_cmp number (map (λ l. (l.number, l.traces)) ls)
+lines-shown number es ls e s = subst (λ qs. Shows int_cmp number qs) (sym (ap (map (λ (l : Line). (l.number, l.traces))) e ∙ lines-back es)) s
+
+pub times-shown : (number : ℕ → ℕ) (es : List (ℕ × ℕ)) (ts : List Times) → ts ≡ map times_with es → Shows nat_cmp number es → Shows nat_cmp number (map (λ t. (t.fold, t.cells)) ts)
+times-shown number es ts e s = subst (λ qs. Shows nat_cmp number qs) (sym (ap (map (λ (t : Times). (t.fold, t.cells))) e ∙ times-back es)) s
+
+-- the counts of the folds of cells show their histogram
+pub histogram-shown : (cs : List Cell) (counts : List (ℕ × ℕ)) (ts : List Times)
+    → ((q : ℕ) → count_of nat_cmp counts q ≡ times_in nat_cmp (map (λ c. c.fold) cs) q)
+    → Shows nat_cmp (count_of nat_cmp counts) (map (λ t. (t.fold, t.cells)) ts) → ts ≡ histogram_of cs
+histogram-shown cs counts ts same shown =
+    sym (times-forth ts)
+    ∙ ap (map times_with)
+    (one_shown nat_cmp nat_cmp_total exact_unsigned _ _ _ (Shows-same nat_cmp _ _ _ same shown) (Shows-occurrences nat_cmp nat_cmp_total (map (λ c. c.fold) cs)))
 
 -- entries that show the counts of cells, as cells; and the same of lines
 pub ShowsCells-entries : (t : Tally) (es : List ((ℤ × ℤ) × ℕ)) → Shows cell_cmp (λ k. t.count (cell k.0 k.1)) es → ShowsCells t (map cell_with es)

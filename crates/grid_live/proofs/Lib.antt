@@ -1,1 +1,3 @@
+pub mod FittingLemmas
 pub mod GridLemmas
+pub mod OwnKeys

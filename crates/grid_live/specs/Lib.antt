@@ -1,4 +1,6 @@
 pub mod Cells
 pub mod OfTally
+pub mod Fitting
+pub mod OfGrid
 pub mod Laws
 pub mod Examples

@@ -1,14 +1,21 @@
 //! The grid of a survey: which cells have traces and how many, by cell, inline and crossline, and
-//! how often each fold occurs. The calls that are named for a law do nothing: their contract is the
-//! law.
+//! how often each fold occurs. `Grid` counts traces that come and go, and is seen as their tally.
+//! The calls that are named for a law do nothing: their contract is the law.
+//!
+//! `Grid::add` takes memory for a cell, inline or crossline that had no trace, and each call that
+//! answers a list takes memory for it. Where a growth is refused they answer `OutOfMemory`, and the
+//! grid is as it was. No other call takes memory.
 #![tactic(auto)]
 
 mod cell;
+mod grid;
 mod laws;
 mod line;
+mod lists;
 mod times;
 
 pub use crate::cell::Cell;
+pub use crate::grid::Grid;
 pub use crate::laws::{
     at_most_one_histogram, at_most_one_list_of_cells, at_most_one_list_of_crosslines,
     at_most_one_list_of_inlines, cells_are_shown, crosslines_are_shown, fold_of_tally,
@@ -16,3 +23,6 @@ pub use crate::laws::{
 };
 pub use crate::line::Line;
 pub use crate::times::Times;
+
+#[cfg(test)]
+mod tests;

@@ -1,0 +1,74 @@
+// Traces that are counted and no longer are, with values worked by hand.
+use crate::{Cell, Grid, Line, Times};
+use std::alloc::Global;
+use std::test::Fail;
+use trace_record::{OutOfMemory, Ratio, Record, Running};
+
+// The grid of the second trace, once the first came and went.
+fn second_alone(alloc: Global, first: &Record, second: &Record) -> Result<Grid, OutOfMemory> {
+    let mut grid = Grid::new(alloc);
+    grid.add(first)?;
+    grid.add(second)?;
+    grid.remove(first);
+    Ok(grid)
+}
+
+// A trace at this inline and crossline.
+fn trace_at(inline: i32, crossline: i32) -> Record {
+    Record {
+        least: -2,
+        greatest: 1,
+        sum: -1,
+        x: Ratio::whole(1000),
+        y: Ratio::whole(500),
+        inline,
+        crossline,
+        offset: 100,
+        sequence: 1,
+        number: 2,
+        scalar: 0,
+        units: 0,
+        interval: 4000,
+        samples_field: 2,
+        has_known_name: true,
+    }
+}
+
+#[test]
+fn forgets_a_cell(rt: HostRuntime) -> Result<(), Fail> {
+    let grid = second_alone(rt.alloc(), &trace_at(10, 21), &trace_at(10, -22))?;
+    assert_eq!(rt; grid.fold(10, 21), 0);
+    assert_eq!(rt; grid.fold(10, -22), 1);
+    assert_eq!(rt; grid.fold(4_294_967_306, -22), 0);
+    assert_eq!(rt; grid.fold(10, 4_294_967_274), 0);
+    let cells = grid.cells(rt.alloc())?;
+    let cell = Cell {
+        inline: 10,
+        crossline: -22,
+        fold: 1,
+    };
+    assert_eq!(rt; cells.as_slice(), [cell].as_slice());
+    let inlines = grid.inlines(rt.alloc())?;
+    let inline = Line {
+        number: 10,
+        traces: 1,
+    };
+    assert_eq!(rt; inlines.as_slice(), [inline].as_slice());
+    let crosslines = grid.crosslines(rt.alloc())?;
+    let crossline = Line {
+        number: -22,
+        traces: 1,
+    };
+    assert_eq!(rt; crosslines.as_slice(), [crossline].as_slice());
+    let histogram = grid.histogram(rt.alloc())?;
+    let times = Times { fold: 1, cells: 1 };
+    assert_eq!(rt; histogram.as_slice(), [times].as_slice());
+    Ok(())
+}
+
+#[test]
+fn keeps_a_cell_that_has_another_trace(rt: HostRuntime) -> Result<(), Fail> {
+    let grid = second_alone(rt.alloc(), &trace_at(10, 21), &trace_at(10, 21))?;
+    assert_eq!(rt; grid.fold(10, 21), 1);
+    Ok(())
+}

@@ -1,2 +1,4 @@
 pub mod OnceLemmas
+pub mod FirstLemmas
+pub mod ReportSteps
 pub mod Triples

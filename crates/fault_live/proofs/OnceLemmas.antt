@@ -1,5 +1,5 @@
 -- A triple that is counted once stands at no earlier trace.
-use Rattle.std.specs.Prelude.{◌≡◌, ℕ, ℤ, ◌+◌, Bool, true, false, ◌&&◌, cond, if◌then◌else◌, List, [], ◌∷◌, ◌++◌, length, count_by, nat_lt, Some, refl}
+use Rattle.std.specs.Prelude.{◌≡◌, ℕ, ℤ, ◌+◌, ◌<◌, Bool, true, false, ◌&&◌, cond, if◌then◌else◌, List, [], ◌∷◌, ◌++◌, length, count_by, nat_lt, Some, refl}
 use Rattle.std.proofs.Common.{arith, sym, ap, ap₂, ◌∙◌}
 use Rattle.std.proofs.lemmas.List.Sums.{sum_by-cons, sum_by-append}
 use Rattle.std.specs.List.{position_from}
@@ -8,7 +8,8 @@ use Rattle.std.specs.Cmp.{int_cmp_total}
 use Rattle.std.specs.declared.cmp.Ordering.{Ordering}
 use Rattle.std.specs.declared.cmp.Ordering.TheVariants.{Less, Equal, Greater}
 use Rattle.trace_record.specs.Facts.{Facts}
-use Rattle.trace_record.specs.Keys.{faults_has, triple}
+use Rattle.trace_record.specs.Keys.{faults_has, faults_counted, triple}
+use Rattle.trace_record.specs.Tally.{tally_of}
 use Rattle.trace_record.proofs.KeyLemmas.{int_eq-itself}
 use Rattle.fault_live.specs.Faults.{same_triple, repeated}
 use Rattle.fault_live.specs.declared.fault.Fault.TheVariants.{Repeated}
@@ -30,7 +31,11 @@ same_has : (f g : Facts) → same_triple f g ≡ has_of f g
 unfolding has_of
 same_has f g = ap₂ (λ a b. a && b) (ap₂ (λ a b. a && b) (int_eq-flip f.inline g.inline) (int_eq-flip f.crossline g.crossline)) (int_eq-flip f.offset g.offset)
 
-same_itself : (f : Facts) → same_triple f f ≡ true
+-- the order of the two does not matter
+pub same-flip : (f g : Facts) → same_triple f g ≡ same_triple g f
+same-flip f g = ap₂ (λ a b. a && b) (ap₂ (λ a b. a && b) (int_eq-flip f.inline g.inline) (int_eq-flip f.crossline g.crossline)) (int_eq-flip f.offset g.offset)
+
+pub same_itself : (f : Facts) → same_triple f f ≡ true
 same_itself f = ap₂ (λ a b. a && b) (ap₂ (λ a b. a && b) (int_eq-itself f.inline f.inline refl) (int_eq-itself f.crossline f.crossline refl)) (int_eq-itself f.offset f.offset refl)
 
 -- where none before has it, it stands first behind them
@@ -49,12 +54,20 @@ first_behind f gs (g ∷ fs) n e = by (has_of f g) refl (first_behind f gs fs (n
         ∙ i (let s = split ∙ ap (λ (b : Bool). (if b then 1 else 0) + count_by (has_of f) fs) h in omega arith)
         ∙ ap Some (omega arith)
 
-not_before : (p : ℕ) → repeated p (Some p) ≡ []
+pub not_before : (p : ℕ) → repeated p (Some p) ≡ []
 not_before p = by (nat_lt p p) (grind arith)
   where
     by : (b : Bool) → b ≡ false → (if b then Repeated p p ∷ [] else []) ≡ []
     by true e = cc
     by false e = refl
+
+-- a trace's triple is counted at the trace itself
+pub counted_itself : (fs gs : List Facts) (f : Facts) → 0 < (tally_of faults_counted (fs ++ f ∷ gs)).count (triple f.inline f.crossline f.offset)
+unfolding has_of
+counted_itself fs gs f =
+    let parts = sum_by-append (λ h. cond (has_of f h) 1 0) fs (f ∷ gs) in
+    let here = sum_by-cons (λ h. cond (has_of f h) 1 0) f gs ∙ ap (λ (b : Bool). (if b then 1 else 0) + count_by (has_of f) gs) (sym (same_has f f) ∙ same_itself f) in
+    omega arith
 
 pub once_is_not_repeated : OnceIsNotRepeated
 unfolding has_of

@@ -1,11 +1,17 @@
 //! Faults of a volume's headers: what does not agree with the file, with the first trace or with an
-//! earlier trace. Positions of traces count from 1.
+//! earlier trace. Positions of traces count from 1. A `Faults` runs with the traces of a volume;
+//! `report` makes the list of faults from it and the records. Both `add` and `report` may take memory
+//! and answer want of it; the other calls take none. The call that is named for a law does nothing:
+//! its contract is the law.
 #![tactic(auto)]
 
+mod checks;
 mod fault;
 mod faults;
+mod firsts;
 mod head_facts;
 mod laws;
+mod report;
 
 pub use crate::fault::Fault;
 pub use crate::faults::Faults;

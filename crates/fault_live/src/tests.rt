@@ -1,5 +1,8 @@
-// A trace that is counted and no longer is.
-use crate::Faults;
+// A trace that is counted and no longer is, and reports of a small survey of revision 1.0 with two
+// samples a trace.
+ghost use Rattle.std.specs.Prelude.{◌<◌, ◌^◌, length};
+
+use crate::{Fault, Faults, HeadFacts};
 use std::alloc::Global;
 use std::test::Fail;
 use trace_record::{OutOfMemory, Ratio, Record, Running};
@@ -31,5 +34,119 @@ fn counts_a_trace_and_forgets_it(rt: HostRuntime) -> Result<(), Fail> {
         has_known_name: true,
     };
     let _faults = there_and_back(rt.alloc(), &trace)?;
+    Ok(())
+}
+
+// The report on the traces, each counted once.
+fn report_of(alloc: Global, records: &[Record], head: &HeadFacts) -> Result<Vec<Fault>, OutOfMemory>
+    requires { length records.now < 2 ^ 16 }
+{
+    let mut faults = Faults::new(alloc);
+    for trace in records {
+        faults.add(trace)?;
+    }
+    faults.report(alloc, records, head)
+}
+
+fn trace_at(sequence: i32, crossline: i32, offset: i32) -> Record {
+    Record {
+        least: -2,
+        greatest: 1,
+        sum: -1,
+        x: Ratio::whole(1000),
+        y: Ratio::whole(500),
+        inline: 10,
+        crossline,
+        offset,
+        sequence,
+        number: 2,
+        scalar: 0,
+        units: 0,
+        interval: 4000,
+        samples_field: 2,
+        has_known_name: true,
+    }
+}
+
+fn head_of(major: u8, trace_count: u64, lines: u32) -> HeadFacts {
+    HeadFacts {
+        trace_count,
+        lines,
+        interval: 4000,
+        major,
+        minor: 0,
+    }
+}
+
+#[test]
+fn names_the_first_of_those_repeated(rt: HostRuntime) -> Result<(), Fail> {
+    let head = head_of(1, 0, 0);
+    let first = trace_at(1, 21, 100);
+    let second = trace_at(2, 22, 200);
+    let third = trace_at(3, 21, 100);
+    let sound = report_of(rt.alloc(), &[first, second, trace_at(3, 23, 300)], &head)?;
+    assert!(rt; sound.is_empty());
+    let repeated = report_of(rt.alloc(), &[first, second, third], &head)?;
+    assert_eq!(rt; repeated.as_slice(), [Fault::Repeated(3, 1)].as_slice());
+    let moved = report_of(rt.alloc(), &[third, first, second], &head)?;
+    assert_eq!(rt;
+        moved.as_slice(),
+        [
+            Fault::Sequence(1, 3),
+            Fault::Sequence(2, 1),
+            Fault::Repeated(2, 1),
+            Fault::Sequence(3, 2)
+        ]
+        .as_slice()
+    );
+    Ok(())
+}
+
+#[test]
+fn reports_numbers_of_a_trace(rt: HostRuntime) -> Result<(), Fail> {
+    let head = head_of(1, 0, 0);
+    let second = trace_at(2, 22, 200);
+    let mut first = trace_at(1, 21, 100);
+    first.scalar = 5;
+    let scalar = report_of(rt.alloc(), &[first, second], &head)?;
+    assert_eq!(rt; scalar.as_slice(), [Fault::Scalar(1, 5)].as_slice());
+    first.scalar = -10000;
+    first.samples_field = 4;
+    first.interval = 2000;
+    first.units = 3;
+    let several = report_of(rt.alloc(), &[first, second], &head)?;
+    assert_eq!(rt;
+        several.as_slice(),
+        [
+            Fault::Samples(1, 4, 2),
+            Fault::Interval(1, 2000, 4000),
+            Fault::Units(2, 0, 3)
+        ]
+        .as_slice()
+    );
+    first.sequence = 0;
+    first.samples_field = 0;
+    first.interval = 0;
+    let blank = report_of(rt.alloc(), &[first], &head)?;
+    assert_eq!(rt; blank.as_slice(), [Fault::Sequence(1, 0)].as_slice());
+    Ok(())
+}
+
+#[test]
+fn reports_the_head(rt: HostRuntime) -> Result<(), Fail> {
+    let mut first = trace_at(1, 21, 100);
+    first.has_known_name = false;
+    let lines = report_of(rt.alloc(), &[first], &head_of(1, 2, 40))?;
+    assert_eq!(rt; lines.as_slice(), [Fault::TextLines(40)].as_slice());
+    let count = report_of(rt.alloc(), &[first], &head_of(2, 2, 39))?;
+    assert_eq!(rt;
+        count.as_slice(),
+        [
+            Fault::TraceCount(2, 1),
+            Fault::TextLines(39),
+            Fault::Name(1)
+        ]
+        .as_slice()
+    );
     Ok(())
 }

@@ -1,3 +1,7 @@
+pub mod EndKeys
+pub mod EndLemmas
+pub mod OwnValues
 pub mod RangeLemmas
+pub mod SmallTallies
 pub mod TallyRange
 pub mod TotalsLemmas

@@ -4,6 +4,8 @@ pub enum Which {
     Inline,
     Crossline,
     Offset,
+    /// The x coordinate under the trace's coordinate scalar.
     X,
+    /// The y coordinate under the trace's coordinate scalar.
     Y,
 }

@@ -1,6 +1,6 @@
 //! Counts made records in the running reports and takes them out again, so that it can be timed from outside.
-//! Arguments: how many records, at most 16777216; `make`, `add` or `remove`, which makes them, adds them too, and takes them out
-//! too. It prints the number of records.
+//! Arguments: how many records, at most 16777216; `make`, which only makes them, `add`, which adds them too, `report`, which
+//! makes every report of them too, or `remove`, which adds them and takes them out again. It prints the number of records.
 #![tactic(auto)]
 
 ghost use Rattle.std.specs.Prelude.{◌≡◌, ◌≤◌, ◌^◌, All, IfOk, length};
@@ -9,6 +9,7 @@ mod through;
 
 use crate::through::{drain, fill};
 use fault_live::Faults;
+use grid_live::Grid;
 use std::alloc::Global;
 use std::{env, io};
 use trace_record::{OutOfMemory, Ratio, Record, Running};
@@ -50,25 +51,43 @@ fn make_all(alloc: Global, count: u32) -> Result<Vec<Record>, OutOfMemory>
     Ok(records)
 }
 
+// Counts the records' cells and lines; shows them, or takes them out again, where that is asked for.
+fn count_grid(alloc: Global, records: &[Record], then: &str) -> Result<(), OutOfMemory>
+    requires { length records.now ≤ 2 ^ 24 }
+{
+    let mut grid = Grid::new(alloc);
+    fill(&mut grid, records)?;
+    if then == "report" {
+        let _cells = grid.cells(alloc)?;
+        let _inlines = grid.inlines(alloc)?;
+        let _crosslines = grid.crosslines(alloc)?;
+        let _histogram = grid.histogram(alloc)?;
+    }
+    if then == "remove" {
+        drain(&mut grid, records);
+    }
+    Ok(())
+}
+
 // Counts the records by faults' triples, and takes them out again where that is asked for.
-fn count_faults(alloc: Global, records: &[Record], back: bool) -> Result<(), OutOfMemory>
+fn count_faults(alloc: Global, records: &[Record], then: &str) -> Result<(), OutOfMemory>
     requires { length records.now ≤ 2 ^ 24 }
 {
     let mut faults = Faults::new(alloc);
     fill(&mut faults, records)?;
-    if back {
+    if then == "remove" {
         drain(&mut faults, records);
     }
     Ok(())
 }
 
-fn work(alloc: Global, count: u32, name: &str) -> Result<usize, OutOfMemory>
+fn work(alloc: Global, count: u32, then: &str) -> Result<usize, OutOfMemory>
     requires { count ≤ 2 ^ 24 }
 {
     let records = make_all(alloc, count)?;
-    if name != "make" {
-        let back = name == "remove";
-        count_faults(alloc, records.as_slice(), back)?;
+    if then != "make" {
+        count_grid(alloc, records.as_slice(), then)?;
+        count_faults(alloc, records.as_slice(), then)?;
     }
     Ok(records.len())
 }

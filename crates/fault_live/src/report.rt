@@ -1,0 +1,118 @@
+ghost use Rattle.std.specs.Prelude.{◌≡◌, ◌++◌, Some, map, OnOk};
+ghost use Rattle.trace_record.specs.Facts.{facts_of};
+ghost use Rattle.fault_live.specs.Faults.{head_faults, first_units, repeated, unless, is_scalar};
+ghost use Rattle.fault_live.specs.declared.fault.Fault.TheVariants.{Scalar};
+ghost use Rattle.fault_live.specs.Parts.{own_faults, among_faults};
+
+use crate::checks::{
+    has_a_name, has_a_scalar, has_its_count, has_its_position, has_its_samples, has_the_interval,
+    has_the_units, push_unless,
+};
+use crate::{Fault, HeadFacts};
+use trace_record::{OutOfMemory, Record};
+
+// The coordinate units of the first trace.
+pub(crate) fn units_of_first(records: &[Record]) -> i16
+    ensures { result ≡ first_units (map facts_of records.now) }
+{
+    match records.first() {
+        Some(trace) => trace.units,
+        None => 0,
+    }
+}
+
+// F7 and F8.
+pub(crate) fn push_head(
+    report: &mut Vec<Fault>,
+    head: &HeadFacts,
+    traces: u32,
+) -> Result<(), OutOfMemory>
+    ensures { OnOk result (report.new.items ≡ report.old.items ++ head_faults head.now traces) }
+{
+    push_unless(
+        report,
+        has_its_count(head, traces),
+        Fault::TraceCount(head.trace_count, traces),
+    )?;
+    push_unless(report, head.lines == 0, Fault::TextLines(head.lines))?;
+    Ok(())
+}
+
+// F6, where the first position is before the trace's.
+fn push_repeated(report: &mut Vec<Fault>, position: u32, first: u32) -> Result<(), OutOfMemory>
+    ensures { OnOk result (report.new.items ≡ report.old.items ++ repeated position (Some first)) }
+{
+    if first < position {
+        report.push(Fault::Repeated(position, first))?;
+    }
+    Ok(())
+}
+
+// F1 to F3.
+fn push_own(
+    report: &mut Vec<Fault>,
+    head: &HeadFacts,
+    position: u32,
+    trace: &Record,
+) -> Result<(), OutOfMemory>
+    ensures { OnOk result (report.new.items ≡ report.old.items ++ own_faults head.now position (facts_of trace.now)) }
+{
+    push_unless(
+        report,
+        has_its_position(trace, position),
+        Fault::Sequence(position, trace.sequence),
+    )?;
+    push_unless(
+        report,
+        has_its_samples(trace),
+        Fault::Samples(position, trace.samples_field, trace.number),
+    )?;
+    push_unless(
+        report,
+        has_the_interval(trace, head),
+        Fault::Interval(position, trace.interval, head.interval),
+    )?;
+    Ok(())
+}
+
+// F5, F6 and F9.
+fn push_among(
+    report: &mut Vec<Fault>,
+    head: &HeadFacts,
+    units: i16,
+    first: u32,
+    position: u32,
+    trace: &Record,
+) -> Result<(), OutOfMemory>
+    ensures { OnOk result (report.new.items ≡ report.old.items ++ among_faults head.now units (Some first) position (facts_of trace.now)) }
+{
+    push_unless(
+        report,
+        has_the_units(trace, units),
+        Fault::Units(position, trace.units, units),
+    )?;
+    push_repeated(report, position, first)?;
+    push_unless(report, has_a_name(trace, head), Fault::Name(position))?;
+    Ok(())
+}
+
+// F1 to F6 and F9 of a trace whose inline, crossline and offset stand first at this position.
+pub(crate) fn push_trace(
+    report: &mut Vec<Fault>,
+    head: &HeadFacts,
+    units: i16,
+    first: u32,
+    position: u32,
+    trace: &Record,
+) -> Result<(), OutOfMemory>
+    ensures { OnOk result (report.new.items ≡ report.old.items ++ own_faults head.now position (facts_of trace.now) ++ unless (is_scalar trace.now.scalar) (Scalar position trace.now.scalar) ++ among_faults head.now units (Some first) position (facts_of trace.now)) }
+{
+    push_own(report, head, position, trace)?;
+    push_unless(
+        report,
+        has_a_scalar(trace),
+        Fault::Scalar(position, trace.scalar),
+    )?;
+    push_among(report, head, units, first, position, trace)?;
+    Ok(())
+}

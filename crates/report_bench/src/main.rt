@@ -3,19 +3,21 @@
 //! makes every report of them too, or `remove`, which adds them and takes them out again. It prints the number of records.
 #![tactic(auto)]
 
-ghost use Rattle.std.specs.Prelude.{◌≡◌, ◌≤◌, ◌^◌, All, IfOk, length};
+ghost use Rattle.std.specs.Prelude.{◌≡◌, ◌<◌, ◌≤◌, ◌^◌, All, IfOk, length};
 
 mod through;
 
 use crate::through::{drain, fill};
-use fault_live::Faults;
+use fault_live::{Faults, HeadFacts};
 use grid_live::Grid;
+use range_stats::{Ranges, Totals, Which};
 use std::alloc::Global;
 use std::{env, io};
 use trace_record::{OutOfMemory, Ratio, Record, Running};
 
 // A record of a survey with a thousand traces on each inline.
 fn make(i: u32) -> Record
+    requires { i < 2 ^ 24 }
     ensures { result.number ≡ 2 }
 {
     let inline = (i / 1000) as i32;
@@ -29,7 +31,7 @@ fn make(i: u32) -> Record
         inline,
         crossline,
         offset: 100,
-        sequence: 1,
+        sequence: i as i32 + 1,
         number: 2,
         scalar: -10,
         units: 0,
@@ -69,12 +71,60 @@ fn count_grid(alloc: Global, records: &[Record], then: &str) -> Result<(), OutOf
     Ok(())
 }
 
-// Counts the records by faults' triples, and takes them out again where that is asked for.
+// Counts the records' values for the ranges; shows them, or takes them out again, where that is asked for.
+fn count_ranges(alloc: Global, records: &[Record], then: &str) -> Result<(), OutOfMemory>
+    requires { length records.now ≤ 2 ^ 24 }
+{
+    let mut ranges = Ranges::new(alloc);
+    fill(&mut ranges, records)?;
+    if then == "report" {
+        let _inlines = ranges.range(Which::Inline);
+        let _x = ranges.range(Which::X);
+    }
+    if then == "remove" {
+        drain(&mut ranges, records);
+    }
+    Ok(())
+}
+
+// Counts the records' samples; shows their totals, or takes them out again, where that is asked for.
+fn count_totals(alloc: Global, records: &[Record], then: &str) -> Result<(), OutOfMemory>
+    requires few { length records.now ≤ 2 ^ 24 }
+    requires short { All (λ r. r.number ≤ 4) records.now }
+{
+    let mut totals = Totals::new(alloc);
+    fill(&mut totals, records)?;
+    if then == "report" {
+        let _least = totals.least();
+        let _greatest = totals.greatest();
+    }
+    if then == "remove" {
+        drain(&mut totals, records);
+    }
+    Ok(())
+}
+
+// Headers that have no fault themselves.
+fn sound_head() -> HeadFacts {
+    HeadFacts {
+        trace_count: 0,
+        lines: 0,
+        interval: 4000,
+        major: 1,
+        minor: 0,
+    }
+}
+
+// Counts the records by faults' triples; shows their faults, or takes them out again, where that is asked for.
 fn count_faults(alloc: Global, records: &[Record], then: &str) -> Result<(), OutOfMemory>
     requires { length records.now ≤ 2 ^ 24 }
 {
     let mut faults = Faults::new(alloc);
     fill(&mut faults, records)?;
+    if then == "report" {
+        let head = sound_head();
+        let _faults = faults.report(alloc, records, &head)?;
+    }
     if then == "remove" {
         drain(&mut faults, records);
     }
@@ -87,6 +137,8 @@ fn work(alloc: Global, count: u32, then: &str) -> Result<usize, OutOfMemory>
     let records = make_all(alloc, count)?;
     if then != "make" {
         count_grid(alloc, records.as_slice(), then)?;
+        count_ranges(alloc, records.as_slice(), then)?;
+        count_totals(alloc, records.as_slice(), then)?;
         count_faults(alloc, records.as_slice(), then)?;
     }
     Ok(records.len())

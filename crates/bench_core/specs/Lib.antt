@@ -2,6 +2,8 @@ pub mod State
 pub mod Places
 pub mod MapFaults
 pub mod After
+pub mod TraceEdits
+pub mod TraceExamples
 pub mod Refused
 pub mod Steps
 pub mod EditLaws

@@ -5,6 +5,8 @@
 
 ghost use Rattle.std.specs.Prelude.{◌≡◌, ◌<◌, ◌≤◌, ◌^◌, All, IfOk, length};
 
+#[cfg(test)]
+mod tests;
 mod through;
 
 use crate::through::{drain, fill};
@@ -66,7 +68,7 @@ fn count_grid(alloc: Global, records: &[Record], then: &str) -> Result<(), OutOf
         let _histogram = grid.histogram(alloc)?;
     }
     if then == "remove" {
-        drain(&mut grid, records);
+        drain(&mut grid, records, 0);
     }
     Ok(())
 }
@@ -82,7 +84,7 @@ fn count_ranges(alloc: Global, records: &[Record], then: &str) -> Result<(), Out
         let _x = ranges.range(Which::X);
     }
     if then == "remove" {
-        drain(&mut ranges, records);
+        drain(&mut ranges, records, 0);
     }
     Ok(())
 }
@@ -99,7 +101,7 @@ fn count_totals(alloc: Global, records: &[Record], then: &str) -> Result<(), Out
         let _greatest = totals.greatest();
     }
     if then == "remove" {
-        drain(&mut totals, records);
+        drain(&mut totals, records, 0);
     }
     Ok(())
 }
@@ -126,7 +128,7 @@ fn count_faults(alloc: Global, records: &[Record], then: &str) -> Result<(), Out
         let _faults = faults.report(alloc, records, &head)?;
     }
     if then == "remove" {
-        drain(&mut faults, records);
+        drain(&mut faults, records, 0);
     }
     Ok(())
 }

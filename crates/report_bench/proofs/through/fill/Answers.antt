@@ -1,9 +1,9 @@
-use Rattle.std.proofs.Common.{◌≡◌, ◌+◌, ◌-◌, ◌<◌, ◌≤◌, length, refl, sym, subst, arith}
+use Rattle.std.proofs.Common.{◌+◌, refl, sym, subst}
 use Rattle.trace_record.specs.declared.record.Record.{Record}
 use Rattle.trace_record.specs.Facts.{facts_of}
-use Rattle.trace_record.specs.Tally.{Same, IsSmall, tally_of, plus, minus}
+use Rattle.trace_record.specs.Tally.{Same, IsSmall, tally_of, plus}
 use Rattle.trace_record.proofs.TallyLemmas.{Same-trans}
-use Rattle.report_bench.proofs.Fronts.{front, goes_up, goes_down, is_held, small_like}
+use Rattle.report_bench.proofs.Fronts.{front, goes_up, small_like}
 use Rattle.report_bench.proofs.through.fill.Goals as goal
 
 pub add-requires : goal.add-requires

@@ -3,3 +3,4 @@ pub mod SampleLemmas
 pub mod Sets
 mod HeaderEdits
 mod CutAgain
+mod StepsAgain

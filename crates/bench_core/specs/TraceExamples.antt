@@ -2,7 +2,7 @@
 use Rattle.std.specs.Prelude.{◌≡◌, ◌++◌, true, List, [], ◌∷◌, ℕ, pos, negsuc, Some, refl}
 use Rattle.std.specs.List.{concat}
 use Rattle.field_map.specs.declared.place.Place.{Place}
-use Rattle.frame_cut.specs.SmallFiles.{put, zeros, text_plain, bin_plain, file_plain, trace_plain_1, trace_plain_2, trace_plain_3, volume_plain, volume_extended}
+use Rattle.frame_cut.specs.SmallFiles.{put, zeros, text_plain, bin_plain, file_plain, trace_plain_1, trace_plain_2, trace_plain_3, volume_plain, volume_counted}
 use Rattle.frame_cut.specs.Volume.{bytes_of}
 use Rattle.bench_core.specs.TraceEdits.{trace_start, patched, with_blank, with_copy, deleted, moved, resized, renumbered}
 
@@ -38,8 +38,8 @@ pub moved-front : moved volume_plain 3 1 ≡ with_traces (trace_plain_3 ∷ trac
 moved-front = refl
 
 -- four samples in place of two: both counts say so, and two samples of zero stand behind
-pub resized-extended : resized volume_extended 1 4 ≡ put 3715 (0 ∷ 4 ∷ []) (put 3977 (0 ∷ 0 ∷ 0 ∷ 4 ∷ []) (bytes_of volume_extended)) ++ zeros 4
-resized-extended = refl
+pub resized-counted : resized volume_counted 1 4 ≡ put 3715 (0 ∷ 4 ∷ []) (put 3977 (0 ∷ 0 ∷ 0 ∷ 4 ∷ []) (bytes_of volume_counted)) ++ zeros 4
+resized-counted = refl
 
 -- crosslines 100, 95 and 90 in bytes 193-196
 pub renumbered-plain : renumbered volume_plain 1 3 (record { extension = 0; byte = 193; kind = record { size = 4; signed = true } }) (pos 100) (negsuc 4) ≡ put 3796 (100 ∷ []) (put 4040 (95 ∷ []) (put 4284 (90 ∷ []) file_plain))

@@ -2,7 +2,8 @@
 //!
 //! Contracts see a [`Bench`] as its state: the parts of the file as they are now, the field map in force, and the
 //! reading and the limits under which the file was loaded. Traces count from 1, bytes in a header from 1. A refused
-//! edit or query changes nothing. `load` takes memory for the file's bytes and the list of its traces.
+//! edit or query changes nothing. `load` takes memory for the file's bytes, the list of its traces and the six
+//! geometry names; `apply` for `Set` and `Map` alone; `ask` for `Line`, `Stanzas` and `Fields` alone.
 #![tactic(auto)]
 
 mod answer;

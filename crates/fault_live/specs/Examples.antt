@@ -25,7 +25,7 @@ pub faults-moved : faults_of head_1 (trace_3_moved ∷ trace_1 ∷ trace_2 ∷ [
     ≡ Sequence 1 (pos 3) ∷ Sequence 2 (pos 1) ∷ Repeated 2 1 ∷ Sequence 3 (pos 2) ∷ []
 faults-moved = refl
 
--- a trace of zeros alone: its sequence number is 0
+-- without sequence number, interval and number of samples
 pub faults-blank : faults_of head_1 (record trace_1 { sequence = pos 0; interval = 0; samples_field = 0 } ∷ []) ≡ Sequence 1 (pos 0) ∷ []
 faults-blank = refl
 

@@ -13,7 +13,7 @@ use Rattle.grid_live.specs.OfTally.{ShowsCells, ShowsInlines, ShowsCrosslines, S
 abbrev pub FoldOfTally : Type 0
 FoldOfTally = (fs : List Facts) (i c : ℤ) → (tally_of grid_counted fs).count (cell i c) ≡ fold_of fs i c
 
--- the grid of a list of traces is shown by its tally
+-- the cells of a list of traces are shown by its tally
 abbrev pub CellsAreShown : Type 0
 CellsAreShown = (fs : List Facts) → ShowsCells (tally_of grid_counted fs) (cells fs)
 

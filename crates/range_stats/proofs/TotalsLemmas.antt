@@ -184,13 +184,13 @@ none_occurs m n e z p = absurd (omega arith)
 more : (m n : ℕ) → m ≡ n → 0 < m → 0 < n
 more m n e p = omega arith
 
-one_least : (c d : ℤ → ℕ) → ((v : ℤ) → c v ≡ d v) → (l m : Option ℤ) → IsLeastOf c l → IsLeastOf d m → l ≡ m
+pub one_least : (c d : ℤ → ℕ) → ((v : ℤ) → c v ≡ d v) → (l m : Option ℤ) → IsLeastOf c l → IsLeastOf d m → l ≡ m
 one_least c d same None None a b = refl
 one_least c d same None (Some m) a b = none_occurs (c m) (d m) (same m) (a m) b.0
 one_least c d same (Some l) None a b = none_occurs (d l) (c l) (sym (same l)) (b l) a.0
 one_least c d same (Some l) (Some m) a b = ap Some (one_bound l m (a.1 m (more (d m) (c m) (sym (same m)) b.0)) (b.1 l (more (c l) (d l) (same l) a.0)))
 
-one_greatest : (c d : ℤ → ℕ) → ((v : ℤ) → c v ≡ d v) → (l m : Option ℤ) → IsGreatestOf c l → IsGreatestOf d m → l ≡ m
+pub one_greatest : (c d : ℤ → ℕ) → ((v : ℤ) → c v ≡ d v) → (l m : Option ℤ) → IsGreatestOf c l → IsGreatestOf d m → l ≡ m
 one_greatest c d same None None a b = refl
 one_greatest c d same None (Some m) a b = none_occurs (c m) (d m) (same m) (a m) b.0
 one_greatest c d same (Some l) None a b = none_occurs (d l) (c l) (sym (same l)) (b l) a.0

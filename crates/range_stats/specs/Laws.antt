@@ -22,6 +22,14 @@ AtMostOneRange = (w : Which) (fs : List Facts) (r s : Option (Ratio × Ratio)) �
 abbrev pub AtMostOneRangeIn : Type 0
 AtMostOneRangeIn = (w : Which) (t u : Tally) (r s : Option (Ratio × Ratio)) → Same t u → IsRangeIn w t r → IsRangeIn w u s → r ≡ s
 
+-- tallies that say the same have at most one least sample
+abbrev pub AtMostOneLeastIn : Type 0
+AtMostOneLeastIn = (t u : Tally) (a b : Option ℤ) → Same t u → IsLeastIn t a → IsLeastIn u b → a ≡ b
+
+-- tallies that say the same have at most one greatest sample
+abbrev pub AtMostOneGreatestIn : Type 0
+AtMostOneGreatestIn = (t u : Tally) (a b : Option ℤ) → Same t u → IsGreatestIn t a → IsGreatestIn u b → a ≡ b
+
 -- the range of a list of traces is the one in its tally
 abbrev pub RangeOfTally : Type 0
 RangeOfTally = (w : Which) (fs : List Facts) (t : Tally) (r : Option (Ratio × Ratio)) → Same t (tally_of ranges_counted fs) → IsRangeIn w t r → r ≡ range_of w fs

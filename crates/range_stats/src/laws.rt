@@ -1,5 +1,5 @@
 // Laws of ranges and totals, each the contract of a call that does nothing.
-ghost use Rattle.range_stats.specs.Laws.{RangeIsRange, AtMostOneRange, AtMostOneRangeIn, RangeOfTally, TotalsAreOfSamples, TotalsOfTally};
+ghost use Rattle.range_stats.specs.Laws.{RangeIsRange, AtMostOneRange, AtMostOneRangeIn, AtMostOneLeastIn, AtMostOneGreatestIn, RangeOfTally, TotalsAreOfSamples, TotalsOfTally};
 
 /// The range that is computed of a list of traces is their range.
 pub fn range_is_range()
@@ -14,6 +14,16 @@ pub fn at_most_one_range()
 /// Tallies that say the same have the same range.
 pub fn at_most_one_range_in()
     ensures { AtMostOneRangeIn }
+{}
+
+/// Tallies that say the same have the same least sample.
+pub fn at_most_one_least_in()
+    ensures { AtMostOneLeastIn }
+{}
+
+/// Tallies that say the same have the same greatest sample.
+pub fn at_most_one_greatest_in()
+    ensures { AtMostOneGreatestIn }
 {}
 
 /// The range of a list of traces is the one in its tally.

@@ -61,7 +61,7 @@ pub record Stops (options : Options) (old new : Devices) (line : ℕ) : Type 0 w
   pub printed : Takes old.answers new.answers text
   pub unsaved : new.out ≡ old.out
 
--- the lines are run up to one whose answer is not written whole, of which so many bytes of what is printed are taken;
+-- the lines are run up to one whose answer is not written whole; of all that is printed the writer takes so many bytes;
 -- nothing is saved
 pub record LosesAnswer (options : Options) (old new : Devices) (taken : ℕ) : Type 0 where
   pub start : State

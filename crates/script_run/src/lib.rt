@@ -2,11 +2,11 @@
 //!
 //! A script is lines ended by a line feed; the last may lack it, and one carriage return at a line's end is dropped. Words
 //! are separated by blanks and tabs. A line without words, or whose first word begins with `#`, prints nothing; each
-//! other line prints one line. Lines count from 1, those that print nothing too; traces count from 1.
+//! other line prints its answer, one line or a list of lines. Lines count from 1, those that print nothing too; traces count from 1.
 //!
 //! [`parse_line`] reads one line, and takes memory only where its command holds a text or a list. [`run`] loads a volume,
-//! reads a script whole and runs its lines; it takes memory for both, and tells want of it as L16, P03 or E11. The texts
-//! that are printed take none. `run` answers by [`RunEnd`], which is the whole report of a run.
+//! reads a script whole and runs its lines; it takes memory for both, and tells want of it as L16, P03 or E11. Short
+//! answers take none; a text or a list takes memory, and is answered by E11 where that is refused. `run` answers by [`RunEnd`], which is the whole report of a run.
 #![tactic(auto)]
 
 mod answer_texts;

@@ -7,20 +7,21 @@ use Rattle.std.proofs.lemmas.Nat.Gcd.{IsGcd-from_zero, IsGcd-from_mod}
 use Rattle.trace_record.specs.FractionLaws.{with_sign, lowest_terms, quotient_positive, divisor_positive, unsigned_abs-with_sign}
 use Rattle.trace_record.specs.declared.ratio.Ratio.{Ratio}
 
--- what a coordinate stands for: value * scalar over 1 where the scalar is positive, value over 1 where it is 0,
--- value over -scalar where it is negative
+-- a coordinate under its scalar as a fraction, not yet in lowest terms: value * scalar over 1 where the scalar is positive,
+-- value over 1 where it is 0, value over -scalar where it is negative; first its numerator
 abbrev pub scaled_num : ℤ → ℤ → ℤ
 scaled_num value (pos zero) = value
 scaled_num value (pos (suc n)) = value *ℤ pos (suc n)
 scaled_num value (negsuc n) = value
 
+-- and its denominator
 abbrev pub scaled_den : ℤ → ℕ
 scaled_den (pos n) = 1
 scaled_den (negsuc n) = suc n
 
 -- ---- lowest terms
 
--- the greatest common divisor, by Euclid, in fewer steps than the first number
+-- the greatest common divisor, by Euclid, in at most so many steps, which are more than b
 abbrev pub divisor_within : ℕ → ℕ → ℕ → ℕ
 divisor_within zero a b = a
 divisor_within (suc steps) a zero = a

@@ -9,3 +9,4 @@ pub mod Steps
 pub mod EditLaws
 pub mod Answer
 pub mod Held
+pub mod Examples

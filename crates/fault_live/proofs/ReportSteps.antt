@@ -12,8 +12,7 @@ use Rattle.trace_record.specs.declared.record.Record.{Record}
 use Rattle.fault_live.specs.declared.fault.Fault.{Fault}
 use Rattle.fault_live.specs.declared.fault.Fault.TheVariants.{Scalar, Units, Name}
 use Rattle.fault_live.specs.declared.head_facts.HeadFacts.{HeadFacts}
-use Rattle.fault_live.specs.Faults.{faults_of, trace_faults, first_units, first_with, repeated, unless, is_scalar, is_revision_2}
-use Rattle.fault_live.specs.Parts.{own_faults, among_faults}
+use Rattle.fault_live.specs.Faults.{own_faults, among_faults, faults_of, trace_faults, first_units, first_with, repeated, unless, is_scalar, is_revision_2}
 use Rattle.fault_live.specs.OfFaults.{triple_cmp}
 use Rattle.fault_live.proofs.FirstLemmas.{key, AreFirst, still_first, repeats}
 
@@ -25,7 +24,6 @@ in_parts : (h : HeadFacts) (fs : List Facts) (p : ℕ) (f : Facts) (first : Opti
     → own_faults h p f ++ unless (is_scalar f.scalar) (Scalar p f.scalar) ++ among_faults h (first_units fs) first p f ≡ trace_faults h fs p f
 in_parts h fs p f first e =
     ap (λ r. own_faults h p f ++ unless (is_scalar f.scalar) (Scalar p f.scalar) ++ (unless (int_eq f.units (first_units fs)) (Units p f.units (first_units fs)) ++ r ++ unless (not (is_revision_2 h) || f.has_known_name) (Name p))) e
-    ∙ regroup (own_faults h p f ++ unless (is_scalar f.scalar) (Scalar p f.scalar)) (unless (int_eq f.units (first_units fs)) (Units p f.units (first_units fs))) (repeated p (first_with fs f)) (unless (not (is_revision_2 h) || f.has_known_name) (Name p))
 
 -- what is written and what is left are the whole, before and after one element
 written : (w : ℕ × Facts → List Fault) (i p : ℕ) (x : Facts) (rest : List Facts) (old new all : List Fault) → p ≡ i + 1 → new ≡ old ++ w (p, x)

@@ -40,16 +40,26 @@ abbrev pub repeated : ℕ → Option ℕ → List Fault
 repeated p None = []
 repeated p (Some first) = if nat_lt first p then Repeated p first ∷ [] else []
 
--- F1 to F6 and F9 of the trace f at position p, among the traces fs
-abbrev pub trace_faults : HeadFacts → List Facts → ℕ → Facts → List Fault
-trace_faults h fs p f =
+-- F1 to F3 of the trace f at position p
+abbrev pub own_faults : HeadFacts → ℕ → Facts → List Fault
+own_faults h p f =
     unless (int_eq f.sequence (pos p)) (Sequence p f.sequence)
     ++ unless (f.samples_field == 0 || f.samples_field == f.number) (Samples p f.samples_field f.number)
     ++ unless (f.interval == 0 || f.interval == h.interval) (Interval p f.interval h.interval)
-    ++ unless (is_scalar f.scalar) (Scalar p f.scalar)
-    ++ unless (int_eq f.units (first_units fs)) (Units p f.units (first_units fs))
-    ++ repeated p (first_with fs f)
+
+-- F5, F6 and F9, where the first trace has these units and the trace's triple stands first there
+abbrev pub among_faults : HeadFacts → ℤ → Option ℕ → ℕ → Facts → List Fault
+among_faults h units first p f =
+    unless (int_eq f.units units) (Units p f.units units)
+    ++ repeated p first
     ++ unless (not (is_revision_2 h) || f.has_known_name) (Name p)
+
+-- F1 to F6 and F9 of the trace f at position p, among the traces fs
+abbrev pub trace_faults : HeadFacts → List Facts → ℕ → Facts → List Fault
+trace_faults h fs p f =
+    own_faults h p f
+    ++ unless (is_scalar f.scalar) (Scalar p f.scalar)
+    ++ among_faults h (first_units fs) (first_with fs f) p f
 
 -- F7 and F8 of a file with so many traces
 abbrev pub head_faults : HeadFacts → ℕ → List Fault

@@ -1,8 +1,7 @@
 ghost use Rattle.std.specs.Prelude.{◌≡◌, ◌++◌, Some, map, OnOk};
 ghost use Rattle.trace_record.specs.Facts.{facts_of};
-ghost use Rattle.fault_live.specs.Faults.{head_faults, first_units, repeated, unless, is_scalar};
+ghost use Rattle.fault_live.specs.Faults.{head_faults, own_faults, among_faults, first_units, repeated, unless, is_scalar};
 ghost use Rattle.fault_live.specs.declared.fault.Fault.TheVariants.{Scalar};
-ghost use Rattle.fault_live.specs.Parts.{own_faults, among_faults};
 
 use crate::checks::{
     has_a_name, has_a_scalar, has_its_count, has_its_position, has_its_samples, has_the_interval,

@@ -1,11 +1,11 @@
 -- Ranges and totals as they are read from a tally.
-use Rattle.std.specs.Prelude.{◌≡◌, ◌==◌, ℕ, ℤ, ◌<◌, ◌≤ℤ◌, false, if◌then◌else◌, Option, Some, None}
-use Rattle.std.specs.Ordering.{is_gt}
+use Rattle.std.specs.Prelude.{◌≡◌, ◌==◌, ℕ, ℤ, ◌<◌, ◌≤ℤ◌, if◌then◌else◌, Option, Some, None}
 use Rattle.trace_record.specs.Keys.{inline, crossline, offset, coordinate_x, coordinate_y, least, greatest}
 use Rattle.trace_record.specs.Tally.{Tally}
 use Rattle.trace_record.specs.RatioOrder.{ratio_cmp}
 use Rattle.trace_record.specs.declared.ratio.Ratio.{Ratio}
 use Rattle.trace_record.specs.declared.statistics.Statistics.{Statistics}
+use Rattle.range_stats.specs.Extremes.{IsSpan}
 use Rattle.range_stats.specs.declared.which.Which.{Which}
 use Rattle.range_stats.specs.declared.which.Which.TheVariants.{Inline, Crossline, Offset, X, Y}
 
@@ -17,17 +17,9 @@ traces_with Offset t v = if v.den == 1 then t.count (offset v.num) else 0
 traces_with X t v = t.count (coordinate_x v)
 traces_with Y t v = t.count (coordinate_y v)
 
--- l and g occur, and nothing that occurs is below l or above g
-pub record SpansIn (w : Which) (t : Tally) (l g : Ratio) : Type 0 where
-  pub least_occurs : 0 < traces_with w t l
-  pub greatest_occurs : 0 < traces_with w t g
-  pub none_below : (v : Ratio) → 0 < traces_with w t v → is_gt (ratio_cmp l v) ≡ false
-  pub none_above : (v : Ratio) → 0 < traces_with w t v → is_gt (ratio_cmp v g) ≡ false
-
 -- the least and the greatest value that occur, and none where none does
 abbrev pub IsRangeIn : Which → Tally → Option (Ratio × Ratio) → Type 0
-IsRangeIn w t None = (v : Ratio) → traces_with w t v ≡ 0
-IsRangeIn w t (Some r) = SpansIn w t r.0 r.1
+IsRangeIn w t r = IsSpan ratio_cmp (traces_with w t) r
 
 -- the least of the numbers that occur, and none where none does
 abbrev pub IsLeastOf : (ℤ → ℕ) → Option ℤ → Type 0

@@ -10,7 +10,8 @@ use Rattle.sample_codes.specs.Formats.{code_of}
 use Rattle.bench_core.specs.declared.info.Info.{Info}
 use Rattle.bench_core.specs.declared.answer.Answer.{Answer}
 use Rattle.bench_core.specs.declared.answer.Answer.TheVariants as answers
-use Rattle.script_run.specs.Texts.{spaced, ended, listed, without_blanks, place_text}
+use Rattle.text_block.specs.Lines.{without_blanks}
+use Rattle.script_run.specs.Texts.{spaced, ended, listed, place_text}
 
 -- the order of bytes
 abbrev pub order_text : Order → List ℕ

@@ -1,6 +1,6 @@
 -- How lines and places are printed.
-use Rattle.std.specs.Prelude.{ℕ, ◌==◌, ◌-◌, Bool, List, [], ◌++◌, length, take, flat_map, decimal, codes, if◌then◌else◌}
-use Rattle.std.specs.List.{join_with_byte, suffix_len}
+use Rattle.std.specs.Prelude.{ℕ, ◌==◌, Bool, List, [], ◌++◌, length, flat_map, decimal, codes, if◌then◌else◌}
+use Rattle.std.specs.List.{join_with_byte}
 use Rattle.std.specs.Str.{byte}
 use Rattle.field_map.specs.declared.place.Place.{Place}
 
@@ -19,10 +19,6 @@ all_ended lines = flat_map ended lines
 -- a word and how many lines follow, and then these
 abbrev pub listed : List ℕ → List (List ℕ) → List ℕ
 listed word lines = ended (word ++ codes " " ++ decimal (length lines)) ++ all_ended lines
-
--- a text without the blanks at its end
-abbrev pub without_blanks : List ℕ → List ℕ
-without_blanks text = take (length text - suffix_len (λ c. c == byte " ") text) text
 
 -- a place as a script has it: without the extension where that is 0
 abbrev pub extension_text : ℕ → List ℕ

@@ -1,6 +1,7 @@
 // The lines that are printed for answers that are texts or lists, which take memory.
 ghost use Rattle.std.specs.Prelude.{◌≡◌, ◌≤◌, ◌+◌, ◌++◌, length, map, codes, decimal, IfOk, OnOk, MatchResult};
-ghost use Rattle.script_run.specs.Texts.{ended, without_blanks as without_blanks_of, listed, all_ended, place_text};
+ghost use Rattle.text_block.specs.Lines.{without_blanks as without_blanks_of};
+ghost use Rattle.script_run.specs.Texts.{ended, listed, all_ended, place_text};
 ghost use Rattle.script_run.specs.AnswerTexts.{answer_text, stanza_text, field_text};
 ghost use Rattle.bench_core.specs.declared.answer.Answer.TheVariants as answers;
 

@@ -1,5 +1,5 @@
 use Rattle.std.proofs.Common.{◌≡◌, ◌≤◌, length, take}
-use Rattle.script_run.specs.Texts.{without_blanks}
+use Rattle.text_block.specs.Lines.{without_blanks}
 use Rattle.script_run.proofs.long_texts.without_blanks.Given as goal
 
 -- the blanks behind the end do not count

@@ -8,8 +8,7 @@ use Rattle.trace_record.specs.Counts.{count_of}
 use Rattle.trace_record.specs.Facts.{facts_of}
 use Rattle.trace_record.specs.Keys.{triple}
 use Rattle.fault_live.specs.declared.fault.Fault.TheVariants.{Scalar}
-use Rattle.fault_live.specs.Faults.{unless, is_scalar}
-use Rattle.fault_live.specs.Parts.{own_faults, among_faults}
+use Rattle.fault_live.specs.Faults.{own_faults, among_faults, unless, is_scalar}
 use Rattle.fault_live.specs.OfFaults.{triple_cmp}
 use Rattle.fault_live.proofs.ReportSteps.{first_stays, report_grows}
 use Rattle.fault_live.proofs.faults.Faults.report.Goals as goal

@@ -30,12 +30,10 @@ fn make(i: u32) -> Record {
     }
 }
 
-fn raise<K: Ord>(counts: &mut BTreeMap<K, u64>, key: K) {
-    *counts.entry(key).or_insert(0) += 1;
-}
-
-fn lower<K: Ord>(counts: &mut BTreeMap<K, u64>, key: K) {
-    if let Some(count) = counts.get_mut(&key) {
+fn count<const UP: bool, K: Ord>(counts: &mut BTreeMap<K, u64>, key: K) {
+    if UP {
+        *counts.entry(key).or_insert(0) += 1;
+    } else if let Some(count) = counts.get_mut(&key) {
         *count -= 1;
         if *count == 0 {
             counts.remove(&key);
@@ -59,6 +57,23 @@ struct All {
     sum: i128,
 }
 
+impl All {
+    fn count<const UP: bool>(&mut self, r: &Record) {
+        count::<UP, _>(&mut self.cells, (r.inline, r.crossline));
+        count::<UP, _>(&mut self.inlines, r.inline);
+        count::<UP, _>(&mut self.crosslines, r.crossline);
+        count::<UP, _>(&mut self.range_inlines, r.inline);
+        count::<UP, _>(&mut self.range_crosslines, r.crossline);
+        count::<UP, _>(&mut self.offsets, r.offset);
+        count::<UP, _>(&mut self.xs, r.x);
+        count::<UP, _>(&mut self.ys, r.y);
+        count::<UP, _>(&mut self.least, r.least);
+        count::<UP, _>(&mut self.greatest, r.greatest);
+        count::<UP, _>(&mut self.triples, (r.inline, r.crossline, r.offset));
+        self.sum += if UP { r.sum } else { -r.sum };
+    }
+}
+
 fn main() {
     let words: Vec<String> = std::env::args().collect();
     let count: u32 = words.get(1).and_then(|w| w.parse().ok()).unwrap_or(0);
@@ -66,36 +81,10 @@ fn main() {
     let records: Vec<Record> = (0..count).map(make).collect();
     let mut all = All::default();
     if name != "make" {
-        for r in &records {
-            raise(&mut all.cells, (r.inline, r.crossline));
-            raise(&mut all.inlines, r.inline);
-            raise(&mut all.crosslines, r.crossline);
-            raise(&mut all.range_inlines, r.inline);
-            raise(&mut all.range_crosslines, r.crossline);
-            raise(&mut all.offsets, r.offset);
-            raise(&mut all.xs, r.x);
-            raise(&mut all.ys, r.y);
-            raise(&mut all.least, r.least);
-            raise(&mut all.greatest, r.greatest);
-            raise(&mut all.triples, (r.inline, r.crossline, r.offset));
-            all.sum += r.sum;
-        }
+        records.iter().for_each(|r| all.count::<true>(r));
     }
     if name == "remove" {
-        for r in records.iter().rev() {
-            lower(&mut all.cells, (r.inline, r.crossline));
-            lower(&mut all.inlines, r.inline);
-            lower(&mut all.crosslines, r.crossline);
-            lower(&mut all.range_inlines, r.inline);
-            lower(&mut all.range_crosslines, r.crossline);
-            lower(&mut all.offsets, r.offset);
-            lower(&mut all.xs, r.x);
-            lower(&mut all.ys, r.y);
-            lower(&mut all.least, r.least);
-            lower(&mut all.greatest, r.greatest);
-            lower(&mut all.triples, (r.inline, r.crossline, r.offset));
-            all.sum -= r.sum;
-        }
+        records.iter().rev().for_each(|r| all.count::<false>(r));
     }
     println!("{} {} {}", records.len(), all.cells.len(), all.sum);
 }

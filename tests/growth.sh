@@ -15,15 +15,22 @@ meets() {
     got=$?
 }
 
-printf 'set 2 @189:4 7\nget 2 @189:4\n' > script
-"$program" s.sgy --script script --out whole.sgy > /dev/null
-refusals=0
-for number in $(seq 1 400); do
-    meets "$number"
-    asked=$(cat asked 2> /dev/null || echo 0)
-    [ "$number" -gt "$asked" ] && break
-    refusals=$((refusals + 1))
-    outcome="status $got with growth $number of $asked refused: $(head -c 100 answers) $(head -c 100 errors)"
+# each_growth JUDGE WHERE: refuses each growth of the script's run in turn; JUDGE sets `outcome` to ok where the run ended as it
+# may. Leaves the number of runs that met a refusal in `refusals`, and the status of the last, which met none, in `got`.
+each_growth() {
+    refusals=0
+    for number in $(seq 1 400); do
+        meets "$number"
+        asked=$(cat asked 2> /dev/null || echo 0)
+        [ "$number" -gt "$asked" ] && break
+        refusals=$((refusals + 1))
+        outcome="status $got with growth $number of $asked refused: $(head -c 100 answers) $(head -c 100 errors)"
+        "$1"
+        tell "growth $number refused$2" "$outcome"
+    done
+}
+
+judge_set() {
     case $got in
         0) # met a growth that the program can do without
             printf 'ok\nvalue 7\n' | cmp -s - answers && cmp -s o.sgy whole.sgy && [ ! -s errors ] && outcome=ok ;;
@@ -39,21 +46,10 @@ for number in $(seq 1 400); do
             elif [ -s errors ]; then printf 'segywb: cannot open script\n' | cmp -s - errors && [ ! -s answers ] && [ ! -e o.sgy ] && outcome=ok
             else printf 'script refused P03 out of memory\n' | cmp -s - answers && [ ! -e o.sgy ] && outcome=ok; fi ;;
     esac
-    tell "growth $number refused" "$outcome"
-done
-# the last run met no refusal, and at least the file, the list of its traces and the script grew
-if [ "$refusals" -ge 3 ] && [ "$got" = 0 ] && cmp -s o.sgy whole.sgy; then tell 'a run with no growth refused' ok; else tell 'a run with no growth refused' "status $got after $refusals"; fi
+}
 
-# A script whose lines hold names and texts: lines that were answered E11 changed nothing, so that without them the program
-# prints and saves the same.
-printf 'map mine @189:4\nset 2 mine 7\nget 2 inline\ntext 1 C 1 LINE\nline 0 1\nunmap mine\nfields\n' > script
-refusals=0
-for number in $(seq 1 400); do
-    meets "$number"
-    asked=$(cat asked 2> /dev/null || echo 0)
-    [ "$number" -gt "$asked" ] && break
-    refusals=$((refusals + 1))
-    outcome="status $got with growth $number of $asked refused: $(head -c 100 answers) $(head -c 100 errors)"
+# Lines that were answered E11 changed nothing: without them the program prints and saves the same.
+judge_names_and_texts() {
     case $got in
         0 | 1) # some lines were answered E11
             paste -d '\t' script <(head -n 7 answers) | grep -v 'refused E11 out of memory$' | cut -f 1 > fewer
@@ -62,6 +58,14 @@ for number in $(seq 1 400); do
         2 | 3 | 4) # told as above
             [ ! -e o.sgy ] && outcome=ok ;;
     esac
-    tell "growth $number refused among names and texts" "$outcome"
-done
+}
+
+printf 'set 2 @189:4 7\nget 2 @189:4\n' > script
+"$program" s.sgy --script script --out whole.sgy > /dev/null
+each_growth judge_set ''
+# the last run met no refusal, and at least the file, the list of its traces and the script grew
+if [ "$refusals" -ge 3 ] && [ "$got" = 0 ] && cmp -s o.sgy whole.sgy; then tell 'a run with no growth refused' ok; else tell 'a run with no growth refused' "status $got after $refusals"; fi
+
+printf 'map mine @189:4\nset 2 mine 7\nget 2 inline\ntext 1 C 1 LINE\nline 0 1\nunmap mine\nfields\n' > script
+each_growth judge_names_and_texts ' among names and texts'
 if [ "$refusals" -ge 8 ] && [ "$got" = 0 ]; then tell 'names and texts with no growth refused' ok; else tell 'names and texts with no growth refused' "status $got after $refusals"; fi

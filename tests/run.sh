@@ -211,7 +211,7 @@ line 'a limit that is no number' s.sgy --script script --max-bytes many
 line 'help' --help
 expect 'the greatest limit' 0 'ok\n' '' s.sgy --script script --max-bytes 1099511627776
 
-. "$here/growth.sh"
+. "$here/growth.sh" || tell 'growth.sh' 'did not run to its end'
 
 printf 'segywb: %d passed, %d failed\n' "$passed" "$failed"
 [ "$failed" = 0 ]

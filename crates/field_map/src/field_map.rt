@@ -1,6 +1,6 @@
 ghost use Rattle.std.specs.Prelude.{◌≡◌, ◌⊎◌, Some, None, IfOk, IfErr, OnOk, OnErr, MatchResult};
-ghost use Rattle.field_map.specs.Pairs.{bound, unbound, place_of, is_bound};
-ghost use Rattle.field_map.specs.Binding.{geometry_at_load, bind_fault, unbind_fault, further_names, is_full};
+ghost use Rattle.field_map.specs.Pairs.{shown, bound, unbound, place_of, is_bound};
+ghost use Rattle.field_map.specs.Binding.{geometry_at_load, HasGeometry, bind_fault, unbind_fault, further_names, is_full};
 ghost use Rattle.field_map.specs.declared.map_fault.MapFault.TheVariants.{OutOfMemory as no_memory};
 
 use crate::entries::Entries;
@@ -27,8 +27,12 @@ impl Model for FieldMap {
     ghost Value = { NameMap };
 
     ghost use Rattle.field_map.specs.Held.{map_of};
+    ghost use Rattle.field_map.specs.Pairs.{shown};
+    ghost use Rattle.field_map.specs.Binding.{HasGeometry};
 
     ghost view = { map_of };
+
+    ghost invariant = { λ m. HasGeometry m.extensions (shown m.map.entries) };
 }
 
 impl FieldMap {
@@ -38,28 +42,24 @@ impl FieldMap {
         ensures extensions { IfOk result (λ m. m.extensions ≡ extensions) }
         ensures pairs { IfOk result (λ m. m.pairs ≡ geometry_at_load) }
     {
-        let mut fields = FieldMap {
-            extensions,
-            map: IndexMap::new(alloc),
-        };
-        fields.put(alloc, "inline", signed_at(189, 4))?;
-        fields.put(alloc, "crossline", signed_at(193, 4))?;
-        fields.put(alloc, "offset", signed_at(37, 4))?;
-        fields.put(alloc, "x", signed_at(181, 4))?;
-        fields.put(alloc, "y", signed_at(185, 4))?;
-        fields.put(alloc, "scalar", signed_at(71, 2))?;
-        Ok(fields)
+        let mut map = IndexMap::new(alloc);
+        put(&mut map, alloc, "inline", signed_at(189, 4))?;
+        put(&mut map, alloc, "crossline", signed_at(193, 4))?;
+        put(&mut map, alloc, "offset", signed_at(37, 4))?;
+        put(&mut map, alloc, "x", signed_at(181, 4))?;
+        put(&mut map, alloc, "y", signed_at(185, 4))?;
+        put(&mut map, alloc, "scalar", signed_at(71, 2))?;
+        Ok(FieldMap { extensions, map })
     }
 
-    // Binds the name, whatever it is.
-    fn put(&mut self, alloc: Global, name: &str, place: Place) -> Result<(), OutOfMemory>
-        ensures extensions { self.new.extensions ≡ self.old.extensions }
-        ensures ok { OnOk result (self.new.pairs ≡ bound self.old.pairs name.now place) }
-        ensures err { OnErr result (self.new ≡ self.old) }
+    /// Each geometry name is bound, to a place where it may stand: a signed number of 2 or 4 bytes, the scalar of 2,
+    /// inside the main header or, where the file has header extensions, the first of them. Does nothing: its contract is
+    /// the law.
+    pub fn geometry_stands(&self)
+        ensures { HasGeometry self.now.extensions self.now.pairs }
     {
-        let key = String::from_str(alloc, name)?;
-        self.map.insert(key, place)?;
-        Ok(())
+        // Brings the invariant into the proof, and does nothing at run time.
+        let _extensions = self.extensions;
     }
 
     /// The place of a bound name. Takes no memory.
@@ -97,7 +97,7 @@ impl FieldMap {
     {
         match self.binding_refusal(name, place) {
             Some(fault) => Err(fault),
-            None => Ok(self.put(alloc, name, place)?),
+            None => Ok(put(&mut self.map, alloc, name, place)?),
         }
     }
 
@@ -116,15 +116,8 @@ impl FieldMap {
         if !self.is_bound(name) {
             return Err(MapFault::Unknown);
         }
-        self.take_out(name);
+        take_out(&mut self.map, name);
         Ok(())
-    }
-
-    fn take_out(&mut self, name: &str)
-        ensures pairs { self.new.pairs ≡ unbound self.old.pairs name.now }
-        ensures extensions { self.new.extensions ≡ self.old.extensions }
-    {
-        let _place = self.map.shift_remove(name);
     }
 
     // The first reason not to bind the name to the place.
@@ -165,4 +158,25 @@ impl FieldMap {
         }
         count
     }
+}
+
+// Binds the name, whatever it is.
+fn put(
+    map: &mut IndexMap<String, Place>,
+    alloc: Global,
+    name: &str,
+    place: Place,
+) -> Result<(), OutOfMemory>
+    ensures ok { OnOk result (shown map.new.entries ≡ bound (shown map.old.entries) name.now place) }
+    ensures err { OnErr result (shown map.new.entries ≡ shown map.old.entries) }
+{
+    let key = String::from_str(alloc, name)?;
+    map.insert(key, place)?;
+    Ok(())
+}
+
+fn take_out(map: &mut IndexMap<String, Place>, name: &str)
+    ensures { shown map.new.entries ≡ unbound (shown map.old.entries) name.now }
+{
+    let _place = map.shift_remove(name);
 }

@@ -115,6 +115,24 @@ fn binds_in_order(rt: HostRuntime) -> Result<(), Fail> {
     Ok(())
 }
 
+#[test]
+fn geometry_names_stay_bound(rt: HostRuntime) -> Result<(), Fail> {
+    let alloc = rt.alloc();
+    let mut fields = FieldMap::standard(alloc, 3)?;
+    fields.bind(alloc, "x", signed(1, 5, 2))?;
+    assert_eq!(rt;
+        fields.bind(alloc, "x", signed(2, 5, 2)).err(),
+        Some(MapFault::OutsideHeader)
+    );
+    for name in &["inline", "crossline", "offset", "x", "y", "scalar"] {
+        assert_eq!(rt; fields.unbind(name).err(), Some(MapFault::Geometry));
+        assert!(rt; fields.place(name).is_some());
+    }
+    fields.geometry_stands();
+    assert_eq!(rt; fields.place("x"), Some(signed(1, 5, 2)));
+    Ok(())
+}
+
 fn bind_many(fields: &mut FieldMap, alloc: Global) -> Result<(), Fail> {
     for number in 1..65u8 {
         let name = format!(in alloc; "n{number}")?;

@@ -1,3 +1,4 @@
+pub mod GeometryLemmas
 pub mod KeyLemmas
 pub mod OneMore
 pub mod Products

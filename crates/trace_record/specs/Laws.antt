@@ -1,11 +1,16 @@
 -- Laws of statistics, ratios and tallies, whatever traces they are of.
-use Rattle.std.specs.Prelude.{◌≡◌, ℤ, List, ◌∷◌, ◌++◌, IsPermutation}
+use Rattle.std.specs.Prelude.{◌≡◌, ℕ, ℤ, true, List, ◌∷◌, ◌++◌, IsPermutation}
 use Rattle.std.specs.declared.cmp.Ordering.TheVariants.{Equal}
+use Rattle.field_map.specs.Pairs.{Pairs}
+use Rattle.field_map.specs.Binding.{HasGeometry}
+use Rattle.frame_cut.specs.declared.head.Head.{Head}
+use Rattle.frame_cut.specs.Cuts.{IsTrace}
 use Rattle.trace_record.specs.declared.ratio.Ratio.{Ratio}
 use Rattle.trace_record.specs.RatioOrder.{ratio_cmp}
 use Rattle.trace_record.specs.Statistics.{statistics_of, joined}
 use Rattle.trace_record.specs.Facts.{Facts}
 use Rattle.trace_record.specs.Keys.{Counted}
+use Rattle.trace_record.specs.OfTrace.{has_geometry}
 use Rattle.trace_record.specs.Tally.{Tally, tally_of, plus, minus, Same, Holds}
 
 -- the statistics of two lists one after the other are those of both together
@@ -43,3 +48,7 @@ MinusUndoesPlus = (c : Counted) (t : Tally) (f : Facts) → Same (minus c (plus 
 -- and putting it in undoes taking it out, where the tally has it
 abbrev pub PlusUndoesMinus : Type 0
 PlusUndoesMinus = (c : Counted) (t : Tally) (f : Facts) → Holds c t f → Same (plus c (minus c t f) f) t
+
+-- a map that keeps the geometry names gives each trace of its file a geometry
+abbrev pub GeometryOfEachTrace : Type 0
+GeometryOfEachTrace = (h : Head) (fields : Pairs) (t : List ℕ) → HasGeometry h.extensions fields → IsTrace h t → has_geometry h fields t ≡ true

@@ -77,7 +77,7 @@ impl<K: Copy + Ord> Counts<K> {
     }
 
     /// Counts the key once more. Takes memory for a key that is not held, and leaves all as it was
-    /// where the growth is refused.
+    /// where the growth is refused. A held key takes one look-up.
     pub fn raise(&mut self, key: K) -> Result<(), OutOfMemory>
         requires { count_of K.cmp self.old key + 1 < 2 ^ 64 }
         ensures ok { OnOk result (self.new ≡ raised K.cmp self.old key) }
@@ -85,22 +85,28 @@ impl<K: Copy + Ord> Counts<K> {
         ensures each { OnOk result ((q : K) → count_of K.cmp self.new q ≡ count_of K.cmp self.old q + (if is_eq (K.cmp key q) then 1 else 0)) }
         ensures held { 0 < count_of K.cmp self.old key → IsOk result }
     {
-        let n = self.count(&key);
-        self.map.insert(key, n + 1)?;
+        if let Some(held) = self.map.get_mut(&key) {
+            *held += 1;
+            return Ok(());
+        }
+        self.map.insert(key, 1)?;
         Ok(())
     }
 
-    /// Counts the key once less, and leaves it out at 0. Takes no memory.
+    /// Counts the key once less, and leaves it out at 0; one look-up, or two where it leaves it out.
+    /// Takes no memory.
     pub fn lower(&mut self, key: &K)
         requires { 0 < count_of K.cmp self.old key.now }
         ensures lowered { self.new ≡ lowered K.cmp self.old key.now }
         ensures each { (q : K) → count_of K.cmp self.old q ≡ count_of K.cmp self.new q + (if is_eq (K.cmp key.now q) then 1 else 0) }
     {
-        let n = self.count(key);
-        if n == 1 {
-            self.map.remove(key);
-        } else if let Some(at) = self.map.get_mut(key) {
-            *at = n - 1;
+        if let Some(held) = self.map.get_mut(key) {
+            let stays = *held > 1;
+            if stays {
+                *held -= 1;
+            } else {
+                self.map.remove(key);
+            }
         }
     }
 }

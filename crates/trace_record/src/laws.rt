@@ -1,5 +1,5 @@
 // Laws, each the contract of a call that does nothing.
-ghost use Rattle.trace_record.specs.Laws.{StatisticsOfJoined, EqualRatiosAreOne, TallyInAnyOrder, TallyOfOneMore, TallyOfOneLess, TallyHoldsEach, PlusInAnyOrder, MinusUndoesPlus, PlusUndoesMinus};
+ghost use Rattle.trace_record.specs.Laws.{StatisticsOfJoined, EqualRatiosAreOne, TallyInAnyOrder, TallyOfOneMore, TallyOfOneLess, TallyHoldsEach, PlusInAnyOrder, MinusUndoesPlus, PlusUndoesMinus, GeometryOfEachTrace};
 
 /// The statistics of two lists one after the other are those of both together.
 pub fn statistics_of_joined()
@@ -44,4 +44,9 @@ pub fn minus_undoes_plus()
 /// Counting a trace undoes no longer counting it, where the tally has it.
 pub fn plus_undoes_minus()
     ensures { PlusUndoesMinus }
+{}
+
+/// A map that keeps the geometry names gives each trace of its file a geometry.
+pub fn geometry_of_each_trace()
+    ensures { GeometryOfEachTrace }
 {}

@@ -17,9 +17,9 @@ mod statistics;
 
 pub use crate::counts::Counts;
 pub use crate::laws::{
-    equal_ratios_are_one, minus_undoes_plus, plus_in_any_order, plus_undoes_minus,
-    statistics_of_joined, tally_holds_each, tally_in_any_order, tally_of_one_less,
-    tally_of_one_more,
+    equal_ratios_are_one, geometry_of_each_trace, minus_undoes_plus, plus_in_any_order,
+    plus_undoes_minus, statistics_of_joined, tally_holds_each, tally_in_any_order,
+    tally_of_one_less, tally_of_one_more,
 };
 pub use crate::out_of_memory::OutOfMemory;
 pub use crate::ratio::Ratio;

@@ -31,6 +31,7 @@ pub fn locate(chunks: &[Chunk], place: usize, probes: &mut u64) -> Spot
     ensures chunk { result.chunk < length chunks.now }
     ensures probes { probes.new ≡ min (probes.old + result.chunk + 1) (2 ^ 64 - 1) }
 {
+    // Brings the range of `probes` into the proof, and does nothing at run time.
     let _within = *probes;
     let mut left = place;
     for (k, chunk) in chunks.iter().enumerate() {
@@ -358,6 +359,7 @@ impl ChunkList {
         ensures spares { length self.old.spares.items ≤ length self.new.spares.items + 1 }
         ensures home { length self.new.home.items ≡ length self.old.home.items }
     {
+        // Brings the range of `count` into the proof, and does nothing at run time.
         let _within = self.count;
         let mut uncounted = 0;
         let id = self.get(from, &mut uncounted);
@@ -373,6 +375,7 @@ impl ChunkList {
         ensures counted { probes.old ≤ probes.new }
         ensures few_probes { probes.new ≤ probes.old + (length self.now.chunks.items + 1) }
     {
+        // Brings the range of `probes` into the proof, and does nothing at run time.
         let _within = *probes;
         let spot = locate(&self.chunks, place, probes);
         *probes = probes.saturating_add(1);
@@ -387,6 +390,7 @@ impl ChunkList {
         ensures counted { probes.old ≤ probes.new }
         ensures few_probes { probes.new ≤ probes.old + (length self.now.chunks.items + 512) }
     {
+        // Brings the range of `count` into the proof, and does nothing at run time.
         let _within = self.count;
         if id >= self.home.len() {
             return None;
@@ -465,6 +469,7 @@ impl ChunkList {
         requires whole { IsWhole self.now }
         ensures key { result ≡ length self.now.chunks.items }
     {
+        // Brings the range of `count` into the proof, and does nothing at run time.
         let _within = self.count;
         self.chunks.len() as u32
     }
@@ -489,6 +494,7 @@ pub fn find_chunk(chunks: &[Chunk], key: u32, probes: &mut u64) -> Option<Found>
     ensures counted { probes.old ≤ probes.new }
     ensures few_probes { probes.new ≤ probes.old + length chunks.now }
 {
+    // Brings the range of `probes` into the proof, and does nothing at run time.
     let _within = *probes;
     let mut before = 0;
     for (k, chunk) in chunks.iter().enumerate() {

@@ -1,6 +1,7 @@
 ghost use Rattle.std.specs.Prelude.{◌≡◌, ◌+◌, ◌/◌, ◌≤◌, [], length};
 
 use crate::chunk_list::ChunkList;
+use crate::ids::Ids;
 use crate::out_of_memory::OutOfMemory;
 use crate::trace_seq::TraceSeq;
 use std::alloc::Global;
@@ -50,6 +51,13 @@ impl ChunkSeq {
     {
         self.list.chunks.len()
     }
+
+    /// The ids in order. Reads each id once, and takes no memory.
+    pub fn ids(&self) -> Ids<'_>
+        ensures { result ≡ self.now.ids }
+    {
+        Ids::new(&self.list.chunks)
+    }
 }
 
 impl TraceSeq for ChunkSeq {
@@ -85,6 +93,7 @@ impl TraceSeq for ChunkSeq {
     }
 
     fn place_of(&self, id: usize, probes: &mut u64) -> Option<u32> {
+        // Brings the range of `count` into the proof, and does nothing at run time.
         let _within = self.list.count;
         let place = self.list.place_of(id, probes)?;
         Some(place as u32 + 1)

@@ -8,6 +8,7 @@ pub fn find_id(ids: &[usize], id: usize, probes: &mut u64) -> Option<usize>
     ensures counted { probes.old ≤ probes.new }
     ensures few_probes { probes.new ≤ probes.old + length ids.now }
 {
+    // Brings the range of `probes` into the proof, and does nothing at run time.
     let _within = *probes;
     for (place, held) in ids.iter().enumerate() {
         *probes = probes.saturating_add(1);

@@ -116,6 +116,24 @@ fn chunk_row(rt: HostRuntime) -> Result<(), Fail> {
     Ok(())
 }
 
+#[test]
+fn gives_ids_in_order(rt: HostRuntime) -> Result<(), Fail> {
+    let mut seq = ChunkSeq::new(rt.alloc());
+    assert_eq!(rt; seq.ids().next(), None);
+    fills_and_moves(&rt, rt.alloc(), &mut seq)?;
+    let mut ids = seq.ids();
+    for id in (0..1999).rev() {
+        assert_eq!(rt; ids.next(), Some(id));
+    }
+    assert_eq!(rt; ids.next(), None);
+    assert_eq!(rt; ids.next(), None);
+    thins(&mut seq);
+    assert_eq!(rt; seq.ids().next(), Some(1979));
+    assert_eq!(rt; seq.ids().last(), Some(19));
+    assert_eq!(rt; seq.ids().count(), 99);
+    Ok(())
+}
+
 // The next of the pseudo-random numbers.
 fn next(state: &mut u64) -> u32 {
     *state = state
@@ -151,6 +169,10 @@ fn answers_alike(rt: HostRuntime) -> Result<(), Fail> {
     }
     for p in 0..3002 {
         assert_eq!(rt; get(&chunks, p), get(&flat, p));
+    }
+    let mut ids = chunks.ids();
+    for p in 1..3002 {
+        assert_eq!(rt; ids.next(), get(&flat, p));
     }
     Ok(())
 }

@@ -1,0 +1,13 @@
+use Rattle.std.proofs.Common.{◌≡◌, ◌∙◌, sym, subst}
+use Rattle.std.specs.Prelude.{None}
+use Rattle.field_map.specs.Maps.{NameMap}
+use Rattle.field_map.specs.Pairs.{shown}
+use Rattle.field_map.specs.Binding.{bind_fault}
+use Rattle.field_map.proofs.Geometry.{HasGeometry-bound}
+use Rattle.field_map.proofs.field_map.FieldMap.bind.Goals as goal
+
+pub invariant_of-self-in-None : goal.invariant_of-self-in-None
+invariant_of-self-in-None c =
+    let free : bind_fault c.self.inside.extensions (shown c.self.inside.map.entries) c.args.name.now c.args.place ≡ None
+    = subst (λ (m : NameMap). bind_fault m.extensions m.pairs c.args.name.now c.args.place ≡ None) (sym c.self.view_is) (sym c.binding_refusal.ensures ∙ c.in-None.is) in
+    rw c.in_ok-put-in-None.ensures.ok (HasGeometry-bound c.self.inside.extensions (shown c.self.inside.map.entries) c.args.name.now c.args.place free c.self.invariant)

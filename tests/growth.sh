@@ -42,14 +42,14 @@ judge_set() {
             if [ -s errors ]; then printf 'segywb: cannot open s.sgy\n' | cmp -s - errors && [ ! -s answers ] && [ ! -e o.sgy ] && outcome=ok
             else printf 'load refused L16 out of memory\n' | cmp -s - answers && [ ! -e o.sgy ] && outcome=ok; fi ;;
         4) # the script, the answers or the save failed
-            if grep -qs 'segywb: save failed after 0 bytes' errors; then printf 'ok\nvalue 7\n' | cmp -s - answers && [ ! -e o.sgy ] && outcome=ok
+            if grep -qs 'segywb: save failed after 0 bytes' errors; then { [ ! -s answers ] || printf 'ok\nvalue 7\n' | cmp -s - answers; } && [ ! -e o.sgy ] && outcome=ok
             elif [ -s errors ]; then printf 'segywb: cannot open script\n' | cmp -s - errors && [ ! -s answers ] && [ ! -e o.sgy ] && outcome=ok
             else printf 'script refused P03 out of memory\n' | cmp -s - answers && [ ! -e o.sgy ] && outcome=ok; fi ;;
     esac
 }
 
 # Lines that were answered E11 changed nothing: without them the program prints and saves the same.
-judge_names_and_texts() {
+judge_lines() {
     case $got in
         0 | 1) # some lines were answered E11
             paste -d '\t' script <(head -n 7 answers) | grep -v 'refused E11 out of memory$' | cut -f 1 > fewer
@@ -67,5 +67,9 @@ each_growth judge_set ''
 if [ "$refusals" -ge 3 ] && [ "$got" = 0 ] && cmp -s o.sgy whole.sgy; then tell 'a run with no growth refused' ok; else tell 'a run with no growth refused' "status $got after $refusals"; fi
 
 printf 'map mine @189:4\nset 2 mine 7\nget 2 inline\ntext 1 C 1 LINE\nline 0 1\nunmap mine\nfields\n' > script
-each_growth judge_names_and_texts ' among names and texts'
+each_growth judge_lines ' among names and texts'
 if [ "$refusals" -ge 8 ] && [ "$got" = 0 ]; then tell 'names and texts with no growth refused' ok; else tell 'names and texts with no growth refused' "status $got after $refusals"; fi
+
+printf 'patch 2 1 -7\ncopy 2 1\nmove 1 4\nblank 2\ndelete 3\nset 2 @189:4 7\nsample 4 1\n' > script
+each_growth judge_lines ' among edits of traces'
+if [ "$refusals" -ge 8 ] && [ "$got" = 0 ]; then tell 'edits of traces with no growth refused' ok; else tell 'edits of traces with no growth refused' "status $got after $refusals"; fi

@@ -116,6 +116,35 @@ expect 'stanzas' 1 'stanzas 2\nstanza 1 Acme: Note\nstanza 2 Seg:  ENDtext\nline
 cp tail.sgy noted.sgy; printf '((Acme: Tail))' | dd of=noted.sgy bs=1 seek=4084 conv=notrunc status=none
 expect 'stanzas of data trailer records' 1 'stanzas 1\nstanza 1 Acme: Tail\nrefused E03 no place\nrefused E03 no place\nrefused E03 no place\nrefused E03 no place\n' '' noted.sgy --script script
 
+# ---- samples and whole traces
+printf 'sample 1 0\nsample 1 1\nset 1 @1:4 258\npatch 1 0 -2\n' > script
+expect 'a sample of 24 bits' 0 'value -1\nvalue -8388608\nok\nok\n' '' t.sgy --script script --out o.sgy
+differs 'its bytes' t.sgy o.sgy '3601 0 2;3602 0 1;3841 377 376;'
+printf 'patch 2 1 -7\nsample 2 1\npatch 2 1 40000\npatch 2 1 1 2\npatch 2 3 1\npatch 2 0 1 99999 3\npatch 2 2\npatch 4 0 1\npatch 2 0 1 x\npatch 2\n' > script
+expect 'patches' 1 'ok\nvalue -7\nrefused E04 does not fit\nrefused E05 no sample 2 of 2\nrefused E05 no sample 3 of 2\nrefused E04 does not fit\nrefused S02 words\nrefused E01 no trace 4 of 3\nrefused S03 number\nrefused S02 words\n' '' s.sgy --script script --out o.sgy
+differs 'a patch changes its samples' s.sgy o.sgy '4087 0 377;4088 4 371;'
+printf 'delete 3\ndelete 2\ndelete 1\ncount\nblank 1\ncount\ndelete 2\n' > script
+expect 'all traces out and a blank one in' 1 'ok\nok\nok\ntraces 0\nok\ntraces 1\nrefused E01 no trace 2 of 1\n' '' s.sgy --script script --out o.sgy
+{ head -c 3600 s.sgy; zeros 244; } | cmp -s - o.sgy && tell 'the saved file' ok || tell 'the saved file' 'has other bytes'
+printf 'copy 3 1\nmove 2 4\nsample 4 1\nsample 1 0\nmove 1 5\ncopy 1 6\nset 0 inline 1\ncopy 5 1\nmove 0 1\nmove 1 0\nblank 6\nblank 0\ndelete 5\n' > script
+expect 'copies and moves' 1 'ok\nok\nvalue -2\nvalue -5\nrefused E01 no trace 5 of 4\nrefused E01 no trace 6 of 4\nrefused E01 no trace 0 of 4\nrefused E01 no trace 5 of 4\nrefused E01 no trace 0 of 4\nrefused E01 no trace 0 of 4\nrefused E01 no trace 6 of 4\nrefused E01 no trace 0 of 4\nrefused E01 no trace 5 of 4\n' '' s.sgy --script script --out o.sgy
+{ head -c 3600 s.sgy; tail -c 244 s.sgy; tail -c 488 s.sgy; tail -c 732 s.sgy | head -c 244; } | cmp -s - o.sgy && tell 'the saved order' ok || tell 'the saved order' 'is another'
+printf 'patch 1 0 7\nset 1 @10:2 258\nset 1 @9:4 1\ncopy 1 2\nset 1 @9:4 5\nget 2 @9:4\nsample 2 0\nget 1 @9:4\n' > script
+expect 'a copy has the edits' 0 'ok\nok\nok\nok\nok\nvalue 1\nvalue 7\nvalue 5\n' '' x.sgy --script script
+printf 'blank 1\n' > script
+expect 'no room for a trace' 1 'refused E09 too large\n' '' s.sgy --script script --max-bytes 4332
+expect 'just room for a trace' 0 'ok\n' '' s.sgy --script script --max-bytes 4576
+printf 'blank 2\nget 2 @3.1:4\ndelete 1\ninfo\n' > script
+expect 'a blank trace has all header extensions' 0 'ok\nvalue 0\nok\ninfo order big revision 2.0 format 3 samples 2 fixed no extensions 3 blocks 0 trailer 0 traces 1 bytes 4564\n' '' deep.sgy --script script
+printf 'copy 1 2\nblank 3\ndelete 1\ndelete 1\ndelete 1\ncount\n' > script
+expect 'traces in front of a data trailer' 0 'ok\nok\nok\nok\nok\ntraces 0\n' '' noted.sgy --script script --out o.sgy
+{ head -c 3600 noted.sgy; tail -c 6400 noted.sgy; } | cmp -s - o.sgy && tell 'the trailer is kept' ok || tell 'the trailer is kept' 'it is not'
+printf 'count\n' > script
+expect 'and the file loads again' 0 'traces 0\n' '' o.sgy --script script
+{ for _ in $(seq 1200); do echo 'blank 1'; done; for _ in $(seq 1200); do echo 'delete 1'; done; } > script
+expect 'many traces in and out' 0 "$(for _ in $(seq 2400); do printf 'ok\\n'; done)" '' s.sgy --script script --out o.sgy
+differs 'leave the file as it was' s.sgy o.sgy ''
+
 # ---- the frame holds
 printf 'set 1 @115:2u 4\nset 2 @115:2u 2\nset 3 @115:2u 65535\n' > script
 expect 'no edit moves the end of a trace' 1 'refused E06 frame\nok\nok\n' '' v.sgy --script script --out o.sgy

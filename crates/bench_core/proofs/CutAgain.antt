@@ -4,11 +4,15 @@ use Rattle.field_map.specs.declared.place.Place.{Place}
 use Rattle.frame_cut.specs.Cuts.{IsCut}
 use Rattle.frame_cut.specs.Volume.{Volume}
 use Rattle.frame_cut.specs.Traces.{trace_at, with_trace}
-use Rattle.bench_core.specs.declared.edit.Edit.TheVariants.{Set, SetBin, SetText, Map, Unmap}
+use Rattle.bench_core.specs.declared.edit.Edit.TheVariants.{Set, SetBin, SetText, Map, Unmap, Patch, Blank, Copy, Delete, Move}
 use Rattle.bench_core.specs.EditLaws.{StaysCut}
 use Rattle.bench_core.specs.Places.{place_in_trace, place_in_binary}
 use Rattle.bench_core.specs.Refused.{with_value}
 use Rattle.bench_core.specs.After.{bytes_after}
+use Rattle.edit_overlay.specs.Parts.{with_inserted, without, with_moved}
+use Rattle.bench_core.specs.WholeTraces.{blank_trace}
+use Rattle.bench_core.proofs.Patches.{with_samples}
+use Rattle.bench_core.proofs.TraceSteps.{patch_is_after, blank_done, copy_done, delete_done, move_done}
 use Rattle.bench_core.proofs.Sets.{accepted, is_after}
 use Rattle.bench_core.proofs.HeaderEdits.{same_refused, same_after, no_place, bin_accepted, with_binary, bin_is_after, text_accepted, with_text, text_is_after, no_bin_place}
 
@@ -31,3 +35,10 @@ stays_cut s (SetBin f x) cut none = by (place_in_binary f) refl
 stays_cut s (SetText q text) cut none = (with_text s.volume q text, (text_is_after s q text cut (text_accepted s q text none)).volume, refl)
 stays_cut s (Map name place) cut none = (s.volume, cut, refl)
 stays_cut s (Unmap name) cut none = (s.volume, cut, refl)
+stays_cut s (Patch p k values) cut none =
+    let w : Volume = with_trace s.volume p (with_samples s.volume.head (trace_at s.volume p) k values) in
+    (w, (patch_is_after s p k values cut none).volume, refl)
+stays_cut s (Blank p) cut none = (with_inserted s.volume p (blank_trace s.volume.head), (blank_done s p _ _ cut none refl refl).volume, refl)
+stays_cut s (Copy q p) cut none = (with_inserted s.volume p (trace_at s.volume q), (copy_done s q p _ _ cut none refl refl).volume, refl)
+stays_cut s (Delete p) cut none = (without s.volume p, (delete_done s p _ cut none refl).volume, refl)
+stays_cut s (Move a b) cut none = (with_moved s.volume a b, (move_done s a b _ cut none refl).volume, refl)

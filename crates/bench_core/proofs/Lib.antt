@@ -1,6 +1,11 @@
 pub mod Places
-pub mod SampleLemmas
 pub mod Sets
 mod HeaderEdits
+pub mod Accepted
+pub mod WholeTraces
+pub mod Patches
+pub mod Values
+pub mod TraceSteps
 mod CutAgain
 mod StepsAgain
+mod ReadsSet

@@ -1,19 +1,18 @@
 -- A place that a trace has lies in one of its headers.
-use Rattle.std.proofs.Common.{◌≡◌, ◌⊎◌, ℕ, ℤ, zero, suc, ◌+◌, ◌*◌, ◌-◌, ◌<◌, ◌≤◌, Bool, true, false, ◌&&◌, cond, eqb, List, [], append_assoc, length, take, drop, ◌++◌, Option, Some, None, refl, sym, ap, ◌∙◌, arith, inl, inr}
+use Rattle.std.proofs.Common.{◌≡◌, ℕ, ◌+◌, ◌*◌, ◌-◌, ◌<◌, ◌≤◌, Bool, true, false, ◌&&◌, List, append_assoc, length, take, drop, ◌++◌, Option, Some, None, refl, sym, ap, ◌∙◌, arith}
 use Rattle.std.specs.Prelude.{nat_eq, not, option_map, unwrap_or}
 use Rattle.std.specs.Option.{option_eq}
-use Rattle.std.proofs.lemmas.Bool.{ltb-true, leb-true, eq-eqb}
-use Rattle.std.proofs.lemmas.List.{length-take, length-take-le, take-append-le, take-append-drop}
+use Rattle.std.proofs.lemmas.Bool.{ltb-true, leb-true}
+use Rattle.std.proofs.lemmas.List.{length-take, take-append-le, take-append-drop}
 use Rattle.field_map.specs.declared.place.Place.{Place}
-use Rattle.num_order.specs.Number.{is_size, num}
+use Rattle.num_order.specs.Number.{is_size}
 use Rattle.frame_cut.specs.declared.head.Head.{Head}
 use Rattle.frame_cut.specs.Cuts.{IsTrace}
 use Rattle.frame_cut.specs.Frames.{front_length, extension_count, extensions_of, sample_count, trace_length, length_with}
 use Rattle.frame_cut.specs.Splice.{splice}
-use Rattle.frame_cut.proofs.Edits.{trace_length-front, length-splice, splice_inside}
-use Rattle.frame_cut.proofs.OneCut.{trace_length-append}
+use Rattle.frame_cut.proofs.Edits.{trace_length-front, length-splice}
 use Rattle.sample_codes.specs.Formats.{width}
-use Rattle.trace_view.specs.Values.{has_place, value_at, value_of}
+use Rattle.trace_view.specs.Values.{has_place}
 use Rattle.bench_core.specs.Refused.{is_length}
 
 both : (a b : Bool) → (a && b) ≡ true → (a ≡ true) × (b ≡ true)
@@ -60,25 +59,7 @@ place_inside h t place is e =
     let s = stands h t place e in
     omega (arith, headers-le h t is.exact, s.first, s.last, s.header)
 
--- with no extensions the place is in the main header, else it is in the first two headers or behind them
-fronts : (none : Bool) (x extension byte size : ℕ) → (none ≡ true → x ≡ 0) → extension ≤ x → 0 < byte → byte + size < 242
-    → ((240 * extension + byte - 1) + size ≤ cond none 240 480) ⊎ (cond none 240 480 ≤ 240 * extension + byte - 1)
-fronts true x extension byte size z a b c = let e : x ≡ 0 = z refl in inl (omega arith)
-fronts false x zero byte size z a b c = inl (omega arith)
-fronts false x (suc zero) byte size z a b c = inl (omega arith)
-fronts false x (suc (suc k)) byte size z a b c = inr (omega arith)
-
-no_extensions : (none : Bool) (o : Option ℕ) → none ≡ true → unwrap_or (cond none (Some 0) o) 0 ≡ 0
-no_extensions true o e = refl
-no_extensions false o e = absurd cc
-
-pub one_header : (h : Head) (t : List ℕ) (place : Place) → has_place h t place ≡ true
-    → ((240 * place.extension + place.byte - 1) + place.kind.size ≤ front_length h) ⊎ (front_length h ≤ 240 * place.extension + place.byte - 1)
-one_header h t place e =
-    let s = stands h t place e in
-    fronts (eqb h.extensions 0) (extensions_of h t) place.extension place.byte place.kind.size (λ z. no_extensions (eqb h.extensions 0) _ z) s.header s.first s.last
-
--- ---- the length that the headers give, with a splice in them or behind them
+-- ---- the length that the headers give, with a splice behind them
 
 -- the bytes in front of a splice
 take-splice : (t : List ℕ) (f at n : ℕ) (new : List ℕ) → f ≤ at → f ≤ length t → take f (splice t at n new) ≡ take f t
@@ -90,42 +71,14 @@ take-splice t f at n new le lt =
     ∙ sym (take-append-le f (take at t) (drop at t) within)
     ∙ ap (take f) (take-append-drop at t)
 
-itself : (o : Option ℕ) (n : ℕ) → o ≡ Some n → false ≡ not (is_length o n)
-itself o n e = rw (e, eq-eqb n n refl) refl
-
-pub length_behind : (h : Head) (t : List ℕ) (at : ℕ) (new : List ℕ) → IsTrace h t → at + length new ≤ length t → front_length h ≤ at
-    → false ≡ not (is_length (trace_length h (splice t at (length new) new)) (length t))
-length_behind h t at new is inside le =
+-- bytes behind the front leave the length
+pub length_same : (h : Head) (t : List ℕ) (at : ℕ) (new : List ℕ) → IsTrace h t → at + length new ≤ length t → front_length h ≤ at → trace_length h (splice t at (length new) new) ≡ Some (length t)
+length_same h t at new is inside le =
     let u : List ℕ = splice t at (length new) new in
     let long : front_length h ≤ length u = omega (arith, length-splice t at new inside, is.whole) in
-    itself (trace_length h u) (length t) (trace_length-front h u t long is.whole (take-splice t (front_length h) at (length new) new le is.whole) ∙ is.exact)
-
--- the front of the trace with the splice in it
-pub length_within : (h : Head) (t : List ℕ) (at : ℕ) (new : List ℕ) → IsTrace h t → at + length new ≤ front_length h
-    → trace_length h (splice (take (front_length h) t) at (length new) new) ≡ trace_length h (splice t at (length new) new)
-length_within h t at new is inside =
-    let f : ℕ = front_length h in
-    let front : List ℕ = take f t in
-    let size : length front ≡ f = length-take-le f t is.whole in
-    let fits : at + length new ≤ length front = omega (arith, size) in
-    let u : List ℕ = splice front at (length new) new in
-    let long : front_length h ≤ length u = omega (arith, length-splice front at new fits, size) in
-    let zero_at : 0 + at ≡ at = omega arith in
-    let whole : splice t at (length new) new ≡ u ++ drop f t =
-    ap (λ (s : List ℕ). splice s at (length new) new) (sym (take-append-drop f t))
-    ∙ ap (λ (i : ℕ). splice (front ++ drop f t) i (length new) new) (sym zero_at)
-    ∙ splice_inside [] front (drop f t) at (length new) new fits in
-    sym (trace_length-append h u (drop f t) long) ∙ ap (trace_length h) (sym whole)
+    trace_length-front h u t long is.whole (take-splice t (front_length h) at (length new) new le is.whole) ∙ is.exact
 
 -- whether a length is the trace's
 pub same_test : (o : Option ℕ) (n : ℕ) → not (option_eq nat_eq o (Some n)) ≡ not (is_length o n)
 same_test None n = refl
 same_test (Some m) n = refl
-
--- the value that is read at the place
-pub value_here : (h : Head) (t : List ℕ) (place : Place) (x : ℤ) (at size : ℕ) → has_place h t place ≡ true → at ≡ 240 * place.extension + place.byte - 1 → size ≡ place.kind.size
-    → x ≡ num h.order place.kind (take (at + size - at) (drop at t)) → Some x ≡ value_of h t place
-value_here h t place x at size has e f is =
-    let n : at + size - at ≡ place.kind.size = omega (arith, f) in
-    let same : x ≡ value_at h t place = is ∙ rw (n, e) refl in
-    rw (has, same) refl

@@ -1,7 +1,7 @@
 -- A value set in a header of a trace.
 use Rattle.std.proofs.Common.{◌≡◌, ℕ, ◌+◌, ◌*◌, ◌-◌, ◌<◌, ◌≤◌, Bool, true, false, ◌&&◌, cond, List, [], length, Option, Some, None, ℤ, refl, sym, ap, subst, ◌∙◌, arith}
-use Rattle.std.specs.Prelude.{not}
-use Rattle.std.specs.Option.{option_or}
+use Rattle.std.specs.Prelude.{nat_eq, not}
+use Rattle.std.specs.Option.{option_eq, option_or, is_some}
 use Rattle.std.proofs.lemmas.Bool.{leb-true, eqb-true}
 use Rattle.std.proofs.lemmas.List.Elements.{All-get_or}
 use Rattle.num_order.specs.Number.{bytes, fits}
@@ -10,10 +10,10 @@ use Rattle.frame_cut.specs.declared.head.Head.{Head}
 use Rattle.frame_cut.specs.Cuts.{IsTrace, IsCut}
 use Rattle.frame_cut.specs.Frames.{trace_length}
 use Rattle.frame_cut.specs.Splice.{splice}
-use Rattle.frame_cut.specs.Traces.{count_of, is_trace, trace_at, trace_of, with_trace}
+use Rattle.frame_cut.specs.Traces.{count_of, is_trace, trace_at, with_trace}
 use Rattle.frame_cut.specs.Volume.{Volume, bytes_of, start_of}
 use Rattle.frame_cut.proofs.Edits.{cut_with_trace, bytes_with_splice, length-splice}
-use Rattle.trace_view.specs.Values.{has_place}
+use Rattle.trace_view.specs.Values.{has_place, value_of, value_at}
 use Rattle.bench_core.specs.declared.edit.Edit.TheVariants.{Set}
 use Rattle.bench_core.specs.declared.field.Field.TheVariants as field
 use Rattle.bench_core.specs.declared.refusal.Refusal.{Refusal}
@@ -21,7 +21,7 @@ use Rattle.bench_core.specs.declared.refusal.Refusal.TheVariants.{NoTrace, NoPla
 use Rattle.bench_core.specs.State.{State}
 use Rattle.bench_core.specs.Refused.{with_value, is_length, changes_length, set_refusal, refused}
 use Rattle.bench_core.specs.Steps.{IsAfter}
-use Rattle.bench_core.proofs.Places.{stands, place_inside}
+use Rattle.bench_core.proofs.Places.{stands, place_inside, same_test}
 use Rattle.num_order.proofs.InRange.{length-number}
 
 -- ---- the first refusal
@@ -29,14 +29,6 @@ use Rattle.num_order.proofs.InRange.{length-number}
 -- where the trace has the place and the value fits, the trace's length decides
 pub last_refusal : (h : Head) (t : List ℕ) (place : Place) (x : ℤ) → has_place h t place ≡ true → fits place.kind x ≡ true → set_refusal h t (Some place) x ≡ cond (changes_length h t place x) (Some Frame) None
 last_refusal h t place x has fit = rw (has, fit) refl
-
--- the trace that is found is trace p
-found_by : (b : Bool) (u t : List ℕ) → Some t ≡ cond b (Some u) None → (b ≡ true) × (t ≡ u)
-found_by true u t e = (refl, cc)
-found_by false u t e = absurd cc
-
-pub found : (v : Volume) (p : ℕ) (t : List ℕ) → Some t ≡ trace_of v p → (is_trace v p ≡ true) × (t ≡ trace_at v p)
-found v p t e = found_by (is_trace v p) (trace_at v p) t e
 
 pub refused_at : (s : State) (p : ℕ) (place : Place) (x : ℤ) → is_trace s.volume p ≡ true → refused s (Set p (field.Place place) x) ≡ set_refusal s.volume.head (trace_at s.volume p) (Some place) x
 refused_at s p place x e = rw e refl
@@ -50,7 +42,7 @@ pub record Accepted (v : Volume) (p : ℕ) (place : Place) (x : ℤ) : Type 0 wh
   pub fits : fits place.kind x ≡ true
   pub length : trace_length v.head (with_value v.head (trace_at v p) place x) ≡ Some (length (trace_at v p))
 
-none_of_either : {X : Type 0} → (b : Bool) (x : X) (o : Option X) → option_or (cond b None (Some x)) o ≡ None → (b ≡ true) × (o ≡ None)
+pub none_of_either : {X : Type 0} → (b : Bool) (x : X) (o : Option X) → option_or (cond b None (Some x)) o ≡ None → (b ≡ true) × (o ≡ None)
 none_of_either true x o e = (refl, e)
 none_of_either false x o e = absurd cc
 
@@ -85,7 +77,7 @@ accepted s p place x e =
 
 -- ---- what the value makes of the volume
 
-whole_trace : (s : State) (p : ℕ) → IsCut (bytes_of s.volume) s.reading s.limits s.volume → 1 ≤ p → p ≤ count_of s.volume → IsTrace s.volume.head (trace_at s.volume p)
+pub whole_trace : (s : State) (p : ℕ) → IsCut (bytes_of s.volume) s.reading s.limits s.volume → 1 ≤ p → p ≤ count_of s.volume → IsTrace s.volume.head (trace_at s.volume p)
 whole_trace s p cut first last = All-get_or (IsTrace s.volume.head) s.volume.traces (p - 1) [] (omega (arith, first, last)) cut.parts.traces
 
 pub is_after : (s : State) (p : ℕ) (place : Place) (x : ℤ) → IsCut (bytes_of s.volume) s.reading s.limits s.volume → Accepted s.volume p place x
@@ -129,17 +121,30 @@ pub by_length : (h : Head) (t : List ℕ) (place : Place) (x : ℤ) (at : ℕ) (
 by_length h t place x at new b has fit e f is =
     ap (λ (c : Bool). let o : Option Refusal = cond c (Some Frame) None in o) (is ∙ measured h t place x at new e f) ∙ sym (last_refusal h t place x has fit)
 
--- the refusal at the trace that was found
-pub refused_by : (s : State) (p : ℕ) (place : Place) (x : ℤ) (v : Volume) (h : Head) (t : List ℕ) (r : Option Refusal) → v ≡ s.volume → h ≡ v.head → Some t ≡ trace_of v p → r ≡ set_refusal h t (Some place) x
+-- the same where the length with the value is compared with the trace's
+pub by_changed : (h : Head) (t : List ℕ) (place : Place) (x : ℤ) (at : ℕ) (new : List ℕ) (b : Bool) (o : Option ℕ) (n : ℕ) → has_place h t place ≡ true → fits place.kind x ≡ true → at ≡ 240 * place.extension + place.byte - 1
+    → new ≡ bytes h.order place.kind x → o ≡ trace_length h (splice t at (length new) new) → n ≡ length t → b ≡ not (option_eq nat_eq o (Some n)) → cond b (Some Frame) None ≡ set_refusal h t (Some place) x
+by_changed h t place x at new b o n has fit e f changed whole is =
+    by_length h t place x at new b has fit e f
+    (is ∙ rw (changed, whole) refl ∙ same_test (trace_length h (splice t at (length new) new)) (length t))
+
+-- a value that is there stands at a place that the trace has
+some_value : (has : Bool) (x : ℤ) → is_some (cond has (Some x) None) ≡ true → has ≡ true
+some_value true x e = refl
+some_value false x e = absurd cc
+
+pub has_value : (h : Head) (t : List ℕ) (place : Place) (o : Option ℤ) → o ≡ value_of h t place → is_some o ≡ true → has_place h t place ≡ true
+has_value h t place o is e = some_value (has_place h t place) (value_at h t place) (sym (ap (λ (p : Option ℤ). is_some p) is) ∙ e)
+
+-- the refusal at the trace that was looked at
+pub refused_by : (s : State) (p : ℕ) (place : Place) (x : ℤ) (v : Volume) (h : Head) (t : List ℕ) (r : Option Refusal) → v ≡ s.volume → is_trace v p ≡ true → h ≡ v.head → t ≡ trace_at v p → r ≡ set_refusal h t (Some place) x
     → r ≡ refused s (Set p (field.Place place) x)
-refused_by s p place x v h t r same head e is =
-    let f = found v p t e in
-    let there : is_trace s.volume p ≡ true = ap (λ (w : Volume). is_trace w p) (sym same) ∙ f.0 in
+refused_by s p place x v h t r same there head e is =
     is
     ∙ ap (λ (k : Head). set_refusal k t (Some place) x) head
-    ∙ ap (λ (u : List ℕ). set_refusal v.head u (Some place) x) f.1
+    ∙ ap (λ (u : List ℕ). set_refusal v.head u (Some place) x) e
     ∙ ap (λ (w : Volume). set_refusal w.head (trace_at w p) (Some place) x) same
-    ∙ sym (refused_at s p place x there)
+    ∙ sym (refused_at s p place x (ap (λ (w : Volume). is_trace w p) (sym same) ∙ there))
 
 -- ---- the volume that is made
 
@@ -166,3 +171,19 @@ put_inside s p place x at new cut none e f =
     let size : length new ≡ place.kind.size = ap (λ (u : List ℕ). length u) f ∙ length-number s.volume.head.order place.kind x in
     let inside = place_inside s.volume.head (trace_at s.volume p) place (whole_trace s p cut a.first a.last) a.has in
     rw (e, size) inside
+
+-- and leave it a whole trace
+pub put_whole : (s : State) (p : ℕ) (place : Place) (x : ℤ) (at : ℕ) (new : List ℕ) → IsCut (bytes_of s.volume) s.reading s.limits s.volume → refused s (Set p (field.Place place) x) ≡ None
+    → at ≡ 240 * place.extension + place.byte - 1 → new ≡ bytes s.volume.head.order place.kind x → IsTrace s.volume.head (splice (trace_at s.volume p) at (length new) new)
+put_whole s p place x at new cut none e f =
+    let h : Head = s.volume.head in
+    let t : List ℕ = trace_at s.volume p in
+    let a : Accepted s.volume p place x = accepted s p place x none in
+    let is : IsTrace h t = whole_trace s p cut a.first a.last in
+    let size : length new ≡ place.kind.size = ap (λ (u : List ℕ). length u) f ∙ length-number h.order place.kind x in
+    let same : with_value h t place x ≡ splice t at (length new) new = rw (size, e, f) refl in
+    let len : length (splice t at (length new) new) ≡ length t = length-splice t at new (put_inside s p place x at new cut none e f) in
+    record {
+      whole = omega (arith, len, is.whole);
+      exact = ap (trace_length h) (sym same) ∙ a.length ∙ ap (λ (n : ℕ). let o : Option ℕ = Some n in o) (sym len);
+    }

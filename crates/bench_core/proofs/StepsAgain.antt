@@ -1,6 +1,5 @@
 -- Any list of edits leaves a file that is cut.
 use Rattle.std.proofs.Common.{◌≡◌, ℕ, List, [], ◌∷◌, Option, Some, None, Result, Ok, Err, refl, sym, ap, subst, ◌∙◌}
-use Rattle.frame_cut.specs.declared.head.Head.{Head}
 use Rattle.frame_cut.specs.Cuts.{IsCut}
 use Rattle.frame_cut.specs.Volume.{Volume, bytes_of}
 use Rattle.frame_cut.proofs.OneCut.{at_most_one_cut}
@@ -10,7 +9,7 @@ use Rattle.bench_core.specs.After.{bytes_after}
 use Rattle.bench_core.specs.EditLaws.{IsReadAlike, StepsStayCut}
 use Rattle.bench_core.specs.Refused.{refused}
 use Rattle.bench_core.specs.State.{State}
-use Rattle.bench_core.specs.Steps.{IsAfter, StepUnless, Step, Steps}
+use Rattle.bench_core.specs.Steps.{IsAfter, StepUnless}
 use Rattle.bench_core.proofs.CutAgain.{stays_cut}
 
 -- the volume is the cut of its own bytes

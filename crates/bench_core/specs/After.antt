@@ -10,8 +10,9 @@ use Rattle.text_block.specs.Lines.{encoded_line}
 use Rattle.frame_cut.specs.Splice.{splice}
 use Rattle.frame_cut.specs.Volume.{Volume, bytes_of, start_of}
 use Rattle.bench_core.specs.declared.edit.Edit.{Edit}
-use Rattle.bench_core.specs.declared.edit.Edit.TheVariants.{Set, SetBin, SetText, Map, Unmap}
+use Rattle.bench_core.specs.declared.edit.Edit.TheVariants.{Set, SetBin, SetText, Map, Unmap, Patch, Blank, Copy, Delete, Move}
 use Rattle.bench_core.specs.Places.{place_in_trace, place_in_binary}
+use Rattle.bench_core.specs.WholeTraces.{patched, with_blank, with_copy, deleted, moved}
 
 -- the value over a place of trace p
 abbrev pub put_in_trace : Volume → ℕ → Place → ℤ → List ℕ → List ℕ
@@ -28,6 +29,11 @@ bytes_after v fields (SetBin field x) = option_map_or (λ place. put_in_binary v
 bytes_after v fields (SetText q text) = splice (bytes_of v) (80 * (q - 1)) 80 (encoded_line (code_of v.text) (chars text))
 bytes_after v fields (Map name place) = bytes_of v
 bytes_after v fields (Unmap name) = bytes_of v
+bytes_after v fields (Patch p k values) = patched v p k values
+bytes_after v fields (Blank p) = with_blank v p
+bytes_after v fields (Copy q p) = with_copy v q p
+bytes_after v fields (Delete p) = deleted v p
+bytes_after v fields (Move a b) = moved v a b
 
 -- the field map after the edit
 abbrev pub fields_after : Pairs → Edit → Pairs
@@ -36,3 +42,8 @@ fields_after fields (Unmap name) = unbound fields name
 fields_after fields (Set p field x) = fields
 fields_after fields (SetBin field x) = fields
 fields_after fields (SetText q text) = fields
+fields_after fields (Patch p k values) = fields
+fields_after fields (Blank p) = fields
+fields_after fields (Copy q p) = fields
+fields_after fields (Delete p) = fields
+fields_after fields (Move a b) = fields

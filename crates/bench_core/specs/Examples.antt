@@ -1,15 +1,14 @@
 -- Edits and queries of small files, worked by hand.
-use Rattle.std.specs.Prelude.{◌≡◌, ℕ, ℤ, true, false, List, [], ◌∷◌, pos, negsuc, Option, Some, None, Result, Ok, Err, codes, refl}
+use Rattle.std.specs.Prelude.{◌≡◌, [], ◌∷◌, pos, Some, None, Ok, Err, codes, refl}
 use Rattle.std.specs.Str.{chars}
-use Rattle.field_map.specs.declared.place.Place.{Place}
 use Rattle.field_map.specs.declared.map_fault.MapFault.TheVariants as map_faults
 use Rattle.field_map.specs.Binding.{geometry_at_load}
-use Rattle.field_map.specs.Pairs.{signed_at, unsigned_at}
+use Rattle.field_map.specs.Pairs.{unsigned_at}
 use Rattle.text_block.specs.declared.text_fault.TextFault.TheVariants as text_faults
 use Rattle.frame_cut.specs.declared.reading.Reading.TheVariants.{AsWritten}
 use Rattle.frame_cut.specs.SmallFiles.{put, wide_limits, file_plain, volume_plain, volume_extended, volume_counted}
 use Rattle.frame_cut.specs.Volume.{Volume}
-use Rattle.bench_core.specs.declared.edit.Edit.TheVariants.{Set, SetBin, SetText, Map, Unmap}
+use Rattle.bench_core.specs.declared.edit.Edit.TheVariants.{Set, SetBin, SetText, Unmap}
 use Rattle.bench_core.specs.declared.field.Field.TheVariants as field
 use Rattle.bench_core.specs.declared.query.Query.TheVariants as queries
 use Rattle.bench_core.specs.declared.answer.Answer.TheVariants as answers

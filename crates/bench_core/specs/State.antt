@@ -1,4 +1,5 @@
 -- A volume under edits, with all that its answers depend on.
+use Rattle.std.specs.Prelude.{ℕ}
 use Rattle.field_map.specs.Pairs.{Pairs}
 use Rattle.frame_cut.specs.declared.limits.Limits.{Limits}
 use Rattle.frame_cut.specs.declared.reading.Reading.{Reading}
@@ -10,3 +11,8 @@ pub record State : Type 0 where
   pub fields : Pairs
   pub reading : Reading
   pub limits : Limits
+
+-- a state, and how often traces were looked at
+pub record Session : Type 0 where
+  pub state : State
+  pub looks : ℕ

@@ -1,10 +1,10 @@
 -- Edits of samples and of whole traces, worked by hand.
-use Rattle.std.specs.Prelude.{◌≡◌, ◌++◌, true, List, [], ◌∷◌, ℕ, pos, negsuc, Some, refl}
+use Rattle.std.specs.Prelude.{◌≡◌, ◌++◌, true, List, [], ◌∷◌, ℕ, pos, negsuc, refl}
 use Rattle.std.specs.List.{concat}
-use Rattle.field_map.specs.declared.place.Place.{Place}
 use Rattle.frame_cut.specs.SmallFiles.{put, zeros, text_plain, bin_plain, file_plain, trace_plain_1, trace_plain_2, trace_plain_3, volume_plain, volume_counted}
 use Rattle.frame_cut.specs.Volume.{bytes_of}
-use Rattle.bench_core.specs.TraceEdits.{trace_start, patched, with_blank, with_copy, deleted, moved, resized, renumbered}
+use Rattle.bench_core.specs.TraceEdits.{resized, renumbered}
+use Rattle.bench_core.specs.WholeTraces.{trace_start, patched, with_blank, with_copy, deleted, moved}
 
 -- the first plain file with these traces
 abbrev with_traces : List (List ℕ) → List ℕ

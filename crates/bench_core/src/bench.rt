@@ -12,6 +12,7 @@ ghost use Rattle.bench_core.specs.declared.edit.Edit.TheVariants as edits;
 ghost use Rattle.bench_core.specs.declared.field.Field.TheVariants as fields;
 ghost use Rattle.bench_core.specs.declared.query.Query.TheVariants as queries;
 ghost use Rattle.bench_core.specs.declared.refusal.Refusal.TheVariants.{OutOfMemory as no_memory, NoField as no_such_field};
+ghost use Rattle.bench_core.specs.Looks.{RisesAtMost, edit_looks, query_looks};
 ghost use Rattle.bench_core.specs.Places.{place_in_trace};
 ghost use Rattle.bench_core.specs.Refused.{refused, no_trace};
 ghost use Rattle.bench_core.specs.Steps.{IsAfter, Step};
@@ -22,7 +23,7 @@ use crate::ask_fault::AskFault;
 use crate::binary_header::{self, place_in_binary, set_bin_refusal};
 use crate::edit::Edit;
 use crate::field::Field;
-use crate::header_field::{offset_of, set_refusal, value_of};
+use crate::header_field::{offset_of, set_refusal};
 use crate::info::Info;
 use crate::listed::Listed;
 use crate::query::Query;
@@ -44,20 +45,20 @@ use text_block::{code_of, encode_line, line};
 /// One volume: a file that was loaded, with the edits that were accepted since.
 #[derive(Drop)]
 pub struct Bench {
-    overlay: Overlay,
+    pub(crate) overlay: Overlay,
     fields: FieldMap,
     reading: Reading,
-    limits: Limits,
+    pub(crate) limits: Limits,
 }
 
 impl Model for Bench {
-    ghost use Rattle.bench_core.specs.State.{State};
+    ghost use Rattle.bench_core.specs.State.{Session};
 
-    ghost Value = { State };
+    ghost Value = { Session };
 
-    ghost use Rattle.bench_core.specs.Held.{state_of, IsHeld};
+    ghost use Rattle.bench_core.specs.Held.{session_of, IsHeld};
 
-    ghost view = { state_of };
+    ghost view = { session_of };
 
     ghost invariant = { IsHeld };
 }
@@ -73,12 +74,13 @@ impl Bench {
         limits: Limits,
     ) -> Result<Bench, LoadFault>
         ensures taken { IfOk result (λ b. Consumes (R.remaining reader.old.0)
-            (R.remaining reader.new.0) (bytes_of b.volume)) }
+            (R.remaining reader.new.0) (bytes_of b.state.volume)) }
         ensures all { IfOk result (λ _. IsAtEnd (R.remaining reader.new.0)) }
-        ensures cut { IfOk result (λ b. IsCut (bytes_of b.volume) reading limits b.volume) }
-        ensures fields { IfOk result (λ b. b.fields ≡ geometry_at_load) }
-        ensures reading { IfOk result (λ b. b.reading ≡ reading) }
-        ensures limits { IfOk result (λ b. b.limits ≡ limits) }
+        ensures looks { IfOk result (λ b. b.looks ≡ 0) }
+        ensures cut { IfOk result (λ b. IsCut (bytes_of b.state.volume) reading limits b.state.volume) }
+        ensures fields { IfOk result (λ b. b.state.fields ≡ geometry_at_load) }
+        ensures reading { IfOk result (λ b. b.state.reading ≡ reading) }
+        ensures limits { IfOk result (λ b. b.state.limits ≡ limits) }
         ensures refused { IfErr result (λ fault. IsLoadFault (R.remaining reader.old.0) reading limits fault) }
         ensures failures { MatchResult result (λ _. reader.new.1 ≡ reader.old.1)
             (λ fault. FailuresAfterRefusal fault reader.old.1 reader.new.1) }
@@ -95,9 +97,11 @@ impl Bench {
         })
     }
 
-    /// One edit: done, or refused and nothing is changed.
+    /// One edit: done, or refused and the state is as it was. `Set`, `Map`, `Patch`, `Blank`, `Copy` and `Move` take memory,
+    /// and are refused for want of it, E11, only where nothing else refuses them.
     pub fn apply(&mut self, alloc: Global, edit: &Edit) -> Result<(), Refusal>
-        ensures { Step self.old edit.now result self.new }
+        ensures step { Step self.old.state edit.now result self.new.state }
+        ensures looks { RisesAtMost self.old.looks self.new.looks (edit_looks edit.now) }
     {
         match edit {
             Edit::Set(p, field, value) => self.set_field(alloc, *p, field, *value),
@@ -105,12 +109,17 @@ impl Bench {
             Edit::SetText(q, text) => self.set_text(*q, text),
             Edit::Map(name, place) => self.bind(alloc, name, *place),
             Edit::Unmap(name) => self.unbind(name),
+            Edit::Patch(p, k, values) => self.patch(alloc, *p, *k, values.as_slice()),
+            Edit::Blank(p) => self.blank(alloc, *p),
+            Edit::Copy(q, p) => self.copy(alloc, *q, *p),
+            Edit::Delete(p) => self.delete(*p),
+            Edit::Move(a, b) => self.move_trace(alloc, *a, *b),
         }
     }
 
     // The place of a trace's field, where it has one.
     fn place_in_trace(&self, field: &Field) -> Option<Place>
-        ensures { result ≡ place_in_trace self.now.fields field.now }
+        ensures { result ≡ place_in_trace self.now.state.fields field.now }
     {
         match field {
             Field::Place(place) => Some(*place),
@@ -122,8 +131,8 @@ impl Bench {
     }
 
     // Whether there is a trace p.
-    fn has_trace(&self, p: u32) -> bool
-        ensures { result ≡ is_trace self.now.volume p }
+    pub(crate) fn has_trace(&self, p: u32) -> bool
+        ensures { result ≡ is_trace self.now.state.volume p }
     {
         p >= 1 && p <= self.overlay.count()
     }
@@ -136,7 +145,8 @@ impl Bench {
         field: &Field,
         value: i128,
     ) -> Result<(), Refusal>
-        ensures { Step self.old (edits.Set p field.now value) result self.new }
+        ensures step { Step self.old.state (edits.Set p field.now value) result self.new.state }
+        ensures looks { RisesAtMost self.old.looks self.new.looks 2 }
     {
         match self.place_in_trace(field) {
             Some(place) => self.set(alloc, p, place, value),
@@ -146,7 +156,7 @@ impl Bench {
 
     // The first refusal of a field without a place: E01, E02.
     fn no_field(&self, p: u32) -> Refusal
-        ensures { Some result ≡ option_or (no_trace self.now.volume p) (Some no_such_field) }
+        ensures { Some result ≡ option_or (no_trace self.now.state.volume p) (Some no_such_field) }
     {
         if self.has_trace(p) {
             Refusal::NoField
@@ -157,7 +167,8 @@ impl Bench {
 
     // The value into the place of trace p, or the first refusal.
     fn set(&mut self, alloc: Global, p: u32, place: Place, value: i128) -> Result<(), Refusal>
-        ensures { Step self.old (edits.Set p (fields.Place place) value) result self.new }
+        ensures step { Step self.old.state (edits.Set p (fields.Place place) value) result self.new.state }
+        ensures looks { RisesAtMost self.old.looks self.new.looks 2 }
     {
         match self.set_refusal(p, place, value) {
             Some(refusal) => Err(refusal),
@@ -167,9 +178,10 @@ impl Bench {
 
     // The value into the place of trace p, where nothing but memory refuses it.
     fn put_value(&mut self, alloc: Global, p: u32, place: Place, value: i128) -> Result<(), Refusal>
-        requires { refused self.old (edits.Set p (fields.Place place) value) ≡ None }
-        ensures ok { OnOk result (IsAfter self.old (edits.Set p (fields.Place place) value) self.new) }
-        ensures err { IfErr result (λ refusal. (refusal ≡ no_memory) × (self.new ≡ self.old)) }
+        requires { refused self.old.state (edits.Set p (fields.Place place) value) ≡ None }
+        ensures ok { OnOk result (IsAfter self.old.state (edits.Set p (fields.Place place) value) self.new.state) }
+        ensures err { IfErr result (λ refusal. (refusal ≡ no_memory) × (self.new.state ≡ self.old.state)) }
+        ensures looks { self.new.looks ≡ self.old.looks }
     {
         let mut buffer = [0u8; 8];
         let new = &mut buffer[..usize::from(place.kind.size)];
@@ -180,19 +192,22 @@ impl Bench {
     }
 
     // The first refusal of the value at the place of trace p: E01, E03, E04, E06.
-    fn set_refusal(&self, p: u32, place: Place, value: i128) -> Option<Refusal>
-        ensures { result ≡ refused self.now (edits.Set p (fields.Place place) value) }
+    fn set_refusal(&mut self, p: u32, place: Place, value: i128) -> Option<Refusal>
+        ensures refusal { result ≡ refused self.old.state (edits.Set p (fields.Place place) value) }
+        ensures state { self.new.state ≡ self.old.state }
+        ensures looks { RisesAtMost self.old.looks self.new.looks 1 }
     {
         let head = self.overlay.head();
-        match self.overlay.trace(p) {
-            Some(trace) => set_refusal(&head, trace, place, value),
-            None => Some(Refusal::NoTrace(p, self.overlay.count())),
-        }
+        let Some(trace) = self.overlay.look(p) else {
+            return Some(Refusal::NoTrace(p, self.overlay.count()));
+        };
+        set_refusal(head.order, &trace, place, value)
     }
 
     // The value into the field of the binary header, or the first refusal: E02, E03, E04, E06.
     fn set_bin(&mut self, field: &Field, value: i128) -> Result<(), Refusal>
-        ensures { Step self.old (edits.SetBin field.now value) result self.new }
+        ensures step { Step self.old.state (edits.SetBin field.now value) result self.new.state }
+        ensures looks { self.new.looks ≡ self.old.looks }
     {
         let Some(place) = place_in_binary(field) else {
             return Err(Refusal::NoField);
@@ -208,8 +223,9 @@ impl Bench {
 
     // The value into the place of the binary header, where nothing refuses it.
     fn put_in_binary(&mut self, place: Place, value: i128)
-        requires { refused self.old (edits.SetBin (fields.Place place) value) ≡ None }
-        ensures { IsAfter self.old (edits.SetBin (fields.Place place) value) self.new }
+        requires { refused self.old.state (edits.SetBin (fields.Place place) value) ≡ None }
+        ensures after { IsAfter self.old.state (edits.SetBin (fields.Place place) value) self.new.state }
+        ensures looks { self.new.looks ≡ self.old.looks }
     {
         let mut buffer = [0u8; 8];
         let new = &mut buffer[..usize::from(place.kind.size)];
@@ -220,7 +236,8 @@ impl Bench {
 
     // The text as line q of the textual header, or the first refusal: E03, E07.
     fn set_text(&mut self, q: u32, text: &Text) -> Result<(), Refusal>
-        ensures { Step self.old (edits.SetText q text.now) result self.new }
+        ensures step { Step self.old.state (edits.SetText q text.now) result self.new.state }
+        ensures looks { self.new.looks ≡ self.old.looks }
     {
         if !is_line(q) {
             return Err(Refusal::NoPlace);
@@ -232,7 +249,8 @@ impl Bench {
 
     // The name bound to the place, or the first refusal.
     fn bind(&mut self, alloc: Global, name: &Text, place: Place) -> Result<(), Refusal>
-        ensures { Step self.old (edits.Map name.now place) result self.new }
+        ensures step { Step self.old.state (edits.Map name.now place) result self.new.state }
+        ensures looks { self.new.looks ≡ self.old.looks }
     {
         self.fields.bind(alloc, name.as_str(), place)?;
         Ok(())
@@ -240,16 +258,18 @@ impl Bench {
 
     // The name no longer bound, or the first refusal.
     fn unbind(&mut self, name: &Text) -> Result<(), Refusal>
-        ensures { Step self.old (edits.Unmap name.now) result self.new }
+        ensures step { Step self.old.state (edits.Unmap name.now) result self.new.state }
+        ensures looks { self.new.looks ≡ self.old.looks }
     {
         self.fields.unbind(name.as_str())?;
         Ok(())
     }
 
-    /// The answer to a query, which changes nothing.
+    /// The answer to a query, which leaves the state as it is.
     pub fn ask(&mut self, alloc: Global, query: &Query) -> Result<Answer, AskFault>
-        ensures reply { IsReply self.old query.now result }
-        ensures unchanged { self.new ≡ self.old }
+        ensures reply { IsReply self.old.state query.now result }
+        ensures unchanged { self.new.state ≡ self.old.state }
+        ensures looks { RisesAtMost self.old.looks self.new.looks (query_looks query.now) }
     {
         match query {
             Query::Count => Ok(Answer::Count(self.overlay.count())),
@@ -265,8 +285,10 @@ impl Bench {
     }
 
     // The value of the field of trace p: E01, E02, E03.
-    fn get_field(&self, p: u32, field: &Field) -> Result<Answer, AskFault>
-        ensures { result ≡ answer self.now (queries.Get p field.now) }
+    fn get_field(&mut self, p: u32, field: &Field) -> Result<Answer, AskFault>
+        ensures reply { result ≡ answer self.old.state (queries.Get p field.now) }
+        ensures state { self.new.state ≡ self.old.state }
+        ensures looks { RisesAtMost self.old.looks self.new.looks 1 }
     {
         match self.place_in_trace(field) {
             Some(place) => self.get(p, place),
@@ -277,7 +299,7 @@ impl Bench {
 
     // The value of the field of the binary header: E02, E03.
     fn get_bin(&self, field: &Field) -> Result<Answer, AskFault>
-        ensures { result ≡ answer self.now (queries.GetBin field.now) }
+        ensures { result ≡ answer self.now.state (queries.GetBin field.now) }
     {
         let Some(place) = place_in_binary(field) else {
             return Err(AskFault::NoField);
@@ -291,7 +313,7 @@ impl Bench {
 
     // Line q of block b: E03.
     fn line(&self, alloc: Global, b: u32, q: u32) -> Result<Answer, AskFault>
-        ensures { IsReply self.now (queries.Line b q) result }
+        ensures { IsReply self.now.state (queries.Line b q) result }
     {
         if !is_line(q) {
             return Err(AskFault::NoPlace);
@@ -304,7 +326,7 @@ impl Bench {
 
     // The code of block b: E03.
     fn code(&self, b: u32) -> Result<Answer, AskFault>
-        ensures { result ≡ answer self.now (queries.Code b) }
+        ensures { result ≡ answer self.now.state (queries.Code b) }
     {
         match self.overlay.block(b) {
             Some(block) => Ok(Answer::Code(code_of(block))),
@@ -314,7 +336,7 @@ impl Bench {
 
     // The number of extended textual headers and data trailer records.
     fn text_block_count(&self) -> u64
-        ensures { result ≡ length (text_blocks self.now.volume) }
+        ensures { result ≡ length (text_blocks self.now.state.volume) }
     {
         let head = self.overlay.head();
         u64::from(head.blocks) + u64::from(head.trailer)
@@ -323,8 +345,8 @@ impl Bench {
     // The extended textual header n, counted from 1, or behind the last the data trailer record.
     fn text_block(&self, n: u64) -> Option<&[u8; 3200]>
         requires first { 1 ≤ n }
-        requires last { n ≤ length (text_blocks self.now.volume) }
-        ensures { option_map (λ x. x.now) result ≡ slice_get (text_blocks self.now.volume) (n - 1) }
+        requires last { n ≤ length (text_blocks self.now.state.volume) }
+        ensures { option_map (λ x. x.now) result ≡ slice_get (text_blocks self.now.state.volume) (n - 1) }
     {
         let blocks = u64::from(self.overlay.head().blocks);
         if n <= blocks {
@@ -336,7 +358,7 @@ impl Bench {
 
     // The stanzas of all extended textual headers and data trailer records.
     fn stanzas(&self, alloc: Global) -> Result<Answer, AskFault>
-        ensures { IsReply self.now queries.Stanzas result }
+        ensures { IsReply self.now.state queries.Stanzas result }
     {
         let mut all = Vec::new(alloc);
         for before in 0..self.text_block_count() {
@@ -350,7 +372,7 @@ impl Bench {
 
     // The bound names with their places.
     fn bound_fields(&self, alloc: Global) -> Result<Answer, AskFault>
-        ensures { IsReply self.now queries.Fields result }
+        ensures { IsReply self.now.state queries.Fields result }
     {
         let mut all = Vec::new(alloc);
         for (name, place) in self.fields.entries() {
@@ -360,35 +382,37 @@ impl Bench {
     }
 
     // The value at the place of trace p: E01, E03.
-    fn get(&self, p: u32, place: Place) -> Result<Answer, AskFault>
-        ensures { result ≡ answer self.now (queries.Get p (fields.Place place)) }
+    fn get(&mut self, p: u32, place: Place) -> Result<Answer, AskFault>
+        ensures reply { result ≡ answer self.old.state (queries.Get p (fields.Place place)) }
+        ensures state { self.new.state ≡ self.old.state }
+        ensures looks { RisesAtMost self.old.looks self.new.looks 1 }
     {
-        let head = self.overlay.head();
-        let Some(trace) = self.overlay.trace(p) else {
+        let Some(trace) = self.overlay.look(p) else {
             return Err(AskFault::NoTrace(p, self.overlay.count()));
         };
-        match value_of(&head, trace, place) {
+        match trace.value(place) {
             Some(value) => Ok(Answer::Value(value)),
             None => Err(AskFault::NoPlace),
         }
     }
 
     // Sample k of trace p: E01, E05.
-    fn sample(&self, p: u32, k: u32) -> Result<Answer, AskFault>
-        ensures { result ≡ answer self.now (queries.Sample p k) }
+    fn sample(&mut self, p: u32, k: u32) -> Result<Answer, AskFault>
+        ensures reply { result ≡ answer self.old.state (queries.Sample p k) }
+        ensures state { self.new.state ≡ self.old.state }
+        ensures looks { RisesAtMost self.old.looks self.new.looks 1 }
     {
-        let head = self.overlay.head();
-        match self.overlay.trace(p) {
-            Some(trace) => trace_sample(&head, trace, k),
-            None => Err(AskFault::NoTrace(p, self.overlay.count())),
-        }
+        let Some(trace) = self.overlay.look(p) else {
+            return Err(AskFault::NoTrace(p, self.overlay.count()));
+        };
+        trace_sample(&trace, k)
     }
 
     // What the file is.
     fn info(&self) -> Info
-        ensures head { result.head ≡ self.now.volume.head }
-        ensures traces { result.traces ≡ count_of self.now.volume }
-        ensures bytes { result.bytes ≡ length (bytes_of self.now.volume) }
+        ensures head { result.head ≡ self.now.state.volume.head }
+        ensures traces { result.traces ≡ count_of self.now.state.volume }
+        ensures bytes { result.bytes ≡ length (bytes_of self.now.state.volume) }
     {
         Info {
             head: self.overlay.head(),
@@ -400,7 +424,7 @@ impl Bench {
     /// Writes the file as it is now. Refused where the writer failed; `written` is then the length of the prefix that
     /// it took. Takes no memory.
     pub fn save<W: Write>(&self, writer: &mut Sink<W>) -> Result<(), SaveFault>
-        ensures saved { Saves (W.contents writer.old.0) (W.contents writer.new.0) (bytes_of self.now.volume) result }
+        ensures saved { Saves (W.contents writer.old.0) (W.contents writer.new.0) (bytes_of self.now.state.volume) result }
         ensures failures { CountsFailure result writer.old.1 writer.new.1 }
     {
         self.overlay.write_to(writer)
@@ -408,14 +432,21 @@ impl Bench {
 
     /// The number of traces.
     pub fn count(&self) -> u32
-        ensures { result ≡ count_of self.now.volume }
+        ensures { result ≡ count_of self.now.state.volume }
     {
         self.overlay.count()
     }
 
+    /// How often traces were looked at since the file was loaded; stays at `u64::MAX` once there. Takes no memory.
+    pub fn looks(&self) -> u64
+        ensures { result ≡ self.now.looks }
+    {
+        self.overlay.looks()
+    }
+
     /// The file's length in bytes.
     pub fn length(&self) -> u64
-        ensures { result ≡ length (bytes_of self.now.volume) }
+        ensures { result ≡ length (bytes_of self.now.state.volume) }
     {
         self.overlay.length()
     }

@@ -1,5 +1,5 @@
 // What holds of edits, as contracts of calls that do nothing.
-ghost use Rattle.bench_core.specs.EditLaws.{StaysCut, StepsStayCut};
+ghost use Rattle.bench_core.specs.EditLaws.{StaysCut, StepsStayCut, ReadsWhatWasSet, SetLeavesTheRest};
 
 /// A file that is cut is cut again, under the same reading and limits and with the same head, after any edit that is not
 /// refused: an accepted edit leaves a file that loads again.
@@ -11,4 +11,16 @@ pub fn stays_cut()
 /// gives, under the same reading and limits and with the same head.
 pub fn steps_stay_cut()
     ensures { StepsStayCut }
+{}
+
+/// The value of a field after a set that is not refused is the value that was set, in what reading the new bytes from
+/// scratch gives.
+pub fn reads_what_was_set()
+    ensures { ReadsWhatWasSet }
+{}
+
+/// A set that is not refused leaves the head, the textual header, the binary header, the extended textual headers, the
+/// data trailer records and every other trace as they were.
+pub fn set_leaves_the_rest()
+    ensures { SetLeavesTheRest }
 {}

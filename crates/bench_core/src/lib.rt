@@ -1,9 +1,10 @@
 //! One volume under edits, and what is asked of it.
 //!
-//! Contracts see a [`Bench`] as its state: the parts of the file as they are now, the field map in force, and the
-//! reading and the limits under which the file was loaded. Traces count from 1, bytes in a header from 1. A refused
-//! edit or query changes nothing. `load` takes memory for the file's bytes, the list of its traces and the six
-//! geometry names; `apply` for `Set` and `Map` alone; `ask` for `Line`, `Stanzas` and `Fields` alone.
+//! Contracts see a [`Bench`] as its state and a count of its looks at traces. The state is the parts of the file as they
+//! are now, the field map in force, and the reading and the limits under which the file was loaded. Traces count from 1,
+//! bytes in a header from 1, samples of a trace from 0. A refused edit or query leaves the state as it is. `load` takes
+//! memory for the file's bytes, the list of its traces and the six geometry names; `apply` for `Set`, `Map`, `Patch`,
+//! `Blank`, `Copy` and `Move` alone; `ask` for `Line`, `Stanzas` and `Fields` alone.
 #![tactic(auto)]
 
 mod answer;
@@ -22,6 +23,8 @@ mod samples;
 mod stanzas;
 mod text;
 mod text_lines;
+mod trace_bytes;
+mod trace_edits;
 
 pub use crate::answer::Answer;
 pub use crate::ask_fault::AskFault;
@@ -29,7 +32,7 @@ pub use crate::bench::Bench;
 pub use crate::edit::Edit;
 pub use crate::field::Field;
 pub use crate::info::Info;
-pub use crate::laws::stays_cut;
+pub use crate::laws::{reads_what_was_set, set_leaves_the_rest, stays_cut, steps_stay_cut};
 pub use crate::listed::Listed;
 pub use crate::query::Query;
 pub use crate::refusal::Refusal;
@@ -37,3 +40,5 @@ pub use crate::text::Text;
 
 #[cfg(test)]
 mod tests;
+#[cfg(test)]
+mod trace_tests;

@@ -2,13 +2,14 @@ ghost use Rattle.std.specs.Prelude.{◌≡◌};
 
 use edit_overlay::OutOfMemory;
 use field_map::MapFault;
+use std::alloc::{AllocError, AllocFailed};
 use text_block::TextFault;
 use thiserror::Error;
 
 /// Why an edit is refused. A refused edit changes nothing.
 #[derive(Clone, Copy, Debug, PartialEq, Eq, Error)]
 pub enum Refusal {
-    /// `NoTrace(p, count)`: no position p among so many traces.
+    /// `NoTrace(p, count)`: no position p among so many traces; for a trace that is put in, none up to one behind the last.
     #[error("E01 no trace {0} of {1}")]
     NoTrace(u32, u32),
     /// The name is neither bound nor standard, or no name of a binary header field.
@@ -18,9 +19,12 @@ pub enum Refusal {
     /// binary header; or the textual header has no such line.
     #[error("E03 no place")]
     NoPlace,
-    /// The value is outside the range of the place's kind.
+    /// The value is outside the range of the place's kind, or one of the values outside that of the sample format.
     #[error("E04 does not fit")]
     DoesNotFit,
+    /// `NoSample(k, n)`: the values go past the n samples of the trace; k is the greater of the first value's sample and n.
+    #[error("E05 no sample {0} of {1}")]
+    NoSample(u32, u32),
     /// The change would give the trace another length, or touch a field of the binary header that says how the file is
     /// cut.
     #[error("E06 frame")]
@@ -31,6 +35,12 @@ pub enum Refusal {
     /// The name is not bound or not unbound: M01 to M07.
     #[error("E08 {0}")]
     Map(MapFault),
+    /// The file would have more bytes than its limit.
+    #[error("E09 too large")]
+    TooLarge,
+    /// The file would have more traces than its limit.
+    #[error("E10 too many traces")]
+    TooManyTraces,
     /// A growth was refused.
     #[error("E11 out of memory")]
     OutOfMemory,
@@ -42,6 +52,26 @@ impl From<OutOfMemory> for Refusal {
     ghost from_gives = { λ _ refusal. refusal ≡ OutOfMemory };
 
     fn from(_: OutOfMemory) -> Refusal {
+        Refusal::OutOfMemory
+    }
+}
+
+impl From<AllocError> for Refusal {
+    ghost use Rattle.bench_core.specs.declared.refusal.Refusal.TheVariants.{OutOfMemory};
+
+    ghost from_gives = { λ _ refusal. refusal ≡ OutOfMemory };
+
+    fn from(_: AllocError) -> Refusal {
+        Refusal::OutOfMemory
+    }
+}
+
+impl<T: Drop> From<AllocFailed<T>> for Refusal {
+    ghost use Rattle.bench_core.specs.declared.refusal.Refusal.TheVariants.{OutOfMemory};
+
+    ghost from_gives = { λ _ refusal. refusal ≡ OutOfMemory };
+
+    fn from(_: AllocFailed<T>) -> Refusal {
         Refusal::OutOfMemory
     }
 }

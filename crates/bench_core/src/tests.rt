@@ -10,7 +10,7 @@ use std::test::Fail;
 use text_block::{Code, TextFault};
 
 // Big-endian, revision 1.0, two 16-bit samples a trace, three traces on inline 10 (bytes 189-192).
-fn sample_file(alloc: Global) -> Result<Vec<u8>, Fail> {
+pub(crate) fn sample_file(alloc: Global) -> Result<Vec<u8>, Fail> {
     let mut file = vec![in alloc; 0u8; 4332]?;
     let bytes = file.as_mut_slice();
     bytes[3221] = 2;
@@ -29,19 +29,30 @@ fn begins_alike(a: &[u8], b: &[u8], count: usize) -> bool {
 }
 
 // Writes a byte at a place, where the file has it.
-fn put_byte(file: &mut [u8], at: usize, byte: u8) {
+pub(crate) fn put_byte(file: &mut [u8], at: usize, byte: u8) {
     if at < file.len() {
         file[at] = byte;
     }
 }
 
 fn load(alloc: Global, file: &[u8], reading: Reading) -> Result<Bench, Fail> {
-    let limits = Limits::new(1 << 32, u32::MAX).ok_or("limits")?;
+    load_within(alloc, file, reading, 1 << 32, u32::MAX)
+}
+
+// Loaded under limits on the bytes and on the traces.
+pub(crate) fn load_within(
+    alloc: Global,
+    file: &[u8],
+    reading: Reading,
+    bytes: u64,
+    traces: u32,
+) -> Result<Bench, Fail> {
+    let limits = Limits::new(bytes, traces).ok_or("limits")?;
     let mut reader = Source::new(StepReader::new(file, 1000, u64::MAX));
     Ok(Bench::load(alloc, &mut reader, reading, limits)?)
 }
 
-fn signed(extension: u16, byte: u16, size: u8) -> Field {
+pub(crate) fn signed(extension: u16, byte: u16, size: u8) -> Field {
     Field::Place(Place {
         extension,
         byte,
@@ -49,11 +60,11 @@ fn signed(extension: u16, byte: u16, size: u8) -> Field {
     })
 }
 
-fn value(bench: &mut Bench, alloc: Global, p: u32, field: Field) -> Result<i128, Fail> {
+pub(crate) fn value(bench: &mut Bench, alloc: Global, p: u32, field: Field) -> Result<i128, Fail> {
     number(bench.ask(alloc, &Query::Get(p, field))?)
 }
 
-fn number(answer: Answer) -> Result<i128, Fail> {
+pub(crate) fn number(answer: Answer) -> Result<i128, Fail> {
     match answer {
         Answer::Value(value) => Ok(value),
         _ => Err("a value".into()),

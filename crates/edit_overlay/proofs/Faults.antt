@@ -1,7 +1,6 @@
 -- Why a load is refused.
-use Rattle.std.proofs.Common.{◌≡◌, ◌≢◌, ℕ, ◌<◌, Bool, true, false, cond, List, ◌++◌, [], length, take, drop, Option, Some, None, Result, Ok, Err, IfSome, IfErr, MatchResult, ◌⊎◌, inl, inr, refl, ap, sym, subst, ◌∙◌, append-nil}
+use Rattle.std.proofs.Common.{◌≡◌, ◌≢◌, ℕ, Bool, true, false, cond, List, ◌++◌, [], length, take, drop, Option, Some, None, Result, Ok, Err, IfSome, IfErr, MatchResult, ◌⊎◌, inl, inr, refl, ap, sym, subst, ◌∙◌, append-nil}
 use Rattle.std.specs.Io.KnownBytes.{Consumes, IsAtEnd}
-use Rattle.std.proofs.lemmas.Bool.{lt-ltb}
 use Rattle.sample_codes.specs.declared.format.Format.{Format}
 use Rattle.sample_codes.specs.declared.format_fault.FormatFault.{FormatFault}
 use Rattle.sample_codes.specs.declared.format_fault.FormatFault.TheVariants.{Float, Gain, Unknown}
@@ -10,9 +9,9 @@ use Rattle.frame_cut.specs.declared.head.Head.{Head}
 use Rattle.frame_cut.specs.declared.limits.Limits.{Limits}
 use Rattle.frame_cut.specs.declared.reading.Reading.{Reading}
 use Rattle.frame_cut.specs.declared.load_fault.LoadFault.{LoadFault}
-use Rattle.frame_cut.specs.declared.load_fault.LoadFault.TheVariants.{ReadFailed, TooLarge, OutOfMemory}
+use Rattle.frame_cut.specs.declared.load_fault.LoadFault.TheVariants.{ReadFailed, OutOfMemory}
 use Rattle.frame_cut.specs.BinaryHeader.{text_count, format_code}
-use Rattle.frame_cut.specs.Heads.{blocks_for, with_blocks, with_format, head_from, head_of}
+use Rattle.frame_cut.specs.Heads.{blocks_for, with_blocks, with_format, head_of}
 use Rattle.frame_cut.specs.Frames.{trace_length}
 use Rattle.frame_cut.specs.Cuts.{IsRefused, refusal_by_length, trace_refusal}
 use Rattle.edit_overlay.specs.Loading.{IsLoadFault, FailuresAfterRefusal}
@@ -55,9 +54,6 @@ format-told reading bin rest (Err Gain) = refl
 format-told reading bin rest (Err Unknown) = refl
 format-told reading bin rest (Ok format) = blocks-told reading bin rest format (blocks_for (text_count bin) rest)
 
-head_from-told : (reading : Reading) (bin rest : List ℕ) → says (head_from reading bin rest) ≡ false
-head_from-told reading bin rest = simp (says-cond, format-told reading bin rest (format_of (format_code bin)), both_false) refl
-
 head_of-told : (file : List ℕ) (reading : Reading) (limits : Limits) → says (head_of file reading limits) ≡ false
 head_of-told file reading limits = simp (says-cond, format-told reading (take 400 (drop 3200 file)) (drop 3600 file) (format_of (format_code (take 400 (drop 3200 file)))), both_false) refl
 
@@ -89,17 +85,6 @@ refused-known (Some xs) (Some ys) v reading limits fault c e r = subst (λ (file
 pub load_fault : (known rest : Option (List ℕ)) (v : List ℕ) (reading : Reading) (limits : Limits) (fault : LoadFault) → Consumes known rest v → IsAtEnd rest → (fault ≡ OutOfMemory) ⊎ IsRefused v reading limits fault → IsLoadFault known reading limits fault
 load_fault known rest v reading limits fault c e (inl m) = inr (inl m)
 load_fault known rest v reading limits fault c e (inr r) = inr (inr (refused-known known rest v reading limits fault c e r))
-
-too_large : (known : Option (List ℕ)) (reading : Reading) (limits : Limits) → IfSome known (λ file. limits.bytes < length file) → IfSome known (λ file. IsRefused file reading limits TooLarge)
-too_large None reading limits h = tt
-too_large (Some file) reading limits h = inl (rw (lt-ltb limits.bytes (length file) h) refl)
-
--- what stops a reading stops the load
-pub read_fault : (known : Option (List ℕ)) (reading : Reading) (limits : Limits) (fault : LoadFault) → (fault ≡ ReadFailed) ⊎ (fault ≡ OutOfMemory) ⊎ ((fault ≡ TooLarge) × IfSome known (λ file. limits.bytes < length file)) → IsLoadFault known reading limits fault
-read_fault known reading limits fault (inl r) = inl r
-read_fault known reading limits fault (inr (inl m)) = inr (inl m)
-read_fault known reading limits fault (inr (inr (t, h))) =
-    inr (inr (subst (λ (f : LoadFault). IfSome known (λ file. IsRefused file reading limits f)) (sym t) (too_large known reading limits h)))
 
 -- ---- the reader's count of failures
 

@@ -1,4 +1,9 @@
+pub mod Each
 pub mod Faults
 pub mod Growth
-pub mod Joined
+pub mod Held
+pub mod Lengths
+pub mod Orders
 pub mod Pieces
+pub mod Saving
+pub mod Slots

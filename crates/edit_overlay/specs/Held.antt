@@ -1,14 +1,36 @@
--- How an overlay holds a volume: the file's bytes, its head, and where each trace lies.
-use Rattle.std.specs.Prelude.{◌<◌, ◌^◌, length}
-use Rattle.frame_cut.specs.Volume.{Volume}
-use Rattle.frame_cut.specs.Layout.{volume_at, AreLaid}
+-- How an overlay holds a volume: its headers beside the loaded file, and the traces over it.
+use Rattle.std.specs.Prelude.{◌≡◌, ◌+◌, ◌-◌, ◌*◌, ◌≤◌, List, ℕ, length, drop}
+use Rattle.frame_cut.specs.Heads.{blocks_of}
+use Rattle.frame_cut.specs.Volume.{Volume, bytes_of}
+use Rattle.edit_overlay.specs.Looked.{Looked}
+use Rattle.edit_overlay.specs.Slots.{traces_of, IsStore}
+use Rattle.edit_overlay.specs.declared.store.TraceStore.{TraceStore}
 use Rattle.edit_overlay.specs.declared.overlay.Overlay.TheInside.{Inside}
 
--- the volume that is held
-abbrev pub volume_of : Inside → Volume
-volume_of o = volume_at o.bytes.items o.head o.extents.items
+-- the volume with these headers and the traces of the store
+abbrev pub volume_with : List ℕ → List ℕ → TraceStore → Volume
+volume_with text bin s = record {
+  head = s.head;
+  text = text;
+  bin = bin;
+  blocks = blocks_of s.head.blocks (drop 3600 s.loaded.items);
+  traces = traces_of s;
+  tail = blocks_of s.head.trailer (drop (length s.loaded.items - 3200 * s.head.trailer) s.loaded.items);
+}
 
--- the traces lie one behind the other, and their number fits 32 bits
+-- what an overlay shows
+abbrev pub looked_of : Inside → Looked
+looked_of o = record { volume = volume_with o.text o.bin o.store; looks = o.looks }
+
+-- the loaded file has the blocks in front of its traces, and the data trailer records behind them
+pub record HasEnds (s : TraceStore) : Type 0 where
+  pub front : s.head.traces_at ≡ 3600 + 3200 * s.head.blocks
+  pub whole : s.head.traces_at + 3200 * s.head.trailer ≤ length s.loaded.items
+
+-- what holds of an overlay between two calls
 pub record IsHeld (o : Inside) : Type 0 where
-  pub laid : AreLaid o.bytes.items o.head o.extents.items
-  pub few : length o.extents.items < 2 ^ 32
+  pub store : IsStore o.store
+  pub ends : HasEnds o.store
+  pub text : length o.text ≡ 3200
+  pub bin : length o.bin ≡ 400
+  pub length : o.length ≡ length (bytes_of (volume_with o.text o.bin o.store))

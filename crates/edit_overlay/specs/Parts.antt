@@ -1,7 +1,10 @@
--- The text blocks and the binary header of a volume, and what is written into them.
+-- The text blocks, the binary header and the traces of a volume, and what edits make of them.
 use Rattle.std.specs.Prelude.{ℕ, zero, suc, ◌-◌, ◌*◌, List, ◌∷◌, length, slice_get, Option, None}
+use Rattle.std.specs.List.{insert, remove}
 use Rattle.frame_cut.specs.Splice.{splice}
+use Rattle.frame_cut.specs.Traces.{trace_at}
 use Rattle.frame_cut.specs.Volume.{Volume}
+use Rattle.edit_overlay.specs.Each.{put_each_at}
 
 -- block b, if there is one: the textual header is block 0, the extended textual headers are blocks 1 and up
 abbrev pub block_of : Volume → ℕ → Option (List ℕ)
@@ -19,3 +22,19 @@ with_line v q line = record v { text = splice v.text (80 * (q - 1)) (length line
 -- the volume with these bytes over those of the binary header from a place on, counted from 0 in it
 abbrev pub with_header_bytes : Volume → ℕ → List ℕ → Volume
 with_header_bytes v at new = record v { bin = splice v.bin at (length new) new }
+
+-- the volume with these bytes laid over the traces from trace a on, `size` of them over each, in each from place `at` on, counted from 0
+abbrev pub with_each : Volume → (a at size : ℕ) → List ℕ → Volume
+with_each v a at size bytes = record v { traces = put_each_at v.traces (a - 1) at size bytes }
+
+-- the volume with these bytes as a new trace in front of trace p, or behind the last
+abbrev pub with_inserted : Volume → ℕ → List ℕ → Volume
+with_inserted v p t = record v { traces = insert v.traces (p - 1) t }
+
+-- the volume without trace p
+abbrev pub without : Volume → ℕ → Volume
+without v p = record v { traces = remove v.traces (p - 1) }
+
+-- the volume with trace a taken out, and put in again so that it is trace b
+abbrev pub with_moved : Volume → ℕ → ℕ → Volume
+with_moved v a b = with_inserted (without v a) b (trace_at v a)

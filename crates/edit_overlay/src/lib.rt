@@ -1,10 +1,20 @@
-//! A volume under edits: the bytes that were loaded, and what edits made of them.
+//! A volume under edits: the bytes that were loaded, and what edits laid over them.
 //!
-//! Contracts see an [`Overlay`] as the parts of its file: head, textual header, binary header, extended textual
-//! headers, traces and data trailer records. Traces count from 1, bytes of a trace from 0. `load` and `from_bytes`
-//! take memory for the file's bytes and the list of its traces; no other call takes any.
+//! Contracts see an [`Overlay`] as the parts of its file (head, textual header, binary header, extended textual
+//! headers, traces and data trailer records) and the number of looks at its traces. Traces count from 1, bytes of a
+//! trace from 0.
 //!
-//! The whole file stands in one vector, and an edit writes over its bytes.
+//! The loaded bytes stand in one vector and never change. A trace is a slot: its place in that vector, or bytes of
+//! its own where it was inserted or replaced, and over them the runs of bytes that puts laid there. The order of the
+//! traces is a list of the slots' numbers. A save writes the parts one behind the other, neighbouring ranges of the
+//! loaded bytes at once, and joins nothing in memory.
+//!
+//! `load` takes memory for the file's bytes, and like `from_bytes` for a slot for each trace; `put` and `put_each` take
+//! it for the runs of the traces that they change, `insert` for one slot and for room in the order, `move_to` for room
+//! in the order. Each of them may be refused for want of memory, and then nothing is changed. No other call takes any.
+//!
+//! `look` shows a trace in the pieces in which it is held, and is counted: contracts can say how often traces were
+//! read.
 #![tactic(auto)]
 
 mod bytes;
@@ -12,6 +22,8 @@ mod out_of_memory;
 mod overlay;
 mod reading_in;
 mod save_fault;
+mod slot;
+mod store;
 mod writing_out;
 
 pub use crate::out_of_memory::OutOfMemory;

@@ -1,47 +1,58 @@
-ghost use Rattle.std.specs.Prelude.{◌≡◌, ◌⊎◌, ◌+◌, ◌≤◌, length, option_map, IfOk, IfErr, OnOk, OnErr, MatchResult};
+ghost use Rattle.std.specs.Prelude.{ℕ, ◌≡◌, ◌⊎◌, ◌↔◌, ◌+◌, ◌-◌, ◌/◌, ◌%◌, ◌≤◌, ◌<◌, ◌^◌, [], length, slice_index_or, option_map, IfOk, IfErr, IfSome, IsSome, IsTrue, OnOk, OnErr, MatchResult};
+ghost use Rattle.std.specs.Borrow.{sem};
 ghost use Rattle.std.specs.Io.KnownBytes.{Consumes, IsAtEnd};
 ghost use Rattle.device_io.specs.Failures.{CountsFailure};
-ghost use Rattle.frame_cut.specs.Cuts.{IsCut, IsRefused};
+ghost use Rattle.frame_cut.specs.Cuts.{IsCut, IsRefused, IsTrace};
 ghost use Rattle.frame_cut.specs.Splice.{splice};
-ghost use Rattle.frame_cut.specs.Traces.{count_of, trace_at, trace_of, with_trace};
+ghost use Rattle.frame_cut.specs.Traces.{count_of, is_trace, trace_at, with_trace};
 ghost use Rattle.frame_cut.specs.Volume.{bytes_of};
 ghost use Rattle.frame_cut.specs.declared.load_fault.LoadFault.TheVariants.{OutOfMemory as no_memory};
+ghost use Rattle.edit_overlay.specs.Each.{part_of};
 ghost use Rattle.edit_overlay.specs.Loading.{IsLoadFault, FailuresAfterRefusal};
-ghost use Rattle.edit_overlay.specs.Parts.{block_of, trailer_of, with_line, with_header_bytes};
+ghost use Rattle.edit_overlay.specs.Looked.{with_volume};
+ghost use Rattle.edit_overlay.specs.Parts.{block_of, trailer_of, with_line, with_header_bytes, with_each, with_inserted, without, with_moved};
 ghost use Rattle.edit_overlay.specs.Saving.{Saves};
 
-use crate::bytes::{array_at, overwrite, piece};
+use crate::bytes::{array_at, overwrite};
 use crate::out_of_memory::OutOfMemory;
 use crate::reading_in::read_file;
 use crate::save_fault::SaveFault;
-use crate::writing_out::write_bytes;
+use crate::slot::Base;
+use crate::store::TraceStore;
+use crate::writing_out::write_volume;
 use device_io::{Sink, Source};
-use frame_cut::{Extent, Head, Limits, LoadFault, Reading, cut_file};
+use frame_cut::{Head, Limits, LoadFault, Reading, cut_file};
 use std::alloc::Global;
 use std::io::{Read, Write};
 use std::marker::Model;
+use trace_view::TraceView;
 
-/// A volume: one SEG-Y file in its parts, whose bytes may be written over.
+/// A volume under edits: one SEG-Y file in its parts. The bytes that were loaded never change: edits lie over them.
 #[derive(Drop)]
 pub struct Overlay {
-    bytes: Vec<u8>,
-    head: Head,
-    extents: Vec<Extent>,
+    text: [u8; 3200],
+    bin: [u8; 400],
+    store: TraceStore,
+    length: u64,
+    looks: u64,
 }
 
 impl Model for Overlay {
-    ghost use Rattle.frame_cut.specs.Volume.{Volume};
+    ghost use Rattle.edit_overlay.specs.Looked.{Looked};
 
-    ghost Value = { Volume };
+    ghost Value = { Looked };
 
-    ghost use Rattle.edit_overlay.specs.Held.{volume_of, IsHeld};
+    ghost use Rattle.edit_overlay.specs.Held.{looked_of, IsHeld};
 
-    ghost view = { volume_of };
+    ghost view = { looked_of };
 
     ghost invariant = { IsHeld };
 }
 
 impl Overlay {
+    ghost use Rattle.edit_overlay.specs.Looked.{IsViewOf};
+    ghost use Rattle.edit_overlay.specs.Looks.{EndsLooked};
+
     /// Reads a whole file and cuts it. Takes memory. Refused: L01 where a read failed in this call, L02 to L15 for
     /// the first reason that the file gives, L16 where a growth was refused.
     pub fn load<R: Read>(
@@ -50,10 +61,11 @@ impl Overlay {
         reading: Reading,
         limits: Limits,
     ) -> Result<Overlay, LoadFault>
-        ensures taken { IfOk result (λ v. Consumes (R.remaining reader.old.0)
-            (R.remaining reader.new.0) (bytes_of v)) }
+        ensures taken { IfOk result (λ o. Consumes (R.remaining reader.old.0)
+            (R.remaining reader.new.0) (bytes_of o.volume)) }
         ensures all { IfOk result (λ _. IsAtEnd (R.remaining reader.new.0)) }
-        ensures cut { IfOk result (λ v. IsCut (bytes_of v) reading limits v) }
+        ensures cut { IfOk result (λ o. IsCut (bytes_of o.volume) reading limits o.volume) }
+        ensures looks { IfOk result (λ o. o.looks ≡ 0) }
         ensures refused { IfErr result (λ fault. IsLoadFault (R.remaining reader.old.0) reading limits fault) }
         ensures failures { MatchResult result (λ _. reader.new.1 ≡ reader.old.1)
             (λ fault. FailuresAfterRefusal fault reader.old.1 reader.new.1) }
@@ -70,138 +82,245 @@ impl Overlay {
         reading: Reading,
         limits: Limits,
     ) -> Result<Overlay, LoadFault>
-        ensures cut { IfOk result (λ v. IsCut bytes.items reading limits v) }
+        ensures cut { IfOk result (λ o. IsCut bytes.items reading limits o.volume) }
+        ensures looks { IfOk result (λ o. o.looks ≡ 0) }
         ensures refused { IfErr result (λ fault. (fault ≡ no_memory) ⊎ IsRefused bytes.items reading limits fault) }
     {
         let cut = cut_file(alloc, bytes.as_slice(), reading, limits)?;
         let head = cut.head();
         let extents = cut.into_extents();
+        let text = *array_at::<3200>(bytes.as_slice(), 0);
+        let bin = *array_at::<400>(bytes.as_slice(), 3200);
+        let length = bytes.len() as u64;
+        let Ok(store) = TraceStore::new(alloc, bytes, head, extents) else {
+            return Err(LoadFault::OutOfMemory);
+        };
         Ok(Overlay {
-            bytes,
-            head,
-            extents,
+            text,
+            bin,
+            store,
+            length,
+            looks: 0,
         })
     }
 
     /// What the headers say of the file's frame.
     pub fn head(&self) -> Head
-        ensures { result ≡ self.now.head }
+        ensures { result ≡ self.now.volume.head }
     {
-        self.head
+        self.store.head
     }
 
     /// The number of traces.
     pub fn count(&self) -> u32
-        ensures { result ≡ count_of self.now }
+        ensures { result ≡ count_of self.now.volume }
     {
-        self.extents.len() as u32
+        self.store.count()
     }
 
     /// The file's length in bytes.
     pub fn length(&self) -> u64
-        ensures { result ≡ length (bytes_of self.now) }
+        ensures { result ≡ length (bytes_of self.now.volume) }
     {
-        self.bytes.len() as u64
+        self.length
     }
 
-    /// The bytes of trace p, counted from 1, where there is one.
-    pub fn trace(&self, p: u32) -> Option<&[u8]>
-        ensures { option_map (λ t. t.now) result ≡ trace_of self.now p }
+    /// How often a trace was looked at. Stays at `u64::MAX` once there.
+    pub fn looks(&self) -> u64
+        ensures { result ≡ self.now.looks }
     {
-        if p == 0 || p as usize > self.extents.len() {
+        self.looks
+    }
+
+    /// Trace p, counted from 1, and one look more; None where there is none, and then no look. Takes no memory.
+    pub fn look(&mut self, p: u32) -> Option<TraceView<'_>>
+        ensures* counts { sem 𝓛 (EndsLooked self.entry result) }
+        ensures there { IsSome result ↔ IsTrue (is_trace self.old.volume p) }
+        ensures trace { IfSome result (IsViewOf self.old.volume p) }
+    {
+        if p == 0 || p > self.count() {
             return None;
         }
-        let extent = self.extents[p as usize - 1];
-        Some(piece(self.bytes.as_slice(), extent))
+        self.looks = self.looks.saturating_add(1);
+        Some(self.view(p))
+    }
+
+    // Trace p.
+    fn view(&self, p: u32) -> TraceView<'_>
+        requires first { 1 ≤ p }
+        requires last { p ≤ count_of self.now.volume }
+        ensures { IsViewOf self.now.volume p result }
+    {
+        self.store.view(p)
     }
 
     /// The textual header (bytes 1 to 3200 of the file).
     pub fn text(&self) -> &[u8; 3200]
-        ensures { result.now ≡ self.now.text }
+        ensures { result.now ≡ self.now.volume.text }
     {
-        array_at(self.bytes.as_slice(), 0)
+        &self.text
     }
 
     /// The binary header (bytes 3201 to 3600 of the file).
     pub fn bin(&self) -> &[u8; 400]
-        ensures { result.now ≡ self.now.bin }
+        ensures { result.now ≡ self.now.volume.bin }
     {
-        array_at(self.bytes.as_slice(), 3200)
+        &self.bin
     }
 
     /// Block b, where there is one: the textual header is block 0, the extended textual headers are blocks 1 and up.
     pub fn block(&self, b: u32) -> Option<&[u8; 3200]>
-        ensures { option_map (λ x. x.now) result ≡ block_of self.now b }
+        ensures { option_map (λ x. x.now) result ≡ block_of self.now.volume b }
     {
         if b == 0 {
             return Some(self.text());
         }
-        if b > self.head.blocks {
+        if b > self.store.head.blocks {
             return None;
         }
         let at = 3600 + 3200 * (b as usize - 1);
-        Some(array_at(self.bytes.as_slice(), at))
+        Some(array_at(self.store.loaded.as_slice(), at))
     }
 
     /// Data trailer record j, counted from 1, where there is one.
     pub fn trailer(&self, j: u32) -> Option<&[u8; 3200]>
-        ensures { option_map (λ x. x.now) result ≡ trailer_of self.now j }
+        ensures { option_map (λ x. x.now) result ≡ trailer_of self.now.volume j }
     {
         if j == 0 {
             return None;
         }
-        if j > self.head.trailer {
+        if j > self.store.head.trailer {
             return None;
         }
-        let start = self.bytes.len() - 3200 * self.head.trailer as usize;
+        let start = self.store.loaded.len() - 3200 * self.store.head.trailer as usize;
         let at = start + 3200 * (j as usize - 1);
-        Some(array_at(self.bytes.as_slice(), at))
+        Some(array_at(self.store.loaded.as_slice(), at))
     }
 
     /// Writes line q of the textual header, from 1 to 40. Takes no memory.
     pub fn put_text(&mut self, q: u32, line: &[u8; 80])
         requires first { 1 ≤ q }
         requires last { q ≤ 40 }
-        ensures { self.new ≡ with_line self.old q line.now }
+        ensures { self.new ≡ with_volume self.old (with_line self.old.volume q line.now) }
     {
         let at = 80 * (q as usize - 1);
-        overwrite(self.bytes.as_mut_slice(), at, line);
+        overwrite(&mut self.text, at, line);
     }
 
     /// Writes the bytes over those of the binary header from place `at` on, counted from 0 in it. Takes no memory.
     pub fn put_head(&mut self, at: u32, bytes: &[u8])
         requires { at + length bytes.now ≤ 400 }
-        ensures { self.new ≡ with_header_bytes self.old at bytes.now }
+        ensures { self.new ≡ with_volume self.old (with_header_bytes self.old.volume at bytes.now) }
     {
-        overwrite(self.bytes.as_mut_slice(), 3200 + at as usize, bytes);
+        overwrite(&mut self.bin, at as usize, bytes);
     }
 
-    /// Writes the bytes over those of trace p, counted from 1, from place `at` on, counted from 0 in the trace.
-    /// May be refused for want of memory alone, and then nothing is changed.
+    /// Lays the bytes over those of trace p, counted from 1, from place `at` on, counted from 0 in the trace. The
+    /// caller shows that the trace's headers give it the same length then. Takes memory in step with all that edits
+    /// laid over the trace; may be refused for want of memory alone, and then nothing is changed.
     pub fn put(&mut self, alloc: Global, p: u32, at: u64, bytes: &[u8]) -> Result<(), OutOfMemory>
         requires first { 1 ≤ p }
-        requires last { p ≤ count_of self.old }
-        requires inside { at + length bytes.now ≤ length (trace_at self.old p) }
-        ensures ok { OnOk result (self.new ≡ with_trace self.old p
-            (splice (trace_at self.old p) at (length bytes.now) bytes.now)) }
+        requires last { p ≤ count_of self.old.volume }
+        requires inside { at + length bytes.now ≤ length (trace_at self.old.volume p) }
+        requires whole { IsTrace self.old.volume.head (splice (trace_at self.old.volume p) at (length bytes.now) bytes.now) }
+        ensures ok { OnOk result (self.new ≡ with_volume self.old (with_trace self.old.volume p
+            (splice (trace_at self.old.volume p) at (length bytes.now) bytes.now))) }
         ensures err { OnErr result (self.new ≡ self.old) }
     {
-        let _ = alloc;
-        let extent = self.extents[p as usize - 1];
-        overwrite(
-            self.bytes.as_mut_slice(),
-            (extent.start + at) as usize,
-            bytes,
-        );
+        self.store.put(alloc, p, at, bytes)
+    }
+
+    /// Lays the bytes, `size` of them over each trace, over the traces from trace a on, which counts from 1; in each
+    /// from place `at` on, counted from 0 in the trace. The caller shows that each trace's headers give it the same
+    /// length then. Takes memory in step with all that edits laid over these traces; may be refused for want of memory
+    /// alone, and then none of them is changed.
+    pub fn put_each(
+        &mut self,
+        alloc: Global,
+        a: u32,
+        at: u64,
+        size: u32,
+        bytes: &[u8],
+    ) -> Result<(), OutOfMemory>
+        requires first { 1 ≤ a }
+        requires some { 0 < size }
+        requires exact { length bytes.now % size ≡ 0 }
+        requires last { a - 1 + length bytes.now / size ≤ count_of self.old.volume }
+        requires inside { (k : ℕ) → k < length bytes.now / size →
+            at + size ≤ length (slice_index_or self.old.volume.traces (a - 1 + k) []) }
+        requires whole { (k : ℕ) → k < length bytes.now / size →
+            IsTrace self.old.volume.head (splice (slice_index_or self.old.volume.traces (a - 1 + k) []) at size (part_of bytes.now size k)) }
+        ensures ok { OnOk result (self.new ≡ with_volume self.old (with_each self.old.volume a at size bytes.now)) }
+        ensures err { OnErr result (self.new ≡ self.old) }
+    {
+        self.store.put_each(alloc, a, at, size, bytes)
+    }
+
+    /// Puts a new trace of these bytes in front of trace p, or behind the last where p is one more than their number.
+    /// The caller shows that its headers give it its length, and that there are fewer than 2^32 traces and 2^64 bytes
+    /// then. May be refused for want of memory alone, and then nothing is changed, and the bytes are dropped.
+    pub fn insert(&mut self, alloc: Global, p: u32, bytes: Vec<u8>) -> Result<(), OutOfMemory>
+        requires first { 1 ≤ p }
+        requires last { p ≤ count_of self.old.volume + 1 }
+        requires few { count_of self.old.volume + 1 < 2 ^ 32 }
+        requires whole { IsTrace self.old.volume.head bytes.items }
+        requires small { length (bytes_of self.old.volume) + length bytes.items < 2 ^ 64 }
+        ensures ok { OnOk result (self.new ≡ with_volume self.old (with_inserted self.old.volume p bytes.items)) }
+        ensures err { OnErr result (self.new ≡ self.old) }
+    {
+        let added = bytes.len() as u64;
+        self.store.insert(alloc, p, Base::Added(bytes))?;
+        self.length += added;
         Ok(())
     }
 
-    /// Writes the file as it is now. Refused where the writer failed; `written` is then the length of the prefix
-    /// that it took.
+    /// Takes trace p, counted from 1, out. Takes no memory.
+    pub fn delete(&mut self, p: u32)
+        requires first { 1 ≤ p }
+        requires last { p ≤ count_of self.old.volume }
+        ensures { self.new ≡ with_volume self.old (without self.old.volume p) }
+    {
+        let gone = self.store.view(p).length();
+        self.store.delete(p);
+        self.length -= gone;
+    }
+
+    /// Takes trace a out, and puts it in again so that it is trace b; both count from 1. May be refused for want of
+    /// memory alone, and then nothing is changed.
+    pub fn move_to(&mut self, alloc: Global, a: u32, b: u32) -> Result<(), OutOfMemory>
+        requires from_first { 1 ≤ a }
+        requires from_last { a ≤ count_of self.old.volume }
+        requires to_first { 1 ≤ b }
+        requires to_last { b ≤ count_of self.old.volume }
+        ensures ok { OnOk result (self.new ≡ with_volume self.old (with_moved self.old.volume a b)) }
+        ensures err { OnErr result (self.new ≡ self.old) }
+    {
+        self.store.move_to(alloc, a, b)
+    }
+
+    /// Makes the bytes the whole of trace p, counted from 1. The caller shows that their headers give them their
+    /// length, and that there are fewer than 2^64 bytes then. Takes no memory.
+    pub fn replace(&mut self, alloc: Global, p: u32, bytes: Vec<u8>)
+        requires first { 1 ≤ p }
+        requires last { p ≤ count_of self.old.volume }
+        requires whole { IsTrace self.old.volume.head bytes.items }
+        requires small { length (bytes_of self.old.volume) + length bytes.items < 2 ^ 64 }
+        ensures { self.new ≡ with_volume self.old (with_trace self.old.volume p bytes.items) }
+    {
+        let gone = self.store.view(p).length();
+        let added = bytes.len() as u64;
+        self.store.replace(alloc, p, Base::Added(bytes));
+        self.length = self.length - gone + added;
+    }
+
+    /// Writes the file as it is now. Takes no memory. Refused where the writer failed; `written` is then the length
+    /// of the prefix that it took.
     pub fn write_to<W: Write>(&self, writer: &mut Sink<W>) -> Result<(), SaveFault>
-        ensures saved { Saves (W.contents writer.old.0) (W.contents writer.new.0) (bytes_of self.now) result }
+        ensures saved { Saves (W.contents writer.old.0) (W.contents writer.new.0) (bytes_of self.now.volume) result }
         ensures failures { CountsFailure result writer.old.1 writer.new.1 }
     {
-        write_bytes(writer, self.bytes.as_slice())
+        // Read for the proof alone, which learns that the file's length fits 64 bits.
+        let _length = self.length;
+        write_volume(writer, &self.text, &self.bin, &self.store)
     }
 }

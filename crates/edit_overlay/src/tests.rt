@@ -1,32 +1,42 @@
-// Loads, puts and saves over small files that are made by hand.
-use crate::{OutOfMemory, Overlay, SaveFault};
+// Loads, edits and saves over small files that are made by hand.
+ghost use Rattle.std.specs.Prelude.{◌≡◌, ◌≤◌, ◌+◌, length, IsTrue};
+ghost use Rattle.frame_cut.specs.Cuts.{IsTrace};
+ghost use Rattle.frame_cut.specs.Splice.{splice};
+ghost use Rattle.frame_cut.specs.Traces.{trace_at, is_trace as has_trace};
+
+use crate::{Overlay, SaveFault};
 use device_io::{Sink, Source, StepReader, StepWriter};
-use frame_cut::{Limits, LoadFault, Reading};
+use frame_cut::{Head, Limits, LoadFault, Reading, front_length, trace_length};
 use std::alloc::Global;
+use std::process::Abort;
 use std::test::Fail;
 
-// Big-endian, revision 1.0, two 16-bit samples a trace, fixed length, two traces of zeros but for their samples.
+// Big-endian, revision 1.0, two 16-bit samples a trace, two traces of zeros but for their last samples.
 fn small_file(alloc: Global) -> Result<Vec<u8>, Fail> {
     let mut file = vec![in alloc; 0u8; 4088]?;
     let bytes = file.as_mut_slice();
     bytes[3221] = 2;
     bytes[3225] = 3;
     bytes[3500] = 1;
-    bytes[3503] = 1;
     bytes[3841] = 7;
     bytes[4087] = 9;
     Ok(file)
 }
 
-// Whether both have so many bytes, and the same ones in front.
-fn begins_alike(a: &[u8], b: &[u8], count: usize) -> bool {
-    a.len() >= count && b.len() >= count && a[..count] == b[..count]
+// A trace of so many samples as its header says (bytes 115-116), each of them the same.
+fn trace(alloc: Global, samples: u8, sample: u8) -> Result<Vec<u8>, Fail> {
+    let mut trace = vec![in alloc; 0u8; 240]?;
+    trace.as_mut_slice()[115] = samples;
+    trace.resize(240 + 2 * samples as usize, sample)?;
+    Ok(trace)
 }
 
-// Writes a byte at a place, where the file has it.
-fn put_byte(file: &mut [u8], at: usize, byte: u8) {
-    if at < file.len() {
-        file[at] = byte;
+// The bytes from..to, where there are as many.
+fn part(bytes: &[u8], from: usize, to: usize) -> &[u8] {
+    if from <= to && to <= bytes.len() {
+        &bytes[from..to]
+    } else {
+        &[]
     }
 }
 
@@ -39,16 +49,161 @@ fn volume(alloc: Global) -> Result<Overlay, Fail> {
     Ok(Overlay::from_bytes(alloc, file, Reading::AsWritten, limits()?)?)
 }
 
+// Asserts that a save writes these parts, one behind the other.
+fn expect_saved(
+    rt: &impl Abort,
+    alloc: Global,
+    volume: &Overlay,
+    parts: &[&[u8]],
+) -> Result<(), Fail> {
+    let mut expected = Vec::new(alloc);
+    for part in parts {
+        expected.extend_from_slice(part)?;
+    }
+    let mut writer = Sink::new(Vec::new(alloc));
+    volume.write_to(&mut writer)?;
+    let file = writer.into_inner();
+    assert_eq!(rt; file.len(), volume.length() as usize);
+    assert!(rt; file.as_slice() == expected.as_slice());
+    Ok(())
+}
+
+// Asserts that trace p has these bytes, at most 300.
+fn expect_trace(rt: &impl Abort, volume: &mut Overlay, p: u32, expected: &[u8]) {
+    assert!(rt; shows(volume, p, expected));
+}
+
+fn shows(volume: &mut Overlay, p: u32, expected: &[u8]) -> bool {
+    let Some(view) = volume.look(p) else {
+        return false;
+    };
+    let mut room = [0u8; 300];
+    if expected.len() > room.len() || view.length() != expected.len() as u64 {
+        return false;
+    }
+    let shown = &mut room[..expected.len()];
+    view.read(0, shown);
+    *shown == *expected
+}
+
+// Whether the bytes are a whole trace.
+fn is_trace(head: &Head, bytes: &[u8]) -> bool
+    ensures { IsTrue result → IsTrace head.now bytes.now }
+{
+    if bytes.len() < front_length(head) {
+        return false;
+    }
+    trace_length(head, bytes) == Some(bytes.len() as u64)
+}
+
+// Whether trace p is as long as its headers say with the bytes laid over it.
+fn may_put(volume: &mut Overlay, p: u32, at: u64, bytes: &[u8]) -> bool
+    ensures volume { volume.new.volume ≡ volume.old.volume }
+    ensures inside { IsTrue result → at + length bytes.now ≤ length (trace_at volume.old.volume p) }
+    ensures there { IsTrue result → IsTrue (has_trace volume.old.volume p) }
+    ensures whole { IsTrue result → IsTrace volume.old.volume.head (splice (trace_at volume.old.volume p) at (length bytes.now) bytes.now) }
+{
+    let Some(view) = volume.look(p) else {
+        return false;
+    };
+    let length = view.length();
+    let size = bytes.len() as u64;
+    if size > length || at > length - size {
+        return false;
+    }
+    view.changed_length(at, bytes) == Some(length)
+}
+
+fn put(alloc: Global, volume: &mut Overlay, p: u32, at: u64, bytes: &[u8]) -> Result<(), Fail> {
+    if !may_put(volume, p, at, bytes) {
+        return Err(Fail::from("no place for the bytes"));
+    }
+    volume.put(alloc, p, at, bytes)?;
+    Ok(())
+}
+
+// Lays two of the bytes over each of the first two traces.
+fn put_over_two(alloc: Global, volume: &mut Overlay, at: u64, bytes: &[u8; 4]) -> Result<(), Fail> {
+    if !may_put(volume, 1, at, &bytes[..2]) {
+        return Err(Fail::from("no place for the bytes"));
+    }
+    if !may_put(volume, 2, at, &bytes[2..]) {
+        return Err(Fail::from("no place for the bytes"));
+    }
+    volume.put_each(alloc, 1, at, 2, bytes)?;
+    Ok(())
+}
+
+fn insert(alloc: Global, volume: &mut Overlay, p: u32, bytes: Vec<u8>) -> Result<(), Fail> {
+    if volume.count() > 10_000 || volume.length() > 10_000_000 || bytes.len() > 10_000 {
+        return Err(Fail::from("too much"));
+    }
+    if p == 0 || p > volume.count() + 1 {
+        return Err(Fail::from("no such position"));
+    }
+    if !is_trace(&volume.head(), bytes.as_slice()) {
+        return Err(Fail::from("no trace"));
+    }
+    volume.insert(alloc, p, bytes)?;
+    Ok(())
+}
+
+fn replace(alloc: Global, volume: &mut Overlay, p: u32, bytes: Vec<u8>) -> Result<(), Fail> {
+    if volume.length() > 10_000_000 || bytes.len() > 10_000 {
+        return Err(Fail::from("too much"));
+    }
+    if p == 0 || p > volume.count() {
+        return Err(Fail::from("no such trace"));
+    }
+    if !is_trace(&volume.head(), bytes.as_slice()) {
+        return Err(Fail::from("no trace"));
+    }
+    volume.replace(alloc, p, bytes);
+    Ok(())
+}
+
+fn delete(volume: &mut Overlay, p: u32) -> Result<(), Fail> {
+    if p == 0 || p > volume.count() {
+        return Err(Fail::from("no such trace"));
+    }
+    volume.delete(p);
+    Ok(())
+}
+
+fn move_to(alloc: Global, volume: &mut Overlay, a: u32, b: u32) -> Result<(), Fail> {
+    let count = volume.count();
+    if a == 0 || a > count || b == 0 || b > count {
+        return Err(Fail::from("no such trace"));
+    }
+    volume.move_to(alloc, a, b)?;
+    Ok(())
+}
+
 #[test]
 fn cuts_bytes_in_memory(rt: HostRuntime) -> Result<(), Fail> {
-    let volume = volume(rt.alloc())?;
+    let alloc = rt.alloc();
+    let file = small_file(alloc)?;
+    let mut volume = volume(alloc)?;
     assert_eq!(rt; volume.count(), 2);
     assert_eq!(rt; volume.length(), 4088);
     assert_eq!(rt; volume.head().samples, 2);
-    assert!(rt; volume.trace(0).is_none() && volume.trace(3).is_none());
-    let last = volume.trace(2).ok_or("trace 2")?;
-    assert_eq!(rt; last.len(), 244);
-    assert_eq!(rt; last[243], 9);
+    assert!(rt; volume.block(1).is_none());
+    assert!(rt; volume.trailer(1).is_none());
+    expect_trace(&rt, &mut volume, 1, part(file.as_slice(), 3600, 3844));
+    expect_trace(&rt, &mut volume, 2, part(file.as_slice(), 3844, 4088));
+    expect_saved(&rt, alloc, &volume, &[file.as_slice()])
+}
+
+#[test]
+fn counts_looks(rt: HostRuntime) -> Result<(), Fail> {
+    let mut volume = volume(rt.alloc())?;
+    assert_eq!(rt; volume.looks(), 0);
+    assert!(rt; volume.look(1).is_some());
+    assert!(rt; volume.look(2).is_some());
+    assert!(rt; volume.look(2).is_some());
+    assert!(rt; volume.look(0).is_none());
+    assert!(rt; volume.look(3).is_none());
+    assert_eq!(rt; volume.looks(), 3);
     Ok(())
 }
 
@@ -59,8 +214,15 @@ fn loads_in_steps(rt: HostRuntime) -> Result<(), Fail> {
     let mut reader = Source::new(StepReader::new(file.as_slice(), 1, u64::MAX));
     let loaded = Overlay::load(alloc, &mut reader, Reading::AsWritten, limits()?)?;
     assert_eq!(rt; loaded.count(), 2);
+    assert_eq!(rt; loaded.looks(), 0);
     assert_eq!(rt; reader.failures(), 0);
+    expect_saved(&rt, alloc, &loaded, &[file.as_slice()])
+}
 
+#[test]
+fn refuses_what_cannot_be_read(rt: HostRuntime) -> Result<(), Fail> {
+    let alloc = rt.alloc();
+    let file = small_file(alloc)?;
     let mut reader = Source::new(StepReader::new(file.as_slice(), 1000, 3));
     let refused = Overlay::load(alloc, &mut reader, Reading::AsWritten, limits()?).err();
     assert_eq!(rt; refused, Some(LoadFault::ReadFailed));
@@ -73,33 +235,158 @@ fn loads_in_steps(rt: HostRuntime) -> Result<(), Fail> {
     Ok(())
 }
 
+// A put over an older one, and one beside it.
 #[test]
 fn puts_and_saves(rt: HostRuntime) -> Result<(), Fail> {
     let alloc = rt.alloc();
-    let mut expected = small_file(alloc)?;
+    let file = small_file(alloc)?;
     let mut volume = volume(alloc)?;
-    if volume.count() == 2 {
-        if let Some(trace) = volume.trace(2) {
-            if trace.len() == 244 {
-                let put: Result<(), OutOfMemory> = volume.put(alloc, 2, 240, &[1, 2]);
-                put?;
-            }
-        }
-    }
-    put_byte(expected.as_mut_slice(), 4084, 1);
-    put_byte(expected.as_mut_slice(), 4085, 2);
+    put(alloc, &mut volume, 2, 240, &[1, 2])?;
+    put(alloc, &mut volume, 2, 241, &[3])?;
+    put(alloc, &mut volume, 2, 242, &[4, 5])?;
+    let front = part(file.as_slice(), 0, 4084);
+    expect_saved(&rt, alloc, &volume, &[front, &[1, 3, 4, 5]])
+}
 
-    let mut writer = Sink::new(Vec::new(alloc));
-    volume.write_to(&mut writer)?;
-    assert!(rt; writer.into_inner().as_slice() == expected.as_slice());
-
+#[test]
+fn stops_where_the_writer_fails(rt: HostRuntime) -> Result<(), Fail> {
+    let alloc = rt.alloc();
+    let file = small_file(alloc)?;
+    let mut volume = volume(alloc)?;
+    put(alloc, &mut volume, 2, 0, &[8])?;
     let mut room = [0u8; 5000];
     let mut writer = Sink::new(StepWriter::new(&mut room, 1, 4000));
     let fault = volume.write_to(&mut writer).err();
     assert_eq!(rt; fault, Some(SaveFault { written: 4000 }));
     assert_eq!(rt; writer.failures(), 1);
     let _writer = writer.into_inner();
-    assert!(rt; begins_alike(&room, expected.as_slice(), 4000));
+    assert!(rt; *part(&room, 0, 3844) == *part(file.as_slice(), 0, 3844));
+    assert_eq!(rt; room[3844], 8);
+    assert!(rt; *part(&room, 3845, 4000) == *part(file.as_slice(), 3845, 4000));
     assert_eq!(rt; room[4000], 0);
     Ok(())
+}
+
+#[test]
+fn puts_text_and_head(rt: HostRuntime) -> Result<(), Fail> {
+    let alloc = rt.alloc();
+    let file = small_file(alloc)?;
+    let mut volume = volume(alloc)?;
+    volume.put_text(40, &[0xC3; 80]);
+    volume.put_head(398, &[6, 7]);
+    let text = part(file.as_slice(), 0, 3120);
+    let head = part(file.as_slice(), 3200, 3598);
+    let traces = part(file.as_slice(), 3600, 4088);
+    expect_saved(
+        &rt,
+        alloc,
+        &volume,
+        &[text, &[0xC3; 80], head, &[6, 7], traces],
+    )
+}
+
+#[test]
+fn puts_over_two_traces(rt: HostRuntime) -> Result<(), Fail> {
+    let alloc = rt.alloc();
+    let file = small_file(alloc)?;
+    let mut volume = volume(alloc)?;
+    put(alloc, &mut volume, 2, 241, &[3])?;
+    put_over_two(alloc, &mut volume, 240, &[1, 2, 5, 6])?;
+    let front = part(file.as_slice(), 0, 3840);
+    let middle = part(file.as_slice(), 3842, 4084);
+    let back = part(file.as_slice(), 4086, 4088);
+    expect_saved(
+        &rt,
+        alloc,
+        &volume,
+        &[front, &[1, 2], middle, &[5, 6], back],
+    )
+}
+
+// In front of the first, and behind the last.
+#[test]
+fn inserts_and_deletes(rt: HostRuntime) -> Result<(), Fail> {
+    let alloc = rt.alloc();
+    let file = small_file(alloc)?;
+    let first = trace(alloc, 3, 0x11)?;
+    let last = trace(alloc, 1, 0x22)?;
+    let mut volume = volume(alloc)?;
+    insert(alloc, &mut volume, 1, trace(alloc, 3, 0x11)?)?;
+    insert(alloc, &mut volume, 4, trace(alloc, 1, 0x22)?)?;
+    let headers = part(file.as_slice(), 0, 3600);
+    let traces = part(file.as_slice(), 3600, 4088);
+    expect_saved(
+        &rt,
+        alloc,
+        &volume,
+        &[headers, first.as_slice(), traces, last.as_slice()],
+    )?;
+    delete(&mut volume, 2)?;
+    let traces = part(file.as_slice(), 3844, 4088);
+    expect_saved(
+        &rt,
+        alloc,
+        &volume,
+        &[headers, first.as_slice(), traces, last.as_slice()],
+    )
+}
+
+// To the front, and to the back.
+#[test]
+fn moves_traces(rt: HostRuntime) -> Result<(), Fail> {
+    let alloc = rt.alloc();
+    let file = small_file(alloc)?;
+    let new = trace(alloc, 3, 0x11)?;
+    let mut volume = volume(alloc)?;
+    insert(alloc, &mut volume, 3, trace(alloc, 3, 0x11)?)?;
+    let headers = part(file.as_slice(), 0, 3600);
+    let first = part(file.as_slice(), 3600, 3844);
+    let second = part(file.as_slice(), 3844, 4088);
+    move_to(alloc, &mut volume, 3, 1)?;
+    expect_saved(
+        &rt,
+        alloc,
+        &volume,
+        &[headers, new.as_slice(), first, second],
+    )?;
+    move_to(alloc, &mut volume, 2, 3)?;
+    expect_saved(
+        &rt,
+        alloc,
+        &volume,
+        &[headers, new.as_slice(), second, first],
+    )
+}
+
+// By a longer one; what was put over it before is gone.
+#[test]
+fn replaces_a_trace(rt: HostRuntime) -> Result<(), Fail> {
+    let alloc = rt.alloc();
+    let file = small_file(alloc)?;
+    let longer = trace(alloc, 5, 0x33)?;
+    let mut volume = volume(alloc)?;
+    put(alloc, &mut volume, 1, 0, &[8])?;
+    replace(alloc, &mut volume, 1, trace(alloc, 5, 0x33)?)?;
+    expect_trace(&rt, &mut volume, 1, longer.as_slice());
+    put(alloc, &mut volume, 1, 249, &[9])?;
+    let headers = part(file.as_slice(), 0, 3600);
+    let changed = part(longer.as_slice(), 0, 249);
+    let second = part(file.as_slice(), 3844, 4088);
+    expect_saved(&rt, alloc, &volume, &[headers, changed, &[9], second])
+}
+
+#[test]
+fn is_as_loaded_after_many_inserts_and_deletes(rt: HostRuntime) -> Result<(), Fail> {
+    let alloc = rt.alloc();
+    let file = small_file(alloc)?;
+    let mut volume = volume(alloc)?;
+    for _ in 0..1200 {
+        insert(alloc, &mut volume, 1, trace(alloc, 2, 0x44)?)?;
+    }
+    assert_eq!(rt; volume.count(), 1202);
+    expect_trace(&rt, &mut volume, 1201, part(file.as_slice(), 3600, 3844));
+    for _ in 0..1200 {
+        delete(&mut volume, 1)?;
+    }
+    expect_saved(&rt, alloc, &volume, &[file.as_slice()])
 }

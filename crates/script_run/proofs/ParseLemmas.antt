@@ -9,7 +9,7 @@ use Rattle.script_run.specs.declared.command.Command.{Command}
 use Rattle.script_run.specs.declared.command.Command.TheVariants.{Apply, Ask}
 use Rattle.script_run.specs.declared.line_fault.LineFault.{LineFault}
 use Rattle.script_run.specs.declared.line_fault.LineFault.TheVariants.{Number, OutOfMemory}
-use Rattle.script_run.specs.Commands.{field_of, read_set, read_get, read_bin, read_getbin, read_text, read_map, read_unmap, IsFieldRead, IsName, HoldsText, CommandTakesMemory, IsRead}
+use Rattle.script_run.specs.Commands.{field_of, read_set, read_get, read_bin, read_getbin, read_text, read_map, read_unmap, IsFieldRead, IsName, HoldsMemory, CommandTakesMemory, IsRead}
 use Rattle.script_run.specs.Numbers.{position_of, number_of, place_of_word}
 use Rattle.script_run.specs.Words.{text_behind_word}
 
@@ -22,7 +22,7 @@ module _ (expected : Option Field → Result Command LineFault) (make : Field �
   field_ok (Some g) f (inr e) = absurd cc
 
   -- or it was not
-  pub field_err : ((f : Field) → IsName f → HoldsText (make f)) → (o : Option Field) (fault : LineFault) (r : Result Command LineFault) → IsErrAnd r (λ e. e ≡ fault) → IsFieldRead o (Err fault) → IsRead (expected o) r
+  pub field_err : ((f : Field) → IsName f → HoldsMemory (make f)) → (o : Option Field) (fault : LineFault) (r : Result Command LineFault) → IsErrAnd r (λ e. e ≡ fault) → IsFieldRead o (Err fault) → IsRead (expected o) r
   field_err holds o fault (Ok command) is h = absurd is
   field_err holds None fault (Err e) is h = let same : e ≡ Number = cc in inl (ap (λ (k : LineFault). let r : Result Command LineFault = Err k in r) same ∙ sym none)
   field_err holds (Some g) fault (Err e) is (inl f) = absurd cc
@@ -72,7 +72,7 @@ module _ (ws : List (List ℕ)) (at : List ℕ) (words : ws ≡ at ∷ []) where
 
 -- ---- a text that found no memory
 
-no_memory_by : (expected : Read) (command : Command) (fault : LineFault) (r : Read) → IsErrAnd r (λ e. e ≡ fault) → fault ≡ OutOfMemory → expected ≡ Ok command → HoldsText command → IsRead expected r
+no_memory_by : (expected : Read) (command : Command) (fault : LineFault) (r : Read) → IsErrAnd r (λ e. e ≡ fault) → fault ≡ OutOfMemory → expected ≡ Ok command → HoldsMemory command → IsRead expected r
 no_memory_by expected command fault (Ok c) is e f h = absurd is
 no_memory_by expected command fault (Err x) is e f h =
     inr (ap (λ (k : LineFault). let r : Read = Err k in r) (is ∙ e), subst CommandTakesMemory (sym f) h)

@@ -1,5 +1,5 @@
 -- The command of a line.
-use Rattle.std.specs.Prelude.{◌≡◌, ◌⊎◌, ℕ, not, List, [], ◌∷◌, bytes_eq, codes, Option, Some, None, option_map, option_and_then, ok_or, Result, Ok, Err, if◌then◌else◌}
+use Rattle.std.specs.Prelude.{◌≡◌, ◌⊎◌, ℕ, ℤ, not, List, [], ◌∷◌, bytes_eq, codes, Option, Some, None, option_map, option_and_then, ok_or, Result, Ok, Err, if◌then◌else◌}
 use Rattle.std.specs.Str.{is_utf8}
 use Rattle.std.specs.Map.{lookup}
 use Rattle.bench_core.specs.declared.field.Field.{Field}
@@ -22,6 +22,11 @@ name_of word = Some word
 -- a field: a place where the word begins with `@`, else a name
 abbrev pub field_of : List ℕ → Option Field
 field_of word = if begins_with_at word then option_map fields.Place (place_of_word word) else Some (fields.Name word)
+
+-- one number for each word, if each is one
+abbrev pub numbers_of : List (List ℕ) → Option (List ℤ)
+numbers_of [] = Some []
+numbers_of (word ∷ words) = option_and_then (λ x. option_map (λ xs. x ∷ xs) (numbers_of words)) (number_of word)
 
 -- ---- what may follow a command's word
 
@@ -60,6 +65,14 @@ three a b c command [] = Err Words
 abbrev pub one_and_text : {A : Type 0} → (List ℕ → Option A) → (A → Command) → Reader
 one_and_text a command (v ∷ words) = ok_or (option_map command (a v)) Number
 one_and_text a command [] = Err Words
+
+-- two words, and then one or more numbers
+abbrev pub two_and_numbers : {A B : Type 0} → (List ℕ → Option A) → (List ℕ → Option B) → (A → B → List ℤ → Command) → Reader
+two_and_numbers a b command (u ∷ v ∷ w ∷ words) =
+    ok_or (option_and_then (λ x. option_and_then (λ y. option_map (command x y) (numbers_of (w ∷ words))) (b v)) (a u)) Number
+two_and_numbers a b command (u ∷ v ∷ []) = Err Words
+two_and_numbers a b command (u ∷ []) = Err Words
+two_and_numbers a b command [] = Err Words
 
 -- ---- the commands
 
@@ -119,6 +132,26 @@ read_info = alone (Ask queries.Info)
 abbrev pub read_sample : Reader
 read_sample = two position_of position_of (λ p k. Ask (queries.Sample p k))
 
+-- `patch P K NUMBER ..`
+abbrev pub read_patch : Reader
+read_patch = two_and_numbers position_of position_of (λ p k values. Apply (edits.Patch p k values))
+
+-- `blank P`
+abbrev pub read_blank : Reader
+read_blank = one position_of (λ p. Apply (edits.Blank p))
+
+-- `copy Q P`
+abbrev pub read_copy : Reader
+read_copy = two position_of position_of (λ q p. Apply (edits.Copy q p))
+
+-- `delete P`
+abbrev pub read_delete : Reader
+read_delete = one position_of (λ p. Apply (edits.Delete p))
+
+-- `move P Q`
+abbrev pub read_move : Reader
+read_move = two position_of position_of (λ a b. Apply (edits.Move a b))
+
 -- each command's word with what reads the words behind it, which stand in this rest of the line
 abbrev pub commands : List ℕ → List (List ℕ × Reader)
 commands rest =
@@ -136,6 +169,11 @@ commands rest =
     ∷ (codes "count", read_count)
     ∷ (codes "info", read_info)
     ∷ (codes "sample", read_sample)
+    ∷ (codes "patch", read_patch)
+    ∷ (codes "blank", read_blank)
+    ∷ (codes "copy", read_copy)
+    ∷ (codes "delete", read_delete)
+    ∷ (codes "move", read_move)
     ∷ []
 
 -- the reader's command, where the word has a reader
@@ -172,46 +210,56 @@ abbrev pub IsFieldRead : Option Field → Result Field LineFault → Type 0
 IsFieldRead None result = result ≡ Err Number
 IsFieldRead (Some field) result = (result ≡ Ok field) ⊎ ((result ≡ Err OutOfMemory) × IsName field)
 
--- an edit that holds a text
-abbrev pub EditHoldsText : Edit → Type 0
-EditHoldsText (edits.Set p field x) = IsName field
-EditHoldsText (edits.SetBin field x) = IsName field
-EditHoldsText (edits.SetText q text) = Unit {0}
-EditHoldsText (edits.Map name place) = Unit {0}
-EditHoldsText (edits.Unmap name) = Unit {0}
+-- what is read as numbers: S03 for none, else the numbers, or want of memory
+abbrev pub AreNumbersRead : Option (List ℤ) → Result (List ℤ) LineFault → Type 0
+AreNumbersRead None result = result ≡ Err Number
+AreNumbersRead (Some values) result = (result ≡ Ok values) ⊎ (result ≡ Err OutOfMemory)
+
+-- an edit that holds a text or a list
+abbrev pub EditHoldsMemory : Edit → Type 0
+EditHoldsMemory (edits.Set p field x) = IsName field
+EditHoldsMemory (edits.SetBin field x) = IsName field
+EditHoldsMemory (edits.SetText q text) = Unit {0}
+EditHoldsMemory (edits.Map name place) = Unit {0}
+EditHoldsMemory (edits.Unmap name) = Unit {0}
+EditHoldsMemory (edits.Patch p k values) = Unit {0}
+EditHoldsMemory (edits.Blank p) = ⊥
+EditHoldsMemory (edits.Copy q p) = ⊥
+EditHoldsMemory (edits.Delete p) = ⊥
+EditHoldsMemory (edits.Move a b) = ⊥
 
 -- a query that holds a text
-abbrev pub QueryHoldsText : Query → Type 0
-QueryHoldsText queries.Count = ⊥
-QueryHoldsText queries.Info = ⊥
-QueryHoldsText (queries.Get p field) = IsName field
-QueryHoldsText (queries.GetBin field) = IsName field
-QueryHoldsText (queries.Line b q) = ⊥
-QueryHoldsText (queries.Code b) = ⊥
-QueryHoldsText queries.Stanzas = ⊥
-QueryHoldsText queries.Fields = ⊥
-QueryHoldsText (queries.Sample p k) = ⊥
+abbrev pub QueryHoldsMemory : Query → Type 0
+QueryHoldsMemory queries.Count = ⊥
+QueryHoldsMemory queries.Info = ⊥
+QueryHoldsMemory (queries.Get p field) = IsName field
+QueryHoldsMemory (queries.GetBin field) = IsName field
+QueryHoldsMemory (queries.Line b q) = ⊥
+QueryHoldsMemory (queries.Code b) = ⊥
+QueryHoldsMemory queries.Stanzas = ⊥
+QueryHoldsMemory queries.Fields = ⊥
+QueryHoldsMemory (queries.Sample p k) = ⊥
 
--- a command that holds a text
-abbrev pub HoldsText : Command → Type 0
-HoldsText (Apply edit) = EditHoldsText edit
-HoldsText (Ask query) = QueryHoldsText query
+-- a command that holds a text or a list
+abbrev pub HoldsMemory : Command → Type 0
+HoldsMemory (Apply edit) = EditHoldsMemory edit
+HoldsMemory (Ask query) = QueryHoldsMemory query
 
--- to read a command takes memory where it holds a text
+-- to read a command takes memory where it holds a text or a list
 abbrev pub CommandTakesMemory : Result Command LineFault → Type 0
-CommandTakesMemory (Ok command) = HoldsText command
+CommandTakesMemory (Ok command) = HoldsMemory command
 CommandTakesMemory (Err fault) = ⊥
 
--- to read a line takes memory where it is a command that holds a text
+-- to read a line takes memory where it is a command that holds a text or a list
 abbrev pub LineTakesMemory : Result (Option Command) LineFault → Type 0
 LineTakesMemory (Ok None) = ⊥
-LineTakesMemory (Ok (Some command)) = HoldsText command
+LineTakesMemory (Ok (Some command)) = HoldsMemory command
 LineTakesMemory (Err fault) = ⊥
 
--- what is read as a command: what it has to be, or want of memory where it holds a text
+-- what is read as a command: what it has to be, or want of memory where it holds a text or a list
 abbrev pub IsRead : Result Command LineFault → Result Command LineFault → Type 0
 IsRead expected result = (result ≡ expected) ⊎ ((result ≡ Err OutOfMemory) × CommandTakesMemory expected)
 
--- what is read from a line: what it gives, or want of memory where its command holds a text
+-- what is read from a line: what it gives, or want of memory where its command holds a text or a list
 abbrev pub IsParsed : List ℕ → Result (Option Command) LineFault → Type 0
 IsParsed line result = (result ≡ line_result line) ⊎ ((result ≡ Err OutOfMemory) × LineTakesMemory (line_result line))

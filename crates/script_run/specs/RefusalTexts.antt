@@ -76,9 +76,12 @@ refusal_text (refusals.NoTrace p count) = no_trace p count
 refusal_text refusals.NoField = codes "E02 no field"
 refusal_text refusals.NoPlace = codes "E03 no place"
 refusal_text refusals.DoesNotFit = codes "E04 does not fit"
+refusal_text (refusals.NoSample k number) = no_sample k number
 refusal_text refusals.Frame = codes "E06 frame"
 refusal_text (refusals.Text fault) = text_fault_text fault
 refusal_text (refusals.Map fault) = map_fault_text fault
+refusal_text refusals.TooLarge = codes "E09 too large"
+refusal_text refusals.TooManyTraces = codes "E10 too many traces"
 refusal_text refusals.OutOfMemory = codes "E11 out of memory"
 
 abbrev pub ask_fault_text : AskFault → List ℕ

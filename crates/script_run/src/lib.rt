@@ -29,6 +29,7 @@ mod script;
 mod script_fault;
 mod telling;
 mod text_buffer;
+mod trace_commands;
 mod whole_run;
 mod words;
 

@@ -7,6 +7,7 @@ use crate::command::Command;
 use crate::fields::{field, place, text_of};
 use crate::line_fault::LineFault;
 use crate::numbers::{number, position};
+use crate::trace_commands::{blank, copy, delete, move_trace, patch};
 use crate::words::Words;
 use bench_core::{Edit, Query};
 use std::alloc::Global;
@@ -17,7 +18,7 @@ use std::str;
 ///
 /// Words are separated by blanks and tabs. A line that is not UTF-8 is S04, a first word that is no command S01, too few
 /// or too many words S02, and a word that has to be a number or a place and is none S03; the first of these that holds
-/// is told. Takes memory only where the command holds a text or a name, and is E11 where that was refused.
+/// is told. Takes memory only where the command holds a text, a name or a list of numbers, and is E11 where that was refused.
 pub fn parse_line(alloc: Global, line: &[u8]) -> Result<Option<Command>, LineFault>
     ensures { IsParsed line.now result }
 {
@@ -51,6 +52,11 @@ fn command(alloc: Global, word: &str, words: Words) -> Result<Command, LineFault
         "count" => count(words),
         "info" => info(words),
         "sample" => sample(words),
+        "patch" => patch(alloc, words),
+        "blank" => blank(words),
+        "copy" => copy(words),
+        "delete" => delete(words),
+        "move" => move_trace(words),
         _ => Err(LineFault::Unknown),
     }
 }
@@ -191,7 +197,7 @@ fn none(mut words: Words) -> Option<()>
 }
 
 // The word, where there is one alone.
-fn one(mut words: Words) -> Option<&str>
+pub(crate) fn one(mut words: Words) -> Option<&str>
     ensures none { IfNone result (length (words_of words.entry) ≢ 1) }
     ensures some { IfSome result (λ word. words_of words.entry ≡ word.now ∷ []) }
 {
@@ -203,7 +209,7 @@ fn one(mut words: Words) -> Option<&str>
 }
 
 // The two words, where they are two.
-fn two(mut words: Words) -> Option<(&str, &str)>
+pub(crate) fn two(mut words: Words) -> Option<(&str, &str)>
     ensures none { IfNone result (length (words_of words.entry) ≢ 2) }
     ensures some { IfSome result (λ t. words_of words.entry ≡ t.0.now ∷ t.1.now ∷ []) }
 {

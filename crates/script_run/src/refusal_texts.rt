@@ -64,9 +64,12 @@ pub(crate) fn refusal_line(refusal: Refusal) -> TextBuffer
         Refusal::NoField => line.push(b"E02 no field"),
         Refusal::NoPlace => line.push(b"E03 no place"),
         Refusal::DoesNotFit => line.push(b"E04 does not fit"),
+        Refusal::NoSample(k, number) => push_no_sample(&mut line, k, number),
         Refusal::Frame => line.push(b"E06 frame"),
         Refusal::Text(fault) => push_text_fault(&mut line, fault),
         Refusal::Map(fault) => line.push(map_fault(fault)),
+        Refusal::TooLarge => line.push(b"E09 too large"),
+        Refusal::TooManyTraces => line.push(b"E10 too many traces"),
         Refusal::OutOfMemory => line.push(b"E11 out of memory"),
     }
     line.push(b"\n");

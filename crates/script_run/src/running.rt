@@ -25,7 +25,7 @@ pub(crate) fn run_lines<A: Write>(
     stop: bool,
 ) -> LinesEnd
     requires { length script.now ≤ 16777216 }
-    ensures { RunsLines bench.old bench.new script.now stop (device (A.contents answers.old.0) answers.old.1)
+    ensures { RunsLines bench.old.state bench.new.state script.now stop (device (A.contents answers.old.0) answers.old.1)
         (device (A.contents answers.new.0) answers.new.1) result }
 {
     let mut lines = Lines::new(script);
@@ -70,7 +70,7 @@ fn answer_line<A: Write>(
 ) -> Result<Told, WriteFault>
     ensures { let old = device (A.contents answers.old.0) answers.old.1 in
         let new = device (A.contents answers.new.0) answers.new.1 in
-        (printed : Printed) × LineStep bench.old line.now printed bench.new
+        (printed : Printed) × LineStep bench.old.state line.now printed bench.new.state
         × MatchResult result (λ told. Takes old new printed.text × (told.length ≡ length printed.text) × (told.is_refusal ≡ printed.is_refusal))
         (λ fault. TakesPart old new printed.text fault.written) }
 {
@@ -85,7 +85,7 @@ fn answer_line<A: Write>(
 
 // Runs one line.
 fn run_line(alloc: Global, bench: &mut Bench, line: &[u8]) -> Reply
-    ensures { LineStep bench.old line.now result bench.new }
+    ensures { LineStep bench.old.state line.now result bench.new.state }
 {
     match parse_line(alloc, line) {
         Ok(None) => silent(alloc),
@@ -95,7 +95,7 @@ fn run_line(alloc: Global, bench: &mut Bench, line: &[u8]) -> Reply
 }
 
 fn run_command(alloc: Global, bench: &mut Bench, command: &Command) -> Reply
-    ensures { CommandStep bench.old command.now result bench.new }
+    ensures { CommandStep bench.old.state command.now result bench.new.state }
 {
     match command {
         Command::Apply(edit) => edit_reply(alloc, bench.apply(alloc, edit)),

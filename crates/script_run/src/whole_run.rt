@@ -67,7 +67,7 @@ fn load<R: Read>(
     options: Options,
 ) -> Result<Bench, LoadFault>
     ensures ok { IfOk result (λ bench. Loads (device (R.remaining reader.old.0) reader.old.1)
-        (device (R.remaining reader.new.0) reader.new.1) options.reading options.limits bench) }
+        (device (R.remaining reader.new.0) reader.new.1) options.reading options.limits bench.state) }
     ensures err { IfErr result (λ fault. IsLoadRefused (device (R.remaining reader.old.0) reader.old.1)
         (device (R.remaining reader.new.0) reader.new.1) options.reading options.limits fault) }
 {
@@ -77,8 +77,8 @@ fn load<R: Read>(
 fn save<O: Write>(bench: &Bench, out: &mut Sink<O>) -> Result<(), SaveFault>
     ensures { let old = device (O.contents out.old.0) out.old.1 in
         let new = device (O.contents out.new.0) out.new.1 in
-        MatchResult result (λ _. Takes old new (bytes_of bench.now.volume))
-        (λ fault. TakesPart old new (bytes_of bench.now.volume) fault.written) }
+        MatchResult result (λ _. Takes old new (bytes_of bench.now.state.volume))
+        (λ fault. TakesPart old new (bytes_of bench.now.state.volume) fault.written) }
 {
     bench.save(out)
 }

@@ -39,6 +39,13 @@ impl<'a> Words<'a> {
         Some(word)
     }
 
+    /// What is still to be read.
+    pub(crate) fn rest(&self) -> &'a str
+        ensures { result.now ≡ self.now }
+    {
+        self.rest
+    }
+
     /// What stands behind the one blank or tab that comes first.
     pub(crate) fn text_behind(&self) -> &'a str
         ensures { result.now ≡ without_one_gap self.now }

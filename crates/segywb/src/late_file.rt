@@ -1,3 +1,5 @@
+ghost use Rattle.std.specs.Prelude.{◌≤◌, length, IfOk};
+
 use std::fs;
 use std::io::{Result, Write};
 use std::rt::Files;
@@ -9,6 +11,7 @@ pub struct LateFile<'a, R: Files> {
     rt: &'a R,
     path: &'a str,
     file: Option<R::File>,
+    taken: u64,
 }
 
 impl<'a, R: Files> LateFile<'a, R> {
@@ -18,12 +21,19 @@ impl<'a, R: Files> LateFile<'a, R> {
             rt,
             path,
             file: None,
+            taken: 0,
         }
     }
-}
 
-impl<R: Files> Write for LateFile<'_, R> {
-    fn write(&mut self, buf: &[u8]) -> Result<usize> {
+    /// How many bytes the file took.
+    pub fn taken(&self) -> u64 {
+        self.taken
+    }
+
+    // One write to the file, which is made where there is none yet.
+    fn write_once(&mut self, buf: &[u8]) -> Result<usize>
+        ensures { IfOk result (λ count. count ≤ length buf.now) }
+    {
         match &mut self.file {
             Some(file) => file.write(buf),
             None => {
@@ -33,6 +43,14 @@ impl<R: Files> Write for LateFile<'_, R> {
                 taken
             }
         }
+    }
+}
+
+impl<R: Files> Write for LateFile<'_, R> {
+    fn write(&mut self, buf: &[u8]) -> Result<usize> {
+        let count = self.write_once(buf)?;
+        self.taken = self.taken.saturating_add(count as u64);
+        Ok(count)
     }
 
     fn flush(&mut self) -> Result<()> {

@@ -6,11 +6,15 @@ use crate::late_file::LateFile;
 use device_io::{Sink, Source};
 use frame_cut::{Limits, Reading};
 use script_run::{Options, RunEnd, run};
+use std::io::{BufWriter, Write};
 use std::rt::{Env, Files};
 use std::{env, fs, io};
 
 // The most bytes of a file, where the command line names no other number.
 const MAX_BYTES: u64 = 4294967296;
+
+// Short pieces of the save are written together, so many bytes at once; a piece of as many or more goes by itself.
+const ROOM: usize = 65536;
 
 // Reads the command line and runs the script.
 pub fn status_of<R: Files + Env + AllocGlobal + Print + Eprint>(rt: &R) -> u8 {
@@ -49,15 +53,21 @@ fn open_and_run<R: Files + AllocGlobal + Print + Eprint>(rt: &R, arguments: &Arg
         let _ = eprintln!(rt; "segywb: cannot open {script}");
         return 4;
     };
+    let late = LateFile::new(rt, arguments.out.unwrap_or(""));
+    let room = if arguments.out.is_some() { ROOM } else { 0 };
+    let Ok(out) = BufWriter::with_capacity(rt.alloc(), room, late) else {
+        return save_failed(rt, 0);
+    };
+    let mut out = Sink::new(out);
     let end = run(
         rt.alloc(),
         &mut Source::new(volume),
         &mut Source::new(lines),
         &mut Sink::new(io::writer(rt)),
-        &mut Sink::new(LateFile::new(rt, arguments.out.unwrap_or(""))),
+        &mut out,
         options(arguments),
     );
-    finish(rt, end)
+    finish(rt, end, out.into_inner())
 }
 
 // How the command line asks for the run.
@@ -81,10 +91,13 @@ fn options(arguments: &Arguments) -> Options
     }
 }
 
-// The exit status of a run, with what is said on standard error.
-fn finish<R: Eprint>(rt: &R, end: RunEnd) -> u8 {
+// The exit status of a run, with what is said on standard error, once the bytes that wait for the file are written too.
+fn finish<R: Files + Eprint>(rt: &R, end: RunEnd, mut out: BufWriter<LateFile<'_, R>>) -> u8 {
     match end {
-        RunEnd::Done { refused } => u8::from(refused > 0),
+        RunEnd::Done { refused } => match out.flush() {
+            Ok(()) => u8::from(refused > 0),
+            Err(_) => save_failed(rt, taken(out)),
+        },
         RunEnd::Stopped { .. } => 1,
         RunEnd::Load(_) => 3,
         RunEnd::Script(_) => 4,
@@ -92,10 +105,18 @@ fn finish<R: Eprint>(rt: &R, end: RunEnd) -> u8 {
             let _ = eprintln!(rt; "segywb: answers failed");
             4
         }
-        RunEnd::Save(fault) => {
-            let written = fault.written;
-            let _ = eprintln!(rt; "segywb: save failed after {written} bytes");
-            4
-        }
+        RunEnd::Save(_) => save_failed(rt, taken(out)),
     }
+}
+
+// How many bytes the file took; those that wait are dropped.
+fn taken<R: Files>(out: BufWriter<LateFile<'_, R>>) -> u64 {
+    let (late, _waiting) = out.into_parts();
+    late.taken()
+}
+
+// A save that failed when the file had taken so many bytes.
+fn save_failed<R: Eprint>(rt: &R, written: u64) -> u8 {
+    let _ = eprintln!(rt; "segywb: save failed after {written} bytes");
+    4
 }

@@ -1,3 +1,5 @@
 pub mod Slices
 pub mod Laws
 pub mod Examples
+pub mod Cache
+pub mod CacheExamples

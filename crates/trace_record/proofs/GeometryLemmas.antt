@@ -1,5 +1,5 @@
 -- A map that keeps the geometry names gives each trace of its file a geometry.
-use Rattle.std.proofs.Common.{◌≡◌, ℕ, ◌+◌, ◌-◌, ◌≤◌, Bool, true, false, List, arith, refl}
+use Rattle.std.proofs.Common.{◌≡◌, ℕ, ◌+◌, ◌-◌, ◌≤◌, Bool, true, false, List, arith, refl, subst}
 use Rattle.std.specs.Prelude.{not, ◌&&◌, ◌||◌, ◌==◌, nat_lt, nat_le, codes, bytes_eq, length, Option, Some, None, option_map, unwrap_or, if◌then◌else◌}
 use Rattle.std.specs.Option.{option_map_or}
 use Rattle.std.proofs.lemmas.Bool.Decides.{nat_tests}
@@ -57,6 +57,15 @@ at-name h fields t name g has whole = go (place_of fields name) (has.stands name
     go : (o : Option Place) → option_map_or (is_geometry_place h.extensions name) o false ≡ true → option_map_or (has_geometry_at h t name) o false ≡ true
     go None stands = absurd cc
     go (Some place) stands = at-place h t name place g (enough h t whole) stands
+
+-- the place of a geometry name
+pub has_named_place : (h : Head) (fields : Pairs) (t : List ℕ) (name : List ℕ) (place : Place) → is_geometry name ≡ true → HasGeometry h.extensions fields → IsTrace h t → place_of fields name ≡ Some place → has_place h t place ≡ true
+has_named_place h fields t name place g has whole e =
+    first (has_place h t place) _ (subst (λ o. option_map_or (has_geometry_at h t name) o false ≡ true) e (at-name h fields t name g has whole))
+  where
+    first : (a b : Bool) → (a && b) ≡ true → a ≡ true
+    first true b p = refl
+    first false b p = p
 
 pub geometry_of_each_trace : GeometryOfEachTrace
 geometry_of_each_trace h fields t has whole =

@@ -1,9 +1,13 @@
+pub mod AddedLemmas
+pub mod FactsLemmas
 pub mod GeometryLemmas
+pub mod HeaderLemmas
 pub mod KeyLemmas
 pub mod OneMore
 pub mod Products
 pub mod RatioLemmas
 pub mod RisingLemmas
+pub mod SampleLemmas
 pub mod ShownLemmas
 pub mod StatisticsLemmas
 pub mod TallyLemmas

@@ -1,5 +1,5 @@
 -- Statistics of lists one after the other.
-use Rattle.std.specs.Prelude.{◌≡◌, ℕ, ℤ, ◌+ℤ◌, List, [], ◌∷◌, ◌++◌, Option, Some, refl}
+use Rattle.std.specs.Prelude.{◌≡◌, ℕ, ℤ, pos, ◌+ℤ◌, List, [], ◌∷◌, ◌++◌, length, Option, Some, None, unwrap_or, refl}
 use Rattle.std.proofs.Common.{arith, ap, ◌∙◌, length-append}
 use Rattle.std.proofs.lemmas.Int.{ints}
 use Rattle.std.specs.Int.{int_min, int_max}
@@ -7,10 +7,10 @@ use Rattle.trace_record.specs.Statistics.{least_of, greatest_of, int_sum, statis
 use Rattle.trace_record.specs.declared.statistics.Statistics.{Statistics}
 use Rattle.trace_record.specs.Laws.{StatisticsOfJoined}
 
-min_assoc : (a b c : ℤ) → int_min a (int_min b c) ≡ int_min (int_min a b) c
+pub min_assoc : (a b c : ℤ) → int_min a (int_min b c) ≡ int_min (int_min a b) c
 min_assoc a b c = grind (arith, ints)
 
-max_assoc : (a b c : ℤ) → int_max a (int_max b c) ≡ int_max (int_max a b) c
+pub max_assoc : (a b c : ℤ) → int_max a (int_max b c) ≡ int_max (int_max a b) c
 max_assoc a b c = grind (arith, ints)
 
 pub least_of-append : (v : ℤ) (vs : List ℤ) (w : ℤ) (ws : List ℤ) → least_of ((v ∷ vs) ++ (w ∷ ws)) ≡ int_min (least_of (v ∷ vs)) (least_of (w ∷ ws))
@@ -30,10 +30,10 @@ append-none [] = refl
 append-none (v ∷ vs) = ap (λ us. v ∷ us) (append-none vs)
 
 -- the statistics of these four
-abbrev four : ℤ → ℤ → ℤ → ℕ → Option Statistics
+abbrev pub four : ℤ → ℤ → ℤ → ℕ → Option Statistics
 four l g s n = Some (record { least = l; greatest = g; sum = s; number = n })
 
-same_four : (l g s : ℤ) (n : ℕ) (m h t : ℤ) (k : ℕ) → l ≡ m → g ≡ h → s ≡ t → n ≡ k → four l g s n ≡ four m h t k
+pub same_four : (l g s : ℤ) (n : ℕ) (m h t : ℤ) (k : ℕ) → l ≡ m → g ≡ h → s ≡ t → n ≡ k → four l g s n ≡ four m h t k
 same_four l g s n m h t k a b c d = λ i. four (a i) (b i) (c i) (d i)
 
 pub statistics_of_joined : StatisticsOfJoined
@@ -41,3 +41,17 @@ statistics_of_joined [] ys = refl
 statistics_of_joined (v ∷ vs) [] = ap statistics_of (append-none (v ∷ vs))
 statistics_of_joined (v ∷ vs) (w ∷ ws) =
     same_four _ _ _ _ _ _ _ _ (least_of-append v vs w ws) (greatest_of-append v vs w ws) (int_sum-append (v ∷ vs) (w ∷ ws)) (length-append (v ∷ vs) (w ∷ ws))
+
+-- ---- each of the four by itself
+
+-- what statistics of samples say, and what there is without any
+abbrev pub Says : Statistics → List ℤ → Type 0
+Says s vs = (s.least ≡ least_of vs) × ((s.greatest ≡ greatest_of vs) × ((s.sum ≡ int_sum vs) × (s.number ≡ length vs)))
+
+pub says : (s : Statistics) (vs : List ℤ) → Some s ≡ statistics_of vs → Says s vs
+says s [] e = absurd cc
+says s (v ∷ vs) e = (ap (λ o. (unwrap_or o s).least) e, (ap (λ o. (unwrap_or o s).greatest) e, (ap (λ o. (unwrap_or o s).sum) e, ap (λ o. (unwrap_or o s).number) e)))
+
+pub says_none : (vs : List ℤ) → None ≡ statistics_of vs → Says (record { least = pos 0; greatest = pos 0; sum = pos 0; number = 0 }) vs
+says_none [] e = (refl, (refl, (refl, refl)))
+says_none (v ∷ vs) e = absurd cc

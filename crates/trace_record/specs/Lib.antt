@@ -2,6 +2,7 @@ pub mod FractionLaws
 pub mod RatioOrder
 pub mod Scaled
 pub mod Statistics
+pub mod Narrow
 pub mod Facts
 pub mod OfTrace
 pub mod Counts

@@ -1,5 +1,5 @@
 -- The least, the greatest, the sum and the number of a list of samples.
-use Rattle.std.specs.Prelude.{ℤ, pos, ◌+◌, ◌+ℤ◌, List, [], ◌∷◌, length, Option, Some, None}
+use Rattle.std.specs.Prelude.{ℤ, pos, neg_ℤ, ◌+◌, ◌*◌, ◌^◌, ◌+ℤ◌, ◌≤ℤ◌, List, [], ◌∷◌, length, Option, Some, None}
 use Rattle.std.specs.Int.{int_min, int_max}
 use Rattle.trace_record.specs.declared.statistics.Statistics.{Statistics}
 
@@ -37,3 +37,21 @@ joined (Some s) (Some r) =
       sum = s.sum +ℤ r.sum;
       number = s.number + r.number;
     })
+
+-- those of one sample
+abbrev pub one_sample : ℤ → Statistics
+one_sample v = record { least = v; greatest = v; sum = v; number = 1 }
+
+-- one sample more
+abbrev pub with_sample : Statistics → ℤ → Statistics
+with_sample s v = record {
+  least = int_min s.least v;
+  greatest = int_max s.greatest v;
+  sum = s.sum +ℤ v;
+  number = s.number + 1;
+}
+
+-- the sum is one that so many samples of at most 64 bits can have
+pub record HasRange (s : Statistics) : Type 0 where
+  pub low : neg_ℤ (pos (2 ^ 63 * s.number)) ≤ℤ s.sum
+  pub high : s.sum ≤ℤ pos (2 ^ 64 * s.number)

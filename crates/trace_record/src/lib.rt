@@ -1,19 +1,26 @@
 //! What the reports need of one trace, and how often its keys occur over many. `Record` is a
-//! trace's own numbers, `Ratio` a coordinate under its scalar, `Statistics` the least, greatest,
-//! sum and number of samples. `Counts` counts keys; a `Running` value counts traces, seen as their
-//! tally. The calls that are named for a law do nothing: their contract is the law.
+//! trace's own numbers, which `record_of` takes from a view of the trace, `Ratio` a coordinate under
+//! its scalar, `Statistics` the least, greatest, sum and number of samples. `Counts` counts keys; a
+//! `Running` value counts traces, seen as their tally. The calls that are named for a law do nothing:
+//! their contract is the law.
 //!
 //! Only `Counts::raise` and `Running::add` take memory, and only for a key that is not held; where
 //! a growth is refused they leave all as it was. Bytes of headers count from 1, as in the standard.
 #![tactic(auto)]
 
 mod counts;
+mod header_fields;
 mod laws;
+mod narrow;
+mod of_samples;
+mod of_trace;
 mod out_of_memory;
 mod ratio;
+mod reads_sample;
 mod record;
 mod running;
 mod statistics;
+mod wide;
 
 pub use crate::counts::Counts;
 pub use crate::laws::{
@@ -21,6 +28,7 @@ pub use crate::laws::{
     plus_undoes_minus, statistics_of_joined, tally_holds_each, tally_in_any_order,
     tally_of_one_less, tally_of_one_more,
 };
+pub use crate::of_trace::record_of;
 pub use crate::out_of_memory::OutOfMemory;
 pub use crate::ratio::Ratio;
 pub use crate::record::Record;

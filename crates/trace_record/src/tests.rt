@@ -1,9 +1,20 @@
-// Coordinates under their scalars and counts of keys, with values worked by hand.
-use crate::{Counts, OutOfMemory, Ratio, Record};
-use std::alloc::Global;
+// Coordinates under their scalars, counts of keys and records of traces, with values worked by hand.
+ghost use Rattle.std.specs.Prelude.{◌≡◌, length, IfOk};
+ghost use Rattle.trace_view.specs.Runs.{Fit};
+ghost use Rattle.trace_view.specs.Shown.{head_of};
+
+use crate::{Counts, OutOfMemory, Ratio, Record, record_of};
+use field_map::{FieldMap, Place};
+use frame_cut::{Head, front_length};
+use num_order::{Kind, Order};
+use sample_codes::Format;
+use smallvec::SmallVec;
+use std::alloc::{AllocError, Global};
 use std::collections::HashMap;
 use std::mem::size_of;
+use std::process::Abort;
 use std::test::Fail;
+use trace_view::{Run, TraceView, overlaid_length};
 
 #[test]
 fn scales_coordinates(rt: HostRuntime) {
@@ -123,4 +134,215 @@ fn keeps_records_small(rt: HostRuntime) {
     let copy = record;
     assert_eq!(rt; copy, record);
     assert_eq!(rt; size_of::<Record>(), 112);
+}
+
+// So many samples of this format a trace, and no header extensions.
+fn plain_head(order: Order, format: Format, samples: u32) -> Head
+    ensures { result.extensions ≡ 0 }
+{
+    Head {
+        order,
+        major: 1,
+        minor: 0,
+        format,
+        samples,
+        fixed: true,
+        extensions: 0,
+        blocks: 0,
+        trailer: 0,
+        traces_at: 3600,
+    }
+}
+
+fn run(alloc: Global, at: u64, bytes: &[u8]) -> Result<Run, AllocError>
+    ensures { IfOk result (λ r. (r.at ≡ at) × (r.bytes.items ≡ bytes.now)) }
+{
+    Ok(Run {
+        at,
+        bytes: SmallVec::from_slice(alloc, bytes)?,
+    })
+}
+
+// The record of the trace, where it has the length that its headers give it.
+fn made(rt: &impl Abort, head: &Head, fields: &FieldMap, base: &[u8], runs: &[Run]) -> Record
+    requires fit { Fit runs.now (length base.now) }
+    requires map { fields.now.extensions ≡ head.now.extensions }
+{
+    assert!(rt; base.len() >= front_length(head));
+    let Some(length) = overlaid_length(head, base, runs) else {
+        panic!(rt; "too many extensions");
+    };
+    assert!(rt; length == base.len() as u64);
+    let view = TraceView::new(head, base, runs);
+    record_of(&view, fields)
+}
+
+// The first trace of a small survey: inline 10, crossline 21, two 16-bit samples, 1 and -2.
+fn small_trace() -> [u8; 244] {
+    let mut base = [0; 244];
+    base[7] = 1;
+    base[39] = 100;
+    base[115] = 2;
+    base[116] = 0x0F;
+    base[117] = 0xA0;
+    base[182] = 0x03;
+    base[183] = 0xE8;
+    base[186] = 0x01;
+    base[187] = 0xF4;
+    base[191] = 10;
+    base[195] = 21;
+    base[241] = 1;
+    base[242] = 0xFF;
+    base[243] = 0xFE;
+    base
+}
+
+#[test]
+fn makes_the_record_of_a_trace(rt: HostRuntime) -> Result<(), Fail> {
+    let head = plain_head(Order::Big, Format::Signed16, 2);
+    let fields = FieldMap::standard(rt.alloc(), 0)?;
+    let record = made(&rt, &head, &fields, &small_trace(), &[]);
+    assert_eq!(rt; (record.least, record.greatest, record.sum), (-2, 1, -1));
+    assert_eq!(rt; record.x, Ratio::whole(1000));
+    assert_eq!(rt; record.y, Ratio::whole(500));
+    assert_eq!(rt; (record.inline, record.crossline), (10, 21));
+    assert_eq!(rt; (record.offset, record.sequence), (100, 1));
+    assert_eq!(rt; (record.number, record.samples_field), (2, 2));
+    assert_eq!(rt; (record.scalar, record.units), (0, 0));
+    assert_eq!(rt; record.interval, 4000);
+    assert!(rt; record.has_known_name);
+    Ok(())
+}
+
+// The scalar -100 by a run, the inline's place by the map, another name in bytes 233-240, and
+// bytes 115-116 which say more samples than the trace has.
+#[test]
+fn reads_headers_under_runs_and_by_the_map(rt: HostRuntime) -> Result<(), Fail> {
+    let alloc = rt.alloc();
+    let head = plain_head(Order::Big, Format::Signed16, 2);
+    let mut fields = FieldMap::standard(alloc, 0)?;
+    let place = Place {
+        extension: 0,
+        byte: 9,
+        kind: Kind {
+            size: 2,
+            signed: true,
+        },
+    };
+    assert!(rt; fields.bind(alloc, "inline", place).is_ok());
+    let runs = [
+        run(alloc, 8, &[0xFF, 0xFB])?,
+        run(alloc, 70, &[0xFF, 0x9C])?,
+        run(alloc, 88, &[0xFF, 0xFF])?,
+        run(alloc, 114, &[0xFF, 0xFF])?,
+        run(alloc, 232, b"SEG00001")?,
+    ];
+    let record = made(&rt, &head, &fields, &small_trace(), &runs);
+    assert_eq!(rt; record.inline, -5);
+    assert_eq!(rt; record.scalar, -100);
+    assert_eq!(rt; record.x, Ratio::whole(10));
+    assert_eq!(rt; record.y, Ratio::whole(5));
+    assert_eq!(rt; record.units, -1);
+    assert_eq!(rt; (record.number, record.samples_field), (2, 65_535));
+    assert!(rt; !record.has_known_name);
+    let runs = [run(alloc, 232, b"SEG00000")?];
+    assert!(rt; made(&rt, &head, &fields, &small_trace(), &runs).has_known_name);
+    let runs = [run(
+        alloc,
+        232,
+        &[0xE2, 0xC5, 0xC7, 0xF0, 0xF0, 0xF0, 0xF0, 0xF0],
+    )?];
+    assert!(rt; made(&rt, &head, &fields, &small_trace(), &runs).has_known_name);
+    Ok(())
+}
+
+// The 24 bytes 80 00 .. 00 01 FF as samples of each width, in both orders: the first sample, zeros,
+// and the last one.
+#[test]
+fn takes_samples_of_each_format(rt: HostRuntime) -> Result<(), Fail> {
+    let fields = FieldMap::standard(rt.alloc(), 0)?;
+    let mut base = [0; 264];
+    base[240] = 0x80;
+    base[262] = 0x01;
+    base[263] = 0xFF;
+    let rows: [(Order, Format, u32, i128, i128); 16] = [
+        (Order::Big, Format::Signed16, 12, -32_768, 511),
+        (Order::Little, Format::Signed16, 12, 128, -255),
+        (Order::Big, Format::Unsigned16, 12, 32_768, 511),
+        (Order::Little, Format::Unsigned16, 12, 128, 65_281),
+        (Order::Big, Format::Signed24, 8, -8_388_608, 511),
+        (Order::Little, Format::Signed24, 8, 128, -65_280),
+        (Order::Big, Format::Unsigned24, 8, 8_388_608, 511),
+        (Order::Little, Format::Unsigned24, 8, 128, 0xFF_0100),
+        (Order::Big, Format::Signed32, 6, -0x8000_0000, 511),
+        (Order::Little, Format::Signed32, 6, 128, -16_711_680),
+        (Order::Big, Format::Unsigned32, 6, 0x8000_0000, 511),
+        (Order::Little, Format::Unsigned32, 6, 128, 0xFF01_0000),
+        (Order::Big, Format::Signed64, 3, -(1 << 63), 511),
+        (Order::Little, Format::Signed64, 3, 128, -(0xFF << 48)),
+        (Order::Big, Format::Unsigned64, 3, 1 << 63, 511),
+        (Order::Little, Format::Unsigned64, 3, 128, 0xFF01 << 48),
+    ];
+    for (order, format, samples, first, last) in rows {
+        let head = plain_head(order, format, samples);
+        let record = made(&rt, &head, &fields, &base, &[]);
+        assert_eq!(rt; record.least, first.min(last).min(0));
+        assert_eq!(rt; record.greatest, first.max(last).max(0));
+        assert_eq!(rt; Some(record.sum), first.checked_add(last));
+        assert_eq!(rt; record.number, samples);
+    }
+    Ok(())
+}
+
+// The same bytes as samples of one byte.
+#[test]
+fn takes_samples_of_a_byte(rt: HostRuntime) -> Result<(), Fail> {
+    let fields = FieldMap::standard(rt.alloc(), 0)?;
+    let mut base = [0; 243];
+    base[240] = 0x80;
+    base[241] = 0x01;
+    base[242] = 0xFF;
+    let head = plain_head(Order::Big, Format::Signed8, 3);
+    let record = made(&rt, &head, &fields, &base, &[]);
+    assert_eq!(rt;
+        (record.least, record.greatest, record.sum),
+        (-128, 1, -128)
+    );
+    let head = plain_head(Order::Little, Format::Unsigned8, 3);
+    let record = made(&rt, &head, &fields, &base, &[]);
+    assert_eq!(rt; (record.least, record.greatest, record.sum), (1, 255, 384));
+    Ok(())
+}
+
+// A thousand samples, of which a run lays two over, and the same bytes without a run.
+#[test]
+fn takes_samples_under_a_run(rt: HostRuntime) -> Result<(), Fail> {
+    let alloc = rt.alloc();
+    let fields = FieldMap::standard(alloc, 0)?;
+    let head = plain_head(Order::Big, Format::Signed24, 1000);
+    let mut base = [0; 3240];
+    base[240] = 0xFF;
+    base[3239] = 0x05;
+    let runs = [run(alloc, 1776, &[0x7F, 0xFF, 0xFF, 0x80])?];
+    let record = made(&rt, &head, &fields, &base, &runs);
+    assert_eq!(rt;
+        (record.least, record.greatest, record.sum),
+        (-8_388_608, 8_388_607, -65_532)
+    );
+    base[1776] = 0x7F;
+    base[1777] = 0xFF;
+    base[1778] = 0xFF;
+    base[1779] = 0x80;
+    assert_eq!(rt; made(&rt, &head, &fields, &base, &[]), record);
+    Ok(())
+}
+
+#[test]
+fn takes_a_trace_without_samples(rt: HostRuntime) -> Result<(), Fail> {
+    let fields = FieldMap::standard(rt.alloc(), 0)?;
+    let head = plain_head(Order::Little, Format::Signed32, 0);
+    let record = made(&rt, &head, &fields, &[0; 240], &[]);
+    assert_eq!(rt; (record.least, record.greatest, record.sum), (0, 0, 0));
+    assert_eq!(rt; (record.number, record.interval), (0, 0));
+    Ok(())
 }

@@ -50,6 +50,13 @@ impl<'a> TraceView<'a> {
         }
     }
 
+    /// The head of the trace's file. Takes no memory.
+    pub fn head(&self) -> &'a Head
+        ensures { result.now ≡ head_of self.now }
+    {
+        self.head
+    }
+
     /// How many bytes the trace has. Takes no memory.
     pub fn length(&self) -> u64
         ensures { result ≡ length (bytes_of self.now) }

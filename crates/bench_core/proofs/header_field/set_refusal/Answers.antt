@@ -1,31 +1,42 @@
-use Rattle.std.proofs.Common.{◌≡◌, ◌∙◌, sym, ap, length, rules, ℕ, List, true, false, Some}
+use Rattle.std.proofs.Common.{◌≡◌, ◌∙◌, length, sym, ap, true, false, ℕ, List, Some, rules, arith}
 use Rattle.std.proofs.lemmas.Int.{to_z-of_z}
 use Rattle.std.specs.Int.{w128}
 use mir.Val.{SFits, to_z, of_z}
-use Rattle.bench_core.specs.Refused.{set_refusal}
-use Rattle.bench_core.proofs.Places.{one_header}
+use Rattle.num_order.specs.Number.{bytes}
 use Rattle.num_order.proofs.InRange.{in_range, length-number}
-use Rattle.bench_core.proofs.Sets.{by_length}
+use Rattle.trace_view.specs.Shown.{bytes_of, head_of}
+use Rattle.bench_core.specs.Refused.{set_refusal}
+use Rattle.bench_core.proofs.Places.{place_inside}
+use Rattle.bench_core.proofs.Sets.{by_changed, has_value}
 use Rattle.bench_core.proofs.header_field.set_refusal.Goals as goal
 
 pub write-requires-clause-fits : goal.write-requires-clause-fits
 write-requires-clause-fits c = in_range c.args.place.kind _ (sym c.if-not-fits.ensures)
 
-pub changes_length-requires-clause-one_header : goal.changes_length-requires-clause-one_header
-changes_length-requires-clause-one_header c =
-    let size : length c.write.new.bytes ≡ c.args.place.kind.size = ap (λ (s : List ℕ). length s) c.write.ensures ∙ length-number c.args.head.now.order c.args.place.kind _ in
-    rw (c.offset_of.ensures, size) (one_header c.args.head.now c.args.trace.now c.args.place (sym c.if-not-has_place.ensures))
+pub changed_length-requires : goal.changed_length-requires
+changed_length-requires c =
+    let h = head_of c.args.trace.now in
+    let t : List ℕ = bytes_of c.args.trace.now in
+    let size : length c.write.new.bytes ≡ c.args.place.kind.size = ap (λ (s : List ℕ). length s) c.write.ensures ∙ length-number c.args.order c.args.place.kind _ in
+    let inside = place_inside h t c.args.place c.args.trace.now.whole (has_value h t c.args.place c.value.result c.value.ensures c.if-is_none.ensures) in
+    omega (arith, size, c.from-2.ensures, c.offset_of.ensures, inside)
 
-pub returns-then-changes_length : goal.returns-then-changes_length
-returns-then-changes_length c =
+pub returns-then-ne : goal.returns-then-ne
+returns-then-ne c =
     let fit : SFits w128 c.args.value = search rules in
-    by_length c.args.head.now c.args.trace.now c.args.place (to_z w128 (of_z w128 c.args.value)) c.offset_of.result c.write.new.bytes true
-    (sym c.if-not-has_place.ensures) (sym c.if-not-fits.ensures) c.offset_of.ensures c.write.ensures c.if-changes_length.ensures
-    ∙ ap (set_refusal c.args.head.now c.args.trace.now (Some c.args.place)) (to_z-of_z w128 c.args.value fit)
+    let h = head_of c.args.trace.now in
+    let t : List ℕ = bytes_of c.args.trace.now in
+    let new : c.write.new.bytes ≡ bytes h.order c.args.place.kind (to_z w128 (of_z w128 c.args.value)) = rw (← c.requires) c.write.ensures in
+    by_changed h t c.args.place (to_z w128 (of_z w128 c.args.value)) c.from-2.result c.write.new.bytes true c.changed_length.result c.length.result
+    (has_value h t c.args.place c.value.result c.value.ensures c.if-is_none.ensures) (sym c.if-not-fits.ensures) (c.from-2.ensures ∙ c.offset_of.ensures) new c.changed_length.ensures c.length.ensures c.if-ne.ensures
+    ∙ ap (set_refusal h t (Some c.args.place)) (to_z-of_z w128 c.args.value fit)
 
 pub returns : goal.returns
 returns c =
     let fit : SFits w128 c.args.value = search rules in
-    by_length c.args.head.now c.args.trace.now c.args.place (to_z w128 (of_z w128 c.args.value)) c.offset_of.result c.write.new.bytes false
-    (sym c.if-not-has_place.ensures) (sym c.if-not-fits.ensures) c.offset_of.ensures c.write.ensures c.if-changes_length.ensures
-    ∙ ap (set_refusal c.args.head.now c.args.trace.now (Some c.args.place)) (to_z-of_z w128 c.args.value fit)
+    let h = head_of c.args.trace.now in
+    let t : List ℕ = bytes_of c.args.trace.now in
+    let new : c.write.new.bytes ≡ bytes h.order c.args.place.kind (to_z w128 (of_z w128 c.args.value)) = rw (← c.requires) c.write.ensures in
+    by_changed h t c.args.place (to_z w128 (of_z w128 c.args.value)) c.from-2.result c.write.new.bytes false c.changed_length.result c.length.result
+    (has_value h t c.args.place c.value.result c.value.ensures c.if-is_none.ensures) (sym c.if-not-fits.ensures) (c.from-2.ensures ∙ c.offset_of.ensures) new c.changed_length.ensures c.length.ensures c.if-ne.ensures
+    ∙ ap (set_refusal h t (Some c.args.place)) (to_z-of_z w128 c.args.value fit)

@@ -9,24 +9,24 @@ pub lines-init : goal.lines-init
 lines-init g c =
     let few : length (script_lines c.args.script.now) ≤ length c.args.script.now = lines-le c.args.script.now in
     rw c.new-lines.ensures (
-      none_yet c.args.bench.now (script_lines c.args.script.now) c.args.stop (device (g.A.Write.contents c.args.answers.now.0) c.args.answers.now.1) (stays (g.A.Write.contents c.args.answers.now.0)),
+      none_yet c.args.bench.now.state (script_lines c.args.script.now) c.args.stop (device (g.A.Write.contents c.args.answers.now.0) c.args.answers.now.1) (stays (g.A.Write.contents c.args.answers.now.0)),
       omega (arith, few, c.requires),
       omega arith,
     )
 
 pub returns-in-Err : goal.returns-in-Err
 returns-in-Err g c =
-    breaks_off _ _ _ _ _ _ _ _ _ _ _ c.answer_line.new.bench c.in-Err.ensures.0 (rw c.in-Some.ensures.some at c.lines.invariant.0) c.in-Err.ensures.1
+    breaks_off _ _ _ _ _ _ _ _ _ _ _ c.answer_line.new.bench.state c.in-Err.ensures.0 (rw c.in-Some.ensures.some at c.lines.invariant.0) c.in-Err.ensures.1
     c.args.script.now _ c.in-Err.fault.written c.saturating_add.result refl c.in-Err.ensures.2 c.saturating_add.ensures
 
 pub returns-then-stop : goal.returns-then-stop
 returns-then-stop g c =
-    stops _ _ _ _ _ _ _ _ _ _ _ c.answer_line.new.bench c.in-Ok.ensures.0 (rw c.in-Some.ensures.some at c.lines.invariant.0) c.in-Ok.ensures.1
+    stops _ _ _ _ _ _ _ _ _ _ _ c.answer_line.new.bench.state c.in-Ok.ensures.0 (rw c.in-Some.ensures.some at c.lines.invariant.0) c.in-Ok.ensures.1
     c.args.script.now _ refl c.in-Ok.ensures.2.0 (sym c.in-Ok.ensures.2.2 ∙ c.if-told.true) c.if-stop.true
 
 pub lines-preserved-then-told : goal.lines-preserved-then-told
 lines-preserved-then-told g c = (
-  one_more _ _ _ _ _ _ _ _ _ _ _ c.answer_line.new.bench c.in-Ok.ensures.0 (rw c.in-Some.ensures.some at c.lines.invariant.0) c.in-Ok.ensures.1
+  one_more _ _ _ _ _ _ _ _ _ _ _ c.answer_line.new.bench.state c.in-Ok.ensures.0 (rw c.in-Some.ensures.some at c.lines.invariant.0) c.in-Ok.ensures.1
       _ (c.lines.refused + 1) c.saturating_add-written.result c.in-Ok.ensures.2.0 (rw (← c.in-Ok.ensures.2.2, c.if-told.true) refl)
       (omega (arith, c.saturating_add-written.ensures, c.in-Ok.ensures.2.1)) (λ s. absurd (goes_on c.args.stop s c.if-stop.false)),
   omega (arith, c.lines.invariant.1, ap length c.in-Some.ensures.some),
@@ -38,7 +38,7 @@ lines-preserved-then-told g c = (
 
 pub lines-preserved : goal.lines-preserved
 lines-preserved g c = (
-  one_more _ _ _ _ _ _ _ _ _ _ _ c.answer_line.new.bench c.in-Ok.ensures.0 (rw c.in-Some.ensures.some at c.lines.invariant.0) c.in-Ok.ensures.1
+  one_more _ _ _ _ _ _ _ _ _ _ _ c.answer_line.new.bench.state c.in-Ok.ensures.0 (rw c.in-Some.ensures.some at c.lines.invariant.0) c.in-Ok.ensures.1
       _ c.lines.refused c.saturating_add-written.result c.in-Ok.ensures.2.0 (rw (← c.in-Ok.ensures.2.2, c.if-told.false, add-zero) refl)
       (omega (arith, c.saturating_add-written.ensures, c.in-Ok.ensures.2.1)) (λ s. sym c.in-Ok.ensures.2.2 ∙ c.if-told.false),
   omega (arith, c.lines.invariant.1, ap length c.in-Some.ensures.some),

@@ -7,6 +7,7 @@ use Rattle.num_order.specs.Number.{bytes}
 use Rattle.frame_cut.specs.Volume.{Volume}
 use Rattle.bench_core.specs.declared.field.Field.TheVariants as field
 use Rattle.bench_core.specs.declared.edit.Edit.TheVariants.{SetBin}
+use Rattle.edit_overlay.specs.Looked.{Looked}
 use Rattle.bench_core.specs.Held.{state_of}
 use Rattle.bench_core.proofs.HeaderEdits.{bin_accepted, bin_done, bin_room, after_cut}
 use Rattle.bench_core.proofs.bench.Bench.put_in_binary.Goals as goal
@@ -14,28 +15,28 @@ use Rattle.bench_core.proofs.bench.Bench.put_in_binary.Goals as goal
 pub write-requires-clause-fits : goal.write-requires-clause-fits
 write-requires-clause-fits c =
     let fit : SFits w128 c.args.value = search rules in
-    let a = bin_accepted c.args.self.now (field.Place c.args.place) c.args.place c.args.value refl c.requires in
+    let a = bin_accepted c.args.self.now.state (field.Place c.args.place) c.args.place c.args.value refl c.requires in
     rw to_z-of_z (in_range c.args.place.kind c.args.value a.fits)
 
 pub put_head-requires : goal.put_head-requires
 put_head-requires c =
     let fit : SFits w128 c.args.value = search rules in
-    let new : c.write.new.bytes ≡ bytes c.self.inside.overlay.head.order c.args.place.kind c.args.value = rw (c.head.ensures, to_z-of_z) at c.write.ensures in
+    let new : c.write.new.bytes ≡ bytes c.self.inside.overlay.volume.head.order c.args.place.kind c.args.value = rw (c.head.ensures, to_z-of_z) at c.write.ensures in
     bin_room (state_of c.self.inside) c.args.place c.args.value c.from-2.result c.write.new.bytes c.requires (c.from-2.ensures ∙ c.offset_of.ensures) new
 
 pub invariant_of-self : goal.invariant_of-self
 invariant_of-self c =
     let fit : SFits w128 c.args.value = search rules in
-    let new : c.write.new.bytes ≡ bytes c.self.inside.overlay.head.order c.args.place.kind c.args.value = rw (c.head.ensures, to_z-of_z) at c.write.ensures in
-    let done = bin_done (state_of c.self.inside) c.args.place c.args.value c.put_head.new.self c.from-2.result c.write.new.bytes c.self.invariant.cut c.requires (c.from-2.ensures ∙ c.offset_of.ensures) new c.put_head.ensures in
+    let new : c.write.new.bytes ≡ bytes c.self.inside.overlay.volume.head.order c.args.place.kind c.args.value = rw (c.head.ensures, to_z-of_z) at c.write.ensures in
+    let done = bin_done (state_of c.self.inside) c.args.place c.args.value c.put_head.new.self.volume c.from-2.result c.write.new.bytes c.self.invariant.cut c.requires (c.from-2.ensures ∙ c.offset_of.ensures) new (ap (λ (o : Looked). o.volume) c.put_head.ensures) in
     record {
-      cut = after_cut (state_of c.self.inside) (SetBin (field.Place c.args.place) c.args.value) c.put_head.new.self done;
-      extensions = c.self.invariant.extensions ∙ ap (λ (v : Volume). v.head.extensions) (sym c.put_head.ensures);
+      cut = after_cut (state_of c.self.inside) (SetBin (field.Place c.args.place) c.args.value) c.put_head.new.self.volume done;
+      extensions = c.self.invariant.extensions ∙ ap (λ (v : Volume). v.head.extensions) (sym (ap (λ (o : Looked). o.volume) c.put_head.ensures));
     }
 
-pub returns : goal.returns
-returns c =
+pub returns-clause-after : goal.returns-clause-after
+returns-clause-after c =
     let fit : SFits w128 c.args.value = search rules in
-    let new : c.write.new.bytes ≡ bytes c.self.inside.overlay.head.order c.args.place.kind c.args.value = rw (c.head.ensures, to_z-of_z) at c.write.ensures in
+    let new : c.write.new.bytes ≡ bytes c.self.inside.overlay.volume.head.order c.args.place.kind c.args.value = rw (c.head.ensures, to_z-of_z) at c.write.ensures in
     rw (← c.self.view_is)
-    (bin_done (state_of c.self.inside) c.args.place c.args.value c.put_head.new.self c.from-2.result c.write.new.bytes c.self.invariant.cut c.requires (c.from-2.ensures ∙ c.offset_of.ensures) new c.put_head.ensures)
+    (bin_done (state_of c.self.inside) c.args.place c.args.value c.put_head.new.self.volume c.from-2.result c.write.new.bytes c.self.invariant.cut c.requires (c.from-2.ensures ∙ c.offset_of.ensures) new (ap (λ (o : Looked). o.volume) c.put_head.ensures))

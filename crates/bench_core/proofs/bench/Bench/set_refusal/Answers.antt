@@ -1,15 +1,16 @@
-use Rattle.std.proofs.Common.{◌∙◌, ap, rules, Some}
+use Rattle.std.proofs.Common.{◌∙◌, refl, ap, rules, Some}
 use Rattle.std.proofs.lemmas.Int.{to_z-of_z}
 use Rattle.std.specs.Int.{w128}
 use mir.Val.{SFits}
+use Rattle.trace_view.specs.Shown.{bytes_of, head_of}
 use Rattle.bench_core.specs.Refused.{set_refusal}
-use Rattle.bench_core.specs.State.{State}
+use Rattle.bench_core.specs.State.{Session}
 use Rattle.bench_core.proofs.Sets.{refused_by}
 use Rattle.bench_core.proofs.bench.Bench.set_refusal.Goals as goal
 
-pub returns-in-Some : goal.returns-in-Some
-returns-in-Some c =
+pub returns-clause-refusal : goal.returns-clause-refusal
+returns-clause-refusal c =
     let fit : SFits w128 c.args.value = search rules in
-    refused_by c.args.self.now c.args.p c.args.place c.args.value c.self.inside.overlay c.head-head.result c.in-Some.trace.now c.set_refusal.result
-    (ap (λ (s : State). s.volume) c.self.view_is) c.head-head.ensures c.in-Some.ensures
-    (c.set_refusal.ensures ∙ ap (set_refusal c.head-head.result c.in-Some.trace.now (Some c.args.place)) (to_z-of_z w128 c.args.value fit))
+    refused_by c.args.self.now.state c.args.p c.args.place c.args.value c.self.inside.overlay.volume (head_of c.in-Some.trace) (bytes_of c.in-Some.trace) c.set_refusal.result
+    (ap (λ (s : Session). s.state.volume) c.self.view_is) (c.in-Some.ensures.there.0 refl) c.in-Some.ensures.trace.0 c.in-Some.ensures.trace.1
+    (c.set_refusal.ensures ∙ ap (set_refusal (head_of c.in-Some.trace) (bytes_of c.in-Some.trace) (Some c.args.place)) (to_z-of_z w128 c.args.value fit))

@@ -1,0 +1,30 @@
+-- Reports of a small survey, worked by hand.
+use Rattle.std.specs.Prelude.{◌≡◌, [], Some, refl}
+use Rattle.field_map.specs.Binding.{geometry_at_load}
+use Rattle.frame_cut.specs.declared.reading.Reading.TheVariants.{AsWritten}
+use Rattle.frame_cut.specs.SmallFiles.{wide_limits, volume_plain}
+use Rattle.trace_record.specs.Scaled.{scaled}
+use Rattle.trace_record.specs.SmallSurvey.{survey, trace_2}
+use Rattle.bench_core.specs.Reports.{records, head_facts, faults_in, geometry_in}
+use Rattle.bench_core.specs.State.{State}
+
+-- the survey's three traces in a file
+abbrev loaded : State
+loaded = record { volume = volume_plain; fields = geometry_at_load; reading = AsWritten; limits = wide_limits }
+
+pub records-plain : records loaded ≡ survey
+unfolding scaled
+records-plain = refl
+
+pub geometry-plain : geometry_in loaded 2 ≡ Some trace_2
+unfolding scaled
+geometry-plain = refl
+
+-- 40 lines begin with C in EBCDIC, and the interval is 4000
+pub heads-plain : head_facts volume_plain ≡ record { trace_count = 0; lines = 0; interval = 4000; major = 1; minor = 0 }
+heads-plain = refl
+
+-- the small survey has no faults
+pub faults-plain : faults_in loaded ≡ []
+unfolding scaled
+faults-plain = refl

@@ -1,0 +1,245 @@
+// Edits of samples and of whole traces.
+ghost use Rattle.std.specs.Prelude.{◌≡◌, ◌<◌, ◌≤◌, ◌^◌, length, None, OnOk, IfErr};
+ghost use Rattle.frame_cut.specs.Frames.{length_with};
+ghost use Rattle.bench_core.specs.declared.edit.Edit.TheVariants as edits;
+ghost use Rattle.bench_core.specs.declared.refusal.Refusal.TheVariants.{OutOfMemory as no_memory};
+ghost use Rattle.bench_core.specs.Looks.{RisesAtMost};
+ghost use Rattle.bench_core.specs.Refused.{refused, no_trace, no_place_for_trace, room_refusal, insert_refusal};
+ghost use Rattle.bench_core.specs.Steps.{IsAfter, Step};
+
+use crate::bench::Bench;
+use crate::refusal::Refusal;
+use crate::samples::{patch_refusal, sample_place};
+use crate::trace_bytes::{joined, samples_bytes, zeros};
+use frame_cut::Head;
+use std::alloc::Global;
+
+// How many bytes a trace of zeros has: its headers, and the samples that the binary header says.
+fn blank_length(head: &Head) -> u64
+    ensures length { result ≡ length_with head.now head.now.extensions head.now.samples }
+    ensures small { result < 2 ^ 40 }
+{
+    240 * (1 + u64::from(head.extensions))
+        + u64::from(head.format.width()) * u64::from(head.samples)
+}
+
+impl Bench {
+    // The first refusal of a trace's number: E01.
+    fn no_trace(&self, p: u32) -> Option<Refusal>
+        ensures { result ≡ no_trace self.now.state.volume p }
+    {
+        if self.has_trace(p) {
+            None
+        } else {
+            Some(Refusal::NoTrace(p, self.count()))
+        }
+    }
+
+    // The first refusal of a place for a trace, up to one behind the last: E01.
+    fn no_place_for_trace(&self, p: u32) -> Option<Refusal>
+        ensures { result ≡ no_place_for_trace self.now.state.volume p }
+    {
+        let count = self.count();
+        if p >= 1 && u64::from(p) <= u64::from(count) + 1 {
+            None
+        } else {
+            Some(Refusal::NoTrace(p, count))
+        }
+    }
+
+    // The refusal of one more trace of so many bytes: E09, E10.
+    fn room_refusal(&self, length: u64) -> Option<Refusal>
+        requires { length ≤ 2 ^ 40 }
+        ensures { result ≡ room_refusal self.now.state.volume self.now.state.limits length }
+    {
+        if self.overlay.length() + length > self.limits.bytes() {
+            return Some(Refusal::TooLarge);
+        }
+        if u64::from(self.overlay.count()) + 1 > u64::from(self.limits.traces()) {
+            return Some(Refusal::TooManyTraces);
+        }
+        None
+    }
+
+    // The first refusal of one more trace of so many bytes at place p: E01, E09, E10.
+    fn insert_refusal(&self, p: u32, length: u64) -> Option<Refusal>
+        requires { length ≤ 2 ^ 40 }
+        ensures { result ≡ insert_refusal self.now.state.volume self.now.state.limits p length }
+    {
+        match self.no_place_for_trace(p) {
+            Some(refusal) => Some(refusal),
+            None => self.room_refusal(length),
+        }
+    }
+
+    // The first refusal of a blank trace: E01, E09, E10.
+    fn blank_refusal(&self, p: u32) -> Option<Refusal>
+        ensures { result ≡ refused self.now.state (edits.Blank p) }
+    {
+        self.insert_refusal(p, blank_length(&self.overlay.head()))
+    }
+
+    // The first refusal of a trace that is moved: E01.
+    fn move_refusal(&self, a: u32, b: u32) -> Option<Refusal>
+        ensures { result ≡ refused self.now.state (edits.Move a b) }
+    {
+        match self.no_trace(a) {
+            Some(refusal) => Some(refusal),
+            None => self.no_trace(b),
+        }
+    }
+
+    // The first refusal of a trace that is copied: E01, E09, E10.
+    fn copy_refusal(&mut self, q: u32, p: u32) -> Option<Refusal>
+        ensures refusal { result ≡ refused self.old.state (edits.Copy q p) }
+        ensures state { self.new.state ≡ self.old.state }
+        ensures looks { RisesAtMost self.old.looks self.new.looks 1 }
+    {
+        let length = match self.overlay.look(q) {
+            Some(trace) => trace.length(),
+            None => return Some(Refusal::NoTrace(q, self.count())),
+        };
+        self.insert_refusal(p, length)
+    }
+
+    // The first refusal of values over samples: E01, E04, E05.
+    fn patch_refusal(&mut self, p: u32, k: u32, values: &[i128]) -> Option<Refusal>
+        ensures refusal { result ≡ refused self.old.state (edits.Patch p k values.now) }
+        ensures state { self.new.state ≡ self.old.state }
+        ensures looks { RisesAtMost self.old.looks self.new.looks 1 }
+    {
+        let format = self.overlay.head().format;
+        match self.overlay.look(p) {
+            Some(trace) => patch_refusal(format, &trace, k, values),
+            None => Some(Refusal::NoTrace(p, self.count())),
+        }
+    }
+
+    // The values over samples k, k + 1 and so on of trace p, or the first refusal: E01, E04, E05.
+    pub(crate) fn patch(
+        &mut self,
+        alloc: Global,
+        p: u32,
+        k: u32,
+        values: &[i128],
+    ) -> Result<(), Refusal>
+        ensures step { Step self.old.state (edits.Patch p k values.now) result self.new.state }
+        ensures looks { RisesAtMost self.old.looks self.new.looks 2 }
+    {
+        match self.patch_refusal(p, k, values) {
+            Some(refusal) => Err(refusal),
+            None => self.put_values(alloc, p, k, values),
+        }
+    }
+
+    // The values over samples of trace p, where nothing but memory refuses them.
+    fn put_values(&mut self, alloc: Global, p: u32, k: u32, values: &[i128]) -> Result<(), Refusal>
+        requires { refused self.old.state (edits.Patch p k values.now) ≡ None }
+        ensures ok { OnOk result (IsAfter self.old.state (edits.Patch p k values.now) self.new.state) }
+        ensures err { IfErr result (λ refusal. (refusal ≡ no_memory) × (self.new.state ≡ self.old.state)) }
+        ensures looks { RisesAtMost self.old.looks self.new.looks 1 }
+    {
+        let head = self.overlay.head();
+        let bytes = samples_bytes(alloc, &head, values)?;
+        let at = match self.overlay.look(p) {
+            Some(trace) => sample_place(head.format, &trace, k),
+            None => unreachable!(),
+        };
+        self.overlay.put(alloc, p, at, bytes.as_slice())?;
+        Ok(())
+    }
+
+    // A blank trace in front of trace p, or behind the last, or the first refusal: E01, E09, E10.
+    pub(crate) fn blank(&mut self, alloc: Global, p: u32) -> Result<(), Refusal>
+        ensures step { Step self.old.state (edits.Blank p) result self.new.state }
+        ensures looks { self.new.looks ≡ self.old.looks }
+    {
+        match self.blank_refusal(p) {
+            Some(refusal) => Err(refusal),
+            None => self.insert_blank(alloc, p),
+        }
+    }
+
+    // A blank trace in front of trace p, or behind the last, where nothing but memory refuses it.
+    fn insert_blank(&mut self, alloc: Global, p: u32) -> Result<(), Refusal>
+        requires { refused self.old.state (edits.Blank p) ≡ None }
+        ensures ok { OnOk result (IsAfter self.old.state (edits.Blank p) self.new.state) }
+        ensures err { IfErr result (λ refusal. (refusal ≡ no_memory) × (self.new.state ≡ self.old.state)) }
+        ensures looks { self.new.looks ≡ self.old.looks }
+    {
+        let trace = zeros(alloc, blank_length(&self.overlay.head()) as usize)?;
+        self.overlay.insert(alloc, p, trace)?;
+        Ok(())
+    }
+
+    // A copy of trace q in front of trace p, or behind the last, or the first refusal: E01, E09, E10.
+    pub(crate) fn copy(&mut self, alloc: Global, q: u32, p: u32) -> Result<(), Refusal>
+        ensures step { Step self.old.state (edits.Copy q p) result self.new.state }
+        ensures looks { RisesAtMost self.old.looks self.new.looks 2 }
+    {
+        match self.copy_refusal(q, p) {
+            Some(refusal) => Err(refusal),
+            None => self.insert_copy(alloc, q, p),
+        }
+    }
+
+    // A copy of trace q in front of trace p, or behind the last, where nothing but memory refuses it.
+    fn insert_copy(&mut self, alloc: Global, q: u32, p: u32) -> Result<(), Refusal>
+        requires { refused self.old.state (edits.Copy q p) ≡ None }
+        ensures ok { OnOk result (IsAfter self.old.state (edits.Copy q p) self.new.state) }
+        ensures err { IfErr result (λ refusal. (refusal ≡ no_memory) × (self.new.state ≡ self.old.state)) }
+        ensures looks { RisesAtMost self.old.looks self.new.looks 1 }
+    {
+        let bytes = match self.overlay.look(q) {
+            Some(trace) => joined(alloc, &trace)?,
+            None => unreachable!(),
+        };
+        self.overlay.insert(alloc, p, bytes)?;
+        Ok(())
+    }
+
+    // Trace p out, or the refusal: E01.
+    pub(crate) fn delete(&mut self, p: u32) -> Result<(), Refusal>
+        ensures step { Step self.old.state (edits.Delete p) result self.new.state }
+        ensures looks { self.new.looks ≡ self.old.looks }
+    {
+        match self.no_trace(p) {
+            Some(refusal) => Err(refusal),
+            None => {
+                self.take_out(p);
+                Ok(())
+            }
+        }
+    }
+
+    // Trace p out, where it is there.
+    fn take_out(&mut self, p: u32)
+        requires { refused self.old.state (edits.Delete p) ≡ None }
+        ensures after { IsAfter self.old.state (edits.Delete p) self.new.state }
+        ensures looks { self.new.looks ≡ self.old.looks }
+    {
+        self.overlay.delete(p);
+    }
+
+    // Trace a as trace b, or the first refusal: E01.
+    pub(crate) fn move_trace(&mut self, alloc: Global, a: u32, b: u32) -> Result<(), Refusal>
+        ensures step { Step self.old.state (edits.Move a b) result self.new.state }
+        ensures looks { self.new.looks ≡ self.old.looks }
+    {
+        match self.move_refusal(a, b) {
+            Some(refusal) => Err(refusal),
+            None => self.put_elsewhere(alloc, a, b),
+        }
+    }
+
+    // Trace a as trace b, where nothing but memory refuses it.
+    fn put_elsewhere(&mut self, alloc: Global, a: u32, b: u32) -> Result<(), Refusal>
+        requires { refused self.old.state (edits.Move a b) ≡ None }
+        ensures ok { OnOk result (IsAfter self.old.state (edits.Move a b) self.new.state) }
+        ensures err { IfErr result (λ refusal. (refusal ≡ no_memory) × (self.new.state ≡ self.old.state)) }
+        ensures looks { self.new.looks ≡ self.old.looks }
+    {
+        self.overlay.move_to(alloc, a, b)?;
+        Ok(())
+    }
+}

@@ -1,0 +1,33 @@
+-- An overlay is sound again with another store of the same file.
+use Rattle.std.proofs.Common.{◌≡◌, ℕ, ◌+◌, List, length, refl, ap, arith, Result, Ok, Err, OnOk, OnErr}
+use Rattle.frame_cut.specs.Volume.{Volume, bytes_of}
+use Rattle.edit_overlay.specs.Held.{IsHeld, volume_with}
+use Rattle.edit_overlay.specs.Slots.{traces_of, IsStore}
+use Rattle.edit_overlay.specs.declared.store.TraceStore.{TraceStore}
+use Rattle.edit_overlay.specs.declared.overlay.Overlay.TheInside.{Inside}
+use Rattle.edit_overlay.proofs.Lengths.{total, length-with}
+
+-- what follows from success and from failure alike
+pub settle : {T E : Type 0} (r : Result T E) {A B C : Type 0} → OnOk r A → OnErr r B → (A → C) → (B → C) → C
+settle (Ok x) a b f g = f a
+settle (Err e) a b f g = g b
+
+-- the store has the same loaded file under the same head
+pub record IsOver (s t : TraceStore) : Type 0 where
+  pub head : t.head ≡ s.head
+  pub loaded : t.loaded ≡ s.loaded
+
+other_traces : (text bin : List ℕ) (s t : TraceStore) → IsOver s t → volume_with text bin t ≡ record (volume_with text bin s) { traces = traces_of t }
+other_traces text bin s t over = rw (over.head, over.loaded) refl
+
+pub held_again : (o : Inside) (t : TraceStore) (n : ℕ) → IsHeld o → IsStore t → IsOver o.store t → n + total (traces_of o.store) ≡ o.length + total (traces_of t) → IsHeld (record o { store = t; length = n })
+held_again o t n held is over sum =
+    let v : Volume = volume_with o.text o.bin o.store in
+    let e : length (bytes_of (volume_with o.text o.bin t)) ≡ length (bytes_of (record v { traces = traces_of t })) = ap (λ (w : Volume). length (bytes_of w)) (other_traces o.text o.bin o.store t over) in
+    record {
+      store = is;
+      ends = record { front = rw over.head held.ends.front; whole = rw (over.head, over.loaded) held.ends.whole };
+      text = held.text;
+      bin = held.bin;
+      length = omega (arith, e, length-with v (traces_of t), held.length, sum);
+    }

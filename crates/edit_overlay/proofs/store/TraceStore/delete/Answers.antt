@@ -1,0 +1,34 @@
+use Rattle.std.proofs.Common.{◌≡◌, ◌-◌, ◌<◌, ◌∙◌, ℕ, List, length, map, sym, ap, subst, arith}
+use Rattle.std.specs.List.{remove}
+use Rattle.std.proofs.lemmas.List.{length-map}
+use Rattle.std.proofs.lemmas.List.Edits.{length-remove}
+use Rattle.trace_seq.specs.Order.{times, AreDistinct}
+use Rattle.trace_seq.proofs.Times.{distinct-remove}
+use Rattle.edit_overlay.specs.Slots.{bytes_under}
+use Rattle.edit_overlay.proofs.Slots.{AreHeld, contains-at, absent-removed, held-removed, traces-removed}
+use Rattle.edit_overlay.proofs.store.TraceStore.delete.Goals as goal
+
+pub remove-requires-2 : goal.remove-requires-2
+remove-requires-2 c =
+    let s = c.args.self.now in
+    contains-at s.loaded.items s.head s.order.ids s.slots c.args.p c.id-id.result c.requires.store.slots c.id-id.ensures
+
+pub returns-clause-store : goal.returns-clause-store
+returns-clause-store c =
+    let s = c.args.self.now in
+    let short : c.args.p - 1 < length s.order.ids = omega (arith, c.requires.first, c.requires.last, length-map s.order.ids (bytes_under s.loaded.items s.slots)) in
+    let ids : c.remove.new.self.ids ≡ remove s.order.ids (c.args.p - 1) = c.remove.ensures.ids in
+    let absent : times c.id-id.result (remove s.order.ids (c.args.p - 1)) ≡ 0 = absent-removed s.order.ids c.args.p c.id-id.result c.requires.store.distinct c.id-id.ensures in
+    record {
+      slots = subst (λ (xs : List ℕ). AreHeld s.loaded.items s.head xs c.remove-2.new.self) (sym ids) (held-removed s.loaded.items s.head s.order.ids s.slots c.remove-2.new.self (c.args.p - 1) c.id-id.result c.requires.store.slots c.remove-2.ensures.updates short absent);
+      distinct = subst AreDistinct (sym ids) (distinct-remove s.order.ids (c.args.p - 1) short c.requires.store.distinct);
+      no_more = rw ids (omega (arith, c.requires.store.no_more, c.remove-2.ensures.len, length-remove s.order.ids (c.args.p - 1) short));
+      few = rw ids (omega (arith, c.requires.store.few, length-remove s.order.ids (c.args.p - 1) short));
+    }
+
+pub returns-clause-traces : goal.returns-clause-traces
+returns-clause-traces c =
+    let s = c.args.self.now in
+    let absent : times c.id-id.result (remove s.order.ids (c.args.p - 1)) ≡ 0 = absent-removed s.order.ids c.args.p c.id-id.result c.requires.store.distinct c.id-id.ensures in
+    ap (λ (xs : List ℕ). map (bytes_under s.loaded.items c.remove-2.new.self) xs) c.remove.ensures.ids
+    ∙ traces-removed s.loaded.items s.order.ids s.slots c.remove-2.new.self (c.args.p - 1) c.id-id.result absent c.remove-2.ensures.updates

@@ -1,0 +1,74 @@
+use Rattle.std.proofs.Common.{◌≡◌, ◌+◌, ◌-◌, ◌<◌, ◌≤◌, ◌∙◌, ℕ, List, Some, length, map, sym, ap, subst, arith}
+use Rattle.std.specs.List.{insert}
+use Rattle.std.proofs.lemmas.List.{length-map}
+use Rattle.std.proofs.lemmas.List.Edits.{length-insert}
+use Rattle.slab.specs.Slab.{SameValues}
+use Rattle.trace_seq.specs.Order.{times, AreDistinct}
+use Rattle.trace_seq.proofs.Times.{distinct-insert}
+use Rattle.edit_overlay.specs.declared.slot.Slot.{Slot}
+use Rattle.edit_overlay.specs.Slots.{bytes_in, bytes_under}
+use Rattle.edit_overlay.proofs.Slots.{AreHeld, IsFreshSlot, fresh-slot, vacant-absent, room-made, room-counts, taken-back, held-same, traces-same, on_err, held-inserted, traces-inserted}
+use Rattle.edit_overlay.proofs.store.TraceStore.insert.Goals as goal
+
+pub returns-in_err-reserve-clause-err : goal.returns-in_err-reserve-clause-err
+returns-in_err-reserve-clause-err c =
+    let s = c.args.self.now in
+    let room : SameValues s.slots c.reserve.new.self = room-made s.slots c.reserve.new.self c.reserve.new.self.capacity c.reserve.ensures.rest_kept in
+    on_err c.from_residual.result _ (traces-same s.loaded.items s.order.ids s.slots c.reserve.new.self room)
+
+-- where the order has no room, the slot is taken out again
+
+pub returns-then-is_err-clause-store : goal.returns-then-is_err-clause-store
+returns-then-is_err-clause-store c =
+    let s = c.args.self.now in
+    let room : SameValues s.slots c.reserve.new.self = room-made s.slots c.reserve.new.self c.reserve.new.self.capacity c.reserve.ensures.rest_kept in
+    let back : SameValues c.reserve.new.self c.remove.new.self = taken-back c.reserve.new.self c.insert_reserved-id.new.self c.remove.new.self c.insert_reserved-id.result (Some (record { base = c.args.base; runs = c.new.result })) c.insert_reserved-id.ensures.was_vacant c.insert_reserved-id.ensures.updates c.remove.ensures.updates in
+    let held : AreHeld s.loaded.items s.head s.order.ids c.remove.new.self =
+    held-same s.loaded.items s.head s.order.ids c.reserve.new.self c.remove.new.self (held-same s.loaded.items s.head s.order.ids s.slots c.reserve.new.self c.requires.store.slots room) back in
+    record {
+      slots = subst (λ (xs : List ℕ). AreHeld s.loaded.items s.head xs c.remove.new.self) (sym c.reserve_one.ensures.ids) held;
+      distinct = subst AreDistinct (sym c.reserve_one.ensures.ids) c.requires.store.distinct;
+      no_more = rw c.reserve_one.ensures.ids (omega (arith, c.requires.store.no_more, c.remove.ensures.len, c.insert_reserved-id.ensures.len, room-counts s.slots c.reserve.new.self c.reserve.new.self.capacity c.reserve.ensures.rest_kept));
+      few = rw c.reserve_one.ensures.ids c.requires.store.few;
+    }
+
+pub returns-then-is_err-clause-err : goal.returns-then-is_err-clause-err
+returns-then-is_err-clause-err c =
+    let s = c.args.self.now in
+    let room : SameValues s.slots c.reserve.new.self = room-made s.slots c.reserve.new.self c.reserve.new.self.capacity c.reserve.ensures.rest_kept in
+    let back : SameValues c.reserve.new.self c.remove.new.self = taken-back c.reserve.new.self c.insert_reserved-id.new.self c.remove.new.self c.insert_reserved-id.result (Some (record { base = c.args.base; runs = c.new.result })) c.insert_reserved-id.ensures.was_vacant c.insert_reserved-id.ensures.updates c.remove.ensures.updates in
+    ap (λ (xs : List ℕ). map (bytes_under s.loaded.items c.remove.new.self) xs) c.reserve_one.ensures.ids
+    ∙ (traces-same s.loaded.items s.order.ids c.reserve.new.self c.remove.new.self back ∙ traces-same s.loaded.items s.order.ids s.slots c.reserve.new.self room)
+
+pub returns-clause-store : goal.returns-clause-store
+returns-clause-store c =
+    let s = c.args.self.now in
+    let key = c.insert_reserved-id.result in
+    let new : Slot = record { base = c.args.base; runs = c.new.result } in
+    let fresh : IsFreshSlot s.loaded.items s.head new = fresh-slot s.loaded.items s.head new c.new.ensures.items c.requires.inside c.requires.whole in
+    let room : SameValues s.slots c.reserve.new.self = room-made s.slots c.reserve.new.self c.reserve.new.self.capacity c.reserve.ensures.rest_kept in
+    let held : AreHeld s.loaded.items s.head s.order.ids c.reserve.new.self = held-same s.loaded.items s.head s.order.ids s.slots c.reserve.new.self c.requires.store.slots room in
+    let absent : times key s.order.ids ≡ 0 = vacant-absent s.loaded.items s.head s.order.ids c.reserve.new.self key held c.insert_reserved-id.ensures.was_vacant in
+    let ids : c.insert.new.self.ids ≡ insert s.order.ids (c.args.p - 1) key = c.insert.ensures.ids ∙ ap (λ (xs : List ℕ). insert xs (c.args.p - 1) key) c.reserve_one.ensures.ids in
+    let within : c.args.p - 1 ≤ length s.order.ids = omega (arith, c.requires.first, c.requires.last, length-map s.order.ids (bytes_under s.loaded.items s.slots)) in
+    let fewer : length s.order.ids + 1 < 4294967296 = omega (arith, c.requires.few, length-map s.order.ids (bytes_under s.loaded.items s.slots)) in
+    record {
+      slots = subst (λ (xs : List ℕ). AreHeld s.loaded.items s.head xs c.insert_reserved-id.new.self) (sym ids) (held-inserted s.loaded.items s.head s.order.ids c.reserve.new.self c.insert_reserved-id.new.self (c.args.p - 1) key new held c.insert_reserved-id.ensures.updates fresh.sound);
+      distinct = subst AreDistinct (sym ids) (distinct-insert s.order.ids (c.args.p - 1) key absent c.requires.store.distinct);
+      no_more = rw ids (omega (arith, c.requires.store.no_more, c.insert_reserved-id.ensures.len, room-counts s.slots c.reserve.new.self c.reserve.new.self.capacity c.reserve.ensures.rest_kept, length-insert s.order.ids (c.args.p - 1) key within));
+      few = rw ids (omega (arith, fewer, length-insert s.order.ids (c.args.p - 1) key within));
+    }
+
+pub returns-clause-ok : goal.returns-clause-ok
+returns-clause-ok c =
+    let s = c.args.self.now in
+    let key = c.insert_reserved-id.result in
+    let new : Slot = record { base = c.args.base; runs = c.new.result } in
+    let fresh : IsFreshSlot s.loaded.items s.head new = fresh-slot s.loaded.items s.head new c.new.ensures.items c.requires.inside c.requires.whole in
+    let room : SameValues s.slots c.reserve.new.self = room-made s.slots c.reserve.new.self c.reserve.new.self.capacity c.reserve.ensures.rest_kept in
+    let held : AreHeld s.loaded.items s.head s.order.ids c.reserve.new.self = held-same s.loaded.items s.head s.order.ids s.slots c.reserve.new.self c.requires.store.slots room in
+    let absent : times key s.order.ids ≡ 0 = vacant-absent s.loaded.items s.head s.order.ids c.reserve.new.self key held c.insert_reserved-id.ensures.was_vacant in
+    ap (λ (xs : List ℕ). map (bytes_under s.loaded.items c.insert_reserved-id.new.self) xs) (c.insert.ensures.ids ∙ ap (λ (xs : List ℕ). insert xs (c.args.p - 1) key) c.reserve_one.ensures.ids)
+    ∙ (traces-inserted s.loaded.items s.order.ids c.reserve.new.self c.insert_reserved-id.new.self (c.args.p - 1) key new absent c.insert_reserved-id.ensures.updates
+    ∙ (ap (λ (ts : List (List ℕ)). insert ts (c.args.p - 1) (bytes_in s.loaded.items new)) (traces-same s.loaded.items s.order.ids s.slots c.reserve.new.self room)
+    ∙ ap (λ (t : List ℕ). insert (map (bytes_under s.loaded.items s.slots) s.order.ids) (c.args.p - 1) t) fresh.shows))

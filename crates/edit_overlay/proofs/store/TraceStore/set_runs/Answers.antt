@@ -1,0 +1,50 @@
+use Rattle.std.proofs.Common.{◌-◌, [], ◌∙◌, ℕ, List, Some, length, refl, sym, ap}
+use Rattle.std.specs.Prelude.{slice_index_or, slice_set}
+use Rattle.slab.specs.Slab.{with_value, Updates}
+use Rattle.trace_view.specs.Runs.{written}
+use Rattle.edit_overlay.specs.declared.slot.Slot.{Slot}
+use Rattle.edit_overlay.specs.Slots.{bases_of, traces_of, IsSlot}
+use Rattle.edit_overlay.proofs.Slots.{slot-found, slot-missed, base-at, runs-slot, bases-kept, write-updates, write-counts, traces-changed, held-changed}
+use Rattle.edit_overlay.proofs.store.TraceStore.set_runs.Goals as goal
+
+pub unreachable-requires : goal.unreachable-requires
+unreachable-requires c =
+    let s = c.args.self.now in
+    slot-missed s.loaded.items s.head s.order.ids s.slots c.args.p c.id-id.result c.requires.store.slots c.id-id.ensures (sym c.in-None.ensures.value)
+
+pub returns-clause-store : goal.returns-clause-store
+returns-clause-store c =
+    let s = c.args.self.now in
+    let id = c.id-id.result in
+    let old : Slot = c.in-Some.slot.now in
+    let new : Slot = record { base = old.base; runs = c.args.runs } in
+    let slot = slot-found s.loaded.items s.head s.order.ids s.slots c.args.p id old c.requires.store.slots c.id-id.ensures (sym c.in-Some.ensures.value) in
+    let base = base-at s.loaded.items s.order.ids s.slots c.args.p id old c.id-id.ensures (sym c.in-Some.ensures.value) in
+    let sound : IsSlot s.loaded.items s.head new = runs-slot s.loaded.items s.head old new (slice_index_or (bases_of s) (c.args.p - 1) []) refl base slot c.requires.fit c.requires.whole in
+    let up : Updates s.slots (with_value s.slots id new) id (Some new) = write-updates s.slots id old new (sym c.in-Some.ensures.value) in
+    record {
+      slots = held-changed s.loaded.items s.head s.order.ids s.slots (with_value s.slots id new) id new c.requires.store.slots up sound;
+      distinct = c.requires.store.distinct;
+      no_more = write-counts s.slots id old new (length s.order.ids) (sym c.in-Some.ensures.value) c.requires.store.no_more;
+      few = c.requires.store.few;
+    }
+
+pub returns-clause-bases : goal.returns-clause-bases
+returns-clause-bases c =
+    let s = c.args.self.now in
+    let id = c.id-id.result in
+    let old : Slot = c.in-Some.slot.now in
+    let new : Slot = record { base = old.base; runs = c.args.runs } in
+    let up : Updates s.slots (with_value s.slots id new) id (Some new) = write-updates s.slots id old new (sym c.in-Some.ensures.value) in
+    bases-kept s.loaded.items s.order.ids s.slots (with_value s.slots id new) id old new (sym c.in-Some.ensures.value) refl up
+
+pub returns-clause-traces : goal.returns-clause-traces
+returns-clause-traces c =
+    let s = c.args.self.now in
+    let id = c.id-id.result in
+    let old : Slot = c.in-Some.slot.now in
+    let new : Slot = record { base = old.base; runs = c.args.runs } in
+    let base = base-at s.loaded.items s.order.ids s.slots c.args.p id old c.id-id.ensures (sym c.in-Some.ensures.value) in
+    let up : Updates s.slots (with_value s.slots id new) id (Some new) = write-updates s.slots id old new (sym c.in-Some.ensures.value) in
+    traces-changed s.loaded.items s.order.ids s.slots (with_value s.slots id new) c.args.p id new c.requires.store.distinct c.id-id.ensures up
+    ∙ ap (λ (b : List ℕ). slice_set (traces_of s) (c.args.p - 1) (written b c.args.runs.items)) (sym base)

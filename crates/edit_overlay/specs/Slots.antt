@@ -1,0 +1,57 @@
+-- How the traces of a volume are held: an order of ids, and under each id a slot.
+use Rattle.std.specs.Prelude.{ℕ, ◌≡◌, ◌+◌, ◌<◌, ◌≤◌, ◌^◌, List, [], length, map, IsSomeAnd}
+use Rattle.std.specs.Option.{option_map_or}
+use Rattle.slab.specs.Slab.{Slab, get, slab_len}
+use Rattle.frame_cut.specs.declared.head.Head.{Head}
+use Rattle.frame_cut.specs.Cuts.{IsTrace}
+use Rattle.frame_cut.specs.Layout.{bytes_at}
+use Rattle.trace_seq.specs.Order.{times, AreDistinct}
+use Rattle.trace_view.specs.Runs.{Fit, written}
+use Rattle.edit_overlay.specs.declared.slot.Base.{Base}
+use Rattle.edit_overlay.specs.declared.slot.Base.TheVariants.{Loaded, Added}
+use Rattle.edit_overlay.specs.declared.slot.Slot.{Slot}
+use Rattle.edit_overlay.specs.declared.store.TraceStore.{TraceStore}
+
+-- the bytes under a trace's runs: a part of the loaded file, or bytes of the trace's own
+abbrev pub base_of : List ℕ → Base → List ℕ
+base_of loaded (Loaded extent) = bytes_at loaded extent
+base_of loaded (Added bytes) = bytes.items
+
+-- the part lies inside the loaded file
+abbrev pub IsInside : List ℕ → Base → Type 0
+IsInside loaded (Loaded extent) = extent.start + extent.length ≤ length loaded
+IsInside loaded (Added bytes) = Unit {0}
+
+-- the bytes of a slot's trace
+abbrev pub bytes_in : List ℕ → Slot → List ℕ
+bytes_in loaded slot = written (base_of loaded slot.base) slot.runs.items
+
+-- the slot holds a whole trace
+pub record IsSlot (loaded : List ℕ) (h : Head) (slot : Slot) : Type 0 where
+  pub inside : IsInside loaded slot.base
+  pub fit : Fit slot.runs.items (length (base_of loaded slot.base))
+  pub whole : IsTrace h (bytes_in loaded slot)
+
+-- the bytes of the trace under an id
+abbrev pub bytes_under : List ℕ → Slab Slot → ℕ → List ℕ
+bytes_under loaded slots id = option_map_or (bytes_in loaded) (get slots id) []
+
+-- the traces, in order
+abbrev pub traces_of : TraceStore → List (List ℕ)
+traces_of s = map (bytes_under s.loaded.items s.slots) s.order.ids
+
+-- the bytes under the runs of the trace under an id
+abbrev pub base_under : List ℕ → Slab Slot → ℕ → List ℕ
+base_under loaded slots id = option_map_or (λ slot. base_of loaded slot.base) (get slots id) []
+
+-- the bytes under the runs of each trace, in order
+abbrev pub bases_of : TraceStore → List (List ℕ)
+bases_of s = map (base_under s.loaded.items s.slots) s.order.ids
+
+-- each id of the order has a slot with a whole trace, no id stands twice, there is no slot but those of the order, and
+-- they can be counted in 32 bits
+pub record IsStore (s : TraceStore) : Type 0 where
+  pub slots : (id : ℕ) → 0 < times id s.order.ids → IsSomeAnd (get s.slots id) (IsSlot s.loaded.items s.head)
+  pub distinct : AreDistinct s.order.ids
+  pub no_more : slab_len s.slots ≡ length s.order.ids
+  pub few : length s.order.ids < 2 ^ 32

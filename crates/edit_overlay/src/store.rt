@@ -1,0 +1,324 @@
+// The traces of a volume: an order of ids, and a slot under each.
+ghost use Rattle.std.specs.Prelude.{All, ◌≡◌, ℕ, ◌+◌, ◌-◌, ◌/◌, ◌%◌, ◌^◌, ◌<◌, ◌≤◌, [], length, Some, slice_index_or, slice_set, IfOk, OnOk, OnErr};
+ghost use Rattle.std.specs.List.{insert, remove};
+ghost use Rattle.frame_cut.specs.Cuts.{IsTrace};
+ghost use Rattle.frame_cut.specs.Layout.{bytes_at, pieces};
+ghost use Rattle.frame_cut.specs.Splice.{splice};
+ghost use Rattle.trace_seq.specs.Order.{id_at};
+ghost use Rattle.trace_view.specs.Runs.{Fit, written};
+ghost use Rattle.trace_view.specs.Shown.{bytes_of, head_of};
+ghost use Rattle.edit_overlay.specs.Slots.{base_of, bases_of, traces_of, IsInside, IsStore};
+ghost use Rattle.edit_overlay.specs.Each.{part_of, put_each_at, ArePutRuns, ArePutEach};
+
+use crate::out_of_memory::OutOfMemory;
+use crate::slot::{Base, Slot};
+use frame_cut::{Extent, Head};
+use slab::Slab;
+use std::alloc::Global;
+use trace_seq::{ChunkSeq, TraceSeq};
+use trace_view::{Run, TraceView};
+
+// The loaded bytes, which never change, and the traces that lie over them. Traces count from 1.
+#[derive(Drop)]
+pub struct TraceStore {
+    pub loaded: Vec<u8>,
+    pub head: Head,
+    pub order: ChunkSeq,
+    pub slots: Slab<Slot>,
+}
+
+impl TraceStore {
+    // The store of a loaded file whose traces lie at these extents. Refused for want of memory alone.
+    pub fn new(
+        alloc: Global,
+        loaded: Vec<u8>,
+        head: Head,
+        extents: Vec<Extent>,
+    ) -> Result<TraceStore, OutOfMemory>
+        requires few { length extents.items < 2 ^ 32 }
+        requires inside { All (λ e. e.start + e.length ≤ length loaded.items) extents.items }
+        requires whole { All (λ e. IsTrace head (bytes_at loaded.items e)) extents.items }
+        ensures store { IfOk result (λ s. IsStore s) }
+        ensures head { IfOk result (λ s. s.head ≡ head) }
+        ensures loaded { IfOk result (λ s. s.loaded.items ≡ loaded.items) }
+        ensures traces { IfOk result (λ s. traces_of s ≡ pieces loaded.items extents.items) }
+    {
+        let mut store = TraceStore {
+            loaded,
+            head,
+            order: ChunkSeq::new(alloc),
+            slots: Slab::with_capacity(alloc, extents.len())?,
+        };
+        for extent in extents.as_slice() {
+            let last = store.count() + 1;
+            store.insert(alloc, last, Base::Loaded(*extent))?;
+        }
+        Ok(store)
+    }
+
+    // The number of traces.
+    pub fn count(&self) -> u32
+        ensures { result ≡ length (traces_of self.now) }
+    {
+        self.order.len()
+    }
+
+    // The id of trace p.
+    fn id(&self, p: u32) -> usize
+        requires first { 1 ≤ p }
+        requires last { p ≤ length (traces_of self.now) }
+        ensures { id_at self.now.order.ids p ≡ Some result }
+    {
+        let mut probes = 0;
+        match self.order.get(p, &mut probes) {
+            Some(id) => id,
+            None => unreachable!(),
+        }
+    }
+
+    // Trace p.
+    pub fn view(&self, p: u32) -> TraceView<'_>
+        requires store { IsStore self.now }
+        requires first { 1 ≤ p }
+        requires last { p ≤ length (traces_of self.now) }
+        ensures head { head_of result ≡ self.now.head }
+        ensures bytes { bytes_of result ≡ slice_index_or (traces_of self.now) (p - 1) [] }
+    {
+        let id = self.id(p);
+        match self.slots.get(id) {
+            Some(slot) => {
+                let base = slot.base_bytes(self.loaded.as_slice());
+                TraceView::new(&self.head, base, slot.runs.as_slice())
+            }
+            None => unreachable!(),
+        }
+    }
+
+    // Lays the bytes over those of trace p from place `at` on, counted from 0 in the trace. Where memory is refused,
+    // nothing is changed.
+    pub fn put(&mut self, alloc: Global, p: u32, at: u64, bytes: &[u8]) -> Result<(), OutOfMemory>
+        requires store { IsStore self.old }
+        requires first { 1 ≤ p }
+        requires last { p ≤ length (traces_of self.old) }
+        requires inside { at + length bytes.now ≤ length (slice_index_or (traces_of self.old) (p - 1) []) }
+        requires whole { IsTrace self.old.head (splice (slice_index_or (traces_of self.old) (p - 1) []) at (length bytes.now) bytes.now) }
+        ensures store { IsStore self.new }
+        ensures head { self.new.head ≡ self.old.head }
+        ensures loaded { self.new.loaded ≡ self.old.loaded }
+        ensures ok { OnOk result (traces_of self.new ≡ slice_set (traces_of self.old) (p - 1)
+            (splice (slice_index_or (traces_of self.old) (p - 1) []) at (length bytes.now) bytes.now)) }
+        ensures err { OnErr result (traces_of self.new ≡ traces_of self.old) }
+    {
+        if bytes.is_empty() {
+            return Ok(());
+        }
+        let runs = self.runs_with(alloc, p, at, bytes)?;
+        self.set_runs(p, runs);
+        Ok(())
+    }
+
+    // Lays the bytes, `size` of them over each trace, over the traces from `a` on, in each from place `at` on, counted
+    // from 0. Where memory is refused, nothing is changed.
+    pub fn put_each(
+        &mut self,
+        alloc: Global,
+        a: u32,
+        at: u64,
+        size: u32,
+        bytes: &[u8],
+    ) -> Result<(), OutOfMemory>
+        requires store { IsStore self.old }
+        requires first { 1 ≤ a }
+        requires some { 0 < size }
+        requires exact { length bytes.now % size ≡ 0 }
+        requires last { a - 1 + length bytes.now / size ≤ length (traces_of self.old) }
+        requires inside { (k : ℕ) → k < length bytes.now / size →
+            at + size ≤ length (slice_index_or (traces_of self.old) (a - 1 + k) []) }
+        requires whole { (k : ℕ) → k < length bytes.now / size →
+            IsTrace self.old.head (splice (slice_index_or (traces_of self.old) (a - 1 + k) []) at size (part_of bytes.now size k)) }
+        ensures store { IsStore self.new }
+        ensures head { self.new.head ≡ self.old.head }
+        ensures loaded { self.new.loaded ≡ self.old.loaded }
+        ensures ok { OnOk result (traces_of self.new ≡ put_each_at (traces_of self.old) (a - 1) at size bytes.now) }
+        ensures err { OnErr result (traces_of self.new ≡ traces_of self.old) }
+    {
+        // All memory is taken before the first trace is changed.
+        let lists = self.runs_for_each(alloc, a, at, size, bytes)?;
+        let mut done = 0;
+        for runs in lists {
+            self.set_runs(a + done, runs);
+            done += 1;
+        }
+        Ok(())
+    }
+
+    // For each of these traces, the runs with its bytes laid over it.
+    fn runs_for_each(
+        &self,
+        alloc: Global,
+        a: u32,
+        at: u64,
+        size: u32,
+        bytes: &[u8],
+    ) -> Result<Vec<Vec<Run>>, OutOfMemory>
+        requires store { IsStore self.now }
+        requires first { 1 ≤ a }
+        requires some { 0 < size }
+        requires last { a - 1 + length bytes.now / size ≤ length (traces_of self.now) }
+        requires inside { (k : ℕ) → k < length bytes.now / size →
+            at + size ≤ length (slice_index_or (traces_of self.now) (a - 1 + k) []) }
+        ensures count { IfOk result (λ lists. length lists.items ≡ length bytes.now / size) }
+        ensures runs { IfOk result (λ lists.
+            ArePutEach (bases_of self.now) (traces_of self.now) (a - 1) at size bytes.now 0 lists.items) }
+    {
+        let count = bytes.len() / size as usize;
+        let mut lists = Vec::with_capacity(alloc, count)?;
+        for k in 0..count {
+            let part = part(bytes, size, k);
+            let runs = self.runs_with(alloc, a + k as u32, at, part)?;
+            lists.push(runs)?;
+        }
+        Ok(lists)
+    }
+
+    // The runs of trace p with the bytes laid over it from place `at` on, counted from 0.
+    fn runs_with(
+        &self,
+        alloc: Global,
+        p: u32,
+        at: u64,
+        bytes: &[u8],
+    ) -> Result<Vec<Run>, OutOfMemory>
+        requires store { IsStore self.now }
+        requires first { 1 ≤ p }
+        requires last { p ≤ length (traces_of self.now) }
+        requires some { 0 < length bytes.now }
+        requires inside { at + length bytes.now ≤ length (slice_index_or (traces_of self.now) (p - 1) []) }
+        ensures { IfOk result (λ list. ArePutRuns (slice_index_or (bases_of self.now) (p - 1) [])
+            (slice_index_or (traces_of self.now) (p - 1) []) at bytes.now list.items) }
+    {
+        let id = self.id(p);
+        match self.slots.get(id) {
+            Some(slot) => slot.runs_with(alloc, self.loaded.as_slice(), at, bytes),
+            None => unreachable!(),
+        }
+    }
+
+    // Gives trace p these runs in place of those that it has.
+    fn set_runs(&mut self, p: u32, runs: Vec<Run>)
+        requires store { IsStore self.old }
+        requires first { 1 ≤ p }
+        requires last { p ≤ length (traces_of self.old) }
+        requires fit { Fit runs.items (length (slice_index_or (bases_of self.old) (p - 1) [])) }
+        requires whole { IsTrace self.old.head (written (slice_index_or (bases_of self.old) (p - 1) []) runs.items) }
+        ensures store { IsStore self.new }
+        ensures head { self.new.head ≡ self.old.head }
+        ensures loaded { self.new.loaded ≡ self.old.loaded }
+        ensures bases { bases_of self.new ≡ bases_of self.old }
+        ensures traces { traces_of self.new ≡ slice_set (traces_of self.old) (p - 1)
+            (written (slice_index_or (bases_of self.old) (p - 1) []) runs.items) }
+    {
+        let id = self.id(p);
+        match self.slots.get_mut(id) {
+            Some(slot) => slot.runs = runs,
+            None => unreachable!(),
+        }
+    }
+
+    // A slot's base as a new trace in front of trace p, or behind the last. Where memory is refused, nothing is changed.
+    pub fn insert(&mut self, alloc: Global, p: u32, base: Base) -> Result<(), OutOfMemory>
+        requires store { IsStore self.old }
+        requires first { 1 ≤ p }
+        requires last { p ≤ length (traces_of self.old) + 1 }
+        requires few { length (traces_of self.old) + 1 < 2 ^ 32 }
+        requires inside { IsInside self.old.loaded.items base }
+        requires whole { IsTrace self.old.head (base_of self.old.loaded.items base) }
+        ensures store { IsStore self.new }
+        ensures head { self.new.head ≡ self.old.head }
+        ensures loaded { self.new.loaded ≡ self.old.loaded }
+        ensures ok { OnOk result (traces_of self.new ≡ insert (traces_of self.old) (p - 1) (base_of self.old.loaded.items base)) }
+        ensures err { OnErr result (traces_of self.new ≡ traces_of self.old) }
+    {
+        self.slots.reserve(1)?;
+        let id = self.slots.insert_reserved(Slot {
+            base,
+            runs: Vec::new(alloc),
+        });
+        // The id is below the capacity, which is a usize.
+        let _capacity = self.slots.capacity();
+        if self.order.reserve_one(alloc, id).is_err() {
+            let _ = self.slots.remove(id);
+            return Err(OutOfMemory);
+        }
+        self.order.insert(p, id);
+        Ok(())
+    }
+
+    // Takes trace p out, and frees its slot.
+    pub fn delete(&mut self, p: u32)
+        requires store { IsStore self.old }
+        requires first { 1 ≤ p }
+        requires last { p ≤ length (traces_of self.old) }
+        ensures store { IsStore self.new }
+        ensures head { self.new.head ≡ self.old.head }
+        ensures loaded { self.new.loaded ≡ self.old.loaded }
+        ensures traces { traces_of self.new ≡ remove (traces_of self.old) (p - 1) }
+    {
+        let id = self.id(p);
+        self.order.remove(p);
+        let _ = self.slots.remove(id);
+    }
+
+    // Takes trace a out, and puts it in again so that it is trace b. Where memory is refused, nothing is changed.
+    pub fn move_to(&mut self, alloc: Global, a: u32, b: u32) -> Result<(), OutOfMemory>
+        requires store { IsStore self.old }
+        requires from_first { 1 ≤ a }
+        requires from_last { a ≤ length (traces_of self.old) }
+        requires to_first { 1 ≤ b }
+        requires to_last { b ≤ length (traces_of self.old) }
+        ensures store { IsStore self.new }
+        ensures head { self.new.head ≡ self.old.head }
+        ensures loaded { self.new.loaded ≡ self.old.loaded }
+        ensures ok { OnOk result (traces_of self.new ≡
+            insert (remove (traces_of self.old) (a - 1)) (b - 1) (slice_index_or (traces_of self.old) (a - 1) [])) }
+        ensures err { OnErr result (traces_of self.new ≡ traces_of self.old) }
+    {
+        self.order.reserve_one(alloc, 0)?;
+        self.order.move_to(a, b);
+        Ok(())
+    }
+
+    // Makes the base the whole of trace p, without runs.
+    pub fn replace(&mut self, alloc: Global, p: u32, base: Base)
+        requires store { IsStore self.old }
+        requires first { 1 ≤ p }
+        requires last { p ≤ length (traces_of self.old) }
+        requires inside { IsInside self.old.loaded.items base }
+        requires whole { IsTrace self.old.head (base_of self.old.loaded.items base) }
+        ensures store { IsStore self.new }
+        ensures head { self.new.head ≡ self.old.head }
+        ensures loaded { self.new.loaded ≡ self.old.loaded }
+        ensures traces { traces_of self.new ≡ slice_set (traces_of self.old) (p - 1) (base_of self.old.loaded.items base) }
+    {
+        let id = self.id(p);
+        let fresh = Slot {
+            base,
+            runs: Vec::new(alloc),
+        };
+        match self.slots.get_mut(id) {
+            Some(slot) => *slot = fresh,
+            None => unreachable!(),
+        }
+    }
+}
+
+// Part k of bytes that are cut into parts of one size, counted from 0.
+fn part(bytes: &[u8], size: u32, k: usize) -> &[u8]
+    requires some { 0 < size }
+    requires within { k < length bytes.now / size }
+    ensures part { result.now ≡ part_of bytes.now size k }
+    ensures length { length result.now ≡ size }
+{
+    let start = k * size as usize;
+    &bytes[start..start + size as usize]
+}

@@ -1,0 +1,96 @@
+// The commands on samples and whole traces.
+ghost use Rattle.std.specs.Prelude.{◌≡◌, is_some};
+ghost use Rattle.script_run.specs.Words.{words_of};
+ghost use Rattle.script_run.specs.Commands.{read_patch, read_blank, read_copy, read_delete, read_move, numbers_of, AreNumbersRead, IsRead};
+
+use crate::command::Command;
+use crate::line_fault::LineFault;
+use crate::numbers::{number, position};
+use crate::parse::{one, two};
+use crate::words::Words;
+use bench_core::{Edit, Listed};
+use std::alloc::Global;
+
+pub(crate) fn patch(alloc: Global, mut words: Words) -> Result<Command, LineFault>
+    ensures { IsRead (read_patch (words_of words.entry)) result }
+{
+    let p = words.next().ok_or(LineFault::Words)?;
+    let k = words.next().ok_or(LineFault::Words)?;
+    let values = words.rest();
+    if words.next().is_none() {
+        return Err(LineFault::Words);
+    }
+    let p = position(p).ok_or(LineFault::Number)?;
+    let k = position(k).ok_or(LineFault::Number)?;
+    let values = numbers(alloc, values)?;
+    Ok(Command::Apply(Edit::Patch(p, k, values)))
+}
+
+pub(crate) fn blank(words: Words) -> Result<Command, LineFault>
+    ensures { result ≡ read_blank (words_of words.entry) }
+{
+    let p = one(words).ok_or(LineFault::Words)?;
+    let p = position(p).ok_or(LineFault::Number)?;
+    Ok(Command::Apply(Edit::Blank(p)))
+}
+
+pub(crate) fn copy(words: Words) -> Result<Command, LineFault>
+    ensures { result ≡ read_copy (words_of words.entry) }
+{
+    let (q, p) = two(words).ok_or(LineFault::Words)?;
+    let q = position(q).ok_or(LineFault::Number)?;
+    let p = position(p).ok_or(LineFault::Number)?;
+    Ok(Command::Apply(Edit::Copy(q, p)))
+}
+
+pub(crate) fn delete(words: Words) -> Result<Command, LineFault>
+    ensures { result ≡ read_delete (words_of words.entry) }
+{
+    let p = one(words).ok_or(LineFault::Words)?;
+    let p = position(p).ok_or(LineFault::Number)?;
+    Ok(Command::Apply(Edit::Delete(p)))
+}
+
+pub(crate) fn move_trace(words: Words) -> Result<Command, LineFault>
+    ensures { result ≡ read_move (words_of words.entry) }
+{
+    let (a, b) = two(words).ok_or(LineFault::Words)?;
+    let a = position(a).ok_or(LineFault::Number)?;
+    let b = position(b).ok_or(LineFault::Number)?;
+    Ok(Command::Apply(Edit::Move(a, b)))
+}
+
+// Whether each word of the text is a number.
+fn are_numbers(text: &str) -> bool
+    ensures { result ≡ is_some (numbers_of (words_of text.now)) }
+{
+    let mut words = Words::new(text);
+    'words: while let Some(word) = words.next() {
+        if number(word).is_none() {
+            return false;
+        }
+    }
+    true
+}
+
+// The numbers that the words of the text are. Takes memory, but none where a word is no number: S03, else E11.
+fn numbers(alloc: Global, text: &str) -> Result<Listed<i128>, LineFault>
+    ensures { AreNumbersRead (numbers_of (words_of text.now)) result }
+{
+    if !are_numbers(text) {
+        return Err(LineFault::Number);
+    }
+    let mut values = Vec::new(alloc);
+    let mut words = Words::new(text);
+    'words: while let Some(word) = words.next() {
+        match number(word) {
+            Some(value) => {
+                if values.push(value).is_err() {
+                    return Err(LineFault::OutOfMemory);
+                }
+            }
+            None => return Err(LineFault::Number),
+        }
+    }
+    Ok(Listed::new(values))
+}

@@ -1,0 +1,18 @@
+-- One sample more, as the code computes it.
+use Rattle.std.proofs.Common.{◌≡◌, ℕ, ℤ, ◌+◌, ◌+ℤ◌, SFits, to_z, of_z, refl}
+use Rattle.std.proofs.lemmas.Int.{to_z-of_z}
+use Rattle.std.specs.Int.{Width, int_min, int_max}
+use Rattle.trace_record.specs.declared.statistics.Statistics.{Statistics}
+use Rattle.trace_record.specs.Statistics.{with_sample}
+
+-- a value that fits is what its bits are
+pub statistics_added : (v w : Width) (s : Statistics) (x y low high : ℤ) (n : ℕ) → SFits v s.least → SFits v s.greatest → SFits w s.sum → SFits v x → SFits w y → SFits v low → SFits v high → SFits w (s.sum +ℤ y) → y ≡ x → low ≡ int_min (to_z v (of_z v s.least)) (to_z v (of_z v x)) → high ≡ int_max (to_z v (of_z v s.greatest)) (to_z v (of_z v x)) → n ≡ s.number + 1
+    → (let r : Statistics = record { least = to_z v (of_z v low); greatest = to_z v (of_z v high); sum = to_z w (of_z w (to_z w (of_z w s.sum) +ℤ to_z w (of_z w y))); number = n } in r) ≡ with_sample s x
+statistics_added v w s x y low high n fl fg fs fx fy flow fhigh fsum same el eg en =
+    rw (to_z-of_z v low flow, to_z-of_z v high fhigh, to_z-of_z w s.sum fs, to_z-of_z w y fy, to_z-of_z w (s.sum +ℤ y) fsum, el, eg, to_z-of_z v s.least fl, to_z-of_z v s.greatest fg, to_z-of_z v x fx, same, en) refl
+
+pub statistics_joined : (w : Width) (s t : Statistics) (low high : ℤ) → SFits w s.least → SFits w s.greatest → SFits w s.sum → SFits w t.least → SFits w t.greatest → SFits w t.sum → SFits w low → SFits w high → SFits w (s.sum +ℤ t.sum) → low ≡ int_min (to_z w (of_z w s.least)) (to_z w (of_z w t.least)) → high ≡ int_max (to_z w (of_z w s.greatest)) (to_z w (of_z w t.greatest))
+    → (let r : Statistics = record { least = to_z w (of_z w low); greatest = to_z w (of_z w high); sum = to_z w (of_z w (to_z w (of_z w s.sum) +ℤ to_z w (of_z w t.sum))); number = s.number + t.number } in r)
+    ≡ record { least = int_min s.least t.least; greatest = int_max s.greatest t.greatest; sum = s.sum +ℤ t.sum; number = s.number + t.number }
+statistics_joined w s t low high fl fg fs gl gg gs flow fhigh fsum el eg =
+    rw (to_z-of_z w low flow, to_z-of_z w high fhigh, to_z-of_z w s.sum fs, to_z-of_z w t.sum gs, to_z-of_z w (s.sum +ℤ t.sum) fsum, el, eg, to_z-of_z w s.least fl, to_z-of_z w s.greatest fg, to_z-of_z w t.least gl, to_z-of_z w t.greatest gg) refl

@@ -1,0 +1,15 @@
+use Rattle.std.proofs.Common.{ap, ◌∙◌, length}
+use Rattle.frame_cut.specs.declared.head.Head.{Head}
+use Rattle.trace_view.specs.Shown.{head_of}
+use Rattle.trace_view.specs.Values.{samples_in}
+use Rattle.trace_record.specs.Statistics.{statistics_of}
+use Rattle.trace_record.proofs.SampleLemmas.{samples_in-take}
+use Rattle.trace_record.proofs.of_samples.read_statistics.Goals as goal
+
+pub returns-clause-value : goal.returns-clause-value
+returns-clause-value c =
+    let h = head_of c.args.view.now in
+    c.slice_statistics.ensures.value
+    ∙ ap (λ (k : Head). statistics_of (samples_in k.order k.format c.args.number c.read.new.out)) c.head-head.ensures
+    ∙ ap (λ bs. statistics_of (samples_in h.order h.format c.args.number bs)) c.read.ensures
+    ∙ ap statistics_of (samples_in-take h.order h.format c.args.number (length c.args.bytes.now) _ c.requires.whole)

@@ -1,0 +1,8 @@
+-- Statistics of samples that fit 32 bits in two's complement.
+use Rattle.std.specs.Prelude.{ℕ}
+use Rattle.trace_record.specs.declared.narrow.Narrow.{Narrow}
+use Rattle.trace_record.specs.declared.statistics.Statistics.{Statistics}
+
+-- the statistics that it says of so many samples
+abbrev pub seen : Narrow → ℕ → Statistics
+seen s n = record { least = s.least; greatest = s.greatest; sum = s.sum; number = n }

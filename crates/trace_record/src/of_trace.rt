@@ -1,0 +1,91 @@
+ghost use Rattle.std.specs.Prelude.{◌≡◌, length, true, codes};
+ghost use Rattle.field_map.specs.Binding.{is_geometry};
+ghost use Rattle.trace_view.specs.Shown.{bytes_of, head_of};
+ghost use Rattle.trace_view.specs.Values.{samples_of};
+ghost use Rattle.trace_record.specs.Facts.{facts_of};
+ghost use Rattle.trace_record.specs.OfTrace.{record_of as record_of_trace, bound_value};
+ghost use Rattle.trace_record.specs.Statistics.{least_of, greatest_of, int_sum, HasRange};
+
+use crate::header_fields::{has_known_name, i16_at, i32_at, short_at, signed_at, u16_at};
+use crate::of_samples::statistics_of;
+use crate::{Ratio, Record, Statistics};
+use field_map::FieldMap;
+use trace_view::TraceView;
+
+/// The record of a trace: its inline, crossline, offset, x, y and scalar at the places that the map
+/// gives these names, x and y under the scalar, in the units that bytes 89-90 tell; other fields of
+/// the main header; and the least, greatest, sum and number of its samples, in one pass over them.
+/// The map is one for the trace's file: its traces may have as many header extensions. Refuses
+/// nothing. Takes no memory.
+pub fn record_of(view: &TraceView<'_>, fields: &FieldMap) -> Record
+    requires { fields.now.extensions ≡ (head_of view.now).extensions }
+    ensures { facts_of result ≡ record_of_trace (head_of view.now) fields.now.pairs (bytes_of view.now) }
+{
+    let scalar = scalar_of(view, fields);
+    let x = geometry_value(view, fields, "x");
+    let y = geometry_value(view, fields, "y");
+    let samples = samples_statistics(view);
+    Record {
+        least: samples.least,
+        greatest: samples.greatest,
+        sum: samples.sum,
+        x: Ratio::scaled(x, scalar),
+        y: Ratio::scaled(y, scalar),
+        inline: geometry_value(view, fields, "inline"),
+        crossline: geometry_value(view, fields, "crossline"),
+        offset: geometry_value(view, fields, "offset"),
+        sequence: i32_at(view, 5 - 1),
+        number: view.sample_count(),
+        scalar,
+        units: i16_at(view, 89 - 1),
+        interval: u16_at(view, 117 - 1),
+        samples_field: u16_at(view, 115 - 1),
+        has_known_name: has_known_name(view),
+    }
+}
+
+// The value at the place of a geometry name.
+fn geometry_value(view: &TraceView<'_>, fields: &FieldMap, name: &str) -> i32
+    requires map { fields.now.extensions ≡ (head_of view.now).extensions }
+    requires name { is_geometry name.now ≡ true }
+    ensures { result ≡ bound_value (head_of view.now) fields.now.pairs (bytes_of view.now) name.now }
+{
+    fields.geometry_stands();
+    match fields.place(name) {
+        Some(place) => signed_at(view, place),
+        // Each geometry name has a place.
+        None => 0,
+    }
+}
+
+// The coordinate scalar.
+fn scalar_of(view: &TraceView<'_>, fields: &FieldMap) -> i16
+    requires { fields.now.extensions ≡ (head_of view.now).extensions }
+    ensures { result ≡ bound_value (head_of view.now) fields.now.pairs (bytes_of view.now) (codes "scalar") }
+{
+    fields.geometry_stands();
+    match fields.place("scalar") {
+        Some(place) => short_at(view, place),
+        // Each geometry name has a place.
+        None => 0,
+    }
+}
+
+// The statistics of the samples, and zeros of none.
+fn samples_statistics(view: &TraceView<'_>) -> Statistics
+    ensures least { result.least ≡ least_of (samples_of (head_of view.now) (bytes_of view.now)) }
+    ensures greatest { result.greatest ≡ greatest_of (samples_of (head_of view.now) (bytes_of view.now)) }
+    ensures sum { result.sum ≡ int_sum (samples_of (head_of view.now) (bytes_of view.now)) }
+    ensures number { result.number ≡ length (samples_of (head_of view.now) (bytes_of view.now)) }
+    ensures range { HasRange result }
+{
+    match statistics_of(view) {
+        Some(statistics) => statistics,
+        None => Statistics {
+            least: 0,
+            greatest: 0,
+            sum: 0,
+            number: 0,
+        },
+    }
+}

@@ -25,7 +25,8 @@ program:
 # Speed: the program as ratios to cp and md5sum of the same file in the same run, the order of traces at three sizes, and the
 # running reports over a million records.
 bench: program
-	bash bench/run $(PROGRAM)
+	cd crates/record_bench && { rt run > out.log 2>&1 || true; }
+	bash bench/run $(PROGRAM) crates/record_bench/out/record_bench
 	cd crates/seq_bench && { rt run > out.log 2>&1 || true; }
 	bash bench/orders crates/seq_bench/out/seq_bench
 	cd crates/report_bench && { rt run > out.log 2>&1 || true; }

@@ -144,6 +144,35 @@ expect 'and the file loads again' 0 'traces 0\n' '' o.sgy --script script
 { for _ in $(seq 1200); do echo 'blank 1'; done; for _ in $(seq 1200); do echo 'delete 1'; done; } > script
 expect 'many traces in and out' 0 "$(for _ in $(seq 2400); do printf 'ok\\n'; done)" '' s.sgy --script script --out o.sgy
 differs 'leave the file as it was' s.sgy o.sgy ''
+# 100000 traces: edits at random, and then each undone, the last first
+{ head -c 3844 s.sgy | tail -c 244; } > part
+for _ in $(seq 5); do cat part part > more; mv more part; done
+{ head -c 3600 s.sgy; for _ in $(seq 3125); do cat part; done; } > many.sgy
+for p in 7 1031 99999; do put many.sgy $((3600 + 244 * (p - 1) + 188)) "$(printf %08x "$p")"; done
+RANDOM=11
+: > undone
+for _ in $(seq 2000); do
+    p=$((1 + (RANDOM * 32768 + RANDOM) % 100000)) q=$((1 + (RANDOM * 32768 + RANDOM) % 100000))
+    case $((RANDOM % 4)) in
+        0) echo "move $p $q"; undo="move $q $p" ;;
+        1) echo "copy $p $q"; undo="delete $q" ;;
+        2) echo "blank $p"; undo="delete $p" ;;
+        3) echo "copy $p 1"; echo "patch 1 1 $((RANDOM - 16384))"; echo "set 1 @189:4 $RANDOM"; undo='delete 1' ;;
+    esac
+    echo "$undo" >> undone
+done > script
+edits=$(wc -l < script)
+tac undone >> script
+edits=$((edits + 2000))
+"$program" many.sgy --script script --out o.sgy > answers 2> errors
+got=$?
+if [ "$got" = 0 ] && [ "$(grep -c '^ok$' answers)" = "$edits" ] && cmp -s many.sgy o.sgy; then tell 'edits at random undone in 100000 traces' ok; else tell 'edits at random undone in 100000 traces' "status $got"; fi
+head -n 1500 script > begun
+"$program" many.sgy --script begun --out begun.sgy > answers
+{ tail -n +1501 script; } > rest
+"$program" begun.sgy --script rest --out o.sgy > answers
+cmp -s many.sgy o.sgy && tell 'the same from a file that was saved among them' ok || tell 'the same from a file that was saved among them' 'another file'
+rm -f many.sgy begun.sgy o.sgy
 
 # ---- the frame holds
 printf 'set 1 @115:2u 4\nset 2 @115:2u 2\nset 3 @115:2u 65535\n' > script

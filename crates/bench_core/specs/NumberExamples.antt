@@ -22,7 +22,7 @@ small_limits = record { bytes = 4327; traces = 9; small = lit≤ tt }
 abbrev just_limits : Limits
 just_limits = record { bytes = 4328; traces = 9; small = lit≤ tt }
 
--- the number of samples counts last
+-- that there is no such trace is told before the number is judged
 pub resize-no_trace : resize_refusal (under volume_plain wide_limits) 4 (pos 0) ≡ Some (refusals.NoTrace 4 3)
 resize-no_trace = refl
 

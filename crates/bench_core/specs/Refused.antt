@@ -42,7 +42,7 @@ room_refusal v limits n =
 abbrev pub insert_refusal : Volume → Limits → ℕ → ℕ → Option Refusal
 insert_refusal v limits p n = option_or (no_place_for_trace v p) (room_refusal v limits n)
 
--- a sample from k on, so many, is none of the trace's n; the number named is at least n
+-- so many samples from k on go past the n of the trace; the number named is the greater of k and n
 abbrev pub no_samples : ℕ → ℕ → ℕ → Option Refusal
 no_samples n k many = if nat_lt n (k + many) then Some (refusals.NoSample (max k n) n) else None
 

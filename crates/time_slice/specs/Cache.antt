@@ -1,5 +1,5 @@
--- The slices that are kept: at most 8, each a sample number with its rows, the last asked first.
-use Rattle.std.specs.Prelude.{◌≡◌, ℕ, ◌+◌, ◌==◌, ◌&&◌, nat_le, nat_lt, Bool, not, List, ◌∷◌, All, map, take, filter, Option}
+-- The slices that are kept, at most as many as there is room for: each a sample number with its rows, the last asked first.
+use Rattle.std.specs.Prelude.{unwrap_or, ◌≡◌, ℕ, ◌+◌, ◌==◌, ◌&&◌, nat_le, nat_lt, Bool, not, List, ◌∷◌, All, map, take, filter, Option}
 use Rattle.std.specs.Map.{lookup}
 use Rattle.field_map.specs.Pairs.{Pairs}
 use Rattle.frame_cut.specs.declared.head.Head.{Head}
@@ -18,9 +18,10 @@ kept_numbers cache = map (λ e. e.0) cache
 abbrev pub kept_rows : ℕ → Cache → Option (List Row)
 kept_rows k cache = lookup (λ j. j == k) cache
 
--- what is kept after slice k was asked for and has these rows: it comes first, and the last of nine goes
-abbrev pub asked : ℕ → List Row → Cache → Cache
-asked k rows cache = take 8 ((k, rows) ∷ filter (λ e. not (e.0 == k)) cache)
+-- what is kept after slice k was asked for and answered with these rows, where there is room for so many: it comes first, and the last goes
+-- where there would be one too many. A kept slice is answered with the rows that are kept
+abbrev pub asked : ℕ → ℕ → List Row → Cache → Cache
+asked room k rows cache = take room ((k, unwrap_or (kept_rows k cache) rows) ∷ filter (λ e. not (e.0 == k)) cache)
 
 -- the number is that of one of so many samples from k on
 abbrev pub is_from : ℕ → ℕ → ℕ → Bool

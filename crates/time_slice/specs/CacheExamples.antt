@@ -18,12 +18,12 @@ three = (5, []) ∷ (1, row) ∷ (0, []) ∷ []
 abbrev eight : Cache
 eight = map (λ k. (k, [])) (8 ∷ 7 ∷ 6 ∷ 5 ∷ 4 ∷ 3 ∷ 2 ∷ 1 ∷ [])
 
--- a kept slice comes first again, with its new rows
-pub asked-again : asked 0 row three ≡ (0, row) ∷ (5, []) ∷ (1, row) ∷ []
+-- a kept slice comes first again, with the rows that are kept
+pub asked-again : asked 8 1 [] three ≡ (1, row) ∷ (5, []) ∷ (0, []) ∷ []
 asked-again = refl
 
 -- the ninth goes
-pub asked-ninth : kept_numbers (asked 9 row eight) ≡ 9 ∷ 8 ∷ 7 ∷ 6 ∷ 5 ∷ 4 ∷ 3 ∷ 2 ∷ []
+pub asked-ninth : kept_numbers (asked 8 9 row eight) ≡ 9 ∷ 8 ∷ 7 ∷ 6 ∷ 5 ∷ 4 ∷ 3 ∷ 2 ∷ []
 asked-ninth = refl
 
 -- samples 0 and 1 changed

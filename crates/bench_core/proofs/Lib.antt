@@ -9,3 +9,4 @@ pub mod TraceSteps
 mod CutAgain
 mod StepsAgain
 mod ReadsSet
+pub mod LiveLemmas

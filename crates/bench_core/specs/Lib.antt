@@ -19,3 +19,8 @@ pub mod Kept
 pub mod KeptExamples
 pub mod Reports
 pub mod ReportExamples
+pub mod NumberEdits
+pub mod NumberLaws
+pub mod ReportAnswers
+pub mod ReportQueries
+pub mod Live

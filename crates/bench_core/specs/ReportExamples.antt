@@ -1,11 +1,14 @@
 -- Reports of a small survey, worked by hand.
-use Rattle.std.specs.Prelude.{◌≡◌, [], Some, refl}
+use Rattle.std.specs.Prelude.{◌≡◌, [], ◌∷◌, pos, negsuc, Some, Ok, Err, refl}
 use Rattle.field_map.specs.Binding.{geometry_at_load}
 use Rattle.frame_cut.specs.declared.reading.Reading.TheVariants.{AsWritten}
 use Rattle.frame_cut.specs.SmallFiles.{wide_limits, volume_plain}
 use Rattle.trace_record.specs.Scaled.{scaled}
 use Rattle.trace_record.specs.SmallSurvey.{survey, trace_2}
-use Rattle.bench_core.specs.Reports.{records, head_facts, faults_in, geometry_in}
+use Rattle.bench_core.specs.Reports.{records, head_facts, faults_in, geometry_in, position_of}
+use Rattle.bench_core.specs.ReportAnswers as answers
+use Rattle.bench_core.specs.ReportQueries.{Geometry, Fold, Slice, report, report_looks}
+use Rattle.bench_core.specs.declared.ask_fault.AskFault.TheVariants.{NoTrace}
 use Rattle.bench_core.specs.State.{State}
 
 -- the survey's three traces in a file
@@ -16,7 +19,7 @@ pub records-plain : records loaded ≡ survey
 unfolding scaled
 records-plain = refl
 
-pub geometry-plain : geometry_in loaded 2 ≡ Some trace_2
+pub geometry-plain : geometry_in loaded 2 ≡ Some (position_of trace_2)
 unfolding scaled
 geometry-plain = refl
 
@@ -28,3 +31,22 @@ heads-plain = refl
 pub faults-plain : faults_in loaded ≡ []
 unfolding scaled
 faults-plain = refl
+
+pub report-no_trace : report loaded (Geometry 4) ≡ Err (NoTrace 4 3)
+report-no_trace = refl
+
+-- a cell that no trace has
+pub report-fold : report loaded (Fold (pos 10) (negsuc 0)) ≡ Ok (answers.Fold 0)
+unfolding scaled
+report-fold = refl
+
+-- no trace has a third sample
+pub report-slice : report loaded (Slice 2) ≡ Ok (answers.Slice [])
+report-slice = refl
+
+-- three looks, and none where the slice is kept
+pub looks-slice : report_looks volume_plain (7 ∷ []) (Slice 2) ≡ 3
+looks-slice = refl
+
+pub looks-kept : report_looks volume_plain (7 ∷ 2 ∷ []) (Slice 2) ≡ 0
+looks-kept = refl

@@ -81,9 +81,21 @@ totals_in s = totals_of (records s)
 abbrev pub statistics_in : State → ℕ → Option (Option Statistics)
 statistics_in s p = option_map (λ t. statistics_of (samples_of s.volume.head t)) (trace_of s.volume p)
 
--- the record of trace p, where there is one: its inline, crossline and offset, and x and y under its scalar
-abbrev pub geometry_in : State → ℕ → Option Facts
-geometry_in s p = option_map (record_of s.volume.head s.fields) (trace_of s.volume p)
+-- where a trace lies: its numbers as they stand, and its coordinates under its scalar
+pub record Position : Type 0 where
+  pub inline : ℤ
+  pub crossline : ℤ
+  pub offset : ℤ
+  pub x : Ratio
+  pub y : Ratio
+
+-- where the trace of this record lies
+abbrev pub position_of : Facts → Position
+position_of f = record { inline = f.inline; crossline = f.crossline; offset = f.offset; x = f.x; y = f.y }
+
+-- where trace p lies, if there is one
+abbrev pub geometry_in : State → ℕ → Option Position
+geometry_in s p = option_map (λ t. position_of (record_of s.volume.head s.fields t)) (trace_of s.volume p)
 
 -- ---- slices and faults
 

@@ -9,3 +9,4 @@ pub mod TextLemmas
 pub mod ScriptLemmas
 pub mod RunLemmas
 pub mod EndLemmas
+pub mod LanguageLemmas

@@ -31,29 +31,29 @@ numbers_of (word ∷ words) = option_and_then (λ x. option_map (λ xs. x ∷ xs
 -- ---- what may follow a command's word
 
 -- a command, from the words behind the first
-abbrev pub Reader : Type 0
-Reader = List (List ℕ) → Result Command LineFault
+abbrev pub Reader : Type 0 → Type 0
+Reader C = List (List ℕ) → Result C LineFault
 
 -- nothing
-abbrev pub alone : Command → Reader
+abbrev pub alone : {C : Type 0} → C → Reader C
 alone command [] = Ok command
 alone command (word ∷ words) = Err Words
 
 -- one word
-abbrev pub one : {A : Type 0} → (List ℕ → Option A) → (A → Command) → Reader
+abbrev pub one : {A C : Type 0} → (List ℕ → Option A) → (A → C) → Reader C
 one a command (v ∷ []) = ok_or (option_map command (a v)) Number
 one a command (v ∷ w ∷ words) = Err Words
 one a command [] = Err Words
 
 -- two words
-abbrev pub two : {A B : Type 0} → (List ℕ → Option A) → (List ℕ → Option B) → (A → B → Command) → Reader
+abbrev pub two : {A B C : Type 0} → (List ℕ → Option A) → (List ℕ → Option B) → (A → B → C) → Reader C
 two a b command (v ∷ w ∷ []) = ok_or (option_and_then (λ x. option_map (command x) (b w)) (a v)) Number
 two a b command (u ∷ v ∷ w ∷ words) = Err Words
 two a b command (v ∷ []) = Err Words
 two a b command [] = Err Words
 
 -- three words
-abbrev pub three : {A B C : Type 0} → (List ℕ → Option A) → (List ℕ → Option B) → (List ℕ → Option C) → (A → B → C → Command) → Reader
+abbrev pub three : {A B C D : Type 0} → (List ℕ → Option A) → (List ℕ → Option B) → (List ℕ → Option C) → (A → B → C → D) → Reader D
 three a b c command (u ∷ v ∷ w ∷ []) =
     ok_or (option_and_then (λ x. option_and_then (λ y. option_map (command x y) (c w)) (b v)) (a u)) Number
 three a b c command (t ∷ u ∷ v ∷ w ∷ words) = Err Words
@@ -62,12 +62,12 @@ three a b c command (w ∷ []) = Err Words
 three a b c command [] = Err Words
 
 -- one word, and then a text, whatever words that is
-abbrev pub one_and_text : {A : Type 0} → (List ℕ → Option A) → (A → Command) → Reader
+abbrev pub one_and_text : {A C : Type 0} → (List ℕ → Option A) → (A → C) → Reader C
 one_and_text a command (v ∷ words) = ok_or (option_map command (a v)) Number
 one_and_text a command [] = Err Words
 
 -- two words, and then one or more numbers
-abbrev pub two_and_numbers : {A B : Type 0} → (List ℕ → Option A) → (List ℕ → Option B) → (A → B → List ℤ → Command) → Reader
+abbrev pub two_and_numbers : {A B C : Type 0} → (List ℕ → Option A) → (List ℕ → Option B) → (A → B → List ℤ → C) → Reader C
 two_and_numbers a b command (u ∷ v ∷ w ∷ words) =
     ok_or (option_and_then (λ x. option_and_then (λ y. option_map (command x y) (numbers_of (w ∷ words))) (b v)) (a u)) Number
 two_and_numbers a b command (u ∷ v ∷ []) = Err Words
@@ -77,83 +77,83 @@ two_and_numbers a b command [] = Err Words
 -- ---- the commands
 
 -- `set P FIELD NUMBER`
-abbrev pub read_set : Reader
+abbrev pub read_set : Reader Command
 read_set = three position_of field_of number_of (λ p field value. Apply (edits.Set p field value))
 
 -- `get P FIELD`
-abbrev pub read_get : Reader
+abbrev pub read_get : Reader Command
 read_get = two position_of field_of (λ p field. Ask (queries.Get p field))
 
 -- `bin FIELD NUMBER`
-abbrev pub read_bin : Reader
+abbrev pub read_bin : Reader Command
 read_bin = two field_of number_of (λ field value. Apply (edits.SetBin field value))
 
 -- `getbin FIELD`
-abbrev pub read_getbin : Reader
+abbrev pub read_getbin : Reader Command
 read_getbin = one field_of (λ field. Ask (queries.GetBin field))
 
 -- `text L TEXT`: the text is what stands behind L in the rest of the line, further blanks included
-abbrev pub read_text : List ℕ → Reader
+abbrev pub read_text : List ℕ → Reader Command
 read_text rest = one_and_text position_of (λ q. Apply (edits.SetText q (text_behind_word rest)))
 
 -- `line B L`
-abbrev pub read_line : Reader
+abbrev pub read_line : Reader Command
 read_line = two position_of position_of (λ block q. Ask (queries.Line block q))
 
 -- `code B`
-abbrev pub read_code : Reader
+abbrev pub read_code : Reader Command
 read_code = one position_of (λ block. Ask (queries.Code block))
 
 -- `stanzas`
-abbrev pub read_stanzas : Reader
+abbrev pub read_stanzas : Reader Command
 read_stanzas = alone (Ask queries.Stanzas)
 
 -- `map NAME PLACE`
-abbrev pub read_map : Reader
+abbrev pub read_map : Reader Command
 read_map = two name_of place_of_word (λ name place. Apply (edits.Map name place))
 
 -- `unmap NAME`
-abbrev pub read_unmap : Reader
+abbrev pub read_unmap : Reader Command
 read_unmap = one name_of (λ name. Apply (edits.Unmap name))
 
 -- `fields`
-abbrev pub read_fields : Reader
+abbrev pub read_fields : Reader Command
 read_fields = alone (Ask queries.Fields)
 
 -- `count`
-abbrev pub read_count : Reader
+abbrev pub read_count : Reader Command
 read_count = alone (Ask queries.Count)
 
 -- `info`
-abbrev pub read_info : Reader
+abbrev pub read_info : Reader Command
 read_info = alone (Ask queries.Info)
 
 -- `sample P K`
-abbrev pub read_sample : Reader
+abbrev pub read_sample : Reader Command
 read_sample = two position_of position_of (λ p k. Ask (queries.Sample p k))
 
 -- `patch P K NUMBER ..`
-abbrev pub read_patch : Reader
+abbrev pub read_patch : Reader Command
 read_patch = two_and_numbers position_of position_of (λ p k values. Apply (edits.Patch p k values))
 
 -- `blank P`
-abbrev pub read_blank : Reader
+abbrev pub read_blank : Reader Command
 read_blank = one position_of (λ p. Apply (edits.Blank p))
 
 -- `copy Q P`
-abbrev pub read_copy : Reader
+abbrev pub read_copy : Reader Command
 read_copy = two position_of position_of (λ q p. Apply (edits.Copy q p))
 
 -- `delete P`
-abbrev pub read_delete : Reader
+abbrev pub read_delete : Reader Command
 read_delete = one position_of (λ p. Apply (edits.Delete p))
 
 -- `move P Q`
-abbrev pub read_move : Reader
+abbrev pub read_move : Reader Command
 read_move = two position_of position_of (λ a b. Apply (edits.Move a b))
 
 -- each command's word with what reads the words behind it, which stand in this rest of the line
-abbrev pub commands : List ℕ → List (List ℕ × Reader)
+abbrev pub commands : List ℕ → List (List ℕ × Reader Command)
 commands rest =
     (codes "set", read_set)
     ∷ (codes "get", read_get)
@@ -177,7 +177,7 @@ commands rest =
     ∷ []
 
 -- the reader's command, where the word has a reader
-abbrev pub read_by : Option Reader → List (List ℕ) → Result Command LineFault
+abbrev pub read_by : {C : Type 0} → Option (Reader C) → List (List ℕ) → Result C LineFault
 read_by None words = Err Unknown
 read_by (Some reader) words = reader words
 
@@ -185,14 +185,19 @@ read_by (Some reader) words = reader words
 abbrev pub command_of : List ℕ → List ℕ → Result Command LineFault
 command_of word rest = read_by (lookup (bytes_eq word) (commands rest)) (words_of rest)
 
-abbrev pub spoken : Result Command LineFault → Result (Option Command) LineFault
+abbrev pub spoken : {C : Type 0} → Result C LineFault → Result (Option C) LineFault
 spoken (Ok command) = Ok (Some command)
 spoken (Err fault) = Err fault
 
+-- what a line with these words gives, where this gives the command of a first word and of what stands behind it: nothing, a command,
+-- or the first fault
+abbrev pub words_by : {C : Type 0} → (List ℕ → List ℕ → Result C LineFault) → List ℕ → List (List ℕ) → Result (Option C) LineFault
+words_by command line [] = Ok None
+words_by command line (word ∷ words) = if is_note word then Ok None else spoken (command word (behind_word line))
+
 -- what a line with these words gives: nothing, a command, or the first fault
 abbrev pub words_result : List ℕ → List (List ℕ) → Result (Option Command) LineFault
-words_result line [] = Ok None
-words_result line (word ∷ words) = if is_note word then Ok None else spoken (command_of word (behind_word line))
+words_result line words = words_by command_of line words
 
 -- what a line gives: nothing, a command, or the first fault
 abbrev pub line_result : List ℕ → Result (Option Command) LineFault

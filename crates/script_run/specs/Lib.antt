@@ -12,3 +12,6 @@ pub mod Loading
 pub mod LineRuns
 pub mod Ends
 pub mod Examples
+pub mod ReportTexts
+pub mod ReportCommands
+pub mod ReportExamples

@@ -6,13 +6,15 @@
 //!
 //! [`parse_line`] reads one line, and takes memory only where its command holds a text or a list. [`run`] loads a volume,
 //! reads a script whole and runs its lines; it takes memory for both, and tells want of it as L16, P03 or E11. Short
-//! answers take none; a text or a list takes memory, and is answered by E11 where that is refused. `run` answers by [`RunEnd`], which is the whole report of a run.
+//! answers take none; a text or a list takes memory, and is answered by E11 where that is refused. `run` answers by [`RunEnd`], which
+//! is the whole report of a run. [`commands_stay`] does nothing: its contract is a law.
 #![tactic(auto)]
 
 mod answer_texts;
 mod command;
 mod cuts;
 mod fields;
+mod laws;
 mod line_fault;
 mod lines;
 mod lines_end;
@@ -34,6 +36,7 @@ mod whole_run;
 mod words;
 
 pub use crate::command::Command;
+pub use crate::laws::commands_stay;
 pub use crate::line_fault::LineFault;
 pub use crate::options::Options;
 pub use crate::parse::parse_line;

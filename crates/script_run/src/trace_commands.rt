@@ -1,5 +1,6 @@
 // The commands on samples and whole traces.
-ghost use Rattle.std.specs.Prelude.{◌≡◌, is_some};
+ghost use Rattle.std.specs.Prelude.{◌≡◌, is_some, if◌then◌else◌};
+ghost use Rattle.script_run.specs.declared.line_fault.LineFault.TheVariants.{OutOfMemory as no_memory, Number as no_number};
 ghost use Rattle.script_run.specs.Words.{words_of};
 ghost use Rattle.script_run.specs.Commands.{read_patch, read_blank, read_copy, read_delete, read_move, numbers_of, AreNumbersRead, IsRead};
 
@@ -73,20 +74,28 @@ fn are_numbers(text: &str) -> bool
     true
 }
 
-// The numbers that the words of the text are. Takes memory, but none where a word is no number: S03, else E11.
+// What is told where memory ran out in front of this rest: S03 comes before E11.
+fn fault_without_memory(rest: &str) -> LineFault
+    ensures { result ≡ if is_some (numbers_of (words_of rest.now)) then no_memory else no_number }
+{
+    if are_numbers(rest) {
+        LineFault::OutOfMemory
+    } else {
+        LineFault::Number
+    }
+}
+
+// The numbers that the words of the text are. Takes memory. S03 where a word is no number, else E11.
 fn numbers(alloc: Global, text: &str) -> Result<Listed<i128>, LineFault>
     ensures { AreNumbersRead (numbers_of (words_of text.now)) result }
 {
-    if !are_numbers(text) {
-        return Err(LineFault::Number);
-    }
     let mut values = Vec::new(alloc);
     let mut words = Words::new(text);
     'words: while let Some(word) = words.next() {
         match number(word) {
             Some(value) => {
                 if values.push(value).is_err() {
-                    return Err(LineFault::OutOfMemory);
+                    return Err(fault_without_memory(words.rest()));
                 }
             }
             None => return Err(LineFault::Number),

@@ -3,3 +3,4 @@ pub mod Laws
 pub mod Examples
 pub mod Cache
 pub mod CacheExamples
+pub mod CacheLaws

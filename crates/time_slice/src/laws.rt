@@ -1,4 +1,5 @@
 // Laws of slices, each the contract of a call that does nothing.
+ghost use Rattle.time_slice.specs.CacheLaws.{NumbersAfterAsked, NumbersAfterForgotten, AskedStaysRight};
 ghost use Rattle.time_slice.specs.Laws.{SliceIsSlice, AtMostOneSlice};
 
 /// The rows of a list of traces, in rising order, are a slice.
@@ -9,4 +10,19 @@ pub fn slice_is_slice()
 /// Two slices of a list of traces are the same.
 pub fn at_most_one_slice()
     ensures { AtMostOneSlice }
+{}
+
+/// After a slice was asked for, its number comes first among the kept ones.
+pub fn numbers_after_asked()
+    ensures { NumbersAfterAsked }
+{}
+
+/// After some samples changed, their numbers are no longer among the kept ones.
+pub fn numbers_after_forgotten()
+    ensures { NumbersAfterForgotten }
+{}
+
+/// Kept slices that are right stay so when one more is asked for and answered with its rows.
+pub fn asked_stays_right()
+    ensures { AskedStaysRight }
 {}

@@ -6,5 +6,8 @@
 mod laws;
 mod row;
 
-pub use crate::laws::{at_most_one_slice, slice_is_slice};
+pub use crate::laws::{
+    asked_stays_right, at_most_one_slice, numbers_after_asked, numbers_after_forgotten,
+    slice_is_slice,
+};
 pub use crate::row::Row;

@@ -1,4 +1,4 @@
-use Rattle.std.proofs.Common.{◌≡◌, ◌++◌, length, Option, List, ℤ, option_map}
+use Rattle.std.proofs.Common.{◌≡◌, ◌++◌, length, option_map}
 use Rattle.script_run.specs.Words.{words_of}
 use Rattle.script_run.specs.Commands.{numbers_of}
 use Rattle.script_run.proofs.trace_commands.numbers.Given as goal

@@ -164,7 +164,7 @@ pub record TextAccepted (block : List ℕ) (q : ℕ) (text : List ℕ) : Type 0 
   pub last : q ≤ 40
   pub line : text_fault (code_of block) (chars text) ≡ None
 
-no_fault : {X Y : Type 0} (o : Option X) (g : X → Y) → option_map g o ≡ None → o ≡ None
+pub no_fault : {X Y : Type 0} (o : Option X) (g : X → Y) → option_map g o ≡ None → o ≡ None
 no_fault None g e = refl
 no_fault (Some x) g e = absurd cc
 

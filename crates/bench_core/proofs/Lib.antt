@@ -10,3 +10,11 @@ mod CutAgain
 mod StepsAgain
 mod ReadsSet
 pub mod LiveLemmas
+mod Resizing
+mod OneTrace
+mod ResizeLaws
+mod Renumbering
+mod NumbersCutAgain
+mod SliceRows
+mod OtherNames
+mod KeptSlices

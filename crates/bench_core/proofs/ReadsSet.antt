@@ -37,12 +37,12 @@ use Rattle.bench_core.proofs.Sets.{Accepted, accepted, is_after, whole_trace}
 -- ---- what a splice shows
 
 -- bytes apart from it are as they were
-apart : (t new : List ℕ) (at k m : ℕ) → at + length new ≤ length t → (k + m ≤ at) ⊎ (at + length new ≤ k) → take m (drop k (splice t at (length new) new)) ≡ take m (drop k t)
+pub apart : (t new : List ℕ) (at k m : ℕ) → at + length new ≤ length t → (k + m ≤ at) ⊎ (at + length new ≤ k) → take m (drop k (splice t at (length new) new)) ≡ take m (drop k t)
 apart t new at k m inside (inl before) = slice_before t at (length new) new k m before (omega arith)
 apart t new at k m inside (inr behind) = slice_behind t at new k m behind inside
 
 -- at its place are the new bytes
-itself : (t new : List ℕ) (at : ℕ) → at + length new ≤ length t → take (length new) (drop at (splice t at (length new) new)) ≡ new
+pub itself : (t new : List ℕ) (at : ℕ) → at + length new ≤ length t → take (length new) (drop at (splice t at (length new) new)) ≡ new
 itself t new at inside =
     let rest : List ℕ = drop (at + length new) t in
     let front : length (take at t) ≡ at = length-take-le at t (omega arith) in
@@ -56,7 +56,7 @@ either : (a b : Bool) {P : Type 0} → (a ≡ true → P) → (b ≡ true → P)
 either true b f g e = f refl
 either false b f g e = g e
 
-sized : (n : ℕ) → is_size n ≡ true → IsSize n
+pub sized : (n : ℕ) → is_size n ≡ true → IsSize n
 sized n e =
     either _ _
     (either _ _
@@ -66,7 +66,7 @@ sized n e =
     (λ e4. inr (inr (inr (inl (eqb-true n 4 e4))))))
     (λ e8. inr (inr (inr (inr (eqb-true n 8 e8))))) e
 
-at_most_8 : (n : ℕ) → IsSize n → n ≤ 8
+pub at_most_8 : (n : ℕ) → IsSize n → n ≤ 8
 at_most_8 n (inl e) = omega arith
 at_most_8 n (inr (inl e)) = omega arith
 at_most_8 n (inr (inr (inl e))) = omega arith
@@ -92,7 +92,7 @@ by_length h (Some a) (Some b) n len e f =
     one_number a b (width h.format) n len first second
 
 -- at most 8 bytes that leave the length leave the number of extensions: they do not touch both it and a number of samples
-extensions_kept : (h : Head) (t new : List ℕ) (at : ℕ) → IsTrace h t → length new ≤ 8 → at + length new ≤ length t → trace_length h (splice t at (length new) new) ≡ Some (length t)
+pub extensions_kept : (h : Head) (t new : List ℕ) (at : ℕ) → IsTrace h t → length new ≤ 8 → at + length new ≤ length t → trace_length h (splice t at (length new) new) ≡ Some (length t)
     → extensions_of h (splice t at (length new) new) ≡ extensions_of h t
 extensions_kept h t new at is few inside exact = by (leb (at + length new) 396) (leb 398 at) refl refl
   where
@@ -153,11 +153,11 @@ replies w fields p f place t x there is e read =
     ∙ ap (λ (o : Option ℤ). or_fault o NoPlace answers.Value) read
 
 -- what is known of the volume that is read from the new bytes
-record IsMade (s : State) (p : ℕ) (place : Place) (x : ℤ) (v : Volume) : Type 0 where
+pub record IsMade (s : State) (p : ℕ) (place : Place) (x : ℤ) (v : Volume) : Type 0 where
   pub accepted : Accepted s.volume p place x
   pub same : v ≡ with_trace s.volume p (with_value s.volume.head (trace_at s.volume p) place x)
 
-made : (s : State) (p : ℕ) (f : Field) (place : Place) (x : ℤ) (v : Volume) → place_in_trace s.fields f ≡ Some place → IsCut (bytes_of s.volume) s.reading s.limits s.volume → refused s (Set p f x) ≡ None
+pub made : (s : State) (p : ℕ) (f : Field) (place : Place) (x : ℤ) (v : Volume) → place_in_trace s.fields f ≡ Some place → IsCut (bytes_of s.volume) s.reading s.limits s.volume → refused s (Set p f x) ≡ None
     → IsCut (bytes_after s.volume s.fields (Set p f x)) s.reading s.limits v → IsMade s p place x v
 made s p f place x v e cut none after =
     let w : Volume = with_trace s.volume p (with_value s.volume.head (trace_at s.volume p) place x) in
@@ -184,7 +184,7 @@ reads_what_was_set s p f x v cut none after = by (place_in_trace s.fields f) ref
 
 -- ---- the rest
 
-leaves : (v : Volume) (p : ℕ) (t : List ℕ) → 1 ≤ p → LeavesOthers v (with_trace v p t) p
+pub leaves : (v : Volume) (p : ℕ) (t : List ℕ) → 1 ≤ p → LeavesOthers v (with_trace v p t) p
 leaves v p t first = record {
   head = refl;
   text = refl;

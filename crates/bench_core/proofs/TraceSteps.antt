@@ -124,7 +124,7 @@ length-trace s p cut there =
     omega (arith, whole, (has_head (bytes_of v) s.reading s.limits v.head cut.parts.head).small, s.limits.small)
 
 -- and has no more samples than bytes
-width-pos : (f : Format) → 1 ≤ width f
+pub width-pos : (f : Format) → 1 ≤ width f
 width-pos Signed32 = lit≤ tt
 width-pos Signed16 = lit≤ tt
 width-pos Signed24 = lit≤ tt

@@ -32,7 +32,7 @@ high-zeros : (n : ℕ) → high_first (replicate n 0) ≡ 0
 high-zeros zero = refl
 high-zeros (suc n) = let rest = high-zeros n in omega arith
 
-zero-number : (o : Order) (n : ℕ) → unsigned o (replicate n 0) ≡ 0
+pub zero-number : (o : Order) (n : ℕ) → unsigned o (replicate n 0) ≡ 0
 zero-number Big n = high-zeros n
 zero-number Little n = low-zeros n
 

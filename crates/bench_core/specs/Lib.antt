@@ -24,3 +24,4 @@ pub mod NumberLaws
 pub mod ReportAnswers
 pub mod ReportQueries
 pub mod Live
+pub mod KeptLaws

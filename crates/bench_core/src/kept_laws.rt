@@ -1,0 +1,8 @@
+// What holds of the slices that are kept, as contracts of calls that do nothing.
+ghost use Rattle.bench_core.specs.KeptLaws.{KeptSlicesStay};
+
+/// After an edit that is not refused each slice whose number is still kept has the rows that it had before, so that what
+/// is kept need not be read again.
+pub fn kept_slices_stay()
+    ensures { KeptSlicesStay }
+{}

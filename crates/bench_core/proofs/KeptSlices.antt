@@ -11,6 +11,7 @@ use Rattle.field_map.specs.declared.map_fault.MapFault.TheVariants as faults
 use Rattle.field_map.specs.declared.place.Place.{Place}
 use Rattle.field_map.specs.Binding.{is_geometry, unbind_fault}
 use Rattle.field_map.specs.Pairs.{Pairs, place_of, bound, unbound}
+use Rattle.field_map.proofs.Geometry.{place-bound, place-removed}
 use Rattle.frame_cut.specs.declared.head.Head.{Head}
 use Rattle.frame_cut.specs.Cuts.{IsTrace, IsCut}
 use Rattle.frame_cut.specs.Frames.{trace_length}
@@ -34,7 +35,6 @@ use Rattle.bench_core.specs.State.{State}
 use Rattle.bench_core.specs.Steps.{IsAfter}
 use Rattle.bench_core.proofs.Accepted.{unless_so, patch_accepted}
 use Rattle.bench_core.proofs.HeaderEdits.{no_place, no_bin_place, no_fault, with_binary, bin_accepted, bin_is_after, with_text, text_accepted, text_is_after}
-use Rattle.bench_core.proofs.OtherNames.{place_of-bound, place_of-unbound}
 use Rattle.bench_core.proofs.Patches.{with_samples}
 use Rattle.bench_core.proofs.Places.{stands}
 use Rattle.bench_core.proofs.ReadsSet.{made, sized, at_most_8}
@@ -112,7 +112,8 @@ no_geometry name q g none = by (bytes_eq q name) refl
     by true e = let same : true ≡ false = sym g ∙ ap is_geometry ((bytes_eq-Decides q name).0 e) ∙ none in absurd cc
     by false e = e
 
-slice_renamed : (old new : State) (k : ℕ) (fields : Pairs) → new.volume ≡ old.volume → new.fields ≡ fields → ((q : List ℕ) → is_geometry q ≡ true → place_of fields q ≡ place_of old.fields q) → slice_in new k ≡ slice_in old k
+slice_renamed : (old new : State) (k : ℕ) (fields : Pairs) → new.volume ≡ old.volume → new.fields ≡ fields
+    → ((q : List ℕ) → is_geometry q ≡ true → place_of fields q ≡ place_of old.fields q) → slice_in new k ≡ slice_in old k
 slice_renamed old new k fields e f same =
     ap (λ (v : Volume). slice_of v.head new.fields k v.traces) e
     ∙ ap (λ (pairs : Pairs). slice_of old.volume.head pairs k old.volume.traces) f
@@ -145,11 +146,11 @@ kept_slices_stay old new (SetText q text) kept k cut has none after any =
 kept_slices_stay old new (Map name place) kept k cut has none after any =
     let free : is_geometry name ≡ false = kept_unless (is_geometry name) kept k any in
     slice_renamed old new k (bound old.fields name place) (one_volume old new (Map name place) old.volume after cut) after.fields
-    (λ q g. place_of-bound old.fields name place q (no_geometry name q g free))
+    (λ q g. place-bound old.fields name place q (no_geometry name q g free))
 kept_slices_stay old new (Unmap name) kept k cut has none after any =
     let free = unless_so (is_geometry name) faults.Geometry _ (no_fault (unbind_fault old.fields name) _ none) in
     slice_renamed old new k (unbound old.fields name) (one_volume old new (Unmap name) old.volume after cut) after.fields
-    (λ q g. place_of-unbound old.fields name q (no_geometry name q g free.0))
+    (λ q g. place-removed old.fields name q (no_geometry name q g free.0))
 kept_slices_stay old new (Patch p first values) kept k cut has none after any =
     let h : Head = old.volume.head in
     let t : List ℕ = trace_at old.volume p in

@@ -16,5 +16,4 @@ mod ResizeLaws
 mod Renumbering
 mod NumbersCutAgain
 mod SliceRows
-mod OtherNames
 mod KeptSlices

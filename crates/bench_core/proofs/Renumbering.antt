@@ -29,6 +29,7 @@ use Rattle.bench_core.specs.TraceEdits.{numbers, put_each, renumbered}
 use Rattle.bench_core.proofs.HeaderEdits.{same_refused, same_after, no_place}
 use Rattle.bench_core.proofs.OneTrace.{length-take-set}
 use Rattle.bench_core.proofs.Places.{place_inside}
+use Rattle.bench_core.proofs.StepsAgain.{IsRead}
 use Rattle.bench_core.proofs.Sets.{Accepted, accepted, is_after, cut_again, whole_trace, both, none_of_either}
 
 -- ---- other traces of the same lengths
@@ -55,7 +56,8 @@ refused_alike : (s : State) (ts : List (List ℕ)) (k : ℕ) (f : Field) (x : �
 refused_alike s ts k f x a = rw (a.count, a.ahead k (omega arith)) refl
 
 -- and its bytes lie where they lie in the old one
-put_alike : (v : Volume) (ts : List (List ℕ)) (k p : ℕ) (place : Place) (x : ℤ) (file : List ℕ) → IsAlike v.traces ts k → put_in_trace (record v { traces = ts }) p place x file ≡ put_in_trace v p place x file
+put_alike : (v : Volume) (ts : List (List ℕ)) (k p : ℕ) (place : Place) (x : ℤ) (file : List ℕ) → IsAlike v.traces ts k
+    → put_in_trace (record v { traces = ts }) p place x file ≡ put_in_trace v p place x file
 put_alike v ts k p place x file a =
     ap (λ (n : ℕ). splice file (length (front_of v) + n + 240 * place.extension + place.byte - 1) place.kind.size (bytes v.head.order place.kind x)) (a.starts (p - 1))
 
@@ -65,7 +67,9 @@ put_alike v ts k p place x file a =
 abbrev with_one : Head → List (List ℕ) → ℕ → Place → ℤ → List (List ℕ)
 with_one h ts k place x = set ts (k - 1) (with_value h (get_or ts (k - 1) []) place x)
 
-length-with_value : (s : State) (p : ℕ) (place : Place) (x : ℤ) → IsCut (bytes_of s.volume) s.reading s.limits s.volume → Accepted s.volume p place x → length (with_value s.volume.head (trace_at s.volume p) place x) ≡ length (trace_at s.volume p)
+-- the value leaves the trace its length
+length-with_value : (s : State) (p : ℕ) (place : Place) (x : ℤ) → IsCut (bytes_of s.volume) s.reading s.limits s.volume → Accepted s.volume p place x
+    → length (with_value s.volume.head (trace_at s.volume p) place x) ≡ length (trace_at s.volume p)
 length-with_value s p place x cut a =
     let h : Head = s.volume.head in
     let t : List ℕ = trace_at s.volume p in
@@ -75,17 +79,15 @@ length-with_value s p place x cut a =
     let inside = place_inside h t place (whole_trace s p cut a.first a.last) a.has in
     ap (λ (n : ℕ). length (splice t at n new)) (sym size) ∙ length-splice t at new (omega (arith, size, inside))
 
--- the volume is the cut of its own bytes
-abbrev IsRead : State → Type 0
-IsRead s = IsCut (bytes_of s.volume) s.reading s.limits s.volume
-
+-- the set is done, its bytes lie in the old volume's place, and the traces behind it are as they were
 record OneSet (s : State) (ts : List (List ℕ)) (k : ℕ) (f : Field) (place : Place) (x : ℤ) : Type 0 where
   pub step : Step {T = Unit {0}} (with_traces s ts) (Set k f x) (Ok tt) (with_traces s (with_one s.volume.head ts k place x))
   pub alike : IsAlike s.volume.traces (with_one s.volume.head ts k place x) (k + 1)
   pub read : IsRead (with_traces s (with_one s.volume.head ts k place x))
   pub bytes : bytes_of (with_traces s (with_one s.volume.head ts k place x)).volume ≡ put_in_trace s.volume k place x (bytes_of (with_traces s ts).volume)
 
-one_set : (s : State) (ts : List (List ℕ)) (k : ℕ) (f : Field) (place : Place) (x : ℤ) → place_in_trace s.fields f ≡ Some place → 1 ≤ k → IsAlike s.volume.traces ts k → IsRead (with_traces s ts) → refused s (Set k f x) ≡ None
+one_set : (s : State) (ts : List (List ℕ)) (k : ℕ) (f : Field) (place : Place) (x : ℤ) → place_in_trace s.fields f ≡ Some place → 1 ≤ k → IsAlike s.volume.traces ts k
+    → IsRead (with_traces s ts) → refused s (Set k f x) ≡ None
     → OneSet s ts k f place x
 one_set s ts k f place x e first a cut none =
     let mid : State = with_traces s ts in
@@ -116,7 +118,8 @@ record IsRenumbered (s : State) (ts : List (List ℕ)) (f : Field) (place : Plac
 abbrev valued : (ℕ → ℤ) → ℕ → ℕ → List (ℕ × ℤ)
 valued value k n = map (λ p. (p, value p)) (range_with_len k n)
 
-renumber_from : (s : State) (f : Field) (place : Place) (value : ℕ → ℤ) (n k : ℕ) (ts : List (List ℕ)) → place_in_trace s.fields f ≡ Some place → 1 ≤ k → IsAlike s.volume.traces ts k → IsRead (with_traces s ts)
+renumber_from : (s : State) (f : Field) (place : Place) (value : ℕ → ℤ) (n k : ℕ) (ts : List (List ℕ)) → place_in_trace s.fields f ≡ Some place → 1 ≤ k → IsAlike s.volume.traces ts k
+    → IsRead (with_traces s ts)
     → first_refused s (sets_of f (valued value k n)) ≡ None → (new : List (List ℕ)) × IsRenumbered s ts f place (valued value k n) new
 renumber_from s f place value zero k ts e first a cut none = (ts, record { steps = refl; read = cut; bytes = refl })
 renumber_from s f place value (suc n) k ts e first a cut none =
@@ -161,7 +164,8 @@ renumber_is_its_sets s a b f first step cut none = by (place_in_trace s.fields f
     known : RenumberAccepted s a b f first step
     known = renumber_accepted s a b f first step none
 
-    by : (o : Option Place) → place_in_trace s.fields f ≡ o → (new : State) × Steps s (sets_of f (numbers a b first step)) (all_done (numbers a b first step)) new × IsAfterNumber s (Renumber a b f first step) new
+    by : (o : Option Place) → place_in_trace s.fields f ≡ o
+        → (new : State) × Steps s (sets_of f (numbers a b first step)) (all_done (numbers a b first step)) new × IsAfterNumber s (Renumber a b f first step) new
     by None e =
         let k = known in
         let more : b + 1 - a ≡ suc (b - a) = omega (arith, k.high) in

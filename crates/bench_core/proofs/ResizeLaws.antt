@@ -107,7 +107,8 @@ bytes_resized v p m first last is can =
 abbrev pub with_resized : Volume → ℕ → ℕ → Volume
 with_resized v p m = with_trace v p (with_samples_to v.head m (trace_at v p))
 
-pub cut_resized : (s : State) (p : ℕ) (m : ℤ) → IsCut (bytes_of s.volume) s.reading s.limits s.volume → ResizeAccepted s p m → IsCut (resized s.volume p (nat_abs m)) s.reading s.limits (with_resized s.volume p (nat_abs m))
+pub cut_resized : (s : State) (p : ℕ) (m : ℤ) → IsCut (bytes_of s.volume) s.reading s.limits s.volume → ResizeAccepted s p m
+    → IsCut (resized s.volume p (nat_abs m)) s.reading s.limits (with_resized s.volume p (nat_abs m))
 cut_resized s p m cut a =
     let v : Volume = s.volume in
     let n : ℕ = nat_abs m in
@@ -122,7 +123,8 @@ cut_resized s p m cut a =
 
 -- ---- and is the volume that is read from the new bytes
 
-is_resized : (s : State) (p : ℕ) (m : ℤ) (v : Volume) → IsCut (bytes_of s.volume) s.reading s.limits s.volume → ResizeAccepted s p m → IsCut (resized s.volume p (nat_abs m)) s.reading s.limits v → v ≡ with_resized s.volume p (nat_abs m)
+is_resized : (s : State) (p : ℕ) (m : ℤ) (v : Volume) → IsCut (bytes_of s.volume) s.reading s.limits s.volume → ResizeAccepted s p m
+    → IsCut (resized s.volume p (nat_abs m)) s.reading s.limits v → v ≡ with_resized s.volume p (nat_abs m)
 is_resized s p m v cut a after = at_most_one_cut (resized s.volume p (nat_abs m)) s.reading s.limits v (with_resized s.volume p (nat_abs m)) after (cut_resized s p m cut a)
 
 pub resize_keeps_samples : ResizeKeepsSamples

@@ -74,7 +74,8 @@ extensions-by : (none : Bool) (x : ℕ) (o : Order) (t u : List ℕ) → ((k m :
 extensions-by true x o t u same = refl
 extensions-by false x o t u same = ap (λ (s : List ℕ). count_within x (unsigned o s)) (same 396 2 (omega arith))
 
-wide-by : (none : Bool) (o : Order) (t u : List ℕ) → ((k m : ℕ) → k + m ≤ cond none 240 480 → take m (drop k u) ≡ take m (drop k t)) → cond none 0 (unsigned o (take 4 (drop 376 u))) ≡ cond none 0 (unsigned o (take 4 (drop 376 t)))
+wide-by : (none : Bool) (o : Order) (t u : List ℕ) → ((k m : ℕ) → k + m ≤ cond none 240 480 → take m (drop k u) ≡ take m (drop k t))
+    → cond none 0 (unsigned o (take 4 (drop 376 u))) ≡ cond none 0 (unsigned o (take 4 (drop 376 t)))
 wide-by true o t u same = refl
 wide-by false o t u same = ap (unsigned o) (same 376 4 (omega arith))
 
@@ -128,11 +129,13 @@ plain h m t is can e f =
     let small : m ≤ 65535 = rw e at can.few in
     let written : short_count m ≡ m = grind (arith, nat_tests) in
     let shown : take 2 (drop 114 u) ≡ new = ap (λ (n : ℕ). take n (drop 114 u)) (sym size) ∙ itself t new 114 inside in
-    let read : header_unsigned h 0 115 2 u ≡ m = ap (unsigned h.order) shown ∙ ap (λ (n : ℕ). unsigned h.order (bytes h.order (record { size = 2; signed = false }) (pos n))) written ∙ reads_short h.order m small in
+    let read : header_unsigned h 0 115 2 u ≡ m =
+    ap (unsigned h.order) shown ∙ ap (λ (n : ℕ). unsigned h.order (bytes h.order (record { size = 2; signed = false }) (pos n))) written ∙ reads_short h.order m small in
     rw made (record {
       length = length-splice t 114 new inside;
       extensions = rw e refl;
-      samples = number-by h.fixed (eqb h.extensions 0) (header_unsigned h 1 137 4 u) (header_unsigned h 0 115 2 u) h.samples m can.loose (λ g. let no : true ≡ false = sym e ∙ g in absurd cc) (λ g. read) can.some;
+      samples = number-by h.fixed (eqb h.extensions 0) (header_unsigned h 1 137 4 u) (header_unsigned h 0 115 2 u) h.samples m can.loose
+          (λ g. let no : true ≡ false = sym e ∙ g in absurd cc) (λ g. read) can.some;
       behind = λ k j le. apart t new 114 k j inside (inr (omega (arith, size, le, front)));
     })
 
@@ -157,7 +160,8 @@ wide h m t is can e f =
     rw made (record {
       length = length-splice s 376 long there ∙ kept;
       extensions = rw e (ap (λ (b : List ℕ). count_within h.extensions (unsigned h.order b)) (both 396 2 (omega arith)));
-      samples = number-by h.fixed (eqb h.extensions 0) (header_unsigned h 1 137 4 u) (header_unsigned h 0 115 2 u) h.samples m can.loose (λ g. read) (λ g. let no : false ≡ true = sym e ∙ g in absurd cc) can.some;
+      samples = number-by h.fixed (eqb h.extensions 0) (header_unsigned h 1 137 4 u) (header_unsigned h 0 115 2 u) h.samples m can.loose
+          (λ g. read) (λ g. let no : false ≡ true = sym e ∙ g in absurd cc) can.some;
       behind = λ k j le. both k j (omega (arith, le, front));
     })
 
@@ -248,7 +252,8 @@ pub record IsResized (h : Head) (t : List ℕ) (m : ℕ) (u : List ℕ) : Type 0
 pub times-add : (w k d n : ℕ) → k + d ≡ n → w * k + w * d ≡ w * n
 times-add w k d n e = rw (sym e) (omega arith)
 
-length-by : (h : Head) (o : Option ℕ) (n m a len : ℕ) → option_map (λ e. length_with h e n) o ≡ Some len → a ≡ 240 * (1 + unwrap_or o 0) → option_map (λ e. length_with h e m) o ≡ Some (a + width h.format * m)
+length-by : (h : Head) (o : Option ℕ) (n m a len : ℕ) → option_map (λ e. length_with h e n) o ≡ Some len → a ≡ 240 * (1 + unwrap_or o 0)
+    → option_map (λ e. length_with h e m) o ≡ Some (a + width h.format * m)
 length-by h None n m a len e is = absurd cc
 length-by h (Some x) n m a len e is = rw is refl
 

@@ -41,7 +41,9 @@ pub record SameRow (h : Head) (fields other : Pairs) (k : ℕ) (t u : List ℕ) 
 
 row-by : (p : ℕ) (f g : Facts) (o : Option ℤ) → f.inline ≡ g.inline → f.crossline ≡ g.crossline → row_of p f o ≡ row_of p g o
 row-by p f g None e d = refl
-row-by p f g (Some v) e d = ap (λ (i : ℤ). record { inline = i; crossline = f.crossline; position = p; value = v } ∷ []) e ∙ ap (λ (c : ℤ). record { inline = g.inline; crossline = c; position = p; value = v } ∷ []) d
+row-by p f g (Some v) e d =
+    ap (λ (i : ℤ). record { inline = i; crossline = f.crossline; position = p; value = v } ∷ []) e
+    ∙ ap (λ (c : ℤ). record { inline = g.inline; crossline = c; position = p; value = v } ∷ []) d
 
 row-same : (h : Head) (fields other : Pairs) (k p : ℕ) (t u : List ℕ) → SameRow h fields other k t u → row_of p (record_of h fields u) (sample_of h u k) ≡ row_of p (record_of h other t) (sample_of h t k)
 row-same h fields other k p t u s =
@@ -57,7 +59,8 @@ rows-set h fields k p (t ∷ ts) (suc i) u s = ap (λ (rows : List Row). row_of 
 pub slice_of-set : (h : Head) (fields : Pairs) (k : ℕ) (ts : List (List ℕ)) (i : ℕ) (u : List ℕ) → SameRow h fields fields k (get_or ts i []) u → slice_of h fields k (set ts i u) ≡ slice_of h fields k ts
 slice_of-set h fields k ts i u s = ap (rising row_cmp) (rows-set h fields k 1 ts i u s)
 
-rows-bound : (h : Head) (fields other : Pairs) (k p : ℕ) (ts : List (List ℕ)) → place_of fields (codes "inline") ≡ place_of other (codes "inline") → place_of fields (codes "crossline") ≡ place_of other (codes "crossline")
+rows-bound : (h : Head) (fields other : Pairs) (k p : ℕ) (ts : List (List ℕ)) → place_of fields (codes "inline") ≡ place_of other (codes "inline")
+    → place_of fields (codes "crossline") ≡ place_of other (codes "crossline")
     → rows_from p (with_sample h fields k ts) ≡ rows_from p (with_sample h other k ts)
 rows-bound h fields other k p [] e d = refl
 rows-bound h fields other k p (t ∷ ts) e d =
@@ -66,7 +69,8 @@ rows-bound h fields other k p (t ∷ ts) e d =
     ∙ ap (λ (rows : List Row). row_of p (record_of h other t) (sample_of h t k) ++ rows) (rows-bound h fields other k (p + 1) ts e d)
 
 -- another map that binds the inline and the crossline to the same places
-pub slice_of-bound : (h : Head) (fields other : Pairs) (k : ℕ) (ts : List (List ℕ)) → place_of fields (codes "inline") ≡ place_of other (codes "inline") → place_of fields (codes "crossline") ≡ place_of other (codes "crossline")
+pub slice_of-bound : (h : Head) (fields other : Pairs) (k : ℕ) (ts : List (List ℕ)) → place_of fields (codes "inline") ≡ place_of other (codes "inline")
+    → place_of fields (codes "crossline") ≡ place_of other (codes "crossline")
     → slice_of h fields k ts ≡ slice_of h other k ts
 slice_of-bound h fields other k ts e d = ap (rising row_cmp) (rows-bound h fields other k 1 ts e d)
 
@@ -125,7 +129,8 @@ front_of-patched h t first xs is few j i le =
     slice_before t (samples_at h t + width h.format * first) (width h.format * length xs) (samples_bytes h.order h.format xs) j i (omega (arith, le, old.front)) (omega (arith, room))
 
 -- and each other sample
-pub sample_of-patched : (h : Head) (t : List ℕ) (first : ℕ) (xs : List ℤ) (k : ℕ) → IsTrace h t → first + length xs ≤ sample_count h t → is_from first (length xs) k ≡ false → sample_of h (with_samples h t first xs) k ≡ sample_of h t k
+pub sample_of-patched : (h : Head) (t : List ℕ) (first : ℕ) (xs : List ℤ) (k : ℕ) → IsTrace h t → first + length xs ≤ sample_count h t → is_from first (length xs) k ≡ false
+    → sample_of h (with_samples h t first xs) k ≡ sample_of h t k
 sample_of-patched h t first xs k is few apart_from =
     let w : ℕ = width h.format in
     let at : ℕ = samples_at h t + w * first in
@@ -136,14 +141,17 @@ sample_of-patched h t first xs k is few apart_from =
     let inside : at + length new ≤ length t = omega (arith, size, samples_inside h t first xs is few) in
     let front : SameFront h t u = front_of-patched h t first xs is few in
     sample_of-same h t u k (ap (λ (o : Option ℕ). unwrap_or o 0) (same_extensions h t u front)) (same_samples h t u front)
-    (λ there. ap (λ (s : List ℕ). take w (drop (samples_at h t + w * k) s)) same ∙ apart t new at (samples_at h t + w * k) w inside (beside (samples_at h t) w first (length xs) k at (length new) apart_from refl size))
+    (λ there. ap (λ (s : List ℕ). take w (drop (samples_at h t + w * k) s)) same
+    ∙ apart t new at (samples_at h t + w * k) w inside (beside (samples_at h t) w first (length xs) k at (length new) apart_from refl size))
 
 -- the place of a geometry name lies in the front of each trace
-in_front : (byte size extension x : ℕ) (kind : Bool) → (not (eqb byte 0 || ltb 240 (byte + size - 1) || ltb (cond (ltb 1 x) 1 x) extension) && kind) ≡ true → 240 * extension + byte - 1 + size ≤ cond (eqb x 0) 240 480
+in_front : (byte size extension x : ℕ) (kind : Bool) → (not (eqb byte 0 || ltb 240 (byte + size - 1) || ltb (cond (ltb 1 x) 1 x) extension) && kind) ≡ true
+    → 240 * extension + byte - 1 + size ≤ cond (eqb x 0) 240 480
 in_front byte size extension x kind e = grind (arith, nat_tests)
 
 -- so a trace with the same front has the same value of the name
-pub bound_value-front : (h : Head) (fields : Pairs) (t u : List ℕ) (name : List ℕ) → is_geometry name ≡ true → HasGeometry h.extensions fields → SameFront h t u → bound_value h fields u name ≡ bound_value h fields t name
+pub bound_value-front : (h : Head) (fields : Pairs) (t u : List ℕ) (name : List ℕ) → is_geometry name ≡ true → HasGeometry h.extensions fields → SameFront h t u
+    → bound_value h fields u name ≡ bound_value h fields t name
 bound_value-front h fields t u name g has front = by (place_of fields name) (has.stands name g)
   where
     by : (o : Option Place) → option_map_or (is_geometry_place h.extensions name) o false ≡ true → option_map_or (value_at h u) o (pos 0) ≡ option_map_or (value_at h t) o (pos 0)

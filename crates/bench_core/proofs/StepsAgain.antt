@@ -13,7 +13,7 @@ use Rattle.bench_core.specs.Steps.{IsAfter, StepUnless}
 use Rattle.bench_core.proofs.CutAgain.{stays_cut}
 
 -- the volume is the cut of its own bytes
-abbrev IsRead : State → Type 0
+abbrev pub IsRead : State → Type 0
 IsRead s = IsCut (bytes_of s.volume) s.reading s.limits s.volume
 
 itself : (s : State) → IsRead s → IsReadAlike s s

@@ -1,11 +1,12 @@
 -- How long a volume is once a trace of it is changed, put in, taken out or moved.
 use Rattle.std.proofs.Common.{◌≡◌, ℕ, suc, zero, ◌+◌, ◌*◌, ◌<◌, ◌≤◌, List, [], ◌∷◌, ◌++◌, length, take, drop, set, get_or, refl, ap, sym, ◌∙◌, arith, length-append, length-take, length-drop}
-use Rattle.std.proofs.lemmas.List.{take-append-drop, set_split}
+use Rattle.std.proofs.lemmas.List.{take-append-drop, set_split, set-get_or}
 use Rattle.std.proofs.lemmas.List.Folds.{concat-append}
 use Rattle.std.specs.List.{concat, insert, remove}
 use Rattle.std.specs.Prelude.{slice_index_or}
 use Rattle.frame_cut.specs.Splice.{splice}
-use Rattle.frame_cut.specs.Volume.{Volume, front_of, bytes_of}
+use Rattle.frame_cut.specs.Volume.{Volume, bytes_of}
+use Rattle.frame_cut.proofs.Edits.{length-bytes}
 use Rattle.edit_overlay.specs.Each.{put_each_at}
 use Rattle.edit_overlay.proofs.Pieces.{length-splice}
 
@@ -19,13 +20,8 @@ total-append xs ys = ap (λ (s : List ℕ). length s) (concat-append xs ys) ∙ 
 total-around : (xs : List (List ℕ)) (t : List ℕ) (ys : List (List ℕ)) → total (xs ++ t ∷ ys) ≡ total xs + (length t + total ys)
 total-around xs t ys = total-append xs (t ∷ ys) ∙ ap (λ (n : ℕ). total xs + n) (length-append t (concat ys))
 
-set-itself : (ts : List (List ℕ)) (i : ℕ) → set ts i (get_or ts i []) ≡ ts
-set-itself [] i = refl
-set-itself (t ∷ ts) zero = refl
-set-itself (t ∷ ts) (suc i) = ap (λ (x : List (List ℕ)). t ∷ x) (set-itself ts i)
-
 total-parts : (ts : List (List ℕ)) (i : ℕ) → i < length ts → total ts ≡ total (take i ts) + (length (get_or ts i []) + total (drop (suc i) ts))
-total-parts ts i h = ap (λ (x : List (List ℕ)). total x) (sym (set-itself ts i) ∙ set_split ts i (get_or ts i []) h) ∙ total-around (take i ts) (get_or ts i []) (drop (suc i) ts)
+total-parts ts i h = ap (λ (x : List (List ℕ)). total x) (sym (set-get_or ts i []) ∙ set_split ts i (get_or ts i []) h) ∙ total-around (take i ts) (get_or ts i []) (drop (suc i) ts)
 
 pub total-set : (ts : List (List ℕ)) (i : ℕ) (t : List ℕ) → i < length ts → total (set ts i t) + length (get_or ts i []) ≡ total ts + length t
 total-set ts i t h = omega (arith, ap (λ (x : List (List ℕ)). total x) (set_split ts i t h) ∙ total-around (take i ts) t (drop (suc i) ts), total-parts ts i h)
@@ -53,10 +49,6 @@ total-put_each (t ∷ ts) zero at size (b ∷ bs) (suc n) some e room =
     let same : length (splice t at size part) ≡ length t = ap (λ (m : ℕ). length (splice t at m part)) (sym whole) ∙ length-splice t at part here in
     let others = total-put_each ts zero at size rest n some less (λ k h. let next : 0 + suc k ≡ suc (0 + k) = omega arith in rw next at (room (suc k) (omega (arith, h)))) in
     omega (arith, same, others, length-append (splice t at size part) (concat (put_each_at ts zero at size rest)), length-append t (concat ts))
-
--- how long a file is
-length-bytes : (v : Volume) → length (bytes_of v) ≡ length (front_of v) + total v.traces + length (concat v.tail)
-length-bytes v = length-append (front_of v ++ concat v.traces) (concat v.tail) ∙ ap (λ (n : ℕ). n + length (concat v.tail)) (length-append (front_of v) (concat v.traces))
 
 -- a file with other traces is longer by as much as its traces are
 pub length-with : (v : Volume) (ts : List (List ℕ)) → length (bytes_of (record v { traces = ts })) + total v.traces ≡ length (bytes_of v) + total ts

@@ -38,7 +38,12 @@ place-beside (e ∷ es) n p q h = go (bytes_eq n e.0) refl (bytes_eq q e.0) refl
     go false g true k rest = rw (g, k) refl
     go false g false k rest = rw (g, k) rest
 
-place-removed : (es : Pairs) (n q : List ℕ) → bytes_eq q n ≡ false → place_of (remove_entry (bytes_eq n) es) q ≡ place_of es q
+-- a name that is bound leaves where another stands
+pub place-bound : (es : Pairs) (n : List ℕ) (p : Place) (q : List ℕ) → bytes_eq q n ≡ false → place_of (bound es n p) q ≡ place_of es q
+place-bound es n p q h = rw (← insert_entry-bound es n p) (place-beside es n p q h)
+
+-- and so does one that is taken out
+pub place-removed : (es : Pairs) (n q : List ℕ) → bytes_eq q n ≡ false → place_of (remove_entry (bytes_eq n) es) q ≡ place_of es q
 place-removed [] n q h = refl
 place-removed (e ∷ es) n q h = go (bytes_eq n e.0) refl (bytes_eq q e.0) refl (place-removed es n q h)
   where

@@ -1,7 +1,7 @@
 -- What edits do to a file that is cut: it stays cut, and its bytes are spliced.
 use Rattle.std.proofs.Common.{◌≡◌, ℕ, zero, suc, ◌+◌, ◌*◌, ◌<◌, ◌≤◌, List, [], ◌∷◌, ◌++◌, length, take, drop, set, get_or, refl, sym, ap, ◌∙◌, arith, append_assoc, Some, Ok, All, Option, append-nil, subst}
 use Rattle.std.specs.List.{concat}
-use Rattle.std.proofs.lemmas.List.{length-append, length-set, drop_all, length-take, length-take-le, length-drop, take-append-drop, take-append-le, drop-append-le}
+use Rattle.std.proofs.lemmas.List.{length-append, length-set, drop_all, length-take, length-take-le, length-drop, take-append-drop, take-append-le, drop-append-le, set-get_or}
 use Rattle.std.proofs.lemmas.List.Elements.{All-set, All-take, All-drop, All-append, All-cons, All-get_or, recursion_from_All}
 use Rattle.std.proofs.Math.Seq.{take-append-add, drop-append-add}
 use Rattle.frame_cut.specs.declared.head.Head.{Head}
@@ -88,13 +88,8 @@ concat-set [] p u h = absurd (omega arith)
 concat-set (t ∷ ts) zero u h = refl
 concat-set (t ∷ ts) (suc p) u h = ap (λ (s : List ℕ). t ++ s) (concat-set ts p u (omega arith)) ∙ sym (append_assoc t (concat (take p ts)) (u ++ concat (drop (suc p) ts)))
 
-set-itself : (ts : List (List ℕ)) (p : ℕ) → set ts p (get_or ts p []) ≡ ts
-set-itself [] p = refl
-set-itself (t ∷ ts) zero = refl
-set-itself (t ∷ ts) (suc p) = ap (λ (s : List (List ℕ)). t ∷ s) (set-itself ts p)
-
 concat-split : (ts : List (List ℕ)) (p : ℕ) → p < length ts → concat ts ≡ concat (take p ts) ++ (get_or ts p [] ++ concat (drop (suc p) ts))
-concat-split ts p h = ap (λ (s : List (List ℕ)). concat s) (sym (set-itself ts p)) ∙ concat-set ts p (get_or ts p []) h
+concat-split ts p h = ap (λ (s : List (List ℕ)). concat s) (sym (set-get_or ts p [])) ∙ concat-set ts p (get_or ts p []) h
 
 -- what stands in front of trace p
 abbrev before : Volume → ℕ → List ℕ
@@ -155,7 +150,7 @@ bytes_with_removed v p h =
 -- ---- and the file stays cut
 
 -- how long a file is
-length-bytes : (v : Volume) → length (bytes_of v) ≡ length (front_of v) + length (concat v.traces) + length (concat v.tail)
+pub length-bytes : (v : Volume) → length (bytes_of v) ≡ length (front_of v) + length (concat v.traces) + length (concat v.tail)
 length-bytes v = length-append (front_of v ++ concat v.traces) (concat v.tail) ∙ ap (λ (n : ℕ). n + length (concat v.tail)) (length-append (front_of v) (concat v.traces))
 
 -- a file that is cut is within the limit

@@ -1,5 +1,7 @@
--- The numbers of the slices that are kept, at most 8, the last asked first. None is kept after a load.
+-- The numbers of the slices that are kept, at most 8, the last asked first. None is kept after a load, and a refused edit or query leaves
+-- them as they are.
 use Rattle.std.specs.Prelude.{ℕ, ◌==◌, ◌&&◌, Bool, not, ℤ, List, [], ◌∷◌, length, take, filter, codes, Option, Some, None, if◌then◌else◌}
+use Rattle.std.specs.List.{list_any}
 use Rattle.std.specs.Ordering.{int_eq}
 use Rattle.field_map.specs.declared.place.Place.{Place}
 use Rattle.field_map.specs.Binding.{is_geometry}
@@ -10,9 +12,14 @@ use Rattle.trace_record.specs.OfTrace.{bound_value}
 use Rattle.time_slice.specs.Cache.{is_from}
 use Rattle.bench_core.specs.declared.edit.Edit.{Edit}
 use Rattle.bench_core.specs.declared.edit.Edit.TheVariants.{Set, SetBin, SetText, Map, Unmap, Patch, Blank, Copy, Delete, Move}
+use Rattle.bench_core.specs.declared.query.Query.{Query}
 use Rattle.bench_core.specs.Places.{place_in_trace}
 use Rattle.bench_core.specs.Refused.{with_value}
 use Rattle.bench_core.specs.State.{State}
+
+-- the slice with the number is kept
+abbrev pub is_kept : ℕ → List ℕ → Bool
+is_kept k kept = list_any (λ j. j == k) kept
 
 -- the numbers kept after a load
 abbrev pub kept_after_load : List ℕ
@@ -21,6 +28,10 @@ kept_after_load = []
 -- the numbers kept after slice k was answered: k comes first, and the last of nine goes
 abbrev pub kept_after_slice : ℕ → List ℕ → List ℕ
 kept_after_slice k kept = take 8 (k ∷ filter (λ j. not (j == k)) kept)
+
+-- the numbers kept after a query of the headers, of the text or of one sample: as they were
+abbrev pub kept_after_query : Query → List ℕ → List ℕ
+kept_after_query query kept = kept
 
 -- two traces have one value of the name
 abbrev pub same_bound : Head → Pairs → List ℕ → List ℕ → List ℕ → Bool

@@ -1,4 +1,4 @@
--- Two edits that have no bodies yet: another number of samples of a trace, and a field of many traces counted up.
+-- Two edits: another number of samples of a trace, and a field of many traces counted up.
 use Rattle.std.specs.Prelude.{◌≡◌, ℕ, ◌+◌, ◌-◌, ◌*◌, nat_abs, ℤ, List, [], ◌∷◌, Option, Some, None, Result, Ok, Err}
 use Rattle.std.specs.Option.{option_map_or, option_or}
 use Rattle.field_map.specs.Pairs.{Pairs}
@@ -55,7 +55,7 @@ NumberStep old edit reply new = NumberStepUnless (number_refused old edit) old e
 
 -- ---- what they cost, and what they leave of the kept slices
 
--- twice the traces a to b, and none where one of the two is no trace
+-- twice the traces a to b; none where a is no trace, or b is none of those from a on
 abbrev pub renumber_looks : Option Refusal → ℕ → ℕ → ℕ
 renumber_looks (Some refusal) a b = 0
 renumber_looks None a b = 2 * (b + 1 - a)

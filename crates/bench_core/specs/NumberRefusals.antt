@@ -1,4 +1,4 @@
--- The first refusal of the edits that have no bodies yet: another number of samples of a trace, and a field of many traces.
+-- The first refusal of another number of samples of a trace, and of a field of many traces.
 use Rattle.std.specs.Prelude.{ℕ, ◌==◌, ◌&&◌, nat_le, nat_lt, nat_abs, int_lt, Bool, not, ℤ, pos, List, [], ◌∷◌, length, map, Option, Some, None, if◌then◌else◌}
 use Rattle.std.specs.Option.{option_or}
 use Rattle.frame_cut.specs.declared.head.Head.{Head}

@@ -7,11 +7,11 @@ use Rattle.grid_live.specs.declared.line.Line.{Line}
 use Rattle.grid_live.specs.declared.times.Times.{Times}
 use Rattle.fault_live.specs.declared.fault.Fault.{Fault}
 use Rattle.time_slice.specs.declared.row.Row.{Row}
-use Rattle.bench_core.specs.Reports.{Position}
+use Rattle.bench_core.specs.Reports.{Location}
 
 -- an answer about the survey or its samples
 pub data ReportAnswer : Type 0 where
-  Geometry : Position → ReportAnswer
+  Geometry : Location → ReportAnswer
   -- none of a trace without samples
   Stat : Option Statistics → ReportAnswer
   Fold : ℕ → ReportAnswer

@@ -5,7 +5,7 @@ use Rattle.frame_cut.specs.declared.reading.Reading.TheVariants.{AsWritten}
 use Rattle.frame_cut.specs.SmallFiles.{wide_limits, volume_plain}
 use Rattle.trace_record.specs.Scaled.{scaled}
 use Rattle.trace_record.specs.SmallSurvey.{survey, trace_2}
-use Rattle.bench_core.specs.Reports.{records, head_facts, faults_in, geometry_in, position_of}
+use Rattle.bench_core.specs.Reports.{records, head_facts, faults_in, geometry_in, location_of}
 use Rattle.bench_core.specs.ReportAnswers as answers
 use Rattle.bench_core.specs.ReportQueries.{Geometry, Fold, Slice, report, report_looks}
 use Rattle.bench_core.specs.declared.ask_fault.AskFault.TheVariants.{NoTrace}
@@ -19,7 +19,7 @@ pub records-plain : records loaded ≡ survey
 unfolding scaled
 records-plain = refl
 
-pub geometry-plain : geometry_in loaded 2 ≡ Some (position_of trace_2)
+pub geometry-plain : geometry_in loaded 2 ≡ Some (location_of trace_2)
 unfolding scaled
 geometry-plain = refl
 

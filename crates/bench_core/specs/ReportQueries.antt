@@ -1,4 +1,4 @@
--- The queries about the survey and its samples, which have no bodies yet.
+-- The queries about the survey and its samples.
 use Rattle.std.specs.Prelude.{◌≡◌, ◌⊎◌, ℕ, ◌==◌, ℤ, List, IsOk, Option, Some, None, Result, Ok, Err, if◌then◌else◌}
 use Rattle.std.specs.List.{list_any}
 use Rattle.frame_cut.specs.Traces.{count_of}
@@ -6,7 +6,7 @@ use Rattle.frame_cut.specs.Volume.{Volume}
 use Rattle.range_stats.specs.declared.which.Which.{Which}
 use Rattle.bench_core.specs.declared.ask_fault.AskFault.{AskFault}
 use Rattle.bench_core.specs.declared.ask_fault.AskFault.TheVariants.{NoTrace, OutOfMemory}
-use Rattle.bench_core.specs.Kept.{kept_after_slice}
+use Rattle.bench_core.specs.Kept.{is_kept, kept_after_slice}
 use Rattle.bench_core.specs.Reports as reports
 use Rattle.bench_core.specs.ReportAnswers as answers
 use Rattle.bench_core.specs.ReportAnswers.{ReportAnswer}
@@ -86,7 +86,7 @@ report_looks v kept Crosslines = 0
 report_looks v kept Histogram = 0
 report_looks v kept (Range w) = 0
 report_looks v kept Totals = 0
-report_looks v kept (Slice k) = if list_any (λ j. j == k) kept then 0 else count_of v
+report_looks v kept (Slice k) = if is_kept k kept then 0 else count_of v
 report_looks v kept Faults = 0
 
 -- the numbers kept after the query was answered

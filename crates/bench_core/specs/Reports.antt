@@ -82,7 +82,7 @@ abbrev pub statistics_in : State → ℕ → Option (Option Statistics)
 statistics_in s p = option_map (λ t. statistics_of (samples_of s.volume.head t)) (trace_of s.volume p)
 
 -- where a trace lies: its numbers as they stand, and its coordinates under its scalar
-pub record Position : Type 0 where
+pub record Location : Type 0 where
   pub inline : ℤ
   pub crossline : ℤ
   pub offset : ℤ
@@ -90,12 +90,12 @@ pub record Position : Type 0 where
   pub y : Ratio
 
 -- where the trace of this record lies
-abbrev pub position_of : Facts → Position
-position_of f = record { inline = f.inline; crossline = f.crossline; offset = f.offset; x = f.x; y = f.y }
+abbrev pub location_of : Facts → Location
+location_of f = record { inline = f.inline; crossline = f.crossline; offset = f.offset; x = f.x; y = f.y }
 
 -- where trace p lies, if there is one
-abbrev pub geometry_in : State → ℕ → Option Position
-geometry_in s p = option_map (λ t. position_of (record_of s.volume.head s.fields t)) (trace_of s.volume p)
+abbrev pub geometry_in : State → ℕ → Option Location
+geometry_in s p = option_map (λ t. location_of (record_of s.volume.head s.fields t)) (trace_of s.volume p)
 
 -- ---- slices and faults
 

@@ -1,5 +1,4 @@
--- What edits of the number of samples of a trace, and of a field of many traces, make of a file's bytes: the meaning of edits
--- that have no bodies yet. Traces are counted from 1.
+-- What edits of the number of samples of a trace, and of a field of many traces, make of a file's bytes. Traces are counted from 1.
 use Rattle.std.specs.Prelude.{ℕ, ◌+◌, ◌-◌, ◌*◌, min, nat_lt, false, ℤ, pos, ◌+ℤ◌, ◌*ℤ◌, List, [], ◌∷◌, map, replicate, if◌then◌else◌}
 use Rattle.std.specs.List.{range_with_len}
 use Rattle.num_order.specs.Number.{bytes}

@@ -2,7 +2,8 @@
 ghost use Rattle.bench_core.specs.KeptLaws.{KeptSlicesStay};
 
 /// After an edit that is not refused each slice whose number is still kept has the rows that it had before, so that what
-/// is kept need not be read again.
+/// is kept need not be read again. The field map keeps the geometry names at places that each trace has, as that of a
+/// [`Bench`](crate::Bench) does.
 pub fn kept_slices_stay()
     ensures { KeptSlicesStay }
 {}

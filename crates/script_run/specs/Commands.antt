@@ -185,6 +185,7 @@ read_by (Some reader) words = reader words
 abbrev pub command_of : List ℕ → List ℕ → Result Command LineFault
 command_of word rest = read_by (lookup (bytes_eq word) (commands rest)) (words_of rest)
 
+-- a command that was read
 abbrev pub spoken : {C : Type 0} → Result C LineFault → Result (Option C) LineFault
 spoken (Ok command) = Ok (Some command)
 spoken (Err fault) = Err fault

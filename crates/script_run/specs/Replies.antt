@@ -18,6 +18,7 @@ pub record Printed : Type 0 where
 abbrev pub nothing : Printed
 nothing = record { text = []; is_refusal = false }
 
+-- a line that prints a refusal
 abbrev pub refusal : List ℕ → Printed
 refusal text = record { text = refused text; is_refusal = true }
 

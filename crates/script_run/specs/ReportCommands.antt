@@ -1,5 +1,5 @@
--- The whole script language: the commands that have bodies, another number of samples of a trace, a field of many traces, and
--- the reports.
+-- The whole script language: the commands of `Command`, another number of samples of a trace, a field of many traces, and the
+-- reports.
 use Rattle.std.specs.Prelude.{◌≡◌, ◌⊎◌, ℕ, not, List, [], ◌∷◌, ◌++◌, map, bytes_eq, codes, Option, Some, None, option_map, option_and_then, ok_or, Result, Ok, Err, if◌then◌else◌}
 use Rattle.std.specs.Map.{lookup}
 use Rattle.std.specs.Str.{is_utf8}
@@ -23,9 +23,11 @@ use Rattle.script_run.specs.Words.{words_of}
 
 -- a command of the whole language
 pub data AnyCommand : Type 0 where
-  -- one that has a body
-  Held : Command → AnyCommand
+  -- one of those that `Command` has
+  Known : Command → AnyCommand
+  -- another number of samples of a trace, or a field of many traces
   Alter : NumberEdit → AnyCommand
+  -- a query about the survey or its samples
   Report : ReportQuery → AnyCommand
 
 -- ---- what may follow their words
@@ -95,14 +97,14 @@ further_commands =
     ∷ (codes "faults", alone (Report queries.Faults))
     ∷ []
 
--- a command that has a body, as one of the whole language
-abbrev pub held : Result Command LineFault → Result AnyCommand LineFault
-held (Ok command) = Ok (Held command)
-held (Err fault) = Err fault
+-- a command of `Command`, as one of the whole language
+abbrev pub known : Result Command LineFault → Result AnyCommand LineFault
+known (Ok command) = Ok (Known command)
+known (Err fault) = Err fault
 
 -- each command's word with what reads the words behind it, which stand in this rest of the line
 abbrev pub all_commands : List ℕ → List (List ℕ × Reader AnyCommand)
-all_commands rest = map (λ c. (c.0, λ words. held (c.1 words))) (commands rest) ++ further_commands
+all_commands rest = map (λ c. (c.0, λ words. known (c.1 words))) (commands rest) ++ further_commands
 
 -- the command of a first word and of what stands behind it
 abbrev pub any_command_of : List ℕ → List ℕ → Result AnyCommand LineFault
@@ -114,9 +116,9 @@ any_line_result line = if not (is_utf8 line) then Err NotText else words_by any_
 
 -- ---- want of memory
 
--- a command that holds a text or a list
+-- a command of the whole language that holds a text or a list
 abbrev pub AnyHoldsMemory : AnyCommand → Type 0
-AnyHoldsMemory (Held command) = HoldsMemory command
+AnyHoldsMemory (Known command) = HoldsMemory command
 AnyHoldsMemory (Alter (numbers.Resize p m)) = ⊥
 AnyHoldsMemory (Alter (numbers.Renumber a b field first step)) = IsName field
 AnyHoldsMemory (Report query) = ⊥
@@ -135,7 +137,7 @@ IsAnyParsed line result = (result ≡ any_line_result line) ⊎ ((result ≡ Err
 
 -- a command with what it prints; a reply to a report is its answer, or want of memory in place of an answer that is a list
 abbrev pub AnyCommandStep : State → AnyCommand → Printed → State → Type 0
-AnyCommandStep old (Held command) printed new = CommandStep old command printed new
+AnyCommandStep old (Known command) printed new = CommandStep old command printed new
 AnyCommandStep old (Alter edit) printed new = (reply : Result (Unit {0}) Refusal) × NumberStep old edit reply new × (printed ≡ edit_printed reply)
 AnyCommandStep old (Report query) printed new = (reply : ReportReply) × IsReportReply old query reply × (printed ≡ report_printed reply) × (new ≡ old)
 
@@ -150,8 +152,8 @@ abbrev pub AnyLineStep : State → List ℕ → Printed → State → Type 0
 AnyLineStep old line printed new =
     (read : Result (Option AnyCommand) LineFault) × IsAnyParsed line read × AnyReadStep old read printed new
 
--- ---- the language that there is
+-- ---- the commands of `Command`
 
--- a line that is a command now is that command in the whole language
+-- a line that is one of them is that command in the whole language
 abbrev pub CommandsStay : Type 0
-CommandsStay = (line : List ℕ) (command : Command) → line_result line ≡ Ok (Some command) → any_line_result line ≡ Ok (Some (Held command))
+CommandsStay = (line : List ℕ) (command : Command) → line_result line ≡ Ok (Some command) → any_line_result line ≡ Ok (Some (Known command))

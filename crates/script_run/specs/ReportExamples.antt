@@ -13,7 +13,7 @@ use Rattle.bench_core.specs.ReportQueries as queries
 use Rattle.bench_core.specs.ReportAnswers as answers
 use Rattle.script_run.specs.declared.command.Command.TheVariants.{Apply}
 use Rattle.script_run.specs.declared.line_fault.LineFault.TheVariants.{Unknown, Words, Number}
-use Rattle.script_run.specs.ReportCommands.{Held, Alter, Report, any_line_result}
+use Rattle.script_run.specs.ReportCommands.{Known, Alter, Report, any_line_result}
 use Rattle.script_run.specs.ReportTexts.{report_text}
 
 -- ---- lines
@@ -35,10 +35,10 @@ pub line-many : any_line_result (codes "grid 1") ≡ Err Words
 unfolding is_utf8 chars encode_utf8
 line-many = refl
 
--- a command that has a body is one of the whole language
-pub line-held : any_line_result (codes "delete 3") ≡ Ok (Some (Held (Apply (edits.Delete 3))))
+-- a command of `Command` is one of the whole language
+pub line-known : any_line_result (codes "delete 3") ≡ Ok (Some (Known (Apply (edits.Delete 3))))
 unfolding is_utf8 chars encode_utf8
-line-held = refl
+line-known = refl
 
 pub line-unknown : any_line_result (codes "grids") ≡ Err Unknown
 unfolding is_utf8 chars encode_utf8

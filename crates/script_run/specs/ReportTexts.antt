@@ -9,7 +9,7 @@ use Rattle.grid_live.specs.declared.times.Times.{Times}
 use Rattle.fault_live.specs.declared.fault.Fault.{Fault}
 use Rattle.fault_live.specs.declared.fault.Fault.TheVariants.{Sequence, Samples, Interval, Scalar, Units, Repeated, TraceCount, TextLines, Name}
 use Rattle.time_slice.specs.declared.row.Row.{Row}
-use Rattle.bench_core.specs.Reports.{Position}
+use Rattle.bench_core.specs.Reports.{Location}
 use Rattle.bench_core.specs.ReportAnswers as answers
 use Rattle.bench_core.specs.ReportAnswers.{ReportAnswer}
 use Rattle.bench_core.specs.ReportQueries.{ReportReply}
@@ -22,8 +22,8 @@ abbrev pub fraction_text : Ratio → List ℕ
 fraction_text r = if r.den == 1 then signed_decimal r.num else signed_decimal r.num ++ codes "/" ++ decimal r.den
 
 -- where a trace lies
-abbrev pub position_text : Position → List ℕ
-position_text g = spaced
+abbrev pub location_text : Location → List ℕ
+location_text g = spaced
     (codes "geometry inline" ∷ signed_decimal g.inline
     ∷ codes "crossline" ∷ signed_decimal g.crossline
     ∷ codes "offset" ∷ signed_decimal g.offset
@@ -79,7 +79,7 @@ fault_text (Name p) = of_trace_text (codes "F9") p (codes "name" ∷ [])
 
 -- an answer, each line with its end
 abbrev pub report_text : ReportAnswer → List ℕ
-report_text (answers.Geometry position) = ended (position_text position)
+report_text (answers.Geometry location) = ended (location_text location)
 report_text (answers.Stat statistics) = ended (statistics_text (codes "stat") statistics)
 report_text (answers.Fold n) = ended (spaced (codes "fold" ∷ decimal n ∷ []))
 report_text (answers.Grid cells) = listed (codes "cells") (map cell_text cells)

@@ -3,6 +3,7 @@ pub mod RatioOrder
 pub mod Scaled
 pub mod Statistics
 pub mod Narrow
+pub mod Unsigned
 pub mod Facts
 pub mod OfTrace
 pub mod Counts

@@ -20,6 +20,7 @@ mod reads_sample;
 mod record;
 mod running;
 mod statistics;
+mod unsigned;
 mod wide;
 
 pub use crate::counts::Counts;

@@ -9,6 +9,7 @@ ghost use Rattle.trace_record.specs.Statistics.{statistics_of as statistics_of_s
 use crate::Statistics;
 use crate::narrow::narrow_statistics;
 use crate::reads_sample::{I24, Ordered, U24};
+use crate::unsigned::unsigned_statistics;
 use crate::wide::wide_statistics;
 use byteorder::{BigEndian, LittleEndian};
 use num_order::Order;
@@ -112,7 +113,7 @@ fn ordered_statistics<O: Ordered>(format: Format, bytes: &[u8], number: u32) -> 
         Format::Unsigned8 => narrow_statistics::<u8, O>(bytes, number),
         Format::Unsigned16 => narrow_statistics::<u16, O>(bytes, number),
         Format::Unsigned24 => narrow_statistics::<U24, O>(bytes, number),
-        Format::Unsigned32 => wide_statistics::<u32, O>(bytes, number),
+        Format::Unsigned32 => unsigned_statistics::<O>(bytes, number),
         Format::Unsigned64 => wide_statistics::<u64, O>(bytes, number),
     }
 }

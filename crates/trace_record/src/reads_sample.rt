@@ -5,7 +5,7 @@ ghost use Rattle.num_order.specs.declared.order.Order.{Order};
 ghost use Rattle.num_order.specs.declared.order.Order.TheVariants.{Big, Little};
 ghost use Rattle.num_order.proofs.NumberLemmas.{low_first-is, high_first-is};
 ghost use Rattle.sample_codes.specs.declared.format.Format.{Format};
-ghost use Rattle.sample_codes.specs.declared.format.Format.TheVariants.{Signed32, Signed24, Signed16, Signed8, Signed64, Unsigned32, Unsigned24, Unsigned16, Unsigned8, Unsigned64};
+ghost use Rattle.sample_codes.specs.declared.format.Format.TheVariants.{Signed32, Signed24, Signed16, Signed8, Signed64, Unsigned24, Unsigned16, Unsigned8, Unsigned64};
 ghost use Rattle.sample_codes.specs.Formats.{width, sample_value};
 
 use byteorder::{BigEndian, ByteOrder, LittleEndian};
@@ -50,7 +50,7 @@ fn three_bytes<O: Ordered>(bytes: &[u8], at: usize) -> u32
 
 // The number of the four bytes from this place on.
 #[inline(always)]
-fn four_bytes<O: Ordered>(bytes: &[u8], at: usize) -> u32
+pub(crate) fn four_bytes<O: Ordered>(bytes: &[u8], at: usize) -> u32
     requires { at + 4 ≤ length bytes.now }
     ensures { result ≡ unsigned O.order (take 4 (drop at bytes.now)) }
 {
@@ -150,7 +150,7 @@ impl ReadsSample for U24 {
     }
 }
 
-// Samples of a format that does not fit an i32.
+// Samples of 64 bits.
 pub(crate) trait ReadsWide {
     ghost format: { Format };
 
@@ -160,15 +160,6 @@ pub(crate) trait ReadsWide {
         ensures value { result ≡ sample_value O.order format (take (width format) (drop (width format * i) bytes.now)) }
         ensures low { neg_ℤ (pos (2 ^ 63)) ≤ℤ result }
         ensures high { result ≤ℤ pos (2 ^ 64) };
-}
-
-impl ReadsWide for u32 {
-    ghost format = { Unsigned32 };
-
-    #[inline(always)]
-    fn at<O: Ordered>(bytes: &[u8], i: usize) -> i128 {
-        i128::from(four_bytes::<O>(bytes, 4 * i))
-    }
 }
 
 impl ReadsWide for i64 {

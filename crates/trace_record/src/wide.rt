@@ -1,4 +1,4 @@
-// The statistics of samples that do not fit an i32, in one slice.
+// The statistics of samples of 64 bits, in one slice.
 ghost use Rattle.std.specs.Prelude.{◌≡◌, ◌*◌, ◌≤◌, IfSome, length};
 ghost use Rattle.sample_codes.specs.Formats.{width};
 ghost use Rattle.trace_view.specs.Values.{samples_in};

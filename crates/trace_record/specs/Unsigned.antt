@@ -1,0 +1,8 @@
+-- Statistics of unsigned samples of 32 bits.
+use Rattle.std.specs.Prelude.{ℕ, pos}
+use Rattle.trace_record.specs.declared.statistics.Statistics.{Statistics}
+use Rattle.trace_record.specs.declared.unsigned.Unsigned.{Unsigned}
+
+-- the statistics that it says of so many samples
+abbrev pub seen : Unsigned → ℕ → Statistics
+seen s n = record { least = pos s.least; greatest = pos s.greatest; sum = pos s.sum; number = n }

@@ -44,7 +44,7 @@ use Rattle.bench_core.proofs.TraceSteps.{patch_is_after}
 
 -- ---- a number that is kept
 
-abbrev Has : ℕ → List ℕ → Type 0
+abbrev pub Has : ℕ → List ℕ → Type 0
 Has k kept = list_any (λ j. eqb j k) kept ≡ true
 
 kept_if : (b : Bool) (kept : List ℕ) (k : ℕ) → Has k (cond b kept []) → b ≡ true
@@ -55,7 +55,7 @@ kept_unless : (b : Bool) (kept : List ℕ) (k : ℕ) → Has k (cond b [] kept) 
 kept_unless true kept k e = absurd cc
 kept_unless false kept k e = refl
 
-none_kept : (k : ℕ) → Has k [] → ⊥
+pub none_kept : (k : ℕ) → Has k [] → ⊥
 none_kept k e = absurd cc
 
 -- a number that passed a filter
@@ -74,7 +74,7 @@ one_volume : (old new : State) (edit : Edit) (w : Volume) → IsAfter old edit n
 one_volume old new edit w after cut = at_most_one_cut (bytes_after old.volume old.fields edit) old.reading old.limits new.volume w after.volume cut
 
 -- its slice, where the field map stays
-slice_after : (old new : State) (k : ℕ) (w : Volume) → new.volume ≡ w → new.fields ≡ old.fields → slice_in new k ≡ slice_of w.head old.fields k w.traces
+pub slice_after : (old new : State) (k : ℕ) (w : Volume) → new.volume ≡ w → new.fields ≡ old.fields → slice_in new k ≡ slice_of w.head old.fields k w.traces
 slice_after old new k w e f = ap (λ (v : Volume). slice_of v.head new.fields k v.traces) e ∙ ap (λ (fields : Pairs). slice_of w.head fields k w.traces) f
 
 -- ---- a value in a trace header

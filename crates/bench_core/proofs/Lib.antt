@@ -17,3 +17,4 @@ mod Renumbering
 mod NumbersCutAgain
 mod SliceRows
 mod KeptSlices
+mod KeptNumbers

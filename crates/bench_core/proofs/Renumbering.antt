@@ -24,7 +24,7 @@ use Rattle.bench_core.specs.NumberRefusals.{sets_of, first_refused}
 use Rattle.bench_core.specs.Places.{place_in_trace}
 use Rattle.bench_core.specs.Refused.{refused, with_value}
 use Rattle.bench_core.specs.State.{State}
-use Rattle.bench_core.specs.Steps.{StepUnless, Step, Steps}
+use Rattle.bench_core.specs.Steps.{IsAfter, StepUnless, Step, Steps}
 use Rattle.bench_core.specs.TraceEdits.{numbers, put_each, renumbered}
 use Rattle.bench_core.proofs.HeaderEdits.{same_refused, same_after, no_place}
 use Rattle.bench_core.proofs.OneTrace.{length-take-set}
@@ -64,7 +64,7 @@ put_alike v ts k p place x file a =
 -- ---- one set
 
 -- the traces with the value over the place of trace k
-abbrev with_one : Head → List (List ℕ) → ℕ → Place → ℤ → List (List ℕ)
+abbrev pub with_one : Head → List (List ℕ) → ℕ → Place → ℤ → List (List ℕ)
 with_one h ts k place x = set ts (k - 1) (with_value h (get_or ts (k - 1) []) place x)
 
 -- the value leaves the trace its length
@@ -80,13 +80,15 @@ length-with_value s p place x cut a =
     ap (λ (n : ℕ). length (splice t at n new)) (sym size) ∙ length-splice t at new (omega (arith, size, inside))
 
 -- the set is done, its bytes lie in the old volume's place, and the traces behind it are as they were
-record OneSet (s : State) (ts : List (List ℕ)) (k : ℕ) (f : Field) (place : Place) (x : ℤ) : Type 0 where
+pub record OneSet (s : State) (ts : List (List ℕ)) (k : ℕ) (f : Field) (place : Place) (x : ℤ) : Type 0 where
   pub step : Step {T = Unit {0}} (with_traces s ts) (Set k f x) (Ok tt) (with_traces s (with_one s.volume.head ts k place x))
+  pub none : refused (with_traces s ts) (Set k f x) ≡ None
+  pub after : IsAfter (with_traces s ts) (Set k f x) (with_traces s (with_one s.volume.head ts k place x))
   pub alike : IsAlike s.volume.traces (with_one s.volume.head ts k place x) (k + 1)
   pub read : IsRead (with_traces s (with_one s.volume.head ts k place x))
   pub bytes : bytes_of (with_traces s (with_one s.volume.head ts k place x)).volume ≡ put_in_trace s.volume k place x (bytes_of (with_traces s ts).volume)
 
-one_set : (s : State) (ts : List (List ℕ)) (k : ℕ) (f : Field) (place : Place) (x : ℤ) → place_in_trace s.fields f ≡ Some place → 1 ≤ k → IsAlike s.volume.traces ts k
+pub one_set : (s : State) (ts : List (List ℕ)) (k : ℕ) (f : Field) (place : Place) (x : ℤ) → place_in_trace s.fields f ≡ Some place → 1 ≤ k → IsAlike s.volume.traces ts k
     → IsRead (with_traces s ts) → refused s (Set k f x) ≡ None
     → OneSet s ts k f place x
 one_set s ts k f place x e first a cut none =
@@ -95,8 +97,11 @@ one_set s ts k f place x e first a cut none =
     let none_there : refused mid (Set k f x) ≡ None = refused_alike s ts k f x a ∙ none in
     let ok = accepted mid k place x (sym (same_refused mid k f place x e) ∙ none_there) in
     let after = is_after mid k place x cut ok in
+    let same : IsAfter mid (Set k f x) new = same_after mid k f place x new e after in
     record {
-      step = subst (λ (o : Option Refusal). StepUnless {T = Unit {0}} o mid (Set k f x) (Ok tt) new) (sym none_there) (same_after mid k f place x new e after);
+      step = subst (λ (o : Option Refusal). StepUnless {T = Unit {0}} o mid (Set k f x) (Ok tt) new) (sym none_there) same;
+      none = none_there;
+      after = same;
       alike = alike_next s.volume.traces ts k (with_value s.volume.head (get_or ts (k - 1) []) place x) first a (length-with_value mid k place x cut ok);
       read = cut_again mid k place x new.volume after;
       bytes = after.volume.joined ∙ put_alike s.volume ts k k place x (bytes_of mid.volume) a;
@@ -104,21 +109,21 @@ one_set s ts k f place x e first a cut none =
 
 -- ---- one set after another
 
-both_none : {X : Type 0} (a b : Option X) → option_or a b ≡ None → (a ≡ None) × (b ≡ None)
+pub both_none : {X : Type 0} (a b : Option X) → option_or a b ≡ None → (a ≡ None) × (b ≡ None)
 both_none None b e = (refl, e)
 both_none (Some x) b e = absurd cc
 
 -- the sets are done one after another, and the bytes are those with each value over its place in the old volume
-record IsRenumbered (s : State) (ts : List (List ℕ)) (f : Field) (place : Place) (ns : List (ℕ × ℤ)) (new : List (List ℕ)) : Type 0 where
+pub record IsRenumbered (s : State) (ts : List (List ℕ)) (f : Field) (place : Place) (ns : List (ℕ × ℤ)) (new : List (List ℕ)) : Type 0 where
   pub steps : Steps (with_traces s ts) (sets_of f ns) (all_done ns) (with_traces s new)
   pub read : IsRead (with_traces s new)
   pub bytes : bytes_of (with_traces s new).volume ≡ put_each s.volume place ns (bytes_of (with_traces s ts).volume)
 
 -- n traces from trace k on, each with its value
-abbrev valued : (ℕ → ℤ) → ℕ → ℕ → List (ℕ × ℤ)
+abbrev pub valued : (ℕ → ℤ) → ℕ → ℕ → List (ℕ × ℤ)
 valued value k n = map (λ p. (p, value p)) (range_with_len k n)
 
-renumber_from : (s : State) (f : Field) (place : Place) (value : ℕ → ℤ) (n k : ℕ) (ts : List (List ℕ)) → place_in_trace s.fields f ≡ Some place → 1 ≤ k → IsAlike s.volume.traces ts k
+unfoldable pub renumber_from : (s : State) (f : Field) (place : Place) (value : ℕ → ℤ) (n k : ℕ) (ts : List (List ℕ)) → place_in_trace s.fields f ≡ Some place → 1 ≤ k → IsAlike s.volume.traces ts k
     → IsRead (with_traces s ts)
     → first_refused s (sets_of f (valued value k n)) ≡ None → (new : List (List ℕ)) × IsRenumbered s ts f place (valued value k n) new
 renumber_from s f place value zero k ts e first a cut none = (ts, record { steps = refl; read = cut; bytes = refl })
@@ -139,12 +144,12 @@ renumber_from s f place value (suc n) k ts e first a cut none =
 -- ---- all of them
 
 -- what is known where it is not refused
-record RenumberAccepted (s : State) (a b : ℕ) (f : Field) (first step : ℤ) : Type 0 where
+pub record RenumberAccepted (s : State) (a b : ℕ) (f : Field) (first step : ℤ) : Type 0 where
   pub low : 1 ≤ a
   pub high : a ≤ b
   pub none : first_refused s (sets_of f (numbers a b first step)) ≡ None
 
-renumber_accepted : (s : State) (a b : ℕ) (f : Field) (first step : ℤ) → number_refused s (Renumber a b f first step) ≡ None → RenumberAccepted s a b f first step
+pub renumber_accepted : (s : State) (a b : ℕ) (f : Field) (first step : ℤ) → number_refused s (Renumber a b f first step) ≡ None → RenumberAccepted s a b f first step
 renumber_accepted s a b f first step e =
     let v : Volume = s.volume in
     let one = none_of_either (is_trace v a) (refusals.NoTrace a (count_of v)) _ e in
@@ -152,7 +157,7 @@ renumber_accepted s a b f first step e =
     record { low = leb-true 1 a (both _ _ one.0).0; high = leb-true a b (both _ _ two.0).0; none = two.1 }
 
 -- where the field has no place the first set is refused
-unplaced : (s : State) (a n : ℕ) (f : Field) (value : ℕ → ℤ) → place_in_trace s.fields f ≡ None → first_refused s (sets_of f (valued value a (suc n))) ≡ None → ⊥
+pub unplaced : (s : State) (a n : ℕ) (f : Field) (value : ℕ → ℤ) → place_in_trace s.fields f ≡ None → first_refused s (sets_of f (valued value a (suc n))) ≡ None → ⊥
 unplaced s a n f value e none = no_place s a f (value a) e (both_none (refused s (Set a f (value a))) (first_refused s (sets_of f (valued value (a + 1) n))) none).0
 
 pub renumber_is_its_sets : RenumberIsItsSets

@@ -1,11 +1,11 @@
 -- What holds of the slices that are kept.
-use Rattle.std.specs.Prelude.{◌≡◌, ℕ, ◌==◌, IsTrue, List, None}
-use Rattle.std.specs.List.{list_any}
+use Rattle.std.specs.Prelude.{◌≡◌, ℕ, IsTrue, List, None}
 use Rattle.field_map.specs.Binding.{HasGeometry}
 use Rattle.frame_cut.specs.Cuts.{IsCut}
 use Rattle.frame_cut.specs.Volume.{bytes_of}
 use Rattle.bench_core.specs.declared.edit.Edit.{Edit}
-use Rattle.bench_core.specs.Kept.{kept_after_edit}
+use Rattle.bench_core.specs.Kept.{is_kept, kept_after_edit}
+use Rattle.bench_core.specs.NumberEdits.{NumberEdit, number_refused, IsAfterNumber, kept_after_number}
 use Rattle.bench_core.specs.Refused.{refused}
 use Rattle.bench_core.specs.Reports.{slice_in}
 use Rattle.bench_core.specs.State.{State}
@@ -16,4 +16,10 @@ use Rattle.bench_core.specs.Steps.{IsAfter}
 abbrev pub KeptSlicesStay : Type 0
 KeptSlicesStay = (old new : State) (edit : Edit) (kept : List ℕ) (k : ℕ)
     → IsCut (bytes_of old.volume) old.reading old.limits old.volume → HasGeometry old.volume.head.extensions old.fields → refused old edit ≡ None → IsAfter old edit new
-    → IsTrue (list_any (λ j. j == k) (kept_after_edit old edit kept)) → slice_in new k ≡ slice_in old k
+    → IsTrue (is_kept k (kept_after_edit old edit kept)) → slice_in new k ≡ slice_in old k
+
+-- the same after another number of samples of a trace, and after a field of many traces is counted up
+abbrev pub KeptSlicesStayAfterNumber : Type 0
+KeptSlicesStayAfterNumber = (old new : State) (edit : NumberEdit) (kept : List ℕ) (k : ℕ)
+    → IsCut (bytes_of old.volume) old.reading old.limits old.volume → HasGeometry old.volume.head.extensions old.fields → number_refused old edit ≡ None → IsAfterNumber old edit new
+    → IsTrue (is_kept k (kept_after_number old edit kept)) → slice_in new k ≡ slice_in old k

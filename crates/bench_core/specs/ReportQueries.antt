@@ -1,6 +1,5 @@
 -- The queries about the survey and its samples.
-use Rattle.std.specs.Prelude.{◌≡◌, ◌⊎◌, ℕ, ◌==◌, ℤ, List, IsOk, Option, Some, None, Result, Ok, Err, if◌then◌else◌}
-use Rattle.std.specs.List.{list_any}
+use Rattle.std.specs.Prelude.{◌≡◌, ◌⊎◌, ℕ, ℤ, List, IsOk, Option, Some, None, Result, Ok, Err, if◌then◌else◌}
 use Rattle.frame_cut.specs.Traces.{count_of}
 use Rattle.frame_cut.specs.Volume.{Volume}
 use Rattle.range_stats.specs.declared.which.Which.{Which}

@@ -246,7 +246,7 @@ fn no_set_moves_the_end_of_a_trace(rt: HostRuntime) -> Result<(), Fail> {
 }
 
 #[test]
-fn a_set_may_follow_a_fixed_length(rt: HostRuntime) -> Result<(), Fail> {
+fn a_set_under_a_fixed_length_moves_no_end(rt: HostRuntime) -> Result<(), Fail> {
     let alloc = rt.alloc();
     on_small_with(alloc, Reading::Fixed, &[(3503, 0)], |bench| {
         let longer = Edit::Set(1, signed(0, 115, 2), 4);

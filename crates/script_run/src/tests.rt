@@ -84,6 +84,22 @@ fn run_script(alloc: Global, file: &[u8], script: &[u8], options: Options) -> Re
     })
 }
 
+// The trace, place and value of a line that sets a place.
+fn read_set(alloc: Global, line: &[u8]) -> Result<(u32, Place, i128), Fail> {
+    match parse_line(alloc, line)? {
+        Some(Command::Apply(Edit::Set(p, Field::Place(at), value))) => Ok((p, at, value)),
+        _ => Err("a set".into()),
+    }
+}
+
+// The trace and place of a line that asks for a place.
+fn read_get(alloc: Global, line: &[u8]) -> Result<(u32, Place), Fail> {
+    match parse_line(alloc, line)? {
+        Some(Command::Ask(Query::Get(p, Field::Place(at)))) => Ok((p, at)),
+        _ => Err("a get".into()),
+    }
+}
+
 #[test]
 fn reads_commands(rt: HostRuntime) -> Result<(), Fail> {
     let place = Place {
@@ -94,22 +110,23 @@ fn reads_commands(rt: HostRuntime) -> Result<(), Fail> {
             signed: false,
         },
     };
-    match parse_line(rt.alloc(), b"\tset\t007  @1.157:2u -2 ")? {
-        Some(Command::Apply(Edit::Set(p, Field::Place(at), value))) => {
-            assert_eq!(rt; p, 7);
-            assert_eq!(rt; at, place);
-            assert_eq!(rt; value, -2);
-        }
-        _ => return Err("a set".into()),
-    }
-    match parse_line(rt.alloc(), b"get 4294967295 @0:255")? {
-        Some(Command::Ask(Query::Get(p, Field::Place(at)))) => {
-            assert_eq!(rt; p, 4294967295);
-            assert_eq!(rt; at.kind.size, 255);
-        }
-        _ => return Err("a get".into()),
-    }
+    let set = read_set(rt.alloc(), b"\tset\t007  @1.157:2u -2 ")?;
+    assert_eq!(rt; set, (7, place, -2));
+    let get = read_get(rt.alloc(), b"get 4294967295 @0:255")?;
+    assert_eq!(rt; (get.0, get.1.kind.size), (4294967295, 255));
     Ok(())
+}
+
+// Whether a run of this script ends so, prints these answers and saves these bytes.
+fn tells(
+    alloc: Global,
+    file: &[u8],
+    script: &[u8],
+    options: Options,
+    told: (RunEnd, &[u8], &[u8]),
+) -> Result<bool, Fail> {
+    let run = run_script(alloc, file, script, options)?;
+    Ok(run.end == told.0 && run.answers.as_slice() == told.1 && run.saved.as_slice() == told.2)
 }
 
 #[test]
@@ -119,10 +136,12 @@ fn tells_what_a_file_is(rt: HostRuntime) -> Result<(), Fail> {
     let script = b"count\ninfo\nsample 1 1\nsample 1 2\nsample 4 0\ncount 1\nsample 1\n";
     let printed =
         b"traces 3\ninfo order big revision 1.0 format 3 samples 2 fixed yes extensions 0 blocks 0 trailer 0 traces 3 bytes 4332\nvalue -2\nrefused E05 no sample 2 of 2\nrefused E01 no trace 4 of 3\nrefused S02 words\nrefused S02 words\n";
-    let told = run_script(alloc, file.as_slice(), script, options(false, false)?)?;
-    assert_eq!(rt; told.end, RunEnd::Done { refused: 4 });
-    assert!(rt; told.answers.as_slice() == printed.as_slice());
-    assert!(rt; told.saved.is_empty());
+    let told = (
+        RunEnd::Done { refused: 4 },
+        printed.as_slice(),
+        b"".as_slice(),
+    );
+    assert!(rt; tells(alloc, file.as_slice(), script, options(false, false)?, told)?);
     Ok(())
 }
 
@@ -173,17 +192,28 @@ fn counts_and_stops(rt: HostRuntime) -> Result<(), Fail> {
         b"# note\n\nget 3 @5:4\nget 4 @5:4\nset 1 @189:2 65536\nset 1 @240:2 0\nsett\nset 1\nget 1 x\n\xc3\nset 1 @37:4 -1";
     let printed =
         b"value 3\nrefused E01 no trace 4 of 3\nrefused E04 does not fit\nrefused E03 no place\nrefused S01 unknown word\nrefused S02 words\nvalue 0\nrefused S04 not text\nok\n";
-    let whole = run_script(rt.alloc(), file.as_slice(), script, options(false, false)?)?;
-    assert_eq!(rt; whole.end, RunEnd::Done { refused: 6 });
-    assert_eq!(rt; whole.answers.as_slice(), printed.as_slice());
-    assert_eq!(rt; whole.saved.len(), 0);
-    let stopped = run_script(rt.alloc(), file.as_slice(), script, options(true, true)?)?;
-    assert_eq!(rt; stopped.end, RunEnd::Stopped { line: 4 });
-    assert_eq!(rt;
-        stopped.answers.as_slice(),
-        b"value 3\nrefused E01 no trace 4 of 3\n".as_slice()
+    let nothing = b"".as_slice();
+    let whole = (RunEnd::Done { refused: 6 }, printed.as_slice(), nothing);
+    assert!(rt;
+        tells(
+            rt.alloc(),
+            file.as_slice(),
+            script,
+            options(false, false)?,
+            whole
+        )?
     );
-    assert_eq!(rt; stopped.saved.len(), 0);
+    let printed = b"value 3\nrefused E01 no trace 4 of 3\n";
+    let stopped = (RunEnd::Stopped { line: 4 }, printed.as_slice(), nothing);
+    assert!(rt;
+        tells(
+            rt.alloc(),
+            file.as_slice(),
+            script,
+            options(true, true)?,
+            stopped
+        )?
+    );
     Ok(())
 }
 
@@ -213,33 +243,31 @@ fn tells_refused_files(rt: HostRuntime) -> Result<(), Fail> {
     Ok(())
 }
 
+// Whether a run of so many blanks over this file, with a save, ends so, prints these answers and saves these bytes.
+fn tells_blanks(
+    alloc: Global,
+    file: &[u8],
+    count: usize,
+    told: (RunEnd, &[u8], &[u8]),
+) -> Result<bool, Fail> {
+    let blanks = vec![in alloc; b' '; count]?;
+    tells(alloc, file, blanks.as_slice(), options(false, true)?, told)
+}
+
 // 16777216 bytes of blanks are a script, and one byte more is too much.
 #[test]
 fn limits_scripts(rt: HostRuntime) -> Result<(), Fail> {
     let file = sample_file(rt.alloc())?;
-    let blanks = vec![in rt.alloc(); b' '; 16777217]?;
-    let large = run_script(
-        rt.alloc(),
-        file.as_slice(),
-        blanks.as_slice(),
-        options(false, true)?,
-    )?;
-    assert_eq!(rt; large.end, RunEnd::Script(ScriptFault::TooLarge));
-    assert_eq!(rt;
-        large.answers.as_slice(),
-        b"script refused P02 too large\n".as_slice()
+    let nothing = b"".as_slice();
+    let printed = b"script refused P02 too large\n";
+    let large = (
+        RunEnd::Script(ScriptFault::TooLarge),
+        printed.as_slice(),
+        nothing,
     );
-    assert_eq!(rt; large.saved.len(), 0);
-    let blanks = vec![in rt.alloc(); b' '; 16777216]?;
-    let most = run_script(
-        rt.alloc(),
-        file.as_slice(),
-        blanks.as_slice(),
-        options(false, true)?,
-    )?;
-    assert_eq!(rt; most.end, RunEnd::Done { refused: 0 });
-    assert_eq!(rt; most.answers.len(), 0);
-    assert_eq!(rt; most.saved.as_slice(), file.as_slice());
+    assert!(rt; tells_blanks(rt.alloc(), file.as_slice(), 16777217, large)?);
+    let most = (RunEnd::Done { refused: 0 }, nothing, file.as_slice());
+    assert!(rt; tells_blanks(rt.alloc(), file.as_slice(), 16777216, most)?);
     Ok(())
 }
 

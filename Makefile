@@ -1,33 +1,83 @@
-# Two commands do everything on a machine that has the Rattle kit (the command `rt` on the PATH):
-#   make demo   builds the proved program and runs the first job on a sample file
-#   make test   the whole gate: every proof from nothing, the must-fail edits, the tests, then end-to-end runs
-PROGRAM = crates/segywb/out/segywb
+# For use, without any toolchain:
+#   make demo       the first job on a sample file, with the shipped program
+#   make install    the program, its man pages and completions, under PREFIX (and DESTDIR); make uninstall takes them away
+#   make quick      the end-to-end tests, in less than a minute
+# With the Rattle kit (the command rt on the PATH):
+#   make build      proves and builds the program from the sources
+#   make test       the whole gate: every proof from nothing, the must-fail edits, then the end-to-end runs
+#   make bench      the speed, as ratios to cp and md5sum
+#   make dist       the program that was built becomes the shipped one
+# demo, install and quick take the shipped program, or the one that PROGRAM=.. names.
+SHIPPED = dist/segywb-x86_64-linux
+BUILT = crates/segywb/out/segywb
+PROGRAM ?= $(SHIPPED)
+PREFIX ?= /usr/local
+DESTDIR ?=
+INTO = $(DESTDIR)$(PREFIX)
 
-.PHONY: demo test program bench
+.PHONY: help demo quick install uninstall build test dist bench pages program
+
+help:
+	@sed -n '/^#/s/^# *//p; /^SHIPPED/q' Makefile
+
+program:
+	@test -x $(PROGRAM) || { echo 'There is no program $(PROGRAM): make build makes $(BUILT), and PROGRAM=.. names another.'; exit 1; }
 
 demo: program
-	bash tests/demo.sh $(PROGRAM)
+	@bash tests/demo.sh $(PROGRAM)
 
-test:
-	rm -f $(PROGRAM)
-	rt ci
-	test -x $(PROGRAM) || $(MAKE) --no-print-directory program
+quick: program
 	bash tests/run.sh $(PROGRAM)
 
-# Proves what is not proved yet and builds the program anew, so that an older one is never taken for it; its answer to a
-# command line without words is no failure.
-program:
-	rm -f $(PROGRAM)
-	cd crates/segywb && { rt run > out.log 2>&1 || true; }
-	test -x $(PROGRAM) || { cat crates/segywb/out.log; exit 1; }
-	rm -f crates/segywb/out.log
+build:
+	tools/build
+
+test:
+	@echo 'The whole gate: every proof from nothing. On 4 cores it takes about an hour.'
+	@test -x $(SHIPPED) || { echo 'There is no shipped program $(SHIPPED): make build, then make dist.'; exit 1; }
+	bash tests/lines.sh
+	rm -f $(BUILT)
+	rt ci
+	test -x $(BUILT) || tools/build
+	cd dist && sha256sum -c SHA256SUMS
+	@cmp $(BUILT) $(SHIPPED) || { echo 'The sources do not give the shipped program: see make dist.'; exit 1; }
+	bash tests/run.sh $(BUILT)
+
+# Once for each delivery, after make build.
+dist:
+	test -x $(BUILT)
+	install -D -m 755 $(BUILT) $(SHIPPED)
+	cd dist && sha256sum segywb-x86_64-linux > SHA256SUMS
+
+# What is made from other files: the man pages from docs/MANUAL.md, the rows of docs/DEFINITIONS.md from the comments.
+pages:
+	tools/manpages man
+	tools/definitions
+
+install: program
+	install -D -m 755 $(PROGRAM) $(INTO)/bin/segywb
+	install -D -m 644 man/segywb.1 $(INTO)/share/man/man1/segywb.1
+	install -D -m 644 man/segywb-script.5 $(INTO)/share/man/man5/segywb-script.5
+	install -D -m 644 completions/segywb.bash $(INTO)/share/bash-completion/completions/segywb
+	install -D -m 644 completions/_segywb $(INTO)/share/zsh/site-functions/_segywb
+	install -D -m 644 completions/segywb.fish $(INTO)/share/fish/vendor_completions.d/segywb.fish
+	install -D -m 644 -t $(INTO)/share/doc/segywb LICENSE LICENSE-MIT LICENSE-APACHE docs/MANUAL.md docs/COOKBOOK.md
+	install -D -m 644 -t $(INTO)/share/doc/segywb/examples examples/*.sgy
+
+uninstall:
+	rm -f $(INTO)/bin/segywb
+	rm -f $(INTO)/share/man/man1/segywb.1 $(INTO)/share/man/man5/segywb-script.5
+	rm -f $(INTO)/share/bash-completion/completions/segywb
+	rm -f $(INTO)/share/zsh/site-functions/_segywb
+	rm -f $(INTO)/share/fish/vendor_completions.d/segywb.fish
+	rm -rf $(INTO)/share/doc/segywb
 
 # Speed: the program as ratios to cp and md5sum of the same file in the same run, the order of traces at three sizes, and the
 # running reports over a million records.
-bench: program
-	cd crates/record_bench && { rt run > out.log 2>&1 || true; }
-	bash bench/run $(PROGRAM) crates/record_bench/out/record_bench
-	cd crates/seq_bench && { rt run > out.log 2>&1 || true; }
-	bash bench/orders crates/seq_bench/out/seq_bench
-	cd crates/report_bench && { rt run > out.log 2>&1 || true; }
-	bash bench/reports crates/report_bench/out/report_bench
+bench: build
+	cd crates/time_records && { rt run > out.log 2>&1 || true; }
+	bash benchmarks/run $(BUILT) crates/time_records/out/time_records
+	cd crates/time_orders && { rt run > out.log 2>&1 || true; }
+	bash benchmarks/orders crates/time_orders/out/time_orders
+	cd crates/time_reports && { rt run > out.log 2>&1 || true; }
+	bash benchmarks/reports crates/time_reports/out/time_reports

@@ -5,7 +5,10 @@
 
 cc=${CC:-}
 for name in cc gcc clang; do [ -n "$cc" ] || { command -v $name > /dev/null && cc=$name; }; done
-[ -n "$cc" ] || cc=$(ls /opt/rattle/toolchain/bin/clang /opt/rattle/toolchain/*/bin/clang 2> /dev/null | head -n 1)
+if [ -z "$cc" ]; then
+    kit=$(dirname "$(rt doc 2> /dev/null)")
+    cc=$(ls "$kit"/toolchain/bin/clang "$kit"/toolchain/*/bin/clang 2> /dev/null | head -n 1)
+fi
 "$cc" -shared -fPIC -O1 -o "$work/refuse_growth.so" "$here/refuse_growth.c" -ldl || tell 'build of refuse_growth.so' 'failed'
 
 # meets NUMBER: runs the program with that growth refused; the growths that were asked for are in the file `asked`

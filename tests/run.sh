@@ -91,8 +91,6 @@ expect 'text headers that end by themselves' 0 'info order big revision 1.0 form
 printf 'set 1 scalar 100\nset 1 x 3\nget 1 source_x\nget 1 @181:4\nget 1 samples\nget 1 nothing\nset 4 nothing 1\nset 1 ext_count 1\nset 1 x 2147483648\n' > script
 expect 'names' 1 'ok\nok\nvalue 0\nvalue 3\nvalue 2\nrefused E02 no field\nrefused E01 no trace 4 of 3\nrefused E03 no place\nrefused E04 does not fit\n' '' s.sgy --script script --out o.sgy
 differs 'names change their own bytes' s.sgy o.sgy '3672 0 144;3783 3 0;3784 350 3;'
-printf 'map bad-name @1:4\nmap mine @239:4\nmap mine @1:5\nmap inline @189:4u\nmap inline @1.5:4\nmap delay @5:4\nunmap inline\nunmap mine\nmap mine @233:8\nget 1 mine\nfields\nunmap mine\n' > script
-expect 'the field map' 1 'refused E08 M01 bad name\nrefused E08 M02 outside header\nrefused E08 M03 bad kind\nrefused E08 M03 bad kind\nrefused E08 M02 outside header\nrefused E08 M07 standard\nrefused E08 M05 geometry\nrefused E08 M06 unknown\nok\nvalue 0\nfields 7\nfield inline @189:4\nfield crossline @193:4\nfield offset @37:4\nfield x @181:4\nfield y @185:4\nfield scalar @71:2\nfield mine @233:8\nok\n' '' s.sgy --script script
 { for n in $(seq 64); do echo "map n$n @1:4"; done; printf 'map n65 @1:4\nmap delay @5:4\nmap n1 @5:4\nget 3 n1\nunmap n1\nmap n65 @1:4\n'; } > script
 expect 'a full map' 1 "$(for _ in $(seq 64); do printf 'ok\\n'; done)refused E08 M04 full\nrefused E08 M04 full\nok\nvalue 3\nok\nok\n" '' s.sgy --script script
 printf 'map scalar @189:2\nset 1 inline 327680\nget 1 scalar\nmap deep @1.137:4u\nget 1 deep\nfields\n' > script
@@ -120,15 +118,9 @@ expect 'stanzas of data trailer records' 1 'stanzas 1\nstanza 1 Acme: Tail\nrefu
 printf 'sample 1 0\nsample 1 1\nset 1 @1:4 258\npatch 1 0 -2\n' > script
 expect 'a sample of 24 bits' 0 'value -1\nvalue -8388608\nok\nok\n' '' t.sgy --script script --out o.sgy
 differs 'its bytes' t.sgy o.sgy '3601 0 2;3602 0 1;3841 377 376;'
-printf 'patch 2 1 -7\nsample 2 1\npatch 2 1 40000\npatch 2 1 1 2\npatch 2 3 1\npatch 2 0 1 99999 3\npatch 2 2\npatch 4 0 1\npatch 2 0 1 x\npatch 2\n' > script
-expect 'patches' 1 'ok\nvalue -7\nrefused E04 does not fit\nrefused E05 no sample 2 of 2\nrefused E05 no sample 3 of 2\nrefused E04 does not fit\nrefused S02 words\nrefused E01 no trace 4 of 3\nrefused S03 number\nrefused S02 words\n' '' s.sgy --script script --out o.sgy
-differs 'a patch changes its samples' s.sgy o.sgy '4087 0 377;4088 4 371;'
 printf 'delete 3\ndelete 2\ndelete 1\ncount\nblank 1\ncount\ndelete 2\n' > script
 expect 'all traces out and a blank one in' 1 'ok\nok\nok\ntraces 0\nok\ntraces 1\nrefused E01 no trace 2 of 1\n' '' s.sgy --script script --out o.sgy
 { head -c 3600 s.sgy; zeros 244; } | cmp -s - o.sgy && tell 'the saved file' ok || tell 'the saved file' 'has other bytes'
-printf 'copy 3 1\nmove 2 4\nsample 4 1\nsample 1 0\nmove 1 5\ncopy 1 6\nset 0 inline 1\ncopy 5 1\nmove 0 1\nmove 1 0\nblank 6\nblank 0\ndelete 5\n' > script
-expect 'copies and moves' 1 'ok\nok\nvalue -2\nvalue -5\nrefused E01 no trace 5 of 4\nrefused E01 no trace 6 of 4\nrefused E01 no trace 0 of 4\nrefused E01 no trace 5 of 4\nrefused E01 no trace 0 of 4\nrefused E01 no trace 0 of 4\nrefused E01 no trace 6 of 4\nrefused E01 no trace 0 of 4\nrefused E01 no trace 5 of 4\n' '' s.sgy --script script --out o.sgy
-{ head -c 3600 s.sgy; tail -c 244 s.sgy; tail -c 488 s.sgy; tail -c 732 s.sgy | head -c 244; } | cmp -s - o.sgy && tell 'the saved order' ok || tell 'the saved order' 'is another'
 printf 'patch 1 0 7\nset 1 @10:2 258\nset 1 @9:4 1\ncopy 1 2\nset 1 @9:4 5\nget 2 @9:4\nsample 2 0\nget 1 @9:4\n' > script
 expect 'a copy has the edits' 0 'ok\nok\nok\nok\nok\nvalue 1\nvalue 7\nvalue 5\n' '' x.sgy --script script
 printf 'blank 1\n' > script
@@ -268,6 +260,8 @@ line 'a limit above 2^40' s.sgy --script script --max-bytes 1099511627777
 line 'a limit that is no number' s.sgy --script script --max-bytes many
 line 'help' --help
 expect 'the greatest limit' 0 'ok\n' '' s.sgy --script script --max-bytes 1099511627776
+
+. "$here/documents.sh" || tell 'documents.sh' 'did not run to its end'
 
 . "$here/growth.sh" || tell 'growth.sh' 'did not run to its end'
 

@@ -2,14 +2,14 @@
 use Rattle.std.specs.Prelude.{◌≡◌}
 use Rattle.frame_cut.specs.Cuts.{IsCut}
 use Rattle.frame_cut.specs.Volume.{bytes_of}
-use Rattle.bench_core.specs.State.{State, Session}
+use Rattle.bench_rules.specs.State.{State, Session}
 use Rattle.bench_core.specs.declared.bench.Bench.TheInside.{Inside}
 
 -- the state that is held
 abbrev pub state_of : Inside → State
 state_of b = record { volume = b.overlay.volume; fields = b.fields.pairs; reading = b.reading; limits = b.limits }
 
--- with the count of looks
+-- the state that is held, with the count of looks
 abbrev pub session_of : Inside → Session
 session_of b = record { state = state_of b; looks = b.overlay.looks }
 

@@ -8,30 +8,20 @@ ghost use Rattle.frame_cut.specs.Traces.{count_of, is_trace};
 ghost use Rattle.frame_cut.specs.Volume.{bytes_of};
 ghost use Rattle.edit_overlay.specs.Loading.{IsLoadFault, FailuresAfterRefusal};
 ghost use Rattle.edit_overlay.specs.Saving.{Saves};
-ghost use Rattle.bench_core.specs.declared.edit.Edit.TheVariants as edits;
-ghost use Rattle.bench_core.specs.declared.field.Field.TheVariants as fields;
-ghost use Rattle.bench_core.specs.declared.query.Query.TheVariants as queries;
-ghost use Rattle.bench_core.specs.declared.refusal.Refusal.TheVariants.{OutOfMemory as no_memory, NoField as no_such_field};
-ghost use Rattle.bench_core.specs.Looks.{RisesAtMost, edit_looks, query_looks};
-ghost use Rattle.bench_core.specs.Places.{place_in_trace};
-ghost use Rattle.bench_core.specs.Refused.{refused, no_trace};
-ghost use Rattle.bench_core.specs.Steps.{IsAfter, Step};
-ghost use Rattle.bench_core.specs.Answer.{answer, text_blocks, IsReply};
+ghost use Rattle.bench_rules.specs.declared.edit.Edit.TheVariants as edits;
+ghost use Rattle.bench_rules.specs.declared.field.Field.TheVariants as fields;
+ghost use Rattle.bench_rules.specs.declared.query.Query.TheVariants as queries;
+ghost use Rattle.bench_rules.specs.declared.refusal.Refusal.TheVariants.{OutOfMemory as no_memory, NoField as no_such_field};
+ghost use Rattle.bench_rules.specs.Looks.{RisesAtMost, edit_looks, query_looks};
+ghost use Rattle.bench_rules.specs.Places.{place_in_trace};
+ghost use Rattle.bench_rules.specs.Refused.{first_refusal, no_trace};
+ghost use Rattle.bench_rules.specs.Steps.{IsAfter, Step};
+ghost use Rattle.bench_rules.specs.Answer.{answer, text_blocks, IsReply};
 
-use crate::answer::Answer;
-use crate::ask_fault::AskFault;
-use crate::binary_header::{self, place_in_binary, set_bin_refusal};
-use crate::edit::Edit;
-use crate::field::Field;
-use crate::header_field::{offset_of, set_refusal};
-use crate::info::Info;
-use crate::listed::Listed;
-use crate::query::Query;
-use crate::refusal::Refusal;
-use crate::samples::trace_sample;
-use crate::stanzas::add_stanzas;
-use crate::text::Text;
-use crate::text_lines::is_line;
+use bench_rules::{
+    Answer, AskFault, Edit, Field, Info, Items, Query, Refusal, Text, add_stanzas, binary_offset,
+    binary_value, is_line, place_in_binary, set_bin_refusal, set_refusal, trace_sample,
+};
 use device_io::{Sink, Source};
 use edit_overlay::{Overlay, SaveFault};
 use field_map::{FieldMap, Place, standard};
@@ -40,7 +30,7 @@ use num_order::write;
 use std::alloc::Global;
 use std::io::{Read, Write};
 use std::marker::Model;
-use text_block::{code_of, encode_line, line};
+use text_block::{TEXT_BLOCK_BYTES, code_of, encode_line, line};
 
 /// One volume: a file that was loaded, with the edits that were accepted since.
 #[derive(Drop)]
@@ -52,7 +42,7 @@ pub struct Bench {
 }
 
 impl Model for Bench {
-    ghost use Rattle.bench_core.specs.State.{Session};
+    ghost use Rattle.bench_rules.specs.State.{Session};
 
     ghost Value = { Session };
 
@@ -64,26 +54,28 @@ impl Model for Bench {
 }
 
 impl Bench {
-    /// Reads a whole file and cuts it; the field map is then the six geometry names at their standard places. Takes
-    /// memory. Refused: L01 where a read failed in this call, L02 to L15 for the first reason that the file gives,
-    /// L16 where a growth was refused.
+    /// Reads a whole file and cuts it; the field map is then the six geometry names at their
+    /// standard places. Takes memory. Refused: L01 where a read failed in this call, L02 to L15 for
+    /// the first reason that the file gives, L16 where a growth was refused.
     pub fn load<R: Read>(
         alloc: Global,
         reader: &mut Source<R>,
         reading: Reading,
         limits: Limits,
     ) -> Result<Bench, LoadFault>
-        ensures taken { IfOk result (λ b. Consumes (R.remaining reader.old.0)
-            (R.remaining reader.new.0) (bytes_of b.state.volume)) }
-        ensures all { IfOk result (λ _. IsAtEnd (R.remaining reader.new.0)) }
+        ensures taken { IfOk result (λ b. Consumes (R.remaining reader.old.inner)
+            (R.remaining reader.new.inner) (bytes_of b.state.volume)) }
+        ensures all { IfOk result (λ _. IsAtEnd (R.remaining reader.new.inner)) }
         ensures looks { IfOk result (λ b. b.looks ≡ 0) }
-        ensures cut { IfOk result (λ b. IsCut (bytes_of b.state.volume) reading limits b.state.volume) }
+        ensures cut { IfOk result (λ b. IsCut (bytes_of b.state.volume) reading limits
+            b.state.volume) }
         ensures fields { IfOk result (λ b. b.state.fields ≡ geometry_at_load) }
         ensures reading { IfOk result (λ b. b.state.reading ≡ reading) }
         ensures limits { IfOk result (λ b. b.state.limits ≡ limits) }
-        ensures refused { IfErr result (λ fault. IsLoadFault (R.remaining reader.old.0) reading limits fault) }
-        ensures failures { MatchResult result (λ _. reader.new.1 ≡ reader.old.1)
-            (λ fault. FailuresAfterRefusal fault reader.old.1 reader.new.1) }
+        ensures refused { IfErr result (λ fault. IsLoadFault (R.remaining reader.old.inner) reading
+            limits fault) }
+        ensures failures { MatchResult result (λ _. reader.new.failures ≡ reader.old.failures)
+            (λ fault. FailuresAfterRefusal fault reader.old.failures reader.new.failures) }
     {
         let overlay = Overlay::load(alloc, reader, reading, limits)?;
         let Ok(fields) = FieldMap::standard(alloc, overlay.head().extensions) else {
@@ -97,8 +89,9 @@ impl Bench {
         })
     }
 
-    /// One edit: done, or refused and the state is as it was. `Set`, `Map`, `Patch`, `Blank`, `Copy` and `Move` take memory,
-    /// and are refused for want of it, E11, only where nothing else refuses them.
+    /// One edit: done, or refused and the state is as it was. `Set`, `Map`, `Patch`, `Blank`,
+    /// `Copy` and `Move` take memory, and are refused for want of it, E11, only where nothing else
+    /// refuses them.
     pub fn apply(&mut self, alloc: Global, edit: &Edit) -> Result<(), Refusal>
         ensures step { Step self.old.state edit.now result self.new.state }
         ensures looks { RisesAtMost self.old.looks self.new.looks (edit_looks edit.now) }
@@ -167,7 +160,8 @@ impl Bench {
 
     // The value into the place of trace p, or the first refusal.
     fn set(&mut self, alloc: Global, p: u32, place: Place, value: i128) -> Result<(), Refusal>
-        ensures step { Step self.old.state (edits.Set p (fields.Place place) value) result self.new.state }
+        ensures step { Step self.old.state (edits.Set p (fields.Place place) value) result
+            self.new.state }
         ensures looks { RisesAtMost self.old.looks self.new.looks 2 }
     {
         match self.set_refusal(p, place, value) {
@@ -178,22 +172,24 @@ impl Bench {
 
     // The value into the place of trace p, where nothing but memory refuses it.
     fn put_value(&mut self, alloc: Global, p: u32, place: Place, value: i128) -> Result<(), Refusal>
-        requires { refused self.old.state (edits.Set p (fields.Place place) value) ≡ None }
-        ensures ok { OnOk result (IsAfter self.old.state (edits.Set p (fields.Place place) value) self.new.state) }
-        ensures err { IfErr result (λ refusal. (refusal ≡ no_memory) × (self.new.state ≡ self.old.state)) }
+        requires { first_refusal self.old.state (edits.Set p (fields.Place place) value) ≡ None }
+        ensures ok { OnOk result (IsAfter self.old.state (edits.Set p (fields.Place place) value)
+            self.new.state) }
+        ensures err { IfErr result (λ refusal. (refusal ≡ no_memory) ×
+            (self.new.state ≡ self.old.state)) }
         ensures looks { self.new.looks ≡ self.old.looks }
     {
         let mut buffer = [0u8; 8];
         let new = &mut buffer[..usize::from(place.kind.size)];
         write(self.overlay.head().order, place.kind, value, new);
-        self.overlay
-            .put(alloc, p, u64::from(offset_of(place)), new)?;
+        self.overlay.put(alloc, p, u64::from(place.offset()), new)?;
         Ok(())
     }
 
     // The first refusal of the value at the place of trace p: E01, E03, E04, E06.
     fn set_refusal(&mut self, p: u32, place: Place, value: i128) -> Option<Refusal>
-        ensures refusal { result ≡ refused self.old.state (edits.Set p (fields.Place place) value) }
+        ensures refusal { result ≡ first_refusal self.old.state
+            (edits.Set p (fields.Place place) value) }
         ensures state { self.new.state ≡ self.old.state }
         ensures looks { RisesAtMost self.old.looks self.new.looks 1 }
     {
@@ -223,15 +219,15 @@ impl Bench {
 
     // The value into the place of the binary header, where nothing refuses it.
     fn put_in_binary(&mut self, place: Place, value: i128)
-        requires { refused self.old.state (edits.SetBin (fields.Place place) value) ≡ None }
-        ensures after { IsAfter self.old.state (edits.SetBin (fields.Place place) value) self.new.state }
+        requires { first_refusal self.old.state (edits.SetBin (fields.Place place) value) ≡ None }
+        ensures after { IsAfter self.old.state (edits.SetBin (fields.Place place) value)
+            self.new.state }
         ensures looks { self.new.looks ≡ self.old.looks }
     {
         let mut buffer = [0u8; 8];
         let new = &mut buffer[..usize::from(place.kind.size)];
         write(self.overlay.head().order, place.kind, value, new);
-        self.overlay
-            .put_head(u32::from(binary_header::offset_of(place)), new);
+        self.overlay.put_head(u32::from(binary_offset(place)), new);
     }
 
     // The text as line q of the textual header, or the first refusal: E03, E07.
@@ -305,7 +301,7 @@ impl Bench {
             return Err(AskFault::NoField);
         };
         let order = self.overlay.head().order;
-        match binary_header::value_of(order, self.overlay.bin(), place) {
+        match binary_value(order, self.overlay.bin(), place) {
             Some(value) => Ok(Answer::Value(value)),
             None => Err(AskFault::NoPlace),
         }
@@ -343,10 +339,11 @@ impl Bench {
     }
 
     // The extended textual header n, counted from 1, or behind the last the data trailer record.
-    fn text_block(&self, n: u64) -> Option<&[u8; 3200]>
+    fn text_block(&self, n: u64) -> Option<&[u8; TEXT_BLOCK_BYTES]>
         requires first { 1 ≤ n }
         requires last { n ≤ length (text_blocks self.now.state.volume) }
-        ensures { option_map (λ x. x.now) result ≡ slice_get (text_blocks self.now.state.volume) (n - 1) }
+        ensures { option_map (λ x. x.now) result ≡ slice_get (text_blocks self.now.state.volume)
+            (n - 1) }
     {
         let blocks = u64::from(self.overlay.head().blocks);
         if n <= blocks {
@@ -367,7 +364,7 @@ impl Bench {
             };
             add_stanzas(alloc, &mut all, before + 1, block)?;
         }
-        Ok(Answer::Stanzas(Listed::new(all)))
+        Ok(Answer::Stanzas(Items::new(all)))
     }
 
     // The bound names with their places.
@@ -378,7 +375,7 @@ impl Bench {
         for (name, place) in self.fields.entries() {
             all.push((Text::new(String::from_str(alloc, name)?), place))?;
         }
-        Ok(Answer::Fields(Listed::new(all)))
+        Ok(Answer::Fields(Items::new(all)))
     }
 
     // The value at the place of trace p: E01, E03.
@@ -421,11 +418,12 @@ impl Bench {
         }
     }
 
-    /// Writes the file as it is now. Refused where the writer failed; `written` is then the length of the prefix that
-    /// it took. Takes no memory.
+    /// Writes the file as it is now. Refused where the writer failed; `written` is then the length
+    /// of the prefix that it took. Takes no memory.
     pub fn save<W: Write>(&self, writer: &mut Sink<W>) -> Result<(), SaveFault>
-        ensures saved { Saves (W.contents writer.old.0) (W.contents writer.new.0) (bytes_of self.now.state.volume) result }
-        ensures failures { CountsFailure result writer.old.1 writer.new.1 }
+        ensures saved { Saves (W.contents writer.old.inner) (W.contents writer.new.inner)
+            (bytes_of self.now.state.volume) result }
+        ensures failures { CountsFailure result writer.old.failures writer.new.failures }
     {
         self.overlay.write_to(writer)
     }
@@ -437,7 +435,8 @@ impl Bench {
         self.overlay.count()
     }
 
-    /// How often traces were looked at since the file was loaded; stays at `u64::MAX` once there. Takes no memory.
+    /// How often traces were looked at since the file was loaded; stays at `u64::MAX` once there.
+    /// Takes no memory.
     pub fn looks(&self) -> u64
         ensures { result ≡ self.now.looks }
     {

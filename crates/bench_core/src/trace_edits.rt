@@ -1,27 +1,17 @@
 // Edits of samples and of whole traces.
 ghost use Rattle.std.specs.Prelude.{◌≡◌, ◌<◌, ◌≤◌, ◌^◌, length, None, OnOk, IfErr};
 ghost use Rattle.frame_cut.specs.Frames.{length_with};
-ghost use Rattle.bench_core.specs.declared.edit.Edit.TheVariants as edits;
-ghost use Rattle.bench_core.specs.declared.refusal.Refusal.TheVariants.{OutOfMemory as no_memory};
-ghost use Rattle.bench_core.specs.Looks.{RisesAtMost};
-ghost use Rattle.bench_core.specs.Refused.{refused, no_trace, no_place_for_trace, room_refusal, insert_refusal};
-ghost use Rattle.bench_core.specs.Steps.{IsAfter, Step};
+ghost use Rattle.bench_rules.specs.declared.edit.Edit.TheVariants as edits;
+ghost use Rattle.bench_rules.specs.declared.refusal.Refusal.TheVariants.{OutOfMemory as no_memory};
+ghost use Rattle.bench_rules.specs.Looks.{RisesAtMost};
+ghost use Rattle.bench_rules.specs.Refused.{first_refusal, no_trace, no_place_for_trace, room_refusal, insert_refusal};
+ghost use Rattle.bench_rules.specs.Steps.{IsAfter, Step};
 
 use crate::bench::Bench;
-use crate::refusal::Refusal;
-use crate::samples::{patch_refusal, sample_place};
-use crate::trace_bytes::{joined, samples_bytes, zeros};
-use frame_cut::Head;
+use bench_rules::{
+    Refusal, blank_length, joined, patch_refusal, sample_place, samples_bytes, zeros,
+};
 use std::alloc::Global;
-
-// How many bytes a trace of zeros has: its headers, and the samples that the binary header says.
-fn blank_length(head: &Head) -> u64
-    ensures length { result ≡ length_with head.now head.now.extensions head.now.samples }
-    ensures small { result < 2 ^ 40 }
-{
-    240 * (1 + u64::from(head.extensions))
-        + u64::from(head.format.width()) * u64::from(head.samples)
-}
 
 impl Bench {
     // The first refusal of a trace's number: E01.
@@ -74,14 +64,14 @@ impl Bench {
 
     // The first refusal of a blank trace: E01, E09, E10.
     fn blank_refusal(&self, p: u32) -> Option<Refusal>
-        ensures { result ≡ refused self.now.state (edits.Blank p) }
+        ensures { result ≡ first_refusal self.now.state (edits.Blank p) }
     {
         self.insert_refusal(p, blank_length(&self.overlay.head()))
     }
 
     // The first refusal of a trace that is moved: E01.
     fn move_refusal(&self, a: u32, b: u32) -> Option<Refusal>
-        ensures { result ≡ refused self.now.state (edits.Move a b) }
+        ensures { result ≡ first_refusal self.now.state (edits.Move a b) }
     {
         match self.no_trace(a) {
             Some(refusal) => Some(refusal),
@@ -91,7 +81,7 @@ impl Bench {
 
     // The first refusal of a trace that is copied: E01, E09, E10.
     fn copy_refusal(&mut self, q: u32, p: u32) -> Option<Refusal>
-        ensures refusal { result ≡ refused self.old.state (edits.Copy q p) }
+        ensures refusal { result ≡ first_refusal self.old.state (edits.Copy q p) }
         ensures state { self.new.state ≡ self.old.state }
         ensures looks { RisesAtMost self.old.looks self.new.looks 1 }
     {
@@ -104,7 +94,7 @@ impl Bench {
 
     // The first refusal of values over samples: E01, E04, E05.
     fn patch_refusal(&mut self, p: u32, k: u32, values: &[i128]) -> Option<Refusal>
-        ensures refusal { result ≡ refused self.old.state (edits.Patch p k values.now) }
+        ensures refusal { result ≡ first_refusal self.old.state (edits.Patch p k values.now) }
         ensures state { self.new.state ≡ self.old.state }
         ensures looks { RisesAtMost self.old.looks self.new.looks 1 }
     {
@@ -134,9 +124,11 @@ impl Bench {
 
     // The values over samples of trace p, where nothing but memory refuses them.
     fn put_values(&mut self, alloc: Global, p: u32, k: u32, values: &[i128]) -> Result<(), Refusal>
-        requires { refused self.old.state (edits.Patch p k values.now) ≡ None }
-        ensures ok { OnOk result (IsAfter self.old.state (edits.Patch p k values.now) self.new.state) }
-        ensures err { IfErr result (λ refusal. (refusal ≡ no_memory) × (self.new.state ≡ self.old.state)) }
+        requires { first_refusal self.old.state (edits.Patch p k values.now) ≡ None }
+        ensures ok { OnOk result (IsAfter self.old.state (edits.Patch p k values.now)
+            self.new.state) }
+        ensures err { IfErr result (λ refusal. (refusal ≡ no_memory) ×
+            (self.new.state ≡ self.old.state)) }
         ensures looks { RisesAtMost self.old.looks self.new.looks 1 }
     {
         let head = self.overlay.head();
@@ -162,9 +154,10 @@ impl Bench {
 
     // A blank trace in front of trace p, or behind the last, where nothing but memory refuses it.
     fn insert_blank(&mut self, alloc: Global, p: u32) -> Result<(), Refusal>
-        requires { refused self.old.state (edits.Blank p) ≡ None }
+        requires { first_refusal self.old.state (edits.Blank p) ≡ None }
         ensures ok { OnOk result (IsAfter self.old.state (edits.Blank p) self.new.state) }
-        ensures err { IfErr result (λ refusal. (refusal ≡ no_memory) × (self.new.state ≡ self.old.state)) }
+        ensures err { IfErr result (λ refusal. (refusal ≡ no_memory) ×
+            (self.new.state ≡ self.old.state)) }
         ensures looks { self.new.looks ≡ self.old.looks }
     {
         let trace = zeros(alloc, blank_length(&self.overlay.head()) as usize)?;
@@ -172,7 +165,8 @@ impl Bench {
         Ok(())
     }
 
-    // A copy of trace q in front of trace p, or behind the last, or the first refusal: E01, E09, E10.
+    // A copy of trace q in front of trace p, or behind the last, or the first refusal: E01, E09,
+    // E10.
     pub(crate) fn copy(&mut self, alloc: Global, q: u32, p: u32) -> Result<(), Refusal>
         ensures step { Step self.old.state (edits.Copy q p) result self.new.state }
         ensures looks { RisesAtMost self.old.looks self.new.looks 2 }
@@ -183,11 +177,13 @@ impl Bench {
         }
     }
 
-    // A copy of trace q in front of trace p, or behind the last, where nothing but memory refuses it.
+    // A copy of trace q in front of trace p, or behind the last, where nothing but memory refuses
+    // it.
     fn insert_copy(&mut self, alloc: Global, q: u32, p: u32) -> Result<(), Refusal>
-        requires { refused self.old.state (edits.Copy q p) ≡ None }
+        requires { first_refusal self.old.state (edits.Copy q p) ≡ None }
         ensures ok { OnOk result (IsAfter self.old.state (edits.Copy q p) self.new.state) }
-        ensures err { IfErr result (λ refusal. (refusal ≡ no_memory) × (self.new.state ≡ self.old.state)) }
+        ensures err { IfErr result (λ refusal. (refusal ≡ no_memory) ×
+            (self.new.state ≡ self.old.state)) }
         ensures looks { RisesAtMost self.old.looks self.new.looks 1 }
     {
         let bytes = match self.overlay.look(q) {
@@ -214,7 +210,7 @@ impl Bench {
 
     // Trace p out, where it is there.
     fn take_out(&mut self, p: u32)
-        requires { refused self.old.state (edits.Delete p) ≡ None }
+        requires { first_refusal self.old.state (edits.Delete p) ≡ None }
         ensures after { IsAfter self.old.state (edits.Delete p) self.new.state }
         ensures looks { self.new.looks ≡ self.old.looks }
     {
@@ -234,9 +230,10 @@ impl Bench {
 
     // Trace a as trace b, where nothing but memory refuses it.
     fn put_elsewhere(&mut self, alloc: Global, a: u32, b: u32) -> Result<(), Refusal>
-        requires { refused self.old.state (edits.Move a b) ≡ None }
+        requires { first_refusal self.old.state (edits.Move a b) ≡ None }
         ensures ok { OnOk result (IsAfter self.old.state (edits.Move a b) self.new.state) }
-        ensures err { IfErr result (λ refusal. (refusal ≡ no_memory) × (self.new.state ≡ self.old.state)) }
+        ensures err { IfErr result (λ refusal. (refusal ≡ no_memory) ×
+            (self.new.state ≡ self.old.state)) }
         ensures looks { self.new.looks ≡ self.old.looks }
     {
         self.overlay.move_to(alloc, a, b)?;

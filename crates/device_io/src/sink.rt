@@ -3,12 +3,14 @@ ghost use Rattle.std.specs.Prelude.{◌≡◌, ◌<◌, length, IfOk};
 ghost use Rattle.std.specs.Io.{WritesAtMost};
 ghost use Rattle.std.specs.Io.KnownBytes.{WriteAppends};
 ghost use Rattle.device_io.specs.Failures.{CountsFailure};
+ghost use Rattle.device_io.specs.WholeWrites.{TakesAll};
 
 use crate::failed::Failed;
+use crate::write_fault::WriteFault;
 use std::io::Write;
 use std::marker::Model;
 
-/// A writer and the count of its failed writes: a clause sees that pair.
+/// A writer and the count of its failed writes: a clause sees them as `inner` and `failures`.
 #[derive(Drop)]
 pub struct Sink<W> {
     inner: W,
@@ -16,29 +18,29 @@ pub struct Sink<W> {
 }
 
 impl<W> Model for Sink<W> {
-    ghost use Rattle.std.specs.Prelude.{ℕ};
+    ghost use Rattle.device_io.specs.Devices.{CountedDevice};
 
-    ghost Value = { W × ℕ };
+    ghost Value = { CountedDevice W };
 
-    ghost view = { λ s. (s.inner, s.failures) };
+    ghost view = { λ s. record { inner = s.inner; failures = s.failures } };
 }
 
 impl<W: Write> Sink<W> {
     /// The writer, with no failure yet. Takes no memory.
     pub fn new(inner: W) -> Sink<W>
-        ensures { result ≡ (inner, 0) }
+        ensures { result ≡ record { inner = inner; failures = 0 } }
     {
         Sink { inner, failures: 0 }
     }
 
-    /// One write, by the writer itself: it takes some of the first bytes. `Failed` is its error, or that it took none of
-    /// some bytes. It has added nothing to the writer, and is counted.
+    /// One write, by the writer itself: it takes some of the first bytes. `Failed` is its error, or
+    /// that it took none of some bytes. It has added nothing to the writer, and is counted.
     pub fn write(&mut self, buf: &[u8]) -> Result<usize, Failed>
         ensures bound { WritesAtMost result buf.now }
         ensures some { IfOk result (λ n. 0 < length buf.now → 0 < n) }
-        ensures bytes { WriteAppends (W.contents self.old.0)
-            (W.contents self.new.0) result buf.now }
-        ensures failures { CountsFailure result self.old.1 self.new.1 }
+        ensures bytes { WriteAppends (W.contents self.old.inner) (W.contents self.new.inner) result
+            buf.now }
+        ensures failures { CountsFailure result self.old.failures self.new.failures }
     {
         match self.inner.write(buf) {
             Ok(n) if n > 0 || buf.is_empty() => Ok(n),
@@ -49,16 +51,33 @@ impl<W: Write> Sink<W> {
         }
     }
 
+    /// Writes all the bytes. Takes no memory. Refused where a write failed, in this call; the
+    /// writer has then taken the first `written` bytes, and not all.
+    pub fn write_all(&mut self, bytes: &[u8]) -> Result<(), WriteFault>
+        ensures bytes { TakesAll (W.contents self.old.inner) (W.contents self.new.inner) bytes.now
+            result }
+        ensures failures { CountsFailure result self.old.failures self.new.failures }
+    {
+        let mut at = 0;
+        'turns: while at < bytes.len() {
+            match self.write(&bytes[at..]) {
+                Ok(count) => at += count,
+                Err(_) => return Err(WriteFault { written: at as u64 }),
+            }
+        }
+        Ok(())
+    }
+
     /// How many writes have failed. At `u64::MAX` it stays.
     pub fn failures(&self) -> u64
-        ensures { result ≡ self.now.1 }
+        ensures { result ≡ self.now.failures }
     {
         self.failures
     }
 
     /// The writer, as it is now.
     pub fn into_inner(self) -> W
-        ensures { result ≡ self.0 }
+        ensures { result ≡ self.inner }
     {
         self.inner
     }
@@ -80,6 +99,17 @@ mod tests {
         assert_eq!(rt; sink.failures(), 1);
         let _writer = sink.into_inner();
         assert_eq!(rt; &room, b"segy----");
+    }
+
+    #[test]
+    fn writes_all_or_names_how_much(rt: HostRuntime) {
+        let mut room = [b'-'; 8];
+        let mut sink = Sink::new(StepWriter::new(&mut room, 3, 8));
+        assert_eq!(rt; sink.write_all(b"segywb"), Ok(()));
+        assert_eq!(rt; sink.write_all(b"sgy"), Err(WriteFault { written: 2 }));
+        assert_eq!(rt; sink.failures(), 1);
+        let _writer = sink.into_inner();
+        assert_eq!(rt; &room, b"segywbsg");
     }
 
     #[test]

@@ -1,14 +1,20 @@
 // A reader that counts its failures.
-ghost use Rattle.std.specs.Prelude.{◌≡◌};
+ghost use Rattle.std.specs.Prelude.{◌≡◌, ◌≤◌, length, IfOk, IfErr, MatchResult};
 ghost use Rattle.std.specs.Io.{ReadsAtMost};
 ghost use Rattle.std.specs.Io.KnownBytes.{ReadConsumes};
 ghost use Rattle.device_io.specs.Failures.{CountsFailure};
+ghost use Rattle.device_io.specs.WholeReads.{FailuresAfter, GivesAll, GivesBefore};
 
 use crate::failed::Failed;
+use crate::read_fault::ReadFault;
+use std::alloc::Global;
 use std::io::Read;
 use std::marker::Model;
 
-/// A reader and the count of its failed reads: a clause sees that pair.
+// How many bytes `read_up_to` asks for at once.
+const CHUNK: usize = 65536;
+
+/// A reader and the count of its failed reads: a clause sees them as `inner` and `failures`.
 #[derive(Drop)]
 pub struct Source<R> {
     inner: R,
@@ -16,27 +22,29 @@ pub struct Source<R> {
 }
 
 impl<R> Model for Source<R> {
-    ghost use Rattle.std.specs.Prelude.{ℕ};
+    ghost use Rattle.device_io.specs.Devices.{CountedDevice};
 
-    ghost Value = { R × ℕ };
+    ghost Value = { CountedDevice R };
 
-    ghost view = { λ s. (s.inner, s.failures) };
+    ghost view = { λ s. record { inner = s.inner; failures = s.failures } };
 }
 
 impl<R: Read> Source<R> {
     /// The reader, with no failure yet. Takes no memory.
     pub fn new(inner: R) -> Source<R>
-        ensures { result ≡ (inner, 0) }
+        ensures { result ≡ record { inner = inner; failures = 0 } }
     {
         Source { inner, failures: 0 }
     }
 
-    /// One read, by the reader itself: it gives some of the next bytes, and 0 of them only at the end or where there is no
-    /// room. `Failed` is its error, has taken nothing from it, and is counted.
+    /// One read, by the reader itself: it gives some of the next bytes, and 0 of them only at the
+    /// end or where there is no room. `Failed` is its error, has taken nothing from it, and is
+    /// counted.
     pub fn read(&mut self, buf: &mut [u8]) -> Result<usize, Failed>
         ensures bound { ReadsAtMost result buf.new }
-        ensures bytes { ReadConsumes (R.remaining self.old.0) (R.remaining self.new.0) result buf.new }
-        ensures failures { CountsFailure result self.old.1 self.new.1 }
+        ensures bytes { ReadConsumes (R.remaining self.old.inner) (R.remaining self.new.inner)
+            result buf.new }
+        ensures failures { CountsFailure result self.old.failures self.new.failures }
     {
         match self.inner.read(buf) {
             Ok(n) => Ok(n),
@@ -47,16 +55,47 @@ impl<R: Read> Source<R> {
         }
     }
 
+    /// All bytes up to the reader's end, which are at most `limit`. Takes memory for them. Refused
+    /// where a read failed, where there are more than `limit`, and where a growth was refused; the
+    /// bytes read before are then dropped. Never more than one byte above the limit is asked for.
+    pub fn read_up_to(&mut self, alloc: Global, limit: u64) -> Result<Vec<u8>, ReadFault>
+        ensures all { IfOk result (λ v. GivesAll (R.remaining self.old.inner)
+            (R.remaining self.new.inner) v.items) }
+        ensures within { IfOk result (λ v. length v.items ≤ limit) }
+        ensures refused { IfErr result (λ fault. GivesBefore fault (R.remaining self.old.inner)
+            (R.remaining self.new.inner) limit) }
+        ensures failures { MatchResult result (λ _. self.new.failures ≡ self.old.failures)
+            (λ fault. FailuresAfter fault self.old.failures self.new.failures) }
+    {
+        let most = limit as usize;
+        let mut bytes = Vec::new(alloc);
+        let mut chunk = [0u8; CHUNK];
+        'turns: while bytes.len() <= most {
+            let want = CHUNK.min((most - bytes.len()).saturating_add(1));
+            let count = match self.read(&mut chunk[..want]) {
+                Ok(count) => count,
+                Err(_) => return Err(ReadFault::ReadFailed),
+            };
+            if count == 0 {
+                return Ok(bytes);
+            }
+            if bytes.extend_from_slice(&chunk[..count]).is_err() {
+                return Err(ReadFault::OutOfMemory);
+            }
+        }
+        Err(ReadFault::TooLarge)
+    }
+
     /// How many reads have failed. At `u64::MAX` it stays.
     pub fn failures(&self) -> u64
-        ensures { result ≡ self.now.1 }
+        ensures { result ≡ self.now.failures }
     {
         self.failures
     }
 
     /// The reader, as it is now.
     pub fn into_inner(self) -> R
-        ensures { result ≡ self.0 }
+        ensures { result ≡ self.inner }
     {
         self.inner
     }
@@ -82,6 +121,27 @@ mod tests {
         assert_eq!(rt; source.failures(), 2);
         let mut inner = source.into_inner();
         assert!(rt; inner.read(&mut buf).is_err());
+        Ok(())
+    }
+
+    #[test]
+    fn reads_up_to_a_limit(rt: HostRuntime) -> Result<(), Fail> {
+        let alloc = rt.alloc();
+        let mut source = Source::new(StepReader::new(b"segywb", 2, 9));
+        let bytes = source.read_up_to(alloc, 6)?;
+        assert_eq!(rt; bytes.as_slice(), b"segywb".as_slice());
+        assert_eq!(rt; source.failures(), 0);
+        let mut source = Source::new(StepReader::new(b"segywb", 2, 9));
+        assert_eq!(rt;
+            source.read_up_to(alloc, 5).err(),
+            Some(ReadFault::TooLarge)
+        );
+        let mut source = Source::new(StepReader::new(b"segywb", 2, 3));
+        assert_eq!(rt;
+            source.read_up_to(alloc, 6).err(),
+            Some(ReadFault::ReadFailed)
+        );
+        assert_eq!(rt; source.failures(), 1);
         Ok(())
     }
 

@@ -7,7 +7,8 @@ ghost use Rattle.device_io.specs.Steps.{given_count};
 use std::io::{Error, ErrorKind, Read, Result};
 use std::marker::Model;
 
-/// A reader for tests: it gives the bytes of a slice, at most `step` in each call, and fails after `calls` calls.
+/// A reader for tests: it gives the bytes of a slice, at most `step` in each call, and fails after
+/// `calls` calls.
 #[derive(Drop)]
 pub struct StepReader<'a> {
     rest: &'a [u8],
@@ -27,8 +28,8 @@ impl<'a> Model for StepReader<'a> {
 }
 
 impl<'a> StepReader<'a> {
-    /// Gives the bytes, at most `step` in each call. The first `calls` calls succeed, and each later one fails and takes
-    /// nothing. Takes no memory.
+    /// Gives the bytes, at most `step` in each call. The first `calls` calls succeed, and each
+    /// later one fails and takes nothing. Takes no memory.
     pub fn new(bytes: &'a [u8], step: usize, calls: u64) -> StepReader<'a>
         requires { 0 < step }
         ensures { result ≡ record { rest = bytes.now; step = step; calls = calls } }
@@ -54,7 +55,9 @@ impl Read for StepReader<'_> {
 
         ensures count { IfOk result (λ n. n ≡ given_count self.old (length buf.old)) }
         ensures given { IfOk result (λ n. buf.new ≡ take n self.old.rest ++ drop n buf.old) }
-        ensures left { IfOk result (λ n. self.new ≡ record self.old { rest = drop n self.old.rest; calls = self.old.calls - 1 }) }
+        ensures left { IfOk result
+            (λ n. self.new ≡ record self.old
+            { rest = drop n self.old.rest; calls = self.old.calls - 1 }) }
     {
         if self.calls == 0 {
             return Err(Error::new(ErrorKind::Other, "the step reader failed"));

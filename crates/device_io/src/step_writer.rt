@@ -7,7 +7,8 @@ ghost use Rattle.device_io.specs.Steps.{taken_count};
 use std::io::{Error, ErrorKind, Result, Write};
 use std::marker::Model;
 
-/// A writer for tests: it takes bytes into a slice, at most `step` in each call, and fails once it holds `limit`.
+/// A writer for tests: it takes bytes into a slice, at most `step` in each call, and fails once it
+/// holds `limit`.
 #[derive(Drop)]
 pub struct StepWriter<'a> {
     room: &'a mut [u8],
@@ -28,8 +29,8 @@ impl<'a> Model for StepWriter<'a> {
 }
 
 impl<'a> StepWriter<'a> {
-    /// Takes at most `step` bytes in each call, and at most `limit` in all, or as many as the slice has room for. Once it
-    /// holds them, each call fails and adds nothing. Takes no memory.
+    /// Takes at most `step` bytes in each call, and at most `limit` in all, or as many as the slice
+    /// has room for. Once it holds them, each call fails and adds nothing. Takes no memory.
     pub fn new(room: &'a mut [u8], step: usize, limit: usize) -> StepWriter<'a>
         ensures { result ≡ record { held = []; step = step; limit = min limit (length room.old) } }
     {
@@ -55,7 +56,8 @@ impl Write for StepWriter<'_> {
         ensures failed { OnErr result (self.new ≡ self.old) }
 
         ensures count { IfOk result (λ n. n ≡ taken_count self.old (length buf.now)) }
-        ensures taken { IfOk result (λ n. self.new ≡ record self.old { held = self.old.held ++ take n buf.now }) }
+        ensures taken { IfOk result
+            (λ n. self.new ≡ record self.old { held = self.old.held ++ take n buf.now }) }
     {
         let held = self.held;
         if held >= self.limit {

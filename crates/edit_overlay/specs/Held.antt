@@ -1,8 +1,10 @@
 -- How an overlay holds a volume: its headers beside the loaded file, and the traces over it.
-use Rattle.std.specs.Prelude.{◌≡◌, ◌+◌, ◌-◌, ◌*◌, ◌≤◌, List, ℕ, length, drop}
+use Rattle.std.specs.Prelude.{◌≡◌, ◌+◌, ◌-◌, ◌*◌, ◌≤◌, List, ℕ, length, drop, Option}
 use Rattle.frame_cut.specs.Heads.{blocks_of}
 use Rattle.frame_cut.specs.Volume.{Volume, bytes_of}
-use Rattle.edit_overlay.specs.Looked.{Looked}
+use Rattle.edit_overlay.specs.Ahead.{traces_ahead, IsReadyIfSome}
+use Rattle.edit_overlay.specs.CountedVolume.{CountedVolume}
+use Rattle.edit_overlay.specs.declared.prepared.Prepared.{Prepared}
 use Rattle.edit_overlay.specs.Slots.{traces_of, IsStore}
 use Rattle.edit_overlay.specs.declared.store.TraceStore.{TraceStore}
 use Rattle.edit_overlay.specs.declared.overlay.Overlay.TheInside.{Inside}
@@ -15,12 +17,20 @@ volume_with text bin s = record {
   bin = bin;
   blocks = blocks_of s.head.blocks (drop 3600 s.loaded.items);
   traces = traces_of s;
-  tail = blocks_of s.head.trailer (drop (length s.loaded.items - 3200 * s.head.trailer) s.loaded.items);
+  trailer = blocks_of s.head.trailer (drop (length s.loaded.items - 3200 * s.head.trailer) s.loaded.items);
 }
 
+-- the same as it would be with prepared runs
+abbrev pub volume_ahead : List ℕ → List ℕ → TraceStore → Option Prepared → Volume
+volume_ahead text bin s prepared = record (volume_with text bin s) { traces = traces_ahead s prepared }
+
 -- what an overlay shows
-abbrev pub looked_of : Inside → Looked
-looked_of o = record { volume = volume_with o.text o.bin o.store; looks = o.looks }
+abbrev pub looked_of : Inside → CountedVolume
+looked_of o = record {
+  volume = volume_with o.text o.bin o.store;
+  prepared = volume_ahead o.text o.bin o.store o.prepared;
+  looks = o.looks;
+}
 
 -- the loaded file has the blocks in front of its traces, and the data trailer records behind them
 pub record HasEnds (s : TraceStore) : Type 0 where
@@ -33,4 +43,5 @@ pub record IsHeld (o : Inside) : Type 0 where
   pub ends : HasEnds o.store
   pub text : length o.text ≡ 3200
   pub bin : length o.bin ≡ 400
+  pub prepared : IsReadyIfSome o.store o.prepared
   pub length : o.length ≡ length (bytes_of (volume_with o.text o.bin o.store))

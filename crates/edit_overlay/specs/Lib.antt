@@ -1,8 +1,8 @@
+pub mod Ahead
 pub mod Loading
 pub mod Saving
 pub mod Held
-pub mod Parts
 pub mod Slots
 pub mod Each
-pub mod Looked
+pub mod CountedVolume
 pub mod Looks

@@ -17,7 +17,7 @@ abbrev pub IsLoadFault : Option (List ℕ) → Reading → Limits → LoadFault 
 IsLoadFault known reading limits fault =
     (fault ≡ ReadFailed) ⊎ (fault ≡ OutOfMemory) ⊎ IfSome known (λ file. IsRefused file reading limits fault)
 
--- all bytes of a reader are not read for this reason: a read failed, memory was refused, or it gives more than the
+-- not all bytes of a reader are read, for this reason: a read failed, memory was refused, or it gives more than the
 -- limit
 abbrev pub IsReadFault : Option (List ℕ) → Limits → LoadFault → Type 0
 IsReadFault known limits fault =

@@ -3,9 +3,9 @@ use Rattle.std.specs.Prelude.{◌≡◌, ⊤, Option, MatchOption}
 use Rattle.std.specs.Borrow.{Fml, MutBor, follows_so}
 use mathlib.Core.Option.{none}
 use Rattle.trace_view.specs.declared.view.TraceView.{TraceView}
-use Rattle.edit_overlay.specs.Looked.{Looked, looked}
+use Rattle.edit_overlay.specs.CountedVolume.{CountedVolume, with_one_look}
 use Rattle.edit_overlay.specs.contracts.overlay.Overlay.{the_row}
 
 -- it is as before, but for one look more where there was a view
-abbrev pub EndsLooked : MutBor Looked → Option TraceView → Fml
-EndsLooked o view = follows_so the_row the_row o.ghost_name none (λ _ _. ⊤) (λ last. MatchOption view (last ≡ o.now) (λ _. last ≡ looked o.now))
+abbrev pub EndsLooked : MutBor CountedVolume → Option TraceView → Fml
+EndsLooked o view = follows_so the_row the_row o.ghost_name none (λ _ _. ⊤) (λ last. MatchOption view (last ≡ o.now) (λ _. last ≡ with_one_look o.now))

@@ -2,11 +2,11 @@
 use Rattle.std.specs.Prelude.{ℕ, ◌≡◌, ◌+◌, ◌<◌, ◌≤◌, ◌^◌, List, [], length, map, IsSomeAnd}
 use Rattle.std.specs.Option.{option_map_or}
 use Rattle.slab.specs.Slab.{Slab, get, slab_len}
-use Rattle.frame_cut.specs.declared.head.Head.{Head}
+use Rattle.frame_cut.specs.declared.file_head.Head.{Head}
 use Rattle.frame_cut.specs.Cuts.{IsTrace}
 use Rattle.frame_cut.specs.Layout.{bytes_at}
 use Rattle.trace_seq.specs.Order.{times, AreDistinct}
-use Rattle.trace_view.specs.Runs.{Fit, written}
+use Rattle.trace_view.specs.Runs.{Fit, bytes_with_runs}
 use Rattle.edit_overlay.specs.declared.slot.Base.{Base}
 use Rattle.edit_overlay.specs.declared.slot.Base.TheVariants.{Loaded, Added}
 use Rattle.edit_overlay.specs.declared.slot.Slot.{Slot}
@@ -24,7 +24,7 @@ IsInside loaded (Added bytes) = Unit {0}
 
 -- the bytes of a slot's trace
 abbrev pub bytes_in : List ℕ → Slot → List ℕ
-bytes_in loaded slot = written (base_of loaded slot.base) slot.runs.items
+bytes_in loaded slot = bytes_with_runs (base_of loaded slot.base) slot.runs.items
 
 -- the slot holds a whole trace
 pub record IsSlot (loaded : List ℕ) (h : Head) (slot : Slot) : Type 0 where

@@ -1,25 +1,34 @@
 //! A volume under edits: the bytes that were loaded, and what edits laid over them.
 //!
-//! Contracts see an [`Overlay`] as the parts of its file (head, textual header, binary header, extended textual
-//! headers, traces and data trailer records) and the number of looks at its traces. Traces count from 1, bytes of a
-//! trace from 0.
+//! Contracts see an [`Overlay`] as the parts of its file (head, textual header, binary header,
+//! extended textual headers, traces and data trailer records) and the number of looks at its
+//! traces, and beside the parts as they are those that they would be with the edit that is
+//! prepared. Traces count from 1, bytes of a trace from 0.
 //!
-//! The loaded bytes stand in one vector and never change. A trace is a slot: its place in that vector, or bytes of
-//! its own where it was inserted or replaced, and over them the runs of bytes that puts laid there. The order of the
-//! traces is a list of the slots' numbers. A save writes the parts one behind the other, neighbouring ranges of the
-//! loaded bytes at once, and joins nothing in memory.
+//! The loaded bytes stand in one vector and never change. A trace is a slot: its place in that
+//! vector, or bytes of its own where it was inserted or replaced, and over them the runs of bytes
+//! that puts laid there. The order of the traces is a list of the slots' numbers. A save writes the
+//! parts one behind the other, neighbouring ranges of the loaded bytes at once, and joins nothing
+//! in memory.
 //!
-//! `load` takes memory for the file's bytes, and like `from_bytes` for a slot for each trace; `put` and `put_each` take
-//! it for the runs of the traces that they change, `insert` for one slot and for room in the order, `move_to` for room
-//! in the order. Each of them may be refused for want of memory, and then nothing is changed. No other call takes any.
+//! `load` takes memory for the file's bytes, and like `from_bytes` for a slot for each trace; `put`
+//! and `put_each`, and what prepares them, take it for the runs of the traces that they change,
+//! `insert` for one slot and for room in the order, `move_to` for room in the order. Each of them
+//! may be refused for want of memory, and then nothing is changed. No other call takes any.
 //!
-//! `look` shows a trace in the pieces in which it is held, and is counted: contracts can say how often traces were
-//! read.
+//! A put has two parts for a caller that has to show its outcome first: `prepare_put` and
+//! `prepare_put_each` take all the memory and change nothing, `look_prepared` shows a trace as it
+//! would be, and `commit`, which cannot fail, makes the edit; `discard` drops it. An overlay holds
+//! one such edit at a time, and any other edit drops it.
+//!
+//! `look` and `look_prepared` show a trace in the pieces in which it is held, and are counted:
+//! contracts can say how often traces were read.
 #![tactic(auto)]
 
 mod bytes;
 mod out_of_memory;
 mod overlay;
+mod prepared;
 mod reading_in;
 mod save_fault;
 mod slot;

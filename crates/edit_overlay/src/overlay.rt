@@ -9,38 +9,41 @@ ghost use Rattle.frame_cut.specs.Volume.{bytes_of};
 ghost use Rattle.frame_cut.specs.declared.load_fault.LoadFault.TheVariants.{OutOfMemory as no_memory};
 ghost use Rattle.edit_overlay.specs.Each.{part_of};
 ghost use Rattle.edit_overlay.specs.Loading.{IsLoadFault, FailuresAfterRefusal};
-ghost use Rattle.edit_overlay.specs.Looked.{with_volume};
-ghost use Rattle.edit_overlay.specs.Parts.{block_of, trailer_of, with_line, with_header_bytes, with_each, with_inserted, without, with_moved};
+ghost use Rattle.edit_overlay.specs.CountedVolume.{with_prepared, with_volume};
+ghost use Rattle.frame_cut.specs.Parts.{block_of, trailer_of, with_line, with_header_bytes, with_each, with_inserted, without, with_moved};
 ghost use Rattle.edit_overlay.specs.Saving.{Saves};
 
 use crate::bytes::{array_at, overwrite};
 use crate::out_of_memory::OutOfMemory;
+use crate::prepared::Prepared;
 use crate::reading_in::read_file;
 use crate::save_fault::SaveFault;
 use crate::slot::Base;
 use crate::store::TraceStore;
 use crate::writing_out::write_volume;
 use device_io::{Sink, Source};
-use frame_cut::{Head, Limits, LoadFault, Reading, cut_file};
+use frame_cut::{Head, Limits, LoadFault, Reading, cut};
 use std::alloc::Global;
 use std::io::{Read, Write};
 use std::marker::Model;
 use trace_view::TraceView;
 
-/// A volume under edits: one SEG-Y file in its parts. The bytes that were loaded never change: edits lie over them.
+/// A volume under edits: one SEG-Y file in its parts. The bytes that were loaded never change:
+/// edits lie over them.
 #[derive(Drop)]
 pub struct Overlay {
     text: [u8; 3200],
     bin: [u8; 400],
     store: TraceStore,
+    prepared: Option<Prepared>,
     length: u64,
     looks: u64,
 }
 
 impl Model for Overlay {
-    ghost use Rattle.edit_overlay.specs.Looked.{Looked};
+    ghost use Rattle.edit_overlay.specs.CountedVolume.{CountedVolume};
 
-    ghost Value = { Looked };
+    ghost Value = { CountedVolume };
 
     ghost use Rattle.edit_overlay.specs.Held.{looked_of, IsHeld};
 
@@ -50,32 +53,35 @@ impl Model for Overlay {
 }
 
 impl Overlay {
-    ghost use Rattle.edit_overlay.specs.Looked.{IsViewOf};
+    ghost use Rattle.edit_overlay.specs.CountedVolume.{IsViewOf};
     ghost use Rattle.edit_overlay.specs.Looks.{EndsLooked};
 
-    /// Reads a whole file and cuts it. Takes memory. Refused: L01 where a read failed in this call, L02 to L15 for
-    /// the first reason that the file gives, L16 where a growth was refused.
+    /// Reads a whole file and cuts it. Takes memory. Refused: L01 where a read failed in this call,
+    /// L02 to L15 for the first reason that the file gives, L16 where a growth was refused.
     pub fn load<R: Read>(
         alloc: Global,
         reader: &mut Source<R>,
         reading: Reading,
         limits: Limits,
     ) -> Result<Overlay, LoadFault>
-        ensures taken { IfOk result (λ o. Consumes (R.remaining reader.old.0)
-            (R.remaining reader.new.0) (bytes_of o.volume)) }
-        ensures all { IfOk result (λ _. IsAtEnd (R.remaining reader.new.0)) }
+        ensures taken { IfOk result (λ o. Consumes (R.remaining reader.old.inner)
+            (R.remaining reader.new.inner) (bytes_of o.volume)) }
+        ensures all { IfOk result (λ _. IsAtEnd (R.remaining reader.new.inner)) }
         ensures cut { IfOk result (λ o. IsCut (bytes_of o.volume) reading limits o.volume) }
+        ensures prepared { IfOk result (λ o. o.prepared ≡ o.volume) }
         ensures looks { IfOk result (λ o. o.looks ≡ 0) }
-        ensures refused { IfErr result (λ fault. IsLoadFault (R.remaining reader.old.0) reading limits fault) }
-        ensures failures { MatchResult result (λ _. reader.new.1 ≡ reader.old.1)
-            (λ fault. FailuresAfterRefusal fault reader.old.1 reader.new.1) }
+        ensures refused { IfErr result (λ fault. IsLoadFault (R.remaining reader.old.inner) reading
+            limits fault) }
+        ensures failures { MatchResult result (λ _. reader.new.failures ≡ reader.old.failures)
+            (λ fault. FailuresAfterRefusal fault reader.old.failures reader.new.failures) }
     {
         let bytes = read_file(alloc, reader, limits)?;
         Overlay::from_bytes(alloc, bytes, reading, limits)
     }
 
-    /// Cuts a file that is in memory. Takes memory for the list of traces. Refused: L02 to L15 for the first reason
-    /// that the file gives, L16 where a growth was refused; the bytes are then dropped.
+    /// Cuts a file that is in memory. Takes memory for the list of traces. Refused: L02 to L15 for
+    /// the first reason that the file gives, L16 where a growth was refused; the bytes are then
+    /// dropped.
     pub fn from_bytes(
         alloc: Global,
         bytes: Vec<u8>,
@@ -83,10 +89,12 @@ impl Overlay {
         limits: Limits,
     ) -> Result<Overlay, LoadFault>
         ensures cut { IfOk result (λ o. IsCut bytes.items reading limits o.volume) }
+        ensures prepared { IfOk result (λ o. o.prepared ≡ o.volume) }
         ensures looks { IfOk result (λ o. o.looks ≡ 0) }
-        ensures refused { IfErr result (λ fault. (fault ≡ no_memory) ⊎ IsRefused bytes.items reading limits fault) }
+        ensures refused { IfErr result (λ fault. (fault ≡ no_memory) ⊎
+            IsRefused bytes.items reading limits fault) }
     {
-        let cut = cut_file(alloc, bytes.as_slice(), reading, limits)?;
+        let cut = cut(alloc, bytes.as_slice(), reading, limits)?;
         let head = cut.head();
         let extents = cut.into_extents();
         let text = *array_at::<3200>(bytes.as_slice(), 0);
@@ -99,6 +107,7 @@ impl Overlay {
             text,
             bin,
             store,
+            prepared: None,
             length,
             looks: 0,
         })
@@ -132,7 +141,8 @@ impl Overlay {
         self.looks
     }
 
-    /// Trace p, counted from 1, and one look more; None where there is none, and then no look. Takes no memory.
+    /// Trace p, counted from 1, and one look more; None where there is none, and then no look.
+    /// Takes no memory.
     pub fn look(&mut self, p: u32) -> Option<TraceView<'_>>
         ensures* counts { sem 𝓛 (EndsLooked self.entry result) }
         ensures there { IsSome result ↔ IsTrue (is_trace self.old.volume p) }
@@ -154,6 +164,40 @@ impl Overlay {
         self.store.view(p)
     }
 
+    /// Trace p, counted from 1, as it would be with the edit that is prepared, and one look more;
+    /// None where there is none, and then no look. Takes no memory.
+    pub fn look_prepared(&mut self, p: u32) -> Option<TraceView<'_>>
+        ensures* counts { sem 𝓛 (EndsLooked self.entry result) }
+        ensures there { IsSome result ↔ IsTrue (is_trace self.old.prepared p) }
+        ensures trace { IfSome result (IsViewOf self.old.prepared p) }
+    {
+        if p == 0 || p > self.count_prepared() {
+            return None;
+        }
+        self.looks = self.looks.saturating_add(1);
+        Some(self.view_prepared(p))
+    }
+
+    // The number of traces, which a prepared edit leaves as it is.
+    fn count_prepared(&self) -> u32
+        ensures now { result ≡ count_of self.now.volume }
+        ensures prepared { result ≡ count_of self.now.prepared }
+    {
+        self.store.count()
+    }
+
+    // Trace p as it would be.
+    fn view_prepared(&self, p: u32) -> TraceView<'_>
+        requires first { 1 ≤ p }
+        requires last { p ≤ count_of self.now.volume }
+        ensures { IsViewOf self.now.prepared p result }
+    {
+        match &self.prepared {
+            Some(prepared) => self.store.view_then(p, prepared),
+            None => self.store.view(p),
+        }
+    }
+
     /// The textual header (bytes 1 to 3200 of the file).
     pub fn text(&self) -> &[u8; 3200]
         ensures { result.now ≡ self.now.volume.text }
@@ -168,7 +212,8 @@ impl Overlay {
         &self.bin
     }
 
-    /// Block b, where there is one: the textual header is block 0, the extended textual headers are blocks 1 and up.
+    /// Block b, where there is one: the textual header is block 0, the extended textual headers are
+    /// blocks 1 and up.
     pub fn block(&self, b: u32) -> Option<&[u8; 3200]>
         ensures { option_map (λ x. x.now) result ≡ block_of self.now.volume b }
     {
@@ -205,35 +250,117 @@ impl Overlay {
     {
         let at = 80 * (q as usize - 1);
         overwrite(&mut self.text, at, line);
+        self.prepared = None;
     }
 
-    /// Writes the bytes over those of the binary header from place `at` on, counted from 0 in it. Takes no memory.
+    /// Writes the bytes over those of the binary header from place `at` on, counted from 0 in it.
+    /// Takes no memory.
     pub fn put_head(&mut self, at: u32, bytes: &[u8])
         requires { at + length bytes.now ≤ 400 }
         ensures { self.new ≡ with_volume self.old (with_header_bytes self.old.volume at bytes.now) }
     {
         overwrite(&mut self.bin, at as usize, bytes);
+        self.prepared = None;
     }
 
-    /// Lays the bytes over those of trace p, counted from 1, from place `at` on, counted from 0 in the trace. The
-    /// caller shows that the trace's headers give it the same length then. Takes memory in step with all that edits
-    /// laid over the trace; may be refused for want of memory alone, and then nothing is changed.
+    /// Prepares a `put` of the bytes over those of trace p, counted from 1, from place `at` on,
+    /// counted from 0 in the trace, in place of what was prepared before. The volume stays as it
+    /// is. The caller shows that the trace's headers give it the same length then. Takes memory in
+    /// step with all that edits laid over the trace; may be refused for want of memory alone, and
+    /// then nothing is changed.
+    pub fn prepare_put(
+        &mut self,
+        alloc: Global,
+        p: u32,
+        at: u64,
+        bytes: &[u8],
+    ) -> Result<(), OutOfMemory>
+        requires first { 1 ≤ p }
+        requires last { p ≤ count_of self.old.volume }
+        requires inside { at + length bytes.now ≤ length (trace_at self.old.volume p) }
+        requires whole { IsTrace self.old.volume.head
+            (splice (trace_at self.old.volume p) at (length bytes.now) bytes.now) }
+        ensures ok { OnOk result (self.new ≡ with_prepared self.old (with_trace self.old.volume p
+            (splice (trace_at self.old.volume p) at (length bytes.now) bytes.now))) }
+        ensures err { OnErr result (self.new ≡ self.old) }
+    {
+        let prepared = self.store.prepare_put(alloc, p, at, bytes)?;
+        self.prepared = Some(prepared);
+        Ok(())
+    }
+
+    /// Prepares a `put_each` of the bytes, `size` of them over each trace, over the traces from
+    /// trace a on, which counts from 1; in each from place `at` on, counted from 0 in the trace; in
+    /// place of what was prepared before. The volume stays as it is. The caller shows that each
+    /// trace's headers give it the same length then. Takes memory in step with all that edits laid
+    /// over these traces; may be refused for want of memory alone, and then nothing is changed.
+    pub fn prepare_put_each(
+        &mut self,
+        alloc: Global,
+        a: u32,
+        at: u64,
+        size: u32,
+        bytes: &[u8],
+    ) -> Result<(), OutOfMemory>
+        requires first { 1 ≤ a }
+        requires some { 0 < size }
+        requires exact { length bytes.now % size ≡ 0 }
+        requires last { a - 1 + length bytes.now / size ≤ count_of self.old.volume }
+        requires inside { (k : ℕ) → k < length bytes.now / size →
+            at + size ≤ length (slice_index_or self.old.volume.traces (a - 1 + k) []) }
+        requires whole { (k : ℕ) → k < length bytes.now / size →
+            IsTrace self.old.volume.head
+            (splice (slice_index_or self.old.volume.traces (a - 1 + k) []) at size
+            (part_of bytes.now size k)) }
+        ensures ok { OnOk result
+            (self.new ≡ with_prepared self.old (with_each self.old.volume a at size bytes.now)) }
+        ensures err { OnErr result (self.new ≡ self.old) }
+    {
+        let prepared = self.store.prepare_put_each(alloc, a, at, size, bytes)?;
+        self.prepared = Some(prepared);
+        Ok(())
+    }
+
+    /// Makes the edit that is prepared, if one is. Takes no memory.
+    pub fn commit(&mut self)
+        ensures { self.new ≡ with_volume self.old self.old.prepared }
+    {
+        if let Some(prepared) = self.prepared.take() {
+            self.store.lay(prepared);
+        }
+    }
+
+    /// Drops the edit that is prepared, if one is. Takes no memory.
+    pub fn discard(&mut self)
+        ensures { self.new ≡ with_volume self.old self.old.volume }
+    {
+        self.prepared = None;
+    }
+
+    /// Lays the bytes over those of trace p, counted from 1, from place `at` on, counted from 0 in
+    /// the trace. The caller shows that the trace's headers give it the same length then. Takes
+    /// memory in step with all that edits laid over the trace; may be refused for want of memory
+    /// alone, and then nothing is changed.
     pub fn put(&mut self, alloc: Global, p: u32, at: u64, bytes: &[u8]) -> Result<(), OutOfMemory>
         requires first { 1 ≤ p }
         requires last { p ≤ count_of self.old.volume }
         requires inside { at + length bytes.now ≤ length (trace_at self.old.volume p) }
-        requires whole { IsTrace self.old.volume.head (splice (trace_at self.old.volume p) at (length bytes.now) bytes.now) }
+        requires whole { IsTrace self.old.volume.head
+            (splice (trace_at self.old.volume p) at (length bytes.now) bytes.now) }
         ensures ok { OnOk result (self.new ≡ with_volume self.old (with_trace self.old.volume p
             (splice (trace_at self.old.volume p) at (length bytes.now) bytes.now))) }
         ensures err { OnErr result (self.new ≡ self.old) }
     {
-        self.store.put(alloc, p, at, bytes)
+        self.prepare_put(alloc, p, at, bytes)?;
+        self.commit();
+        Ok(())
     }
 
-    /// Lays the bytes, `size` of them over each trace, over the traces from trace a on, which counts from 1; in each
-    /// from place `at` on, counted from 0 in the trace. The caller shows that each trace's headers give it the same
-    /// length then. Takes memory in step with all that edits laid over these traces; may be refused for want of memory
-    /// alone, and then none of them is changed.
+    /// Lays the bytes, `size` of them over each trace, over the traces from trace a on, which
+    /// counts from 1; in each from place `at` on, counted from 0 in the trace. The caller shows
+    /// that each trace's headers give it the same length then. Takes memory in step with all that
+    /// edits laid over these traces; may be refused for want of memory alone, and then none of them
+    /// is changed.
     pub fn put_each(
         &mut self,
         alloc: Global,
@@ -249,27 +376,35 @@ impl Overlay {
         requires inside { (k : ℕ) → k < length bytes.now / size →
             at + size ≤ length (slice_index_or self.old.volume.traces (a - 1 + k) []) }
         requires whole { (k : ℕ) → k < length bytes.now / size →
-            IsTrace self.old.volume.head (splice (slice_index_or self.old.volume.traces (a - 1 + k) []) at size (part_of bytes.now size k)) }
-        ensures ok { OnOk result (self.new ≡ with_volume self.old (with_each self.old.volume a at size bytes.now)) }
+            IsTrace self.old.volume.head
+            (splice (slice_index_or self.old.volume.traces (a - 1 + k) []) at size
+            (part_of bytes.now size k)) }
+        ensures ok { OnOk result
+            (self.new ≡ with_volume self.old (with_each self.old.volume a at size bytes.now)) }
         ensures err { OnErr result (self.new ≡ self.old) }
     {
-        self.store.put_each(alloc, a, at, size, bytes)
+        self.prepare_put_each(alloc, a, at, size, bytes)?;
+        self.commit();
+        Ok(())
     }
 
-    /// Puts a new trace of these bytes in front of trace p, or behind the last where p is one more than their number.
-    /// The caller shows that its headers give it its length, and that there are fewer than 2^32 traces and 2^64 bytes
-    /// then. May be refused for want of memory alone, and then nothing is changed, and the bytes are dropped.
+    /// Puts a new trace of these bytes in front of trace p, or behind the last where p is one more
+    /// than their number. The caller shows that its headers give it its length, and that there are
+    /// fewer than 2^32 traces and 2^64 bytes then. May be refused for want of memory alone, and
+    /// then nothing is changed, and the bytes are dropped.
     pub fn insert(&mut self, alloc: Global, p: u32, bytes: Vec<u8>) -> Result<(), OutOfMemory>
         requires first { 1 ≤ p }
         requires last { p ≤ count_of self.old.volume + 1 }
         requires few { count_of self.old.volume + 1 < 2 ^ 32 }
         requires whole { IsTrace self.old.volume.head bytes.items }
         requires small { length (bytes_of self.old.volume) + length bytes.items < 2 ^ 64 }
-        ensures ok { OnOk result (self.new ≡ with_volume self.old (with_inserted self.old.volume p bytes.items)) }
+        ensures ok { OnOk result
+            (self.new ≡ with_volume self.old (with_inserted self.old.volume p bytes.items)) }
         ensures err { OnErr result (self.new ≡ self.old) }
     {
         let added = bytes.len() as u64;
         self.store.insert(alloc, p, Base::Added(bytes))?;
+        self.prepared = None;
         self.length += added;
         Ok(())
     }
@@ -282,24 +417,28 @@ impl Overlay {
     {
         let gone = self.store.view(p).length();
         self.store.delete(p);
+        self.prepared = None;
         self.length -= gone;
     }
 
-    /// Takes trace a out, and puts it in again so that it is trace b; both count from 1. May be refused for want of
-    /// memory alone, and then nothing is changed.
+    /// Takes trace a out, and puts it in again so that it is trace b; both count from 1. May be
+    /// refused for want of memory alone, and then nothing is changed.
     pub fn move_to(&mut self, alloc: Global, a: u32, b: u32) -> Result<(), OutOfMemory>
         requires from_first { 1 ≤ a }
         requires from_last { a ≤ count_of self.old.volume }
         requires to_first { 1 ≤ b }
         requires to_last { b ≤ count_of self.old.volume }
-        ensures ok { OnOk result (self.new ≡ with_volume self.old (with_moved self.old.volume a b)) }
+        ensures ok { OnOk result
+            (self.new ≡ with_volume self.old (with_moved self.old.volume a b)) }
         ensures err { OnErr result (self.new ≡ self.old) }
     {
-        self.store.move_to(alloc, a, b)
+        self.store.move_to(alloc, a, b)?;
+        self.prepared = None;
+        Ok(())
     }
 
-    /// Makes the bytes the whole of trace p, counted from 1. The caller shows that their headers give them their
-    /// length, and that there are fewer than 2^64 bytes then. Takes no memory.
+    /// Makes the bytes the whole of trace p, counted from 1. The caller shows that their headers
+    /// give them their length, and that there are fewer than 2^64 bytes then. Takes no memory.
     pub fn replace(&mut self, alloc: Global, p: u32, bytes: Vec<u8>)
         requires first { 1 ≤ p }
         requires last { p ≤ count_of self.old.volume }
@@ -310,14 +449,16 @@ impl Overlay {
         let gone = self.store.view(p).length();
         let added = bytes.len() as u64;
         self.store.replace(alloc, p, Base::Added(bytes));
+        self.prepared = None;
         self.length = self.length - gone + added;
     }
 
-    /// Writes the file as it is now. Takes no memory. Refused where the writer failed; `written` is then the length
-    /// of the prefix that it took.
+    /// Writes the file as it is now. Takes no memory. Refused where the writer failed; `written` is
+    /// then the length of the prefix that it took.
     pub fn write_to<W: Write>(&self, writer: &mut Sink<W>) -> Result<(), SaveFault>
-        ensures saved { Saves (W.contents writer.old.0) (W.contents writer.new.0) (bytes_of self.now.volume) result }
-        ensures failures { CountsFailure result writer.old.1 writer.new.1 }
+        ensures saved { Saves (W.contents writer.old.inner) (W.contents writer.new.inner)
+            (bytes_of self.now.volume) result }
+        ensures failures { CountsFailure result writer.old.failures writer.new.failures }
     {
         // Read for the proof alone, which learns that the file's length fits 64 bits.
         let _length = self.length;

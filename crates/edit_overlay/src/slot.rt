@@ -1,7 +1,7 @@
 // The slot of one trace.
 ghost use Rattle.std.specs.Prelude.{◌≡◌, ◌+◌, ◌<◌, ◌≤◌, length, IfOk};
 ghost use Rattle.frame_cut.specs.Splice.{splice};
-ghost use Rattle.trace_view.specs.Runs.{Fit, written};
+ghost use Rattle.trace_view.specs.Runs.{Fit, bytes_with_runs};
 ghost use Rattle.edit_overlay.specs.Slots.{base_of, bytes_in, IsInside};
 
 use crate::bytes::piece;
@@ -48,8 +48,10 @@ impl Slot {
         requires fit { Fit self.now.runs.items (length (base_of loaded.now self.now.base)) }
         requires some { 0 < length bytes.now }
         requires inside { at + length bytes.now ≤ length (base_of loaded.now self.now.base) }
-        ensures fit { IfOk result (λ list. Fit list.items (length (base_of loaded.now self.now.base))) }
-        ensures bytes { IfOk result (λ list. written (base_of loaded.now self.now.base) list.items
+        ensures fit { IfOk result
+            (λ list. Fit list.items (length (base_of loaded.now self.now.base))) }
+        ensures bytes { IfOk result (λ list. bytes_with_runs (base_of loaded.now self.now.base)
+            list.items
             ≡ splice (bytes_in loaded.now self.now) at (length bytes.now) bytes.now) }
     {
         let base = self.base_bytes(loaded);

@@ -5,12 +5,15 @@ ghost use Rattle.frame_cut.specs.Cuts.{IsTrace};
 ghost use Rattle.frame_cut.specs.Layout.{bytes_at, pieces};
 ghost use Rattle.frame_cut.specs.Splice.{splice};
 ghost use Rattle.trace_seq.specs.Order.{id_at};
-ghost use Rattle.trace_view.specs.Runs.{Fit, written};
+ghost use Rattle.trace_view.specs.Runs.{Fit, bytes_with_runs};
 ghost use Rattle.trace_view.specs.Shown.{bytes_of, head_of};
 ghost use Rattle.edit_overlay.specs.Slots.{base_of, bases_of, traces_of, IsInside, IsStore};
-ghost use Rattle.edit_overlay.specs.Each.{part_of, put_each_at, ArePutRuns, ArePutEach};
+ghost use Rattle.frame_cut.specs.Parts.{put_each_at};
+ghost use Rattle.edit_overlay.specs.Each.{part_of, ArePutRuns, ArePutEach};
+ghost use Rattle.edit_overlay.specs.Ahead.{traces_then, AreRunsOf, IsReady};
 
 use crate::out_of_memory::OutOfMemory;
+use crate::prepared::Prepared;
 use crate::slot::{Base, Slot};
 use frame_cut::{Extent, Head};
 use slab::Slab;
@@ -28,7 +31,8 @@ pub struct TraceStore {
 }
 
 impl TraceStore {
-    // The store of a loaded file whose traces lie at these extents. Refused for want of memory alone.
+    // The store of a loaded file whose traces lie at these extents. Refused for want of memory
+    // alone.
     pub fn new(
         alloc: Global,
         loaded: Vec<u8>,
@@ -94,62 +98,127 @@ impl TraceStore {
         }
     }
 
-    // Lays the bytes over those of trace p from place `at` on, counted from 0 in the trace. Where memory is refused,
-    // nothing is changed.
-    pub fn put(&mut self, alloc: Global, p: u32, at: u64, bytes: &[u8]) -> Result<(), OutOfMemory>
-        requires store { IsStore self.old }
+    // Trace p with these runs in place of its own.
+    fn view_with<'a>(&'a self, p: u32, runs: &'a [Run]) -> TraceView<'a>
+        requires store { IsStore self.now }
         requires first { 1 ≤ p }
-        requires last { p ≤ length (traces_of self.old) }
-        requires inside { at + length bytes.now ≤ length (slice_index_or (traces_of self.old) (p - 1) []) }
-        requires whole { IsTrace self.old.head (splice (slice_index_or (traces_of self.old) (p - 1) []) at (length bytes.now) bytes.now) }
-        ensures store { IsStore self.new }
-        ensures head { self.new.head ≡ self.old.head }
-        ensures loaded { self.new.loaded ≡ self.old.loaded }
-        ensures ok { OnOk result (traces_of self.new ≡ slice_set (traces_of self.old) (p - 1)
-            (splice (slice_index_or (traces_of self.old) (p - 1) []) at (length bytes.now) bytes.now)) }
-        ensures err { OnErr result (traces_of self.new ≡ traces_of self.old) }
+        requires runs { AreRunsOf self.now.head (bases_of self.now) (p - 1) runs.now }
+        ensures head { head_of result ≡ self.now.head }
+        ensures bytes { bytes_of result ≡ bytes_with_runs
+            (slice_index_or (bases_of self.now) (p - 1) []) runs.now }
     {
-        if bytes.is_empty() {
-            return Ok(());
+        let id = self.id(p);
+        match self.slots.get(id) {
+            Some(slot) => {
+                let base = slot.base_bytes(self.loaded.as_slice());
+                TraceView::new(&self.head, base, runs)
+            }
+            None => unreachable!(),
         }
-        let runs = self.runs_with(alloc, p, at, bytes)?;
-        self.set_runs(p, runs);
-        Ok(())
     }
 
-    // Lays the bytes, `size` of them over each trace, over the traces from `a` on, in each from place `at` on, counted
-    // from 0. Where memory is refused, nothing is changed.
-    pub fn put_each(
-        &mut self,
+    // Trace p as it would be with the prepared runs.
+    pub fn view_then<'a>(&'a self, p: u32, prepared: &'a Prepared) -> TraceView<'a>
+        requires store { IsStore self.now }
+        requires ready { IsReady self.now prepared.now }
+        requires first { 1 ≤ p }
+        requires last { p ≤ length (traces_of self.now) }
+        ensures head { head_of result ≡ self.now.head }
+        ensures bytes { bytes_of result ≡ slice_index_or (traces_then self.now prepared.now) (p - 1)
+            [] }
+    {
+        let at = p - 1;
+        if at < prepared.place {
+            return self.view(p);
+        }
+        let k = (at - prepared.place) as usize;
+        if k >= prepared.lists.len() {
+            return self.view(p);
+        }
+        self.view_with(p, prepared.lists[k].as_slice())
+    }
+
+    // The runs that lay the bytes over those of trace p from place `at` on, counted from 0 in the
+    // trace.
+    pub fn prepare_put(
+        &self,
+        alloc: Global,
+        p: u32,
+        at: u64,
+        bytes: &[u8],
+    ) -> Result<Prepared, OutOfMemory>
+        requires store { IsStore self.now }
+        requires first { 1 ≤ p }
+        requires last { p ≤ length (traces_of self.now) }
+        requires inside { at + length bytes.now ≤ length
+            (slice_index_or (traces_of self.now) (p - 1) []) }
+        requires whole { IsTrace self.now.head
+            (splice (slice_index_or (traces_of self.now) (p - 1) []) at (length bytes.now)
+            bytes.now) }
+        ensures ready { IfOk result (IsReady self.now) }
+        ensures traces { IfOk result (λ prepared. traces_then self.now prepared
+            ≡ slice_set (traces_of self.now) (p - 1)
+            (splice (slice_index_or (traces_of self.now) (p - 1) []) at (length bytes.now)
+            bytes.now)) }
+    {
+        let place = p - 1;
+        if bytes.is_empty() {
+            return Ok(Prepared {
+                place,
+                lists: Vec::new(alloc),
+            });
+        }
+        let runs = self.runs_with(alloc, p, at, bytes)?;
+        let mut lists = Vec::with_capacity(alloc, 1)?;
+        lists.push(runs)?;
+        Ok(Prepared { place, lists })
+    }
+
+    // The runs that lay the bytes, `size` of them over each trace, over the traces from `a` on, in
+    // each from place `at` on, counted from 0.
+    pub fn prepare_put_each(
+        &self,
         alloc: Global,
         a: u32,
         at: u64,
         size: u32,
         bytes: &[u8],
-    ) -> Result<(), OutOfMemory>
-        requires store { IsStore self.old }
+    ) -> Result<Prepared, OutOfMemory>
+        requires store { IsStore self.now }
         requires first { 1 ≤ a }
         requires some { 0 < size }
         requires exact { length bytes.now % size ≡ 0 }
-        requires last { a - 1 + length bytes.now / size ≤ length (traces_of self.old) }
+        requires last { a - 1 + length bytes.now / size ≤ length (traces_of self.now) }
         requires inside { (k : ℕ) → k < length bytes.now / size →
-            at + size ≤ length (slice_index_or (traces_of self.old) (a - 1 + k) []) }
+            at + size ≤ length (slice_index_or (traces_of self.now) (a - 1 + k) []) }
         requires whole { (k : ℕ) → k < length bytes.now / size →
-            IsTrace self.old.head (splice (slice_index_or (traces_of self.old) (a - 1 + k) []) at size (part_of bytes.now size k)) }
+            IsTrace self.now.head (splice (slice_index_or (traces_of self.now) (a - 1 + k) []) at
+            size (part_of bytes.now size k)) }
+        ensures ready { IfOk result (IsReady self.now) }
+        ensures traces { IfOk result (λ prepared. traces_then self.now prepared
+            ≡ put_each_at (traces_of self.now) (a - 1) at size bytes.now) }
+    {
+        let lists = self.runs_for_each(alloc, a, at, size, bytes)?;
+        Ok(Prepared {
+            place: a - 1,
+            lists,
+        })
+    }
+
+    // Gives the traces the prepared runs.
+    pub fn lay(&mut self, prepared: Prepared)
+        requires store { IsStore self.old }
+        requires ready { IsReady self.old prepared }
         ensures store { IsStore self.new }
         ensures head { self.new.head ≡ self.old.head }
         ensures loaded { self.new.loaded ≡ self.old.loaded }
-        ensures ok { OnOk result (traces_of self.new ≡ put_each_at (traces_of self.old) (a - 1) at size bytes.now) }
-        ensures err { OnErr result (traces_of self.new ≡ traces_of self.old) }
+        ensures traces { traces_of self.new ≡ traces_then self.old prepared }
     {
-        // All memory is taken before the first trace is changed.
-        let lists = self.runs_for_each(alloc, a, at, size, bytes)?;
-        let mut done = 0;
-        for runs in lists {
-            self.set_runs(a + done, runs);
+        let mut done = prepared.place;
+        for runs in prepared.lists {
             done += 1;
+            self.set_runs(done, runs);
         }
-        Ok(())
     }
 
     // For each of these traces, the runs with its bytes laid over it.
@@ -169,7 +238,8 @@ impl TraceStore {
             at + size ≤ length (slice_index_or (traces_of self.now) (a - 1 + k) []) }
         ensures count { IfOk result (λ lists. length lists.items ≡ length bytes.now / size) }
         ensures runs { IfOk result (λ lists.
-            ArePutEach (bases_of self.now) (traces_of self.now) (a - 1) at size bytes.now 0 lists.items) }
+            ArePutEach (bases_of self.now) (traces_of self.now) (a - 1) at size bytes.now 0
+            lists.items) }
     {
         let count = bytes.len() / size as usize;
         let mut lists = Vec::with_capacity(alloc, count)?;
@@ -193,7 +263,8 @@ impl TraceStore {
         requires first { 1 ≤ p }
         requires last { p ≤ length (traces_of self.now) }
         requires some { 0 < length bytes.now }
-        requires inside { at + length bytes.now ≤ length (slice_index_or (traces_of self.now) (p - 1) []) }
+        requires inside { at + length bytes.now ≤ length
+            (slice_index_or (traces_of self.now) (p - 1) []) }
         ensures { IfOk result (λ list. ArePutRuns (slice_index_or (bases_of self.now) (p - 1) [])
             (slice_index_or (traces_of self.now) (p - 1) []) at bytes.now list.items) }
     {
@@ -208,15 +279,13 @@ impl TraceStore {
     fn set_runs(&mut self, p: u32, runs: Vec<Run>)
         requires store { IsStore self.old }
         requires first { 1 ≤ p }
-        requires last { p ≤ length (traces_of self.old) }
-        requires fit { Fit runs.items (length (slice_index_or (bases_of self.old) (p - 1) [])) }
-        requires whole { IsTrace self.old.head (written (slice_index_or (bases_of self.old) (p - 1) []) runs.items) }
+        requires runs { AreRunsOf self.old.head (bases_of self.old) (p - 1) runs.items }
         ensures store { IsStore self.new }
         ensures head { self.new.head ≡ self.old.head }
         ensures loaded { self.new.loaded ≡ self.old.loaded }
         ensures bases { bases_of self.new ≡ bases_of self.old }
         ensures traces { traces_of self.new ≡ slice_set (traces_of self.old) (p - 1)
-            (written (slice_index_or (bases_of self.old) (p - 1) []) runs.items) }
+            (bytes_with_runs (slice_index_or (bases_of self.old) (p - 1) []) runs.items) }
     {
         let id = self.id(p);
         match self.slots.get_mut(id) {
@@ -225,7 +294,8 @@ impl TraceStore {
         }
     }
 
-    // A slot's base as a new trace in front of trace p, or behind the last. Where memory is refused, nothing is changed.
+    // A slot's base as a new trace in front of trace p, or behind the last. Where memory is
+    // refused, nothing is changed.
     pub fn insert(&mut self, alloc: Global, p: u32, base: Base) -> Result<(), OutOfMemory>
         requires store { IsStore self.old }
         requires first { 1 ≤ p }
@@ -236,8 +306,10 @@ impl TraceStore {
         ensures store { IsStore self.new }
         ensures head { self.new.head ≡ self.old.head }
         ensures loaded { self.new.loaded ≡ self.old.loaded }
-        ensures ok { OnOk result (traces_of self.new ≡ insert (traces_of self.old) (p - 1) (base_of self.old.loaded.items base)) }
+        ensures ok { OnOk result (traces_of self.new ≡ insert (traces_of self.old) (p - 1)
+            (base_of self.old.loaded.items base)) }
         ensures err { OnErr result (traces_of self.new ≡ traces_of self.old) }
+        ensures bases { OnErr result (bases_of self.new ≡ bases_of self.old) }
     {
         self.slots.reserve(1)?;
         let id = self.slots.insert_reserved(Slot {
@@ -269,7 +341,8 @@ impl TraceStore {
         let _ = self.slots.remove(id);
     }
 
-    // Takes trace a out, and puts it in again so that it is trace b. Where memory is refused, nothing is changed.
+    // Takes trace a out, and puts it in again so that it is trace b. Where memory is refused,
+    // nothing is changed.
     pub fn move_to(&mut self, alloc: Global, a: u32, b: u32) -> Result<(), OutOfMemory>
         requires store { IsStore self.old }
         requires from_first { 1 ≤ a }
@@ -280,8 +353,10 @@ impl TraceStore {
         ensures head { self.new.head ≡ self.old.head }
         ensures loaded { self.new.loaded ≡ self.old.loaded }
         ensures ok { OnOk result (traces_of self.new ≡
-            insert (remove (traces_of self.old) (a - 1)) (b - 1) (slice_index_or (traces_of self.old) (a - 1) [])) }
+            insert (remove (traces_of self.old) (a - 1)) (b - 1)
+            (slice_index_or (traces_of self.old) (a - 1) [])) }
         ensures err { OnErr result (traces_of self.new ≡ traces_of self.old) }
+        ensures bases { OnErr result (bases_of self.new ≡ bases_of self.old) }
     {
         self.order.reserve_one(alloc, 0)?;
         self.order.move_to(a, b);
@@ -298,7 +373,8 @@ impl TraceStore {
         ensures store { IsStore self.new }
         ensures head { self.new.head ≡ self.old.head }
         ensures loaded { self.new.loaded ≡ self.old.loaded }
-        ensures traces { traces_of self.new ≡ slice_set (traces_of self.old) (p - 1) (base_of self.old.loaded.items base) }
+        ensures traces { traces_of self.new ≡ slice_set (traces_of self.old) (p - 1)
+            (base_of self.old.loaded.items base) }
     {
         let id = self.id(p);
         let fresh = Slot {

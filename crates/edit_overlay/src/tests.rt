@@ -11,7 +11,8 @@ use std::alloc::Global;
 use std::process::Abort;
 use std::test::Fail;
 
-// Big-endian, revision 1.0, two 16-bit samples a trace, two traces of zeros but for their last samples.
+// Big-endian, revision 1.0, two 16-bit samples a trace, two traces of zeros but for their last
+// samples.
 fn small_file(alloc: Global) -> Result<Vec<u8>, Fail> {
     let mut file = vec![in alloc; 0u8; 4088]?;
     let bytes = file.as_mut_slice();
@@ -101,7 +102,9 @@ fn may_put(volume: &mut Overlay, p: u32, at: u64, bytes: &[u8]) -> bool
     ensures volume { volume.new.volume ≡ volume.old.volume }
     ensures inside { IsTrue result → at + length bytes.now ≤ length (trace_at volume.old.volume p) }
     ensures there { IsTrue result → IsTrue (has_trace volume.old.volume p) }
-    ensures whole { IsTrue result → IsTrace volume.old.volume.head (splice (trace_at volume.old.volume p) at (length bytes.now) bytes.now) }
+    ensures whole { IsTrue result →
+        IsTrace volume.old.volume.head (splice (trace_at volume.old.volume p) at (length bytes.now)
+        bytes.now) }
 {
     let Some(view) = volume.look(p) else {
         return false;
@@ -132,6 +135,44 @@ fn put_over_two(alloc: Global, volume: &mut Overlay, at: u64, bytes: &[u8; 4]) -
     }
     volume.put_each(alloc, 1, at, 2, bytes)?;
     Ok(())
+}
+
+fn prepare(alloc: Global, volume: &mut Overlay, p: u32, at: u64, bytes: &[u8]) -> Result<(), Fail> {
+    if !may_put(volume, p, at, bytes) {
+        return Err(Fail::from("no place for the bytes"));
+    }
+    volume.prepare_put(alloc, p, at, bytes)?;
+    Ok(())
+}
+
+// Prepares two of the bytes over each of the first two traces.
+fn prepare_over_two(
+    alloc: Global,
+    volume: &mut Overlay,
+    at: u64,
+    bytes: &[u8; 4],
+) -> Result<(), Fail> {
+    if !may_put(volume, 1, at, &bytes[..2]) {
+        return Err(Fail::from("no place for the bytes"));
+    }
+    if !may_put(volume, 2, at, &bytes[2..]) {
+        return Err(Fail::from("no place for the bytes"));
+    }
+    volume.prepare_put_each(alloc, 1, at, 2, bytes)?;
+    Ok(())
+}
+
+// Whether trace p, of 244 bytes, ends so as it would be.
+fn ends_ahead(volume: &mut Overlay, p: u32, end: &[u8]) -> bool {
+    let Some(view) = volume.look_prepared(p) else {
+        return false;
+    };
+    if view.length() != 244 {
+        return false;
+    }
+    let mut room = [0u8; 244];
+    view.read(0, &mut room);
+    *part(&room, 240, 244) == *end
 }
 
 fn insert(alloc: Global, volume: &mut Overlay, p: u32, bytes: Vec<u8>) -> Result<(), Fail> {
@@ -300,6 +341,37 @@ fn puts_over_two_traces(rt: HostRuntime) -> Result<(), Fail> {
         alloc,
         &volume,
         &[front, &[1, 2], middle, &[5, 6], back],
+    )
+}
+
+// The traces stay as they are, and are shown as they would be, until the edit is made.
+#[test]
+fn prepares_and_commits(rt: HostRuntime) -> Result<(), Fail> {
+    let alloc = rt.alloc();
+    let file = small_file(alloc)?;
+    let mut volume = volume(alloc)?;
+    let first = part(file.as_slice(), 3600, 3844);
+    prepare_over_two(alloc, &mut volume, 240, &[1, 2, 5, 6])?;
+    expect_trace(&rt, &mut volume, 1, first);
+    assert!(rt; volume.looks() == 3);
+    assert!(rt; ends_ahead(&mut volume, 1, &[1, 2, 0, 0]));
+    assert!(rt; ends_ahead(&mut volume, 2, &[5, 6, 0, 9]));
+    assert!(rt; volume.looks() == 5);
+    volume.discard();
+    assert!(rt; ends_ahead(&mut volume, 1, &[0, 7, 0, 0]));
+    expect_saved(&rt, alloc, &volume, &[file.as_slice()])?;
+
+    prepare(alloc, &mut volume, 2, 240, &[3, 4])?;
+    assert!(rt; ends_ahead(&mut volume, 1, &[0, 7, 0, 0]));
+    assert!(rt; ends_ahead(&mut volume, 2, &[3, 4, 0, 9]));
+    expect_saved(&rt, alloc, &volume, &[file.as_slice()])?;
+    volume.commit();
+    volume.commit();
+    expect_saved(
+        &rt,
+        alloc,
+        &volume,
+        &[part(file.as_slice(), 0, 4084), &[3, 4, 0, 9]],
     )
 }
 

@@ -1,4 +1,5 @@
-// Writes a volume to a device: its parts in order, neighbouring ranges of the loaded file at once, and joins nothing.
+// Writes a volume to a device: its parts in order, neighbouring ranges of the loaded file at once,
+// and joins nothing.
 ghost use Rattle.std.specs.Prelude.{◌≡◌, ◌+◌, ◌-◌, ◌*◌, ◌≤◌, ◌<◌, ◌^◌, ◌++◌, [], length, drop, slice_range, OnOk};
 ghost use Rattle.std.specs.List.{concat};
 ghost use Rattle.device_io.specs.Failures.{CountsFailure};
@@ -35,8 +36,9 @@ pub fn write_volume<W: Write>(
     requires store { IsStore store.now }
     requires ends { HasEnds store.now }
     requires small { length (bytes_of (volume_with text.now bin.now store.now)) < 2 ^ 64 }
-    ensures saved { Saves (W.contents writer.old.0) (W.contents writer.new.0) (bytes_of (volume_with text.now bin.now store.now)) result }
-    ensures failures { CountsFailure result writer.old.1 writer.new.1 }
+    ensures saved { Saves (W.contents writer.old.inner) (W.contents writer.new.inner)
+        (bytes_of (volume_with text.now bin.now store.now)) result }
+    ensures failures { CountsFailure result writer.old.failures writer.new.failures }
 {
     let mut written = 0;
     write_part(writer, &mut written, text)?;
@@ -62,12 +64,14 @@ fn write_traces<W: Write>(
     requires store { IsStore store.now }
     requires order { waiting.old.from ≤ waiting.old.to }
     requires inside { waiting.old.to ≤ length store.now.loaded.items }
-    requires small { waiting.old.written + (waiting.old.to - waiting.old.from) + length (concat (traces_of store.now)) < 2 ^ 64 }
+    requires small { waiting.old.written + (waiting.old.to - waiting.old.from) + length
+        (concat (traces_of store.now)) < 2 ^ 64 }
     ensures order { waiting.new.from ≤ waiting.new.to }
     ensures inside { waiting.new.to ≤ length store.now.loaded.items }
-    ensures saved { GoesOn (W.contents writer.old.0) (W.contents writer.new.0)
-        (progress store.now.loaded.items waiting.old) (progress store.now.loaded.items waiting.new) (concat (traces_of store.now)) result }
-    ensures failures { CountsFailure result writer.old.1 writer.new.1 }
+    ensures saved { GoesOn (W.contents writer.old.inner) (W.contents writer.new.inner)
+        (progress store.now.loaded.items waiting.old) (progress store.now.loaded.items waiting.new)
+        (concat (traces_of store.now)) result }
+    ensures failures { CountsFailure result writer.old.failures writer.new.failures }
 {
     for id in store.order.ids() {
         match store.slots.get(id) {
@@ -89,12 +93,14 @@ fn write_slot<W: Write>(
     requires slot { IsSlot loaded.now head.now slot.now }
     requires order { waiting.old.from ≤ waiting.old.to }
     requires inside { waiting.old.to ≤ length loaded.now }
-    requires small { waiting.old.written + (waiting.old.to - waiting.old.from) + length (bytes_in loaded.now slot.now) < 2 ^ 64 }
+    requires small { waiting.old.written + (waiting.old.to - waiting.old.from) + length
+        (bytes_in loaded.now slot.now) < 2 ^ 64 }
     ensures order { waiting.new.from ≤ waiting.new.to }
     ensures inside { waiting.new.to ≤ length loaded.now }
-    ensures saved { GoesOn (W.contents writer.old.0) (W.contents writer.new.0)
-        (progress loaded.now waiting.old) (progress loaded.now waiting.new) (bytes_in loaded.now slot.now) result }
-    ensures failures { CountsFailure result writer.old.1 writer.new.1 }
+    ensures saved { GoesOn (W.contents writer.old.inner) (W.contents writer.new.inner)
+        (progress loaded.now waiting.old) (progress loaded.now waiting.new)
+        (bytes_in loaded.now slot.now) result }
+    ensures failures { CountsFailure result writer.old.failures writer.new.failures }
 {
     if slot.runs.is_empty() {
         if let Base::Loaded(extent) = &slot.base {
@@ -107,7 +113,8 @@ fn write_slot<W: Write>(
     write_view(writer, &mut waiting.written, &view)
 }
 
-// Puts a range of the loaded bytes behind the one that waits, which is written before where the two are no neighbours.
+// Puts a range of the loaded bytes behind the one that waits, which is written before where the two
+// are no neighbours.
 fn write_range<W: Write>(
     writer: &mut Sink<W>,
     loaded: &[u8],
@@ -122,9 +129,10 @@ fn write_range<W: Write>(
     requires small { waiting.old.written + (waiting.old.to - waiting.old.from) < 2 ^ 64 }
     ensures order { waiting.new.from ≤ waiting.new.to }
     ensures inside { waiting.new.to ≤ length loaded.now }
-    ensures saved { GoesOn (W.contents writer.old.0) (W.contents writer.new.0)
-        (progress loaded.now waiting.old) (progress loaded.now waiting.new) (slice_range loaded.now from to) result }
-    ensures failures { CountsFailure result writer.old.1 writer.new.1 }
+    ensures saved { GoesOn (W.contents writer.old.inner) (W.contents writer.new.inner)
+        (progress loaded.now waiting.old) (progress loaded.now waiting.new)
+        (slice_range loaded.now from to) result }
+    ensures failures { CountsFailure result writer.old.failures writer.new.failures }
 {
     if from == waiting.to {
         waiting.to = to;
@@ -148,10 +156,11 @@ fn flush<W: Write>(
     ensures to { waiting.new.to ≡ waiting.old.to }
     ensures order { waiting.new.from ≤ waiting.new.to }
     ensures empty { OnOk result (waiting.new.from ≡ waiting.new.to) }
-    ensures count { OnOk result (waiting.new.written ≡ waiting.old.written + (waiting.old.to - waiting.old.from)) }
-    ensures saved { GoesOn (W.contents writer.old.0) (W.contents writer.new.0)
+    ensures count { OnOk result
+        (waiting.new.written ≡ waiting.old.written + (waiting.old.to - waiting.old.from)) }
+    ensures saved { GoesOn (W.contents writer.old.inner) (W.contents writer.new.inner)
         (progress loaded.now waiting.old) (progress loaded.now waiting.new) [] result }
-    ensures failures { CountsFailure result writer.old.1 writer.new.1 }
+    ensures failures { CountsFailure result writer.old.failures writer.new.failures }
 {
     write_part(
         writer,
@@ -169,9 +178,10 @@ fn write_view<W: Write>(
     view: &TraceView<'_>,
 ) -> Result<(), SaveFault>
     requires small { written.old + length (bytes_of_view view.now) < 2 ^ 64 }
-    ensures saved { GoesOn (W.contents writer.old.0) (W.contents writer.new.0)
-        (record { written = written.old; waits = [] }) (record { written = written.new; waits = [] }) (bytes_of_view view.now) result }
-    ensures failures { CountsFailure result writer.old.1 writer.new.1 }
+    ensures saved { GoesOn (W.contents writer.old.inner) (W.contents writer.new.inner)
+        (record { written = written.old; waits = [] })
+        (record { written = written.new; waits = [] }) (bytes_of_view view.now) result }
+    ensures failures { CountsFailure result writer.old.failures writer.new.failures }
 {
     for piece in view.pieces() {
         write_part(writer, written, piece)?;
@@ -187,11 +197,12 @@ fn write_part<W: Write>(
 ) -> Result<(), SaveFault>
     requires small { written.old + length bytes.now < 2 ^ 64 }
     ensures count { OnOk result (written.new ≡ written.old + length bytes.now) }
-    ensures saved { GoesOn (W.contents writer.old.0) (W.contents writer.new.0)
-        (record { written = written.old; waits = [] }) (record { written = written.new; waits = [] }) bytes.now result }
-    ensures failures { CountsFailure result writer.old.1 writer.new.1 }
+    ensures saved { GoesOn (W.contents writer.old.inner) (W.contents writer.new.inner)
+        (record { written = written.old; waits = [] })
+        (record { written = written.new; waits = [] }) bytes.now result }
+    ensures failures { CountsFailure result writer.old.failures writer.new.failures }
 {
-    match write_bytes(writer, bytes) {
+    match writer.write_all(bytes) {
         Ok(()) => {
             *written += bytes.len() as u64;
             Ok(())
@@ -200,19 +211,4 @@ fn write_part<W: Write>(
             written: *written + fault.written,
         }),
     }
-}
-
-// Writes all the bytes, or a first part of them.
-fn write_bytes<W: Write>(writer: &mut Sink<W>, bytes: &[u8]) -> Result<(), SaveFault>
-    ensures saved { Saves (W.contents writer.old.0) (W.contents writer.new.0) bytes.now result }
-    ensures failures { CountsFailure result writer.old.1 writer.new.1 }
-{
-    let mut at = 0;
-    'turns: while at < bytes.len() {
-        match writer.write(&bytes[at..]) {
-            Ok(count) => at += count,
-            Err(_) => return Err(SaveFault { written: at as u64 }),
-        }
-    }
-    Ok(())
 }

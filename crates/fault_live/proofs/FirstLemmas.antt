@@ -7,10 +7,11 @@ use Rattle.std.specs.Cmp.{Equal-is}
 use Rattle.std.proofs.lemmas.Map.Lookups.{exact_signed}
 use Rattle.std.proofs.lemmas.Bool.Decides.{nat_tests}
 use Rattle.trace_record.specs.Facts.{Facts}
-use Rattle.trace_record.specs.Keys.{faults_counted, triple}
+use Rattle.trace_record.specs.Keys.{triple}
+use Rattle.fault_live.specs.FaultKeys.{keys_of_faults}
 use Rattle.trace_record.specs.Tally.{tally_of}
 use Rattle.trace_record.proofs.KeyLemmas.{is_eq-triple}
-use Rattle.fault_live.specs.Faults.{same_triple, repeated, first_with}
+use Rattle.fault_live.specs.Faults.{same_triple, repeat_fault, first_with}
 use Rattle.fault_live.specs.OfFaults.{triple_cmp}
 use Rattle.fault_live.proofs.OnceLemmas.{same-flip, same_itself, not_before, counted_itself, once_is_not_repeated}
 
@@ -90,18 +91,18 @@ module _ (count : ℤ × ℤ × ℤ → ℕ) where
 
     -- what the trace repeats
     pub repeats : (gs : List Facts) (r : ℕ) → r ≡ cond (nat_lt 1 (count (key f))) (unwrap_or (m (key f)) p) p
-        → count (key f) ≡ (tally_of faults_counted (fs ++ f ∷ gs)).count (triple f.inline f.crossline f.offset)
-        → repeated p (Some r) ≡ repeated p (first_with (fs ++ f ∷ gs) f)
+        → count (key f) ≡ (tally_of keys_of_faults (fs ++ f ∷ gs)).count (triple f.inline f.crossline f.offset)
+        → repeat_fault p (Some r) ≡ repeat_fault p (first_with (fs ++ f ∷ gs) f)
     repeats gs r is counted = by (nat_lt 1 (count (key f))) refl
       where
-        by : (b : Bool) → nat_lt 1 (count (key f)) ≡ b → repeated p (Some r) ≡ repeated p (first_with (fs ++ f ∷ gs) f)
+        by : (b : Bool) → nat_lt 1 (count (key f)) ≡ b → repeat_fault p (Some r) ≡ repeat_fault p (first_with (fs ++ f ∷ gs) f)
         by true e =
-            ap (λ q. repeated p (Some q)) (is ∙ ap (λ b. cond b (unwrap_or (m (key f)) p) p) e ∙ ap (λ o. unwrap_or o p) (first f (grind (arith, nat_tests))) ∙ ap (λ l. unwrap_or (first_with fs f) l) at)
-            ∙ sym (ap (λ o. repeated p o) (behind (same_triple f) f (same_itself f) fs gs 1))
+            ap (λ q. repeat_fault p (Some q)) (is ∙ ap (λ b. cond b (unwrap_or (m (key f)) p) p) e ∙ ap (λ o. unwrap_or o p) (first f (grind (arith, nat_tests))) ∙ ap (λ l. unwrap_or (first_with fs f) l) at)
+            ∙ sym (ap (λ o. repeat_fault p o) (behind (same_triple f) f (same_itself f) fs gs 1))
         by false e =
             let some = counted_itself fs gs f in
-            let one : (tally_of faults_counted (fs ++ f ∷ gs)).count (triple f.inline f.crossline f.offset) ≡ 1 = grind (arith, nat_tests) in
-            ap (λ q. repeated p (Some q)) (is ∙ ap (λ b. cond b (unwrap_or (m (key f)) p) p) e)
+            let one : (tally_of keys_of_faults (fs ++ f ∷ gs)).count (triple f.inline f.crossline f.offset) ≡ 1 = grind (arith, nat_tests) in
+            ap (λ q. repeat_fault p (Some q)) (is ∙ ap (λ b. cond b (unwrap_or (m (key f)) p) p) e)
             ∙ not_before p
             ∙ sym (once_is_not_repeated fs gs f one)
-            ∙ ap (λ q. repeated q (first_with (fs ++ f ∷ gs) f)) (omega arith)
+            ∙ ap (λ q. repeat_fault q (first_with (fs ++ f ∷ gs) f)) (omega arith)

@@ -1,4 +1,5 @@
 pub mod OnceLemmas
 pub mod FirstLemmas
-pub mod ReportSteps
-pub mod Triples
+pub mod ReportStepLemmas
+pub mod TripleLemmas
+pub mod LoadLemmas

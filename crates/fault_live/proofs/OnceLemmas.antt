@@ -8,10 +8,11 @@ use Rattle.std.specs.Cmp.{int_cmp_total}
 use Rattle.std.specs.declared.cmp.Ordering.{Ordering}
 use Rattle.std.specs.declared.cmp.Ordering.TheVariants.{Less, Equal, Greater}
 use Rattle.trace_record.specs.Facts.{Facts}
-use Rattle.trace_record.specs.Keys.{faults_has, faults_counted, triple}
+use Rattle.trace_record.specs.Keys.{triple}
+use Rattle.fault_live.specs.FaultKeys.{faults_has, keys_of_faults}
 use Rattle.trace_record.specs.Tally.{tally_of}
 use Rattle.trace_record.proofs.KeyLemmas.{int_eq-itself}
-use Rattle.fault_live.specs.Faults.{same_triple, repeated}
+use Rattle.fault_live.specs.Faults.{same_triple, repeat_fault}
 use Rattle.fault_live.specs.declared.fault.Fault.TheVariants.{Repeated}
 use Rattle.fault_live.specs.Laws.{OnceIsNotRepeated}
 
@@ -54,7 +55,7 @@ first_behind f gs (g ∷ fs) n e = by (has_of f g) refl (first_behind f gs fs (n
         ∙ i (let s = split ∙ ap (λ (b : Bool). (if b then 1 else 0) + count_by (has_of f) fs) h in omega arith)
         ∙ ap Some (omega arith)
 
-pub not_before : (p : ℕ) → repeated p (Some p) ≡ []
+pub not_before : (p : ℕ) → repeat_fault p (Some p) ≡ []
 not_before p = by (nat_lt p p) (grind arith)
   where
     by : (b : Bool) → b ≡ false → (if b then Repeated p p ∷ [] else []) ≡ []
@@ -62,7 +63,7 @@ not_before p = by (nat_lt p p) (grind arith)
     by false e = refl
 
 -- a trace's triple is counted at the trace itself
-pub counted_itself : (fs gs : List Facts) (f : Facts) → 0 < (tally_of faults_counted (fs ++ f ∷ gs)).count (triple f.inline f.crossline f.offset)
+pub counted_itself : (fs gs : List Facts) (f : Facts) → 0 < (tally_of keys_of_faults (fs ++ f ∷ gs)).count (triple f.inline f.crossline f.offset)
 unfolding has_of
 counted_itself fs gs f =
     let parts = sum_by-append (λ h. cond (has_of f h) 1 0) fs (f ∷ gs) in
@@ -75,4 +76,4 @@ once_is_not_repeated fs gs f e =
     let parts = sum_by-append (λ h. cond (has_of f h) 1 0) fs (f ∷ gs) in
     let here = sum_by-cons (λ h. cond (has_of f h) 1 0) f gs ∙ ap (λ (b : Bool). (if b then 1 else 0) + count_by (has_of f) gs) (sym (same_has f f) ∙ same_itself f) in
     let none : count_by (has_of f) fs ≡ 0 = omega arith in
-    ap (repeated (length fs + 1)) (first_behind f gs fs 1 none ∙ ap Some (omega arith)) ∙ not_before (length fs + 1)
+    ap (repeat_fault (length fs + 1)) (first_behind f gs fs 1 none ∙ ap Some (omega arith)) ∙ not_before (length fs + 1)

@@ -36,9 +36,9 @@ abbrev pub first_with : List Facts → Facts → Option ℕ
 first_with fs f = position_from (same_triple f) 1 fs
 
 -- F6, where that position is before p
-abbrev pub repeated : ℕ → Option ℕ → List Fault
-repeated p None = []
-repeated p (Some first) = if nat_lt first p then Repeated p first ∷ [] else []
+abbrev pub repeat_fault : ℕ → Option ℕ → List Fault
+repeat_fault p None = []
+repeat_fault p (Some first) = if nat_lt first p then Repeated p first ∷ [] else []
 
 -- F1 to F3 of the trace f at position p
 abbrev pub own_faults : HeadFacts → ℕ → Facts → List Fault
@@ -51,7 +51,7 @@ own_faults h p f =
 abbrev pub among_faults : HeadFacts → ℤ → Option ℕ → ℕ → Facts → List Fault
 among_faults h units first p f =
     unless (int_eq f.units units) (Units p f.units units)
-    ++ repeated p first
+    ++ repeat_fault p first
     ++ unless (not (is_revision_2 h) || f.has_known_name) (Name p)
 
 -- F1 to F6 and F9 of the trace f at position p, among the traces fs

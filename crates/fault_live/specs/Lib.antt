@@ -1,3 +1,4 @@
+pub mod FaultKeys
 pub mod Faults
 pub mod OfFaults
 pub mod Laws

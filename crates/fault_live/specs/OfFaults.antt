@@ -23,5 +23,6 @@ count_in f (least v) = 0
 count_in f (greatest v) = 0
 count_in f (triple i c o) = count_of triple_cmp f.triples (i, c, o)
 
+-- the tally of a running value of faults
 abbrev pub tally_of_faults : Faults → Tally
 tally_of_faults f = record { records = f.records; number = 0; sum = pos 0; count = λ k. count_in f k }

@@ -3,8 +3,8 @@ ghost use Rattle.std.specs.Prelude.{◌≡◌, pos, not, ◌&&◌, ◌||◌, ◌
 ghost use Rattle.std.specs.Ordering.{int_eq};
 ghost use Rattle.fault_live.specs.Faults.{is_scalar, is_revision_2, unless};
 
-use crate::{Fault, HeadFacts};
-use trace_record::{OutOfMemory, Record};
+use crate::{Fault, HeadFacts, OutOfMemory};
+use trace_record::Record;
 
 // The fault at the end of the report, unless the test holds.
 pub(crate) fn push_unless(
@@ -29,7 +29,8 @@ pub(crate) fn has_its_position(trace: &Record, position: u32) -> bool
 
 // Bytes 115-116 are 0 or the trace's number of samples.
 pub(crate) fn has_its_samples(trace: &Record) -> bool
-    ensures { result ≡ (trace.now.samples_field == 0 || trace.now.samples_field == trace.now.number) }
+    ensures { result ≡ (trace.now.samples_field == 0 ||
+        trace.now.samples_field == trace.now.number) }
 {
     trace.samples_field == 0 || u32::from(trace.samples_field) == trace.number
 }
@@ -82,7 +83,8 @@ pub(crate) fn has_a_name(trace: &Record, head: &HeadFacts) -> bool
 
 // Bytes 3513-3520 are 0 or the number of traces, or the file is of another revision than 2.0.
 pub(crate) fn has_its_count(head: &HeadFacts, traces: u32) -> bool
-    ensures { result ≡ (not (is_revision_2 head.now) || head.now.trace_count == 0 || head.now.trace_count == traces) }
+    ensures { result ≡ (not (is_revision_2 head.now) || head.now.trace_count == 0 ||
+        head.now.trace_count == traces) }
 {
     !is_of_revision_2(head) || head.trace_count == 0 || head.trace_count == u64::from(traces)
 }

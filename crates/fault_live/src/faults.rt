@@ -3,17 +3,18 @@ ghost use Rattle.std.specs.Ordering.{is_eq};
 ghost use Rattle.std.specs.BTreeMap.{get};
 ghost use Rattle.trace_record.specs.Counts.{count_of};
 ghost use Rattle.trace_record.specs.Facts.{facts_of};
-ghost use Rattle.trace_record.specs.Keys.{faults_counted};
+ghost use Rattle.fault_live.specs.FaultKeys.{keys_of_faults};
 ghost use Rattle.trace_record.specs.Tally.{Same, tally_of};
 ghost use Rattle.fault_live.specs.OfFaults.{triple_cmp, tally_of_faults};
 ghost use Rattle.fault_live.specs.Faults.{faults_of};
 
-use crate::firsts::{first_place, key_of};
+use crate::firsts::{first_place, key_of, keys_of};
 use crate::report::{push_head, push_trace, units_of_first};
-use crate::{Fault, HeadFacts};
+use crate::{Fault, HeadFacts, OutOfMemory};
+use record_list::RecordList;
 use std::alloc::Global;
 use std::collections::BTreeMap;
-use trace_record::{Counts, OutOfMemory, Record, Running};
+use trace_record::{Counts, Record, Running};
 
 /// How often inline, crossline and offset stand together, over traces that come and go.
 #[derive(Drop)]
@@ -23,10 +24,10 @@ pub struct Faults {
 }
 
 impl Running for Faults {
-    ghost use Rattle.trace_record.specs.Keys.{faults_counted};
+    ghost use Rattle.fault_live.specs.FaultKeys.{keys_of_faults};
     ghost use Rattle.fault_live.specs.OfFaults.{tally_of_faults};
 
-    ghost counted = { faults_counted };
+    ghost counted = { keys_of_faults };
 
     ghost tally = { tally_of_faults };
 
@@ -37,7 +38,18 @@ impl Running for Faults {
         }
     }
 
-    fn add(&mut self, trace: &Record) -> Result<(), OutOfMemory> {
+    fn from_records(
+        alloc: Global,
+        records: &RecordList<Record>,
+    ) -> Result<Faults, trace_record::OutOfMemory> {
+        let keys = keys_of(alloc, records)?;
+        Ok(Faults {
+            records: records.len() as u64,
+            triples: Counts::from_keys(alloc, keys)?,
+        })
+    }
+
+    fn add(&mut self, trace: &Record) -> Result<(), trace_record::OutOfMemory> {
         self.triples
             .raise((trace.inline, trace.crossline, trace.offset))?;
         self.records += 1;
@@ -52,29 +64,32 @@ impl Running for Faults {
 }
 
 impl Faults {
-    /// The faults of a file with these traces: F7, F8, then trace by trace F1 to F6 and F9, their codes
-    /// rising. It is asked of the value that counted exactly these traces, fewer than 2^32. One pass
-    /// over them: each takes a look-up of how often its inline, crossline and offset are counted, and a
-    /// second one, of the first position with them, only where that is more than once. Takes memory for
-    /// the report and for those first positions; refused for want of it alone.
+    /// The faults of a file with these traces: F7, F8, then trace by trace F1 to F6 and F9, their
+    /// codes rising. It is asked of the value that counted exactly these traces, fewer than 2^32;
+    /// of any other the report tells nothing. One pass over them: each takes a look-up of how often
+    /// its inline, crossline and offset are counted, and a second one, of the first position with
+    /// them, only where that is more than once. Takes memory for the report and for those first
+    /// positions; refused for want of it alone.
     pub fn report(
         &self,
         alloc: Global,
-        records: &[Record],
+        records: &RecordList<Record>,
         head: &HeadFacts,
     ) -> Result<Vec<Fault>, OutOfMemory>
-        requires few { length records.now < 2 ^ 32 }
-        requires counted { Same (tally_of_faults self.now) (tally_of faults_counted (map facts_of records.now)) }
-        ensures { IfOk result (λ v. v.items ≡ faults_of head.now (map facts_of records.now)) }
+        requires { length records.now < 2 ^ 32 }
+        ensures { Same (tally_of_faults self.now)
+            (tally_of keys_of_faults (map facts_of records.now)) →
+            IfOk result (λ v. v.items ≡ faults_of head.now (map facts_of records.now)) }
     {
         let units = units_of_first(records);
         let mut firsts = BTreeMap::new(alloc);
         let mut report = Vec::new(alloc);
         push_head(&mut report, head, records.len() as u32)?;
-        for (index, trace) in records.iter().enumerate() {
-            let position = index as u32 + 1;
-            let first = self.first_of(&mut firsts, position, key_of(trace))?;
-            push_trace(&mut report, head, units, first, position, trace)?;
+        let mut position = 0;
+        for trace in records.iter() {
+            position += 1;
+            let first = self.first_of(&mut firsts, position, key_of(&trace))?;
+            push_trace(&mut report, head, units, first, position, &trace)?;
         }
         Ok(report)
     }
@@ -86,8 +101,13 @@ impl Faults {
         position: u32,
         key: (i32, i32, i32),
     ) -> Result<u32, OutOfMemory>
-        ensures value { IfOk result (λ r. r ≡ cond (nat_lt 1 (count_of triple_cmp self.now.triples key)) (unwrap_or (get triple_cmp firsts.old key) position) position) }
-        ensures places { OnOk result ((q : ℤ × ℤ × ℤ) → get triple_cmp firsts.new q ≡ cond (nat_lt 1 (count_of triple_cmp self.now.triples key) && is_eq (triple_cmp key q)) (Some (unwrap_or (get triple_cmp firsts.old key) position)) (get triple_cmp firsts.old q)) }
+        ensures value { IfOk result
+            (λ r. r ≡ cond (nat_lt 1 (count_of triple_cmp self.now.triples key))
+            (unwrap_or (get triple_cmp firsts.old key) position) position) }
+        ensures places { OnOk result ((q : ℤ × ℤ × ℤ) →
+            get triple_cmp firsts.new q ≡ cond (nat_lt 1 (count_of triple_cmp self.now.triples key)
+            && is_eq (triple_cmp key q)) (Some (unwrap_or (get triple_cmp firsts.old key) position))
+            (get triple_cmp firsts.old q)) }
     {
         if self.triples.count(&key) > 1 {
             return first_place(firsts, key, position);

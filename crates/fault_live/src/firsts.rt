@@ -1,16 +1,33 @@
-ghost use Rattle.std.specs.Prelude.{◌≡◌, ℤ, OnOk, IfOk, Some, unwrap_or, cond};
+ghost use Rattle.std.specs.Prelude.{◌≡◌, ℤ, OnOk, IfOk, Some, unwrap_or, cond, map};
 ghost use Rattle.std.specs.Ordering.{is_eq};
 ghost use Rattle.std.specs.BTreeMap.{get};
 ghost use Rattle.fault_live.specs.OfFaults.{triple_cmp};
 
+use crate::OutOfMemory;
+use record_list::RecordList;
+use std::alloc::{AllocError, Global};
 use std::collections::BTreeMap;
-use trace_record::{OutOfMemory, Record};
+use trace_record::Record;
 
 // Inline, crossline and offset together.
 pub(crate) fn key_of(trace: &Record) -> (i32, i32, i32)
     ensures { result ≡ (trace.now.inline, trace.now.crossline, trace.now.offset) }
 {
     (trace.inline, trace.crossline, trace.offset)
+}
+
+// The keys of these traces, in their order.
+pub(crate) fn keys_of(
+    alloc: Global,
+    records: &RecordList<Record>,
+) -> Result<Vec<(i32, i32, i32)>, AllocError>
+    ensures { IfOk result (λ keys. keys.items ≡
+        map (λ r. (r.inline, r.crossline, r.offset)) records.now) }
+{
+    records
+        .iter()
+        .map(|r| (r.inline, r.crossline, r.offset))
+        .collect(alloc)
 }
 
 // The position that the key has, or this one, which it then gets.
@@ -20,7 +37,9 @@ pub(crate) fn first_place(
     position: u32,
 ) -> Result<u32, OutOfMemory>
     ensures value { IfOk result (λ r. r ≡ unwrap_or (get triple_cmp firsts.old key) position) }
-    ensures places { OnOk result ((q : ℤ × ℤ × ℤ) → get triple_cmp firsts.new q ≡ cond (is_eq (triple_cmp key q)) (Some (unwrap_or (get triple_cmp firsts.old key) position)) (get triple_cmp firsts.old q)) }
+    ensures places { OnOk result ((q : ℤ × ℤ × ℤ) →
+        get triple_cmp firsts.new q ≡ cond (is_eq (triple_cmp key q))
+        (Some (unwrap_or (get triple_cmp firsts.old key) position)) (get triple_cmp firsts.old q)) }
 {
     if let Some(first) = firsts.get(&key) {
         return Ok(*first);

@@ -1,20 +1,21 @@
 ghost use Rattle.std.specs.Prelude.{◌≡◌, ◌++◌, Some, map, OnOk};
 ghost use Rattle.trace_record.specs.Facts.{facts_of};
-ghost use Rattle.fault_live.specs.Faults.{head_faults, own_faults, among_faults, first_units, repeated, unless, is_scalar};
+ghost use Rattle.fault_live.specs.Faults.{head_faults, own_faults, among_faults, first_units, repeat_fault, unless, is_scalar};
 ghost use Rattle.fault_live.specs.declared.fault.Fault.TheVariants.{Scalar};
 
 use crate::checks::{
     has_a_name, has_a_scalar, has_its_count, has_its_position, has_its_samples, has_the_interval,
     has_the_units, push_unless,
 };
-use crate::{Fault, HeadFacts};
-use trace_record::{OutOfMemory, Record};
+use crate::{Fault, HeadFacts, OutOfMemory};
+use record_list::RecordList;
+use trace_record::Record;
 
 // The coordinate units of the first trace.
-pub(crate) fn units_of_first(records: &[Record]) -> i16
+pub(crate) fn units_of_first(records: &RecordList<Record>) -> i16
     ensures { result ≡ first_units (map facts_of records.now) }
 {
-    match records.first() {
+    match records.get(0) {
         Some(trace) => trace.units,
         None => 0,
     }
@@ -39,7 +40,8 @@ pub(crate) fn push_head(
 
 // F6, where the first position is before the trace's.
 fn push_repeated(report: &mut Vec<Fault>, position: u32, first: u32) -> Result<(), OutOfMemory>
-    ensures { OnOk result (report.new.items ≡ report.old.items ++ repeated position (Some first)) }
+    ensures { OnOk result (report.new.items ≡ report.old.items ++ repeat_fault position
+        (Some first)) }
 {
     if first < position {
         report.push(Fault::Repeated(position, first))?;
@@ -54,7 +56,8 @@ fn push_own(
     position: u32,
     trace: &Record,
 ) -> Result<(), OutOfMemory>
-    ensures { OnOk result (report.new.items ≡ report.old.items ++ own_faults head.now position (facts_of trace.now)) }
+    ensures { OnOk result (report.new.items ≡ report.old.items ++ own_faults head.now position
+        (facts_of trace.now)) }
 {
     push_unless(
         report,
@@ -83,7 +86,8 @@ fn push_among(
     position: u32,
     trace: &Record,
 ) -> Result<(), OutOfMemory>
-    ensures { OnOk result (report.new.items ≡ report.old.items ++ among_faults head.now units (Some first) position (facts_of trace.now)) }
+    ensures { OnOk result (report.new.items ≡ report.old.items ++ among_faults head.now units
+        (Some first) position (facts_of trace.now)) }
 {
     push_unless(
         report,
@@ -104,7 +108,10 @@ pub(crate) fn push_trace(
     position: u32,
     trace: &Record,
 ) -> Result<(), OutOfMemory>
-    ensures { OnOk result (report.new.items ≡ report.old.items ++ own_faults head.now position (facts_of trace.now) ++ unless (is_scalar trace.now.scalar) (Scalar position trace.now.scalar) ++ among_faults head.now units (Some first) position (facts_of trace.now)) }
+    ensures { OnOk result (report.new.items ≡ report.old.items ++ own_faults head.now position
+        (facts_of trace.now) ++ unless (is_scalar trace.now.scalar)
+        (Scalar position trace.now.scalar) ++ among_faults head.now units (Some first) position
+        (facts_of trace.now)) }
 {
     push_own(report, head, position, trace)?;
     push_unless(

@@ -3,6 +3,7 @@
 ghost use Rattle.std.specs.Prelude.{◌<◌, ◌^◌, length};
 
 use crate::{Fault, Faults, HeadFacts};
+use record_list::RecordList;
 use std::alloc::Global;
 use std::test::Fail;
 use trace_record::{OutOfMemory, Ratio, Record, Running};
@@ -37,15 +38,13 @@ fn counts_a_trace_and_forgets_it(rt: HostRuntime) -> Result<(), Fail> {
     Ok(())
 }
 
-// The report on the traces, each counted once.
-fn report_of(alloc: Global, records: &[Record], head: &HeadFacts) -> Result<Vec<Fault>, OutOfMemory>
+// The report on the traces, which are counted all at once.
+fn report_of(alloc: Global, records: &[Record], head: &HeadFacts) -> Result<Vec<Fault>, Fail>
     requires { length records.now < 2 ^ 16 }
 {
-    let mut faults = Faults::new(alloc);
-    for trace in records {
-        faults.add(trace)?;
-    }
-    faults.report(alloc, records, head)
+    let list = RecordList::from_slice(alloc, records)?;
+    let faults = Faults::from_records(alloc, &list)?;
+    Ok(faults.report(alloc, &list, head)?)
 }
 
 fn trace_at(sequence: i32, crossline: i32, offset: i32) -> Record {

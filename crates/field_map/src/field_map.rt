@@ -13,8 +13,9 @@ use indexmap::IndexMap;
 use std::alloc::Global;
 use std::marker::Model;
 
-/// The names that are bound to places in trace headers, in the order of their first binding: the six geometry names
-/// `inline`, `crossline`, `offset`, `x`, `y` and `scalar`, which are always bound, and up to 64 further ones.
+/// The names that are bound to places in trace headers, in the order of their first binding: the
+/// six geometry names `inline`, `crossline`, `offset`, `x`, `y` and `scalar`, which are always
+/// bound, and up to 64 further ones.
 #[derive(Drop)]
 pub struct FieldMap {
     extensions: u8,
@@ -36,8 +37,9 @@ impl Model for FieldMap {
 }
 
 impl FieldMap {
-    /// The map of a file that was just loaded, whose traces have at most so many header extensions: the six geometry
-    /// names at their standard places. Takes memory, and is refused for want of it alone.
+    /// The map of a file that was just loaded, whose traces have at most so many header extensions:
+    /// the six geometry names at their standard places. Takes memory, and is refused for want of it
+    /// alone.
     pub fn standard(alloc: Global, extensions: u8) -> Result<FieldMap, OutOfMemory>
         ensures extensions { IfOk result (λ m. m.extensions ≡ extensions) }
         ensures pairs { IfOk result (λ m. m.pairs ≡ geometry_at_load) }
@@ -52,9 +54,9 @@ impl FieldMap {
         Ok(FieldMap { extensions, map })
     }
 
-    /// Each geometry name is bound, to a place where it may stand: a signed number of 2 or 4 bytes, the scalar of 2,
-    /// inside the main header or, where the file has header extensions, the first of them. Does nothing: its contract is
-    /// the law.
+    /// Each geometry name is bound, to a place where it may stand: a signed number of 2 or 4 bytes,
+    /// the scalar of 2, inside the main header or, where the file has header extensions, the first
+    /// of them. Does nothing: its contract is the law.
     pub fn geometry_stands(&self)
         ensures { HasGeometry self.now.extensions self.now.pairs }
     {
@@ -83,16 +85,20 @@ impl FieldMap {
         self.map.get(name).is_some()
     }
 
-    /// Binds the name to the place: a bound name gets its new place where it stands, and a new one goes last. Takes
-    /// memory. Refused, and nothing is changed: M01 for a name that is none, M02 where the place goes past its header or
-    /// stands in an extension that the name may not stand in, M03 for a kind that no number or no geometry name has,
-    /// M04 for a new name where 64 further names are bound, M07 for a standard name; then where a growth was refused.
+    /// Binds the name to the place: a bound name gets its new place where it stands, and a new one
+    /// goes last. Takes memory. Refused, and nothing is changed: M01 for a name that is none, M02
+    /// where the place goes past its header or stands in an extension that the name may not stand
+    /// in, M03 for a kind that no number or no geometry name has, M04 for a new name where 64
+    /// further names are bound, M07 for a standard name; then where a growth was refused.
     pub fn bind(&mut self, alloc: Global, name: &str, place: Place) -> Result<(), MapFault>
-        ensures ok { OnOk result ((bind_fault self.old.extensions self.old.pairs name.now place ≡ None)
+        ensures ok { OnOk result
+            ((bind_fault self.old.extensions self.old.pairs name.now place ≡ None)
             × (self.new.pairs ≡ bound self.old.pairs name.now place)) }
         ensures extensions { self.new.extensions ≡ self.old.extensions }
-        ensures fault { IfErr result (λ fault. (bind_fault self.old.extensions self.old.pairs name.now place ≡ Some fault)
-            ⊎ ((bind_fault self.old.extensions self.old.pairs name.now place ≡ None) × (fault ≡ no_memory))) }
+        ensures fault { IfErr result
+            (λ fault. (bind_fault self.old.extensions self.old.pairs name.now place ≡ Some fault)
+            ⊎ ((bind_fault self.old.extensions self.old.pairs name.now place ≡ None) ×
+            (fault ≡ no_memory))) }
         ensures err { OnErr result (self.new ≡ self.old) }
     {
         match self.binding_refusal(name, place) {
@@ -101,8 +107,8 @@ impl FieldMap {
         }
     }
 
-    /// Leaves out the name, and keeps the order of the rest. Takes no memory. Refused, and nothing is changed: M05 for a
-    /// geometry name, M06 for a name that is not bound.
+    /// Leaves out the name, and keeps the order of the rest. Takes no memory. Refused, and nothing
+    /// is changed: M05 for a geometry name, M06 for a name that is not bound.
     pub fn unbind(&mut self, name: &str) -> Result<(), MapFault>
         ensures ok { OnOk result ((unbind_fault self.old.pairs name.now ≡ None)
             × (self.new.pairs ≡ unbound self.old.pairs name.now)) }
@@ -167,7 +173,8 @@ fn put(
     name: &str,
     place: Place,
 ) -> Result<(), OutOfMemory>
-    ensures ok { OnOk result (shown map.new.entries ≡ bound (shown map.old.entries) name.now place) }
+    ensures ok { OnOk result (shown map.new.entries ≡ bound (shown map.old.entries) name.now
+        place) }
     ensures err { OnErr result (shown map.new.entries ≡ shown map.old.entries) }
 {
     let key = String::from_str(alloc, name)?;

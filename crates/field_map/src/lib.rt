@@ -1,9 +1,11 @@
-//! Names bound to places in trace headers, and the standard names of trace and binary header fields.
+//! Names bound to places in trace headers, and the standard names of trace and binary header
+//! fields.
 //!
-//! A place is a header, a first byte counted from 1, a size and a sign. [`standard`] and [`bin_field`] look up the names
-//! that are always there, and take no memory. A [`FieldMap`] holds the names that a user binds, in order, among them the
-//! six geometry names; contracts see it as the list of its names and places, with the number of header extensions that
-//! bounds what may be bound. Making one and `bind` take memory; no other call does.
+//! A place is a header, a first byte counted from 1, a size and a sign. [`standard`] and
+//! [`bin_field`] look up the names that are always there, and take no memory. A [`FieldMap`] holds
+//! the names that a user binds, in order, among them the six geometry names; contracts see it as
+//! the list of its names and places, with the number of header extensions that bounds what may be
+//! bound. Making one and `bind` take memory; no other call does.
 #![tactic(auto)]
 
 mod entries;
@@ -19,7 +21,7 @@ pub use crate::field_map::FieldMap;
 pub use crate::map_fault::MapFault;
 pub use crate::names::{bin_field, standard};
 pub use crate::out_of_memory::OutOfMemory;
-pub use crate::place::Place;
+pub use crate::place::{Place, TRACE_HEADER_BYTES};
 
 #[cfg(test)]
 mod tests;

@@ -6,8 +6,8 @@ ghost use Rattle.field_map.specs.StandardNames.{standard_place, binary_place};
 use crate::place::Place;
 use num_order::Kind;
 
-/// The place of a trace's field by its standard name: the trace header's fields of the standard, and two fields of the
-/// first trace header extension. Takes no memory.
+/// The place of a trace's field by its standard name: the trace header's fields of the standard,
+/// and two fields of the first trace header extension. Takes no memory.
 pub fn standard(name: &str) -> Option<Place>
     ensures { result ≡ standard_place name.now }
 {
@@ -100,7 +100,12 @@ fn unsigned_in_first_extension(byte: u16, size: u8) -> Place
 }
 
 fn place_of(extension: u16, byte: u16, size: u8, signed: bool) -> Place
-    ensures { result ≡ record { extension = extension; byte = byte; kind = record { size = size; signed = signed } } }
+    ensures { result ≡ record {
+      extension = extension;
+      byte = byte;
+      kind = record
+          { size = size; signed = signed };
+    } }
 {
     Place {
         extension,

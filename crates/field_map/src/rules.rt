@@ -3,7 +3,7 @@ ghost use Rattle.std.specs.Prelude.{◌≡◌};
 ghost use Rattle.std.specs.List.{list_all};
 ghost use Rattle.field_map.specs.Binding.{begins_with_letter as begins_with_letter_of, is_name_character, is_name as is_name_of, is_geometry as is_geometry_name, last_extension as last_extension_of, is_outside as is_outside_of, is_geometry_kind as is_geometry_kind_of, is_bad_kind as is_bad_kind_of};
 
-use crate::place::Place;
+use crate::place::{Place, TRACE_HEADER_BYTES};
 use num_order::Kind;
 
 // One of the six names that are always bound.
@@ -62,7 +62,7 @@ pub(crate) fn is_outside(extensions: u8, name: &str, place: Place) -> bool
     ensures { result ≡ is_outside_of extensions name.now place }
 {
     place.byte == 0
-        || u32::from(place.byte) + u32::from(place.kind.size) - 1 > 240
+        || u32::from(place.byte) + u32::from(place.kind.size) - 1 > TRACE_HEADER_BYTES as u32
         || place.extension > u16::from(last_extension(name, extensions))
 }
 
@@ -76,5 +76,5 @@ fn is_geometry_kind(name: &str, kind: Kind) -> bool
 pub(crate) fn is_bad_kind(name: &str, kind: Kind) -> bool
     ensures { result ≡ is_bad_kind_of name.now kind }
 {
-    !matches!(kind.size, 1 | 2 | 3 | 4 | 8) || (is_geometry(name) && !is_geometry_kind(name, kind))
+    !kind.has_known_size() || (is_geometry(name) && !is_geometry_kind(name, kind))
 }

@@ -1,8 +1,7 @@
-pub mod BinEdits
-pub mod Laid
-pub mod Sizes
-pub mod Edits
-pub mod HeadFront
-pub mod Blocks
-pub mod OneCut
-pub mod CutExamples
+pub mod BinEditLemmas
+pub mod LaidLemmas
+pub mod EditLemmas
+pub mod HeadFrontLemmas
+pub mod BlockLemmas
+pub mod OneCutLemmas
+pub mod CutExampleLemmas

@@ -30,6 +30,7 @@ bin_signed byte size bin = num (order_of bin) (record { size = size; signed = tr
 abbrev pub major_of : List ℕ → ℕ
 major_of bin = bin_unsigned 3501 1 bin
 
+-- the minor number of the revision
 abbrev pub minor_of : List ℕ → ℕ
 minor_of bin = bin_unsigned 3502 1 bin
 

@@ -1,7 +1,7 @@
 -- A file is cut into its parts, or its traces stop at one that is refused.
 use Rattle.std.specs.Prelude.{ℕ, ◌≡◌, ◌+◌, ◌<◌, ◌≤◌, ◌⊎◌, ◌++◌, nat_lt, List, length, All, Option, Some, None, Ok, Err, if◌then◌else◌}
 use Rattle.std.specs.List.{concat}
-use Rattle.frame_cut.specs.declared.head.Head.{Head}
+use Rattle.frame_cut.specs.declared.file_head.Head.{Head}
 use Rattle.frame_cut.specs.declared.limits.Limits.{Limits}
 use Rattle.frame_cut.specs.declared.reading.Reading.{Reading}
 use Rattle.frame_cut.specs.declared.load_fault.LoadFault.{LoadFault}
@@ -9,6 +9,8 @@ use Rattle.frame_cut.specs.declared.load_fault.LoadFault.TheVariants.{ExtensionC
 use Rattle.frame_cut.specs.Volume.{Volume, front_of, bytes_of}
 use Rattle.frame_cut.specs.Heads.{head_of}
 use Rattle.frame_cut.specs.Frames.{trace_length, front_length}
+use Rattle.text_block.specs.declared.block.TheConstants.{TEXT_BLOCK_BYTES}
+use Rattle.frame_cut.specs.declared.sizes.TheConstants.{BINARY_HEADER_BYTES}
 
 -- the bytes are a whole trace: their headers give them the length that they have
 pub record IsTrace (h : Head) (t : List ℕ) : Type 0 where
@@ -18,17 +20,17 @@ pub record IsTrace (h : Head) (t : List ℕ) : Type 0 where
 -- so many blocks of 3200 bytes
 pub record AreBlocks (n : ℕ) (blocks : List (List ℕ)) : Type 0 where
   pub count : length blocks ≡ n
-  pub whole : All (λ b. length b ≡ 3200) blocks
+  pub whole : All (λ b. length b ≡ TEXT_BLOCK_BYTES) blocks
 
 -- the parts are as the file's head says, and within the limits
 pub record AreParts (file : List ℕ) (reading : Reading) (limits : Limits) (v : Volume) : Type 0 where
   pub head : head_of file reading limits ≡ Ok v.head
-  pub text : length v.text ≡ 3200
-  pub bin : length v.bin ≡ 400
+  pub text : length v.text ≡ TEXT_BLOCK_BYTES
+  pub bin : length v.bin ≡ BINARY_HEADER_BYTES
   pub blocks : AreBlocks v.head.blocks v.blocks
   pub traces : All (λ t. IsTrace v.head t) v.traces
   pub few : length v.traces ≤ limits.traces
-  pub tail : AreBlocks v.head.trailer v.tail
+  pub trailer : AreBlocks v.head.trailer v.trailer
 
 -- the parts are the whole file
 pub record IsCut (file : List ℕ) (reading : Reading) (limits : Limits) (v : Volume) : Type 0 where
@@ -49,7 +51,7 @@ trace_refusal h limits p rest =
 
 -- the traces before these bytes are whole, and the next one is refused
 pub record IsStuck (file : List ℕ) (reading : Reading) (limits : Limits) (v : Volume) (rest : List ℕ) (fault : LoadFault) : Type 0 where
-  pub joined : front_of v ++ concat v.traces ++ rest ++ concat v.tail ≡ file
+  pub joined : front_of v ++ concat v.traces ++ rest ++ concat v.trailer ≡ file
   pub parts : AreParts file reading limits v
   pub some : 0 < length rest
   pub refused : trace_refusal v.head limits (length v.traces + 1) rest ≡ Some fault

@@ -2,7 +2,7 @@
 use Rattle.std.specs.Prelude.{◌≡◌, [], ◌∷◌, take, false, Some, Ok, Err, negsuc, refl}
 use Rattle.frame_cut.specs.declared.reading.Reading.TheVariants.{AsWritten, Fixed}
 use Rattle.frame_cut.specs.declared.load_fault.LoadFault.TheVariants.{TextCount, Truncated}
-use Rattle.frame_cut.specs.SmallFiles.{put, put_bin, zeros, wide_limits, head_counted, head_little, bin_plain, trace_plain_3, trace_counted, file_counted, file_trailed, file_little, file_texted}
+use Rattle.frame_cut.specs.SmallFiles.{with_bytes_at, put_bin, zeros, wide_limits, head_counted, head_little, bin_plain, trace_plain_3, trace_counted, file_counted, file_trailed, file_little, file_texted}
 pub use Rattle.frame_cut.specs.SmallFiles.{head_plain, head_extended}
 use Rattle.frame_cut.specs.Heads.{head_of, head_from}
 use Rattle.frame_cut.specs.Frames.{trace_length, sample_count}
@@ -36,7 +36,7 @@ pub length-counted : trace_length head_counted trace_counted ≡ Some 724
 length-counted = refl
 
 -- the wide number stands before the one in the main header, and the binary header's comes last
-pub samples-wide : sample_count (record head_extended { fixed = false }) (put 377 (0 ∷ 1 ∷ 0 ∷ 0 ∷ []) (put 115 (0 ∷ 3 ∷ []) (zeros 480))) ≡ 65536
+pub samples-wide : sample_count (record head_extended { fixed = false }) (with_bytes_at 377 (0 ∷ 1 ∷ 0 ∷ 0 ∷ []) (with_bytes_at 115 (0 ∷ 3 ∷ []) (zeros 480))) ≡ 65536
 samples-wide = refl
 
 -- a torn trace above the limit is torn

@@ -4,32 +4,34 @@ use Rattle.sample_codes.specs.declared.format.Format.{Format}
 use Rattle.sample_codes.specs.declared.format_fault.FormatFault.{FormatFault}
 use Rattle.sample_codes.specs.declared.format_fault.FormatFault.TheVariants as formats
 use Rattle.sample_codes.specs.Formats.{format_of}
-use Rattle.frame_cut.specs.declared.head.Head.{Head}
+use Rattle.frame_cut.specs.declared.file_head.Head.{Head}
 use Rattle.frame_cut.specs.declared.limits.Limits.{Limits}
 use Rattle.frame_cut.specs.declared.reading.Reading.{Reading}
 use Rattle.frame_cut.specs.declared.load_fault.LoadFault.{LoadFault}
 use Rattle.frame_cut.specs.declared.load_fault.LoadFault.TheVariants.{TooLarge, Short, PairSwapped, Revision, FloatFormat, GainFormat, UnknownFormat, TextCount, Extensions, Trailer, FirstTrace}
 use Rattle.text_block.specs.Blocks.{ends_text}
 use Rattle.frame_cut.specs.BinaryHeader.{order_of, is_pair_swapped, is_unknown_revision, major_of, minor_of, format_code, text_count, extensions_field, trailer_field, first_trace, samples_field, is_fixed}
+use Rattle.text_block.specs.declared.block.TheConstants.{TEXT_BLOCK_BYTES}
+use Rattle.frame_cut.specs.declared.sizes.TheConstants.{BINARY_HEADER_BYTES, FILE_HEADER_BYTES}
 
 -- the first n blocks of 3200 bytes
 abbrev pub blocks_of : ℕ → List ℕ → List (List ℕ)
 blocks_of zero rest = []
-blocks_of (suc n) rest = take 3200 rest ∷ blocks_of n (drop 3200 rest)
+blocks_of (suc n) rest = take TEXT_BLOCK_BYTES rest ∷ blocks_of n (drop TEXT_BLOCK_BYTES rest)
 
 -- how many blocks there are up to the first that ends the text, where some whole block does
 abbrev pub blocks_to_end : List ℕ → Option ℕ
-blocks_to_end rest = option_map (λ i. i + 1) (position ends_text (blocks_of (length rest / 3200) rest))
+blocks_to_end rest = option_map (λ i. i + 1) (position ends_text (blocks_of (length rest / TEXT_BLOCK_BYTES) rest))
 
 -- how many extended textual headers stand at the front of the bytes, if they have so many as the text count says
 abbrev pub blocks_for : ℤ → List ℕ → Option ℕ
-blocks_for (pos n) rest = if nat_le (3200 * n) (length rest) then Some n else None
+blocks_for (pos n) rest = if nat_le (TEXT_BLOCK_BYTES * n) (length rest) then Some n else None
 blocks_for (negsuc zero) rest = blocks_to_end rest
 blocks_for (negsuc (suc n)) rest = None
 
 -- where the traces begin
 abbrev pub traces_at : ℕ → ℕ
-traces_at blocks = 3600 + 3200 * blocks
+traces_at blocks = FILE_HEADER_BYTES + TEXT_BLOCK_BYTES * blocks
 
 -- why a sample format code is refused
 abbrev pub format_refusal : FormatFault → ℕ → LoadFault
@@ -54,7 +56,7 @@ head_in reading bin format blocks = record {
 
 -- whether the number of trailer records is negative, or more than the bytes behind the blocks hold
 abbrev pub is_trailer_refused : ℤ → ℕ → Bool
-is_trailer_refused (pos n) left = nat_lt left (3200 * n)
+is_trailer_refused (pos n) left = nat_lt left (TEXT_BLOCK_BYTES * n)
 is_trailer_refused (negsuc n) left = true
 
 -- the checks behind the number of blocks
@@ -62,7 +64,7 @@ abbrev pub with_blocks : Reading → List ℕ → List ℕ → Format → Option
 with_blocks reading bin rest format None = Err (TextCount (text_count bin))
 with_blocks reading bin rest format (Some blocks) =
     if int_lt (extensions_field bin) (pos 0) || int_lt (pos 255) (extensions_field bin) then Err (Extensions (extensions_field bin)) else
-    if is_trailer_refused (trailer_field bin) (length rest - 3200 * blocks) then Err (Trailer (trailer_field bin)) else
+    if is_trailer_refused (trailer_field bin) (length rest - TEXT_BLOCK_BYTES * blocks) then Err (Trailer (trailer_field bin)) else
     if not (first_trace bin == 0) && not (first_trace bin == traces_at blocks) then Err (FirstTrace (first_trace bin)) else
     Ok (head_in reading bin format blocks)
 
@@ -82,5 +84,5 @@ head_from reading bin rest =
 abbrev pub head_of : List ℕ → Reading → Limits → Result Head LoadFault
 head_of file reading limits =
     if nat_lt limits.bytes (length file) then Err TooLarge else
-    if nat_lt (length file) 3600 then Err (Short (length file)) else
-    head_from reading (take 400 (drop 3200 file)) (drop 3600 file)
+    if nat_lt (length file) FILE_HEADER_BYTES then Err (Short (length file)) else
+    head_from reading (take BINARY_HEADER_BYTES (drop TEXT_BLOCK_BYTES file)) (drop FILE_HEADER_BYTES file)

@@ -2,7 +2,7 @@
 use Rattle.std.specs.Prelude.{◌≡◌, ◌+◌, ◌<◌, ◌≤◌, ◌⊎◌, ℕ, List, [], length, take, slice_set, slice_index_or, Some}
 use Rattle.std.specs.List.{concat}
 use Rattle.frame_cut.specs.declared.extent.Extent.{Extent}
-use Rattle.frame_cut.specs.declared.head.Head.{Head}
+use Rattle.frame_cut.specs.declared.file_head.Head.{Head}
 use Rattle.frame_cut.specs.declared.limits.Limits.{Limits}
 use Rattle.frame_cut.specs.declared.reading.Reading.{Reading}
 use Rattle.frame_cut.specs.declared.load_fault.LoadFault.{LoadFault}
@@ -10,7 +10,7 @@ use Rattle.frame_cut.specs.Splice.{splice}
 use Rattle.frame_cut.specs.Volume.{Volume, bytes_of}
 use Rattle.frame_cut.specs.Heads.{traces_at}
 use Rattle.frame_cut.specs.Frames.{trace_length, front_length}
-use Rattle.frame_cut.specs.Layout.{volume_at, AreLaid}
+use Rattle.frame_cut.specs.Layout.{volume_at, AreTracesOf}
 use Rattle.frame_cut.specs.Cuts.{IsCut, IsStuck, IsRefused}
 
 -- two cuts of a file are the same
@@ -45,7 +45,7 @@ LengthByFront = (h : Head) (t u : List ℕ) → front_length h ≤ length t → 
 
 -- the parts of a file whose traces are laid one behind the other, joined, are the file
 abbrev pub LaidIsJoined : Type 0
-LaidIsJoined = (file : List ℕ) (h : Head) (extents : List Extent) → AreLaid file h extents → bytes_of (volume_at file h extents) ≡ file
+LaidIsJoined = (file : List ℕ) (h : Head) (extents : List Extent) → AreTracesOf file h extents → bytes_of (volume_at file h extents) ≡ file
 
 -- a file stays cut, under the same head, where bytes are spliced inside trace p (counted from 0) that leave it its length
 abbrev pub SpliceStaysCut : Type 0

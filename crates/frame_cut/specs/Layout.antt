@@ -1,9 +1,11 @@
 -- Where the parts of a file lie in its bytes.
 use Rattle.std.specs.Prelude.{ℕ, ◌≡◌, ◌≤◌, ◌+◌, ◌*◌, ◌-◌, List, [], ◌∷◌, length, map, take, drop}
 use Rattle.frame_cut.specs.declared.extent.Extent.{Extent}
-use Rattle.frame_cut.specs.declared.head.Head.{Head}
+use Rattle.frame_cut.specs.declared.file_head.Head.{Head}
 use Rattle.frame_cut.specs.Heads.{blocks_of}
 use Rattle.frame_cut.specs.Volume.{Volume}
+use Rattle.text_block.specs.declared.block.TheConstants.{TEXT_BLOCK_BYTES}
+use Rattle.frame_cut.specs.declared.sizes.TheConstants.{BINARY_HEADER_BYTES, FILE_HEADER_BYTES}
 
 -- the bytes of an extent
 abbrev pub bytes_at : List ℕ → Extent → List ℕ
@@ -14,25 +16,25 @@ abbrev pub pieces : List ℕ → List Extent → List (List ℕ)
 pieces file extents = map (λ e. bytes_at file e) extents
 
 -- the extents lie one behind the other: the first begins at `start`, the last ends in front of `end`
-abbrev pub IsLaid : ℕ → List Extent → ℕ → Type 0
-IsLaid start [] end = start ≡ end
-IsLaid start (e ∷ es) end = (e.start ≡ start) × IsLaid (start + e.length) es end
+abbrev pub AreContiguous : ℕ → List Extent → ℕ → Type 0
+AreContiguous start [] end = start ≡ end
+AreContiguous start (e ∷ es) end = (e.start ≡ start) × AreContiguous (start + e.length) es end
 
 -- the parts of a file with this head whose traces lie at these extents
 abbrev pub volume_at : List ℕ → Head → List Extent → Volume
 volume_at file h extents = record {
   head = h;
-  text = take 3200 file;
-  bin = take 400 (drop 3200 file);
-  blocks = blocks_of h.blocks (drop 3600 file);
+  text = take TEXT_BLOCK_BYTES file;
+  bin = take BINARY_HEADER_BYTES (drop TEXT_BLOCK_BYTES file);
+  blocks = blocks_of h.blocks (drop FILE_HEADER_BYTES file);
   traces = pieces file extents;
-  tail = blocks_of h.trailer (drop (length file - 3200 * h.trailer) file);
+  trailer = blocks_of h.trailer (drop (length file - TEXT_BLOCK_BYTES * h.trailer) file);
 }
 
 -- the traces lie one behind the other from the head's place of the first trace up to the data trailer records
-pub record AreLaid (file : List ℕ) (h : Head) (extents : List Extent) : Type 0 where
+pub record AreTracesOf (file : List ℕ) (h : Head) (extents : List Extent) : Type 0 where
   -- the first trace stands behind the extended textual headers
-  pub front : h.traces_at ≡ 3600 + 3200 * h.blocks
-  pub laid : IsLaid h.traces_at extents (length file - 3200 * h.trailer)
+  pub front : h.traces_at ≡ FILE_HEADER_BYTES + TEXT_BLOCK_BYTES * h.blocks
+  pub laid : AreContiguous h.traces_at extents (length file - TEXT_BLOCK_BYTES * h.trailer)
   -- the bytes in front of the first trace and the data trailer records are there
-  pub whole : h.traces_at + 3200 * h.trailer ≤ length file
+  pub whole : h.traces_at + TEXT_BLOCK_BYTES * h.trailer ≤ length file

@@ -10,3 +10,4 @@ pub mod Walk
 pub mod Laws
 pub mod SmallFiles
 pub mod Examples
+pub mod Parts

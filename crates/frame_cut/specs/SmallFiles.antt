@@ -5,17 +5,17 @@ use Rattle.std.proofs.Common.{lit≤}
 use Rattle.frame_cut.specs.declared.limits.Limits.{Limits}
 use Rattle.frame_cut.specs.Splice.{splice}
 use Rattle.frame_cut.specs.Volume.{Volume}
-use Rattle.frame_cut.specs.declared.head.Head.{Head}
+use Rattle.frame_cut.specs.declared.file_head.Head.{Head}
 use Rattle.num_order.specs.declared.order.Order.TheVariants.{Big, Little}
 use Rattle.sample_codes.specs.declared.format.Format.TheVariants.{Signed16, Signed24}
 
 -- the bytes over those from this byte on, counted from 1
-abbrev pub put : ℕ → List ℕ → List ℕ → List ℕ
-put byte new bytes = splice bytes (byte - 1) (length new) new
+abbrev pub with_bytes_at : ℕ → List ℕ → List ℕ → List ℕ
+with_bytes_at byte new bytes = splice bytes (byte - 1) (length new) new
 
 -- the bytes over those of the binary header, from this byte of the file on
 abbrev pub put_bin : ℕ → List ℕ → List ℕ → List ℕ
-put_bin byte new bin = put (byte - 3200) new bin
+put_bin byte new bin = with_bytes_at (byte - 3200) new bin
 
 abbrev pub zeros : ℕ → List ℕ
 zeros n = replicate n 0
@@ -41,15 +41,15 @@ bin_plain =
 -- a trace by its sequence number, offset, x, crossline (two bytes each) and samples
 abbrev pub trace_of_plain : List ℕ → List ℕ → List ℕ → List ℕ → List ℕ → List ℕ
 trace_of_plain sequence offset x crossline samples =
-    put 7 sequence
-    (put 39 offset
-    (put 115 (0 ∷ 2 ∷ [])
-    (put 117 (0x0F ∷ 0xA0 ∷ [])
-    (put 183 x
-    (put 187 (0x01 ∷ 0xF4 ∷ [])
-    (put 191 (0 ∷ 10 ∷ [])
-    (put 195 crossline
-    (put 241 samples (zeros 244)))))))))
+    with_bytes_at 7 sequence
+    (with_bytes_at 39 offset
+    (with_bytes_at 115 (0 ∷ 2 ∷ [])
+    (with_bytes_at 117 (0x0F ∷ 0xA0 ∷ [])
+    (with_bytes_at 183 x
+    (with_bytes_at 187 (0x01 ∷ 0xF4 ∷ [])
+    (with_bytes_at 191 (0 ∷ 10 ∷ [])
+    (with_bytes_at 195 crossline
+    (with_bytes_at 241 samples (zeros 244)))))))))
 
 abbrev pub trace_plain_1 : List ℕ
 trace_plain_1 = trace_of_plain (0 ∷ 1 ∷ []) (0 ∷ 100 ∷ []) (0x03 ∷ 0xE8 ∷ []) (0 ∷ 21 ∷ []) (0x00 ∷ 0x01 ∷ 0xFF ∷ 0xFE ∷ [])
@@ -76,7 +76,7 @@ bin_extended =
     (put_bin 3507 (0 ∷ 0 ∷ 0 ∷ 1 ∷ []) (zeros 400)))))))
 
 abbrev pub trace_extended : List ℕ
-trace_extended = put 8 (1 ∷ []) (put 481 (0 ∷ 1 ∷ 0 ∷ 2 ∷ []) (zeros 484))
+trace_extended = with_bytes_at 8 (1 ∷ []) (with_bytes_at 481 (0 ∷ 1 ∷ 0 ∷ 2 ∷ []) (zeros 484))
 
 abbrev pub file_extended : List ℕ
 file_extended = text_plain ++ bin_extended ++ trace_extended
@@ -87,7 +87,7 @@ abbrev pub bin_counted : List ℕ
 bin_counted = put_bin 3503 (0 ∷ 0 ∷ []) (put_bin 3507 (0 ∷ 0 ∷ 0 ∷ 3 ∷ []) bin_extended)
 
 abbrev pub trace_counted : List ℕ
-trace_counted = put 8 (1 ∷ []) (put 115 (0 ∷ 2 ∷ []) (put 397 (0 ∷ 2 ∷ []) (put 721 (0 ∷ 1 ∷ 0 ∷ 2 ∷ []) (zeros 724))))
+trace_counted = with_bytes_at 8 (1 ∷ []) (with_bytes_at 115 (0 ∷ 2 ∷ []) (with_bytes_at 397 (0 ∷ 2 ∷ []) (with_bytes_at 721 (0 ∷ 1 ∷ 0 ∷ 2 ∷ []) (zeros 724))))
 
 abbrev pub file_counted : List ℕ
 file_counted = text_plain ++ bin_counted ++ trace_counted
@@ -145,13 +145,13 @@ abbrev pub head_little : Head
 head_little = record head_plain { order = Little; major = 2; format = Signed24 }
 
 abbrev pub volume_plain : Volume
-volume_plain = record { head = head_plain; text = text_plain; bin = bin_plain; blocks = []; traces = trace_plain_1 ∷ trace_plain_2 ∷ trace_plain_3 ∷ []; tail = [] }
+volume_plain = record { head = head_plain; text = text_plain; bin = bin_plain; blocks = []; traces = trace_plain_1 ∷ trace_plain_2 ∷ trace_plain_3 ∷ []; trailer = [] }
 
 abbrev pub volume_extended : Volume
-volume_extended = record { head = head_extended; text = text_plain; bin = bin_extended; blocks = []; traces = trace_extended ∷ []; tail = [] }
+volume_extended = record { head = head_extended; text = text_plain; bin = bin_extended; blocks = []; traces = trace_extended ∷ []; trailer = [] }
 
 abbrev pub volume_counted : Volume
-volume_counted = record { head = head_counted; text = text_plain; bin = bin_counted; blocks = []; traces = trace_counted ∷ []; tail = [] }
+volume_counted = record { head = head_counted; text = text_plain; bin = bin_counted; blocks = []; traces = trace_counted ∷ []; trailer = [] }
 
 abbrev pub volume_trailed : Volume
-volume_trailed = record { head = record head_extended { trailer = 2 }; text = text_plain; bin = bin_trailed; blocks = []; traces = trace_extended ∷ []; tail = tail_trailed }
+volume_trailed = record { head = record head_extended { trailer = 2 }; text = text_plain; bin = bin_trailed; blocks = []; traces = trace_extended ∷ []; trailer = tail_trailed }

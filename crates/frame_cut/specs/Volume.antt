@@ -1,7 +1,7 @@
 -- A file as its parts.
 use Rattle.std.specs.Prelude.{ℕ, ◌+◌, List, ◌++◌, length, take}
 use Rattle.std.specs.List.{concat}
-use Rattle.frame_cut.specs.declared.head.Head.{Head}
+use Rattle.frame_cut.specs.declared.file_head.Head.{Head}
 
 -- the parts of a file: what its headers say, and the bytes of each part
 pub record Volume : Type 0 where
@@ -15,7 +15,7 @@ pub record Volume : Type 0 where
   -- each trace with its headers and samples
   pub traces : List (List ℕ)
   -- the data trailer records
-  pub tail : List (List ℕ)
+  pub trailer : List (List ℕ)
 
 -- the bytes in front of the traces
 abbrev pub front_of : Volume → List ℕ
@@ -23,7 +23,7 @@ front_of v = v.text ++ v.bin ++ concat v.blocks
 
 -- the file's bytes: its parts, one after another
 abbrev pub bytes_of : Volume → List ℕ
-bytes_of v = front_of v ++ concat v.traces ++ concat v.tail
+bytes_of v = front_of v ++ concat v.traces ++ concat v.trailer
 
 -- where a trace begins, traces counted from 0: behind the front and the traces before it
 abbrev pub start_of : Volume → ℕ → ℕ

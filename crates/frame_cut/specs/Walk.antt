@@ -1,12 +1,13 @@
 -- A walk over the traces of a file, from the first one on.
 use Rattle.std.specs.Prelude.{ℕ, ◌≡◌, ◌+◌, ◌*◌, ◌-◌, ◌<◌, ◌≤◌, List, length, take, drop, All, Some}
 use Rattle.frame_cut.specs.declared.extent.Extent.{Extent}
-use Rattle.frame_cut.specs.declared.head.Head.{Head}
+use Rattle.frame_cut.specs.declared.file_head.Head.{Head}
 use Rattle.frame_cut.specs.declared.limits.Limits.{Limits}
 use Rattle.frame_cut.specs.declared.load_fault.LoadFault.{LoadFault}
-use Rattle.frame_cut.specs.Layout.{pieces, IsLaid}
+use Rattle.frame_cut.specs.Layout.{pieces, AreContiguous}
 use Rattle.frame_cut.specs.Frames.{trace_length}
 use Rattle.frame_cut.specs.Cuts.{IsTrace, trace_refusal}
+use Rattle.text_block.specs.declared.block.TheConstants.{TEXT_BLOCK_BYTES}
 
 -- every trace of the file has this length, whatever its bytes are
 abbrev pub IsFixedLength : Head → ℕ → Type 0
@@ -14,7 +15,7 @@ IsFixedLength h n = (t : List ℕ) → trace_length h t ≡ Some n
 
 -- where the traces end: in front of the data trailer records
 abbrev pub traces_end : List ℕ → Head → ℕ
-traces_end file h = length file - 3200 * h.trailer
+traces_end file h = length file - TEXT_BLOCK_BYTES * h.trailer
 
 -- the bytes from a place up to the data trailer records
 abbrev pub left_at : List ℕ → Head → ℕ → List ℕ
@@ -22,7 +23,7 @@ left_at file h at = take (traces_end file h - at) (drop at file)
 
 -- the traces up to a place are whole, and no more than the limit
 pub record AreWhole (file : List ℕ) (h : Head) (limits : Limits) (extents : List Extent) (at : ℕ) : Type 0 where
-  pub laid : IsLaid h.traces_at extents at
+  pub laid : AreContiguous h.traces_at extents at
   pub traces : All (IsTrace h) (pieces file extents)
   pub few : length extents ≤ limits.traces
 

@@ -5,19 +5,19 @@
 ghost use Rattle.std.specs.Prelude.{◌≡◌, length};
 ghost use Rattle.frame_cut.specs.BinaryHeader.{order_of as order_in, is_pair_swapped as is_pair_swapped_in, major_of, minor_of, is_unknown_revision as is_unknown_in, format_code as format_code_in, text_count as text_count_in, extensions_field, trailer_field, first_trace as first_trace_in, wide_samples, samples_field, is_flag_set, is_fixed as is_fixed_in};
 
-use crate::fields::{i16_at, i32_at, u8_at, u16_at, u32_at, u64_at};
 use crate::reading::Reading;
-use num_order::Order;
+use crate::sizes::BINARY_HEADER_BYTES;
+use num_order::{Order, i16_at, i32_at, u8_at, u16_at, u32_at, u64_at};
 
 pub(crate) fn is_pair_swapped(bin: &[u8]) -> bool
-    requires { length bin.now ≡ 400 }
+    requires { length bin.now ≡ BINARY_HEADER_BYTES }
     ensures { result ≡ is_pair_swapped_in bin.now }
 {
     bin[3297 - 3201..3301 - 3201] == [2, 1, 4, 3]
 }
 
 pub(crate) fn order_of(bin: &[u8]) -> Order
-    requires { length bin.now ≡ 400 }
+    requires { length bin.now ≡ BINARY_HEADER_BYTES }
     ensures { result ≡ order_in bin.now }
 {
     if bin[3297 - 3201..3301 - 3201] == [4, 3, 2, 1] {
@@ -28,7 +28,7 @@ pub(crate) fn order_of(bin: &[u8]) -> Order
 }
 
 pub(crate) fn major(order: Order, bin: &[u8]) -> u8
-    requires whole { length bin.now ≡ 400 }
+    requires whole { length bin.now ≡ BINARY_HEADER_BYTES }
     requires order { order ≡ order_in bin.now }
     ensures { result ≡ major_of bin.now }
 {
@@ -36,7 +36,7 @@ pub(crate) fn major(order: Order, bin: &[u8]) -> u8
 }
 
 pub(crate) fn minor(order: Order, bin: &[u8]) -> u8
-    requires whole { length bin.now ≡ 400 }
+    requires whole { length bin.now ≡ BINARY_HEADER_BYTES }
     requires order { order ≡ order_in bin.now }
     ensures { result ≡ minor_of bin.now }
 {
@@ -44,7 +44,7 @@ pub(crate) fn minor(order: Order, bin: &[u8]) -> u8
 }
 
 pub(crate) fn format_code(order: Order, bin: &[u8]) -> u16
-    requires whole { length bin.now ≡ 400 }
+    requires whole { length bin.now ≡ BINARY_HEADER_BYTES }
     requires order { order ≡ order_in bin.now }
     ensures { result ≡ format_code_in bin.now }
 {
@@ -52,7 +52,7 @@ pub(crate) fn format_code(order: Order, bin: &[u8]) -> u16
 }
 
 pub(crate) fn text_count(order: Order, major: u8, bin: &[u8]) -> i16
-    requires whole { length bin.now ≡ 400 }
+    requires whole { length bin.now ≡ BINARY_HEADER_BYTES }
     requires order { order ≡ order_in bin.now }
     requires major { major ≡ major_of bin.now }
     ensures { result ≡ text_count_in bin.now }
@@ -65,7 +65,7 @@ pub(crate) fn text_count(order: Order, major: u8, bin: &[u8]) -> i16
 }
 
 pub(crate) fn extensions(order: Order, major: u8, bin: &[u8]) -> i32
-    requires whole { length bin.now ≡ 400 }
+    requires whole { length bin.now ≡ BINARY_HEADER_BYTES }
     requires order { order ≡ order_in bin.now }
     requires major { major ≡ major_of bin.now }
     ensures { result ≡ extensions_field bin.now }
@@ -78,7 +78,7 @@ pub(crate) fn extensions(order: Order, major: u8, bin: &[u8]) -> i32
 }
 
 pub(crate) fn trailer(order: Order, major: u8, bin: &[u8]) -> i32
-    requires whole { length bin.now ≡ 400 }
+    requires whole { length bin.now ≡ BINARY_HEADER_BYTES }
     requires order { order ≡ order_in bin.now }
     requires major { major ≡ major_of bin.now }
     ensures { result ≡ trailer_field bin.now }
@@ -91,7 +91,7 @@ pub(crate) fn trailer(order: Order, major: u8, bin: &[u8]) -> i32
 }
 
 pub(crate) fn first_trace(order: Order, major: u8, bin: &[u8]) -> u64
-    requires whole { length bin.now ≡ 400 }
+    requires whole { length bin.now ≡ BINARY_HEADER_BYTES }
     requires order { order ≡ order_in bin.now }
     requires major { major ≡ major_of bin.now }
     ensures { result ≡ first_trace_in bin.now }
@@ -104,7 +104,7 @@ pub(crate) fn first_trace(order: Order, major: u8, bin: &[u8]) -> u64
 }
 
 pub(crate) fn samples(order: Order, major: u8, bin: &[u8]) -> u32
-    requires whole { length bin.now ≡ 400 }
+    requires whole { length bin.now ≡ BINARY_HEADER_BYTES }
     requires order { order ≡ order_in bin.now }
     requires major { major ≡ major_of bin.now }
     ensures { result ≡ samples_field bin.now }
@@ -122,7 +122,7 @@ pub(crate) fn samples(order: Order, major: u8, bin: &[u8]) -> u32
 }
 
 pub(crate) fn is_fixed(reading: Reading, order: Order, major: u8, bin: &[u8]) -> bool
-    requires whole { length bin.now ≡ 400 }
+    requires whole { length bin.now ≡ BINARY_HEADER_BYTES }
     requires order { order ≡ order_in bin.now }
     requires major { major ≡ major_of bin.now }
     ensures { result ≡ is_fixed_in reading bin.now }

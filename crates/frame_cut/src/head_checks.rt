@@ -7,13 +7,15 @@ use crate::binary_header::{
     extensions, first_trace, format_code, is_fixed, is_pair_swapped, major, minor, order_of,
     samples, text_count, trailer,
 };
-use crate::head::Head;
+use crate::file_head::Head;
 use crate::limits::Limits;
 use crate::load_fault::LoadFault;
 use crate::reading::Reading;
+use crate::sizes::{BINARY_HEADER_BYTES, FILE_HEADER_BYTES};
 use crate::text_headers::blocks_for;
 use num_order::Order;
 use sample_codes::{Format, FormatFault};
+use text_block::TEXT_BLOCK_BYTES;
 
 /// The head of the file with these bytes, or the first of L02 to L12 that holds, in this order:
 /// more bytes than the limit (L02), no whole file headers (L03), swapped pairs of bytes (L04), an
@@ -22,22 +24,26 @@ use sample_codes::{Format, FormatFault};
 /// data trailer records that are not there (L11), another place of the first trace (L12). Reads the
 /// binary file header (bytes 3201 to 3600) alone and, where the extended textual headers end by
 /// themselves, those. Takes no memory.
-pub fn read_head(bytes: &[u8], reading: Reading, limits: Limits) -> Result<Head, LoadFault>
+pub fn head(bytes: &[u8], reading: Reading, limits: Limits) -> Result<Head, LoadFault>
     ensures { result ≡ head_of bytes.now reading limits }
 {
     let length = bytes.len() as u64;
     if length > limits.bytes() {
         return Err(LoadFault::TooLarge);
     }
-    if length < 3600 {
+    if length < FILE_HEADER_BYTES as u64 {
         return Err(LoadFault::Short(length));
     }
-    head_from(reading, &bytes[3200..3600], &bytes[3600..])
+    head_from(
+        reading,
+        &bytes[TEXT_BLOCK_BYTES..FILE_HEADER_BYTES],
+        &bytes[FILE_HEADER_BYTES..],
+    )
 }
 
 // The head of a file with this binary header and these bytes behind it.
 fn head_from(reading: Reading, bin: &[u8], rest: &[u8]) -> Result<Head, LoadFault>
-    requires whole { length bin.now ≡ 400 }
+    requires whole { length bin.now ≡ BINARY_HEADER_BYTES }
     requires small { length rest.now ≤ 2 ^ 40 }
     ensures { result ≡ head_from_parts reading bin.now rest.now }
 {
@@ -76,7 +82,7 @@ fn with_format(
     rest: &[u8],
     format: Format,
 ) -> Result<Head, LoadFault>
-    requires whole { length bin.now ≡ 400 }
+    requires whole { length bin.now ≡ BINARY_HEADER_BYTES }
     requires order { order ≡ order_in bin.now }
     requires small { length rest.now ≤ 2 ^ 40 }
     ensures { result ≡ with_blocks_found reading bin.now rest.now format
@@ -98,9 +104,9 @@ fn with_blocks(
     format: Format,
     blocks: u32,
 ) -> Result<Head, LoadFault>
-    requires whole { length bin.now ≡ 400 }
+    requires whole { length bin.now ≡ BINARY_HEADER_BYTES }
     requires order { order ≡ order_in bin.now }
-    requires inside { 3200 * blocks ≤ length rest.now }
+    requires inside { TEXT_BLOCK_BYTES * blocks ≤ length rest.now }
     ensures { result ≡ with_blocks_found reading bin.now rest.now format (Some blocks) }
 {
     let major = major(order, bin);
@@ -109,11 +115,17 @@ fn with_blocks(
         return Err(LoadFault::Extensions(extensions));
     }
     let records = trailer(order, major, bin);
-    if is_trailer_refused(records, rest.len() as u64 - 3200 * u64::from(blocks)) {
+    if is_trailer_refused(
+        records,
+        rest.len() as u64 - TEXT_BLOCK_BYTES as u64 * u64::from(blocks),
+    ) {
         return Err(LoadFault::Trailer(records));
     }
     let first = first_trace(order, major, bin);
-    if is_elsewhere(first, 3600 + 3200 * u64::from(blocks)) {
+    if is_elsewhere(
+        first,
+        FILE_HEADER_BYTES as u64 + TEXT_BLOCK_BYTES as u64 * u64::from(blocks),
+    ) {
         return Err(LoadFault::FirstTrace(first));
     }
     Ok(head_in(reading, order, bin, format, blocks, extensions, records))
@@ -130,7 +142,7 @@ fn is_extensions_refused(extensions: i32) -> bool
 fn is_trailer_refused(records: i32, left: u64) -> bool
     ensures { result ≡ is_trailer_refused_at records left }
 {
-    records < 0 || 3200 * u64::from(records.unsigned_abs()) > left
+    records < 0 || TEXT_BLOCK_BYTES as u64 * u64::from(records.unsigned_abs()) > left
 }
 
 // Whether the binary header names another place of the first trace than where the traces begin.
@@ -150,7 +162,7 @@ fn head_in(
     extensions: i32,
     records: i32,
 ) -> Head
-    requires whole { length bin.now ≡ 400 }
+    requires whole { length bin.now ≡ BINARY_HEADER_BYTES }
     requires order { order ≡ order_in bin.now }
     requires extensions { extensions ≡ extensions_field bin.now }
     requires few { (int_lt extensions (pos 0) || int_lt (pos 255) extensions) ≡ false }
@@ -168,6 +180,6 @@ fn head_in(
         extensions: extensions.unsigned_abs() as u8,
         blocks,
         trailer: records.unsigned_abs(),
-        traces_at: 3600 + 3200 * u64::from(blocks),
+        traces_at: FILE_HEADER_BYTES as u64 + TEXT_BLOCK_BYTES as u64 * u64::from(blocks),
     }
 }

@@ -12,7 +12,8 @@ impl Limits {
     /// These limits; None where the bytes are more than 2^40. Takes no memory.
     pub fn new(bytes: u64, traces: u32) -> Option<Limits>
         ensures none { IsNone result ↔ (2 ^ 40 < bytes) }
-        ensures limits { IfSome result (λ limits. (limits.bytes ≡ bytes) × (limits.traces ≡ traces)) }
+        ensures limits { IfSome result (λ limits. (limits.bytes ≡ bytes) ×
+            (limits.traces ≡ traces)) }
     {
         if bytes > 1 << 40 {
             return None;

@@ -3,7 +3,7 @@ use crate::test_files::{
     varying_file,
 };
 use crate::{
-    Extent, Head, Limits, LoadFault, Reading, cut_file, extension_count, front_length, read_head,
+    Extent, Head, Limits, LoadFault, Reading, cut, extension_count, front_length, head,
     sample_count, trace_length,
 };
 use num_order::Order;
@@ -19,7 +19,7 @@ fn wide(rt: &impl Abort) -> Limits {
 
 // The number of traces of the file, or why it is refused.
 fn traces(alloc: Global, bytes: &[u8], limits: Limits) -> Result<u32, LoadFault> {
-    match cut_file(alloc, bytes, Reading::AsWritten, limits) {
+    match cut(alloc, bytes, Reading::AsWritten, limits) {
         Ok(cut) => Ok(cut.count()),
         Err(fault) => Err(fault),
     }
@@ -55,12 +55,9 @@ fn cuts_files(rt: HostRuntime) -> Result<(), Fail> {
         ),
     ];
     for (file, places, count) in files {
-        let cut = cut_file(alloc, &file, Reading::AsWritten, wide(&rt))?;
+        let cut = cut(alloc, &file, Reading::AsWritten, wide(&rt))?;
         assert_eq!(rt; cut.count(), count);
-        assert_eq!(rt;
-            cut.head(),
-            read_head(&file, Reading::AsWritten, wide(&rt))?
-        );
+        assert_eq!(rt; cut.head(), head(&file, Reading::AsWritten, wide(&rt))?);
         assert_eq!(rt; cut.extents().len(), count as usize);
         for (extent, (start, length)) in cut.extents().iter().zip(&places) {
             assert_eq!(rt;
@@ -113,8 +110,8 @@ fn reads_heads(rt: HostRuntime) -> Result<(), Fail> {
         (counted, k),
         (little_file(alloc)?, t),
     ];
-    for (file, head) in heads {
-        assert_eq!(rt; read_head(&file, Reading::AsWritten, wide(&rt))?, head);
+    for (file, expected) in heads {
+        assert_eq!(rt; head(&file, Reading::AsWritten, wide(&rt))?, expected);
     }
     Ok(())
 }
@@ -130,19 +127,15 @@ fn reads_heads_with_trace_header_extensions(rt: HostRuntime) -> Result<(), Fail>
     y.extensions = 3;
     let mut z = x;
     z.trailer = 2;
-    for (file, head) in [
+    for (file, expected) in [
         (extended_file(alloc)?, x),
         (counted_file(alloc)?, y),
         (trailed_file(alloc)?, z),
     ] {
-        assert_eq!(rt; read_head(&file, Reading::AsWritten, wide(&rt))?, head);
-        let mut fixed = head;
+        assert_eq!(rt; head(&file, Reading::AsWritten, wide(&rt))?, expected);
+        let mut fixed = expected;
         fixed.fixed = true;
-        assert_eq!(rt;
-            read_head(&file, Reading::Fixed, wide(&rt))?,
-            fixed,
-            "as fixed"
-        );
+        assert_eq!(rt; head(&file, Reading::Fixed, wide(&rt))?, fixed, "as fixed");
     }
     Ok(())
 }
@@ -151,10 +144,10 @@ fn reads_heads_with_trace_header_extensions(rt: HostRuntime) -> Result<(), Fail>
 #[test]
 fn reads_heads_of_revision_0(rt: HostRuntime) -> Result<(), Fail> {
     let alloc = rt.alloc();
-    let mut head = head_s();
-    head.major = 0;
-    head.minor = 7;
-    head.fixed = false;
+    let mut expected = head_s();
+    expected.major = 0;
+    expected.minor = 7;
+    expected.fixed = false;
     for mut file in [
         plain_file(alloc)?,
         extended_file(alloc)?,
@@ -163,7 +156,7 @@ fn reads_heads_of_revision_0(rt: HostRuntime) -> Result<(), Fail> {
     ] {
         put(&mut file, 3269, &[0, 0, 0, 9]);
         put(&mut file, 3501, &[0, 7]);
-        assert_eq!(rt; read_head(&file, Reading::AsWritten, wide(&rt))?, head);
+        assert_eq!(rt; head(&file, Reading::AsWritten, wide(&rt))?, expected);
     }
     Ok(())
 }
@@ -401,7 +394,7 @@ fn tells_torn_traces_first(rt: HostRuntime) -> Result<(), Fail> {
 
 #[test]
 fn measures_traces(rt: HostRuntime) -> Result<(), Fail> {
-    let mut head = read_head(&counted_file(rt.alloc())?, Reading::AsWritten, wide(&rt))?;
+    let mut head = head(&counted_file(rt.alloc())?, Reading::AsWritten, wide(&rt))?;
     let mut front = [0u8; 480];
     assert_eq!(rt; front_length(&head), 480);
     assert!(rt; head.extensions != 0);

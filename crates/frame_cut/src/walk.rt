@@ -7,11 +7,12 @@ ghost use Rattle.frame_cut.specs.Cuts.{trace_refusal};
 ghost use Rattle.frame_cut.specs.Walk.{AreWhole, StopsAt, IsFixedLength, traces_end};
 
 use crate::extent::Extent;
+use crate::file_head::Head;
 use crate::frames::{front_length, length_with, trace_length};
-use crate::head::Head;
 use crate::limits::Limits;
 use crate::load_fault::LoadFault;
 use std::alloc::{AllocError, Global};
+use text_block::TEXT_BLOCK_BYTES;
 
 // Where the traces of a file with this head lie.
 pub(crate) fn walk(
@@ -20,13 +21,14 @@ pub(crate) fn walk(
     limits: Limits,
     bytes: &[u8],
 ) -> Result<Vec<Extent>, LoadFault>
-    requires { head.now.traces_at + 3200 * head.now.trailer ≤ length bytes.now }
+    requires { head.now.traces_at + TEXT_BLOCK_BYTES * head.now.trailer ≤ length bytes.now }
     ensures whole { IfOk result (λ extents.
         AreWhole bytes.now head.now limits extents.items (traces_end bytes.now head.now)) }
     ensures stops { IfErr result (λ fault. (fault ≡ LoadFault.OutOfMemory)
-        ⊎ ((extents : List Extent) × (at : ℕ) × StopsAt bytes.now head.now limits extents at fault)) }
+        ⊎ ((extents : List Extent) × (at : ℕ) ×
+        StopsAt bytes.now head.now limits extents at fault)) }
 {
-    let end = bytes.len() - 3200 * head.trailer as usize;
+    let end = bytes.len() - TEXT_BLOCK_BYTES * head.trailer as usize;
     let mut at = head.traces_at as usize;
     let fixed = fixed_length(head);
     let Ok(mut extents) = empty_list(alloc, fixed, (end - at) as u64, limits) else {
@@ -93,7 +95,8 @@ fn next_length(
     requires { ForSome fixed (IsFixedLength head.now) }
     ensures whole { IfOk result (λ length. (trace_refusal head.now limits trace rest.now ≡ None)
         × (trace_length_of head.now rest.now ≡ Some length)) }
-    ensures refused { IfErr result (λ fault. trace_refusal head.now limits trace rest.now ≡ Some fault) }
+    ensures refused { IfErr result (λ fault. trace_refusal head.now limits trace rest.now ≡ Some
+        fault) }
 {
     if rest.len() < front_length(head) {
         return Err(LoadFault::Truncated(trace));

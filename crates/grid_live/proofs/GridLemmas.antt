@@ -6,15 +6,16 @@ use Rattle.std.specs.Ordering.{int_cmp, int_eq, nat_cmp}
 use Rattle.std.proofs.lemmas.Cmp.{nat_cmp_total}
 use Rattle.trace_record.specs.Counts.{count_of}
 use Rattle.std.specs.Cmp.{IsTotalOrder, int_cmp_total, then_total, on_total}
-use Rattle.trace_record.specs.Keys.{grid_counted, cell, inline, crossline}
+use Rattle.trace_record.specs.Keys.{cell, inline, crossline}
+use Rattle.grid_live.specs.GridKeys.{keys_of_grid}
 use Rattle.trace_record.specs.Rising.{Shows, times_in}
 use Rattle.trace_record.specs.Tally.{Tally, tally_of}
 use Rattle.trace_record.proofs.KeyLemmas.{is_eq-pair}
 use Rattle.trace_record.proofs.ShownLemmas.{Shows-same, Shows-occurrences, one_shown, times_in-map}
 use Rattle.grid_live.specs.declared.cell.Cell.{Cell}
 use Rattle.grid_live.specs.declared.line.Line.{Line}
-use Rattle.grid_live.specs.declared.times.Times.{Times}
-use Rattle.grid_live.specs.Cells.{cell_cmp, cell_with, line_with, times_with, cells, histogram_of}
+use Rattle.grid_live.specs.declared.fold_count.FoldCount.{FoldCount}
+use Rattle.grid_live.specs.Cells.{cell_cmp, cell_with, line_with, fold_count_of, cells, histogram_of}
 use Rattle.grid_live.specs.OfTally.{ShowsCells, ShowsInlines, ShowsCrosslines}
 use Rattle.grid_live.specs.Laws.{FoldOfTally, CellsAreShown, InlinesAreShown, CrosslinesAreShown, HistogramIsShown, AtMostOneListOfCells, AtMostOneListOfInlines, AtMostOneListOfCrosslines, AtMostOneHistogram}
 
@@ -41,11 +42,11 @@ lines-forth : (ls : List Line) → map line_with (map (λ (l : Line). (l.number,
 lines-forth [] = refl
 lines-forth (l ∷ ls) = ap (λ r. l ∷ r) (lines-forth ls)
 
-times-back : (es : List (ℕ × ℕ)) → map (λ (t : Times). (t.fold, t.cells)) (map times_with es) ≡ es
+times-back : (es : List (ℕ × ℕ)) → map (λ (t : FoldCount). (t.fold, t.cells)) (map fold_count_of es) ≡ es
 times-back [] = refl
 times-back (e ∷ es) = ap (λ r. e ∷ r) (times-back es)
 
-times-forth : (ts : List Times) → map times_with (map (λ (t : Times). (t.fold, t.cells)) ts) ≡ ts
+times-forth : (ts : List FoldCount) → map fold_count_of (map (λ (t : FoldCount). (t.fold, t.cells)) ts) ≡ ts
 times-forth [] = refl
 times-forth (t ∷ ts) = ap (λ r. t ∷ r) (times-forth ts)
 
@@ -53,16 +54,16 @@ times-forth (t ∷ ts) = ap (λ r. t ∷ r) (times-forth ts)
 pub lines-shown : (number : ℤ → ℕ) (es : List (ℤ × ℕ)) (ls : List Line) → ls ≡ map line_with es → Shows int_cmp number es → Shows int_cmp number (map (λ l. (l.number, l.traces)) ls)
 lines-shown number es ls e s = subst (λ qs. Shows int_cmp number qs) (sym (ap (map (λ (l : Line). (l.number, l.traces))) e ∙ lines-back es)) s
 
-pub times-shown : (number : ℕ → ℕ) (es : List (ℕ × ℕ)) (ts : List Times) → ts ≡ map times_with es → Shows nat_cmp number es → Shows nat_cmp number (map (λ t. (t.fold, t.cells)) ts)
-times-shown number es ts e s = subst (λ qs. Shows nat_cmp number qs) (sym (ap (map (λ (t : Times). (t.fold, t.cells))) e ∙ times-back es)) s
+pub times-shown : (number : ℕ → ℕ) (es : List (ℕ × ℕ)) (ts : List FoldCount) → ts ≡ map fold_count_of es → Shows nat_cmp number es → Shows nat_cmp number (map (λ t. (t.fold, t.cells)) ts)
+times-shown number es ts e s = subst (λ qs. Shows nat_cmp number qs) (sym (ap (map (λ (t : FoldCount). (t.fold, t.cells))) e ∙ times-back es)) s
 
 -- the counts of the folds of cells show their histogram
-pub histogram-shown : (cs : List Cell) (counts : List (ℕ × ℕ)) (ts : List Times)
+pub histogram-shown : (cs : List Cell) (counts : List (ℕ × ℕ)) (ts : List FoldCount)
     → ((q : ℕ) → count_of nat_cmp counts q ≡ times_in nat_cmp (map (λ c. c.fold) cs) q)
     → Shows nat_cmp (count_of nat_cmp counts) (map (λ t. (t.fold, t.cells)) ts) → ts ≡ histogram_of cs
 histogram-shown cs counts ts same shown =
     sym (times-forth ts)
-    ∙ ap (map times_with)
+    ∙ ap (map fold_count_of)
     (one_shown nat_cmp nat_cmp_total exact_unsigned _ _ _ (Shows-same nat_cmp _ _ _ same shown) (Shows-occurrences nat_cmp nat_cmp_total (map (λ c. c.fold) cs)))
 
 -- entries that show the counts of cells, as cells; and the same of lines
@@ -80,19 +81,19 @@ fold_of_tally fs i c = refl
 
 pub cells_are_shown : CellsAreShown
 cells_are_shown fs =
-    ShowsCells-entries (tally_of grid_counted fs) _
+    ShowsCells-entries (tally_of keys_of_grid fs) _
     (Shows-same cell_cmp _ _ _ (times_in-map cell_cmp (λ f. (f.inline, f.crossline)) (λ f k. int_eq f.inline k.0 && int_eq f.crossline k.1) (λ f k. is_eq-pair (int_cmp f.inline k.0) (int_cmp f.crossline k.1)) fs)
     (Shows-occurrences cell_cmp cell_total (map (λ f. (f.inline, f.crossline)) fs)))
 
 pub inlines_are_shown : InlinesAreShown
 inlines_are_shown fs =
-    ShowsInlines-entries (tally_of grid_counted fs) _
+    ShowsInlines-entries (tally_of keys_of_grid fs) _
     (Shows-same int_cmp _ _ _ (times_in-map int_cmp (λ f. f.inline) (λ f i. int_eq f.inline i) (λ f i. refl) fs)
     (Shows-occurrences int_cmp int_cmp_total (map (λ f. f.inline) fs)))
 
 pub crosslines_are_shown : CrosslinesAreShown
 crosslines_are_shown fs =
-    ShowsCrosslines-entries (tally_of grid_counted fs) _
+    ShowsCrosslines-entries (tally_of keys_of_grid fs) _
     (Shows-same int_cmp _ _ _ (times_in-map int_cmp (λ f. f.crossline) (λ f c. int_eq f.crossline c) (λ f c. refl) fs)
     (Shows-occurrences int_cmp int_cmp_total (map (λ f. f.crossline) fs)))
 

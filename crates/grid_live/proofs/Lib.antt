@@ -1,3 +1,4 @@
 pub mod FittingLemmas
 pub mod GridLemmas
-pub mod OwnKeys
+pub mod OwnKeyLemmas
+pub mod LoadLemmas

@@ -6,7 +6,7 @@ use Rattle.trace_record.specs.Facts.{Facts}
 use Rattle.trace_record.specs.Rising.{occurrences}
 use Rattle.grid_live.specs.declared.cell.Cell.{Cell}
 use Rattle.grid_live.specs.declared.line.Line.{Line}
-use Rattle.grid_live.specs.declared.times.Times.{Times}
+use Rattle.grid_live.specs.declared.fold_count.FoldCount.{FoldCount}
 
 -- the fold of a cell: how many traces have this inline and crossline
 abbrev pub fold_of : List Facts → ℤ → ℤ → ℕ
@@ -16,14 +16,17 @@ fold_of fs i c = count_by (λ f. int_eq f.inline i && int_eq f.crossline c) fs
 abbrev pub cell_cmp : ℤ × ℤ → ℤ × ℤ → Ordering
 cell_cmp a b = ordering_then (int_cmp a.0 b.0) (int_cmp a.1 b.1)
 
+-- a pair of inline and crossline with its number as a cell
 abbrev pub cell_with : (ℤ × ℤ) × ℕ → Cell
 cell_with e = record { inline = e.0.0; crossline = e.0.1; fold = e.1 }
 
+-- a number with its number of traces as a line
 abbrev pub line_with : ℤ × ℕ → Line
 line_with e = record { number = e.0; traces = e.1 }
 
-abbrev pub times_with : ℕ × ℕ → Times
-times_with e = record { fold = e.0; cells = e.1 }
+-- a fold with its number of cells
+abbrev pub fold_count_of : ℕ × ℕ → FoldCount
+fold_count_of e = record { fold = e.0; cells = e.1 }
 
 -- the cells that occur, rising, each with its fold
 abbrev pub cells : List Facts → List Cell
@@ -38,9 +41,9 @@ abbrev pub crosslines : List Facts → List Line
 crosslines fs = map line_with (occurrences int_cmp (map (λ f. f.crossline) fs))
 
 -- the folds that occur among these cells, rising, each with its number of cells
-abbrev pub histogram_of : List Cell → List Times
-histogram_of cs = map times_with (occurrences nat_cmp (map (λ c. c.fold) cs))
+abbrev pub histogram_of : List Cell → List FoldCount
+histogram_of cs = map fold_count_of (occurrences nat_cmp (map (λ c. c.fold) cs))
 
 -- the folds that occur, rising, each with its number of cells
-abbrev pub histogram : List Facts → List Times
+abbrev pub histogram : List Facts → List FoldCount
 histogram fs = histogram_of (cells fs)

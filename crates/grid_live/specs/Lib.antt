@@ -1,3 +1,4 @@
+pub mod GridKeys
 pub mod Cells
 pub mod OfTally
 pub mod Fitting

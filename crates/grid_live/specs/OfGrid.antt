@@ -19,5 +19,6 @@ count_in g (least v) = 0
 count_in g (greatest v) = 0
 count_in g (triple i c o) = 0
 
+-- the tally of a running grid
 abbrev pub tally_of_grid : Grid → Tally
 tally_of_grid g = record { records = g.records; number = 0; sum = pos 0; count = λ k. count_in g k }

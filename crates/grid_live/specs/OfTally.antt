@@ -7,7 +7,7 @@ use Rattle.trace_record.specs.Rising.{Shows}
 use Rattle.grid_live.specs.Cells.{cell_cmp, histogram_of}
 use Rattle.grid_live.specs.declared.cell.Cell.{Cell}
 use Rattle.grid_live.specs.declared.line.Line.{Line}
-use Rattle.grid_live.specs.declared.times.Times.{Times}
+use Rattle.grid_live.specs.declared.fold_count.FoldCount.{FoldCount}
 
 -- the cells that have traces and no others, rising, each with its number of traces
 abbrev pub ShowsCells : Tally → List Cell → Type 0
@@ -22,5 +22,5 @@ abbrev pub ShowsCrosslines : Tally → List Line → Type 0
 ShowsCrosslines t ls = Shows int_cmp (λ c. t.count (crossline c)) (map (λ l. (l.number, l.traces)) ls)
 
 -- the folds of the cells that have traces, rising, each with its number of cells
-abbrev pub ShowsHistogram : Tally → List Times → Type 0
+abbrev pub ShowsHistogram : Tally → List FoldCount → Type 0
 ShowsHistogram t ts = (cs : List Cell) × ShowsCells t cs × (ts ≡ histogram_of cs)

@@ -1,12 +1,11 @@
-ghost use Rattle.std.specs.Prelude.{◌≡◌, ◌+◌, ◌^◌, ◌<◌, OnOk, OnErr, IsOk, if◌then◌else◌};
-ghost use Rattle.std.specs.Ordering.{int_eq, int_cmp};
-ghost use Rattle.trace_record.specs.Counts.{count_of};
 ghost use Rattle.grid_live.specs.Fitting.{CellsFit};
 
+use crate::keys::{cell_keys, crossline_keys, inline_keys};
 use crate::lists::{histogram_of_cells, lines_of};
-use crate::{Cell, Line, Times};
+use crate::{Cell, FoldCount, Line, OutOfMemory};
+use record_list::RecordList;
 use std::alloc::Global;
-use trace_record::{Counts, OutOfMemory, Record, Running};
+use trace_record::{Counts, Record, Running, raise_both};
 
 /// How many traces each cell, inline and crossline has, over traces that come and go. It keeps its
 /// allocator.
@@ -74,7 +73,7 @@ impl Grid {
     /// The folds of the cells that have traces, rising, each with its number of cells. Takes
     /// memory for the list and, while it is made, for the cells and the counts of their folds, and
     /// is refused only where one of these is.
-    pub fn histogram(&self, alloc: Global) -> Result<Vec<Times>, OutOfMemory>
+    pub fn histogram(&self, alloc: Global) -> Result<Vec<FoldCount>, OutOfMemory>
         ensures { IfOk result (λ list. ShowsHistogram (tally_of_grid self.now) list.items) }
     {
         let cells = self.cells(alloc)?;
@@ -83,10 +82,10 @@ impl Grid {
 }
 
 impl Running for Grid {
-    ghost use Rattle.trace_record.specs.Keys.{grid_counted};
+    ghost use Rattle.grid_live.specs.GridKeys.{keys_of_grid};
     ghost use Rattle.grid_live.specs.OfGrid.{tally_of_grid};
 
-    ghost counted = { grid_counted };
+    ghost counted = { keys_of_grid };
 
     ghost tally = { tally_of_grid };
 
@@ -99,11 +98,26 @@ impl Running for Grid {
         }
     }
 
-    fn add(&mut self, trace: &Record) -> Result<(), OutOfMemory> {
-        raise_lines(
+    fn from_records(
+        alloc: Global,
+        records: &RecordList<Record>,
+    ) -> Result<Grid, trace_record::OutOfMemory> {
+        let cells = Counts::from_keys(alloc, cell_keys(alloc, records)?)?;
+        let inlines = Counts::from_keys(alloc, inline_keys(alloc, records)?)?;
+        let crosslines = Counts::from_keys(alloc, crossline_keys(alloc, records)?)?;
+        Ok(Grid {
+            records: records.len() as u64,
+            cells,
+            inlines,
+            crosslines,
+        })
+    }
+
+    fn add(&mut self, trace: &Record) -> Result<(), trace_record::OutOfMemory> {
+        raise_both(
             &mut self.inlines,
-            &mut self.crosslines,
             trace.inline,
+            &mut self.crosslines,
             trace.crossline,
         )?;
         match self.cells.raise((trace.inline, trace.crossline)) {
@@ -124,30 +138,5 @@ impl Running for Grid {
         self.inlines.lower(&trace.inline);
         self.crosslines.lower(&trace.crossline);
         self.records -= 1;
-    }
-}
-
-// Counts both lines once more, or none where a growth is refused.
-fn raise_lines(
-    inlines: &mut Counts<i32>,
-    crosslines: &mut Counts<i32>,
-    inline: i32,
-    crossline: i32,
-) -> Result<(), OutOfMemory>
-    requires inline { count_of int_cmp inlines.old inline + 1 < 2 ^ 64 }
-    requires crossline { count_of int_cmp crosslines.old crossline + 1 < 2 ^ 64 }
-    ensures inlines { OnOk result ((q : _) → count_of int_cmp inlines.new q ≡ count_of int_cmp inlines.old q + (if int_eq inline q then 1 else 0)) }
-    ensures crosslines { OnOk result ((q : _) → count_of int_cmp crosslines.new q ≡ count_of int_cmp crosslines.old q + (if int_eq crossline q then 1 else 0)) }
-    ensures no_inlines { OnErr result ((q : _) → count_of int_cmp inlines.new q ≡ count_of int_cmp inlines.old q) }
-    ensures no_crosslines { OnErr result ((q : _) → count_of int_cmp crosslines.new q ≡ count_of int_cmp crosslines.old q) }
-    ensures held { 0 < count_of int_cmp inlines.old inline → 0 < count_of int_cmp crosslines.old crossline → IsOk result }
-{
-    inlines.raise(inline)?;
-    match crosslines.raise(crossline) {
-        Ok(()) => Ok(()),
-        Err(refused) => {
-            inlines.lower(&inline);
-            Err(refused)
-        }
     }
 }

@@ -2,19 +2,22 @@
 //! how often each fold occurs. `Grid` counts traces that come and go, and is seen as their tally.
 //! The calls that are named for a law do nothing: their contract is the law.
 //!
-//! `Grid::add` takes memory for a cell, inline or crossline that had no trace, and each call that
-//! answers a list takes memory for it. Where a growth is refused they answer `OutOfMemory`, and the
-//! grid is as it was. No other call takes memory.
+//! `Grid::add` takes memory for a cell, inline or crossline that had no trace, `from_records` for
+//! all that it counts, and each call that answers a list takes memory for it. Where a growth is
+//! refused they answer want of memory, and the grid is as it was. No other call takes memory.
 #![tactic(auto)]
 
 mod cell;
+mod fold_count;
 mod grid;
+mod keys;
 mod laws;
 mod line;
 mod lists;
-mod times;
+mod out_of_memory;
 
 pub use crate::cell::Cell;
+pub use crate::fold_count::FoldCount;
 pub use crate::grid::Grid;
 pub use crate::laws::{
     at_most_one_histogram, at_most_one_list_of_cells, at_most_one_list_of_crosslines,
@@ -22,7 +25,7 @@ pub use crate::laws::{
     histogram_is_shown, inlines_are_shown,
 };
 pub use crate::line::Line;
-pub use crate::times::Times;
+pub use crate::out_of_memory::OutOfMemory;
 
 #[cfg(test)]
 mod tests;

@@ -5,13 +5,14 @@ ghost use Rattle.trace_record.specs.Counts.{count_of};
 ghost use Rattle.trace_record.specs.Rising.{Shows, times_in};
 ghost use Rattle.grid_live.specs.Cells.{histogram_of};
 
-use crate::{Cell, Line, Times};
+use crate::{Cell, FoldCount, Line, OutOfMemory};
 use std::alloc::Global;
-use trace_record::{Counts, OutOfMemory};
+use trace_record::Counts;
 
 // The counted lines with their numbers of traces.
 pub fn lines_of(alloc: Global, counts: &Counts<i32>) -> Result<Vec<Line>, OutOfMemory>
-    ensures { IfOk result (λ list. Shows int_cmp (count_of int_cmp counts.now) (map (λ l. (l.number, l.traces)) list.items)) }
+    ensures { IfOk result (λ list. Shows int_cmp (count_of int_cmp counts.now)
+        (map (λ l. (l.number, l.traces)) list.items)) }
 {
     let mut list = Vec::new(alloc);
     for (number, traces) in counts.pairs() {
@@ -24,7 +25,7 @@ pub fn lines_of(alloc: Global, counts: &Counts<i32>) -> Result<Vec<Line>, OutOfM
 }
 
 // The folds of these cells with their numbers of cells.
-pub fn histogram_of_cells(alloc: Global, cells: &[Cell]) -> Result<Vec<Times>, OutOfMemory>
+pub fn histogram_of_cells(alloc: Global, cells: &[Cell]) -> Result<Vec<FoldCount>, OutOfMemory>
     ensures { IfOk result (λ list. list.items ≡ histogram_of cells.now) }
 {
     let folds = count_folds(alloc, cells)?;
@@ -33,7 +34,8 @@ pub fn histogram_of_cells(alloc: Global, cells: &[Cell]) -> Result<Vec<Times>, O
 }
 
 fn count_folds(alloc: Global, cells: &[Cell]) -> Result<Counts<u64>, OutOfMemory>
-    ensures { IfOk result (λ folds. (q : _) → count_of nat_cmp folds q ≡ times_in nat_cmp (map (λ c. c.fold) cells.now) q) }
+    ensures { IfOk result (λ folds. (q : _) →
+        count_of nat_cmp folds q ≡ times_in nat_cmp (map (λ c. c.fold) cells.now) q) }
 {
     let mut folds = Counts::new(alloc);
     for cell in cells {
@@ -42,12 +44,13 @@ fn count_folds(alloc: Global, cells: &[Cell]) -> Result<Counts<u64>, OutOfMemory
     Ok(folds)
 }
 
-fn times_of(alloc: Global, folds: &Counts<u64>) -> Result<Vec<Times>, OutOfMemory>
-    ensures { IfOk result (λ list. Shows nat_cmp (count_of nat_cmp folds.now) (map (λ t. (t.fold, t.cells)) list.items)) }
+fn times_of(alloc: Global, folds: &Counts<u64>) -> Result<Vec<FoldCount>, OutOfMemory>
+    ensures { IfOk result (λ list. Shows nat_cmp (count_of nat_cmp folds.now)
+        (map (λ t. (t.fold, t.cells)) list.items)) }
 {
     let mut list = Vec::new(alloc);
     for (fold, cells) in folds.pairs() {
-        list.push(Times {
+        list.push(FoldCount {
             fold: *fold,
             cells: *cells,
         })?;

@@ -1,5 +1,5 @@
 // Traces that are counted and no longer are, with values worked by hand.
-use crate::{Cell, Grid, Line, Times};
+use crate::{Cell, FoldCount, Grid, Line};
 use std::alloc::Global;
 use std::test::Fail;
 use trace_record::{OutOfMemory, Ratio, Record, Running};
@@ -61,7 +61,7 @@ fn forgets_a_cell(rt: HostRuntime) -> Result<(), Fail> {
     };
     assert_eq!(rt; crosslines.as_slice(), [crossline].as_slice());
     let histogram = grid.histogram(rt.alloc())?;
-    let times = Times { fold: 1, cells: 1 };
+    let times = FoldCount { fold: 1, cells: 1 };
     assert_eq!(rt; histogram.as_slice(), [times].as_slice());
     Ok(())
 }

@@ -1,4 +1,5 @@
-pub mod InRange
+pub mod InRangeLemmas
 pub mod NumberLemmas
-pub mod Ranges
-pub mod RoundTrip
+pub mod RangeLemmas
+pub mod RoundTripLemmas
+pub mod SizeLemmas

@@ -1,6 +1,6 @@
 // Integers of a kind read from bytes, written to bytes, and tested for their range.
 ghost use Rattle.std.specs.Prelude.{◌≡◌, ◌^◌, ◌*◌, ◌-◌, ◌<◌, ℤ, pos, MatchBool, length};
-ghost use Rattle.num_order.specs.Number.{num, bytes as bytes_of_number, fits as fits_kind, residue, IsSize, InRange, ReadsBack};
+ghost use Rattle.num_order.specs.Number.{num, bytes as bytes_of_number, fits as fits_kind, residue, IsSize, InRange};
 ghost use Rattle.byteorder.specs.Endian.{twos_complement};
 
 use crate::kind::Kind;
@@ -23,7 +23,8 @@ pub fn read(order: Order, kind: Kind, bytes: &[u8]) -> i128
 fn read_by<T: ByteOrder>(kind: Kind, bytes: &[u8]) -> i128
     requires size { IsSize kind.size }
     requires whole { length bytes.now ≡ kind.size }
-    ensures { MatchBool kind.signed (result ≡ twos_complement kind.size (T.number_of kind.size bytes.now))
+    ensures { MatchBool kind.signed
+        (result ≡ twos_complement kind.size (T.number_of kind.size bytes.now))
         (result ≡ pos (T.number_of kind.size bytes.now)) }
 {
     let number = unsigned_of::<T>(kind.size, bytes);
@@ -48,7 +49,8 @@ fn from_unsigned(size: u8, number: u64) -> i128
     }
 }
 
-// The number without a sign in the order T. A call for each size is much faster than one for any number of bytes.
+// The number without a sign in the order T. A call for each size is much faster than one for any
+// number of bytes.
 fn unsigned_of<T: ByteOrder>(size: u8, bytes: &[u8]) -> u64
     requires size { IsSize size }
     requires whole { length bytes.now ≡ size }
@@ -118,7 +120,8 @@ pub fn write(order: Order, kind: Kind, value: i128, bytes: &mut [u8])
     }
 }
 
-// Writes the number without a sign in the order T. A call for each size is much faster than one for any number of bytes.
+// Writes the number without a sign in the order T. A call for each size is much faster than one for
+// any number of bytes.
 fn write_unsigned<T: ByteOrder>(size: u8, number: u64, bytes: &mut [u8])
     requires size { IsSize size }
     requires whole { length bytes.old ≡ size }
@@ -135,7 +138,7 @@ fn write_unsigned<T: ByteOrder>(size: u8, number: u64, bytes: &mut [u8])
 }
 
 // The number below 256 ^ size with the same last bytes.
-#[tactic(auto, using(crate::proofs::Ranges::ranges))]
+#[tactic(auto, using(crate::proofs::RangeLemmas::ranges))]
 fn residue_of(kind: Kind, value: i128) -> u64
     requires size { IsSize kind.size }
     requires fits { InRange kind value }
@@ -148,11 +151,6 @@ fn residue_of(kind: Kind, value: i128) -> u64
         value.unsigned_abs() as u64
     }
 }
-
-/// What is written is read again, in both orders, at each size, with a sign and without one. Takes no memory.
-pub fn reads_back()
-    ensures { ReadsBack }
-{}
 
 #[cfg(test)]
 mod tests {

@@ -1,7 +1,9 @@
-pub mod EndKeys
+pub mod EndKeyLemmas
 pub mod EndLemmas
-pub mod OwnValues
+pub mod OwnValueLemmas
 pub mod RangeLemmas
-pub mod SmallTallies
-pub mod TallyRange
+pub mod SmallTallyLemmas
+pub mod SumLemmas
+pub mod TallyRangeLemmas
 pub mod TotalsLemmas
+pub mod LoadLemmas

@@ -9,8 +9,8 @@ use Rattle.std.proofs.lemmas.List.Elements.{All-cons, All-nil, All-weaker, All-c
 use Rattle.trace_record.specs.Facts.{Facts}
 use Rattle.trace_record.specs.RatioOrder.{ratio_cmp, ratio_total, exact_ratios}
 use Rattle.trace_record.specs.declared.ratio.Ratio.{Ratio}
-use Rattle.range_stats.specs.declared.which.Which.{Which}
-use Rattle.range_stats.specs.Ranges.{value_under, Spans, IsRangeOf, IsRange, widened, range_over, range_of}
+use Rattle.range_stats.specs.declared.quantity.Quantity.{Quantity}
+use Rattle.range_stats.specs.Ranges.{value_under, Spans, IsRangeOf, IsRange, range_with, range_over, range_of}
 use Rattle.range_stats.specs.Laws.{AtMostOneRange}
 
 pub gt_reverse : (r : Ordering) → is_gt (ordering_reverse r) ≡ is_lt r
@@ -62,7 +62,7 @@ pub IsRangeOf-range_over : (vs : List Ratio) → IsRangeOf vs (range_over vs)
 IsRangeOf-range_over [] = refl
 IsRangeOf-range_over (v ∷ vs) = by (range_over vs) (IsRangeOf-range_over vs)
   where
-    by : (r : Option (Ratio × Ratio)) → IsRangeOf vs r → Spans (v ∷ vs) (widened v r).0 (widened v r).1
+    by : (r : Option (Ratio × Ratio)) → IsRangeOf vs r → Spans (v ∷ vs) (range_with v r).0 (range_with v r).1
     by None e = record {
       least_occurs = at_front v vs;
       greatest_occurs = at_front v vs;
@@ -74,7 +74,7 @@ IsRangeOf-range_over (v ∷ vs) = by (range_over vs) (IsRangeOf-range_over vs)
         let high = greatest_widened v r.1 vs s.greatest_occurs s.none_above in
         record { least_occurs = low.0; none_below = low.1; greatest_occurs = high.0; none_above = high.1 }
 
-pub IsRange-range_of : (w : Which) (fs : List Facts) → IsRange w fs (range_of w fs)
+pub IsRange-range_of : (w : Quantity) (fs : List Facts) → IsRange w fs (range_of w fs)
 IsRange-range_of w fs = IsRangeOf-range_over (map (λ f. value_under w f) fs)
 
 -- neither above the other
@@ -104,7 +104,7 @@ one_range vs (Some r) None a b = nothing_in_none vs r.0 b a.least_occurs
 one_range vs (Some r) (Some s) a b = let e = one_span vs r.0 r.1 s.0 s.1 a b in ap₂ (λ x y. Some (x, y)) e.0 e.1
 
 -- a range that meets the law is the one that is computed
-pub IsRange-is : (w : Which) (fs : List Facts) (r : Option (Ratio × Ratio)) → IsRange w fs r → r ≡ range_of w fs
+pub IsRange-is : (w : Quantity) (fs : List Facts) (r : Option (Ratio × Ratio)) → IsRange w fs r → r ≡ range_of w fs
 IsRange-is w fs r a = one_range (map (λ f. value_under w f) fs) r (range_of w fs) a (IsRange-range_of w fs)
 
 pub at_most_one_range : AtMostOneRange

@@ -15,7 +15,7 @@ use Rattle.trace_record.specs.declared.statistics.Statistics.{Statistics}
 use Rattle.trace_record.proofs.KeyLemmas.{int_eq-itself}
 use Rattle.trace_record.proofs.ShownLemmas.{times_in-map}
 use Rattle.trace_record.proofs.StatisticsLemmas.{least_of-append, greatest_of-append, int_sum-append}
-use Rattle.range_stats.specs.Totals.{sampled, totals_over}
+use Rattle.range_stats.specs.Totals.{traces_with_samples, totals_over}
 use Rattle.range_stats.specs.OfTally.{IsLeastOf, IsGreatestOf, statistics_from}
 use Rattle.range_stats.specs.Laws.{TotalsAreOfSamples, TotalsOfTally, with_each}
 
@@ -63,48 +63,48 @@ in_front f v vs (g ∷ gs) (u ∷ us) e =
     (sum_by-cons (λ (h : Facts). h.number) (with_samples f (v ∷ vs)) (g ∷ gs) ∙ ap (λ m. length (v ∷ vs) + m) number ∙ sym (length-append (v ∷ vs) (u ∷ us)))
 
 -- traces with samples, alone
-of_sampled : (ps : List (Facts × List ℤ)) → totals_over (sampled (with_each ps)) (sampled (with_each ps)) ≡ statistics_of (flat_map (λ p. p.1) ps)
+of_sampled : (ps : List (Facts × List ℤ)) → totals_over (traces_with_samples (with_each ps)) (traces_with_samples (with_each ps)) ≡ statistics_of (flat_map (λ p. p.1) ps)
 of_sampled [] = refl
 of_sampled (p ∷ ps) = by p.0 p.1 (of_sampled ps)
   where
-    by : (f : Facts) (vs : List ℤ) → totals_over (sampled (with_each ps)) (sampled (with_each ps)) ≡ statistics_of (flat_map (λ p. p.1) ps)
-        → totals_over (sampled (with_samples f vs ∷ with_each ps)) (sampled (with_samples f vs ∷ with_each ps)) ≡ statistics_of (vs ++ flat_map (λ p. p.1) ps)
+    by : (f : Facts) (vs : List ℤ) → totals_over (traces_with_samples (with_each ps)) (traces_with_samples (with_each ps)) ≡ statistics_of (flat_map (λ p. p.1) ps)
+        → totals_over (traces_with_samples (with_samples f vs ∷ with_each ps)) (traces_with_samples (with_samples f vs ∷ with_each ps)) ≡ statistics_of (vs ++ flat_map (λ p. p.1) ps)
     by f [] e = e
     by f (v ∷ vs) e =
-        ap (λ b. totals_over (cond b (with_samples f (v ∷ vs) ∷ sampled (with_each ps)) (sampled (with_each ps))) (cond b (with_samples f (v ∷ vs) ∷ sampled (with_each ps)) (sampled (with_each ps)))) (positive (length vs))
-        ∙ in_front f v vs (sampled (with_each ps)) (flat_map (λ p. p.1) ps) e
+        ap (λ b. totals_over (cond b (with_samples f (v ∷ vs) ∷ traces_with_samples (with_each ps)) (traces_with_samples (with_each ps))) (cond b (with_samples f (v ∷ vs) ∷ traces_with_samples (with_each ps)) (traces_with_samples (with_each ps)))) (positive (length vs))
+        ∙ in_front f v vs (traces_with_samples (with_each ps)) (flat_map (λ p. p.1) ps) e
 
 -- a trace without samples adds nothing
-sum-sampled : (ps : List (Facts × List ℤ)) → sum_over (with_each ps) ≡ sum_over (sampled (with_each ps))
+sum-sampled : (ps : List (Facts × List ℤ)) → sum_over (with_each ps) ≡ sum_over (traces_with_samples (with_each ps))
 sum-sampled [] = refl
 sum-sampled (p ∷ ps) = by p.0 p.1 (sum-sampled ps)
   where
-    by : (f : Facts) (vs : List ℤ) → sum_over (with_each ps) ≡ sum_over (sampled (with_each ps))
-        → sum_over (with_samples f vs ∷ with_each ps) ≡ sum_over (sampled (with_samples f vs ∷ with_each ps))
+    by : (f : Facts) (vs : List ℤ) → sum_over (with_each ps) ≡ sum_over (traces_with_samples (with_each ps))
+        → sum_over (with_samples f vs ∷ with_each ps) ≡ sum_over (traces_with_samples (with_samples f vs ∷ with_each ps))
     by f [] e = let z : sum_over (with_samples f [] ∷ with_each ps) ≡ sum_over (with_each ps) = omega (arith, ints) in z ∙ e
     by f (v ∷ vs) e =
         ap (λ z. int_sum (v ∷ vs) +ℤ z) e
-        ∙ ap (λ b. sum_over (cond b (with_samples f (v ∷ vs) ∷ sampled (with_each ps)) (sampled (with_each ps)))) (sym (positive (length vs)))
+        ∙ ap (λ b. sum_over (cond b (with_samples f (v ∷ vs) ∷ traces_with_samples (with_each ps)) (traces_with_samples (with_each ps)))) (sym (positive (length vs)))
 
-number-sampled : (ps : List (Facts × List ℤ)) → number_over (with_each ps) ≡ number_over (sampled (with_each ps))
+number-sampled : (ps : List (Facts × List ℤ)) → number_over (with_each ps) ≡ number_over (traces_with_samples (with_each ps))
 number-sampled [] = refl
 number-sampled (p ∷ ps) = by p.0 p.1 (number-sampled ps)
   where
-    by : (f : Facts) (vs : List ℤ) → number_over (with_each ps) ≡ number_over (sampled (with_each ps))
-        → number_over (with_samples f vs ∷ with_each ps) ≡ number_over (sampled (with_samples f vs ∷ with_each ps))
+    by : (f : Facts) (vs : List ℤ) → number_over (with_each ps) ≡ number_over (traces_with_samples (with_each ps))
+        → number_over (with_samples f vs ∷ with_each ps) ≡ number_over (traces_with_samples (with_samples f vs ∷ with_each ps))
     by f [] e = let z = sum_by-cons (λ (h : Facts). h.number) (with_samples f []) (with_each ps) in omega arith
     by f (v ∷ vs) e =
         sum_by-cons (λ (h : Facts). h.number) (with_samples f (v ∷ vs)) (with_each ps)
         ∙ ap (λ n. length (v ∷ vs) + n) e
-        ∙ sym (sum_by-cons (λ (h : Facts). h.number) (with_samples f (v ∷ vs)) (sampled (with_each ps)))
-        ∙ ap (λ b. number_over (cond b (with_samples f (v ∷ vs) ∷ sampled (with_each ps)) (sampled (with_each ps)))) (sym (positive (length vs)))
+        ∙ sym (sum_by-cons (λ (h : Facts). h.number) (with_samples f (v ∷ vs)) (traces_with_samples (with_each ps)))
+        ∙ ap (λ b. number_over (cond b (with_samples f (v ∷ vs) ∷ traces_with_samples (with_each ps)) (traces_with_samples (with_each ps)))) (sym (positive (length vs)))
 
 same_over : (gs hs fs : List Facts) → sum_over gs ≡ sum_over hs → number_over gs ≡ number_over hs → totals_over gs fs ≡ totals_over hs fs
 same_over gs hs [] s n = refl
 same_over gs hs (f ∷ fs) s n = same_four _ _ _ _ _ _ _ _ refl refl s n
 
 pub totals_are_of_samples : TotalsAreOfSamples
-totals_are_of_samples ps = same_over (with_each ps) (sampled (with_each ps)) (sampled (with_each ps)) (sum-sampled ps) (number-sampled ps) ∙ of_sampled ps
+totals_are_of_samples ps = same_over (with_each ps) (traces_with_samples (with_each ps)) (traces_with_samples (with_each ps)) (sum-sampled ps) (number-sampled ps) ∙ of_sampled ps
 
 -- ---- in a tally
 
@@ -207,9 +207,9 @@ count_by-filter p q (f ∷ fs) = sum_by-cons (λ g. cond (p g && q g) 1 0) f fs 
     by false e = omega arith
 
 -- the least ones that the tally counts are those of the traces with samples
-counted_sampled : (number : Facts → ℤ) (fs : List Facts) (v : ℤ) → count_by (λ f. nat_lt 0 f.number && int_eq (number f) v) fs ≡ times_in int_cmp (map number (sampled fs)) v
+counted_sampled : (number : Facts → ℤ) (fs : List Facts) (v : ℤ) → count_by (λ f. nat_lt 0 f.number && int_eq (number f) v) fs ≡ times_in int_cmp (map number (traces_with_samples fs)) v
 counted_sampled number fs v =
-    count_by-filter (λ f. nat_lt 0 f.number) (λ f. int_eq (number f) v) fs ∙ sym (times_in-map int_cmp number (λ f q. int_eq (number f) q) (λ f q. refl) (sampled fs) v)
+    count_by-filter (λ f. nat_lt 0 f.number) (λ f. int_eq (number f) v) fs ∙ sym (times_in-map int_cmp number (λ f q. int_eq (number f) q) (λ f q. refl) (traces_with_samples fs) v)
 
 from_options : (gs fs : List Facts) (s : ℤ) (n : ℕ) → s ≡ sum_over gs → n ≡ number_over gs
     → statistics_from (least_option (map (λ g. g.least) fs)) (greatest_option (map (λ g. g.greatest) fs)) s n ≡ totals_over gs fs
@@ -218,6 +218,6 @@ from_options gs (f ∷ fs) s n es en = same_four _ _ _ _ _ _ _ _ refl refl es en
 
 pub totals_of_tally : TotalsOfTally
 totals_of_tally fs t l g p a b =
-    let low : l ≡ least_option (map (λ g. g.least) (sampled fs)) = one_least _ _ (λ v. p.count (least v) ∙ counted_sampled (λ f. f.least) fs v) l _ a (least_is (map (λ g. g.least) (sampled fs))) in
-    let high : g ≡ greatest_option (map (λ g. g.greatest) (sampled fs)) = one_greatest _ _ (λ v. p.count (greatest v) ∙ counted_sampled (λ f. f.greatest) fs v) g _ b (greatest_is (map (λ g. g.greatest) (sampled fs))) in
-    ap₂ (λ x y. statistics_from x y t.sum t.number) low high ∙ from_options fs (sampled fs) t.sum t.number p.sum p.number
+    let low : l ≡ least_option (map (λ g. g.least) (traces_with_samples fs)) = one_least _ _ (λ v. p.count (least v) ∙ counted_sampled (λ f. f.least) fs v) l _ a (least_is (map (λ g. g.least) (traces_with_samples fs))) in
+    let high : g ≡ greatest_option (map (λ g. g.greatest) (traces_with_samples fs)) = one_greatest _ _ (λ v. p.count (greatest v) ∙ counted_sampled (λ f. f.greatest) fs v) g _ b (greatest_is (map (λ g. g.greatest) (traces_with_samples fs))) in
+    ap₂ (λ x y. statistics_from x y t.sum t.number) low high ∙ from_options fs (traces_with_samples fs) t.sum t.number p.sum p.number

@@ -1,11 +1,11 @@
 -- Ranges and totals, worked by hand.
 use Rattle.std.specs.Prelude.{◌≡◌, ℕ, ℤ, pos, negsuc, [], ◌∷◌, Option, Some, None, option_map, refl}
 use Rattle.trace_record.specs.Facts.{with_samples}
-use Rattle.trace_record.specs.Scaled.{scaled, over, greatest_divisor}
+use Rattle.trace_record.specs.Coordinates.{under_scalar, over, greatest_divisor}
 use Rattle.trace_record.specs.RatioOrder.{fraction_of}
 use Rattle.trace_record.specs.SmallSurvey.{trace_1, trace_2, survey}
 use Rattle.trace_record.specs.declared.ratio.Ratio.{Ratio}
-use Rattle.range_stats.specs.declared.which.Which.TheVariants.{Inline, X}
+use Rattle.range_stats.specs.declared.quantity.Quantity.TheVariants.{Inline, X}
 use Rattle.range_stats.specs.Ranges.{range_over, range_of}
 use Rattle.range_stats.specs.Totals.{totals_of}
 
@@ -14,13 +14,13 @@ abbrev shown : Option (Ratio × Ratio) → Option ((ℤ × ℕ) × (ℤ × ℕ))
 shown r = option_map (λ p. (fraction_of p.0, fraction_of p.1)) r
 
 -- 3 times 100, 250 over 100, and 40
-pub range-scaled : shown (range_over (scaled (pos 3) (pos 100) ∷ scaled (pos 250) (negsuc 99) ∷ scaled (pos 40) (pos 0) ∷ [])) ≡ Some ((pos 5, 2), (pos 300, 1))
-unfolding scaled over greatest_divisor
+pub range-scaled : shown (range_over (under_scalar (pos 3) (pos 100) ∷ under_scalar (pos 250) (negsuc 99) ∷ under_scalar (pos 40) (pos 0) ∷ [])) ≡ Some ((pos 5, 2), (pos 300, 1))
+unfolding under_scalar over greatest_divisor
 range-scaled = refl
 
 -- without the first trace, whose value was the greatest
-pub range-deleted : shown (range_over (scaled (pos 250) (negsuc 99) ∷ scaled (pos 40) (pos 0) ∷ [])) ≡ Some ((pos 5, 2), (pos 40, 1))
-unfolding scaled over greatest_divisor
+pub range-deleted : shown (range_over (under_scalar (pos 250) (negsuc 99) ∷ under_scalar (pos 40) (pos 0) ∷ [])) ≡ Some ((pos 5, 2), (pos 40, 1))
+unfolding under_scalar over greatest_divisor
 range-deleted = refl
 
 pub range-survey : shown (range_of X survey) ≡ Some ((pos 1000, 1), (pos 3000, 1))

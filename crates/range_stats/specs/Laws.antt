@@ -1,26 +1,27 @@
 -- Laws of ranges and totals: there is one, and it is the one that is read from the tally.
 use Rattle.std.specs.Prelude.{◌≡◌, ℤ, List, map, flat_map, Option}
 use Rattle.trace_record.specs.Facts.{Facts, with_samples}
-use Rattle.trace_record.specs.Keys.{ranges_counted, totals_counted}
+use Rattle.range_stats.specs.RangeKeys.{keys_of_ranges}
+use Rattle.range_stats.specs.TotalKeys.{keys_of_totals}
 use Rattle.trace_record.specs.Tally.{Tally, tally_of, Same}
 use Rattle.trace_record.specs.Statistics.{statistics_of}
 use Rattle.trace_record.specs.declared.ratio.Ratio.{Ratio}
-use Rattle.range_stats.specs.declared.which.Which.{Which}
+use Rattle.range_stats.specs.declared.quantity.Quantity.{Quantity}
 use Rattle.range_stats.specs.Ranges.{IsRange, range_of}
 use Rattle.range_stats.specs.Totals.{totals_of}
 use Rattle.range_stats.specs.OfTally.{IsRangeIn, IsLeastIn, IsGreatestIn, statistics_from}
 
 -- the range that is computed is a range
 abbrev pub RangeIsRange : Type 0
-RangeIsRange = (w : Which) (fs : List Facts) → IsRange w fs (range_of w fs)
+RangeIsRange = (w : Quantity) (fs : List Facts) → IsRange w fs (range_of w fs)
 
 -- there is at most one range
 abbrev pub AtMostOneRange : Type 0
-AtMostOneRange = (w : Which) (fs : List Facts) (r s : Option (Ratio × Ratio)) → IsRange w fs r → IsRange w fs s → r ≡ s
+AtMostOneRange = (w : Quantity) (fs : List Facts) (r s : Option (Ratio × Ratio)) → IsRange w fs r → IsRange w fs s → r ≡ s
 
 -- tallies that say the same have at most one range
 abbrev pub AtMostOneRangeIn : Type 0
-AtMostOneRangeIn = (w : Which) (t u : Tally) (r s : Option (Ratio × Ratio)) → Same t u → IsRangeIn w t r → IsRangeIn w u s → r ≡ s
+AtMostOneRangeIn = (w : Quantity) (t u : Tally) (r s : Option (Ratio × Ratio)) → Same t u → IsRangeIn w t r → IsRangeIn w u s → r ≡ s
 
 -- tallies that say the same have at most one least sample
 abbrev pub AtMostOneLeastIn : Type 0
@@ -32,7 +33,7 @@ AtMostOneGreatestIn = (t u : Tally) (a b : Option ℤ) → Same t u → IsGreate
 
 -- the range of a list of traces is the one in its tally
 abbrev pub RangeOfTally : Type 0
-RangeOfTally = (w : Which) (fs : List Facts) (t : Tally) (r : Option (Ratio × Ratio)) → Same t (tally_of ranges_counted fs) → IsRangeIn w t r → r ≡ range_of w fs
+RangeOfTally = (w : Quantity) (fs : List Facts) (t : Tally) (r : Option (Ratio × Ratio)) → Same t (tally_of keys_of_ranges fs) → IsRangeIn w t r → r ≡ range_of w fs
 
 -- traces with these samples
 abbrev pub with_each : List (Facts × List ℤ) → List Facts
@@ -44,4 +45,4 @@ TotalsAreOfSamples = (ps : List (Facts × List ℤ)) → totals_of (with_each ps
 
 -- the totals of a list of traces are those in its tally
 abbrev pub TotalsOfTally : Type 0
-TotalsOfTally = (fs : List Facts) (t : Tally) (l g : Option ℤ) → Same t (tally_of totals_counted fs) → IsLeastIn t l → IsGreatestIn t g → statistics_from l g t.sum t.number ≡ totals_of fs
+TotalsOfTally = (fs : List Facts) (t : Tally) (l g : Option ℤ) → Same t (tally_of keys_of_totals fs) → IsLeastIn t l → IsGreatestIn t g → statistics_from l g t.sum t.number ≡ totals_of fs

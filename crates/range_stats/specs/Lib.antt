@@ -1,3 +1,5 @@
+pub mod TotalKeys
+pub mod RangeKeys
 pub mod Ranges
 pub mod Totals
 pub mod OfTally

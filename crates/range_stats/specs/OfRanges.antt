@@ -19,5 +19,6 @@ count_in_ranges r (least v) = 0
 count_in_ranges r (greatest v) = 0
 count_in_ranges r (triple i c o) = 0
 
+-- the tally of running ranges
 abbrev pub tally_of_ranges : Ranges → Tally
 tally_of_ranges r = record { records = r.records; number = 0; sum = pos 0; count = λ k. count_in_ranges r k }

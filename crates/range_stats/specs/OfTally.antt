@@ -6,11 +6,11 @@ use Rattle.trace_record.specs.RatioOrder.{ratio_cmp}
 use Rattle.trace_record.specs.declared.ratio.Ratio.{Ratio}
 use Rattle.trace_record.specs.declared.statistics.Statistics.{Statistics}
 use Rattle.range_stats.specs.Extremes.{IsSpan}
-use Rattle.range_stats.specs.declared.which.Which.{Which}
-use Rattle.range_stats.specs.declared.which.Which.TheVariants.{Inline, Crossline, Offset, X, Y}
+use Rattle.range_stats.specs.declared.quantity.Quantity.{Quantity}
+use Rattle.range_stats.specs.declared.quantity.Quantity.TheVariants.{Inline, Crossline, Offset, X, Y}
 
 -- how many traces have the value
-abbrev pub traces_with : Which → Tally → Ratio → ℕ
+abbrev pub traces_with : Quantity → Tally → Ratio → ℕ
 traces_with Inline t v = if v.den == 1 then t.count (inline v.num) else 0
 traces_with Crossline t v = if v.den == 1 then t.count (crossline v.num) else 0
 traces_with Offset t v = if v.den == 1 then t.count (offset v.num) else 0
@@ -18,7 +18,7 @@ traces_with X t v = t.count (coordinate_x v)
 traces_with Y t v = t.count (coordinate_y v)
 
 -- the least and the greatest value that occur, and none where none does
-abbrev pub IsRangeIn : Which → Tally → Option (Ratio × Ratio) → Type 0
+abbrev pub IsRangeIn : Quantity → Tally → Option (Ratio × Ratio) → Type 0
 IsRangeIn w t r = IsSpan ratio_cmp (traces_with w t) r
 
 -- the least of the numbers that occur, and none where none does

@@ -18,5 +18,6 @@ count_in_totals t (least v) = count_of int_cmp t.least_samples v
 count_in_totals t (greatest v) = count_of int_cmp t.greatest_samples v
 count_in_totals t (triple i c o) = 0
 
+-- the tally of running totals
 abbrev pub tally_of_totals : Totals → Tally
 tally_of_totals t = record { records = t.records; number = t.number; sum = t.sum; count = λ k. count_in_totals t k }

@@ -2,14 +2,14 @@
 use Rattle.std.specs.Prelude.{◌≡◌, false, List, [], ◌∷◌, map, All, Contains, Option, Some, None}
 use Rattle.std.specs.Ordering.{is_gt, ord_min, ord_max}
 use Rattle.trace_record.specs.Facts.{Facts}
-use Rattle.trace_record.specs.Scaled.{whole}
+use Rattle.trace_record.specs.Coordinates.{whole}
 use Rattle.trace_record.specs.RatioOrder.{ratio_cmp}
 use Rattle.trace_record.specs.declared.ratio.Ratio.{Ratio}
-use Rattle.range_stats.specs.declared.which.Which.{Which}
-use Rattle.range_stats.specs.declared.which.Which.TheVariants.{Inline, Crossline, Offset, X, Y}
+use Rattle.range_stats.specs.declared.quantity.Quantity.{Quantity}
+use Rattle.range_stats.specs.declared.quantity.Quantity.TheVariants.{Inline, Crossline, Offset, X, Y}
 
 -- the value that a range is of
-abbrev pub value_under : Which → Facts → Ratio
+abbrev pub value_under : Quantity → Facts → Ratio
 value_under Inline f = whole f.inline
 value_under Crossline f = whole f.crossline
 value_under Offset f = whole f.offset
@@ -29,19 +29,19 @@ IsRangeOf vs None = vs ≡ []
 IsRangeOf vs (Some r) = Spans vs r.0 r.1
 
 -- some trace has the least, some the greatest, and no trace has a value below or above; none without traces
-abbrev pub IsRange : Which → List Facts → Option (Ratio × Ratio) → Type 0
+abbrev pub IsRange : Quantity → List Facts → Option (Ratio × Ratio) → Type 0
 IsRange w fs r = IsRangeOf (map (λ f. value_under w f) fs) r
 
 -- a range that takes in one more value
-abbrev pub widened : Ratio → Option (Ratio × Ratio) → Ratio × Ratio
-widened v None = (v, v)
-widened v (Some r) = (ord_min ratio_cmp v r.0, ord_max ratio_cmp v r.1)
+abbrev pub range_with : Ratio → Option (Ratio × Ratio) → Ratio × Ratio
+range_with v None = (v, v)
+range_with v (Some r) = (ord_min ratio_cmp v r.0, ord_max ratio_cmp v r.1)
 
 -- the least and the greatest of the values
 abbrev pub range_over : List Ratio → Option (Ratio × Ratio)
 range_over [] = None
-range_over (v ∷ vs) = Some (widened v (range_over vs))
+range_over (v ∷ vs) = Some (range_with v (range_over vs))
 
 -- the range of the traces
-abbrev pub range_of : Which → List Facts → Option (Ratio × Ratio)
+abbrev pub range_of : Quantity → List Facts → Option (Ratio × Ratio)
 range_of w fs = range_over (map (λ f. value_under w f) fs)

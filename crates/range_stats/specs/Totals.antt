@@ -5,8 +5,8 @@ use Rattle.trace_record.specs.Statistics.{least_of, greatest_of, int_sum}
 use Rattle.trace_record.specs.declared.statistics.Statistics.{Statistics}
 
 -- the traces that have samples
-abbrev pub sampled : List Facts → List Facts
-sampled fs = filter (λ f. nat_lt 0 f.number) fs
+abbrev pub traces_with_samples : List Facts → List Facts
+traces_with_samples fs = filter (λ f. nat_lt 0 f.number) fs
 
 -- the totals of the traces gs, of which those of fs have samples
 abbrev pub totals_over : List Facts → List Facts → Option Statistics
@@ -20,4 +20,4 @@ totals_over gs (f ∷ fs) = Some (record {
 
 -- the least, the greatest, the sum and the number of all samples, and none without samples
 abbrev pub totals_of : List Facts → Option Statistics
-totals_of fs = totals_over fs (sampled fs)
+totals_of fs = totals_over fs (traces_with_samples fs)

@@ -1,10 +1,8 @@
-// The ends of what is counted, and two counts that change together.
-ghost use Rattle.std.specs.Prelude.{◌≡◌, ◌+◌, ◌^◌, ◌<◌, OnOk, OnErr, IsOk, if◌then◌else◌};
-ghost use Rattle.std.specs.Ordering.{is_eq};
+// The ends of what is counted.
 ghost use Rattle.trace_record.specs.Counts.{count_of};
 ghost use Rattle.range_stats.specs.Extremes.{IsLeastKey, IsGreatestKey, IsSpan};
 
-use trace_record::{Counts, OutOfMemory};
+use trace_record::Counts;
 
 // The least key that is counted. Takes no memory.
 pub(crate) fn least_key<K: Copy + Ord>(counts: &Counts<K>) -> Option<K>
@@ -35,27 +33,4 @@ pub(crate) fn span<K: Copy + Ord>(counts: &Counts<K>) -> Option<(K, K)>
     let least = least_key(counts)?;
     let greatest = greatest_key(counts)?;
     Some((least, greatest))
-}
-
-// Counts one key more in each of two counts, or in neither where a growth is refused.
-pub(crate) fn raise_both<A: Copy + Ord, B: Copy + Ord>(
-    first: &mut Counts<A>,
-    a: A,
-    second: &mut Counts<B>,
-    b: B,
-) -> Result<(), OutOfMemory>
-    requires first { count_of A.cmp first.old a + 1 < 2 ^ 64 }
-    requires second { count_of B.cmp second.old b + 1 < 2 ^ 64 }
-    ensures ok_first { OnOk result ((q : A) → count_of A.cmp first.new q ≡ count_of A.cmp first.old q + (if is_eq (A.cmp a q) then 1 else 0)) }
-    ensures ok_second { OnOk result ((q : B) → count_of B.cmp second.new q ≡ count_of B.cmp second.old q + (if is_eq (B.cmp b q) then 1 else 0)) }
-    ensures err_first { OnErr result ((q : A) → count_of A.cmp first.new q ≡ count_of A.cmp first.old q) }
-    ensures err_second { OnErr result ((q : B) → count_of B.cmp second.new q ≡ count_of B.cmp second.old q) }
-    ensures held { 0 < count_of A.cmp first.old a → 0 < count_of B.cmp second.old b → IsOk result }
-{
-    first.raise(a)?;
-    if let Err(error) = second.raise(b) {
-        first.lower(&a);
-        return Err(error);
-    }
-    Ok(())
 }

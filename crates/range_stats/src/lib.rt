@@ -3,23 +3,26 @@
 //! counts it, in any order, and what they then tell is that of the traces that are counted. The
 //! calls that are named for a law do nothing: their contract is the law.
 //!
-//! Only `add` takes memory, and only for a value that no counted trace has; where a growth is
-//! refused it leaves all as it was. The other calls always answer.
+//! `add` takes memory, only for a value that no counted trace has, and leaves all as it was where a
+//! growth is refused; `from_records` takes it for all that it counts. The other calls always
+//! answer.
 #![tactic(auto)]
 
 mod counted;
+mod keys;
 mod laws;
+mod quantity;
 mod ranges;
+mod sums;
 mod totals;
-mod which;
 
 pub use crate::laws::{
     at_most_one_range, at_most_one_range_in, range_is_range, range_of_tally, totals_are_of_samples,
     totals_of_tally,
 };
+pub use crate::quantity::Quantity;
 pub use crate::ranges::Ranges;
 pub use crate::totals::Totals;
-pub use crate::which::Which;
 
 #[cfg(test)]
 mod tests;

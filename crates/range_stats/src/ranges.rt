@@ -1,13 +1,15 @@
-ghost use Rattle.std.specs.Prelude.{◌≡◌, ◌+◌, ◌^◌, ◌<◌, ℤ, OnOk, OnErr, IsOk, if◌then◌else◌};
-ghost use Rattle.std.specs.Ordering.{int_cmp, int_eq};
-ghost use Rattle.trace_record.specs.Counts.{count_of};
+ghost use Rattle.std.specs.Prelude.{◌+◌, ◌^◌, ◌<◌, OnOk, OnErr, IsOk};
+ghost use Rattle.std.specs.Ordering.{int_cmp};
+ghost use Rattle.trace_record.specs.Counts.{count_of, HasOneMore, HasSameCounts};
 ghost use Rattle.trace_record.specs.RatioOrder.{ratio_cmp};
 ghost use Rattle.range_stats.specs.Extremes.{IsSpan, whole_count};
 
-use crate::Which;
-use crate::counted::{raise_both, span};
+use crate::Quantity;
+use crate::counted::span;
+use crate::keys::{crossline_keys, inline_keys, offset_keys, x_keys, y_keys};
+use record_list::RecordList;
 use std::alloc::Global;
-use trace_record::{Counts, OutOfMemory, Ratio, Record, Running};
+use trace_record::{Counts, OutOfMemory, Ratio, Record, Running, raise_both};
 
 /// The least and the greatest inline, crossline, offset, x and y of traces that come and go. Adding
 /// or removing a trace takes time by the logarithm of the number of traces.
@@ -22,10 +24,10 @@ pub struct Ranges {
 }
 
 impl Running for Ranges {
-    ghost use Rattle.trace_record.specs.Keys.{ranges_counted};
+    ghost use Rattle.range_stats.specs.RangeKeys.{keys_of_ranges};
     ghost use Rattle.range_stats.specs.OfRanges.{tally_of_ranges};
 
-    ghost counted = { ranges_counted };
+    ghost counted = { keys_of_ranges };
 
     ghost tally = { tally_of_ranges };
 
@@ -38,6 +40,22 @@ impl Running for Ranges {
             coordinates_x: Counts::new(alloc),
             coordinates_y: Counts::new(alloc),
         }
+    }
+
+    fn from_records(alloc: Global, records: &RecordList<Record>) -> Result<Ranges, OutOfMemory> {
+        let inlines = Counts::from_keys(alloc, inline_keys(alloc, records)?)?;
+        let crosslines = Counts::from_keys(alloc, crossline_keys(alloc, records)?)?;
+        let offsets = Counts::from_keys(alloc, offset_keys(alloc, records)?)?;
+        let coordinates_x = Counts::from_keys(alloc, x_keys(alloc, records)?)?;
+        let coordinates_y = Counts::from_keys(alloc, y_keys(alloc, records)?)?;
+        Ok(Ranges {
+            records: records.len() as u64,
+            inlines,
+            crosslines,
+            offsets,
+            coordinates_x,
+            coordinates_y,
+        })
     }
 
     fn add(&mut self, trace: &Record) -> Result<(), OutOfMemory> {
@@ -84,15 +102,15 @@ impl Ranges {
 
     /// The least and the greatest value of one number of the traces, none without traces. Takes no
     /// memory.
-    pub fn range(&self, which: Which) -> Option<(Ratio, Ratio)>
+    pub fn range(&self, which: Quantity) -> Option<(Ratio, Ratio)>
         ensures { IsRangeIn which (tally_of_ranges self.now) result }
     {
         match which {
-            Which::Inline => whole_span(&self.inlines),
-            Which::Crossline => whole_span(&self.crosslines),
-            Which::Offset => whole_span(&self.offsets),
-            Which::X => span(&self.coordinates_x),
-            Which::Y => span(&self.coordinates_y),
+            Quantity::Inline => whole_span(&self.inlines),
+            Quantity::Crossline => whole_span(&self.crosslines),
+            Quantity::Offset => whole_span(&self.offsets),
+            Quantity::X => span(&self.coordinates_x),
+            Quantity::Y => span(&self.coordinates_y),
         }
     }
 }
@@ -115,13 +133,16 @@ fn raise_lines(
     requires room_inline { count_of int_cmp inlines.old trace.now.inline + 1 < 2 ^ 64 }
     requires room_crossline { count_of int_cmp crosslines.old trace.now.crossline + 1 < 2 ^ 64 }
     requires room_offset { count_of int_cmp offsets.old trace.now.offset + 1 < 2 ^ 64 }
-    ensures ok_inline { OnOk result ((v : ℤ) → count_of int_cmp inlines.new v ≡ count_of int_cmp inlines.old v + (if int_eq trace.now.inline v then 1 else 0)) }
-    ensures ok_crossline { OnOk result ((v : ℤ) → count_of int_cmp crosslines.new v ≡ count_of int_cmp crosslines.old v + (if int_eq trace.now.crossline v then 1 else 0)) }
-    ensures ok_offset { OnOk result ((v : ℤ) → count_of int_cmp offsets.new v ≡ count_of int_cmp offsets.old v + (if int_eq trace.now.offset v then 1 else 0)) }
-    ensures err_inline { OnErr result ((v : ℤ) → count_of int_cmp inlines.new v ≡ count_of int_cmp inlines.old v) }
-    ensures err_crossline { OnErr result ((v : ℤ) → count_of int_cmp crosslines.new v ≡ count_of int_cmp crosslines.old v) }
-    ensures err_offset { OnErr result ((v : ℤ) → count_of int_cmp offsets.new v ≡ count_of int_cmp offsets.old v) }
-    ensures held { 0 < count_of int_cmp inlines.old trace.now.inline → 0 < count_of int_cmp crosslines.old trace.now.crossline → 0 < count_of int_cmp offsets.old trace.now.offset → IsOk result }
+    ensures ok_inline { OnOk result (HasOneMore int_cmp inlines.old inlines.new trace.now.inline) }
+    ensures ok_crossline { OnOk result
+        (HasOneMore int_cmp crosslines.old crosslines.new trace.now.crossline) }
+    ensures ok_offset { OnOk result (HasOneMore int_cmp offsets.old offsets.new trace.now.offset) }
+    ensures err_inline { OnErr result (HasSameCounts int_cmp inlines.old inlines.new) }
+    ensures err_crossline { OnErr result (HasSameCounts int_cmp crosslines.old crosslines.new) }
+    ensures err_offset { OnErr result (HasSameCounts int_cmp offsets.old offsets.new) }
+    ensures held { 0 < count_of int_cmp inlines.old trace.now.inline →
+        0 < count_of int_cmp crosslines.old trace.now.crossline →
+        0 < count_of int_cmp offsets.old trace.now.offset → IsOk result }
 {
     raise_both(inlines, trace.inline, crosslines, trace.crossline)?;
     if let Err(error) = offsets.raise(trace.offset) {
@@ -142,9 +163,9 @@ fn lower_lines(
     requires has_inline { 0 < count_of int_cmp inlines.old trace.now.inline }
     requires has_crossline { 0 < count_of int_cmp crosslines.old trace.now.crossline }
     requires has_offset { 0 < count_of int_cmp offsets.old trace.now.offset }
-    ensures inline { (v : ℤ) → count_of int_cmp inlines.old v ≡ count_of int_cmp inlines.new v + (if int_eq trace.now.inline v then 1 else 0) }
-    ensures crossline { (v : ℤ) → count_of int_cmp crosslines.old v ≡ count_of int_cmp crosslines.new v + (if int_eq trace.now.crossline v then 1 else 0) }
-    ensures offset { (v : ℤ) → count_of int_cmp offsets.old v ≡ count_of int_cmp offsets.new v + (if int_eq trace.now.offset v then 1 else 0) }
+    ensures inline { HasOneMore int_cmp inlines.new inlines.old trace.now.inline }
+    ensures crossline { HasOneMore int_cmp crosslines.new crosslines.old trace.now.crossline }
+    ensures offset { HasOneMore int_cmp offsets.new offsets.old trace.now.offset }
 {
     inlines.lower(&trace.inline);
     crosslines.lower(&trace.crossline);

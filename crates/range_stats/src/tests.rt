@@ -3,7 +3,7 @@ ghost use Rattle.std.specs.Prelude.{◌≡◌, [], ◌∷◌};
 ghost use Rattle.trace_record.specs.Facts.{facts_of};
 ghost use Rattle.trace_record.specs.Tally.{tally_of, IsSmall};
 
-use crate::{Ranges, Totals, Which};
+use crate::{Quantity, Ranges, Totals};
 use std::alloc::Global;
 use std::test::Fail;
 use trace_record::{OutOfMemory, Ratio, Record, Running};
@@ -85,19 +85,19 @@ fn wholes(least: i32, greatest: i32) -> Option<(Ratio, Ratio)> {
 #[test]
 fn ranges_run_with_traces(rt: HostRuntime) -> Result<(), Fail> {
     let none = Ranges::new(rt.alloc());
-    assert_eq!(rt; none.range(Which::Inline), None);
+    assert_eq!(rt; none.range(Quantity::Inline), None);
     let ranges: Ranges = both(rt.alloc(), &first_trace(), &second_trace())?;
-    assert_eq!(rt; ranges.range(Which::Inline), wholes(9, 10));
-    assert_eq!(rt; ranges.range(Which::Crossline), wholes(21, 22));
-    assert_eq!(rt; ranges.range(Which::Offset), wholes(-100, 100));
+    assert_eq!(rt; ranges.range(Quantity::Inline), wholes(9, 10));
+    assert_eq!(rt; ranges.range(Quantity::Crossline), wholes(21, 22));
+    assert_eq!(rt; ranges.range(Quantity::Offset), wholes(-100, 100));
     assert_eq!(rt;
-        ranges.range(Which::X),
+        ranges.range(Quantity::X),
         Some((Ratio::scaled(5, -2), Ratio::whole(40)))
     );
-    assert_eq!(rt; ranges.range(Which::Y), wholes(500, 500));
+    assert_eq!(rt; ranges.range(Quantity::Y), wholes(500, 500));
     let ranges: Ranges = second_alone(rt.alloc(), &first_trace(), &second_trace())?;
-    assert_eq!(rt; ranges.range(Which::Inline), wholes(9, 9));
-    assert_eq!(rt; ranges.range(Which::X), wholes(40, 40));
+    assert_eq!(rt; ranges.range(Quantity::Inline), wholes(9, 9));
+    assert_eq!(rt; ranges.range(Quantity::X), wholes(40, 40));
     Ok(())
 }
 

@@ -1,10 +1,13 @@
-ghost use Rattle.std.specs.Prelude.{◌≡◌, ◌+◌, ◌^◌, ◌<◌, ◌&&◌, ℤ, nat_lt, OnOk, OnErr, IsOk, if◌then◌else◌};
-ghost use Rattle.std.specs.Ordering.{int_cmp, int_eq};
-ghost use Rattle.trace_record.specs.Counts.{count_of};
+ghost use Rattle.std.specs.Prelude.{◌≡◌, ◌+◌, ◌^◌, ◌<◌, nat_lt, OnOk, OnErr, IsOk};
+ghost use Rattle.std.specs.Ordering.{int_cmp};
+ghost use Rattle.trace_record.specs.Counts.{count_of, HasOneMoreWhere, HasSameCounts};
 
-use crate::counted::{greatest_key, least_key, raise_both};
+use crate::counted::{greatest_key, least_key};
+use crate::keys::{greatest_keys, least_keys};
+use crate::sums::sums_of;
+use record_list::RecordList;
 use std::alloc::Global;
-use trace_record::{Counts, OutOfMemory, Record, Running};
+use trace_record::{Counts, OutOfMemory, Record, Running, raise_both};
 
 /// The least, the greatest, the sum and the number of the samples of traces that come and go. A
 /// trace without samples has no part in the least and the greatest. Adding or removing a trace
@@ -19,10 +22,10 @@ pub struct Totals {
 }
 
 impl Running for Totals {
-    ghost use Rattle.trace_record.specs.Keys.{totals_counted};
+    ghost use Rattle.range_stats.specs.TotalKeys.{keys_of_totals};
     ghost use Rattle.range_stats.specs.OfTotals.{tally_of_totals};
 
-    ghost counted = { totals_counted };
+    ghost counted = { keys_of_totals };
 
     ghost tally = { tally_of_totals };
 
@@ -34,6 +37,19 @@ impl Running for Totals {
             least_samples: Counts::new(alloc),
             greatest_samples: Counts::new(alloc),
         }
+    }
+
+    fn from_records(alloc: Global, records: &RecordList<Record>) -> Result<Totals, OutOfMemory> {
+        let least_samples = Counts::from_keys(alloc, least_keys(alloc, records)?)?;
+        let greatest_samples = Counts::from_keys(alloc, greatest_keys(alloc, records)?)?;
+        let sums = sums_of(records);
+        Ok(Totals {
+            records: records.len() as u64,
+            number: sums.number,
+            sum: sums.sum,
+            least_samples,
+            greatest_samples,
+        })
     }
 
     fn add(&mut self, trace: &Record) -> Result<(), OutOfMemory> {
@@ -94,12 +110,16 @@ fn raise_ends(
 ) -> Result<(), OutOfMemory>
     requires room_least { count_of int_cmp least.old trace.now.least + 1 < 2 ^ 64 }
     requires room_greatest { count_of int_cmp greatest.old trace.now.greatest + 1 < 2 ^ 64 }
-    ensures ok_least { OnOk result ((v : ℤ) → count_of int_cmp least.new v ≡ count_of int_cmp least.old v + (if nat_lt 0 trace.now.number && int_eq trace.now.least v then 1 else 0)) }
-    ensures ok_greatest { OnOk result ((v : ℤ) → count_of int_cmp greatest.new v ≡ count_of int_cmp greatest.old v + (if nat_lt 0 trace.now.number && int_eq trace.now.greatest v then 1 else 0)) }
-    ensures err_least { OnErr result ((v : ℤ) → count_of int_cmp least.new v ≡ count_of int_cmp least.old v) }
-    ensures err_greatest { OnErr result ((v : ℤ) → count_of int_cmp greatest.new v ≡ count_of int_cmp greatest.old v) }
+    ensures ok_least { OnOk result
+        (HasOneMoreWhere int_cmp (nat_lt 0 trace.now.number) least.old least.new trace.now.least) }
+    ensures ok_greatest { OnOk result
+        (HasOneMoreWhere int_cmp (nat_lt 0 trace.now.number) greatest.old greatest.new
+        trace.now.greatest) }
+    ensures err_least { OnErr result (HasSameCounts int_cmp least.old least.new) }
+    ensures err_greatest { OnErr result (HasSameCounts int_cmp greatest.old greatest.new) }
     ensures empty { trace.now.number ≡ 0 → IsOk result }
-    ensures held { 0 < count_of int_cmp least.old trace.now.least → 0 < count_of int_cmp greatest.old trace.now.greatest → IsOk result }
+    ensures held { 0 < count_of int_cmp least.old trace.now.least →
+        0 < count_of int_cmp greatest.old trace.now.greatest → IsOk result }
 {
     if trace.number > 0 {
         raise_both(least, trace.least, greatest, trace.greatest)
@@ -111,9 +131,12 @@ fn raise_ends(
 // No longer counts the least and the greatest sample of a trace that has samples.
 fn lower_ends(least: &mut Counts<i128>, greatest: &mut Counts<i128>, trace: &Record)
     requires has_least { 0 < trace.now.number → 0 < count_of int_cmp least.old trace.now.least }
-    requires has_greatest { 0 < trace.now.number → 0 < count_of int_cmp greatest.old trace.now.greatest }
-    ensures least { (v : ℤ) → count_of int_cmp least.old v ≡ count_of int_cmp least.new v + (if nat_lt 0 trace.now.number && int_eq trace.now.least v then 1 else 0) }
-    ensures greatest { (v : ℤ) → count_of int_cmp greatest.old v ≡ count_of int_cmp greatest.new v + (if nat_lt 0 trace.now.number && int_eq trace.now.greatest v then 1 else 0) }
+    requires has_greatest { 0 < trace.now.number →
+        0 < count_of int_cmp greatest.old trace.now.greatest }
+    ensures least { HasOneMoreWhere int_cmp (nat_lt 0 trace.now.number) least.new least.old
+        trace.now.least }
+    ensures greatest { HasOneMoreWhere int_cmp (nat_lt 0 trace.now.number) greatest.new
+        greatest.old trace.now.greatest }
 {
     if trace.number > 0 {
         least.lower(&trace.least);

@@ -22,8 +22,8 @@ pub enum Format {
 impl Format {
     ghost use Rattle.sample_codes.specs.Formats.{code_of, width as width_of, kind_of, format_of, sample_value, sample_bytes, sample_fits};
 
-    /// The integer format with this code. Codes 1, 5 and 6 are `Float`, code 4 is `Gain`, and any other code that has no
-    /// integer format is `Unknown`. Takes no memory.
+    /// The integer format with this code. Codes 1, 5 and 6 are `Float`, code 4 is `Gain`, and any
+    /// other code that has no integer format is `Unknown`. Takes no memory.
     pub fn of(code: u16) -> Result<Format, FormatFault>
         ensures { result ≡ format_of code }
     {
@@ -75,7 +75,8 @@ impl Format {
         }
     }
 
-    /// A sample as a kind of number: its size in bytes, and whether it is in two's complement. Takes no memory.
+    /// A sample as a kind of number: its size in bytes, and whether it is in two's complement.
+    /// Takes no memory.
     pub fn kind(self) -> Kind
         ensures { result ≡ kind_of self }
     {

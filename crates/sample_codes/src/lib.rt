@@ -1,5 +1,6 @@
-//! The ten integer sample formats of SEG-Y revision 2.0: their codes in the binary file header (bytes 3225-3226 of the
-//! file), how many bytes a sample has, and samples read from bytes and written to them.
+//! The ten integer sample formats of SEG-Y revision 2.0: their codes in the binary file header
+//! (bytes 3225-3226 of the file), how many bytes a sample has, and samples read from bytes and
+//! written to them.
 //!
 //! No call takes memory. Only `Format::of` can fail, and says why.
 #![tactic(auto)]

@@ -2,24 +2,24 @@
 use Rattle.std.proofs.Common.{◌≡◌, ℕ, List, sym, subst, inl, inr}
 use Rattle.std.specs.Prelude.{IsTrue}
 use Rattle.frame_cut.specs.declared.load_fault.LoadFault.{LoadFault}
-use Rattle.bench_core.specs.State.{State}
+use Rattle.bench_rules.specs.State.{State}
 use Rattle.script_run.specs.declared.options.Options.{Options}
 use Rattle.script_run.specs.declared.run_end.RunEnd.{RunEnd}
 use Rattle.script_run.specs.declared.run_end.RunEnd.TheVariants as ends
 use Rattle.script_run.specs.declared.script_fault.ScriptFault.{ScriptFault}
-use Rattle.script_run.specs.RefusalTexts.{load_refused, script_refused}
-use Rattle.script_run.specs.Devices.{Takes, TakesPart, counted}
+use Rattle.script_run.specs.RefusalTexts.{load_refusal_line, script_refusal_line}
+use Rattle.script_run.specs.Devices.{Takes, TakesPart, count_in_64_bits}
 use Rattle.script_run.specs.Loading.{Loads, ReadsScript}
 use Rattle.script_run.specs.Runs.{RunsWhole, StopsAt, BreaksOff}
 use Rattle.script_run.specs.Ends.{Devices, RefusesLoad, RefusesScript, RunsThrough, Stops, LosesAnswer, IsTold, Runs}
 
 pub load_end : (options : Options) (old new : Devices) (fault : LoadFault) (result : RunEnd) → RefusesLoad options old new fault
-    → IsTold old.answers new.answers (load_refused fault) (ends.Load fault) result → Runs options old new result
+    → IsTold old.answers new.answers (load_refusal_line fault) (ends.Load fault) result → Runs options old new result
 load_end options old new fault result refuses (inl told) = subst (λ r. Runs options old new r) (sym told.0) (refuses, told.1)
 load_end options old new fault result refuses (inr (written, is, part)) = subst (λ r. Runs options old new r) (sym is) (inl (fault, refuses, part))
 
 pub script_end : (options : Options) (old new : Devices) (fault : ScriptFault) (result : RunEnd) → RefusesScript options old new fault
-    → IsTold old.answers new.answers (script_refused fault) (ends.Script fault) result → Runs options old new result
+    → IsTold old.answers new.answers (script_refusal_line fault) (ends.Script fault) result → Runs options old new result
 script_end options old new fault result refuses (inl told) = subst (λ r. Runs options old new r) (sym told.0) (refuses, told.1)
 script_end options old new fault result refuses (inr (written, is, part)) = subst (λ r. Runs options old new r) (sym is) (inr (inl (fault, refuses, part)))
 
@@ -45,8 +45,8 @@ module _ (options : Options) (old new : Devices) (start end : State) (script : L
   }
 
   pub loses_answer : (written : ℕ) → new.out ≡ old.out
-      → (text : List ℕ) × (taken : ℕ) × (written ≡ counted taken) × BreaksOff start script options.stop taken text end × TakesPart old.answers new.answers text taken
-      → (taken : ℕ) × (written ≡ counted taken) × LosesAnswer options old new taken
+      → (text : List ℕ) × (taken : ℕ) × (written ≡ count_in_64_bits taken) × BreaksOff start script options.stop taken text end × TakesPart old.answers new.answers text taken
+      → (taken : ℕ) × (written ≡ count_in_64_bits taken) × LosesAnswer options old new taken
   loses_answer written unsaved (text, taken, told, lines, printed) = (
     taken,
     told,

@@ -7,8 +7,8 @@ use Rattle.script_run.specs.declared.command.Command.{Command}
 use Rattle.script_run.specs.declared.line_fault.LineFault.{LineFault}
 use Rattle.script_run.specs.declared.line_fault.LineFault.TheVariants.{NotText}
 use Rattle.script_run.specs.Words.{words_of, behind_word, is_note}
-use Rattle.script_run.specs.Commands.{Reader, commands, command_of, read_by, spoken, words_by, line_result}
-use Rattle.script_run.specs.ReportCommands.{AnyCommand, Known, known, all_commands, further_commands, any_command_of, any_line_result, CommandsStay}
+use Rattle.script_run.specs.Commands.{Reader, commands, command_of, read_by, some_command, words_by, line_result}
+use Rattle.script_run.specs.ReportCommands.{AnyCommand, Known, as_any_command, all_commands, further_commands, any_command_of, any_line_result, CommandsStay}
 
 -- what is found in a list is found where more follows
 found_here : {K X : Type 0} (test : K → Bool) (x : K × X) (xs ys : List (K × X)) (v : X) → (lookup test xs ≡ Some v → lookup test (xs ++ ys) ≡ Some v) → (b : Bool) → test x.0 ≡ b
@@ -28,7 +28,7 @@ found_before test (x ∷ xs) ys v e = found_here test x xs ys v (found_before te
 
 -- the reader of a word stays, and what it reads is a command of the whole language
 abbrev whole : Reader Command → Reader AnyCommand
-whole reader words = known (reader words)
+whole reader words = as_any_command (reader words)
 
 reader_stays : (test : List ℕ → Bool) (rest : List ℕ) (words : List (List ℕ)) (command : Command) (found : Option (Reader Command)) → lookup test (commands rest) ≡ found → read_by found words ≡ Ok command
     → read_by (lookup test (all_commands rest)) words ≡ Ok (Known command)
@@ -36,13 +36,13 @@ reader_stays test rest words command None e is = absurd cc
 reader_stays test rest words command (Some reader) e is =
     let mapped : List (List ℕ × Reader AnyCommand) = map (λ c. (c.0, whole c.1)) (commands rest) in
     let there : lookup test mapped ≡ Some (whole reader) = lookup-map_values whole test (commands rest) ∙ ap (λ (o : Option (Reader Command)). option_map whole o) e in
-    ap (λ (o : Option (Reader AnyCommand)). read_by o words) (found_before test mapped further_commands (whole reader) there) ∙ ap known is
+    ap (λ (o : Option (Reader AnyCommand)). read_by o words) (found_before test mapped further_commands (whole reader) there) ∙ ap as_any_command is
 
 command_stays : (word rest : List ℕ) (command : Command) → command_of word rest ≡ Ok command → any_command_of word rest ≡ Ok (Known command)
 command_stays word rest command e = reader_stays (bytes_eq word) rest (words_of rest) command (lookup (bytes_eq word) (commands rest)) refl e
 
 -- what was spoken is a command
-spoken_is : (r : Result Command LineFault) (command : Command) → spoken r ≡ Ok (Some command) → r ≡ Ok command
+spoken_is : (r : Result Command LineFault) (command : Command) → some_command r ≡ Ok (Some command) → r ≡ Ok command
 spoken_is (Ok c) command e = cc
 spoken_is (Err fault) command e = absurd cc
 
@@ -52,9 +52,9 @@ words_stay_by line word words command true n e =
     let none : words_by command_of line (word ∷ words) ≡ Ok None = rw n refl in
     absurd cc
 words_stay_by line word words command false n e =
-    let was : words_by command_of line (word ∷ words) ≡ spoken (command_of word (behind_word line)) = rw n refl in
-    let is : words_by any_command_of line (word ∷ words) ≡ spoken (any_command_of word (behind_word line)) = rw n refl in
-    is ∙ ap spoken (command_stays word (behind_word line) command (spoken_is (command_of word (behind_word line)) command (sym was ∙ e)))
+    let was : words_by command_of line (word ∷ words) ≡ some_command (command_of word (behind_word line)) = rw n refl in
+    let is : words_by any_command_of line (word ∷ words) ≡ some_command (any_command_of word (behind_word line)) = rw n refl in
+    is ∙ ap some_command (command_stays word (behind_word line) command (spoken_is (command_of word (behind_word line)) command (sym was ∙ e)))
 
 words_stay : (line : List ℕ) (words : List (List ℕ)) (command : Command) → words_by command_of line words ≡ Ok (Some command) → words_by any_command_of line words ≡ Ok (Some (Known command))
 words_stay line [] command e = absurd cc

@@ -1,5 +1,5 @@
-pub mod Positions
-pub mod Boundaries
+pub mod PositionLemmas
+pub mod BoundaryLemmas
 pub mod WordLemmas
 pub mod NumberLemmas
 pub mod PlaceLemmas

@@ -7,7 +7,7 @@ use Rattle.script_run.specs.declared.command.Command.{Command}
 use Rattle.script_run.specs.declared.line_fault.LineFault.{LineFault}
 use Rattle.script_run.specs.declared.line_fault.LineFault.TheVariants.{NotText, OutOfMemory}
 use Rattle.script_run.specs.Words.{words_of, behind_word, is_note}
-use Rattle.script_run.specs.Commands.{command_of, spoken, words_result, line_result, CommandTakesMemory, LineTakesMemory, IsRead, IsParsed}
+use Rattle.script_run.specs.Commands.{command_of, some_command, words_result, line_result, CommandTakesMemory, LineTakesMemory, IsRead, IsParsed}
 
 -- ---- what a line gives, by its words
 
@@ -29,21 +29,21 @@ module _ (line word rest : List ℕ) (ws : List (List ℕ)) (u : IsUtf8 line) (w
   pub note : is_note word ≡ true → IsParsed line (Ok None)
   note n = inl (sym (by_words line u ∙ rw (words, n) refl))
 
-  read_as : is_note word ≡ false → rest ≡ behind_word line → line_result line ≡ spoken (command_of word rest)
+  read_as : is_note word ≡ false → rest ≡ behind_word line → line_result line ≡ some_command (command_of word rest)
   read_as n is = by_words line u ∙ rw (words, n, is) refl
 
-  spoken_ok : (expected : Result Command LineFault) (command : Command) → line_result line ≡ spoken expected → IsRead expected (Ok command) → IsParsed line (Ok (Some command))
-  spoken_ok expected command e (inl h) = inl (let same : spoken expected ≡ Ok (Some command) = ap spoken (sym h) in sym (e ∙ same))
+  spoken_ok : (expected : Result Command LineFault) (command : Command) → line_result line ≡ some_command expected → IsRead expected (Ok command) → IsParsed line (Ok (Some command))
+  spoken_ok expected command e (inl h) = inl (let same : some_command expected ≡ Ok (Some command) = ap some_command (sym h) in sym (e ∙ same))
   spoken_ok expected command e (inr h) = absurd cc
 
-  takes_memory : (expected : Result Command LineFault) → CommandTakesMemory expected → LineTakesMemory (spoken expected)
+  takes_memory : (expected : Result Command LineFault) → CommandTakesMemory expected → LineTakesMemory (some_command expected)
   takes_memory (Ok command) h = h
   takes_memory (Err fault) h = absurd h
 
-  spoken_err : (expected : Result Command LineFault) (fault : LineFault) (r : Result (Option Command) LineFault) → line_result line ≡ spoken expected → IsErrAnd r (λ x. x ≡ fault) → IsRead expected (Err fault) → IsParsed line r
+  spoken_err : (expected : Result Command LineFault) (fault : LineFault) (r : Result (Option Command) LineFault) → line_result line ≡ some_command expected → IsErrAnd r (λ x. x ≡ fault) → IsRead expected (Err fault) → IsParsed line r
   spoken_err expected fault (Ok c) e is h = absurd is
   spoken_err expected fault (Err x) e is (inl h) =
-      let same : spoken expected ≡ Err fault = ap spoken (sym h) in
+      let same : some_command expected ≡ Err fault = ap some_command (sym h) in
       inl (ap (λ (k : LineFault). let r : Result (Option Command) LineFault = Err k in r) is ∙ sym (e ∙ same))
   spoken_err expected fault (Err x) e is (inr h) =
       let same : fault ≡ OutOfMemory = cc in

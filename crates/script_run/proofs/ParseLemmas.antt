@@ -1,9 +1,9 @@
 -- Commands with a field or a text, from what was read of their words.
 use Rattle.std.proofs.Common.{◌≡◌, ◌∙◌, sym, ap, subst, refl, inl, inr, ℕ, ℤ, List, [], ◌∷◌, Option, Some, None, Result, Ok, Err, ok_or, option_map, option_and_then}
 use Rattle.std.specs.Result.{IsErrAnd}
-use Rattle.bench_core.specs.declared.field.Field.{Field}
-use Rattle.bench_core.specs.declared.edit.Edit.TheVariants as edits
-use Rattle.bench_core.specs.declared.query.Query.TheVariants as queries
+use Rattle.bench_rules.specs.declared.field.Field.{Field}
+use Rattle.bench_rules.specs.declared.edit.Edit.TheVariants as edits
+use Rattle.bench_rules.specs.declared.query.Query.TheVariants as queries
 use Rattle.field_map.specs.declared.place.Place.{Place}
 use Rattle.script_run.specs.declared.command.Command.{Command}
 use Rattle.script_run.specs.declared.command.Command.TheVariants.{Apply, Ask}

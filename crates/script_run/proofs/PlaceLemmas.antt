@@ -4,7 +4,7 @@ use Rattle.std.specs.List.{list_any, before_first, after_first, starts_with}
 use lib.Pointwise.{pointwise}
 use Rattle.std.proofs.lemmas.Bool.Decides.{nat_tests}
 use Rattle.script_run.specs.Numbers.{place_of_word, place_in, place_of_numbers, natural_up_to, without_u, ends_with_u, is_dot, is_colon, extension_digits, behind_extension}
-use Rattle.script_run.proofs.Positions.{nothing_behind}
+use Rattle.script_run.proofs.PositionLemmas.{nothing_behind}
 
 no_size : (a b : Option ℕ) (signed : Bool) → None ≡ place_of_numbers a b None signed
 no_size None b signed = refl

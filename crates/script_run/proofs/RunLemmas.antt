@@ -9,10 +9,10 @@ use Rattle.std.proofs.lemmas.List.{take_at, drop_at, length-map}
 use Rattle.std.proofs.lemmas.List.Sums.{sum_by_push}
 use Rattle.std.proofs.lemmas.List.Concat.{flat_map-append}
 use Rattle.device_io.specs.Failures.{one_more as one_more_failure}
-use Rattle.bench_core.specs.State.{State}
+use Rattle.bench_rules.specs.State.{State}
 use Rattle.script_run.specs.Words.{is_line_feed, parts_by_line_feed, script_lines, without_return}
 use Rattle.script_run.specs.Replies.{Printed}
-use Rattle.script_run.specs.Devices.{Device, Takes, TakesPart, counted}
+use Rattle.script_run.specs.Devices.{Device, Takes, TakesPart, count_in_64_bits}
 use Rattle.script_run.specs.Runs.{LineStep, LineSteps, printed_text, refusals, StopsAt, BreaksOff}
 use Rattle.device_io.specs.Growth.{Appends_more}
 
@@ -63,7 +63,7 @@ pub record SoFar (start : State) (all rest : List (List ℕ)) (stop : Bool) (num
   pub steps : LineSteps start done printed now
   pub number_is : number ≡ length printed
   pub refused_is : refused ≡ refusals printed
-  pub written_is : written ≡ counted (length (printed_text printed))
+  pub written_is : written ≡ count_in_64_bits (length (printed_text printed))
   pub goes_on : IsTrue stop → refused ≡ 0
   pub taken : Takes before after (printed_text printed)
 
@@ -105,7 +105,7 @@ module _ (start : State) (all rest : List (List ℕ)) (line : List ℕ) (stop : 
       ap (take n) whole_is ∙ take_at (so_far.done ++ line ∷ []) rest n long
 
   -- a line whose reply is written
-  pub one_more : (after : Device) (more told : ℕ) → Takes mid after p.text → more ≡ refused + cond p.is_refusal 1 0 → told ≡ counted (written + length p.text) → (IsTrue stop → p.is_refusal ≡ false)
+  pub one_more : (after : Device) (more told : ℕ) → Takes mid after p.text → more ≡ refused + cond p.is_refusal 1 0 → told ≡ count_in_64_bits (written + length p.text) → (IsTrue stop → p.is_refusal ≡ false)
       → SoFar start all rest stop (number + 1) more told before after next
   one_more after more told taken more_is told_is not_refused = record {
     done = so_far.done ++ line ∷ [];
@@ -124,8 +124,8 @@ module _ (start : State) (all rest : List (List ℕ)) (line : List ℕ) (stop : 
       take-add (length xs) n (xs ++ ys) ∙ ap₂ (λ a b. a ++ take n b) (take_at xs ys (length xs) refl) (drop_at xs ys (length xs) refl)
 
   -- a line whose reply is not written whole
-  pub breaks_off : (script : List ℕ) (after : Device) (k told : ℕ) → all ≡ script_lines script → TakesPart mid after p.text k → told ≡ counted (written + k)
-      → (text : List ℕ) × (taken : ℕ) × (told ≡ counted taken) × BreaksOff start script stop taken text next × TakesPart before after text taken
+  pub breaks_off : (script : List ℕ) (after : Device) (k told : ℕ) → all ≡ script_lines script → TakesPart mid after p.text k → told ≡ count_in_64_bits (written + k)
+      → (text : List ℕ) × (taken : ℕ) × (told ≡ count_in_64_bits taken) × BreaksOff start script stop taken text next × TakesPart before after text taken
   breaks_off script after k told all_is part told_is =
       let text : List ℕ = printed_text (so_far.printed ++ p ∷ []) in
       let taken : ℕ = length (printed_text so_far.printed) + k in

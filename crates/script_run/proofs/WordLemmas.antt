@@ -7,7 +7,7 @@ use Rattle.std.proofs.lemmas.List.Sums.{prefix_len-le-length, prefix_len-drop_ye
 use Rattle.std.proofs.lemmas.List.Splits.{slice_split-cons_yes, slice_split-cons_no, slice_split_first}
 use Rattle.std.proofs.lemmas.Bool.Decides.{nat_tests, leb_tells}
 use Rattle.script_run.specs.Words.{is_word, is_gap, words_of}
-use Rattle.script_run.proofs.Positions.{none_is, some_is, some_in, some_passes}
+use Rattle.script_run.proofs.PositionLemmas.{none_is, some_is, some_in, some_passes}
 
 module _ (p : ℕ → Bool) where
   -- what stands between the elements that pass, where it is not empty

@@ -7,11 +7,11 @@ use Rattle.text_block.specs.declared.code.Code.{Code}
 use Rattle.text_block.specs.declared.code.Code.TheVariants.{Ebcdic, Ascii}
 use Rattle.field_map.specs.declared.place.Place.{Place}
 use Rattle.sample_codes.specs.Formats.{code_of}
-use Rattle.bench_core.specs.declared.info.Info.{Info}
-use Rattle.bench_core.specs.declared.answer.Answer.{Answer}
-use Rattle.bench_core.specs.declared.answer.Answer.TheVariants as answers
+use Rattle.bench_rules.specs.declared.info.Info.{Info}
+use Rattle.bench_rules.specs.declared.answer.Answer.{Answer}
+use Rattle.bench_rules.specs.declared.answer.Answer.TheVariants as answers
 use Rattle.text_block.specs.Lines.{without_blanks}
-use Rattle.script_run.specs.Texts.{spaced, ended, listed, place_text}
+use Rattle.script_run.specs.Texts.{with_blanks, with_line_end, list_lines, place_text}
 
 -- the order of bytes
 abbrev pub order_text : Order → List ℕ
@@ -51,10 +51,10 @@ field_text f = codes "field " ++ f.0 ++ codes " " ++ place_text f.1
 
 -- an answer, each line with its end
 abbrev pub answer_text : Answer → List ℕ
-answer_text (answers.Count n) = ended (spaced (codes "traces" ∷ decimal n ∷ []))
-answer_text (answers.Info info) = ended (info_text info)
-answer_text (answers.Value v) = ended (spaced (codes "value" ∷ signed_decimal v ∷ []))
-answer_text (answers.Line text) = ended (codes "line |" ++ without_blanks text ++ codes "|")
-answer_text (answers.Code code) = ended (codes "code " ++ code_text code)
-answer_text (answers.Stanzas stanzas) = listed (codes "stanzas") (map stanza_text stanzas)
-answer_text (answers.Fields fields) = listed (codes "fields") (map field_text fields)
+answer_text (answers.Count n) = with_line_end (with_blanks (codes "traces" ∷ decimal n ∷ []))
+answer_text (answers.Info info) = with_line_end (info_text info)
+answer_text (answers.Value v) = with_line_end (with_blanks (codes "value" ∷ signed_decimal v ∷ []))
+answer_text (answers.Line text) = with_line_end (codes "line |" ++ without_blanks text ++ codes "|")
+answer_text (answers.Code code) = with_line_end (codes "code " ++ code_text code)
+answer_text (answers.Stanzas stanzas) = list_lines (codes "stanzas") (map stanza_text stanzas)
+answer_text (answers.Fields fields) = list_lines (codes "fields") (map field_text fields)

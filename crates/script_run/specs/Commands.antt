@@ -2,12 +2,12 @@
 use Rattle.std.specs.Prelude.{◌≡◌, ◌⊎◌, ℕ, ℤ, not, List, [], ◌∷◌, bytes_eq, codes, Option, Some, None, option_map, option_and_then, ok_or, Result, Ok, Err, if◌then◌else◌}
 use Rattle.std.specs.Str.{is_utf8}
 use Rattle.std.specs.Map.{lookup}
-use Rattle.bench_core.specs.declared.field.Field.{Field}
-use Rattle.bench_core.specs.declared.field.Field.TheVariants as fields
-use Rattle.bench_core.specs.declared.edit.Edit.{Edit}
-use Rattle.bench_core.specs.declared.edit.Edit.TheVariants as edits
-use Rattle.bench_core.specs.declared.query.Query.{Query}
-use Rattle.bench_core.specs.declared.query.Query.TheVariants as queries
+use Rattle.bench_rules.specs.declared.field.Field.{Field}
+use Rattle.bench_rules.specs.declared.field.Field.TheVariants as fields
+use Rattle.bench_rules.specs.declared.edit.Edit.{Edit}
+use Rattle.bench_rules.specs.declared.edit.Edit.TheVariants as edits
+use Rattle.bench_rules.specs.declared.query.Query.{Query}
+use Rattle.bench_rules.specs.declared.query.Query.TheVariants as queries
 use Rattle.script_run.specs.declared.command.Command.{Command}
 use Rattle.script_run.specs.declared.command.Command.TheVariants.{Apply, Ask}
 use Rattle.script_run.specs.declared.line_fault.LineFault.{LineFault}
@@ -186,15 +186,15 @@ abbrev pub command_of : List ℕ → List ℕ → Result Command LineFault
 command_of word rest = read_by (lookup (bytes_eq word) (commands rest)) (words_of rest)
 
 -- a command that was read
-abbrev pub spoken : {C : Type 0} → Result C LineFault → Result (Option C) LineFault
-spoken (Ok command) = Ok (Some command)
-spoken (Err fault) = Err fault
+abbrev pub some_command : {C : Type 0} → Result C LineFault → Result (Option C) LineFault
+some_command (Ok command) = Ok (Some command)
+some_command (Err fault) = Err fault
 
 -- what a line with these words gives, where this gives the command of a first word and of what stands behind it: nothing, a command,
 -- or the first fault
 abbrev pub words_by : {C : Type 0} → (List ℕ → List ℕ → Result C LineFault) → List ℕ → List (List ℕ) → Result (Option C) LineFault
 words_by command line [] = Ok None
-words_by command line (word ∷ words) = if is_note word then Ok None else spoken (command word (behind_word line))
+words_by command line (word ∷ words) = if is_note word then Ok None else some_command (command word (behind_word line))
 
 -- what a line with these words gives: nothing, a command, or the first fault
 abbrev pub words_result : List ℕ → List (List ℕ) → Result (Option Command) LineFault

@@ -2,14 +2,14 @@
 use Rattle.std.specs.Prelude.{◌≡◌, ◌⊎◌, ℕ, Bool, true, false, IsTrue, List}
 use Rattle.frame_cut.specs.declared.load_fault.LoadFault.{LoadFault}
 use Rattle.frame_cut.specs.Volume.{bytes_of}
-use Rattle.bench_core.specs.State.{State}
+use Rattle.bench_rules.specs.State.{State}
 use Rattle.script_run.specs.declared.options.Options.{Options}
 use Rattle.script_run.specs.declared.run_end.RunEnd.{RunEnd}
 use Rattle.script_run.specs.declared.run_end.RunEnd.TheVariants as ends
 use Rattle.script_run.specs.declared.script_fault.ScriptFault.{ScriptFault}
-use Rattle.script_run.specs.Devices.{Device, Takes, TakesPart, counted}
+use Rattle.script_run.specs.Devices.{Device, Takes, TakesPart, count_in_64_bits}
 use Rattle.script_run.specs.Loading.{Loads, IsLoadRefused, ReadsScript, IsScriptRefused}
-use Rattle.script_run.specs.RefusalTexts.{load_refused, script_refused}
+use Rattle.script_run.specs.RefusalTexts.{load_refusal_line, script_refusal_line}
 use Rattle.script_run.specs.Runs.{RunsWhole, StopsAt, BreaksOff}
 
 -- the readers of the volume and of the script, the writers of the answers and of the saved volume
@@ -19,6 +19,7 @@ pub record Devices : Type 0 where
   pub answers : Device
   pub out : Device
 
+-- the four devices of a run
 abbrev pub devices : Device → Device → Device → Device → Devices
 devices reader script answers out = record { reader = reader; script = script; answers = answers; out = out }
 
@@ -88,11 +89,11 @@ abbrev pub Runs : Options → Devices → Devices → RunEnd → Type 0
 Runs options old new (ends.Done refused) =
     (end : State) × RunsThrough options old new refused end × SavesIf options.save old.out new.out (bytes_of end.volume)
 Runs options old new (ends.Stopped line) = Stops options old new line
-Runs options old new (ends.Load fault) = RefusesLoad options old new fault × Takes old.answers new.answers (load_refused fault)
-Runs options old new (ends.Script fault) = RefusesScript options old new fault × Takes old.answers new.answers (script_refused fault)
+Runs options old new (ends.Load fault) = RefusesLoad options old new fault × Takes old.answers new.answers (load_refusal_line fault)
+Runs options old new (ends.Script fault) = RefusesScript options old new fault × Takes old.answers new.answers (script_refusal_line fault)
 Runs options old new (ends.Answers written) =
-    ((fault : LoadFault) × RefusesLoad options old new fault × TakesPart old.answers new.answers (load_refused fault) written)
-    ⊎ ((fault : ScriptFault) × RefusesScript options old new fault × TakesPart old.answers new.answers (script_refused fault) written)
-    ⊎ ((taken : ℕ) × (written ≡ counted taken) × LosesAnswer options old new taken)
+    ((fault : LoadFault) × RefusesLoad options old new fault × TakesPart old.answers new.answers (load_refusal_line fault) written)
+    ⊎ ((fault : ScriptFault) × RefusesScript options old new fault × TakesPart old.answers new.answers (script_refusal_line fault) written)
+    ⊎ ((taken : ℕ) × (written ≡ count_in_64_bits taken) × LosesAnswer options old new taken)
 Runs options old new (ends.Save fault) =
     (refused : ℕ) × (end : State) × RunsThrough options old new refused end × IsTrue options.save × TakesPart old.out new.out (bytes_of end.volume) fault.written

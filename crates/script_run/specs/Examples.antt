@@ -5,14 +5,14 @@ use Rattle.std.specs.Str.{is_utf8, chars}
 use Rattle.std.specs.Char.{encode_utf8}
 use Rattle.field_map.specs.Pairs.{signed_at, unsigned_in_first_extension}
 use Rattle.frame_cut.specs.declared.load_fault.LoadFault.TheVariants.{TextCount}
-use Rattle.bench_core.specs.declared.field.Field.TheVariants as fields
-use Rattle.bench_core.specs.declared.edit.Edit.TheVariants as edits
+use Rattle.bench_rules.specs.declared.field.Field.TheVariants as fields
+use Rattle.bench_rules.specs.declared.edit.Edit.TheVariants as edits
 use Rattle.script_run.specs.declared.command.Command.TheVariants.{Apply}
 use Rattle.script_run.specs.declared.line_fault.LineFault.TheVariants.{Words, NotText}
 use Rattle.script_run.specs.Words.{script_lines}
 use Rattle.script_run.specs.Numbers.{number_of, position_of, place_of_word}
 use Rattle.script_run.specs.Commands.{line_result}
-use Rattle.script_run.specs.RefusalTexts.{load_refused}
+use Rattle.script_run.specs.RefusalTexts.{load_refusal_line}
 
 -- one carriage return is dropped at the end of a line, with a line feed behind it or not
 pub lines-returns : script_lines (codes "count\r\n\ninfo\r\r\nfaults\r") ≡ codes "count" ∷ [] ∷ codes "info\r" ∷ codes "faults" ∷ []
@@ -51,6 +51,6 @@ pub line-no_text : line_result (codes "# note " ++ 0xFF ∷ []) ≡ Err NotText
 unfolding is_utf8 chars encode_utf8
 line-no_text = refl
 
-pub load-text_count : load_refused (TextCount (negsuc 0)) ≡ codes "load refused L09 text count -1\n"
+pub load-text_count : load_refusal_line (TextCount (negsuc 0)) ≡ codes "load refused L09 text count -1\n"
 unfolding digits
 load-text_count = refl

@@ -1,9 +1,9 @@
 -- How the lines of a script end.
 use Rattle.std.specs.Prelude.{◌≡◌, ℕ, Bool, IsTrue, List}
-use Rattle.bench_core.specs.State.{State}
+use Rattle.bench_rules.specs.State.{State}
 use Rattle.script_run.specs.declared.lines_end.LinesEnd.{LinesEnd}
 use Rattle.script_run.specs.declared.lines_end.LinesEnd.TheVariants.{Whole, Stopped, Answers}
-use Rattle.script_run.specs.Devices.{Device, Takes, TakesPart, counted}
+use Rattle.script_run.specs.Devices.{Device, Takes, TakesPart, count_in_64_bits}
 use Rattle.script_run.specs.Runs.{RunsWhole, StopsAt, BreaksOff}
 
 -- the lines are run from one state to another, and the writer of the answers takes what they print
@@ -13,4 +13,4 @@ RunsLines old new script stop before after (Whole refused) =
 RunsLines old new script stop before after (Stopped line) =
     (text : List ℕ) × StopsAt old script line text new × Takes before after text × IsTrue stop
 RunsLines old new script stop before after (Answers written) =
-    (text : List ℕ) × (taken : ℕ) × (written ≡ counted taken) × BreaksOff old script stop taken text new × TakesPart before after text taken
+    (text : List ℕ) × (taken : ℕ) × (written ≡ count_in_64_bits taken) × BreaksOff old script stop taken text new × TakesPart before after text taken

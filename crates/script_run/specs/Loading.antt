@@ -9,7 +9,7 @@ use Rattle.frame_cut.specs.declared.load_fault.LoadFault.{LoadFault}
 use Rattle.frame_cut.specs.Cuts.{IsCut}
 use Rattle.frame_cut.specs.Volume.{bytes_of}
 use Rattle.edit_overlay.specs.Loading.{IsLoadFault, FailuresAfterRefusal}
-use Rattle.bench_core.specs.State.{State}
+use Rattle.bench_rules.specs.State.{State}
 use Rattle.script_run.specs.declared.script_fault.ScriptFault.{ScriptFault}
 use Rattle.script_run.specs.declared.script_fault.ScriptFault.TheVariants.{ReadFailed, TooLarge, OutOfMemory}
 use Rattle.script_run.specs.Devices.{Device}

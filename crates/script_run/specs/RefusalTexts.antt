@@ -7,16 +7,17 @@ use Rattle.field_map.specs.declared.map_fault.MapFault.{MapFault}
 use Rattle.field_map.specs.declared.map_fault.MapFault.TheVariants as map_faults
 use Rattle.text_block.specs.declared.text_fault.TextFault.{TextFault}
 use Rattle.text_block.specs.declared.text_fault.TextFault.TheVariants as text_faults
-use Rattle.bench_core.specs.declared.refusal.Refusal.{Refusal}
-use Rattle.bench_core.specs.declared.refusal.Refusal.TheVariants as refusals
-use Rattle.bench_core.specs.declared.ask_fault.AskFault.{AskFault}
-use Rattle.bench_core.specs.declared.ask_fault.AskFault.TheVariants as ask_faults
+use Rattle.bench_rules.specs.declared.refusal.Refusal.{Refusal}
+use Rattle.bench_rules.specs.declared.refusal.Refusal.TheVariants as refusals
+use Rattle.bench_rules.specs.declared.ask_fault.AskFault.{AskFault}
+use Rattle.bench_rules.specs.declared.ask_fault.AskFault.TheVariants as ask_faults
 use Rattle.script_run.specs.declared.script_fault.ScriptFault.{ScriptFault}
 use Rattle.script_run.specs.declared.script_fault.ScriptFault.TheVariants as script_faults
 use Rattle.script_run.specs.declared.line_fault.LineFault.{LineFault}
 use Rattle.script_run.specs.declared.line_fault.LineFault.TheVariants as line_faults
-use Rattle.script_run.specs.Texts.{ended, spaced}
+use Rattle.script_run.specs.Texts.{with_line_end, with_blanks}
 
+-- what is printed for a refused file, behind `load refused`
 abbrev pub load_fault_text : LoadFault → List ℕ
 load_fault_text load_faults.ReadFailed = codes "L01 read failed"
 load_fault_text load_faults.TooLarge = codes "L02 too large"
@@ -35,11 +36,13 @@ load_fault_text (load_faults.Truncated trace) = codes "L14 truncated trace " ++ 
 load_fault_text load_faults.TooManyTraces = codes "L15 too many traces"
 load_fault_text load_faults.OutOfMemory = codes "L16 out of memory"
 
+-- what is printed for a refused script, behind `script refused`
 abbrev pub script_fault_text : ScriptFault → List ℕ
 script_fault_text script_faults.ReadFailed = codes "P01 read failed"
 script_fault_text script_faults.TooLarge = codes "P02 too large"
 script_fault_text script_faults.OutOfMemory = codes "P03 out of memory"
 
+-- what is printed for a line that is no command, behind `refused`
 abbrev pub line_fault_text : LineFault → List ℕ
 line_fault_text line_faults.Unknown = codes "S01 unknown word"
 line_fault_text line_faults.Words = codes "S02 words"
@@ -49,11 +52,11 @@ line_fault_text line_faults.OutOfMemory = codes "E11 out of memory"
 
 -- p is no trace of so many
 abbrev pub no_trace : ℕ → ℕ → List ℕ
-no_trace p count = spaced (codes "E01 no trace" ∷ decimal p ∷ codes "of" ∷ decimal count ∷ [])
+no_trace p count = with_blanks (codes "E01 no trace" ∷ decimal p ∷ codes "of" ∷ decimal count ∷ [])
 
 -- k is no sample of so many
 abbrev pub no_sample : ℕ → ℕ → List ℕ
-no_sample k number = spaced (codes "E05 no sample" ∷ decimal k ∷ codes "of" ∷ decimal number ∷ [])
+no_sample k number = with_blanks (codes "E05 no sample" ∷ decimal k ∷ codes "of" ∷ decimal number ∷ [])
 
 -- why a text is no line
 abbrev pub text_fault_text : TextFault → List ℕ
@@ -71,6 +74,7 @@ map_fault_text map_faults.Unknown = codes "E08 M06 unknown"
 map_fault_text map_faults.Standard = codes "E08 M07 standard"
 map_fault_text map_faults.OutOfMemory = codes "E11 out of memory"
 
+-- what is printed for a refused edit
 abbrev pub refusal_text : Refusal → List ℕ
 refusal_text (refusals.NoTrace p count) = no_trace p count
 refusal_text refusals.NoField = codes "E02 no field"
@@ -84,6 +88,7 @@ refusal_text refusals.TooLarge = codes "E09 too large"
 refusal_text refusals.TooManyTraces = codes "E10 too many traces"
 refusal_text refusals.OutOfMemory = codes "E11 out of memory"
 
+-- what is printed for a refused query
 abbrev pub ask_fault_text : AskFault → List ℕ
 ask_fault_text (ask_faults.NoTrace p count) = no_trace p count
 ask_fault_text ask_faults.NoField = codes "E02 no field"
@@ -92,17 +97,17 @@ ask_fault_text (ask_faults.NoSample k number) = no_sample k number
 ask_fault_text ask_faults.OutOfMemory = codes "E11 out of memory"
 
 -- the line printed for an accepted edit
-abbrev pub accepted : List ℕ
-accepted = codes "ok\n"
+abbrev pub accepted_line : List ℕ
+accepted_line = codes "ok\n"
 
 -- the line printed for a refused file
-abbrev pub load_refused : LoadFault → List ℕ
-load_refused fault = ended (codes "load refused " ++ load_fault_text fault)
+abbrev pub load_refusal_line : LoadFault → List ℕ
+load_refusal_line fault = with_line_end (codes "load refused " ++ load_fault_text fault)
 
 -- the line printed for a refused script
-abbrev pub script_refused : ScriptFault → List ℕ
-script_refused fault = ended (codes "script refused " ++ script_fault_text fault)
+abbrev pub script_refusal_line : ScriptFault → List ℕ
+script_refusal_line fault = with_line_end (codes "script refused " ++ script_fault_text fault)
 
 -- the line printed for a line that is refused
-abbrev pub refused : List ℕ → List ℕ
-refused text = ended (codes "refused " ++ text)
+abbrev pub refused_line : List ℕ → List ℕ
+refused_line text = with_line_end (codes "refused " ++ text)

@@ -1,40 +1,40 @@
 -- What a line of a script prints.
 use Rattle.std.specs.Prelude.{◌≡◌, ◌⊎◌, ℕ, Bool, true, false, List, [], Result, Ok, Err}
-use Rattle.bench_core.specs.declared.refusal.Refusal.{Refusal}
-use Rattle.bench_core.specs.declared.answer.Answer.{Answer}
-use Rattle.bench_core.specs.declared.answer.Answer.TheVariants as answers
-use Rattle.bench_core.specs.declared.ask_fault.AskFault.{AskFault}
-use Rattle.bench_core.specs.declared.ask_fault.AskFault.TheVariants.{OutOfMemory}
+use Rattle.bench_rules.specs.declared.refusal.Refusal.{Refusal}
+use Rattle.bench_rules.specs.declared.answer.Answer.{Answer}
+use Rattle.bench_rules.specs.declared.answer.Answer.TheVariants as answers
+use Rattle.bench_rules.specs.declared.ask_fault.AskFault.{AskFault}
+use Rattle.bench_rules.specs.declared.ask_fault.AskFault.TheVariants.{OutOfMemory}
 use Rattle.script_run.specs.declared.line_fault.LineFault.{LineFault}
 use Rattle.script_run.specs.AnswerTexts.{answer_text}
-use Rattle.script_run.specs.RefusalTexts.{accepted, refused, refusal_text, ask_fault_text, line_fault_text}
+use Rattle.script_run.specs.RefusalTexts.{accepted_line, refused_line, refusal_text, ask_fault_text, line_fault_text}
 
 -- what a line prints, and whether that is a refusal
 pub record Printed : Type 0 where
   pub text : List ℕ
   pub is_refusal : Bool
 
--- a note or a blank line
+-- what a note or a blank line prints: nothing
 abbrev pub nothing : Printed
 nothing = record { text = []; is_refusal = false }
 
--- a line that prints a refusal
+-- what a refused line prints
 abbrev pub refusal : List ℕ → Printed
-refusal text = record { text = refused text; is_refusal = true }
+refusal text = record { text = refused_line text; is_refusal = true }
 
 -- the reply to a line that is no command
-abbrev pub fault_printed : LineFault → Printed
-fault_printed fault = refusal (line_fault_text fault)
+abbrev pub fault_reply : LineFault → Printed
+fault_reply fault = refusal (line_fault_text fault)
 
 -- the reply to an edit
-abbrev pub edit_printed : {T : Type 0} → Result T Refusal → Printed
-edit_printed (Ok done) = record { text = accepted; is_refusal = false }
-edit_printed (Err fault) = refusal (refusal_text fault)
+abbrev pub edit_reply : {T : Type 0} → Result T Refusal → Printed
+edit_reply (Ok done) = record { text = accepted_line; is_refusal = false }
+edit_reply (Err fault) = refusal (refusal_text fault)
 
 -- the reply to a query
-abbrev pub query_printed : Result Answer AskFault → Printed
-query_printed (Ok answer) = record { text = answer_text answer; is_refusal = false }
-query_printed (Err fault) = refusal (ask_fault_text fault)
+abbrev pub query_reply : Result Answer AskFault → Printed
+query_reply (Ok answer) = record { text = answer_text answer; is_refusal = false }
+query_reply (Err fault) = refusal (ask_fault_text fault)
 
 -- the answer holds a text or a list, so that its text takes memory
 abbrev pub IsLong : Answer → Type 0
@@ -48,5 +48,5 @@ IsLong (answers.Fields fields) = Unit {0}
 
 -- a query prints its reply, or want of memory where the answer holds a text or a list
 abbrev pub QueryPrints : Result Answer AskFault → Printed → Type 0
-QueryPrints (Ok answer) printed = (printed ≡ query_printed (Ok answer)) ⊎ (IsLong answer × (printed ≡ query_printed (Err OutOfMemory)))
-QueryPrints (Err fault) printed = printed ≡ query_printed (Err fault)
+QueryPrints (Ok answer) printed = (printed ≡ query_reply (Ok answer)) ⊎ (IsLong answer × (printed ≡ query_reply (Err OutOfMemory)))
+QueryPrints (Err fault) printed = printed ≡ query_reply (Err fault)

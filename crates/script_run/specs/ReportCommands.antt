@@ -3,21 +3,21 @@
 use Rattle.std.specs.Prelude.{◌≡◌, ◌⊎◌, ℕ, not, List, [], ◌∷◌, ◌++◌, map, bytes_eq, codes, Option, Some, None, option_map, option_and_then, ok_or, Result, Ok, Err, if◌then◌else◌}
 use Rattle.std.specs.Map.{lookup}
 use Rattle.std.specs.Str.{is_utf8}
-use Rattle.range_stats.specs.declared.which.Which.{Which}
-use Rattle.range_stats.specs.declared.which.Which.TheVariants.{Inline, Crossline, Offset, X, Y}
-use Rattle.bench_core.specs.declared.refusal.Refusal.{Refusal}
-use Rattle.bench_core.specs.NumberEdits as numbers
-use Rattle.bench_core.specs.NumberEdits.{NumberEdit, NumberStep}
-use Rattle.bench_core.specs.ReportQueries as queries
-use Rattle.bench_core.specs.ReportQueries.{ReportQuery, ReportReply, IsReportReply}
-use Rattle.bench_core.specs.State.{State}
+use Rattle.range_stats.specs.declared.quantity.Quantity.{Quantity}
+use Rattle.range_stats.specs.declared.quantity.Quantity.TheVariants.{Inline, Crossline, Offset, X, Y}
+use Rattle.bench_rules.specs.declared.refusal.Refusal.{Refusal}
+use Rattle.bench_rules.specs.NumberEdits as numbers
+use Rattle.bench_rules.specs.NumberEdits.{NumberEdit, NumberStep}
+use Rattle.bench_rules.specs.ReportQueries as queries
+use Rattle.bench_rules.specs.ReportQueries.{ReportQuery, ReportReply, IsReportReply}
+use Rattle.bench_rules.specs.State.{State}
 use Rattle.script_run.specs.declared.command.Command.{Command}
 use Rattle.script_run.specs.declared.line_fault.LineFault.{LineFault}
 use Rattle.script_run.specs.declared.line_fault.LineFault.TheVariants.{Words, Number, NotText, OutOfMemory}
 use Rattle.script_run.specs.Commands.{Reader, commands, alone, one, two, field_of, read_by, words_by, line_result, HoldsMemory, IsName}
 use Rattle.script_run.specs.Numbers.{number_of, position_of}
-use Rattle.script_run.specs.Replies.{Printed, nothing, edit_printed, fault_printed}
-use Rattle.script_run.specs.ReportTexts.{report_printed}
+use Rattle.script_run.specs.Replies.{Printed, nothing, edit_reply, fault_reply}
+use Rattle.script_run.specs.ReportTexts.{report_reply}
 use Rattle.script_run.specs.Runs.{CommandStep}
 use Rattle.script_run.specs.Words.{words_of}
 
@@ -33,8 +33,8 @@ pub data AnyCommand : Type 0 where
 -- ---- what may follow their words
 
 -- WHICH: a kind of value that has a range
-abbrev pub which_of : List ℕ → Option Which
-which_of word = lookup (bytes_eq word)
+abbrev pub quantity_of : List ℕ → Option Quantity
+quantity_of word = lookup (bytes_eq word)
     ((codes "inline", Inline) ∷ (codes "crossline", Crossline) ∷ (codes "offset", Offset) ∷ (codes "x", X) ∷ (codes "y", Y) ∷ [])
 
 -- the edit of five words
@@ -71,7 +71,7 @@ read_fold = two number_of number_of (λ i c. Report (queries.Fold i c))
 
 -- `range WHICH`
 abbrev pub read_range : Reader AnyCommand
-read_range = one which_of (λ w. Report (queries.Range w))
+read_range = one quantity_of (λ w. Report (queries.Range w))
 
 -- `slice K`
 abbrev pub read_slice : Reader AnyCommand
@@ -98,13 +98,13 @@ further_commands =
     ∷ []
 
 -- a command of `Command`, as one of the whole language
-abbrev pub known : Result Command LineFault → Result AnyCommand LineFault
-known (Ok command) = Ok (Known command)
-known (Err fault) = Err fault
+abbrev pub as_any_command : Result Command LineFault → Result AnyCommand LineFault
+as_any_command (Ok command) = Ok (Known command)
+as_any_command (Err fault) = Err fault
 
 -- each command's word with what reads the words behind it, which stand in this rest of the line
 abbrev pub all_commands : List ℕ → List (List ℕ × Reader AnyCommand)
-all_commands rest = map (λ c. (c.0, λ words. known (c.1 words))) (commands rest) ++ further_commands
+all_commands rest = map (λ c. (c.0, λ words. as_any_command (c.1 words))) (commands rest) ++ further_commands
 
 -- the command of a first word and of what stands behind it
 abbrev pub any_command_of : List ℕ → List ℕ → Result AnyCommand LineFault
@@ -138,14 +138,14 @@ IsAnyParsed line result = (result ≡ any_line_result line) ⊎ ((result ≡ Err
 -- a command with what it prints; a reply to a report is its answer, or want of memory in place of an answer that is a list
 abbrev pub AnyCommandStep : State → AnyCommand → Printed → State → Type 0
 AnyCommandStep old (Known command) printed new = CommandStep old command printed new
-AnyCommandStep old (Alter edit) printed new = (reply : Result (Unit {0}) Refusal) × NumberStep old edit reply new × (printed ≡ edit_printed reply)
-AnyCommandStep old (Report query) printed new = (reply : ReportReply) × IsReportReply old query reply × (printed ≡ report_printed reply) × (new ≡ old)
+AnyCommandStep old (Alter edit) printed new = (reply : Result (Unit {0}) Refusal) × NumberStep old edit reply new × (printed ≡ edit_reply reply)
+AnyCommandStep old (Report query) printed new = (reply : ReportReply) × IsReportReply old query reply × (printed ≡ report_reply reply) × (new ≡ old)
 
 -- a line that was read, with what it prints
 abbrev pub AnyReadStep : State → Result (Option AnyCommand) LineFault → Printed → State → Type 0
 AnyReadStep old (Ok None) printed new = (printed ≡ nothing) × (new ≡ old)
 AnyReadStep old (Ok (Some command)) printed new = AnyCommandStep old command printed new
-AnyReadStep old (Err fault) printed new = (printed ≡ fault_printed fault) × (new ≡ old)
+AnyReadStep old (Err fault) printed new = (printed ≡ fault_reply fault) × (new ≡ old)
 
 -- a line with what it prints
 abbrev pub AnyLineStep : State → List ℕ → Printed → State → Type 0
@@ -154,6 +154,6 @@ AnyLineStep old line printed new =
 
 -- ---- the commands of `Command`
 
--- a line that is one of them is that command in the whole language
+-- a line that is one of the commands of `Command` is that command in the whole language
 abbrev pub CommandsStay : Type 0
 CommandsStay = (line : List ℕ) (command : Command) → line_result line ≡ Ok (Some command) → any_line_result line ≡ Ok (Some (Known command))

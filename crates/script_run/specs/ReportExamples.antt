@@ -3,14 +3,14 @@ use Rattle.std.specs.Prelude.{◌≡◌, pos, negsuc, [], ◌∷◌, codes, Some
 use Rattle.std.specs.Fmt.{digits}
 use Rattle.std.specs.Str.{is_utf8, chars}
 use Rattle.std.specs.Char.{encode_utf8}
-use Rattle.trace_record.specs.Scaled.{scaled, over, greatest_divisor}
-use Rattle.range_stats.specs.declared.which.Which.TheVariants.{X}
+use Rattle.trace_record.specs.Coordinates.{under_scalar, over, greatest_divisor}
+use Rattle.range_stats.specs.declared.quantity.Quantity.TheVariants.{X}
 use Rattle.fault_live.specs.declared.fault.Fault.TheVariants.{Repeated, Scalar, Samples}
-use Rattle.bench_core.specs.declared.field.Field.TheVariants as fields
-use Rattle.bench_core.specs.declared.edit.Edit.TheVariants as edits
-use Rattle.bench_core.specs.NumberEdits as numbers
-use Rattle.bench_core.specs.ReportQueries as queries
-use Rattle.bench_core.specs.ReportAnswers as answers
+use Rattle.bench_rules.specs.declared.field.Field.TheVariants as fields
+use Rattle.bench_rules.specs.declared.edit.Edit.TheVariants as edits
+use Rattle.bench_rules.specs.NumberEdits as numbers
+use Rattle.bench_rules.specs.ReportQueries as queries
+use Rattle.bench_rules.specs.ReportAnswers as answers
 use Rattle.script_run.specs.declared.command.Command.TheVariants.{Apply}
 use Rattle.script_run.specs.declared.line_fault.LineFault.TheVariants.{Unknown, Words, Number}
 use Rattle.script_run.specs.ReportCommands.{Known, Alter, Report, any_line_result}
@@ -51,10 +51,10 @@ pub text-geometry : report_text (answers.Geometry (record {
   inline = pos 10;
   crossline = pos 21;
   offset = pos 100;
-  x = scaled (negsuc 2147483647) (negsuc 32767);
-  y = scaled (pos 500) (negsuc 32767);
+  x = under_scalar (negsuc 2147483647) (negsuc 32767);
+  y = under_scalar (pos 500) (negsuc 32767);
 })) ≡ codes "geometry inline 10 crossline 21 offset 100 x -65536 y 125/8192\n"
-unfolding scaled over greatest_divisor digits
+unfolding under_scalar over greatest_divisor digits
 text-geometry = refl
 
 pub text-totals : report_text (answers.Totals (Some (record { least = negsuc 8388607; greatest = negsuc 0; sum = negsuc 8388608; number = 2 })))

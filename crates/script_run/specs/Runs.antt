@@ -1,20 +1,20 @@
 -- A script run over a volume, line by line.
 use Rattle.std.specs.Prelude.{◌≡◌, ℕ, Bool, IsTrue, ◌+◌, ◌<◌, ◌≤◌, List, [], ◌∷◌, ◌++◌, length, take, flat_map, count_by, Option, Some, None, Result, Ok, Err}
-use Rattle.bench_core.specs.declared.refusal.Refusal.{Refusal}
-use Rattle.bench_core.specs.State.{State}
-use Rattle.bench_core.specs.Steps.{Step}
-use Rattle.bench_core.specs.Answer.{Reply, IsReply}
+use Rattle.bench_rules.specs.declared.refusal.Refusal.{Refusal}
+use Rattle.bench_rules.specs.State.{State}
+use Rattle.bench_rules.specs.Steps.{Step}
+use Rattle.bench_rules.specs.Answer.{Reply, IsReply}
 use Rattle.script_run.specs.declared.command.Command.{Command}
 use Rattle.script_run.specs.declared.command.Command.TheVariants.{Apply, Ask}
 use Rattle.script_run.specs.declared.line_fault.LineFault.{LineFault}
 use Rattle.script_run.specs.Words.{script_lines}
 use Rattle.script_run.specs.Commands.{IsParsed}
-use Rattle.script_run.specs.Replies.{Printed, nothing, fault_printed, edit_printed, QueryPrints}
+use Rattle.script_run.specs.Replies.{Printed, nothing, fault_reply, edit_reply, QueryPrints}
 
 -- a command with what it prints: an edit is one step, a query changes nothing
 abbrev pub CommandStep : State → Command → Printed → State → Type 0
 CommandStep old (Apply edit) printed new =
-    (reply : Result (Unit {0}) Refusal) × Step old edit reply new × (printed ≡ edit_printed reply)
+    (reply : Result (Unit {0}) Refusal) × Step old edit reply new × (printed ≡ edit_reply reply)
 CommandStep old (Ask query) printed new =
     (reply : Reply) × IsReply old query reply × QueryPrints reply printed × (new ≡ old)
 
@@ -22,7 +22,7 @@ CommandStep old (Ask query) printed new =
 abbrev pub ReadStep : State → Result (Option Command) LineFault → Printed → State → Type 0
 ReadStep old (Ok None) printed new = (printed ≡ nothing) × (new ≡ old)
 ReadStep old (Ok (Some command)) printed new = CommandStep old command printed new
-ReadStep old (Err fault) printed new = (printed ≡ fault_printed fault) × (new ≡ old)
+ReadStep old (Err fault) printed new = (printed ≡ fault_reply fault) × (new ≡ old)
 
 -- a line with what it prints
 abbrev pub LineStep : State → List ℕ → Printed → State → Type 0

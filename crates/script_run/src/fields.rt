@@ -4,9 +4,9 @@ ghost use Rattle.script_run.specs.Numbers.{place_of_word, place_in};
 ghost use Rattle.script_run.specs.Commands.{field_of, IsFieldRead};
 ghost use Rattle.script_run.specs.declared.line_fault.LineFault.TheVariants.{OutOfMemory as no_memory};
 
-use crate::cuts::split_once;
 use crate::line_fault::LineFault;
 use crate::numbers::natural;
+use crate::split::split_once;
 use bench_core::{Field, Text};
 use field_map::Place;
 use num_order::Kind;
@@ -53,7 +53,8 @@ pub(crate) fn text_of(alloc: Global, characters: &str) -> Result<Text, LineFault
     }
 }
 
-/// The field that a word is: a place where it begins with `@`, else a name. Refused: S03, or E11 for a name.
+/// The field that a word is: a place where it begins with `@`, else a name. Refused: S03, or E11
+/// for a name.
 pub(crate) fn field(alloc: Global, word: &str) -> Result<Field, LineFault>
     ensures { IsFieldRead (field_of word.now) result }
 {

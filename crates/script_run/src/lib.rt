@@ -1,18 +1,20 @@
-//! The script language: lines into commands, a script run over a volume, and what is printed for each line.
+//! The script language: lines into commands, a script run over a volume, and what is printed for
+//! each line.
 //!
-//! A script is lines ended by a line feed; the last may lack it, and one carriage return at a line's end is dropped. Words
-//! are separated by blanks and tabs. A line without words, or whose first word begins with `#`, prints nothing; each
-//! other line prints its answer, one line or a list of lines. Lines count from 1, those that print nothing too; traces count from 1.
+//! A script is lines ended by a line feed; the last may lack it, and one carriage return at a
+//! line's end is dropped. Words are separated by blanks and tabs. A line without words, or whose
+//! first word begins with `#`, prints nothing; each other line prints its answer, one line or a
+//! list of lines. Lines count from 1, those that print nothing too; traces count from 1.
 //!
-//! [`parse_line`] reads one line, and takes memory only where its command holds a text or a list. [`run`] loads a volume,
-//! reads a script whole and runs its lines; it takes memory for both, and tells want of it as L16, P03 or E11. Short
-//! answers take none; a text or a list takes memory, and is answered by E11 where that is refused. `run` answers by [`RunEnd`], which
-//! is the whole report of a run. [`commands_stay`] does nothing: its contract is a law.
+//! [`parse_line`] reads one line, and takes memory only where its command holds a text or a list.
+//! [`run`] loads a volume, reads a script whole and runs its lines; it takes memory for both, and
+//! tells want of it as L16, P03 or E11. Short answers take none; a text or a list takes memory, and
+//! is answered by E11 where that is refused. `run` answers by [`RunEnd`], which is the whole report
+//! of a run. [`commands_stay`] does nothing: its contract is a law.
 #![tactic(auto)]
 
 mod answer_texts;
 mod command;
-mod cuts;
 mod fields;
 mod laws;
 mod line_fault;
@@ -29,11 +31,12 @@ mod run_end;
 mod running;
 mod script;
 mod script_fault;
-mod telling;
+mod split;
 mod text_buffer;
 mod trace_commands;
 mod whole_run;
 mod words;
+mod write_text;
 
 pub use crate::command::Command;
 pub use crate::laws::commands_stay;

@@ -1,6 +1,7 @@
 use thiserror::Error;
 
-/// Why a line is no command. Of several faults the one told is the first in this order: S04, S01, S02, S03.
+/// Why a line is no command. Of several faults the one told is the first in this order: S04, S01,
+/// S02, S03.
 #[derive(Clone, Copy, Debug, PartialEq, Eq, Error)]
 pub enum LineFault {
     /// S01: the first word is no command.
@@ -9,7 +10,8 @@ pub enum LineFault {
     /// S02: too few or too many words.
     #[error("S02 words")]
     Words,
-    /// S03: a word that has to be a number or a place is not one; the words are tried from left to right.
+    /// S03: a word that has to be a number or a place is not one; the words are tried from left to
+    /// right.
     #[error("S03 number")]
     Number,
     /// S04: the line is not UTF-8. A note is told as no text too.

@@ -2,7 +2,7 @@
 ghost use Rattle.std.specs.Prelude.{◌≡◌, ◌∷◌, [], IfSome, IfNone};
 ghost use Rattle.script_run.specs.Words.{without_return};
 
-use crate::cuts::split_once;
+use crate::split::split_once;
 use std::marker::Model;
 
 /// The lines of a script that are still to be read, seen as their list.

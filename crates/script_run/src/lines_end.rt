@@ -5,7 +5,7 @@ pub(crate) enum LinesEnd {
     Whole { refused: u64 },
     /// This line, counted from 1, was refused, and a refusal stops the run.
     Stopped { line: u64 },
-    /// The writer of the answers failed when it had taken the first `written` bytes of what is printed, or `u64::MAX` and
-    /// more.
+    /// The writer of the answers failed when it had taken the first `written` bytes of what is
+    /// printed, or `u64::MAX` and more.
     Answers { written: u64 },
 }

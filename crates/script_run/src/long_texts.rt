@@ -1,9 +1,9 @@
 // The lines that are printed for answers that are texts or lists, which take memory.
 ghost use Rattle.std.specs.Prelude.{◌≡◌, ◌≤◌, ◌+◌, ◌++◌, length, map, codes, decimal, IfOk, OnOk, MatchResult};
 ghost use Rattle.text_block.specs.Lines.{without_blanks as without_blanks_of};
-ghost use Rattle.script_run.specs.Texts.{ended, listed, all_ended, place_text};
+ghost use Rattle.script_run.specs.Texts.{with_line_end, list_lines, with_line_ends, place_text};
 ghost use Rattle.script_run.specs.AnswerTexts.{answer_text, stanza_text, field_text};
-ghost use Rattle.bench_core.specs.declared.answer.Answer.TheVariants as answers;
+ghost use Rattle.bench_rules.specs.declared.answer.Answer.TheVariants as answers;
 
 use crate::out_of_memory::OutOfMemory;
 use crate::text_buffer::TextBuffer;
@@ -37,7 +37,8 @@ fn without_blanks(text: &[u8]) -> &[u8]
 // The line that a list begins with: its word and its number of lines.
 fn push_head(text: &mut Vec<u8>, word: &[u8], count: u64) -> Result<(), OutOfMemory>
     requires { length word.now ≤ 100 }
-    ensures { OnOk result (text.new.items ≡ text.old.items ++ ended (word.now ++ codes " " ++ decimal count)) }
+    ensures { OnOk result (text.new.items ≡ text.old.items
+        ++ with_line_end (word.now ++ codes " " ++ decimal count)) }
 {
     let mut line = TextBuffer::new();
     line.push(word);
@@ -62,7 +63,8 @@ pub(crate) fn stanzas_text(alloc: Global, stanzas: &[(u64, Text)]) -> Result<Vec
 
 // The line for a stanza: its block and its name.
 fn push_stanza(text: &mut Vec<u8>, block: u64, name: &Text) -> Result<(), OutOfMemory>
-    ensures { OnOk result (text.new.items ≡ text.old.items ++ ended (stanza_text (block, name.now))) }
+    ensures { OnOk result
+        (text.new.items ≡ text.old.items ++ with_line_end (stanza_text (block, name.now))) }
 {
     let mut head = TextBuffer::new();
     head.push_numbered(b"stanza ", block);
@@ -87,7 +89,8 @@ pub(crate) fn fields_text(alloc: Global, fields: &[(Text, Place)]) -> Result<Vec
 
 // The line for a bound name and its place.
 fn push_field(text: &mut Vec<u8>, name: &Text, place: Place) -> Result<(), OutOfMemory>
-    ensures { OnOk result (text.new.items ≡ text.old.items ++ ended (field_text (name.now, place))) }
+    ensures { OnOk result
+        (text.new.items ≡ text.old.items ++ with_line_end (field_text (name.now, place))) }
 {
     text.extend_from_slice(b"field ")?;
     text.extend_from_slice(name.as_str().as_bytes())?;

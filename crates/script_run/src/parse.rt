@@ -13,12 +13,13 @@ use bench_core::{Edit, Query};
 use std::alloc::Global;
 use std::str;
 
-/// The command of one line of a script, given without its line feed and the carriage return that is dropped;
-/// `Ok(None)` where it has no words, or its first word begins with `#`.
+/// The command of one line of a script, given without its line feed and the carriage return that is
+/// dropped; `Ok(None)` where it has no words, or its first word begins with `#`.
 ///
-/// Words are separated by blanks and tabs. A line that is not UTF-8 is S04, a first word that is no command S01, too few
-/// or too many words S02, and a word that has to be a number or a place and is none S03; the first of these that holds
-/// is told. Takes memory only where the command holds a text, a name or a list of numbers, and is E11 where that was refused.
+/// Words are separated by blanks and tabs. A line that is not UTF-8 is S04, a first word that is no
+/// command S01, too few or too many words S02, and a word that has to be a number or a place and is
+/// none S03; the first of these that holds is told. Takes memory only where the command holds a
+/// text, a name or a list of numbers, and is E11 where that was refused.
 pub fn parse_line(alloc: Global, line: &[u8]) -> Result<Option<Command>, LineFault>
     ensures { IsParsed line.now result }
 {

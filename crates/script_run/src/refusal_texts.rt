@@ -1,6 +1,6 @@
 // The lines that are printed for refusals.
 ghost use Rattle.std.specs.Prelude.{◌≡◌, ◌≤◌, ◌+◌, ◌++◌, length};
-ghost use Rattle.script_run.specs.RefusalTexts.{load_fault_text, load_refused, script_fault_text, script_refused, line_fault_text, refusal_text, ask_fault_text, no_trace, no_sample, text_fault_text, map_fault_text, refused};
+ghost use Rattle.script_run.specs.RefusalTexts.{load_fault_text, load_refusal_line, script_fault_text, script_refusal_line, line_fault_text, refusal_text, ask_fault_text, no_trace, no_sample, text_fault_text, map_fault_text, refused_line};
 
 use crate::line_fault::LineFault;
 use crate::script_fault::ScriptFault;
@@ -12,7 +12,7 @@ use text_block::TextFault;
 
 /// The line for a refused file.
 pub(crate) fn load_fault_line(fault: LoadFault) -> TextBuffer
-    ensures { result ≡ load_refused fault }
+    ensures { result ≡ load_refusal_line fault }
 {
     let mut line = TextBuffer::new();
     line.push(b"load refused ");
@@ -23,7 +23,7 @@ pub(crate) fn load_fault_line(fault: LoadFault) -> TextBuffer
 
 /// The line for a refused script.
 pub(crate) fn script_fault_line(fault: ScriptFault) -> TextBuffer
-    ensures { result ≡ script_refused fault }
+    ensures { result ≡ script_refusal_line fault }
 {
     let mut line = TextBuffer::new();
     line.push(b"script refused ");
@@ -38,7 +38,7 @@ pub(crate) fn script_fault_line(fault: ScriptFault) -> TextBuffer
 
 /// The line for a line that is no command.
 pub(crate) fn line_fault_line(fault: LineFault) -> TextBuffer
-    ensures { result ≡ refused (line_fault_text fault) }
+    ensures { result ≡ refused_line (line_fault_text fault) }
 {
     let mut line = TextBuffer::new();
     line.push(b"refused ");
@@ -55,7 +55,7 @@ pub(crate) fn line_fault_line(fault: LineFault) -> TextBuffer
 
 /// The line for a refused edit.
 pub(crate) fn refusal_line(refusal: Refusal) -> TextBuffer
-    ensures { result ≡ refused (refusal_text refusal) }
+    ensures { result ≡ refused_line (refusal_text refusal) }
 {
     let mut line = TextBuffer::new();
     line.push(b"refused ");
@@ -78,7 +78,7 @@ pub(crate) fn refusal_line(refusal: Refusal) -> TextBuffer
 
 /// The line for a refused query.
 pub(crate) fn ask_fault_line(fault: AskFault) -> TextBuffer
-    ensures { result ≡ refused (ask_fault_text fault) }
+    ensures { result ≡ refused_line (ask_fault_text fault) }
 {
     let mut line = TextBuffer::new();
     line.push(b"refused ");

@@ -1,7 +1,7 @@
 // What is printed for a line of a script.
 ghost use Rattle.std.specs.Prelude.{◌≡◌, false, Ok, IfOk};
 ghost use Rattle.script_run.specs.AnswerTexts.{answer_text};
-ghost use Rattle.script_run.specs.Replies.{nothing, fault_printed, edit_printed, QueryPrints, IsLong};
+ghost use Rattle.script_run.specs.Replies.{nothing, fault_reply, edit_reply, QueryPrints, IsLong};
 
 use crate::answer_texts::answer_line;
 use crate::line_fault::LineFault;
@@ -79,14 +79,14 @@ pub(crate) fn silent(alloc: Global) -> Reply
 
 /// The reply to a line that is no command.
 pub(crate) fn fault_reply(alloc: Global, fault: LineFault) -> Reply
-    ensures { result ≡ fault_printed fault }
+    ensures { result ≡ fault_reply fault }
 {
     short(alloc, line_fault_line(fault), true)
 }
 
 /// The reply to an edit.
 pub(crate) fn edit_reply(alloc: Global, reply: Result<(), Refusal>) -> Reply
-    ensures { result ≡ edit_printed reply }
+    ensures { result ≡ edit_reply reply }
 {
     match reply {
         Ok(()) => {
@@ -98,7 +98,8 @@ pub(crate) fn edit_reply(alloc: Global, reply: Result<(), Refusal>) -> Reply
     }
 }
 
-/// The reply to a query. Takes memory where the answer is a text or a list, and is E11 where that was refused.
+/// The reply to a query. Takes memory where the answer is a text or a list, and is E11 where that
+/// was refused.
 pub(crate) fn query_reply(alloc: Global, reply: Result<Answer, AskFault>) -> Reply
     ensures { QueryPrints reply result }
 {

@@ -1,6 +1,6 @@
 // Runs the lines of a script over a volume.
 ghost use Rattle.std.specs.Prelude.{◌≡◌, ◌≤◌, length, MatchResult};
-ghost use Rattle.script_run.specs.Devices.{device, Takes, TakesPart};
+ghost use Rattle.script_run.specs.Devices.{device_of, Takes, TakesPart};
 ghost use Rattle.script_run.specs.LineRuns.{RunsLines};
 ghost use Rattle.script_run.specs.Replies.{Printed};
 ghost use Rattle.script_run.specs.Runs.{LineStep, CommandStep};
@@ -10,13 +10,14 @@ use crate::lines::Lines;
 use crate::lines_end::LinesEnd;
 use crate::parse::parse_line;
 use crate::reply::{Reply, edit_reply, fault_reply, query_reply, silent};
-use crate::telling::{WriteFault, write_all};
+use crate::write_text::write_text;
 use bench_core::Bench;
-use device_io::Sink;
+use device_io::{Sink, WriteFault};
 use std::alloc::Global;
 use std::io::Write;
 
-/// Runs the lines in order, and writes the reply to each before the next is run: in one write, where the writer takes it.
+/// Runs the lines in order, and writes the reply to each before the next is run: in one write,
+/// where the writer takes it.
 pub(crate) fn run_lines<A: Write>(
     alloc: Global,
     bench: &mut Bench,
@@ -25,8 +26,9 @@ pub(crate) fn run_lines<A: Write>(
     stop: bool,
 ) -> LinesEnd
     requires { length script.now ≤ 16777216 }
-    ensures { RunsLines bench.old.state bench.new.state script.now stop (device (A.contents answers.old.0) answers.old.1)
-        (device (A.contents answers.new.0) answers.new.1) result }
+    ensures { RunsLines bench.old.state bench.new.state script.now stop
+        (device_of A.contents answers.old)
+        (device_of A.contents answers.new) result }
 {
     let mut lines = Lines::new(script);
     let mut number = 0u64;
@@ -68,15 +70,16 @@ fn answer_line<A: Write>(
     line: &[u8],
     answers: &mut Sink<A>,
 ) -> Result<Told, WriteFault>
-    ensures { let old = device (A.contents answers.old.0) answers.old.1 in
-        let new = device (A.contents answers.new.0) answers.new.1 in
+    ensures { let old = device_of A.contents answers.old in
+        let new = device_of A.contents answers.new in
         (printed : Printed) × LineStep bench.old.state line.now printed bench.new.state
-        × MatchResult result (λ told. Takes old new printed.text × (told.length ≡ length printed.text) × (told.is_refusal ≡ printed.is_refusal))
+        × MatchResult result (λ told. Takes old new printed.text ×
+        (told.length ≡ length printed.text) × (told.is_refusal ≡ printed.is_refusal))
         (λ fault. TakesPart old new printed.text fault.written) }
 {
     let reply = run_line(alloc, bench, line);
     let text = reply.text();
-    write_all(answers, text)?;
+    write_text(answers, text)?;
     Ok(Told {
         length: text.len() as u64,
         is_refusal: reply.is_refusal(),

@@ -9,7 +9,7 @@ use crate::line_fault::LineFault;
 use crate::numbers::{number, position};
 use crate::parse::{one, two};
 use crate::words::Words;
-use bench_core::{Edit, Listed};
+use bench_core::{Edit, Items};
 use std::alloc::Global;
 
 pub(crate) fn patch(alloc: Global, mut words: Words) -> Result<Command, LineFault>
@@ -85,8 +85,9 @@ fn fault_without_memory(rest: &str) -> LineFault
     }
 }
 
-// The numbers that the words of the text are. Takes memory. S03 where a word is no number, else E11.
-fn numbers(alloc: Global, text: &str) -> Result<Listed<i128>, LineFault>
+// The numbers that the words of the text are. Takes memory. S03 where a word is no number, else
+// E11.
+fn numbers(alloc: Global, text: &str) -> Result<Items<i128>, LineFault>
     ensures { AreNumbersRead (numbers_of (words_of text.now)) result }
 {
     let mut values = Vec::new(alloc);
@@ -101,5 +102,5 @@ fn numbers(alloc: Global, text: &str) -> Result<Listed<i128>, LineFault>
             None => return Err(LineFault::Number),
         }
     }
-    Ok(Listed::new(values))
+    Ok(Items::new(values))
 }

@@ -1,7 +1,7 @@
 // Runs a script over a volume.
 ghost use Rattle.std.specs.Prelude.{IfOk, IfErr, MatchResult};
 ghost use Rattle.frame_cut.specs.Volume.{bytes_of};
-ghost use Rattle.script_run.specs.Devices.{device, Takes, TakesPart};
+ghost use Rattle.script_run.specs.Devices.{device_of, Takes, TakesPart};
 ghost use Rattle.script_run.specs.Loading.{Loads, IsLoadRefused};
 ghost use Rattle.script_run.specs.Ends.{devices, IsTold, Runs};
 
@@ -11,8 +11,8 @@ use crate::refusal_texts::{load_fault_line, script_fault_line};
 use crate::run_end::RunEnd;
 use crate::running::run_lines;
 use crate::script::read_script;
-use crate::telling::write_all;
 use crate::text_buffer::TextBuffer;
+use crate::write_text::write_text;
 use bench_core::Bench;
 use device_io::{Sink, Source};
 use edit_overlay::SaveFault;
@@ -20,13 +20,14 @@ use frame_cut::LoadFault;
 use std::alloc::Global;
 use std::io::{Read, Write};
 
-/// Runs a script over a volume: loads the volume, reads the script whole, runs its lines in order, and, where
-/// `options.save` asks for it, saves the volume behind the last line.
+/// Runs a script over a volume: loads the volume, reads the script whole, runs its lines in order,
+/// and, where `options.save` asks for it, saves the volume behind the last line.
 ///
-/// The reply to a line is on `answers` before the next line is run. A volume or a script that is refused gives its one
-/// line there, and no line is run. With `options.stop` the first refused line is the last, and nothing is saved. L01,
-/// P01, `Answers` and `Save` come only where that reader or writer failed in this call. Takes memory for the volume and
-/// the script; want of it is told as L16, P03 or, in a line's reply, E11.
+/// The reply to a line is on `answers` before the next line is run. A volume or a script that is
+/// refused gives its one line there, and no line is run. With `options.stop` the first refused line
+/// is the last, and nothing is saved. L01, P01, `Answers` and `Save` come only where that reader or
+/// writer failed in this call. Takes memory for the volume and the script; want of it is told as
+/// L16, P03 or, in a line's reply, E11.
 pub fn run<R: Read, S: Read, A: Write, O: Write>(
     alloc: Global,
     reader: &mut Source<R>,
@@ -36,10 +37,12 @@ pub fn run<R: Read, S: Read, A: Write, O: Write>(
     options: Options,
 ) -> RunEnd
     ensures { Runs options
-        (devices (device (R.remaining reader.old.0) reader.old.1) (device (S.remaining script.old.0) script.old.1)
-        (device (A.contents answers.old.0) answers.old.1) (device (O.contents out.old.0) out.old.1))
-        (devices (device (R.remaining reader.new.0) reader.new.1) (device (S.remaining script.new.0) script.new.1)
-        (device (A.contents answers.new.0) answers.new.1) (device (O.contents out.new.0) out.new.1))
+        (devices (device_of R.remaining reader.old)
+        (device_of S.remaining script.old)
+        (device_of A.contents answers.old) (device_of O.contents out.old))
+        (devices (device_of R.remaining reader.new)
+        (device_of S.remaining script.new)
+        (device_of A.contents answers.new) (device_of O.contents out.new))
         result }
 {
     let mut bench = match load(alloc, reader, options) {
@@ -66,17 +69,19 @@ fn load<R: Read>(
     reader: &mut Source<R>,
     options: Options,
 ) -> Result<Bench, LoadFault>
-    ensures ok { IfOk result (λ bench. Loads (device (R.remaining reader.old.0) reader.old.1)
-        (device (R.remaining reader.new.0) reader.new.1) options.reading options.limits bench.state) }
-    ensures err { IfErr result (λ fault. IsLoadRefused (device (R.remaining reader.old.0) reader.old.1)
-        (device (R.remaining reader.new.0) reader.new.1) options.reading options.limits fault) }
+    ensures ok { IfOk result (λ bench. Loads (device_of R.remaining reader.old)
+        (device_of R.remaining reader.new) options.reading options.limits
+        bench.state) }
+    ensures err { IfErr result
+        (λ fault. IsLoadRefused (device_of R.remaining reader.old)
+        (device_of R.remaining reader.new) options.reading options.limits fault) }
 {
     Bench::load(alloc, reader, options.reading, options.limits)
 }
 
 fn save<O: Write>(bench: &Bench, out: &mut Sink<O>) -> Result<(), SaveFault>
-    ensures { let old = device (O.contents out.old.0) out.old.1 in
-        let new = device (O.contents out.new.0) out.new.1 in
+    ensures { let old = device_of O.contents out.old in
+        let new = device_of O.contents out.new in
         MatchResult result (λ _. Takes old new (bytes_of bench.now.state.volume))
         (λ fault. TakesPart old new (bytes_of bench.now.state.volume) fault.written) }
 {
@@ -85,10 +90,10 @@ fn save<O: Write>(bench: &Bench, out: &mut Sink<O>) -> Result<(), SaveFault>
 
 // Writes the line of a refusal that ends the run.
 fn tell<A: Write>(answers: &mut Sink<A>, line: &TextBuffer, end: RunEnd) -> RunEnd
-    ensures { IsTold (device (A.contents answers.old.0) answers.old.1)
-        (device (A.contents answers.new.0) answers.new.1) line.now end result }
+    ensures { IsTold (device_of A.contents answers.old)
+        (device_of A.contents answers.new) line.now end result }
 {
-    match write_all(answers, line.as_slice()) {
+    match write_text(answers, line.as_slice()) {
         Ok(()) => end,
         Err(part) => RunEnd::Answers {
             written: part.written,

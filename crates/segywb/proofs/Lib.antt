@@ -1,2 +1,2 @@
-pub mod LimitText
-pub mod Rows
+pub mod LimitTextLemmas
+pub mod RowLemmas

@@ -5,31 +5,42 @@ use Rattle.std.specs.Str.Parse.{digits_value, without_leading_plus}
 use Rattle.std.specs.String.{string_bytes}
 use Rattle.std.specs.Prelude.{refl}
 use Rattle.clap.proofs.OnLiterals.{clap_on_literals}
+use Rattle.clap.specs.Simple.{on_top}
 use Rattle.clap.specs.Words.{is_simple, App, Row, Rule, first_of, one_of, matches_of, new_app, new_rule, with_rule}
 use Rattle.clap.specs.declared.builder.ArgAction.TheVariants.{Set, SetTrue}
 use Rattle.clap.specs.declared.builder.value_parser.ValueParser.TheVariants as vp
 
+-- the argument `FILE`
 abbrev pub file_rule : Rule
 file_rule = record (new_rule (codes "FILE")) { required = true }
 
+-- the argument `--script S`
 abbrev pub script_rule : Rule
-script_rule = record (new_rule (codes "script")) { long = Some (codes "script"); required = true }
+script_rule = record (new_rule (codes "script")) { long = Some (codes "script"); required = true; value_names = 1 }
 
+-- the argument `--out O`
 abbrev pub out_rule : Rule
-out_rule = record (new_rule (codes "out")) { long = Some (codes "out") }
+out_rule = record (new_rule (codes "out")) { long = Some (codes "out"); value_names = 1 }
 
+-- the flag `--fixed`
 abbrev pub fixed_rule : Rule
 fixed_rule = record (new_rule (codes "fixed")) { long = Some (codes "fixed"); action = Some SetTrue }
 
+-- the argument `--max-bytes N`, N from 1 to 2^40
 abbrev pub limit_rule : Rule
-limit_rule = record (new_rule (codes "max-bytes")) { long = Some (codes "max-bytes"); parser = Some (vp.Unsigned 1 1099511627776) }
+limit_rule = record (new_rule (codes "max-bytes")) { long = Some (codes "max-bytes"); parser = Some (vp.Unsigned 1 1099511627776); value_names = 1 }
 
+-- the flag `--stop`
 abbrev pub stop_rule : Rule
 stop_rule = record (new_rule (codes "stop")) { long = Some (codes "stop"); action = Some SetTrue }
 
+-- the program's name with a version, for which there is the flag `--version`
+abbrev pub titled : App
+titled = on_top (λ s. record s { has_version = true }) (new_app (codes "segywb"))
+
 -- `segywb FILE --script S [--out O] [--fixed] [--max-bytes N] [--stop]`
 unfoldable pub segywb : App
-segywb = with_rule (with_rule (with_rule (with_rule (with_rule (with_rule (new_app (codes "segywb")) file_rule) script_rule) out_rule) fixed_rule) limit_rule) stop_rule
+segywb = with_rule (with_rule (with_rule (with_rule (with_rule (with_rule titled file_rule) script_rule) out_rule) fixed_rule) limit_rule) stop_rule
 
 -- what clap matches for the words
 abbrev pub matched : List (List ℕ) → List Row

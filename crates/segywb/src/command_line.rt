@@ -2,7 +2,7 @@
 ghost use Rattle.std.specs.Prelude.{◌≡◌, ◌≤◌, ℕ, List, Some, None, IfOk, IfSome, IfErr, codes, map, option_map, OnOk, true, false};
 ghost use Rattle.std.specs.String.{string_bytes};
 ghost use Rattle.clap.specs.Words.{app_of, first_of, one_of, is_simple, found_of, rows_of, first_value, one_text};
-ghost use Rattle.segywb.specs.CommandLine.{segywb, matched, ReadsFlag, ReadsLimit};
+ghost use Rattle.segywb.specs.CommandLine.{segywb, titled, matched, ReadsFlag, ReadsLimit};
 
 use clap::error::ErrorKind;
 use clap::{ArgMatches, Command, Error};
@@ -13,12 +13,37 @@ mod read;
 
 pub use crate::command_line::read::Arguments;
 
-const MAX_BYTES: u64 = 1099511627776;
+const GREATEST_LIMIT: u64 = 1099511627776;
+
+const ABOUT: &str =
+    "Repairs SEG-Y files: runs a script of edits and queries over FILE, prints one answer for \
+     each\nline on standard output, and saves the edited file where --out says.";
+
+const AFTER: &str = "Exit status:\n\
+     \x20 0  no line was refused\n\
+     \x20 1  some line was refused\n\
+     \x20 2  the command line is not accepted, or --help or --version was asked for\n\
+     \x20 3  FILE cannot be opened, or is refused\n\
+     \x20 4  SCRIPT cannot be opened or read, or the answers or the save failed\n\n\
+     Examples:\n\
+     \x20 segywb line.sgy --script fix.txt --out fixed.sgy\n\
+     \x20 echo info | segywb line.sgy --script /dev/stdin\n\n\
+     The script language: man 5 segywb-script, or docs/MANUAL.md.";
+
+// The program's name, with its version and what `--help` says above and below the arguments.
+fn titled_command<'a>(alloc: Global) -> Command<'a>
+    ensures { app_of result ≡ titled }
+{
+    Command::new(alloc, "segywb")
+        .version("0.1.0")
+        .about(ABOUT)
+        .after_help(AFTER)
+}
 
 fn command<'a>(alloc: Global) -> Result<Command<'a>, AllocError>
     ensures { IfOk result (λ c. app_of c ≡ segywb) }
 {
-    let command = Command::new(alloc, "segywb")
+    let command = titled_command(alloc)
         .arg(args::file(alloc))?
         .arg(args::script(alloc))?
         .arg(args::out(alloc))?
@@ -28,27 +53,35 @@ fn command<'a>(alloc: Global) -> Result<Command<'a>, AllocError>
     Ok(command)
 }
 
-// The limit on the file's bytes; `None` where it is no number from 1 to 2^40, which the matches of `command` rule out.
+// The limit on the file's bytes; `None` where it is no number from 1 to 2^40, which the matches of
+// `command` rule out.
 fn max_bytes(matches: &ArgMatches) -> Option<Option<u64>>
-    ensures text { IfSome result (λ limit. ReadsLimit (one_text (found_of matches.now) (codes "max-bytes")) limit) }
+    ensures text { IfSome result
+        (λ limit. ReadsLimit (one_text (found_of matches.now) (codes "max-bytes")) limit) }
     ensures range { IfSome result (λ limit. IfSome limit (λ n. (1 ≤ n) × (n ≤ 1099511627776))) }
 {
     match matches.try_get_one::<u64>("max-bytes") {
         Ok(None) => Some(None),
-        Ok(Some(n)) if 1 <= n && n <= MAX_BYTES => Some(Some(n)),
+        Ok(Some(n)) if 1 <= n && n <= GREATEST_LIMIT => Some(Some(n)),
         _ => None,
     }
 }
 
 // `None` never comes where the matches are those of `command`.
 fn read_matches<'a>(matches: &ArgMatches<'a>) -> Option<Arguments<'a>>
-    ensures file { IfSome result (λ a. first_value (found_of matches.now) (codes "FILE") ≡ Some a.file.now) }
-    ensures script { IfSome result (λ a. first_value (found_of matches.now) (codes "script") ≡ Some a.script.now) }
-    ensures out { IfSome result (λ a. first_value (found_of matches.now) (codes "out") ≡ option_map (λ s. s.now) a.out) }
-    ensures limit { IfSome result (λ a. ReadsLimit (one_text (found_of matches.now) (codes "max-bytes")) a.max_bytes) }
+    ensures file { IfSome result (λ a. first_value (found_of matches.now) (codes "FILE") ≡ Some
+        a.file.now) }
+    ensures script { IfSome result (λ a. first_value (found_of matches.now) (codes "script") ≡ Some
+        a.script.now) }
+    ensures out { IfSome result (λ a. first_value (found_of matches.now) (codes "out") ≡ option_map
+        (λ s. s.now) a.out) }
+    ensures limit { IfSome result
+        (λ a. ReadsLimit (one_text (found_of matches.now) (codes "max-bytes")) a.max_bytes) }
     ensures range { IfSome result (λ a. IfSome a.max_bytes (λ n. (1 ≤ n) × (n ≤ 1099511627776))) }
-    ensures fixed { IfSome result (λ a. ReadsFlag (one_text (found_of matches.now) (codes "fixed")) a.fixed) }
-    ensures stop { IfSome result (λ a. ReadsFlag (one_text (found_of matches.now) (codes "stop")) a.stop) }
+    ensures fixed { IfSome result (λ a. ReadsFlag (one_text (found_of matches.now) (codes "fixed"))
+        a.fixed) }
+    ensures stop { IfSome result (λ a. ReadsFlag (one_text (found_of matches.now) (codes "stop"))
+        a.stop) }
 {
     let file = matches.get_str("FILE")?;
     let script = matches.get_str("script")?;
@@ -66,17 +99,25 @@ fn read_matches<'a>(matches: &ArgMatches<'a>) -> Option<Arguments<'a>>
     })
 }
 
-/// What the words of a command line say, the program's name first: `FILE --script S [--out O] [--fixed] [--max-bytes N]
-/// [--stop]`, N from 1 to 1099511627776. Refused with clap's text where they are not accepted, `--help` too, or where a
-/// growth was refused. Takes memory.
+/// What the words of a command line say, the program's name first: `FILE --script S [--out O]
+/// [--fixed] [--max-bytes N] [--stop]`, N from 1 to 1099511627776. Refused with clap's text where
+/// they are not accepted, `--help` too, or where a growth was refused. Takes memory.
 pub fn arguments<'a>(alloc: Global, words: &'a [String]) -> Result<Arguments<'a>, Error>
-    ensures file { IfOk result (λ a. first_of (codes "FILE") (matched (map string_bytes words.now)) ≡ Some a.file.now) }
-    ensures script { IfOk result (λ a. first_of (codes "script") (matched (map string_bytes words.now)) ≡ Some a.script.now) }
-    ensures out { IfOk result (λ a. first_of (codes "out") (matched (map string_bytes words.now)) ≡ option_map (λ s. s.now) a.out) }
-    ensures limit { IfOk result (λ a. ReadsLimit (one_of (codes "max-bytes") (matched (map string_bytes words.now))) a.max_bytes) }
+    ensures file { IfOk result (λ a. first_of (codes "FILE") (matched (map string_bytes words.now))
+        ≡ Some a.file.now) }
+    ensures script { IfOk result
+        (λ a. first_of (codes "script") (matched (map string_bytes words.now)) ≡ Some
+        a.script.now) }
+    ensures out { IfOk result (λ a. first_of (codes "out") (matched (map string_bytes words.now))
+        ≡ option_map (λ s. s.now) a.out) }
+    ensures limit { IfOk result
+        (λ a. ReadsLimit (one_of (codes "max-bytes") (matched (map string_bytes words.now)))
+        a.max_bytes) }
     ensures range { IfOk result (λ a. IfSome a.max_bytes (λ n. (1 ≤ n) × (n ≤ 1099511627776))) }
-    ensures fixed { IfOk result (λ a. ReadsFlag (one_of (codes "fixed") (matched (map string_bytes words.now))) a.fixed) }
-    ensures stop { IfOk result (λ a. ReadsFlag (one_of (codes "stop") (matched (map string_bytes words.now))) a.stop) }
+    ensures fixed { IfOk result
+        (λ a. ReadsFlag (one_of (codes "fixed") (matched (map string_bytes words.now))) a.fixed) }
+    ensures stop { IfOk result
+        (λ a. ReadsFlag (one_of (codes "stop") (matched (map string_bytes words.now))) a.stop) }
 {
     let mut command = command(alloc)?;
     let matches = command.try_get_matches_from_mut(words)?;

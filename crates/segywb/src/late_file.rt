@@ -4,8 +4,8 @@ use std::fs;
 use std::io::{Result, Write};
 use std::rt::Files;
 
-/// A writer that makes its file at the first write: a run that saves nothing leaves the path alone, and the path may be
-/// that of the file which was loaded.
+/// A writer that makes its file at the first write: a run that saves nothing leaves the path alone,
+/// and the path may be that of the file which was loaded.
 #[derive(Drop)]
 pub struct LateFile<'a, R: Files> {
     rt: &'a R,

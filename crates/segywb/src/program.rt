@@ -11,9 +11,10 @@ use std::rt::{Env, Files};
 use std::{env, fs, io};
 
 // The most bytes of a file, where the command line names no other number.
-const MAX_BYTES: u64 = 4294967296;
+const DEFAULT_LIMIT: u64 = 4294967296;
 
-// Short pieces of the save are written together, so many bytes at once; a piece of as many or more goes by itself.
+// Short pieces of the save are written together, so many bytes at once; a piece of as many or more
+// goes by itself.
 const ROOM: usize = 65536;
 
 // Reads the command line and runs the script.
@@ -79,7 +80,7 @@ fn options(arguments: &Arguments) -> Options
     } else {
         Reading::AsWritten
     };
-    let limits = match Limits::new(arguments.max_bytes.unwrap_or(MAX_BYTES), u32::MAX) {
+    let limits = match Limits::new(arguments.max_bytes.unwrap_or(DEFAULT_LIMIT), u32::MAX) {
         Some(limits) => limits,
         None => unreachable!(),
     };
@@ -91,7 +92,8 @@ fn options(arguments: &Arguments) -> Options
     }
 }
 
-// The exit status of a run, with what is said on standard error, once the bytes that wait for the file are written too.
+// The exit status of a run, with what is said on standard error, once the bytes that wait for the
+// file are written too.
 fn finish<R: Files + Eprint>(rt: &R, end: RunEnd, mut out: BufWriter<LateFile<'_, R>>) -> u8 {
     match end {
         RunEnd::Done { refused } => match out.flush() {

@@ -1,5 +1,5 @@
-pub mod CharacterTables
-pub mod Encoded
-pub mod EndStanza
+pub mod CharacterTableLemmas
+pub mod EncodedLemmas
+pub mod EndStanzaLemmas
 pub mod LineLemmas
 pub mod StanzaLemmas

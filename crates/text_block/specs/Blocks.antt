@@ -4,7 +4,7 @@ use Rattle.std.specs.List.{starts_with}
 use Rattle.std.specs.Str.{str_to_ascii_lowercase}
 use Rattle.text_block.specs.declared.code.Code.{Code}
 use Rattle.text_block.specs.declared.code.Code.TheVariants.{Ebcdic, Ascii}
-use Rattle.text_block.specs.Characters.{blank, carriage_return, line_feed, shown}
+use Rattle.text_block.specs.Characters.{blank, carriage_return, line_feed, shown_bytes}
 
 -- how many of the bytes are this one
 abbrev pub number_of : ℕ → List ℕ → ℕ
@@ -27,8 +27,8 @@ abbrev pub is_space : Code → ℕ → Bool
 is_space code byte = byte == blank code || byte == carriage_return code || byte == line_feed code
 
 -- bytes as text without blanks, carriage returns and line feeds, in small letters
-abbrev pub squeezed : Code → List ℕ → List ℕ
-squeezed code bytes = str_to_ascii_lowercase (shown code (filter (λ b. not (is_space code b)) bytes))
+abbrev pub compact_text : Code → List ℕ → List ℕ
+compact_text code bytes = str_to_ascii_lowercase (shown_bytes code (filter (λ b. not (is_space code b)) bytes))
 
 -- the stanza that ends the extended textual headers, in small letters
 abbrev pub end_stanza : List ℕ
@@ -36,4 +36,4 @@ end_stanza = codes "((seg:endtext))"
 
 -- the block holds the stanza `((SEG: EndText))`, with blanks and capital letters as they may stand
 abbrev pub ends_text : List ℕ → Bool
-ends_text block = has_part end_stanza (squeezed (code_of block) block)
+ends_text block = has_part end_stanza (compact_text (code_of block) block)

@@ -60,18 +60,18 @@ line_feed Ebcdic = 0x25
 line_feed Ascii = 0x0A
 
 -- a byte as a backslash and two hexadecimal digits
-abbrev pub escaped : ℕ → List ℕ
-escaped byte = codes "\\" ++ digit_char (byte / 16) ∷ digit_char (byte % 16) ∷ []
+abbrev pub escape_of : ℕ → List ℕ
+escape_of byte = codes "\\" ++ digit_char (byte / 16) ∷ digit_char (byte % 16) ∷ []
 
 -- the character of the byte, or else the byte escaped
 abbrev pub shown_as : Option ℕ → ℕ → List ℕ
 shown_as (Some character) byte = character ∷ []
-shown_as None byte = escaped byte
+shown_as None byte = escape_of byte
 
 -- a byte as it is shown
 abbrev pub shown_byte : Code → ℕ → List ℕ
 shown_byte code byte = shown_as (character_of code byte) byte
 
 -- bytes as they are shown
-abbrev pub shown : Code → List ℕ → List ℕ
-shown code bytes = flat_map (shown_byte code) bytes
+abbrev pub shown_bytes : Code → List ℕ → List ℕ
+shown_bytes code bytes = flat_map (shown_byte code) bytes

@@ -3,7 +3,7 @@ use Rattle.std.specs.Prelude.{◌≡◌, true, [], ◌∷◌, ◌++◌, length, 
 use Rattle.std.specs.List.{list_all}
 use Rattle.text_block.specs.declared.code.Code.TheVariants.{Ebcdic, Ascii}
 use Rattle.text_block.specs.declared.text_fault.TextFault.TheVariants.{TooLong, NoCode}
-use Rattle.text_block.specs.Characters.{byte_of, shown, ebcdic, ascii}
+use Rattle.text_block.specs.Characters.{byte_of, shown_bytes, ebcdic, ascii}
 use Rattle.text_block.specs.Blocks.{code_of, ends_text}
 use Rattle.text_block.specs.Lines.{shown_line, text_fault, encoded_line}
 use Rattle.text_block.specs.Stanzas.{stanzas_in}
@@ -20,7 +20,7 @@ pub ebcdic-in-ascii : list_all (λ e. is_some (byte_of Ascii e.1)) ebcdic ≡ tr
 ebcdic-in-ascii = refl
 
 -- a carriage return, an ASCII backslash, the byte e0
-pub shown-ascii : shown Ascii (0x41 ∷ 0x0D ∷ 0x5C ∷ 0xE0 ∷ 0x7E ∷ []) ≡ codes "A\\0d\\5c\\e0~"
+pub shown-ascii : shown_bytes Ascii (0x41 ∷ 0x0D ∷ 0x5C ∷ 0xE0 ∷ 0x7E ∷ []) ≡ codes "A\\0d\\5c\\e0~"
 shown-ascii = refl
 
 -- as many of the one blank as of the other: EBCDIC where an EBCDIC `C` stands first

@@ -5,7 +5,7 @@ use Rattle.std.specs.Str.{byte}
 use Rattle.text_block.specs.declared.code.Code.{Code}
 use Rattle.text_block.specs.declared.text_fault.TextFault.{TextFault}
 use Rattle.text_block.specs.declared.text_fault.TextFault.TheVariants.{TooLong, NoCode}
-use Rattle.text_block.specs.Characters.{blank, byte_of, shown}
+use Rattle.text_block.specs.Characters.{blank, byte_of, shown_bytes}
 use Rattle.text_block.specs.Blocks.{code_of}
 
 -- the 80 bytes of line q, from 1 to 40
@@ -14,7 +14,7 @@ line_bytes block q = take 80 (drop (80 * (q - 1)) block)
 
 -- line q as it is shown
 abbrev pub shown_line : List ℕ → ℕ → List ℕ
-shown_line block q = shown (code_of block) (line_bytes block q)
+shown_line block q = shown_bytes (code_of block) (line_bytes block q)
 
 -- the column of the first character without a byte in the code, counted from 1
 abbrev pub column_without_byte : Code → List ℕ → Option ℕ
@@ -37,5 +37,5 @@ without_blanks text = take (length text - suffix_len (λ c. c == byte " ") text)
 -- what is encoded is shown as it was, but for the blanks at its end
 abbrev pub ShowsEncoded : Type 0
 ShowsEncoded = (code : Code) (characters : List ℕ) → text_fault code characters ≡ None →
-    (shown code (encoded_line code characters) ≡ characters ++ replicate (80 - length characters) (byte " "))
-    × (without_blanks (shown code (encoded_line code characters)) ≡ without_blanks characters)
+    (shown_bytes code (encoded_line code characters) ≡ characters ++ replicate (80 - length characters) (byte " "))
+    × (without_blanks (shown_bytes code (encoded_line code characters)) ≡ without_blanks characters)

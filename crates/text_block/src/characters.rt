@@ -5,7 +5,8 @@ ghost use Rattle.text_block.specs.Tables.{in_table, ascii_or_zero};
 
 use crate::code::Code;
 
-// EBCDIC by code page 037: the character of each byte, in rows of 16, and 0 where this crate gives the byte none.
+// EBCDIC by code page 037: the character of each byte, in rows of 16, and 0 where this crate gives
+// the byte none.
 const EBCDIC: [u8; 256] = [
     0, 0, 0, 0, 0, 0, 0, 0, 0, 0, 0, 0, 0, 0, 0, 0, // 0x00
     0, 0, 0, 0, 0, 0, 0, 0, 0, 0, 0, 0, 0, 0, 0, 0, // 0x10
@@ -41,7 +42,7 @@ fn entry(value: u8) -> Option<u8>
 }
 
 // The character of a byte, or 0 where it has none.
-#[tactic(auto, using(crate::proofs::CharacterTables::byte_tables))]
+#[tactic(auto, using(crate::proofs::CharacterTableLemmas::byte_tables))]
 fn character_or_zero(code: Code, byte: u8) -> u8
     ensures character { in_table result ≡ character_of code byte }
     ensures ascii { result < 128 }
@@ -52,7 +53,8 @@ fn character_or_zero(code: Code, byte: u8) -> u8
     }
 }
 
-// The bytes from blank to tilde but for the backslash are their own characters, and the others have none.
+// The bytes from blank to tilde but for the backslash are their own characters, and the others have
+// none.
 fn ascii(byte: u8) -> u8
     ensures { result ≡ ascii_or_zero byte }
 {
@@ -64,7 +66,7 @@ fn ascii(byte: u8) -> u8
 }
 
 // The byte of a character, where it has one.
-#[tactic(auto, using(crate::proofs::CharacterTables::character_tables))]
+#[tactic(auto, using(crate::proofs::CharacterTableLemmas::character_tables))]
 pub(crate) fn byte_of(code: Code, character: char) -> Option<u8>
     ensures { result ≡ byte_of_character code character }
 {

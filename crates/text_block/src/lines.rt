@@ -1,9 +1,9 @@
 // The lines of a block, and a text as a line.
 ghost use Rattle.std.specs.Prelude.{◌≡◌, ◌≤◌, length, nat_lt, chars, OnOk, IfOk, IfErr, string_bytes};
-ghost use Rattle.text_block.specs.Characters.{blank as blank_of, GoesBothWays};
-ghost use Rattle.text_block.specs.Lines.{shown_line, text_fault, encoded_line, column_without_byte, ShowsEncoded};
+ghost use Rattle.text_block.specs.Characters.{blank as blank_of};
+ghost use Rattle.text_block.specs.Lines.{shown_line, text_fault, encoded_line, column_without_byte};
 
-use crate::block::code_of;
+use crate::block::{TEXT_BLOCK_BYTES, code_of};
 use crate::characters::byte_of;
 use crate::code::Code;
 use crate::out_of_memory::OutOfMemory;
@@ -11,9 +11,10 @@ use crate::shown::shown;
 use crate::text_fault::TextFault;
 use std::alloc::Global;
 
-/// Line `q` of the block, from 1 to 40, as it is shown: its 80 bytes as characters of the block's code. Any other byte, a
-/// carriage return, a line feed and an ASCII backslash are shown as a backslash and two hexadecimal digits. Takes memory.
-pub fn line(alloc: Global, block: &[u8; 3200], q: u32) -> Result<String, OutOfMemory>
+/// Line `q` of the block, from 1 to 40, as it is shown: its 80 bytes as characters of the block's
+/// code. Any other byte, a carriage return, a line feed and an ASCII backslash are shown as a
+/// backslash and two hexadecimal digits. Takes memory.
+pub fn line(alloc: Global, block: &[u8; TEXT_BLOCK_BYTES], q: u32) -> Result<String, OutOfMemory>
     requires first { 1 ≤ q }
     requires last { q ≤ 40 }
     ensures { IfOk result (λ text. string_bytes text ≡ shown_line block.now q) }
@@ -22,8 +23,9 @@ pub fn line(alloc: Global, block: &[u8; 3200], q: u32) -> Result<String, OutOfMe
     shown(alloc, code_of(block), &block[start..start + 80])
 }
 
-/// The text as the 80 bytes of a line, with blanks behind it. T01 comes first: more than 80 characters. T02: a character
-/// that has no byte in the code, the first one, its column counted in characters from 1. Takes no memory.
+/// The text as the 80 bytes of a line, with blanks behind it. T01 comes first: more than 80
+/// characters. T02: a character that has no byte in the code, the first one, its column counted in
+/// characters from 1. Takes no memory.
 pub fn encode_line(code: Code, text: &str) -> Result<[u8; 80], TextFault>
     ensures ok { OnOk result (text_fault code (chars text.now) ≡ None) }
     ensures line { IfOk result (λ line. line ≡ encoded_line code (chars text.now)) }
@@ -57,7 +59,8 @@ fn encode(code: Code, text: &str) -> Result<[u8; 80], u8>
     requires { length (chars text.now) ≤ 80 }
     ensures ok { OnOk result (column_without_byte code (chars text.now) ≡ None) }
     ensures line { IfOk result (λ line. line ≡ encoded_line code (chars text.now)) }
-    ensures column { IfErr result (λ column. column_without_byte code (chars text.now) ≡ Some column) }
+    ensures column { IfErr result (λ column. column_without_byte code (chars text.now) ≡ Some
+        column) }
 {
     let mut line = [blank(code); 80];
     let mut count = 0;
@@ -80,11 +83,3 @@ fn blank(code: Code) -> u8
         Code::Ascii => 0x20,
     }
 }
-
-/// What is encoded is shown again, in both codes: a text as its characters, and then blanks up to 80, so that without the
-/// blanks at its end it is the text without the blanks at its end. Each byte with a character is that character's byte,
-/// and no other is. Takes no memory.
-pub fn shows_encoded()
-    ensures text { ShowsEncoded }
-    ensures characters { GoesBothWays }
-{}

@@ -3,15 +3,15 @@ ghost use Rattle.std.specs.Prelude.{◌≡◌, ◌≤◌, ◌+◌, not, length, 
 ghost use Rattle.std.specs.List.{prefix_len};
 ghost use Rattle.text_block.specs.Stanzas.{is_parenthesis as is_parenthesis_character, stanza_at, stanzas_in as names_in, stanzas as names_of};
 
-use crate::block::code_of;
+use crate::block::{TEXT_BLOCK_BYTES, code_of};
 use crate::out_of_memory::OutOfMemory;
 use crate::shown::shown;
 use std::alloc::Global;
 
-/// The names of the block's stanzas from left to right, in the text that the block shows: `((`, one or more characters that
-/// are no parentheses, and `))`. The search goes on behind a stanza that was found, else one character further. Takes
-/// memory.
-pub fn stanzas(alloc: Global, block: &[u8; 3200]) -> Result<Vec<String>, OutOfMemory>
+/// The names of the block's stanzas from left to right, in the text that the block shows: `((`, one
+/// or more characters that are no parentheses, and `))`. The search goes on behind a stanza that
+/// was found, else one character further. Takes memory.
+pub fn stanzas(alloc: Global, block: &[u8; TEXT_BLOCK_BYTES]) -> Result<Vec<String>, OutOfMemory>
     ensures { IfOk result (λ names. map string_bytes names.items ≡ names_of block.now) }
 {
     let text = shown(alloc, code_of(block), block)?;

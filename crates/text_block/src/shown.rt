@@ -1,16 +1,18 @@
 // Bytes as they are shown.
 ghost use Rattle.std.specs.Prelude.{◌≡◌, ◌≤◌, ◌<◌, ◌++◌, length, OnOk, IfOk, IsAscii, string_bytes};
 ghost use Rattle.std.specs.Char.{digit_char};
-ghost use Rattle.text_block.specs.Characters.{shown as shown_bytes, shown_byte};
+ghost use Rattle.text_block.specs.Characters.{shown_bytes, shown_byte};
 
+use crate::block::TEXT_BLOCK_BYTES;
 use crate::characters::character;
 use crate::code::Code;
 use crate::out_of_memory::OutOfMemory;
 use std::alloc::Global;
 
-// The bytes as they are shown: each as its character, or else as a backslash and two hexadecimal digits.
+// The bytes as they are shown: each as its character, or else as a backslash and two hexadecimal
+// digits.
 pub(crate) fn shown(alloc: Global, code: Code, bytes: &[u8]) -> Result<String, OutOfMemory>
-    requires { length bytes.now ≤ 3200 }
+    requires { length bytes.now ≤ TEXT_BLOCK_BYTES }
     ensures text { IfOk result (λ text. string_bytes text ≡ shown_bytes code bytes.now) }
     ensures ascii { IfOk result (λ text. IsAscii (string_bytes text)) }
 {
@@ -23,7 +25,8 @@ pub(crate) fn shown(alloc: Global, code: Code, bytes: &[u8]) -> Result<String, O
 
 // One byte more.
 fn push_shown(text: &mut String, code: Code, byte: u8) -> Result<(), OutOfMemory>
-    ensures text { OnOk result (string_bytes text.new ≡ string_bytes text.old ++ shown_byte code byte) }
+    ensures text { OnOk result (string_bytes text.new ≡ string_bytes text.old ++ shown_byte code
+        byte) }
     ensures ascii { OnOk result (IsAscii (shown_byte code byte)) }
 {
     match character(code, byte) {

@@ -79,7 +79,8 @@ fn refuses_what_is_no_line(rt: HostRuntime) {
     assert!(rt; encode_line(Code::Ebcdic, long).is_ok());
     for (text, fault) in [
         (
-            "\u{e9}23456789 123456789 123456789 123456789 123456789 123456789 123456789 123456789 1",
+            "\u{e9}23456789 123456789 123456789 123456789 123456789 \
+             123456789 123456789 123456789 1",
             TextFault::TooLong,
         ),
         ("[", TextFault::NoCode(1)),

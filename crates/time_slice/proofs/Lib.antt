@@ -1,2 +1,4 @@
 pub mod SliceLemmas
+pub mod OrderLemmas
+pub mod PassLemmas
 pub mod CacheLemmas

@@ -2,7 +2,7 @@
 use Rattle.std.specs.Prelude.{unwrap_or, ◌≡◌, ℕ, ◌+◌, ◌==◌, ◌&&◌, nat_le, nat_lt, Bool, not, List, ◌∷◌, All, map, take, filter, Option}
 use Rattle.std.specs.Map.{lookup}
 use Rattle.field_map.specs.Pairs.{Pairs}
-use Rattle.frame_cut.specs.declared.head.Head.{Head}
+use Rattle.frame_cut.specs.declared.file_head.Head.{Head}
 use Rattle.time_slice.specs.declared.row.Row.{Row}
 use Rattle.time_slice.specs.Slices.{slice_of}
 
@@ -20,16 +20,16 @@ kept_rows k cache = lookup (λ j. j == k) cache
 
 -- what is kept after slice k was asked for and answered with these rows, where there is room for so many: it comes first, and the last goes
 -- where there would be one too many. A kept slice is answered with the rows that are kept
-abbrev pub asked : ℕ → ℕ → List Row → Cache → Cache
-asked room k rows cache = take room ((k, unwrap_or (kept_rows k cache) rows) ∷ filter (λ e. not (e.0 == k)) cache)
+abbrev pub cache_after_slice : ℕ → ℕ → List Row → Cache → Cache
+cache_after_slice room k rows cache = take room ((k, unwrap_or (kept_rows k cache) rows) ∷ filter (λ e. not (e.0 == k)) cache)
 
 -- the number is that of one of so many samples from k on
 abbrev pub is_from : ℕ → ℕ → ℕ → Bool
 is_from k many j = nat_le k j && nat_lt j (k + many)
 
 -- what is kept after so many samples from k on changed
-abbrev pub forgotten : ℕ → ℕ → Cache → Cache
-forgotten k many cache = filter (λ e. not (is_from k many e.0)) cache
+abbrev pub cache_after_change : ℕ → ℕ → Cache → Cache
+cache_after_change k many cache = filter (λ e. not (is_from k many e.0)) cache
 
 -- the rows are those of the slice with this number
 abbrev pub IsRight : Head → Pairs → List (List ℕ) → ℕ × List Row → Type 0

@@ -1,8 +1,11 @@
 -- Slices of a small survey, worked by hand.
 use Rattle.std.specs.Prelude.{◌≡◌, pos, negsuc, [], ◌∷◌, Some, None, refl}
-use Rattle.trace_record.specs.SmallSurvey.{trace_1, trace_2, trace_3}
 use Rattle.field_map.specs.Binding.{geometry_at_load}
 use Rattle.frame_cut.specs.SmallFiles.{head_plain, trace_plain_1}
+use Rattle.trace_record.specs.Facts.{facts_of}
+use Rattle.trace_record.specs.SmallSurvey.{trace_1, trace_2, trace_3}
+use Rattle.trace_record.specs.declared.record.Record.{Record}
+use Rattle.time_slice.specs.OfRecords.{with_sample_of}
 use Rattle.time_slice.specs.Slices.{slice_rows, slice_of}
 
 -- sample 1 of each trace
@@ -32,3 +35,11 @@ rows-none = refl
 -- sample 1 of the first trace's bytes
 pub slice-plain_1 : slice_of head_plain geometry_at_load 1 (trace_plain_1 ∷ []) ≡ record { inline = pos 10; crossline = pos 21; position = 1; value = negsuc 1 } ∷ []
 slice-plain_1 = refl
+
+-- a record beside sample 1 of the first trace's bytes
+pub beside-plain_1 : (r : Record) → with_sample_of head_plain 1 (r ∷ []) (trace_plain_1 ∷ []) ≡ (facts_of r, Some (negsuc 1)) ∷ []
+beside-plain_1 r = refl
+
+-- the trace has two samples, so that it has no row in slice 2
+pub beside-plain_2 : (r : Record) → slice_rows (with_sample_of head_plain 2 (r ∷ []) (trace_plain_1 ∷ [])) ≡ []
+beside-plain_2 r = refl

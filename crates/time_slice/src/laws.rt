@@ -1,6 +1,6 @@
 // Laws of slices, each the contract of a call that does nothing.
 ghost use Rattle.time_slice.specs.CacheLaws.{NumbersAfterAsked, NumbersAfterForgotten, AskedStaysRight};
-ghost use Rattle.time_slice.specs.Laws.{SliceIsSlice, AtMostOneSlice};
+ghost use Rattle.time_slice.specs.Laws.{SliceIsSlice, AtMostOneSlice, RowsAreOfTraces};
 
 /// The rows of a list of traces, in rising order, are a slice.
 pub fn slice_is_slice()
@@ -10,6 +10,12 @@ pub fn slice_is_slice()
 /// Two slices of a list of traces are the same.
 pub fn at_most_one_slice()
     ensures { AtMostOneSlice }
+{}
+
+/// Where each record holds the facts of the trace at its place, the rows that records give are the
+/// slice of the traces.
+pub fn rows_are_of_traces()
+    ensures { RowsAreOfTraces }
 {}
 
 /// After a slice was asked for, its number comes first among the kept ones.

@@ -4,12 +4,12 @@ use Rattle.std.specs.Prelude.{codes}
 use Rattle.std.specs.Int.{Width}
 use Rattle.std.proofs.lemmas.Int.{to_z-of_z}
 use Rattle.field_map.specs.Pairs.{Pairs}
-use Rattle.frame_cut.specs.declared.head.Head.{Head}
+use Rattle.frame_cut.specs.declared.file_head.Head.{Head}
 use Rattle.frame_cut.specs.Frames.{header_unsigned}
 use Rattle.trace_view.specs.Values.{samples_of}
 use Rattle.trace_record.specs.Facts.{Facts}
 use Rattle.trace_record.specs.OfTrace.{record_of, bound_value, signed_value, has_known_name_of}
-use Rattle.trace_record.specs.Scaled.{scaled}
+use Rattle.trace_record.specs.Coordinates.{under_scalar}
 use Rattle.trace_record.specs.Statistics.{least_of, greatest_of, int_sum}
 
 -- a number that fits keeps its value
@@ -21,8 +21,8 @@ pub record IsOf (f : Facts) (h : Head) (fields : Pairs) (t : List ℕ) : Type 0 
   pub inline : f.inline ≡ bound_value h fields t (codes "inline")
   pub crossline : f.crossline ≡ bound_value h fields t (codes "crossline")
   pub offset : f.offset ≡ bound_value h fields t (codes "offset")
-  pub x : f.x ≡ scaled (bound_value h fields t (codes "x")) (bound_value h fields t (codes "scalar"))
-  pub y : f.y ≡ scaled (bound_value h fields t (codes "y")) (bound_value h fields t (codes "scalar"))
+  pub x : f.x ≡ under_scalar (bound_value h fields t (codes "x")) (bound_value h fields t (codes "scalar"))
+  pub y : f.y ≡ under_scalar (bound_value h fields t (codes "y")) (bound_value h fields t (codes "scalar"))
   pub scalar : f.scalar ≡ bound_value h fields t (codes "scalar")
   pub sequence : f.sequence ≡ signed_value h t 5 4
   pub units : f.units ≡ signed_value h t 89 2

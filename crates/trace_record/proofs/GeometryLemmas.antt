@@ -7,11 +7,11 @@ use Rattle.num_order.specs.Number.{is_size}
 use Rattle.field_map.specs.declared.place.Place.{Place}
 use Rattle.field_map.specs.Pairs.{Pairs, place_of}
 use Rattle.field_map.specs.Binding.{HasGeometry, is_geometry, is_geometry_place, is_geometry_kind, is_outside}
-use Rattle.frame_cut.specs.declared.head.Head.{Head}
+use Rattle.frame_cut.specs.declared.file_head.Head.{Head}
 use Rattle.frame_cut.specs.Frames.{count_within, extension_count, extensions_of, header_unsigned, length_with, sample_count}
 use Rattle.frame_cut.specs.Cuts.{IsTrace}
 use Rattle.trace_view.specs.Values.{has_place}
-use Rattle.trace_record.specs.OfTrace.{has_geometry_at}
+use Rattle.trace_record.specs.OfTrace.{has_geometry_at, has_named, has_geometry}
 use Rattle.trace_record.specs.Laws.{GeometryOfEachTrace}
 
 -- ---- how many extensions a trace has at least
@@ -71,3 +71,28 @@ pub geometry_of_each_trace : GeometryOfEachTrace
 geometry_of_each_trace h fields t has whole =
     let at = λ (name : List ℕ) (g : is_geometry name ≡ true). at-name h fields t name g has whole in
     rw (at (codes "inline") refl, at (codes "crossline") refl, at (codes "offset") refl, at (codes "x") refl, at (codes "y") refl, at (codes "scalar") refl) refl
+
+-- ---- each of the six names
+
+-- they are bound to places that the trace has
+pub record AreNamed (h : Head) (fields : Pairs) (t : List ℕ) : Type 0 where
+  pub inline : has_named h fields t (codes "inline") ≡ true
+  pub crossline : has_named h fields t (codes "crossline") ≡ true
+  pub offset : has_named h fields t (codes "offset") ≡ true
+  pub x : has_named h fields t (codes "x") ≡ true
+  pub y : has_named h fields t (codes "y") ≡ true
+  pub scalar : has_named h fields t (codes "scalar") ≡ true
+
+split : (a b : Bool) → (a && b) ≡ true → (a ≡ true) × (b ≡ true)
+split true b h = (refl, h)
+split false b h = cc
+
+pub names : (h : Head) (fields : Pairs) (t : List ℕ) → has_geometry h fields t ≡ true → AreNamed h fields t
+names h fields t has =
+    let one = split (has_named h fields t (codes "inline")) _ has in
+    let two = split (has_named h fields t (codes "crossline")) _ one.1 in
+    let three = split (has_named h fields t (codes "offset")) _ two.1 in
+    let four = split (has_named h fields t (codes "x")) _ three.1 in
+    let five = split (has_named h fields t (codes "y")) _ four.1 in
+    let six = split (has_named h fields t (codes "scalar")) _ five.1 in
+    record { inline = one.0; crossline = two.0; offset = three.0; x = four.0; y = five.0; scalar = six.0 }

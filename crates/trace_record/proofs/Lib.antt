@@ -3,10 +3,13 @@ pub mod FactsLemmas
 pub mod GeometryLemmas
 pub mod HeaderLemmas
 pub mod KeyLemmas
-pub mod OneMore
-pub mod Products
+pub mod LoadLemmas
+pub mod OneMoreLemmas
+pub mod ProductLemmas
+pub mod EachMoreLemmas
 pub mod RatioLemmas
 pub mod RisingLemmas
+pub mod RunLemmas
 pub mod SampleLemmas
 pub mod ShownLemmas
 pub mod StatisticsLemmas

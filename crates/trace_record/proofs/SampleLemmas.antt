@@ -8,17 +8,17 @@ use Rattle.sample_codes.specs.declared.format.Format.{Format}
 use Rattle.sample_codes.specs.Formats.{width, sample_value}
 use Rattle.trace_view.specs.Values.{samples_in}
 use Rattle.trace_record.specs.declared.statistics.Statistics.{Statistics}
-use Rattle.trace_record.specs.Statistics.{statistics_of, joined, one_sample, with_sample, least_of, greatest_of}
+use Rattle.trace_record.specs.Statistics.{statistics_of, statistics_of_both, one_sample, with_sample, least_of, greatest_of}
 use Rattle.trace_record.proofs.StatisticsLemmas.{min_assoc, max_assoc, same_four, statistics_of_joined}
 
 -- one sample more of those that are left
-pub next_sample : (s : Statistics) (x : ℤ) (xs : List ℤ) → joined (Some (with_sample s x)) (statistics_of xs) ≡ joined (Some s) (statistics_of (x ∷ xs))
+pub next_sample : (s : Statistics) (x : ℤ) (xs : List ℤ) → statistics_of_both (Some (with_sample s x)) (statistics_of xs) ≡ statistics_of_both (Some s) (statistics_of (x ∷ xs))
 next_sample s x [] = same_four _ _ _ _ _ _ _ _ refl refl (omega (arith, ints)) refl
 next_sample s x (y ∷ ys) =
     same_four _ _ _ _ _ _ _ _ (sym (min_assoc s.least x (least_of (y ∷ ys)))) (sym (max_assoc s.greatest x (greatest_of (y ∷ ys)))) (omega (arith, ints)) (omega arith)
 
 -- the first sample
-pub first_sample : (x : ℤ) (xs : List ℤ) → joined (Some (one_sample x)) (statistics_of xs) ≡ statistics_of (x ∷ xs)
+pub first_sample : (x : ℤ) (xs : List ℤ) → statistics_of_both (Some (one_sample x)) (statistics_of xs) ≡ statistics_of (x ∷ xs)
 first_sample x [] = same_four _ _ _ _ _ _ _ _ refl refl (omega (arith, ints)) refl
 first_sample x (y ∷ ys) = same_four _ _ _ _ _ _ _ _ refl refl refl (omega arith)
 
@@ -32,22 +32,22 @@ samples_in-more o f n i bytes h =
 
 -- a step of a loop over them
 pub sample_counted : (o : Order) (f : Format) (n i : ℕ) (bytes : List ℕ) (old new : Statistics) (x : ℤ) (goal : Option Statistics) → i < n → x ≡ sample_value o f (take (width f) (drop (width f * i) bytes)) → new ≡ with_sample old x
-    → joined (Some old) (statistics_of (samples_in o f (n - i) (drop (width f * i) bytes))) ≡ goal
-    → joined (Some new) (statistics_of (samples_in o f (n - (i + 1)) (drop (width f * (i + 1)) bytes))) ≡ goal
+    → statistics_of_both (Some old) (statistics_of (samples_in o f (n - i) (drop (width f * i) bytes))) ≡ goal
+    → statistics_of_both (Some new) (statistics_of (samples_in o f (n - (i + 1)) (drop (width f * (i + 1)) bytes))) ≡ goal
 sample_counted o f n i bytes old new x goal h is counted rest =
     let xs = samples_in o f (n - (i + 1)) (drop (width f * (i + 1)) bytes) in
-    ap (λ s. joined (Some s) (statistics_of xs)) counted
+    ap (λ s. statistics_of_both (Some s) (statistics_of xs)) counted
     ∙ next_sample old x xs
-    ∙ ap (λ y. joined (Some old) (statistics_of (y ∷ xs))) is
-    ∙ ap (λ ys. joined (Some old) (statistics_of ys)) (sym (samples_in-more o f n i bytes h))
+    ∙ ap (λ y. statistics_of_both (Some old) (statistics_of (y ∷ xs))) is
+    ∙ ap (λ ys. statistics_of_both (Some old) (statistics_of ys)) (sym (samples_in-more o f n i bytes h))
     ∙ rest
 
 -- and where it begins
 pub samples_begun : (o : Order) (f : Format) (n : ℕ) (bytes : List ℕ) (s : Statistics) (x : ℤ) → 0 < n → x ≡ sample_value o f (take (width f) (drop (width f * 0) bytes)) → s ≡ one_sample x
-    → joined (Some s) (statistics_of (samples_in o f (n - 1) (drop (width f * 1) bytes))) ≡ statistics_of (samples_in o f n bytes)
+    → statistics_of_both (Some s) (statistics_of (samples_in o f (n - 1) (drop (width f * 1) bytes))) ≡ statistics_of (samples_in o f n bytes)
 samples_begun o f n bytes s x h is begun =
     let xs = samples_in o f (n - 1) (drop (width f * 1) bytes) in
-    ap (λ r. joined (Some r) (statistics_of xs)) begun
+    ap (λ r. statistics_of_both (Some r) (statistics_of xs)) begun
     ∙ first_sample x xs
     ∙ ap (λ y. statistics_of (y ∷ xs)) is
     ∙ ap statistics_of (sym (samples_in-more o f n 0 bytes h))
@@ -61,10 +61,10 @@ samples_begun o f n bytes s x h is begun =
 
 -- and where it ends
 pub samples_ended : (o : Order) (f : Format) (n i : ℕ) (bytes : List ℕ) (s : Statistics) (goal : Option Statistics) → n ≤ i
-    → joined (Some s) (statistics_of (samples_in o f (n - i) (drop (width f * i) bytes))) ≡ goal → Some s ≡ goal
+    → statistics_of_both (Some s) (statistics_of (samples_in o f (n - i) (drop (width f * i) bytes))) ≡ goal → Some s ≡ goal
 samples_ended o f n i bytes s goal h rest =
     let none : n - i ≡ 0 = omega arith in
-    sym (ap (λ k. joined (Some s) (statistics_of (samples_in o f k (drop (width f * i) bytes)))) none) ∙ rest
+    sym (ap (λ k. statistics_of_both (Some s) (statistics_of (samples_in o f k (drop (width f * i) bytes)))) none) ∙ rest
 
 -- sample i lies inside
 pub sample_inside : (w n i len : ℕ) → i < n → w * n ≤ len → w * i + w ≤ len
@@ -106,9 +106,9 @@ samples_in-take o f (suc n) m bytes h =
 
 -- the statistics of more samples
 pub joined_samples : (o : Order) (f : Format) (a b : ℕ) (bytes : List ℕ) (x y : Option Statistics) → x ≡ statistics_of (samples_in o f a bytes) → y ≡ statistics_of (samples_in o f b (drop (width f * a) bytes))
-    → joined x y ≡ statistics_of (samples_in o f (a + b) bytes)
+    → statistics_of_both x y ≡ statistics_of (samples_in o f (a + b) bytes)
 joined_samples o f a b bytes x y ex ey =
-    ap₂ joined ex ey
+    ap₂ statistics_of_both ex ey
     ∙ sym (statistics_of_joined (samples_in o f a bytes) (samples_in o f b (drop (width f * a) bytes)))
     ∙ ap statistics_of (sym (samples_in-append o f a b bytes))
 

@@ -2,27 +2,27 @@
 use Rattle.std.specs.Prelude.{◌≡◌, pos, negsuc, [], ◌∷◌, Some, None, false, true, codes, refl}
 use Rattle.field_map.specs.Binding.{geometry_at_load}
 use Rattle.field_map.specs.Pairs.{bound, signed_at}
-use Rattle.frame_cut.specs.SmallFiles.{head_plain, trace_plain_1, trace_plain_3, put}
+use Rattle.frame_cut.specs.SmallFiles.{head_plain, trace_plain_1, trace_plain_3, with_bytes_at}
 use Rattle.trace_record.specs.RatioOrder.{fraction_of}
-use Rattle.trace_record.specs.Scaled.{scaled, over, greatest_divisor}
+use Rattle.trace_record.specs.Coordinates.{under_scalar, over, greatest_divisor}
 use Rattle.trace_record.specs.Statistics.{statistics_of}
 use Rattle.trace_record.specs.OfTrace.{record_of, has_geometry}
 use Rattle.trace_record.specs.SmallSurvey.{trace_1, trace_3}
 
 -- 3 under the scalar 100 is 300
-pub scaled-times : fraction_of (scaled (pos 3) (pos 100)) ≡ (pos 300, 1)
-unfolding scaled
-scaled-times = refl
+pub under_scalar-times : fraction_of (under_scalar (pos 3) (pos 100)) ≡ (pos 300, 1)
+unfolding under_scalar
+under_scalar-times = refl
 
 -- -250 under the scalar -100 is -5/2
-pub scaled-over : fraction_of (scaled (negsuc 249) (negsuc 99)) ≡ (negsuc 4, 2)
-unfolding scaled over greatest_divisor
-scaled-over = refl
+pub under_scalar-over : fraction_of (under_scalar (negsuc 249) (negsuc 99)) ≡ (negsuc 4, 2)
+unfolding under_scalar over greatest_divisor
+under_scalar-over = refl
 
 -- the least coordinate under the least scalar is -65536
-pub scaled-least : fraction_of (scaled (negsuc 2147483647) (negsuc 32767)) ≡ (negsuc 65535, 1)
-unfolding scaled over greatest_divisor
-scaled-least = refl
+pub under_scalar-least : fraction_of (under_scalar (negsuc 2147483647) (negsuc 32767)) ≡ (negsuc 65535, 1)
+unfolding under_scalar over greatest_divisor
+under_scalar-least = refl
 
 pub statistics-two : statistics_of (negsuc 4 ∷ pos 6 ∷ []) ≡ Some (record { least = negsuc 4; greatest = pos 6; sum = pos 1; number = 2 })
 statistics-two = refl
@@ -32,25 +32,25 @@ statistics-none = refl
 
 -- the first and the third trace are the ones made by hand
 pub record-plain_1 : record_of head_plain geometry_at_load trace_plain_1 ≡ trace_1
-unfolding scaled
+unfolding under_scalar
 record-plain_1 = refl
 
 pub record-plain_3 : record_of head_plain geometry_at_load trace_plain_3 ≡ trace_3
-unfolding scaled
+unfolding under_scalar
 record-plain_3 = refl
 
 pub geometry-plain_1 : has_geometry head_plain geometry_at_load trace_plain_1 ≡ true
 geometry-plain_1 = refl
 
 -- the scalar bound to bytes 189-190, where the inline 327680 has 5
-pub x-overlapping : fraction_of (record_of head_plain (bound geometry_at_load (codes "scalar") (signed_at 189 2)) (put 189 (0 ∷ 5 ∷ 0 ∷ 0 ∷ []) trace_plain_1)).x ≡ (pos 5000, 1)
-unfolding scaled
+pub x-overlapping : fraction_of (record_of head_plain (bound geometry_at_load (codes "scalar") (signed_at 189 2)) (with_bytes_at 189 (0 ∷ 5 ∷ 0 ∷ 0 ∷ []) trace_plain_1)).x ≡ (pos 5000, 1)
+unfolding under_scalar
 x-overlapping = refl
 
-pub name-other : (record_of head_plain geometry_at_load (put 233 (1 ∷ []) trace_plain_1)).has_known_name ≡ false
-unfolding scaled
+pub name-other : (record_of head_plain geometry_at_load (with_bytes_at 233 (1 ∷ []) trace_plain_1)).has_known_name ≡ false
+unfolding under_scalar
 name-other = refl
 
-pub name-ebcdic : (record_of head_plain geometry_at_load (put 233 (0xE2 ∷ 0xC5 ∷ 0xC7 ∷ 0xF0 ∷ 0xF0 ∷ 0xF0 ∷ 0xF0 ∷ 0xF0 ∷ []) trace_plain_1)).has_known_name ≡ true
-unfolding scaled
+pub name-ebcdic : (record_of head_plain geometry_at_load (with_bytes_at 233 (0xE2 ∷ 0xC5 ∷ 0xC7 ∷ 0xF0 ∷ 0xF0 ∷ 0xF0 ∷ 0xF0 ∷ 0xF0 ∷ []) trace_plain_1)).has_known_name ≡ true
+unfolding under_scalar
 name-ebcdic = refl

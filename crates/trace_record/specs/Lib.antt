@@ -1,6 +1,6 @@
 pub mod FractionLaws
 pub mod RatioOrder
-pub mod Scaled
+pub mod Coordinates
 pub mod Statistics
 pub mod Narrow
 pub mod Unsigned
@@ -10,6 +10,7 @@ pub mod Counts
 pub mod Keys
 pub mod Tally
 pub mod Rising
+pub mod Runs
 pub mod Laws
 pub mod SmallSurvey
 pub mod Examples

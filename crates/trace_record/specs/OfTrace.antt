@@ -5,12 +5,12 @@ use Rattle.std.specs.Option.{option_map_or}
 use Rattle.field_map.specs.declared.place.Place.{Place}
 use Rattle.field_map.specs.Pairs.{Pairs, place_of, signed_at}
 use Rattle.field_map.specs.Binding.{geometry_at_load, is_geometry_kind}
-use Rattle.frame_cut.specs.declared.head.Head.{Head}
+use Rattle.frame_cut.specs.declared.file_head.Head.{Head}
 use Rattle.frame_cut.specs.Frames.{header_bytes, header_unsigned}
 use Rattle.trace_view.specs.Values.{value_at, has_place, samples_of}
 use Rattle.std.specs.Prelude.{false}
 use Rattle.trace_record.specs.Facts.{Facts, with_samples}
-use Rattle.trace_record.specs.Scaled.{scaled}
+use Rattle.trace_record.specs.Coordinates.{under_scalar}
 
 -- the value at the place that the map gives the name, and 0 of a name without one
 abbrev pub bound_value : Head → Pairs → List ℕ → List ℕ → ℤ
@@ -24,9 +24,13 @@ signed_value h t byte size = value_at h t (signed_at byte size)
 abbrev pub has_geometry_at : Head → List ℕ → List ℕ → Place → Bool
 has_geometry_at h t name place = has_place h t place && is_geometry_kind name place.kind
 
--- each of the six geometry names is bound to such a place
+-- the geometry name is bound to such a place
+abbrev pub has_named : Head → Pairs → List ℕ → List ℕ → Bool
+has_named h fields t name = option_map_or (has_geometry_at h t name) (place_of fields name) false
+
+-- each of the six geometry names is bound to a place that the trace has
 abbrev pub has_geometry : Head → Pairs → List ℕ → Bool
-has_geometry h fields t = list_all (λ e. option_map_or (has_geometry_at h t e.0) (place_of fields e.0) false) geometry_at_load
+has_geometry h fields t = list_all (λ e. has_named h fields t e.0) geometry_at_load
 
 -- the trace names that mean a plain trace: zeros, and `SEG00000` in ASCII and in EBCDIC
 abbrev pub known_names : List (List ℕ)
@@ -46,8 +50,8 @@ record_of h fields t = with_samples (record {
   inline = bound_value h fields t (codes "inline");
   crossline = bound_value h fields t (codes "crossline");
   offset = bound_value h fields t (codes "offset");
-  x = scaled (bound_value h fields t (codes "x")) (bound_value h fields t (codes "scalar"));
-  y = scaled (bound_value h fields t (codes "y")) (bound_value h fields t (codes "scalar"));
+  x = under_scalar (bound_value h fields t (codes "x")) (bound_value h fields t (codes "scalar"));
+  y = under_scalar (bound_value h fields t (codes "y")) (bound_value h fields t (codes "scalar"));
   scalar = bound_value h fields t (codes "scalar");
   sequence = signed_value h t 5 4;
   units = signed_value h t 89 2;

@@ -27,10 +27,10 @@ statistics_of (v ∷ vs) =
     Some (record { least = least_of (v ∷ vs); greatest = greatest_of (v ∷ vs); sum = int_sum (v ∷ vs); number = length (v ∷ vs) })
 
 -- the statistics of two lists together
-abbrev pub joined : Option Statistics → Option Statistics → Option Statistics
-joined None r = r
-joined (Some s) None = Some s
-joined (Some s) (Some r) =
+abbrev pub statistics_of_both : Option Statistics → Option Statistics → Option Statistics
+statistics_of_both None r = r
+statistics_of_both (Some s) None = Some s
+statistics_of_both (Some s) (Some r) =
     Some (record {
       least = int_min s.least r.least;
       greatest = int_max s.greatest r.greatest;
@@ -38,11 +38,11 @@ joined (Some s) (Some r) =
       number = s.number + r.number;
     })
 
--- those of one sample
+-- the statistics of one sample
 abbrev pub one_sample : ℤ → Statistics
 one_sample v = record { least = v; greatest = v; sum = v; number = 1 }
 
--- one sample more
+-- the statistics with one sample more
 abbrev pub with_sample : Statistics → ℤ → Statistics
 with_sample s v = record {
   least = int_min s.least v;

@@ -1,11 +1,13 @@
-ghost use Rattle.std.specs.Prelude.{◌≡◌, ◌+◌, ◌-◌, ◌^◌, ◌<◌, ℕ, [], All, length, slice_get, option_map, OnOk, OnErr, IsOk, if◌then◌else◌};
-ghost use Rattle.std.specs.Ordering.{is_eq};
+ghost use Rattle.std.specs.Prelude.{◌≡◌, ◌+◌, ◌-◌, ◌^◌, ◌<◌, ℕ, [], All, length, slice_get, option_map, OnOk, OnErr, IsOk, IfOk};
 ghost use Rattle.std.specs.List.Sorted.{IsStrictlySortedBy};
 ghost use Rattle.std.specs.Map.{keys_of, values_of};
 ghost use Rattle.std.specs.Map.Iter.{ShowsInOrder, deref_pair};
-ghost use Rattle.trace_record.specs.Counts.{count_of, raised, lowered};
+ghost use Rattle.std.proofs.lemmas.Map.Lookups.{CmpEqualImpliesEq};
+ghost use Rattle.trace_record.specs.Counts.{count_of, with_one_more, with_each_more, with_one_less, HasOneMore, HasSameCounts};
+ghost use Rattle.trace_record.specs.Rising.{Shows, times_in};
 
 use crate::OutOfMemory;
+use crate::runs::map_of_keys;
 use std::alloc::Global;
 use std::collections::BTreeMap;
 use std::collections::btree_map::Iter;
@@ -37,6 +39,21 @@ impl<K: Copy + Ord> Counts<K> {
         Counts {
             map: BTreeMap::new(alloc),
         }
+    }
+
+    /// How often each of these keys occurs among them, as if each were raised once. The keys are
+    /// sorted, which is one pass where they rise already, and then the map is made in one go. Takes
+    /// memory for the map and, while it is made, for a list of its pairs; refused for want of it
+    /// alone.
+    pub fn from_keys(alloc: Global, keys: Vec<K>) -> Result<Counts<K>, OutOfMemory>
+        ensures shows { IfOk result (Shows K.cmp (times_in K.cmp keys.items)) }
+
+        // Where keys that compare equal are one key, it is what raising each makes.
+        ensures each { IfOk result (λ v. CmpEqualImpliesEq K.cmp →
+            v ≡ with_each_more K.cmp [] keys.items) }
+    {
+        let map = map_of_keys(alloc, keys)?;
+        Ok(Counts { map })
     }
 
     /// The number at the key, 0 where it has none. Takes no memory.
@@ -80,9 +97,9 @@ impl<K: Copy + Ord> Counts<K> {
     /// where the growth is refused. A held key takes one look-up.
     pub fn raise(&mut self, key: K) -> Result<(), OutOfMemory>
         requires { count_of K.cmp self.old key + 1 < 2 ^ 64 }
-        ensures ok { OnOk result (self.new ≡ raised K.cmp self.old key) }
+        ensures ok { OnOk result (self.new ≡ with_one_more K.cmp self.old key) }
         ensures err { OnErr result (self.new ≡ self.old) }
-        ensures each { OnOk result ((q : K) → count_of K.cmp self.new q ≡ count_of K.cmp self.old q + (if is_eq (K.cmp key q) then 1 else 0)) }
+        ensures each { OnOk result (HasOneMore K.cmp self.old self.new key) }
         ensures held { 0 < count_of K.cmp self.old key → IsOk result }
     {
         if let Some(held) = self.map.get_mut(&key) {
@@ -93,12 +110,12 @@ impl<K: Copy + Ord> Counts<K> {
         Ok(())
     }
 
-    /// Counts the key once less, and leaves it out at 0; one look-up, or two where it leaves it out.
-    /// Takes no memory.
+    /// Counts the key once less, and leaves it out at 0; one look-up, or two where it leaves it
+    /// out. Takes no memory.
     pub fn lower(&mut self, key: &K)
         requires { 0 < count_of K.cmp self.old key.now }
-        ensures lowered { self.new ≡ lowered K.cmp self.old key.now }
-        ensures each { (q : K) → count_of K.cmp self.old q ≡ count_of K.cmp self.new q + (if is_eq (K.cmp key.now q) then 1 else 0) }
+        ensures less { self.new ≡ with_one_less K.cmp self.old key.now }
+        ensures each { HasOneMore K.cmp self.new self.old key.now }
     {
         if let Some(held) = self.map.get_mut(key) {
             let stays = *held > 1;
@@ -109,4 +126,28 @@ impl<K: Copy + Ord> Counts<K> {
             }
         }
     }
+}
+
+/// Counts one key more in each of two counts, or in neither where a growth is refused. Takes memory
+/// for a key that is not held.
+pub fn raise_both<A: Copy + Ord, B: Copy + Ord>(
+    first: &mut Counts<A>,
+    a: A,
+    second: &mut Counts<B>,
+    b: B,
+) -> Result<(), OutOfMemory>
+    requires first { count_of A.cmp first.old a + 1 < 2 ^ 64 }
+    requires second { count_of B.cmp second.old b + 1 < 2 ^ 64 }
+    ensures ok_first { OnOk result (HasOneMore A.cmp first.old first.new a) }
+    ensures ok_second { OnOk result (HasOneMore B.cmp second.old second.new b) }
+    ensures err_first { OnErr result (HasSameCounts A.cmp first.old first.new) }
+    ensures err_second { OnErr result (HasSameCounts B.cmp second.old second.new) }
+    ensures held { 0 < count_of A.cmp first.old a → 0 < count_of B.cmp second.old b → IsOk result }
+{
+    first.raise(a)?;
+    if let Err(error) = second.raise(b) {
+        first.lower(&a);
+        return Err(error);
+    }
+    Ok(())
 }

@@ -1,5 +1,5 @@
 // Numbers in the headers of a trace, and the name that it gives itself.
-ghost use Rattle.std.specs.Prelude.{◌≡◌, ◌+◌, ◌-◌, ◌*◌, ◌<◌, ◌≤◌, ◌⊎◌, true, take, drop, length};
+ghost use Rattle.std.specs.Prelude.{◌≡◌, ◌+◌, ◌-◌, ◌*◌, ◌<◌, ◌≤◌, ◌⊎◌, ◌&&◌, ◌||◌, ◌==◌, true, take, drop, length};
 ghost use Rattle.num_order.specs.Number.{unsigned, num};
 ghost use Rattle.trace_view.specs.Shown.{bytes_of, head_of};
 ghost use Rattle.trace_view.specs.Values.{has_place, value_at};
@@ -55,7 +55,8 @@ fn u32_at(view: &TraceView<'_>, at: u64) -> u32
 // The number of two bytes in two's complement.
 pub(crate) fn i16_at(view: &TraceView<'_>, at: u64) -> i16
     requires { at + 2 ≤ length (bytes_of view.now) }
-    ensures { result ≡ num (head_of view.now).order (record { size = 2; signed = true }) (take 2 (drop at (bytes_of view.now))) }
+    ensures { result ≡ num (head_of view.now).order (record { size = 2; signed = true })
+        (take 2 (drop at (bytes_of view.now))) }
 {
     u16_at(view, at).cast_signed()
 }
@@ -63,7 +64,8 @@ pub(crate) fn i16_at(view: &TraceView<'_>, at: u64) -> i16
 // The number of four bytes in two's complement.
 pub(crate) fn i32_at(view: &TraceView<'_>, at: u64) -> i32
     requires { at + 4 ≤ length (bytes_of view.now) }
-    ensures { result ≡ num (head_of view.now).order (record { size = 4; signed = true }) (take 4 (drop at (bytes_of view.now))) }
+    ensures { result ≡ num (head_of view.now).order (record { size = 4; signed = true })
+        (take 4 (drop at (bytes_of view.now))) }
 {
     u32_at(view, at).cast_signed()
 }
@@ -90,6 +92,19 @@ pub(crate) fn signed_at(view: &TraceView<'_>, place: Place) -> i32
     } else {
         i32_at(view, first_byte(place))
     }
+}
+
+// Whether the trace has the place, and it is of two or four bytes with a sign.
+pub(crate) fn has_number(view: &TraceView<'_>, place: Place) -> bool
+    ensures { result ≡ (has_place (head_of view.now) (bytes_of view.now) place &&
+        (place.kind.signed && (place.kind.size == 2 || place.kind.size == 4))) }
+{
+    let size = place.kind.size;
+    place.kind.signed
+        && (size == 2 || size == 4)
+        && place.byte > 0
+        && u32::from(place.byte) + u32::from(size) < 242
+        && (place.extension == 0 || place.extension <= u16::from(view.extension_count()))
 }
 
 // Where the place begins in the trace, counted from 0.

@@ -1,11 +1,13 @@
 //! What the reports need of one trace, and how often its keys occur over many. `Record` is a
-//! trace's own numbers, which `record_of` takes from a view of the trace, `Ratio` a coordinate under
-//! its scalar, `Statistics` the least, greatest, sum and number of samples. `Counts` counts keys; a
-//! `Running` value counts traces, seen as their tally. The calls that are named for a law do nothing:
-//! their contract is the law.
+//! trace's own numbers, which `record_of` takes from a view of the trace, `Ratio` a coordinate
+//! under its scalar, `Statistics` the least, greatest, sum and number of samples. `Counts` counts
+//! keys; a `Running` value counts traces, seen as their tally. The calls that are named for a law
+//! do nothing: their contract is the law.
 //!
-//! Only `Counts::raise` and `Running::add` take memory, and only for a key that is not held; where
-//! a growth is refused they leave all as it was. Bytes of headers count from 1, as in the standard.
+//! `Counts::raise`, `raise_both` and `Running::add` take memory only for a key that is not held;
+//! where a growth is refused they leave all as it was. `Counts::from_keys` and
+//! `Running::from_records` count all at once, and take memory for what they make. No other call
+//! takes memory. Bytes of headers count from 1, as in the standard.
 #![tactic(auto)]
 
 mod counts;
@@ -19,11 +21,12 @@ mod ratio;
 mod reads_sample;
 mod record;
 mod running;
+mod runs;
 mod statistics;
 mod unsigned;
 mod wide;
 
-pub use crate::counts::Counts;
+pub use crate::counts::{Counts, raise_both};
 pub use crate::laws::{
     equal_ratios_are_one, geometry_of_each_trace, minus_undoes_plus, plus_in_any_order,
     plus_undoes_minus, statistics_of_joined, tally_holds_each, tally_in_any_order,

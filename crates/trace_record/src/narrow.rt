@@ -18,11 +18,11 @@ struct Narrow {
 impl Narrow {
     ghost use Rattle.std.specs.Prelude.{◌≡◌, ◌*◌, ◌-◌, ◌+◌, ◌^◌, ◌≤ℤ◌, pos, neg_ℤ, ℕ};
     ghost use Rattle.trace_record.specs.Statistics.{one_sample, with_sample};
-    ghost use Rattle.trace_record.specs.Narrow.{seen};
+    ghost use Rattle.trace_record.specs.Narrow.{statistics_of_narrow};
 
     #[inline(always)]
     fn of(sample: i32) -> Narrow
-        ensures { seen result 1 ≡ one_sample sample }
+        ensures { statistics_of_narrow result 1 ≡ one_sample sample }
     {
         Narrow {
             least: sample,
@@ -35,7 +35,8 @@ impl Narrow {
     fn add(&mut self, sample: i32)
         requires sum_low { neg_ℤ (pos (2 ^ 31 * (2 ^ 32 - 1))) ≤ℤ self.old.sum }
         requires sum_high { self.old.sum ≤ℤ pos (2 ^ 31 * (2 ^ 32 - 1)) }
-        ensures { (n : ℕ) → seen self.new (n + 1) ≡ with_sample (seen self.old n) sample }
+        ensures { (n : ℕ) → statistics_of_narrow self.new (n + 1) ≡ with_sample
+            (statistics_of_narrow self.old n) sample }
     {
         self.least = self.least.min(sample);
         self.greatest = self.greatest.max(sample);
@@ -44,7 +45,7 @@ impl Narrow {
 
     // So many samples have these statistics.
     fn statistics(self, number: u32) -> Statistics
-        ensures { result ≡ seen self number }
+        ensures { result ≡ statistics_of_narrow self number }
     {
         Statistics {
             least: i128::from(self.least),

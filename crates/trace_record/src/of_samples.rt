@@ -21,7 +21,8 @@ const BLOCK: u32 = 512;
 
 // The statistics of the trace's samples.
 pub(crate) fn statistics_of(view: &TraceView<'_>) -> Option<Statistics>
-    ensures value { result ≡ statistics_of_samples (samples_of (head_of view.now) (bytes_of view.now)) }
+    ensures value { result ≡ statistics_of_samples
+        (samples_of (head_of view.now) (bytes_of view.now)) }
     ensures range { IfSome result HasRange }
 {
     match view.plain_samples() {
@@ -35,7 +36,8 @@ pub(crate) fn statistics_of(view: &TraceView<'_>) -> Option<Statistics>
 
 // Of all samples, a block at a time.
 fn block_statistics(view: &TraceView<'_>) -> Option<Statistics>
-    ensures value { result ≡ statistics_of_samples (samples_of (head_of view.now) (bytes_of view.now)) }
+    ensures value { result ≡ statistics_of_samples
+        (samples_of (head_of view.now) (bytes_of view.now)) }
     ensures range { IfSome result HasRange }
 {
     let count = view.sample_count();
@@ -53,8 +55,10 @@ fn block_statistics(view: &TraceView<'_>) -> Option<Statistics>
 fn gathered_statistics(view: &TraceView<'_>, from: u32, number: u32) -> Option<Statistics>
     requires inside { from + number ≤ sample_count (head_of view.now) (bytes_of view.now) }
     requires few { number ≤ 512 }
-    ensures value { result ≡ statistics_of_samples (samples_in (head_of view.now).order (head_of view.now).format number
-        (drop (width (head_of view.now).format * from) (sample_bytes (head_of view.now) (bytes_of view.now)))) }
+    ensures value { result ≡ statistics_of_samples
+        (samples_in (head_of view.now).order (head_of view.now).format number
+        (drop (width (head_of view.now).format * from)
+        (sample_bytes (head_of view.now) (bytes_of view.now)))) }
     ensures range { IfSome result HasRange }
 {
     let width = view.head().format.width();
@@ -78,7 +82,9 @@ fn read_statistics(
 ) -> Option<Statistics>
     requires inside { at + length bytes.old ≤ length (bytes_of view.now) }
     requires whole { width (head_of view.now).format * number ≤ length bytes.old }
-    ensures value { result ≡ statistics_of_samples (samples_in (head_of view.now).order (head_of view.now).format number (drop at (bytes_of view.now))) }
+    ensures value { result ≡ statistics_of_samples
+        (samples_in (head_of view.now).order (head_of view.now).format number
+        (drop at (bytes_of view.now))) }
     ensures range { IfSome result HasRange }
 {
     view.read(at, bytes);

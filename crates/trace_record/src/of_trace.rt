@@ -1,12 +1,13 @@
 ghost use Rattle.std.specs.Prelude.{◌≡◌, length, true, codes};
-ghost use Rattle.field_map.specs.Binding.{is_geometry};
 ghost use Rattle.trace_view.specs.Shown.{bytes_of, head_of};
 ghost use Rattle.trace_view.specs.Values.{samples_of};
 ghost use Rattle.trace_record.specs.Facts.{facts_of};
-ghost use Rattle.trace_record.specs.OfTrace.{record_of as record_of_trace, bound_value};
+ghost use Rattle.trace_record.specs.OfTrace.{record_of as record_of_trace, bound_value, has_named, has_geometry};
 ghost use Rattle.trace_record.specs.Statistics.{least_of, greatest_of, int_sum, HasRange};
 
-use crate::header_fields::{has_known_name, i16_at, i32_at, short_at, signed_at, u16_at};
+use crate::header_fields::{
+    has_known_name, has_number, i16_at, i32_at, short_at, signed_at, u16_at,
+};
 use crate::of_samples::statistics_of;
 use crate::{Ratio, Record, Statistics};
 use field_map::FieldMap;
@@ -15,11 +16,11 @@ use trace_view::TraceView;
 /// The record of a trace: its inline, crossline, offset, x, y and scalar at the places that the map
 /// gives these names, x and y under the scalar, in the units that bytes 89-90 tell; other fields of
 /// the main header; and the least, greatest, sum and number of its samples, in one pass over them.
-/// The map is one for the trace's file: its traces may have as many header extensions. Refuses
-/// nothing. Takes no memory.
+/// Each of the six names is bound to a place in the trace, as by a map for the trace's file; of any
+/// other map the record tells nothing. Refuses nothing. Takes no memory.
 pub fn record_of(view: &TraceView<'_>, fields: &FieldMap) -> Record
-    requires { fields.now.extensions ≡ (head_of view.now).extensions }
-    ensures { facts_of result ≡ record_of_trace (head_of view.now) fields.now.pairs (bytes_of view.now) }
+    ensures { has_geometry (head_of view.now) fields.now.pairs (bytes_of view.now) ≡ true →
+        facts_of result ≡ record_of_trace (head_of view.now) fields.now.pairs (bytes_of view.now) }
 {
     let scalar = scalar_of(view, fields);
     let x = geometry_value(view, fields, "x");
@@ -46,35 +47,33 @@ pub fn record_of(view: &TraceView<'_>, fields: &FieldMap) -> Record
 
 // The value at the place of a geometry name.
 fn geometry_value(view: &TraceView<'_>, fields: &FieldMap, name: &str) -> i32
-    requires map { fields.now.extensions ≡ (head_of view.now).extensions }
-    requires name { is_geometry name.now ≡ true }
-    ensures { result ≡ bound_value (head_of view.now) fields.now.pairs (bytes_of view.now) name.now }
+    ensures { has_named (head_of view.now) fields.now.pairs (bytes_of view.now) name.now ≡ true →
+        result ≡ bound_value (head_of view.now) fields.now.pairs (bytes_of view.now) name.now }
 {
-    fields.geometry_stands();
     match fields.place(name) {
-        Some(place) => signed_at(view, place),
-        // Each geometry name has a place.
-        None => 0,
+        Some(place) if has_number(view, place) => signed_at(view, place),
+        _ => 0,
     }
 }
 
 // The coordinate scalar.
 fn scalar_of(view: &TraceView<'_>, fields: &FieldMap) -> i16
-    requires { fields.now.extensions ≡ (head_of view.now).extensions }
-    ensures { result ≡ bound_value (head_of view.now) fields.now.pairs (bytes_of view.now) (codes "scalar") }
+    ensures { has_named (head_of view.now) fields.now.pairs (bytes_of view.now)
+        (codes "scalar") ≡ true →
+        result ≡ bound_value (head_of view.now) fields.now.pairs (bytes_of view.now)
+        (codes "scalar") }
 {
-    fields.geometry_stands();
     match fields.place("scalar") {
-        Some(place) => short_at(view, place),
-        // Each geometry name has a place.
-        None => 0,
+        Some(place) if place.kind.size == 2 && has_number(view, place) => short_at(view, place),
+        _ => 0,
     }
 }
 
 // The statistics of the samples, and zeros of none.
 fn samples_statistics(view: &TraceView<'_>) -> Statistics
     ensures least { result.least ≡ least_of (samples_of (head_of view.now) (bytes_of view.now)) }
-    ensures greatest { result.greatest ≡ greatest_of (samples_of (head_of view.now) (bytes_of view.now)) }
+    ensures greatest { result.greatest ≡ greatest_of
+        (samples_of (head_of view.now) (bytes_of view.now)) }
     ensures sum { result.sum ≡ int_sum (samples_of (head_of view.now) (bytes_of view.now)) }
     ensures number { result.number ≡ length (samples_of (head_of view.now) (bytes_of view.now)) }
     ensures range { HasRange result }

@@ -38,11 +38,11 @@ impl PartialOrd for Ratio {
     ghost use Rattle.trace_record.specs.RatioOrder.{ratio_cmp, ratio_total, ratio_ties};
     ghost use Rattle.std.specs.Prelude.{refl};
     ghost use Rattle.std.specs.Ordering.{as_partial_cmp};
-    ghost use Rattle.std.specs.Cmp.{partial_order_from_agreeing_total};
+    ghost use Rattle.std.specs.Cmp.{partial_order_from_agreeing_total as from_agreeing_total};
 
     ghost partial_cmp = { as_partial_cmp ratio_cmp };
 
-    ghost laws = { partial_order_from_agreeing_total ratio_cmp ratio_total (λ x y. refl) ratio_ties };
+    ghost laws = { from_agreeing_total ratio_cmp ratio_total (λ x y. refl) ratio_ties };
 
     fn partial_cmp(&self, other: &Ratio) -> Option<Ordering> {
         Some(self.cmp(other))
@@ -51,7 +51,7 @@ impl PartialOrd for Ratio {
 
 impl Ratio {
     ghost use Rattle.std.specs.Prelude.{◌≡◌, ◌<◌, ◌^◌, ◌*ℤ◌, pos, unsigned_abs};
-    ghost use Rattle.trace_record.specs.Scaled.{whole, scaled, scaled_num, scaled_den};
+    ghost use Rattle.trace_record.specs.Coordinates.{whole, under_scalar, num_under_scalar, den_under_scalar};
 
     /// A whole number. Takes no memory.
     pub fn whole(value: i32) -> Ratio
@@ -66,15 +66,18 @@ impl Ratio {
     /// A coordinate under its scalar (trace header, bytes 71-72): a positive scalar multiplies, a
     /// negative one divides, and 0 counts as 1. Takes no memory.
     pub fn scaled(value: i32, scalar: i16) -> Ratio
-        ensures value { result.num *ℤ pos (scaled_den scalar) ≡ scaled_num value scalar *ℤ pos result.den }
-        ensures exact { result ≡ scaled value scalar }
+        ensures value { result.num *ℤ pos (den_under_scalar scalar) ≡
+            num_under_scalar value scalar *ℤ pos
+            result.den }
+        ensures exact { result ≡ under_scalar value scalar }
     {
         Ratio::under(value, scalar)
     }
 
     // The coordinate by its value.
     fn under(value: i32, scalar: i16) -> Ratio
-        ensures { result.num *ℤ pos (scaled_den scalar) ≡ scaled_num value scalar *ℤ pos result.den }
+        ensures { result.num *ℤ pos (den_under_scalar scalar) ≡ num_under_scalar value scalar *ℤ pos
+            result.den }
     {
         if scalar > 0 {
             Ratio::reduced(i64::from(value) * i64::from(scalar), 1)

@@ -73,7 +73,8 @@ pub(crate) trait ReadsSample {
     // Sample i of the bytes, in the order O.
     fn at<O: Ordered>(bytes: &[u8], i: usize) -> i32
         requires { width format * i + width format ≤ length bytes.now }
-        ensures { result ≡ sample_value O.order format (take (width format) (drop (width format * i) bytes.now)) };
+        ensures { result ≡ sample_value O.order format
+            (take (width format) (drop (width format * i) bytes.now)) };
 }
 
 impl ReadsSample for i16 {
@@ -157,7 +158,8 @@ pub(crate) trait ReadsWide {
     // Sample i of the bytes, in the order O.
     fn at<O: Ordered>(bytes: &[u8], i: usize) -> i128
         requires { width format * i + width format ≤ length bytes.now }
-        ensures value { result ≡ sample_value O.order format (take (width format) (drop (width format * i) bytes.now)) }
+        ensures value { result ≡ sample_value O.order format
+            (take (width format) (drop (width format * i) bytes.now)) }
         ensures low { neg_ℤ (pos (2 ^ 63)) ≤ℤ result }
         ensures high { result ≤ℤ pos (2 ^ 64) };
 }

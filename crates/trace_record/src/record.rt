@@ -2,7 +2,7 @@ ghost use Rattle.std.specs.Prelude.{◌*◌, ◌^◌, ◌≤ℤ◌, pos, neg_ℤ
 
 use crate::Ratio;
 
-/// What the reports need of one trace: 112 bytes. `x` and `y` are under the trace's coordinate
+/// What the reports need of one trace. `x` and `y` are under the trace's coordinate
 /// scalar. Without samples `number`, `least`, `greatest` and `sum` are 0.
 #[derive(Debug, Clone, Copy, PartialEq, Eq)]
 pub struct Record {

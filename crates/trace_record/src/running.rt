@@ -1,6 +1,7 @@
-ghost use Rattle.std.specs.Prelude.{◌≡◌, OnOk, OnErr, IsOk};
+ghost use Rattle.std.specs.Prelude.{◌≡◌, OnOk, OnErr, IsOk, IfOk, map};
 
 use crate::{OutOfMemory, Record};
+use record_list::RecordList;
 use std::alloc::Global;
 
 /// A value that runs with the traces of a volume, and is seen as their tally: it counts each trace
@@ -8,7 +9,7 @@ use std::alloc::Global;
 pub trait Running: Drop {
     ghost use Rattle.trace_record.specs.Facts.{facts_of};
     ghost use Rattle.trace_record.specs.Keys.{Counted};
-    ghost use Rattle.trace_record.specs.Tally.{Tally, empty_tally, plus, minus, Same, HasKeys, Holds, IsSmall};
+    ghost use Rattle.trace_record.specs.Tally.{Tally, empty_tally, tally_of, plus, minus, Same, HasKeys, Holds, IsSmall};
     ghost use Rattle.trace_record.specs.declared.record.Record.{Record};
 
     // What the value counts of a trace.
@@ -20,11 +21,20 @@ pub trait Running: Drop {
     fn new(alloc: Global) -> Self
         ensures { Same (tally result) empty_tally };
 
+    /// The value that counted these traces, made all at once from sorted keys. Takes memory for
+    /// what it holds and, while it is made, for a list of keys and one of their runs; refused for
+    /// want of it alone.
+    fn from_records(alloc: Global, records: &RecordList<Record>) -> Result<Self, OutOfMemory>
+        requires { IsSmall (tally_of counted (map facts_of records.now)) }
+        ensures { IfOk result (λ value.
+            Same (tally value) (tally_of counted (map facts_of records.now))) };
+
     /// Counts the trace. Takes memory for a key that is not held, and leaves all as it was where a
     /// growth is refused.
     fn add(&mut self, trace: &Record) -> Result<(), OutOfMemory>
         requires { IsSmall (plus counted (tally self.old) (facts_of trace.now)) }
-        ensures ok { OnOk result (Same (tally self.new) (plus counted (tally self.old) (facts_of trace.now))) }
+        ensures ok { OnOk result
+            (Same (tally self.new) (plus counted (tally self.old) (facts_of trace.now))) }
         ensures err { OnErr result (Same (tally self.new) (tally self.old)) }
         ensures held { HasKeys counted (tally self.old) (facts_of trace.now) → IsOk result };
 

@@ -1,4 +1,5 @@
-// Coordinates under their scalars, counts of keys and records of traces, with values worked by hand.
+// Coordinates under their scalars, counts of keys and records of traces, with values worked by
+// hand.
 ghost use Rattle.std.specs.Prelude.{◌≡◌, length, IfOk};
 ghost use Rattle.trace_view.specs.Runs.{Fit};
 ghost use Rattle.trace_view.specs.Shown.{head_of};
@@ -95,6 +96,21 @@ fn counts_numbers(rt: HostRuntime) -> Result<(), Fail> {
 }
 
 #[test]
+fn counts_keys_all_at_once(rt: HostRuntime) -> Result<(), Fail> {
+    let mut counts = Counts::from_keys(rt.alloc(), vec![in rt.alloc(); 5i64, 3, 5, -4, 5]?)?;
+    let mut pairs = counts.pairs();
+    assert_eq!(rt; pairs.next(), Some((&-4, &1)));
+    assert_eq!(rt; pairs.next(), Some((&3, &1)));
+    assert_eq!(rt; pairs.next(), Some((&5, &3)));
+    assert_eq!(rt; pairs.next(), None);
+    lower(&mut counts, &3);
+    assert_eq!(rt; counts.count(&3), 0);
+    let none: Counts<i64> = Counts::from_keys(rt.alloc(), Vec::new(rt.alloc()))?;
+    assert_eq!(rt; none.least(), None);
+    Ok(())
+}
+
+#[test]
 fn counts_ratios(rt: HostRuntime) -> Result<(), Fail> {
     let mut counts = counts_of(
         rt.alloc(),
@@ -166,7 +182,6 @@ fn run(alloc: Global, at: u64, bytes: &[u8]) -> Result<Run, AllocError>
 // The record of the trace, where it has the length that its headers give it.
 fn made(rt: &impl Abort, head: &Head, fields: &FieldMap, base: &[u8], runs: &[Run]) -> Record
     requires fit { Fit runs.now (length base.now) }
-    requires map { fields.now.extensions ≡ head.now.extensions }
 {
     assert!(rt; base.len() >= front_length(head));
     let Some(length) = overlaid_length(head, base, runs) else {

@@ -18,11 +18,11 @@ struct Unsigned {
 impl Unsigned {
     ghost use Rattle.std.specs.Prelude.{◌≡◌, ◌+◌, ◌^◌, ◌<◌, pos, ℕ};
     ghost use Rattle.trace_record.specs.Statistics.{one_sample, with_sample};
-    ghost use Rattle.trace_record.specs.Unsigned.{seen};
+    ghost use Rattle.trace_record.specs.Unsigned.{statistics_of_unsigned};
 
     #[inline(always)]
     fn of(sample: u32) -> Unsigned
-        ensures { seen result 1 ≡ one_sample (pos sample) }
+        ensures { statistics_of_unsigned result 1 ≡ one_sample (pos sample) }
     {
         Unsigned {
             least: sample,
@@ -34,7 +34,8 @@ impl Unsigned {
     #[inline(always)]
     fn add(&mut self, sample: u32)
         requires { self.old.sum + sample < 2 ^ 64 }
-        ensures { (n : ℕ) → seen self.new (n + 1) ≡ with_sample (seen self.old n) (pos sample) }
+        ensures { (n : ℕ) → statistics_of_unsigned self.new (n + 1) ≡ with_sample
+            (statistics_of_unsigned self.old n) (pos sample) }
     {
         self.least = self.least.min(sample);
         self.greatest = self.greatest.max(sample);
@@ -43,7 +44,7 @@ impl Unsigned {
 
     // So many samples have these statistics.
     fn statistics(self, number: u32) -> Statistics
-        ensures { result ≡ seen self number }
+        ensures { result ≡ statistics_of_unsigned self number }
     {
         Statistics {
             least: i128::from(self.least),

@@ -1,4 +1,5 @@
-pub mod Times
-pub mod Joined
-pub mod Sound
-pub mod Positions
+pub mod TimeLemmas
+pub mod ChunkIdLemmas
+pub mod SoundLemmas
+pub mod FrontLemmas
+pub mod PositionLemmas

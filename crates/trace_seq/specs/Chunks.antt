@@ -13,9 +13,9 @@ abbrev pub size : Chunk → ℕ
 size c = length c.ids.items
 
 -- the ids of all chunks, in order
-abbrev pub joined : List Chunk → List ℕ
-joined [] = []
-joined (c ∷ cs) = c.ids.items ++ joined cs
+abbrev pub ids_of : List Chunk → List ℕ
+ids_of [] = []
+ids_of (c ∷ cs) = c.ids.items ++ ids_of cs
 
 -- how many ids the chunk at k holds, chunks counted from 0; 0 where there is none
 abbrev pub size_at : List Chunk → ℕ → ℕ
@@ -25,16 +25,16 @@ size_at (c ∷ cs) (suc k) = size_at cs k
 
 -- the place of a spot among all ids, from 0
 abbrev pub place_at : List Chunk → Spot → ℕ
-place_at cs s = length (joined (take s.chunk cs)) + s.offset
+place_at cs s = length (ids_of (take s.chunk cs)) + s.offset
 
 -- how many of the chunks have the key
-abbrev pub keyed : ℕ → List Chunk → ℕ
-keyed key [] = 0
-keyed key (c ∷ cs) = (if c.key == key then 1 else 0) + keyed key cs
+abbrev pub count_with_key : ℕ → List Chunk → ℕ
+count_with_key key [] = 0
+count_with_key key (c ∷ cs) = (if c.key == key then 1 else 0) + count_with_key key cs
 
 -- the first chunk with the key stands there, and so many ids in front of it
 abbrev pub HasKey : List Chunk → ℕ → Found → Type 0
-HasKey cs key f = (keyed key (take f.chunk cs) ≡ 0) × (keyed key (take (f.chunk + 1) cs) ≡ 1) × (f.chunk < length cs) × (f.before ≡ length (joined (take f.chunk cs)))
+HasKey cs key f = (count_with_key key (take f.chunk cs) ≡ 0) × (count_with_key key (take (f.chunk + 1) cs) ≡ 1) × (f.chunk < length cs) × (f.before ≡ length (ids_of (take f.chunk cs)))
 
 -- a chunk that is in use: it is not empty, and holds at most 512 ids in room for so many
 abbrev pub IsFilled : Chunk → Type 0
@@ -61,13 +61,17 @@ pub record IsSound (chunks spares : List Chunk) (home : List ℕ) : Type 0 where
   pub thick : AreThick 257 chunks
   pub homes : AllByRecursion (IsHome home) chunks
   -- no key is given twice, and they are the numbers below that of the chunks
-  pub one_each : (key : ℕ) → keyed key chunks + keyed key spares ≤ 1
-  pub low : (key : ℕ) → 0 < keyed key chunks + keyed key spares → key < length chunks + length spares
-  pub distinct : AreDistinct (joined chunks)
+  pub one_each : (key : ℕ) → count_with_key key chunks + count_with_key key spares ≤ 1
+  pub low : (key : ℕ) → 0 < count_with_key key chunks + count_with_key key spares → key < length chunks + length spares
+  pub distinct : AreDistinct (ids_of chunks)
+
+-- how many chunks there are, in use and spare
+abbrev pub chunk_count : ChunkList → ℕ
+chunk_count s = length s.chunks.items + length s.spares.items
 
 -- what holds of the whole between two calls: there is room for each chunk among those in use and among the spare ones
 pub record IsWhole (s : ChunkList) : Type 0 where
   pub sound : IsSound s.chunks.items s.spares.items s.home.items
   pub chunk_room : length s.chunks.items + length s.spares.items ≤ vec_capacity s.chunks
   pub spare_room : length s.chunks.items + length s.spares.items ≤ vec_capacity s.spares
-  pub count : s.count ≡ length (joined s.chunks.items)
+  pub count : s.count ≡ length (ids_of s.chunks.items)

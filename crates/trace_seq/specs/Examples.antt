@@ -1,28 +1,28 @@
 -- Orders worked out, read by the definitions.
 use Rattle.std.specs.Prelude.{◌≡◌, [], ◌∷◌, Some, None, refl}
-use Rattle.trace_seq.specs.Order.{times, id_at, inserted, removed, moved}
+use Rattle.trace_seq.specs.Order.{times, id_at, with_id, without_id, with_id_moved}
 
 -- an id in front of all, and behind all
-pub put_in_front : inserted (4 ∷ 7 ∷ []) 1 9 ≡ 9 ∷ 4 ∷ 7 ∷ []
+pub put_in_front : with_id (4 ∷ 7 ∷ []) 1 9 ≡ 9 ∷ 4 ∷ 7 ∷ []
 put_in_front = refl
 
-pub put_behind : inserted (4 ∷ 7 ∷ []) 3 9 ≡ 4 ∷ 7 ∷ 9 ∷ []
+pub put_behind : with_id (4 ∷ 7 ∷ []) 3 9 ≡ 4 ∷ 7 ∷ 9 ∷ []
 put_behind = refl
 
-pub taken_out : removed (4 ∷ 7 ∷ 9 ∷ []) 2 ≡ 4 ∷ 9 ∷ []
+pub taken_out : without_id (4 ∷ 7 ∷ 9 ∷ []) 2 ≡ 4 ∷ 9 ∷ []
 taken_out = refl
 
 -- the target counts in what is left: to 3 of three is behind all
-pub moved_behind : moved (4 ∷ 7 ∷ 9 ∷ []) 1 3 ≡ 7 ∷ 9 ∷ 4 ∷ []
+pub moved_behind : with_id_moved (4 ∷ 7 ∷ 9 ∷ []) 1 3 ≡ 7 ∷ 9 ∷ 4 ∷ []
 moved_behind = refl
 
-pub moved_by_one : moved (4 ∷ 7 ∷ 9 ∷ []) 1 2 ≡ 7 ∷ 4 ∷ 9 ∷ []
+pub moved_by_one : with_id_moved (4 ∷ 7 ∷ 9 ∷ []) 1 2 ≡ 7 ∷ 4 ∷ 9 ∷ []
 moved_by_one = refl
 
-pub moved_in_front : moved (4 ∷ 7 ∷ 9 ∷ []) 3 1 ≡ 9 ∷ 4 ∷ 7 ∷ []
+pub moved_in_front : with_id_moved (4 ∷ 7 ∷ 9 ∷ []) 3 1 ≡ 9 ∷ 4 ∷ 7 ∷ []
 moved_in_front = refl
 
-pub moved_nowhere : moved (4 ∷ 7 ∷ 9 ∷ []) 2 2 ≡ 4 ∷ 7 ∷ 9 ∷ []
+pub moved_nowhere : with_id_moved (4 ∷ 7 ∷ 9 ∷ []) 2 2 ≡ 4 ∷ 7 ∷ 9 ∷ []
 moved_nowhere = refl
 
 pub first : id_at (4 ∷ 7 ∷ []) 1 ≡ Some 4

@@ -33,13 +33,13 @@ abbrev pub id_at : List ℕ → ℕ → Option ℕ
 id_at ids p = if p == 0 then None else slice_get ids (p - 1)
 
 -- the list with the id put at position p: 1 is in front of all, one more than their number is behind all
-abbrev pub inserted : List ℕ → ℕ → ℕ → List ℕ
-inserted ids p id = insert ids (p - 1) id
+abbrev pub with_id : List ℕ → ℕ → ℕ → List ℕ
+with_id ids p id = insert ids (p - 1) id
 
 -- the list without the id at position p
-abbrev pub removed : List ℕ → ℕ → List ℕ
-removed ids p = remove ids (p - 1)
+abbrev pub without_id : List ℕ → ℕ → List ℕ
+without_id ids p = remove ids (p - 1)
 
 -- the list with the id at position a taken out, then put at position b of what is left
-abbrev pub moved : List ℕ → ℕ → ℕ → List ℕ
-moved ids a b = inserted (removed ids a) b (slice_index ids (a - 1))
+abbrev pub with_id_moved : List ℕ → ℕ → ℕ → List ℕ
+with_id_moved ids a b = with_id (without_id ids a) b (slice_index ids (a - 1))

@@ -3,13 +3,17 @@ ghost use Rattle.std.specs.Bool.{OnTrue, OnFalse};
 ghost use Rattle.std.specs.List.{insert, remove};
 ghost use Rattle.std.specs.Vec.{vec_capacity};
 ghost use Rattle.trace_seq.specs.Order.{times};
-ghost use Rattle.trace_seq.specs.Chunks.{joined, size_at, place_at, keyed, HasKey, IsEmpty, IsWhole};
+ghost use Rattle.trace_seq.specs.Chunks.{ids_of, size_at, place_at, chunk_count, count_with_key, HasKey, IsEmpty, IsWhole};
+ghost use Rattle.trace_seq.specs.Fronts.{AreKept, AreRaised};
 
 use crate::chunk::{Chunk, Found, ROOM, Spot};
 use crate::out_of_memory::OutOfMemory;
 use crate::room::{insert_within, push_within};
 use crate::scan::find_id;
 use std::alloc::Global;
+
+/// How full a chunk is where ids are put behind all others.
+const FILL: usize = 384;
 
 /// Two chunks side by side hold more than 256 ids: with so many they may not lose one.
 const THIN: usize = 257;
@@ -23,37 +27,13 @@ pub struct ChunkList {
     pub count: u32,
 }
 
-/// Where the id at a place stands, from 0. Each chunk looked at is a probe.
-pub fn locate(chunks: &[Chunk], place: usize, probes: &mut u64) -> Spot
-    requires { place < length (joined chunks.now) }
-    ensures place { place_at chunks.now result ≡ place }
-    ensures offset { result.offset < size_at chunks.now result.chunk }
-    ensures chunk { result.chunk < length chunks.now }
-    ensures probes { probes.new ≡ min (probes.old + result.chunk + 1) (2 ^ 64 - 1) }
-{
-    // Brings the range of `probes` into the proof, and does nothing at run time.
-    let _within = *probes;
-    let mut left = place;
-    for (k, chunk) in chunks.iter().enumerate() {
-        *probes = probes.saturating_add(1);
-        let size = chunk.ids.len();
-        if left < size {
-            return Spot {
-                chunk: k,
-                offset: left,
-            };
-        }
-        left -= size;
-    }
-    unreachable!()
-}
-
 /// Gives each of the ids the key.
 pub fn point(home: &mut Vec<u32>, ids: &[usize], key: u32)
     requires { (id : ℕ) → 0 < times id ids.now → id < length home.old.items }
     ensures length { length home.new.items ≡ length home.old.items }
     ensures keys { (id : ℕ) → 0 < times id ids.now → slice_index home.new.items id ≡ key }
-    ensures others { (id : ℕ) → times id ids.now ≡ 0 → slice_index home.new.items id ≡ slice_index home.old.items id }
+    ensures others { (id : ℕ) → times id ids.now ≡ 0 →
+        slice_index home.new.items id ≡ slice_index home.old.items id }
 {
     for id in ids {
         home[*id] = key;
@@ -69,9 +49,12 @@ impl ChunkList {
         requires room { size_at self.old.chunks.items spot.chunk < 512 }
         requires few { self.old.count < 2 ^ 32 - 1 }
         requires below { id < length self.old.home.items }
-        requires absent { times id (joined self.old.chunks.items) ≡ 0 }
+        requires absent { times id (ids_of self.old.chunks.items) ≡ 0 }
         ensures whole { IsWhole self.new }
-        ensures ids { joined self.new.chunks.items ≡ insert (joined self.old.chunks.items) (place_at self.old.chunks.items spot) id }
+        ensures ids { ids_of self.new.chunks.items ≡ insert (ids_of self.old.chunks.items)
+            (place_at self.old.chunks.items spot) id }
+        ensures fronts { AreRaised self.old.chunks.items self.new.chunks.items spot.chunk }
+        ensures chunks { length self.new.chunks.items ≡ length self.old.chunks.items }
         ensures spares { self.new.spares ≡ self.old.spares }
         ensures home { length self.new.home.items ≡ length self.old.home.items }
     {
@@ -81,16 +64,24 @@ impl ChunkList {
         self.count += 1;
     }
 
-    /// Takes out the id at a spot of a chunk that holds another id, and that stays thick enough with its neighbours.
+    /// Takes out the id at a spot of a chunk that holds another id, and that stays thick enough
+    /// with its neighbours.
     pub fn take_id(&mut self, spot: Spot)
         requires whole { IsWhole self.old }
         requires offset { spot.offset < size_at self.old.chunks.items spot.chunk }
         requires chunk { spot.chunk < length self.old.chunks.items }
         requires others { 1 < size_at self.old.chunks.items spot.chunk }
-        requires front { 0 < spot.chunk → 257 < size_at self.old.chunks.items (spot.chunk - 1) + size_at self.old.chunks.items spot.chunk }
-        requires back { spot.chunk + 1 < length self.old.chunks.items → 257 < size_at self.old.chunks.items spot.chunk + size_at self.old.chunks.items (spot.chunk + 1) }
+        requires front { 0 < spot.chunk →
+            257 < size_at self.old.chunks.items (spot.chunk - 1) + size_at self.old.chunks.items
+            spot.chunk }
+        requires back { spot.chunk + 1 < length self.old.chunks.items →
+            257 < size_at self.old.chunks.items spot.chunk + size_at self.old.chunks.items
+            (spot.chunk + 1) }
         ensures whole { IsWhole self.new }
-        ensures ids { joined self.new.chunks.items ≡ remove (joined self.old.chunks.items) (place_at self.old.chunks.items spot) }
+        ensures ids { ids_of self.new.chunks.items ≡ remove (ids_of self.old.chunks.items)
+            (place_at self.old.chunks.items spot) }
+        ensures fronts { AreRaised self.new.chunks.items self.old.chunks.items spot.chunk }
+        ensures chunks { length self.new.chunks.items ≡ length self.old.chunks.items }
         ensures spares { self.new.spares ≡ self.old.spares }
         ensures home { self.new.home ≡ self.old.home }
     {
@@ -105,7 +96,9 @@ impl ChunkList {
         requires chunk { k < length self.old.chunks.items }
         requires alone { size_at self.old.chunks.items k ≡ 1 }
         ensures whole { IsWhole self.new }
-        ensures ids { joined self.new.chunks.items ≡ remove (joined self.old.chunks.items) (length (joined (take k self.old.chunks.items))) }
+        ensures ids { ids_of self.new.chunks.items ≡ remove (ids_of self.old.chunks.items)
+            (length (ids_of (take k self.old.chunks.items))) }
+        ensures chunks { length self.new.chunks.items + 1 ≡ length self.old.chunks.items }
         ensures spares { length self.new.spares.items ≡ length self.old.spares.items + 1 }
         ensures home { self.new.home ≡ self.old.home }
     {
@@ -119,11 +112,14 @@ impl ChunkList {
     pub fn join(&mut self, k: usize)
         requires whole { IsWhole self.old }
         requires chunk { k + 1 < length self.old.chunks.items }
-        requires fits { size_at self.old.chunks.items k + size_at self.old.chunks.items (k + 1) ≤ 512 }
+        requires fits { size_at self.old.chunks.items k + size_at self.old.chunks.items
+            (k + 1) ≤ 512 }
         ensures whole { IsWhole self.new }
-        ensures ids { joined self.new.chunks.items ≡ joined self.old.chunks.items }
-        ensures front { length (joined (take k self.new.chunks.items)) ≡ length (joined (take k self.old.chunks.items)) }
-        ensures size { size_at self.new.chunks.items k ≡ size_at self.old.chunks.items k + size_at self.old.chunks.items (k + 1) }
+        ensures ids { ids_of self.new.chunks.items ≡ ids_of self.old.chunks.items }
+        ensures front { length (ids_of (take k self.new.chunks.items)) ≡ length
+            (ids_of (take k self.old.chunks.items)) }
+        ensures size { size_at self.new.chunks.items k ≡ size_at self.old.chunks.items k + size_at
+            self.old.chunks.items (k + 1) }
         ensures chunks { length self.new.chunks.items + 1 ≡ length self.old.chunks.items }
         ensures spares { length self.new.spares.items ≡ length self.old.spares.items + 1 }
         ensures home { length self.new.home.items ≡ length self.old.home.items }
@@ -142,9 +138,11 @@ impl ChunkList {
         requires full { size_at self.old.chunks.items k ≡ 512 }
         requires spare { 0 < length self.old.spares.items }
         ensures whole { IsWhole self.new }
-        ensures ids { joined self.new.chunks.items ≡ joined self.old.chunks.items }
-        ensures front { length (joined (take k self.new.chunks.items)) ≡ length (joined (take k self.old.chunks.items)) }
-        ensures behind { length (joined (take (k + 1) self.new.chunks.items)) ≡ length (joined (take k self.old.chunks.items)) + 256 }
+        ensures ids { ids_of self.new.chunks.items ≡ ids_of self.old.chunks.items }
+        ensures front { length (ids_of (take k self.new.chunks.items)) ≡ length
+            (ids_of (take k self.old.chunks.items)) }
+        ensures behind { length (ids_of (take (k + 1) self.new.chunks.items)) ≡ length
+            (ids_of (take k self.old.chunks.items)) + 256 }
         ensures first { size_at self.new.chunks.items k ≡ 256 }
         ensures second { size_at self.new.chunks.items (k + 1) ≡ 256 }
         ensures chunks { length self.new.chunks.items ≡ length self.old.chunks.items + 1 }
@@ -162,13 +160,16 @@ impl ChunkList {
     /// Puts an id that is not held behind all others, into a chunk of its own.
     pub fn append_chunk(&mut self, id: usize)
         requires whole { IsWhole self.old }
-        requires full { 0 < length self.old.chunks.items → 512 ≤ size_at self.old.chunks.items (length self.old.chunks.items - 1) }
+        requires full { 0 < length self.old.chunks.items →
+            256 ≤ size_at self.old.chunks.items (length self.old.chunks.items - 1) }
         requires few { self.old.count < 2 ^ 32 - 1 }
         requires spare { 0 < length self.old.spares.items }
         requires below { id < length self.old.home.items }
-        requires absent { times id (joined self.old.chunks.items) ≡ 0 }
+        requires absent { times id (ids_of self.old.chunks.items) ≡ 0 }
         ensures whole { IsWhole self.new }
-        ensures ids { joined self.new.chunks.items ≡ joined self.old.chunks.items ++ id ∷ [] }
+        ensures ids { ids_of self.new.chunks.items ≡ ids_of self.old.chunks.items ++ id ∷ [] }
+        ensures fronts { AreKept self.old.chunks.items self.new.chunks.items }
+        ensures chunks { length self.new.chunks.items ≡ length self.old.chunks.items + 1 }
         ensures spares { length self.new.spares.items + 1 ≡ length self.old.spares.items }
         ensures home { length self.new.home.items ≡ length self.old.home.items }
     {
@@ -185,9 +186,14 @@ impl ChunkList {
         requires few { self.old.count < 2 ^ 32 - 1 }
         requires spare { 0 < length self.old.spares.items }
         requires below { id < length self.old.home.items }
-        requires absent { times id (joined self.old.chunks.items) ≡ 0 }
+        requires absent { times id (ids_of self.old.chunks.items) ≡ 0 }
         ensures whole { IsWhole self.new }
-        ensures ids { joined self.new.chunks.items ≡ insert (joined self.old.chunks.items) (length (joined self.old.chunks.items)) id }
+        ensures ids { ids_of self.new.chunks.items ≡ insert (ids_of self.old.chunks.items)
+            (length (ids_of self.old.chunks.items)) id }
+        ensures fronts { AreKept self.old.chunks.items self.new.chunks.items }
+        ensures no_fewer { length self.old.chunks.items ≤ length self.new.chunks.items }
+        ensures chunks { length self.new.chunks.items ≤ length self.old.chunks.items + 1 }
+        ensures all { chunk_count self.new ≡ chunk_count self.old }
         ensures spares { length self.old.spares.items ≤ length self.new.spares.items + 1 }
         ensures home { length self.new.home.items ≡ length self.old.home.items }
     {
@@ -197,7 +203,7 @@ impl ChunkList {
             return;
         }
         let size = self.size(chunks - 1);
-        if size == ROOM {
+        if size >= FILL {
             self.append_chunk(id);
             return;
         }
@@ -226,12 +232,14 @@ impl ChunkList {
         requires offset { spot.offset < size_at self.old.chunks.items spot.chunk }
         requires spare { 0 < length self.old.spares.items }
         ensures whole { IsWhole self.new }
-        ensures ids { joined self.new.chunks.items ≡ joined self.old.chunks.items }
-        ensures place { place_at self.new.chunks.items result ≡ place_at self.old.chunks.items spot }
+        ensures ids { ids_of self.new.chunks.items ≡ ids_of self.old.chunks.items }
+        ensures place { place_at self.new.chunks.items result ≡ place_at self.old.chunks.items
+            spot }
         ensures chunk { result.chunk < length self.new.chunks.items }
         ensures offset { result.offset < size_at self.new.chunks.items result.chunk }
         ensures room { size_at self.new.chunks.items result.chunk < 512 }
         ensures count { self.new.count ≡ self.old.count }
+        ensures all { chunk_count self.new ≡ chunk_count self.old }
         ensures spares { length self.old.spares.items ≤ length self.new.spares.items + 1 }
         ensures home { length self.new.home.items ≡ length self.old.home.items }
     {
@@ -248,69 +256,40 @@ impl ChunkList {
         }
     }
 
-    /// Puts an id that is not held at a place, from 0, of which the last is behind all others.
-    pub fn insert(&mut self, place: usize, id: usize)
-        requires whole { IsWhole self.old }
-        requires place { place ≤ length (joined self.old.chunks.items) }
-        requires few { self.old.count < 2 ^ 32 - 1 }
-        requires spare { 0 < length self.old.spares.items }
-        requires below { id < length self.old.home.items }
-        requires absent { times id (joined self.old.chunks.items) ≡ 0 }
-        ensures whole { IsWhole self.new }
-        ensures ids { joined self.new.chunks.items ≡ insert (joined self.old.chunks.items) place id }
-        ensures spares { length self.old.spares.items ≤ length self.new.spares.items + 1 }
-        ensures home { length self.new.home.items ≡ length self.old.home.items }
-    {
-        if place == self.count as usize {
-            self.append(id);
-        } else {
-            self.insert_before(place, id);
-        }
-    }
-
-    /// Puts an id that is not held at a place in front of another, from 0.
-    fn insert_before(&mut self, place: usize, id: usize)
-        requires whole { IsWhole self.old }
-        requires place { place < length (joined self.old.chunks.items) }
-        requires few { self.old.count < 2 ^ 32 - 1 }
-        requires spare { 0 < length self.old.spares.items }
-        requires below { id < length self.old.home.items }
-        requires absent { times id (joined self.old.chunks.items) ≡ 0 }
-        ensures whole { IsWhole self.new }
-        ensures ids { joined self.new.chunks.items ≡ insert (joined self.old.chunks.items) place id }
-        ensures spares { length self.old.spares.items ≤ length self.new.spares.items + 1 }
-        ensures home { length self.new.home.items ≡ length self.old.home.items }
-    {
-        let mut uncounted = 0;
-        let spot = locate(&self.chunks, place, &mut uncounted);
-        let spot = self.make_room(spot);
-        self.put(spot, id);
-    }
-
-    /// Whether a chunk has one behind it, and the two would be too thin if one of their ids were taken out.
+    /// Whether a chunk has one behind it, and the two would be too thin if one of their ids were
+    /// taken out.
     pub fn is_thin(&self, k: usize) -> bool
         requires whole { IsWhole self.now }
         requires chunk { k < length self.now.chunks.items }
-        ensures thin { OnTrue result ((k + 1 < length self.now.chunks.items) × (size_at self.now.chunks.items k + size_at self.now.chunks.items (k + 1) ≤ 257)) }
-        ensures thick { OnFalse result (k + 1 < length self.now.chunks.items → 257 < size_at self.now.chunks.items k + size_at self.now.chunks.items (k + 1)) }
+        ensures thin { OnTrue result ((k + 1 < length self.now.chunks.items) ×
+            (size_at self.now.chunks.items k + size_at self.now.chunks.items (k + 1) ≤ 257)) }
+        ensures thick { OnFalse result (k + 1 < length self.now.chunks.items →
+            257 < size_at self.now.chunks.items k + size_at self.now.chunks.items (k + 1)) }
     {
         k + 1 < self.chunks.len() && self.size(k) + self.size(k + 1) <= THIN
     }
 
-    /// Joins the chunk of a spot with a neighbour, if they would be too thin without the spot's id, and tells where that is then.
+    /// Joins the chunk of a spot with a neighbour, if they would be too thin without the spot's id,
+    /// and tells where that is then.
     pub fn thicken(&mut self, spot: Spot) -> Spot
         requires whole { IsWhole self.old }
         requires chunk { spot.chunk < length self.old.chunks.items }
         requires offset { spot.offset < size_at self.old.chunks.items spot.chunk }
         requires others { 1 < size_at self.old.chunks.items spot.chunk }
         ensures whole { IsWhole self.new }
-        ensures ids { joined self.new.chunks.items ≡ joined self.old.chunks.items }
-        ensures place { place_at self.new.chunks.items result ≡ place_at self.old.chunks.items spot }
+        ensures ids { ids_of self.new.chunks.items ≡ ids_of self.old.chunks.items }
+        ensures place { place_at self.new.chunks.items result ≡ place_at self.old.chunks.items
+            spot }
         ensures chunk { result.chunk < length self.new.chunks.items }
         ensures offset { result.offset < size_at self.new.chunks.items result.chunk }
         ensures others { 1 < size_at self.new.chunks.items result.chunk }
-        ensures front { 0 < result.chunk → 257 < size_at self.new.chunks.items (result.chunk - 1) + size_at self.new.chunks.items result.chunk }
-        ensures back { result.chunk + 1 < length self.new.chunks.items → 257 < size_at self.new.chunks.items result.chunk + size_at self.new.chunks.items (result.chunk + 1) }
+        ensures front { 0 < result.chunk →
+            257 < size_at self.new.chunks.items (result.chunk - 1) + size_at self.new.chunks.items
+            result.chunk }
+        ensures back { result.chunk + 1 < length self.new.chunks.items →
+            257 < size_at self.new.chunks.items result.chunk + size_at self.new.chunks.items
+            (result.chunk + 1) }
+        ensures all { chunk_count self.new ≡ chunk_count self.old }
         ensures spares { length self.old.spares.items ≤ length self.new.spares.items }
         ensures home { length self.new.home.items ≡ length self.old.home.items }
     {
@@ -329,63 +308,21 @@ impl ChunkList {
         spot
     }
 
-    /// Takes out the id at a place, from 0.
-    pub fn remove(&mut self, place: usize)
-        requires whole { IsWhole self.old }
-        requires place { place < length (joined self.old.chunks.items) }
-        ensures whole { IsWhole self.new }
-        ensures ids { joined self.new.chunks.items ≡ remove (joined self.old.chunks.items) place }
-        ensures spares { length self.old.spares.items ≤ length self.new.spares.items }
-        ensures home { length self.new.home.items ≡ length self.old.home.items }
+    /// The id at a spot.
+    pub fn id_at(&self, spot: Spot) -> usize
+        requires chunk { spot.chunk < length self.now.chunks.items }
+        requires offset { spot.offset < size_at self.now.chunks.items spot.chunk }
+        ensures { slice_get (ids_of self.now.chunks.items) (place_at self.now.chunks.items spot)
+            ≡ Some result }
     {
-        let mut uncounted = 0;
-        let spot = locate(&self.chunks, place, &mut uncounted);
-        if self.size(spot.chunk) == 1 {
-            self.drop_chunk(spot.chunk);
-            return;
-        }
-        let spot = self.thicken(spot);
-        self.take_id(spot);
-    }
-
-    /// Takes out the id at a place, and puts it at another of what is left, both from 0.
-    pub fn move_to(&mut self, from: usize, to: usize)
-        requires whole { IsWhole self.old }
-        requires from { from < length (joined self.old.chunks.items) }
-        requires to { to < length (joined self.old.chunks.items) }
-        requires spare { 0 < length self.old.spares.items }
-        ensures whole { IsWhole self.new }
-        ensures ids { joined self.new.chunks.items ≡ insert (remove (joined self.old.chunks.items) from) to (slice_index (joined self.old.chunks.items) from) }
-        ensures spares { length self.old.spares.items ≤ length self.new.spares.items + 1 }
-        ensures home { length self.new.home.items ≡ length self.old.home.items }
-    {
-        // Brings the range of `count` into the proof, and does nothing at run time.
-        let _within = self.count;
-        let mut uncounted = 0;
-        let id = self.get(from, &mut uncounted);
-        self.remove(from);
-        self.insert(to, id);
-    }
-
-    /// The id at a place, from 0.
-    pub fn get(&self, place: usize, probes: &mut u64) -> usize
-        requires whole { IsWhole self.now }
-        requires place { place < length (joined self.now.chunks.items) }
-        ensures id { slice_get (joined self.now.chunks.items) place ≡ Some result }
-        ensures counted { probes.old ≤ probes.new }
-        ensures few_probes { probes.new ≤ probes.old + (length self.now.chunks.items + 1) }
-    {
-        // Brings the range of `probes` into the proof, and does nothing at run time.
-        let _within = *probes;
-        let spot = locate(&self.chunks, place, probes);
-        *probes = probes.saturating_add(1);
         self.chunks[spot.chunk].ids[spot.offset]
     }
 
     /// The place of an id, from 0.
     pub fn place_of(&self, id: usize, probes: &mut u64) -> Option<usize>
         requires whole { IsWhole self.now }
-        ensures place { MatchOption result (times id (joined self.now.chunks.items) ≡ 0) (λ place. slice_get (joined self.now.chunks.items) place ≡ Some id) }
+        ensures place { MatchOption result (times id (ids_of self.now.chunks.items) ≡ 0)
+            (λ place. slice_get (ids_of self.now.chunks.items) place ≡ Some id) }
         ensures within { IfSome result (λ place. place < self.now.count) }
         ensures counted { probes.old ≤ probes.new }
         ensures few_probes { probes.new ≤ probes.old + (length self.now.chunks.items + 512) }
@@ -430,8 +367,12 @@ impl ChunkList {
         ensures chunks { self.new.chunks.items ≡ self.old.chunks.items }
         ensures spares { self.new.spares.items ≡ self.old.spares.items }
         ensures home { self.new.home ≡ self.old.home }
-        ensures chunk_room { OnOk result (length self.old.chunks.items + length self.old.spares.items < vec_capacity self.new.chunks) }
-        ensures spare_room { OnOk result (length self.old.chunks.items + length self.old.spares.items < vec_capacity self.new.spares) }
+        ensures chunk_room { OnOk result
+            (length self.old.chunks.items + length self.old.spares.items < vec_capacity
+            self.new.chunks) }
+        ensures spare_room { OnOk result
+            (length self.old.chunks.items + length self.old.spares.items < vec_capacity
+            self.new.spares) }
     {
         let spares = self.spares.len();
         let chunks = self.chunks.len();
@@ -448,10 +389,15 @@ impl ChunkList {
         ensures chunks { self.new.chunks.items ≡ self.old.chunks.items }
         ensures spare { OnOk result (0 < length self.new.spares.items) }
         ensures spares { length self.old.spares.items ≤ length self.new.spares.items }
+        ensures few_spares { length self.new.spares.items ≤ length self.old.spares.items + 1 }
+        ensures no_more { 0 < length self.old.spares.items →
+            length self.new.spares.items ≡ length self.old.spares.items }
         ensures enough { OnOk result (id < length self.new.home.items) }
         ensures grows { length self.old.home.items ≤ length self.new.home.items }
-        ensures succeeds { 0 < length self.old.spares.items → id < length self.old.home.items → IsOk result }
-        ensures same_spares { OnErr result (length self.new.spares.items ≡ length self.old.spares.items) }
+        ensures succeeds { 0 < length self.old.spares.items → id < length self.old.home.items →
+            IsOk result }
+        ensures same_spares { OnErr result
+            (length self.new.spares.items ≡ length self.old.spares.items) }
         ensures same_home { OnErr result (length self.new.home.items ≡ length self.old.home.items) }
     {
         if !self.spares.is_empty() {
@@ -488,9 +434,10 @@ fn make_chunk(alloc: Global, key: u32) -> Result<Chunk, OutOfMemory>
 
 /// The chunk with a key, and how many ids stand in front of it. Each chunk looked at is a probe.
 pub fn find_chunk(chunks: &[Chunk], key: u32, probes: &mut u64) -> Option<Found>
-    requires { length (joined chunks.now) < 2 ^ 64 }
-    ensures found { MatchOption result (keyed key chunks.now ≡ 0) (HasKey chunks.now key) }
-    ensures probes { MatchOption result (probes.new ≡ min (probes.old + length chunks.now) (2 ^ 64 - 1)) (λ found. probes.new ≡ min (probes.old + found.chunk + 1) (2 ^ 64 - 1)) }
+    requires { length (ids_of chunks.now) < 2 ^ 64 }
+    ensures found { MatchOption result (count_with_key key chunks.now ≡ 0) (HasKey chunks.now key) }
+    ensures probes { MatchOption result (probes.new ≡ min (probes.old + length chunks.now)
+        (2 ^ 64 - 1)) (λ found. probes.new ≡ min (probes.old + found.chunk + 1) (2 ^ 64 - 1)) }
     ensures counted { probes.old ≤ probes.new }
     ensures few_probes { probes.new ≤ probes.old + length chunks.now }
 {

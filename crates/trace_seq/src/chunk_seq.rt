@@ -1,19 +1,24 @@
 ghost use Rattle.std.specs.Prelude.{◌≡◌, ◌+◌, ◌/◌, ◌≤◌, [], length};
 
 use crate::chunk_list::ChunkList;
+use crate::counted_chunks::CountedChunks;
 use crate::ids::Ids;
 use crate::out_of_memory::OutOfMemory;
 use crate::trace_seq::TraceSeq;
 use std::alloc::Global;
 use std::marker::Model;
 
-/// The ids in chunks of at most 512, for orders of many ids. Two chunks side by side hold more than 256 ids together.
+/// The ids in chunks of at most 512, for orders of many ids. Two chunks side by side hold more than
+/// 256 ids together.
 ///
-/// A look-up passes over whole chunks: `get` adds at most `chunks() + 1` to its probes, and `place_of` at most
-/// `chunks() + 512`. A chunk that a removal empties is kept as a spare one.
+/// For each group of 16 chunks it keeps how many ids stand in front. `get` finds the group by
+/// halves, then passes over its chunks: a number of steps that grows with the logarithm of the
+/// chunks. What is stated is that `get` adds at most `chunks() + 1` to its probes, and `place_of`,
+/// which passes over whole chunks, at most `chunks() + 512`. A chunk that a removal empties is kept
+/// as a spare one.
 #[derive(Drop)]
 pub struct ChunkSeq {
-    list: ChunkList,
+    chunks: CountedChunks,
 }
 
 impl Model for ChunkSeq {
@@ -22,11 +27,18 @@ impl Model for ChunkSeq {
 
     ghost Value = { ChunkOrder };
 
-    ghost use Rattle.trace_seq.specs.Chunks.{joined, IsWhole};
+    ghost use Rattle.trace_seq.specs.Chunks.{ids_of};
+    ghost use Rattle.trace_seq.specs.Fronts.{IsCounted};
 
-    ghost view = { λ s. record { ids = joined s.list.chunks.items; chunks = length s.list.chunks.items; bound = length s.list.home.items; spare = length s.list.spares.items } };
+    ghost view = { λ s. record {
+      ids = ids_of s.chunks.list.chunks.items;
+      chunks = length
+          s.chunks.list.chunks.items;
+      bound = length s.chunks.list.home.items;
+      spare = length s.chunks.list.spares.items;
+    } };
 
-    ghost invariant = { λ s. IsWhole s.list };
+    ghost invariant = { λ s. IsCounted s.chunks };
 }
 
 impl ChunkSeq {
@@ -35,11 +47,14 @@ impl ChunkSeq {
         ensures { result ≡ record { ids = []; chunks = 0; bound = 0; spare = 0 } }
     {
         ChunkSeq {
-            list: ChunkList {
-                chunks: Vec::new(alloc),
-                spares: Vec::new(alloc),
-                home: Vec::new(alloc),
-                count: 0,
+            chunks: CountedChunks {
+                list: ChunkList {
+                    chunks: Vec::new(alloc),
+                    spares: Vec::new(alloc),
+                    home: Vec::new(alloc),
+                    count: 0,
+                },
+                fronts: Vec::new(alloc),
             },
         }
     }
@@ -49,14 +64,14 @@ impl ChunkSeq {
         ensures number { result ≡ self.now.chunks }
         ensures few { result ≤ 1 + length self.now.ids / 128 }
     {
-        self.list.chunks.len()
+        self.chunks.list.chunks.len()
     }
 
     /// The ids in order. Reads each id once, and takes no memory.
     pub fn ids(&self) -> Ids<'_>
         ensures { result ≡ self.now.ids }
     {
-        Ids::new(&self.list.chunks)
+        Ids::new(&self.chunks.list.chunks)
     }
 }
 
@@ -74,44 +89,44 @@ impl TraceSeq for ChunkSeq {
     ghost place_probes = { λ s. s.chunks + 512 };
 
     fn len(&self) -> u32 {
-        self.list.count
+        self.chunks.list.count
     }
 
     fn bound(&self) -> usize {
-        self.list.home.len()
+        self.chunks.list.home.len()
     }
 
     fn spare(&self) -> usize {
-        self.list.spares.len()
+        self.chunks.list.spares.len()
     }
 
     fn get(&self, p: u32, probes: &mut u64) -> Option<usize> {
-        if p == 0 || p > self.list.count {
+        if p == 0 || p > self.chunks.list.count {
             return None;
         }
-        Some(self.list.get(p as usize - 1, probes))
+        Some(self.chunks.get(p as usize - 1, probes))
     }
 
     fn place_of(&self, id: usize, probes: &mut u64) -> Option<u32> {
         // Brings the range of `count` into the proof, and does nothing at run time.
-        let _within = self.list.count;
-        let place = self.list.place_of(id, probes)?;
+        let _within = self.chunks.list.count;
+        let place = self.chunks.list.place_of(id, probes)?;
         Some(place as u32 + 1)
     }
 
     fn reserve_one(&mut self, alloc: Global, id: usize) -> Result<(), OutOfMemory> {
-        self.list.reserve(alloc, id)
+        self.chunks.reserve(alloc, id)
     }
 
     fn insert(&mut self, p: u32, id: usize) {
-        self.list.insert(p as usize - 1, id);
+        self.chunks.insert(p as usize - 1, id);
     }
 
     fn remove(&mut self, p: u32) {
-        self.list.remove(p as usize - 1);
+        self.chunks.remove(p as usize - 1);
     }
 
     fn move_to(&mut self, a: u32, b: u32) {
-        self.list.move_to(a as usize - 1, b as usize - 1);
+        self.chunks.move_to(a as usize - 1, b as usize - 1);
     }
 }

@@ -21,9 +21,15 @@ impl Model for FlatSeq {
 
     ghost Value = { Order };
 
-    ghost view = { λ s. record { ids = s.list.items; bound = s.bound; spare = vec_capacity s.list - vec_len s.list } };
+    ghost view = { λ s. record {
+      ids = s.list.items;
+      bound = s.bound;
+      spare = vec_capacity
+          s.list - vec_len s.list;
+    } };
 
-    ghost invariant = { λ s. AreDistinct s.list.items × AreBelow s.bound s.list.items × (vec_len s.list < 2 ^ 32) };
+    ghost invariant = { λ s. AreDistinct s.list.items × AreBelow s.bound s.list.items ×
+        (vec_len s.list < 2 ^ 32) };
 }
 
 impl FlatSeq {

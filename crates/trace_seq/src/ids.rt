@@ -1,6 +1,6 @@
 ghost use Rattle.std.specs.Prelude.{◌≡◌};
 ghost use Rattle.std.specs.List.{AllByRecursion};
-ghost use Rattle.trace_seq.specs.Chunks.{joined, IsFilled};
+ghost use Rattle.trace_seq.specs.Chunks.{ids_of, IsFilled};
 
 use crate::chunk::Chunk;
 use std::marker::Model;
@@ -16,11 +16,11 @@ pub struct Ids<'a> {
 impl<'a> Model for Ids<'a> {
     ghost use Rattle.std.specs.Prelude.{ℕ, List, ◌++◌};
     ghost use Rattle.std.specs.List.{AllByRecursion};
-    ghost use Rattle.trace_seq.specs.Chunks.{joined, IsFilled};
+    ghost use Rattle.trace_seq.specs.Chunks.{ids_of, IsFilled};
 
     ghost Value = { List ℕ };
 
-    ghost view = { λ s. s.front.now ++ joined s.behind.now };
+    ghost view = { λ s. s.front.now ++ ids_of s.behind.now };
 
     ghost invariant = { λ s. AllByRecursion IsFilled s.behind.now };
 }
@@ -29,7 +29,7 @@ impl<'a> Ids<'a> {
     // The ids of chunks that are in use.
     pub(crate) fn new(chunks: &'a [Chunk]) -> Ids<'a>
         requires { AllByRecursion IsFilled chunks.now }
-        ensures { result ≡ joined chunks.now }
+        ensures { result ≡ ids_of chunks.now }
     {
         Ids {
             front: &[],

@@ -1,4 +1,5 @@
-// Values from outside: orders written down by hand, and two bodies that are compared over the same operations.
+// Values from outside: orders written down by hand, and two bodies that are compared over the same
+// operations.
 use crate::{ChunkSeq, FlatSeq, TraceSeq};
 use std::alloc::Global;
 use std::process::Abort;

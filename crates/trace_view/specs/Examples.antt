@@ -1,8 +1,8 @@
 -- Values and samples of small traces, worked by hand.
 use Rattle.std.specs.Prelude.{◌≡◌, ℕ, [], ◌∷◌, pos, negsuc, true, Some, None, refl}
 use Rattle.field_map.specs.declared.place.Place.{Place}
-use Rattle.frame_cut.specs.SmallFiles.{put, head_plain, head_extended, head_counted, head_little, trace_plain_2, trace_extended, trace_counted, trace_little}
-use Rattle.trace_view.specs.Runs.{written}
+use Rattle.frame_cut.specs.SmallFiles.{with_bytes_at, head_plain, head_extended, head_counted, head_little, trace_plain_2, trace_extended, trace_counted, trace_little}
+use Rattle.trace_view.specs.Runs.{bytes_with_runs}
 use Rattle.trace_view.specs.Values.{value_of, sample_of, samples_of}
 
 -- the place of a signed number
@@ -22,7 +22,7 @@ past_header = refl
 pub size_5 : value_of head_plain trace_plain_2 (place 0 1 5) ≡ None
 size_5 = refl
 
-pub in_extension : value_of head_extended (put 241 (0xFF ∷ 0xFE ∷ []) trace_extended) (place 1 1 2) ≡ Some (negsuc 1)
+pub in_extension : value_of head_extended (with_bytes_at 241 (0xFF ∷ 0xFE ∷ []) trace_extended) (place 1 1 2) ≡ Some (negsuc 1)
 in_extension = refl
 
 -- of three header extensions the trace has two
@@ -39,5 +39,5 @@ pub sample-2-little : sample_of head_little trace_little 2 ≡ None
 sample-2-little = refl
 
 -- a run in place of two of five bytes
-pub one_run : written (1 ∷ 2 ∷ 3 ∷ 4 ∷ 5 ∷ []) (record { at = 1; bytes = record { items = 8 ∷ 9 ∷ []; capacity = 16 } } ∷ []) ≡ 1 ∷ 8 ∷ 9 ∷ 4 ∷ 5 ∷ []
+pub one_run : bytes_with_runs (1 ∷ 2 ∷ 3 ∷ 4 ∷ 5 ∷ []) (record { at = 1; bytes = record { items = 8 ∷ 9 ∷ []; capacity = 16 } } ∷ []) ≡ 1 ∷ 8 ∷ 9 ∷ 4 ∷ 5 ∷ []
 one_run = refl

@@ -18,13 +18,13 @@ abbrev pub Fit : List Run → ℕ → Type 0
 Fit rs len = FitFrom 0 rs len
 
 -- the bytes behind the first `from`, with the runs in place of those that they cover
-abbrev pub written_from : ℕ → List ℕ → List Run → List ℕ
-written_from from base [] = drop from base
-written_from from base (r ∷ rs) = slice_range base from r.at ++ (r.bytes.items ++ written_from (end_of r) base rs)
+abbrev pub bytes_with_runs_from : ℕ → List ℕ → List Run → List ℕ
+bytes_with_runs_from from base [] = drop from base
+bytes_with_runs_from from base (r ∷ rs) = slice_range base from r.at ++ (r.bytes.items ++ bytes_with_runs_from (end_of r) base rs)
 
 -- the trace's bytes: the base with the runs in place of those that they cover
-abbrev pub written : List ℕ → List Run → List ℕ
-written base rs = written_from 0 base rs
+abbrev pub bytes_with_runs : List ℕ → List Run → List ℕ
+bytes_with_runs base rs = bytes_with_runs_from 0 base rs
 
 -- whether the run leaves the bytes from..to alone
 abbrev pub is_apart : ℕ → ℕ → Run → Bool

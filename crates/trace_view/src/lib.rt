@@ -1,9 +1,9 @@
-//! One trace of a SEG-Y file as a view: the bytes that it has in the file, with runs of changed bytes
-//! laid over them, borrowed in pieces and never joined. A `TraceView` gives the trace's length, its
-//! headers and its sample bytes as pieces, the number at a place of a header, and its samples.
-//! Where the trace has no such header, value or sample the answer is None. `changed_length` and
-//! `overlaid_length` tell the length that changed headers would give the trace. `put_run` lays one
-//! more run over others.
+//! One trace of a SEG-Y file as a view: the bytes that it has in the file, with runs of changed
+//! bytes laid over them, borrowed in pieces and never joined. A `TraceView` gives the trace's
+//! length, its headers and its sample bytes as pieces, the number at a place of a header, and its
+//! samples. Where the trace has no such header, value or sample the answer is None.
+//! `changed_length` and `overlaid_length` tell the length that changed headers would give the
+//! trace. `put_run` lays one more run over others.
 //!
 //! `put_run` takes memory, and the other calls take none. Bytes of a header count from 1, as in the
 //! standard, header extensions from 1, and samples from 0; the place of a run, and any other place

@@ -1,7 +1,7 @@
 // Base bytes with runs laid over them.
 ghost use Rattle.std.specs.Prelude.{◌≡◌, ◌+◌, ◌^◌, ◌<◌, ◌≤◌, ◌↔◌, ◌⊎◌, take, drop, length, slice_range, IsTrue, IsSome, IfSome};
 ghost use Rattle.num_order.specs.Number.{num, unsigned, IsSize};
-ghost use Rattle.trace_view.specs.Runs.{Fit, FitFrom-prop, written, is_plain as is_plain_of};
+ghost use Rattle.trace_view.specs.Runs.{Fit, FitFrom-prop, bytes_with_runs, is_plain as is_plain_of};
 
 use crate::cursor::Cursor;
 use crate::pieces::Pieces;
@@ -27,15 +27,15 @@ impl<'a> Overlaid<'a> {
 
     // How many bytes there are.
     pub(crate) fn length(&self) -> usize
-        ensures { result ≡ length (written self.now.base.now self.now.runs.now) }
+        ensures { result ≡ length (bytes_with_runs self.now.base.now self.now.runs.now) }
     {
         self.base.len()
     }
 
     // The bytes from this place on.
     pub(crate) fn cursor(&self, at: usize) -> Cursor<'a>
-        requires { at ≤ length (written self.now.base.now self.now.runs.now) }
-        ensures { result ≡ drop at (written self.now.base.now self.now.runs.now) }
+        requires { at ≤ length (bytes_with_runs self.now.base.now self.now.runs.now) }
+        ensures { result ≡ drop at (bytes_with_runs self.now.base.now self.now.runs.now) }
     {
         let mut cursor = Cursor::new(Stretches::new(self.base, self.runs));
         cursor.skip(at);
@@ -45,8 +45,9 @@ impl<'a> Overlaid<'a> {
     // The pieces of the bytes from..to.
     pub(crate) fn pieces(&self, from: usize, to: usize) -> Pieces<'a>
         requires order { from ≤ to }
-        requires inside { to ≤ length (written self.now.base.now self.now.runs.now) }
-        ensures { result ≡ slice_range (written self.now.base.now self.now.runs.now) from to }
+        requires inside { to ≤ length (bytes_with_runs self.now.base.now self.now.runs.now) }
+        ensures { result ≡ slice_range (bytes_with_runs self.now.base.now self.now.runs.now) from
+            to }
     {
         Pieces::new(to - from, self.cursor(from))
     }
@@ -61,9 +62,11 @@ impl<'a> Overlaid<'a> {
     // The bytes from..to as one slice, where no run touches them.
     pub(crate) fn plain(&self, from: usize, to: usize) -> Option<&'a [u8]>
         requires order { from ≤ to }
-        requires inside { to ≤ length (written self.now.base.now self.now.runs.now) }
+        requires inside { to ≤ length (bytes_with_runs self.now.base.now self.now.runs.now) }
         ensures some { IsSome result ↔ IsTrue (is_plain_of self.now.runs.now from to) }
-        ensures bytes { IfSome result (λ s. s.now ≡ slice_range (written self.now.base.now self.now.runs.now) from to) }
+        ensures bytes { IfSome result
+            (λ s. s.now ≡ slice_range (bytes_with_runs self.now.base.now self.now.runs.now) from
+            to) }
     {
         if self.is_plain(from as u64, to as u64) {
             Some(&self.base[from..to])
@@ -75,9 +78,11 @@ impl<'a> Overlaid<'a> {
     // The number at this place.
     pub(crate) fn number(&self, order: Order, kind: Kind, at: usize) -> i128
         requires size { IsSize kind.size }
-        requires inside { at + kind.size ≤ length (written self.now.base.now self.now.runs.now) }
+        requires inside { at + kind.size ≤ length
+            (bytes_with_runs self.now.base.now self.now.runs.now) }
         requires small { at + kind.size < 2 ^ 64 }
-        ensures { result ≡ num order kind (take kind.size (drop at (written self.now.base.now self.now.runs.now))) }
+        ensures { result ≡ num order kind
+            (take kind.size (drop at (bytes_with_runs self.now.base.now self.now.runs.now))) }
     {
         match self.plain(at, at + kind.size as usize) {
             Some(bytes) => read(order, kind, bytes),
@@ -88,9 +93,10 @@ impl<'a> Overlaid<'a> {
     // The number without a sign of 2 or 4 bytes at this place.
     pub(crate) fn unsigned(&self, order: Order, size: u8, at: usize) -> u32
         requires size { (size ≡ 2) ⊎ (size ≡ 4) }
-        requires inside { at + size ≤ length (written self.now.base.now self.now.runs.now) }
+        requires inside { at + size ≤ length (bytes_with_runs self.now.base.now self.now.runs.now) }
         requires small { at + size < 2 ^ 64 }
-        ensures { result ≡ unsigned order (take size (drop at (written self.now.base.now self.now.runs.now))) }
+        ensures { result ≡ unsigned order
+            (take size (drop at (bytes_with_runs self.now.base.now self.now.runs.now))) }
     {
         let size = usize::from(size);
         match self.plain(at, at + size) {

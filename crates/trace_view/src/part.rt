@@ -1,5 +1,5 @@
 ghost use Rattle.std.specs.Prelude.{◌≡◌, ◌≤◌, length, slice_range};
-ghost use Rattle.trace_view.specs.Runs.{written};
+ghost use Rattle.trace_view.specs.Runs.{bytes_with_runs};
 
 use crate::overlaid::Overlaid;
 use crate::pieces::Pieces;
@@ -15,21 +15,24 @@ pub struct Part<'a> {
 
 impl<'a> Model for Part<'a> {
     ghost use Rattle.std.specs.Prelude.{ℕ, List, ◌≤◌, length, slice_range};
-    ghost use Rattle.trace_view.specs.Runs.{written};
+    ghost use Rattle.trace_view.specs.Runs.{bytes_with_runs};
 
     ghost Value = { List ℕ };
 
-    ghost view = { λ p. slice_range (written p.bytes.base.now p.bytes.runs.now) p.from p.to };
+    ghost view = { λ p. slice_range (bytes_with_runs p.bytes.base.now p.bytes.runs.now) p.from
+        p.to };
 
-    ghost invariant = { λ p. (p.from ≤ p.to) × (p.to ≤ length (written p.bytes.base.now p.bytes.runs.now)) };
+    ghost invariant = { λ p. (p.from ≤ p.to) ×
+        (p.to ≤ length (bytes_with_runs p.bytes.base.now p.bytes.runs.now)) };
 }
 
 impl<'a> Part<'a> {
     // The bytes from..to.
     pub(crate) fn new(bytes: Overlaid<'a>, from: usize, to: usize) -> Part<'a>
         requires order { from ≤ to }
-        requires inside { to ≤ length (written bytes.base.now bytes.runs.now) }
-        ensures { result ≡ slice_range (written bytes.entry.base.now bytes.entry.runs.now) from to }
+        requires inside { to ≤ length (bytes_with_runs bytes.base.now bytes.runs.now) }
+        ensures { result ≡ slice_range (bytes_with_runs bytes.entry.base.now bytes.entry.runs.now)
+            from to }
     {
         Part { bytes, from, to }
     }

@@ -1,6 +1,6 @@
 ghost use Rattle.std.specs.Prelude.{◌≡◌, ◌+◌, ◌<◌, ◌≤◌, ◌++◌, ◌∷◌, [], take, drop, length, count_by, slice_range, IfOk, OnOk};
 ghost use Rattle.frame_cut.specs.Splice.{splice};
-ghost use Rattle.trace_view.specs.Runs.{Fit, written};
+ghost use Rattle.trace_view.specs.Runs.{Fit, bytes_with_runs};
 ghost use Rattle.trace_view.specs.Puts.{contents, is_in_front, is_behind};
 
 use crate::gap::{gap_before, gap_behind};
@@ -11,11 +11,11 @@ use crate::run::Run;
 use smallvec::SmallVec;
 use std::alloc::Global;
 
-/// The runs with these bytes laid over them from `at` on, as a new list: over the base they show the
-/// bytes that the old ones show, with these in their place. One run takes in the new bytes and all
-/// runs that they touch, and the others stay. The old runs rise, share no place, are not empty and
-/// lie inside the base, and so do the new ones. Takes memory for the list, and for each run of more
-/// than 16 bytes; where that is refused there is no list. Costs a copy of all runs.
+/// The runs with these bytes laid over them from `at` on, as a new list: over the base they show
+/// the bytes that the old ones show, with these in their place. One run takes in the new bytes and
+/// all runs that they touch, and the others stay. The old runs rise, share no place, are not empty
+/// and lie inside the base, and so do the new ones. Takes memory for the list, and for each run of
+/// more than 16 bytes; where that is refused there is no list. Costs a copy of all runs.
 pub fn put_run(
     alloc: Global,
     base: &[u8],
@@ -28,9 +28,12 @@ pub fn put_run(
     requires inside { at + length bytes.now ≤ length base.now }
     ensures fit { IfOk result (λ list. Fit list.items (length base.now)) }
     ensures bytes { IfOk result (λ list.
-        written base.now list.items ≡ splice (written base.now runs.now) at (length bytes.now) bytes.now) }
+        bytes_with_runs base.now list.items ≡ splice (bytes_with_runs base.now runs.now) at
+        (length bytes.now)
+        bytes.now) }
     ensures count { IfOk result (λ list. length list.items ≡
-        count_by (is_in_front at) runs.now + 1 + count_by (is_behind (at + length bytes.now)) runs.now) }
+        count_by (is_in_front at) runs.now + 1 + count_by (is_behind (at + length bytes.now))
+        runs.now) }
 {
     let end = at + bytes.len() as u64;
     let front = gap_before(runs, base.len() as u64, at);
@@ -40,7 +43,8 @@ pub fn put_run(
     Ok(list)
 }
 
-// The run of the old bytes from the start up to `at`, the new ones, and the old ones up to the stop.
+// The run of the old bytes from the start up to `at`, the new ones, and the old ones up to the
+// stop.
 fn joined(
     alloc: Global,
     base: &[u8],
@@ -55,8 +59,11 @@ fn joined(
     requires stop { at + length bytes.now ≤ stop }
     requires inside { stop ≤ length base.now }
     ensures at { IfOk result (λ run. run.at ≡ start) }
-    ensures bytes { IfOk result (λ run. run.bytes.items ≡ slice_range (written base.now runs.now) start at
-        ++ (bytes.now ++ slice_range (written base.now runs.now) (at + length bytes.now) stop)) }
+    ensures bytes { IfOk result
+        (λ run. run.bytes.items ≡ slice_range (bytes_with_runs base.now runs.now)
+        start at
+        ++ (bytes.now ++ slice_range (bytes_with_runs base.now runs.now) (at + length bytes.now)
+        stop)) }
 {
     let old = Overlaid::new(base, runs);
     let mut all = SmallVec::new(alloc);
@@ -82,7 +89,8 @@ fn exchanged(
 ) -> Result<Vec<Run>, OutOfMemory>
     requires first { first ≤ length runs.now }
     requires last { last ≤ length runs.now }
-    ensures { IfOk result (λ list. contents list.items ≡ contents (take first runs.now ++ run ∷ drop last runs.now)) }
+    ensures { IfOk result
+        (λ list. contents list.items ≡ contents (take first runs.now ++ run ∷ drop last runs.now)) }
 {
     let mut list = Vec::new(alloc);
     push_copies(alloc, &mut list, &runs[..first])?;

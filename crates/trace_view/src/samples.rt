@@ -7,8 +7,8 @@ use num_order::Order;
 use sample_codes::Format;
 use std::marker::Model;
 
-/// An iterator over the samples of a trace, in order. Seen as the list of those that are left. Takes
-/// no memory.
+/// An iterator over the samples of a trace, in order. Seen as the list of those that are left.
+/// Takes no memory.
 #[derive(Drop)]
 pub struct Samples<'a> {
     order: Order,

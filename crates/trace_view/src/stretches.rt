@@ -1,6 +1,6 @@
 // The stretches that a trace's bytes are made of: the base between the runs, and the runs.
 ghost use Rattle.std.specs.Prelude.{◌≡◌, ◌<◌, ◌++◌, length};
-ghost use Rattle.trace_view.specs.Runs.{Fit, written};
+ghost use Rattle.trace_view.specs.Runs.{Fit, bytes_with_runs};
 
 use crate::run::Run;
 use std::marker::Model;
@@ -15,11 +15,11 @@ pub(crate) struct Stretches<'a> {
 
 impl<'a> Model for Stretches<'a> {
     ghost use Rattle.std.specs.Prelude.{ℕ, List, length};
-    ghost use Rattle.trace_view.specs.Runs.{FitFrom, written_from};
+    ghost use Rattle.trace_view.specs.Runs.{FitFrom, bytes_with_runs_from};
 
     ghost Value = { List ℕ };
 
-    ghost view = { λ s. written_from s.from s.base.now s.runs.now };
+    ghost view = { λ s. bytes_with_runs_from s.from s.base.now s.runs.now };
 
     ghost invariant = { λ s. FitFrom s.from s.runs.now (length s.base.now) };
 }
@@ -28,7 +28,7 @@ impl<'a> Stretches<'a> {
     // All of them.
     pub(crate) fn new(base: &'a [u8], runs: &'a [Run]) -> Stretches<'a>
         requires { Fit runs.now (length base.now) }
-        ensures { result ≡ written base.now runs.now }
+        ensures { result ≡ bytes_with_runs base.now runs.now }
     {
         Stretches {
             from: 0,

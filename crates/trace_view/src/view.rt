@@ -3,7 +3,7 @@ ghost use Rattle.std.specs.Bool.{OnTrue};
 ghost use Rattle.num_order.specs.Number.{IsSize};
 ghost use Rattle.frame_cut.specs.Cuts.{IsTrace};
 ghost use Rattle.frame_cut.specs.Splice.{splice};
-ghost use Rattle.trace_view.specs.Runs.{Fit, written};
+ghost use Rattle.trace_view.specs.Runs.{Fit, bytes_with_runs};
 ghost use Rattle.trace_view.specs.Values.{is_in_header as is_in_header_of};
 
 use crate::lengths::{extension_count, sample_count};
@@ -12,7 +12,7 @@ use crate::part::Part;
 use crate::pieces::Pieces;
 use crate::run::Run;
 use crate::samples::Samples;
-use field_map::Place;
+use field_map::{Place, TRACE_HEADER_BYTES};
 use frame_cut::{Head, front_length, trace_length};
 use num_order::Kind;
 
@@ -21,7 +21,7 @@ use num_order::Kind;
 pub struct TraceView<'a> {
     head: &'a Head,
     bytes: Overlaid<'a>,
-    ghost whole: { IsTrace head.now (written bytes.base.now bytes.runs.now) },
+    ghost whole: { IsTrace head.now (bytes_with_runs bytes.base.now bytes.runs.now) },
 }
 
 impl<'a> TraceView<'a> {
@@ -30,7 +30,7 @@ impl<'a> TraceView<'a> {
     ghost use Rattle.frame_cut.specs.Cuts.{IsTrace};
     ghost use Rattle.frame_cut.specs.Frames.{extensions_of, sample_count as sample_count_of, trace_length as trace_length_of};
     ghost use Rattle.frame_cut.specs.Splice.{splice};
-    ghost use Rattle.trace_view.specs.Runs.{Fit, written, is_plain};
+    ghost use Rattle.trace_view.specs.Runs.{Fit, bytes_with_runs, is_plain};
     ghost use Rattle.trace_view.specs.Values.{main_header, extension as extension_of, sample_bytes as sample_bytes_of, samples_at as samples_at_of, value_of, sample_of, samples_of};
     ghost use Rattle.trace_view.specs.Shown.{bytes_of, head_of, runs_of};
 
@@ -39,9 +39,9 @@ impl<'a> TraceView<'a> {
     /// Takes no memory.
     pub fn new(head: &'a Head, base: &'a [u8], runs: &'a [Run]) -> TraceView<'a>
         requires fit { Fit runs.now (length base.now) }
-        requires whole { IsTrace head.now (written base.now runs.now) }
+        requires whole { IsTrace head.now (bytes_with_runs base.now runs.now) }
         ensures head { head_of result ≡ head.now }
-        ensures bytes { bytes_of result ≡ written base.now runs.now }
+        ensures bytes { bytes_of result ≡ bytes_with_runs base.now runs.now }
         ensures runs { runs_of result ≡ runs.now }
     {
         TraceView {
@@ -64,7 +64,8 @@ impl<'a> TraceView<'a> {
         self.bytes.length() as u64
     }
 
-    /// Copies bytes of the trace, from `at` on, counted from 0, as many as `out` has. Takes no memory.
+    /// Copies bytes of the trace, from `at` on, counted from 0, as many as `out` has. Takes no
+    /// memory.
     pub fn read(&self, at: u64, out: &mut [u8])
         requires { at + length out.old ≤ length (bytes_of self.now) }
         ensures { out.new ≡ take (length out.old) (drop at (bytes_of self.now)) }
@@ -72,12 +73,13 @@ impl<'a> TraceView<'a> {
         self.bytes.cursor(at as usize).read(out);
     }
 
-    /// The length in bytes that the trace's headers would give it with these bytes in place of those
-    /// from `at` on, counted from 0. None where its first header extension would say that there are
-    /// more extensions than the file allows. Takes no memory.
+    /// The length in bytes that the trace's headers would give it with these bytes in place of
+    /// those from `at` on, counted from 0. None where its first header extension would say that
+    /// there are more extensions than the file allows. Takes no memory.
     pub fn changed_length(&self, at: u64, bytes: &[u8]) -> Option<u64>
         requires { at + length bytes.now ≤ length (bytes_of self.now) }
-        ensures { result ≡ trace_length_of (head_of self.now) (splice (bytes_of self.now) at (length bytes.now) bytes.now) }
+        ensures { result ≡ trace_length_of (head_of self.now)
+            (splice (bytes_of self.now) at (length bytes.now) bytes.now) }
     {
         frame_cut::length_by_front();
         let mut gathered = [0; 480];
@@ -90,7 +92,8 @@ impl<'a> TraceView<'a> {
     fn read_changed(&self, at: u64, bytes: &[u8], front: &mut [u8])
         requires inside { at + length bytes.now ≤ length (bytes_of self.now) }
         requires front { length front.old ≤ length (bytes_of self.now) }
-        ensures { front.new ≡ take (length front.old) (splice (bytes_of self.now) at (length bytes.now) bytes.now) }
+        ensures { front.new ≡ take (length front.old)
+            (splice (bytes_of self.now) at (length bytes.now) bytes.now) }
     {
         self.read(0, front);
         lay_over(front, at as usize, bytes);
@@ -101,7 +104,8 @@ impl<'a> TraceView<'a> {
         requires size { IsSize kind.size }
         requires inside { at + kind.size ≤ length (bytes_of self.now) }
         requires small { at + kind.size < 2 ^ 64 }
-        ensures { result ≡ num (head_of self.now).order kind (take kind.size (drop at (bytes_of self.now))) }
+        ensures { result ≡ num (head_of self.now).order kind
+            (take kind.size (drop at (bytes_of self.now))) }
     {
         self.bytes.number(self.head.order, kind, at)
     }
@@ -123,11 +127,12 @@ impl<'a> TraceView<'a> {
 
     // Where the sample bytes begin, counted from 0.
     fn samples_at(&self) -> usize
-        ensures at { result ≡ 240 * (1 + extensions_of (head_of self.now) (bytes_of self.now)) }
+        ensures at { result ≡ TRACE_HEADER_BYTES * (1 + extensions_of (head_of self.now)
+            (bytes_of self.now)) }
         ensures inside { result ≤ length (bytes_of self.now) }
-        ensures small { result ≤ 240 * 256 }
+        ensures small { result ≤ TRACE_HEADER_BYTES * 256 }
     {
-        240 * (1 + usize::from(self.extension_count()))
+        TRACE_HEADER_BYTES * (1 + usize::from(self.extension_count()))
     }
 
     /// The trace's bytes, a slice at a time. Takes no memory.
@@ -141,7 +146,7 @@ impl<'a> TraceView<'a> {
     pub fn main(&self) -> Part<'a>
         ensures { result ≡ main_header (bytes_of self.now) }
     {
-        Part::new(self.bytes, 0, 240)
+        Part::new(self.bytes, 0, TRACE_HEADER_BYTES)
     }
 
     /// Header extension `extension`, of 240 bytes, counted from 1; None where the trace has no such
@@ -152,8 +157,8 @@ impl<'a> TraceView<'a> {
         if extension == 0 || !self.has_header(extension) {
             return None;
         }
-        let from = 240 * usize::from(extension);
-        Some(Part::new(self.bytes, from, from + 240))
+        let from = TRACE_HEADER_BYTES * usize::from(extension);
+        Some(Part::new(self.bytes, from, from + TRACE_HEADER_BYTES))
     }
 
     /// The bytes behind the headers. Takes no memory.
@@ -176,29 +181,32 @@ impl<'a> TraceView<'a> {
 
     /// The sample bytes as one slice, where no run touches them, else None. Takes no memory.
     pub fn plain_samples(&self) -> Option<&'a [u8]>
-        ensures some { IsSome result ↔ IsTrue (is_plain (runs_of self.now) (samples_at_of (head_of self.now) (bytes_of self.now)) (length (bytes_of self.now))) }
-        ensures bytes { IfSome result (λ s. s.now ≡ sample_bytes_of (head_of self.now) (bytes_of self.now)) }
+        ensures some { IsSome result ↔
+            IsTrue (is_plain (runs_of self.now)
+            (samples_at_of (head_of self.now) (bytes_of self.now)) (length (bytes_of self.now))) }
+        ensures bytes { IfSome result (λ s. s.now ≡ sample_bytes_of (head_of self.now)
+            (bytes_of self.now)) }
     {
         self.bytes.plain(self.samples_at(), self.bytes.length())
     }
 
     // Whether it has this header: the main header is 0, the extensions count from 1.
     fn has_header(&self, extension: u16) -> bool
-        ensures { IsTrue result ↔ (extension ≤ extensions_of (head_of self.now) (bytes_of self.now)) }
+        ensures { IsTrue result ↔
+            (extension ≤ extensions_of (head_of self.now) (bytes_of self.now)) }
     {
         extension == 0 || extension <= u16::from(self.extension_count())
     }
 
-    /// The number at the place; None where it is not inside a header that the trace has, or its size
-    /// is none that a number has. Takes no memory.
+    /// The number at the place; None where it is not inside a header that the trace has, or its
+    /// size is none that a number has. Takes no memory.
     pub fn value(&self, place: Place) -> Option<i128>
         ensures { result ≡ value_of (head_of self.now) (bytes_of self.now) place }
     {
         if !is_in_header(place) || !self.has_header(place.extension) {
             return None;
         }
-        let at = 240 * usize::from(place.extension) + usize::from(place.byte) - 1;
-        Some(self.number(place.kind, at))
+        Some(self.number(place.kind, place.offset() as usize))
     }
 
     /// Sample `k`, counted from 0; None where the trace has no such sample. Takes no memory.
@@ -227,7 +235,8 @@ impl<'a> TraceView<'a> {
 
 // Lays the bytes over the front from this place on, as far as it goes.
 fn lay_over(front: &mut [u8], at: usize, bytes: &[u8])
-    ensures { front.new ≡ take (length front.old) (splice front.old at (length bytes.now) bytes.now) }
+    ensures { front.new ≡ take (length front.old)
+        (splice front.old at (length bytes.now) bytes.now) }
 {
     if at < front.len() {
         let end = bytes.len().min(front.len() - at);
@@ -240,10 +249,7 @@ fn is_in_header(place: Place) -> bool
     ensures place { result ≡ is_in_header_of place }
     ensures size { OnTrue result (IsSize place.kind.size) }
 {
-    match place.kind.size {
-        1 | 2 | 3 | 4 | 8 => {
-            0 < place.byte && u32::from(place.byte) + u32::from(place.kind.size) < 242
-        }
-        _ => false,
-    }
+    place.kind.has_known_size()
+        && 0 < place.byte
+        && u32::from(place.byte) + u32::from(place.kind.size) < 242
 }

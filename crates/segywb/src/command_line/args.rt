@@ -12,7 +12,9 @@ pub fn file<'a>(alloc: Global) -> Arg<'a>
     ensures rule { rule_of result ≡ file_rule }
     ensures local { result.global ≡ false }
 {
-    Arg::new(alloc, "FILE").required(true)
+    Arg::new(alloc, "FILE")
+        .required(true)
+        .help("SEG-Y file with integer samples; it must fit in memory")
 }
 
 // `--script S`: the script to run.
@@ -20,7 +22,11 @@ pub fn script<'a>(alloc: Global) -> Arg<'a>
     ensures rule { rule_of result ≡ script_rule }
     ensures local { result.global ≡ false }
 {
-    Arg::new(alloc, "script").long("script").required(true)
+    Arg::new(alloc, "script")
+        .long("script")
+        .required(true)
+        .value_name("SCRIPT")
+        .help("edits and queries, one a line; /dev/stdin is standard input")
 }
 
 // `--out O`: where the file is saved after the script.
@@ -28,7 +34,10 @@ pub fn out<'a>(alloc: Global) -> Arg<'a>
     ensures rule { rule_of result ≡ out_rule }
     ensures local { result.global ≡ false }
 {
-    Arg::new(alloc, "out").long("out")
+    Arg::new(alloc, "out")
+        .long("out")
+        .value_name("OUT")
+        .help("save the edited file to OUT; without it nothing is saved")
 }
 
 // `--fixed`: each trace has the binary header's number of samples, whatever bytes 3503-3504 say.
@@ -39,6 +48,7 @@ pub fn fixed<'a>(alloc: Global) -> Arg<'a>
     Arg::new(alloc, "fixed")
         .long("fixed")
         .action(ArgAction::SetTrue)
+        .help("read each trace with the binary header's number of samples")
 }
 
 // `--max-bytes N`: the most bytes that the file may have.
@@ -49,6 +59,8 @@ pub fn limit<'a>(alloc: Global) -> Arg<'a>
     Arg::new(alloc, "max-bytes")
         .long("max-bytes")
         .value_parser(ValueParser::unsigned(1, 1099511627776))
+        .value_name("N")
+        .help("refuse files above N bytes, at most 1099511627776 [default: 4294967296]")
 }
 
 // `--stop`: the first refused line ends the run.
@@ -59,4 +71,5 @@ pub fn stop<'a>(alloc: Global) -> Arg<'a>
     Arg::new(alloc, "stop")
         .long("stop")
         .action(ArgAction::SetTrue)
+        .help("end the run at the first refused line, and save nothing")
 }

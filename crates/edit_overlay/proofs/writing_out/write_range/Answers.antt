@@ -1,7 +1,7 @@
 use Rattle.std.proofs.Common.{[], slice_range, refl}
 use Rattle.std.proofs.lemmas.Result.{err_from_is_err_and}
 use Rattle.edit_overlay.specs.Saving.{progress}
-use Rattle.edit_overlay.proofs.Saving.{nothing, refused_at, waits_more}
+use Rattle.edit_overlay.proofs.SavingLemmas.{nothing, refused_at, waits_more}
 use Rattle.edit_overlay.proofs.writing_out.write_range.Goals as goal
 
 pub returns-then-from-waiting-clause-saved : goal.returns-then-from-waiting-clause-saved

@@ -3,7 +3,7 @@ use Rattle.std.proofs.lemmas.Result.{err_from_is_err_and}
 use Rattle.std.specs.List.{concat}
 use Rattle.edit_overlay.specs.Saving.{progress}
 use Rattle.edit_overlay.specs.Slots.{bytes_in, bytes_under, traces_of}
-use Rattle.edit_overlay.proofs.Saving.{comes_on, refused_at, counted, length-waits, slot_here, no_slot, traces_here, traces_passed, same_come}
+use Rattle.edit_overlay.proofs.SavingLemmas.{comes_on, refused_at, counted, length-waits, slot_here, no_slot, traces_here, traces_passed, same_come}
 use Rattle.edit_overlay.proofs.writing_out.write_traces.Goals as goal
 
 pub write_slot-requires-clause-slot : goal.write_slot-requires-clause-slot

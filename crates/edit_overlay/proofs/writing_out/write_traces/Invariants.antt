@@ -2,16 +2,16 @@ use Rattle.std.proofs.Common.{◌≡◌, ◌≤◌, ◌++◌, List, ℕ, map, le
 use Rattle.std.specs.List.{concat}
 use Rattle.edit_overlay.specs.Saving.{progress}
 use Rattle.edit_overlay.specs.Slots.{bytes_under}
-use Rattle.edit_overlay.proofs.Saving.{Comes}
+use Rattle.edit_overlay.proofs.SavingLemmas.{Comes}
 use Rattle.edit_overlay.proofs.writing_out.write_traces.Given as goal
 
 -- the save has come to the traces of the ids that are passed
 abbrev pub invariant-loop-id : goal.invariant-loop-id
 invariant-loop-id g l = record {
-  failures : l.writer.1 ≡ l.initial.writer.1;
+  failures : l.writer.failures ≡ l.initial.writer.failures;
   order : l.waiting.from ≤ l.waiting.to;
   inside : l.waiting.to ≤ length l.store.loaded.items;
   passed : List ℕ;
   joined : passed ++ l.id-iterator ≡ l.store.order.ids;
-  comes : Comes (g.W.Write.contents l.initial.writer.0) (g.W.Write.contents l.writer.0) (progress l.store.loaded.items l.initial.waiting) (progress l.store.loaded.items l.waiting) (concat (map (bytes_under l.store.loaded.items l.store.slots) passed));
+  comes : Comes (g.W.Write.contents l.initial.writer.inner) (g.W.Write.contents l.writer.inner) (progress l.store.loaded.items l.initial.waiting) (progress l.store.loaded.items l.waiting) (concat (map (bytes_under l.store.loaded.items l.store.slots) passed));
 }

@@ -1,7 +1,7 @@
 use Rattle.std.proofs.Common.{◌≡◌, ◌++◌, List, ℕ, [], length, length-append, append_assoc, ap, sym, refl, ◌∙◌, arith}
 use Rattle.std.proofs.lemmas.Result.{err_from_is_err_and}
 use Rattle.trace_view.specs.Shown.{bytes_of}
-use Rattle.edit_overlay.proofs.Saving.{comes_on, nothing, refused_at}
+use Rattle.edit_overlay.proofs.SavingLemmas.{comes_on, nothing, refused_at}
 use Rattle.edit_overlay.proofs.writing_out.write_view.Goals as goal
 
 pub loop-piece-init : goal.loop-piece-init

@@ -6,7 +6,7 @@ use Rattle.edit_overlay.specs.Held.{volume_with}
 use Rattle.edit_overlay.specs.declared.writing_out.Waiting.{Waiting}
 use Rattle.edit_overlay.specs.Saving.{Progress, progress}
 use Rattle.edit_overlay.specs.Slots.{traces_of}
-use Rattle.edit_overlay.proofs.Saving.{begin, empty_waits, on_ok, IsFront, Comes, comes_on, counted, length-waits, parts_joined, refused_save, ended_save, shorter_front, waits_first, nothing}
+use Rattle.edit_overlay.proofs.SavingLemmas.{begin, empty_waits, on_ok, IsFront, Comes, comes_on, counted, length-waits, parts_joined, refused_save, ended_save, shorter_front, waits_first, nothing}
 use Rattle.edit_overlay.proofs.writing_out.write_volume.Goals as goal
 
 pub returns-in_err-write_part-clause-saved : goal.returns-in_err-write_part-clause-saved
@@ -41,8 +41,8 @@ returns-in_err-write_part-2-clause-saved g c =
     let front_4 : IsFront (((text ++ bin) ++ B) ++ T) all = shorter_front (((text ++ bin) ++ B) ++ T) Z all front_5 in
     let front_3 : IsFront ((text ++ bin) ++ B) all = shorter_front ((text ++ bin) ++ B) T all front_4 in
     let front_2 : IsFront (text ++ bin) all = shorter_front (text ++ bin) B all front_3 in
-    let w_0 : Option (List ℕ) = g.W.Write.contents c.args.writer.now.0 in
-    let w_1 : Option (List ℕ) = g.W.Write.contents c.write_part.new.writer.0 in
+    let w_0 : Option (List ℕ) = g.W.Write.contents c.args.writer.now.inner in
+    let w_1 : Option (List ℕ) = g.W.Write.contents c.write_part.new.writer.inner in
     let come_1 : Comes w_0 w_1 begin (record { written = c.write_part.new.written; waits = [] }) text = c.in_ok-write_part.ensures.saved in
     let p = err_from_is_err_and c.from_residual-in_err-write_part-2.result c.from_residual-in_err-write_part-2.ensures.1 in
     refused_save c.from_residual-in_err-write_part-2.result c.in_err-write_part-2.field-0.0 w_0 w_1 _ _ text bin all (rw p.2 at p.1) front_2 come_1 c.in_err-write_part-2.ensures.saved
@@ -59,10 +59,10 @@ write_traces-requires-clause-small g c =
     let whole : (((text ++ bin) ++ B) ++ T) ++ Z ≡ all = parts_joined text bin s c.requires.ends in
     let front_5 : IsFront ((((text ++ bin) ++ B) ++ T) ++ Z) all = ([], append-nil _ ∙ whole) in
     let front_4 : IsFront (((text ++ bin) ++ B) ++ T) all = shorter_front (((text ++ bin) ++ B) ++ T) Z all front_5 in
-    let w_0 : Option (List ℕ) = g.W.Write.contents c.args.writer.now.0 in
-    let w_1 : Option (List ℕ) = g.W.Write.contents c.write_part.new.writer.0 in
+    let w_0 : Option (List ℕ) = g.W.Write.contents c.args.writer.now.inner in
+    let w_1 : Option (List ℕ) = g.W.Write.contents c.write_part.new.writer.inner in
     let come_1 : Comes w_0 w_1 begin (record { written = c.write_part.new.written; waits = [] }) text = c.in_ok-write_part.ensures.saved in
-    let w_2 : Option (List ℕ) = g.W.Write.contents c.write_part-2.new.writer.0 in
+    let w_2 : Option (List ℕ) = g.W.Write.contents c.write_part-2.new.writer.inner in
     let come_2 : Comes w_0 w_2 begin (record { written = c.write_part-2.new.written; waits = [] }) (text ++ bin) = comes_on w_0 w_1 w_2 begin (record { written = c.write_part.new.written; waits = [] }) (record { written = c.write_part-2.new.written; waits = [] }) text bin come_1 c.in_ok-write_part-2.ensures.saved in
     let ready : Waiting = record { from = 3600; to = s.head.traces_at; written = c.write_part-2.new.written } in
     let at_3 : Progress = progress s.loaded.items ready in
@@ -90,10 +90,10 @@ returns-in_err-write_traces-clause-saved g c =
     let whole : (((text ++ bin) ++ B) ++ T) ++ Z ≡ all = parts_joined text bin s c.requires.ends in
     let front_5 : IsFront ((((text ++ bin) ++ B) ++ T) ++ Z) all = ([], append-nil _ ∙ whole) in
     let front_4 : IsFront (((text ++ bin) ++ B) ++ T) all = shorter_front (((text ++ bin) ++ B) ++ T) Z all front_5 in
-    let w_0 : Option (List ℕ) = g.W.Write.contents c.args.writer.now.0 in
-    let w_1 : Option (List ℕ) = g.W.Write.contents c.write_part.new.writer.0 in
+    let w_0 : Option (List ℕ) = g.W.Write.contents c.args.writer.now.inner in
+    let w_1 : Option (List ℕ) = g.W.Write.contents c.write_part.new.writer.inner in
     let come_1 : Comes w_0 w_1 begin (record { written = c.write_part.new.written; waits = [] }) text = c.in_ok-write_part.ensures.saved in
-    let w_2 : Option (List ℕ) = g.W.Write.contents c.write_part-2.new.writer.0 in
+    let w_2 : Option (List ℕ) = g.W.Write.contents c.write_part-2.new.writer.inner in
     let come_2 : Comes w_0 w_2 begin (record { written = c.write_part-2.new.written; waits = [] }) (text ++ bin) = comes_on w_0 w_1 w_2 begin (record { written = c.write_part.new.written; waits = [] }) (record { written = c.write_part-2.new.written; waits = [] }) text bin come_1 c.in_ok-write_part-2.ensures.saved in
     let ready : Waiting = record { from = 3600; to = s.head.traces_at; written = c.write_part-2.new.written } in
     let at_3 : Progress = progress s.loaded.items ready in
@@ -113,15 +113,15 @@ write_range-requires-clause-small g c =
     let whole : (((text ++ bin) ++ B) ++ T) ++ Z ≡ all = parts_joined text bin s c.requires.ends in
     let front_5 : IsFront ((((text ++ bin) ++ B) ++ T) ++ Z) all = ([], append-nil _ ∙ whole) in
     let front_4 : IsFront (((text ++ bin) ++ B) ++ T) all = shorter_front (((text ++ bin) ++ B) ++ T) Z all front_5 in
-    let w_0 : Option (List ℕ) = g.W.Write.contents c.args.writer.now.0 in
-    let w_1 : Option (List ℕ) = g.W.Write.contents c.write_part.new.writer.0 in
+    let w_0 : Option (List ℕ) = g.W.Write.contents c.args.writer.now.inner in
+    let w_1 : Option (List ℕ) = g.W.Write.contents c.write_part.new.writer.inner in
     let come_1 : Comes w_0 w_1 begin (record { written = c.write_part.new.written; waits = [] }) text = c.in_ok-write_part.ensures.saved in
-    let w_2 : Option (List ℕ) = g.W.Write.contents c.write_part-2.new.writer.0 in
+    let w_2 : Option (List ℕ) = g.W.Write.contents c.write_part-2.new.writer.inner in
     let come_2 : Comes w_0 w_2 begin (record { written = c.write_part-2.new.written; waits = [] }) (text ++ bin) = comes_on w_0 w_1 w_2 begin (record { written = c.write_part.new.written; waits = [] }) (record { written = c.write_part-2.new.written; waits = [] }) text bin come_1 c.in_ok-write_part-2.ensures.saved in
     let ready : Waiting = record { from = 3600; to = s.head.traces_at; written = c.write_part-2.new.written } in
     let at_3 : Progress = progress s.loaded.items ready in
     let come_3 : Comes w_0 w_2 begin at_3 ((text ++ bin) ++ B) = comes_on w_0 w_2 w_2 begin (record { written = c.write_part-2.new.written; waits = [] }) at_3 (text ++ bin) B come_2 (waits_first w_2 s.loaded.items ready) in
-    let w_3 : Option (List ℕ) = g.W.Write.contents c.write_traces.new.writer.0 in
+    let w_3 : Option (List ℕ) = g.W.Write.contents c.write_traces.new.writer.inner in
     let at_4 : Progress = progress s.loaded.items c.write_traces.new.waiting in
     let come_4 : Comes w_0 w_3 begin at_4 (((text ++ bin) ++ B) ++ T) = comes_on w_0 w_2 w_3 begin at_3 at_4 ((text ++ bin) ++ B) T come_3 c.in_ok-write_traces.ensures.saved in
     let come = counted w_0 w_3 begin at_4 (((text ++ bin) ++ B) ++ T) come_4 in
@@ -147,15 +147,15 @@ returns-in_err-write_range-clause-saved g c =
     let whole : (((text ++ bin) ++ B) ++ T) ++ Z ≡ all = parts_joined text bin s c.requires.ends in
     let front_5 : IsFront ((((text ++ bin) ++ B) ++ T) ++ Z) all = ([], append-nil _ ∙ whole) in
     let front_4 : IsFront (((text ++ bin) ++ B) ++ T) all = shorter_front (((text ++ bin) ++ B) ++ T) Z all front_5 in
-    let w_0 : Option (List ℕ) = g.W.Write.contents c.args.writer.now.0 in
-    let w_1 : Option (List ℕ) = g.W.Write.contents c.write_part.new.writer.0 in
+    let w_0 : Option (List ℕ) = g.W.Write.contents c.args.writer.now.inner in
+    let w_1 : Option (List ℕ) = g.W.Write.contents c.write_part.new.writer.inner in
     let come_1 : Comes w_0 w_1 begin (record { written = c.write_part.new.written; waits = [] }) text = c.in_ok-write_part.ensures.saved in
-    let w_2 : Option (List ℕ) = g.W.Write.contents c.write_part-2.new.writer.0 in
+    let w_2 : Option (List ℕ) = g.W.Write.contents c.write_part-2.new.writer.inner in
     let come_2 : Comes w_0 w_2 begin (record { written = c.write_part-2.new.written; waits = [] }) (text ++ bin) = comes_on w_0 w_1 w_2 begin (record { written = c.write_part.new.written; waits = [] }) (record { written = c.write_part-2.new.written; waits = [] }) text bin come_1 c.in_ok-write_part-2.ensures.saved in
     let ready : Waiting = record { from = 3600; to = s.head.traces_at; written = c.write_part-2.new.written } in
     let at_3 : Progress = progress s.loaded.items ready in
     let come_3 : Comes w_0 w_2 begin at_3 ((text ++ bin) ++ B) = comes_on w_0 w_2 w_2 begin (record { written = c.write_part-2.new.written; waits = [] }) at_3 (text ++ bin) B come_2 (waits_first w_2 s.loaded.items ready) in
-    let w_3 : Option (List ℕ) = g.W.Write.contents c.write_traces.new.writer.0 in
+    let w_3 : Option (List ℕ) = g.W.Write.contents c.write_traces.new.writer.inner in
     let at_4 : Progress = progress s.loaded.items c.write_traces.new.waiting in
     let come_4 : Comes w_0 w_3 begin at_4 (((text ++ bin) ++ B) ++ T) = comes_on w_0 w_2 w_3 begin at_3 at_4 ((text ++ bin) ++ B) T come_3 c.in_ok-write_traces.ensures.saved in
     let p = err_from_is_err_and c.from_residual-in_err-write_range.result c.from_residual-in_err-write_range.ensures.1 in
@@ -173,18 +173,18 @@ returns-clause-saved g c =
     let whole : (((text ++ bin) ++ B) ++ T) ++ Z ≡ all = parts_joined text bin s c.requires.ends in
     let front_5 : IsFront ((((text ++ bin) ++ B) ++ T) ++ Z) all = ([], append-nil _ ∙ whole) in
     let front_4 : IsFront (((text ++ bin) ++ B) ++ T) all = shorter_front (((text ++ bin) ++ B) ++ T) Z all front_5 in
-    let w_0 : Option (List ℕ) = g.W.Write.contents c.args.writer.now.0 in
-    let w_1 : Option (List ℕ) = g.W.Write.contents c.write_part.new.writer.0 in
+    let w_0 : Option (List ℕ) = g.W.Write.contents c.args.writer.now.inner in
+    let w_1 : Option (List ℕ) = g.W.Write.contents c.write_part.new.writer.inner in
     let come_1 : Comes w_0 w_1 begin (record { written = c.write_part.new.written; waits = [] }) text = c.in_ok-write_part.ensures.saved in
-    let w_2 : Option (List ℕ) = g.W.Write.contents c.write_part-2.new.writer.0 in
+    let w_2 : Option (List ℕ) = g.W.Write.contents c.write_part-2.new.writer.inner in
     let come_2 : Comes w_0 w_2 begin (record { written = c.write_part-2.new.written; waits = [] }) (text ++ bin) = comes_on w_0 w_1 w_2 begin (record { written = c.write_part.new.written; waits = [] }) (record { written = c.write_part-2.new.written; waits = [] }) text bin come_1 c.in_ok-write_part-2.ensures.saved in
     let ready : Waiting = record { from = 3600; to = s.head.traces_at; written = c.write_part-2.new.written } in
     let at_3 : Progress = progress s.loaded.items ready in
     let come_3 : Comes w_0 w_2 begin at_3 ((text ++ bin) ++ B) = comes_on w_0 w_2 w_2 begin (record { written = c.write_part-2.new.written; waits = [] }) at_3 (text ++ bin) B come_2 (waits_first w_2 s.loaded.items ready) in
-    let w_3 : Option (List ℕ) = g.W.Write.contents c.write_traces.new.writer.0 in
+    let w_3 : Option (List ℕ) = g.W.Write.contents c.write_traces.new.writer.inner in
     let at_4 : Progress = progress s.loaded.items c.write_traces.new.waiting in
     let come_4 : Comes w_0 w_3 begin at_4 (((text ++ bin) ++ B) ++ T) = comes_on w_0 w_2 w_3 begin at_3 at_4 ((text ++ bin) ++ B) T come_3 c.in_ok-write_traces.ensures.saved in
-    let w_4 : Option (List ℕ) = g.W.Write.contents c.write_range.new.writer.0 in
+    let w_4 : Option (List ℕ) = g.W.Write.contents c.write_range.new.writer.inner in
     let at_5 : Progress = progress s.loaded.items c.write_range.new.waiting in
     let last : Comes w_3 w_4 at_4 at_5 Z = rw c.as_slice-loaded.ensures.value at c.in_ok-write_range.ensures.saved in
     let come_5 : Comes w_0 w_4 begin at_5 ((((text ++ bin) ++ B) ++ T) ++ Z) = comes_on w_0 w_3 w_4 begin at_4 at_5 (((text ++ bin) ++ B) ++ T) Z come_4 last in
@@ -203,18 +203,18 @@ flush-requires-clause-small g c =
     let whole : (((text ++ bin) ++ B) ++ T) ++ Z ≡ all = parts_joined text bin s c.requires.ends in
     let front_5 : IsFront ((((text ++ bin) ++ B) ++ T) ++ Z) all = ([], append-nil _ ∙ whole) in
     let front_4 : IsFront (((text ++ bin) ++ B) ++ T) all = shorter_front (((text ++ bin) ++ B) ++ T) Z all front_5 in
-    let w_0 : Option (List ℕ) = g.W.Write.contents c.args.writer.now.0 in
-    let w_1 : Option (List ℕ) = g.W.Write.contents c.write_part.new.writer.0 in
+    let w_0 : Option (List ℕ) = g.W.Write.contents c.args.writer.now.inner in
+    let w_1 : Option (List ℕ) = g.W.Write.contents c.write_part.new.writer.inner in
     let come_1 : Comes w_0 w_1 begin (record { written = c.write_part.new.written; waits = [] }) text = c.in_ok-write_part.ensures.saved in
-    let w_2 : Option (List ℕ) = g.W.Write.contents c.write_part-2.new.writer.0 in
+    let w_2 : Option (List ℕ) = g.W.Write.contents c.write_part-2.new.writer.inner in
     let come_2 : Comes w_0 w_2 begin (record { written = c.write_part-2.new.written; waits = [] }) (text ++ bin) = comes_on w_0 w_1 w_2 begin (record { written = c.write_part.new.written; waits = [] }) (record { written = c.write_part-2.new.written; waits = [] }) text bin come_1 c.in_ok-write_part-2.ensures.saved in
     let ready : Waiting = record { from = 3600; to = s.head.traces_at; written = c.write_part-2.new.written } in
     let at_3 : Progress = progress s.loaded.items ready in
     let come_3 : Comes w_0 w_2 begin at_3 ((text ++ bin) ++ B) = comes_on w_0 w_2 w_2 begin (record { written = c.write_part-2.new.written; waits = [] }) at_3 (text ++ bin) B come_2 (waits_first w_2 s.loaded.items ready) in
-    let w_3 : Option (List ℕ) = g.W.Write.contents c.write_traces.new.writer.0 in
+    let w_3 : Option (List ℕ) = g.W.Write.contents c.write_traces.new.writer.inner in
     let at_4 : Progress = progress s.loaded.items c.write_traces.new.waiting in
     let come_4 : Comes w_0 w_3 begin at_4 (((text ++ bin) ++ B) ++ T) = comes_on w_0 w_2 w_3 begin at_3 at_4 ((text ++ bin) ++ B) T come_3 c.in_ok-write_traces.ensures.saved in
-    let w_4 : Option (List ℕ) = g.W.Write.contents c.write_range.new.writer.0 in
+    let w_4 : Option (List ℕ) = g.W.Write.contents c.write_range.new.writer.inner in
     let at_5 : Progress = progress s.loaded.items c.write_range.new.waiting in
     let last : Comes w_3 w_4 at_4 at_5 Z = rw c.as_slice-loaded.ensures.value at c.in_ok-write_range.ensures.saved in
     let come_5 : Comes w_0 w_4 begin at_5 ((((text ++ bin) ++ B) ++ T) ++ Z) = comes_on w_0 w_3 w_4 begin at_4 at_5 (((text ++ bin) ++ B) ++ T) Z come_4 last in

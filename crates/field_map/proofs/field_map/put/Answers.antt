@@ -1,7 +1,7 @@
 use Rattle.std.proofs.Common.{◌∙◌, refl, ap, bytes_eq}
 use Rattle.std.specs.String.{string_bytes, string_eq}
 use Rattle.field_map.specs.Pairs.{bound, shown}
-use Rattle.field_map.proofs.Shown.{insert_entry-shown, insert_entry-bound}
+use Rattle.field_map.proofs.ShownLemmas.{insert_entry-shown, insert_entry-bound}
 use Rattle.field_map.proofs.field_map.put.Goals as goal
 
 pub returns-clause-ok : goal.returns-clause-ok

@@ -1,7 +1,7 @@
 use Rattle.std.proofs.Common.{◌∙◌, refl, ap, bytes_eq}
 use Rattle.std.specs.String.{string_bytes}
 use Rattle.field_map.specs.Pairs.{shown}
-use Rattle.field_map.proofs.Shown.{remove_entry-shown}
+use Rattle.field_map.proofs.ShownLemmas.{remove_entry-shown}
 use Rattle.field_map.proofs.field_map.take_out.Goals as goal
 
 pub returns : goal.returns

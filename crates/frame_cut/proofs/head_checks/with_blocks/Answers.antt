@@ -1,10 +1,10 @@
 use Rattle.std.proofs.Common.{rules, sym, ◌∙◌, ◌≡◌, ◌+◌, ◌*◌, ◌-◌, ap, length, Ok, Result, pos, ℤ, false, FitsSigned, w32}
 use Rattle.std.specs.Prelude.{◌||◌, ◌&&◌, ◌==◌, not, int_lt}
-use Rattle.frame_cut.specs.declared.head.Head.{Head}
+use Rattle.frame_cut.specs.declared.file_head.Head.{Head}
 use Rattle.frame_cut.specs.declared.load_fault.LoadFault.{LoadFault}
 use Rattle.frame_cut.specs.BinaryHeader.{extensions_field, trailer_field}
 use Rattle.frame_cut.specs.Heads.{is_trailer_refused}
-use Rattle.frame_cut.proofs.HeadFront.{checks_passed, test_of, is_elsewhere}
+use Rattle.frame_cut.proofs.HeadFrontLemmas.{checks_passed, test_of, is_elsewhere}
 use Rattle.frame_cut.proofs.head_checks.with_blocks.Goals as goal
 
 pub returns : goal.returns

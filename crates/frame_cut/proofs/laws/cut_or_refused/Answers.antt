@@ -1,4 +1,4 @@
-use Rattle.frame_cut.proofs.Laid.{cut_or_refused}
+use Rattle.frame_cut.proofs.LaidLemmas.{cut_or_refused}
 use Rattle.frame_cut.proofs.laws.cut_or_refused.Goals as goal
 
 pub returns : goal.returns

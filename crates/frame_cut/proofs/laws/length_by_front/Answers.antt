@@ -1,4 +1,4 @@
-use Rattle.frame_cut.proofs.Edits.{trace_length-front}
+use Rattle.frame_cut.proofs.EditLemmas.{trace_length-front}
 use Rattle.frame_cut.proofs.laws.length_by_front.Goals as goal
 
 pub returns : goal.returns

@@ -1,4 +1,4 @@
-use Rattle.frame_cut.proofs.Edits.{cut_with_splice}
+use Rattle.frame_cut.proofs.EditLemmas.{cut_with_splice}
 use Rattle.frame_cut.proofs.laws.splice_stays_cut.Goals as goal
 
 pub returns : goal.returns

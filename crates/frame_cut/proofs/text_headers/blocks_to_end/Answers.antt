@@ -1,5 +1,5 @@
 use Rattle.std.proofs.Common.{arith, [], sym, ◌∙◌}
-use Rattle.frame_cut.proofs.Blocks.{end_found, end_missing}
+use Rattle.frame_cut.proofs.BlockLemmas.{end_found, end_missing}
 use Rattle.frame_cut.proofs.text_headers.blocks_to_end.Goals as goal
 
 pub returns-then-ends_text-clause-blocks : goal.returns-then-ends_text-clause-blocks

@@ -2,7 +2,7 @@ use Rattle.std.proofs.Common.{◌∙◌, ◌≡◌, ◌+◌, ◌++◌, ◌∷◌
 use Rattle.frame_cut.specs.declared.extent.Extent.{Extent}
 use Rattle.frame_cut.specs.Walk.{AreWhole, left_at}
 use Rattle.frame_cut.specs.Cuts.{trace_refusal}
-use Rattle.frame_cut.proofs.Laid.{whole-push, step-le}
+use Rattle.frame_cut.proofs.LaidLemmas.{whole-push, step-le}
 use Rattle.frame_cut.proofs.walk.walk.Goals as goal
 
 pub traces-preserved : goal.traces-preserved

@@ -1,6 +1,6 @@
 use Rattle.std.proofs.Common.{arith}
 use Rattle.std.proofs.lemmas.Int.{ints}
-use Rattle.num_order.proofs.Ranges.{of_unsigned}
+use Rattle.num_order.proofs.RangeLemmas.{of_unsigned}
 use Rattle.num_order.proofs.number.from_unsigned.Goals as goal
 
 pub returns-else-number-half : goal.returns-else-number-half

@@ -1,4 +1,4 @@
-use Rattle.range_stats.proofs.TallyRange.{range_of_tally}
+use Rattle.range_stats.proofs.TallyRangeLemmas.{range_of_tally}
 use Rattle.range_stats.proofs.laws.range_of_tally.Goals as goal
 
 pub returns : goal.returns

@@ -1,5 +1,5 @@
 use Rattle.trace_record.specs.Facts.{facts_of}
-use Rattle.range_stats.proofs.SmallTallies.{ranges_one, ranges_two}
+use Rattle.range_stats.proofs.SmallTallyLemmas.{ranges_one, ranges_two}
 use Rattle.range_stats.proofs.tests.ranges_run_with_traces.Goals as goal
 
 pub both-requires-clause-one : goal.both-requires-clause-one

@@ -1,4 +1,4 @@
-use Rattle.range_stats.proofs.SmallTallies.{totals_one, totals_two}
+use Rattle.range_stats.proofs.SmallTallyLemmas.{totals_one, totals_two}
 use Rattle.range_stats.proofs.tests.totals_run_with_traces.Goals as goal
 
 pub both-requires-clause-one : goal.both-requires-clause-one

@@ -1,6 +1,6 @@
 use Rattle.std.proofs.Common.{◌≤◌, ◌+◌, length, false, refl, sym, arith, ap, add-zero, Bool, ◌≡◌, ◌∙◌}
 use Rattle.std.specs.Prelude.{IsTrue}
-use Rattle.script_run.specs.Devices.{device}
+use Rattle.script_run.specs.Devices.{device_of}
 use Rattle.script_run.specs.Words.{script_lines}
 use Rattle.script_run.proofs.RunLemmas.{lines-le, none_yet, stays, one_more, breaks_off, stops}
 use Rattle.script_run.proofs.running.run_lines.Goals as goal
@@ -9,7 +9,7 @@ pub lines-init : goal.lines-init
 lines-init g c =
     let few : length (script_lines c.args.script.now) ≤ length c.args.script.now = lines-le c.args.script.now in
     rw c.new-lines.ensures (
-      none_yet c.args.bench.now.state (script_lines c.args.script.now) c.args.stop (device (g.A.Write.contents c.args.answers.now.0) c.args.answers.now.1) (stays (g.A.Write.contents c.args.answers.now.0)),
+      none_yet c.args.bench.now.state (script_lines c.args.script.now) c.args.stop (device_of g.A.Write.contents c.args.answers.now) (stays (g.A.Write.contents c.args.answers.now.inner)),
       omega (arith, few, c.requires),
       omega arith,
     )

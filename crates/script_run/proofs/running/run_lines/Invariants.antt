@@ -1,5 +1,5 @@
 use Rattle.std.proofs.Common.{◌≤◌, ◌+◌, length}
-use Rattle.script_run.specs.Devices.{device}
+use Rattle.script_run.specs.Devices.{device_of}
 use Rattle.script_run.specs.Words.{script_lines}
 use Rattle.script_run.proofs.RunLemmas.{SoFar}
 use Rattle.script_run.proofs.running.run_lines.Given as goal
@@ -7,7 +7,7 @@ use Rattle.script_run.proofs.running.run_lines.Given as goal
 abbrev pub invariant-lines : goal.invariant-lines
 invariant-lines g l =
     SoFar l.initial.bench.state (script_lines l.script) l.lines l.stop l.number l.refused l.written
-    (device (g.A.Write.contents l.initial.answers.0) l.initial.answers.1) (device (g.A.Write.contents l.answers.0) l.answers.1) l.bench.state
+    (device_of g.A.Write.contents l.initial.answers) (device_of g.A.Write.contents l.answers) l.bench.state
     × (l.number + length l.lines ≤ 16777216)
     × (l.refused ≤ l.number)
 

@@ -1,5 +1,5 @@
 use Rattle.script_run.specs.Words.{is_gap}
-use Rattle.script_run.proofs.Positions.{or_length}
+use Rattle.script_run.proofs.PositionLemmas.{or_length}
 use Rattle.script_run.proofs.words.word_length.Goals as goal
 
 pub returns : goal.returns

@@ -1,7 +1,7 @@
 use Rattle.std.proofs.Common.{◌≡◌, ◌∙◌, ap, sym, subst, codes, ℕ, Bool, List, Option}
 use Rattle.clap.specs.Words.{Row, first_of, one_of, found_of, rows_of}
 use Rattle.segywb.specs.CommandLine.{ReadsFlag, ReadsLimit, matched}
-use Rattle.segywb.proofs.Rows.{rows_are, first_of-rows_of, one_of-rows_of}
+use Rattle.segywb.proofs.RowLemmas.{rows_are, first_of-rows_of, one_of-rows_of}
 use Rattle.segywb.proofs.command_line.arguments.Goals as goal
 
 pub returns-in-Some-clause-file : goal.returns-in-Some-clause-file

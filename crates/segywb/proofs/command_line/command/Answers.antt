@@ -10,5 +10,5 @@ returns c = c.in_ok-command.ensures.shape c.stop.ensures.local ∙ ap₂ with_ru
     c.in_ok-arg-4.ensures.shape c.fixed.ensures.local ∙ ap₂ with_rule (
     c.in_ok-arg-3.ensures.shape c.out.ensures.local ∙ ap₂ with_rule (
     c.in_ok-arg-2.ensures.shape c.script.ensures.local ∙ ap₂ with_rule (
-    c.in_ok-arg.ensures.shape c.file.ensures.local ∙ ap₂ with_rule c.new.ensures.app c.file.ensures.rule)
+    c.in_ok-arg.ensures.shape c.file.ensures.local ∙ ap₂ with_rule c.titled_command.ensures c.file.ensures.rule)
     c.script.ensures.rule) c.out.ensures.rule) c.fixed.ensures.rule) c.limit.ensures.rule) c.stop.ensures.rule

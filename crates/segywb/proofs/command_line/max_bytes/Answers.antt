@@ -1,4 +1,4 @@
-use Rattle.segywb.proofs.LimitText.{no_limit}
+use Rattle.segywb.proofs.LimitTextLemmas.{no_limit}
 use Rattle.segywb.proofs.command_line.max_bytes.Goals as goal
 
 pub returns-in-Ok-None-clause-text : goal.returns-in-Ok-None-clause-text

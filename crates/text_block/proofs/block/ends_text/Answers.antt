@@ -1,5 +1,5 @@
 use Rattle.std.proofs.Common.{sym, ◌∙◌, rules, false}
-use Rattle.text_block.proofs.EndStanza.{has_part-other, has_part-parenthesis}
+use Rattle.text_block.proofs.EndStanzaLemmas.{has_part-other, has_part-parenthesis}
 use Rattle.text_block.proofs.block.ends_text.Goals as goal
 use Rattle.text_block.proofs.block.ends_text.Goals.{else-block-at-via-then-block-at+else-starts_with_end, else-block-at-via-else-block-at}
 

@@ -1,5 +1,5 @@
 use Rattle.std.proofs.Common.{sym, ◌∙◌, arith}
-use Rattle.text_block.proofs.EndStanza.{matches-next, matches-other, matches-escaped, starts_with-whole}
+use Rattle.text_block.proofs.EndStanzaLemmas.{matches-next, matches-other, matches-escaped, starts_with-whole}
 use Rattle.text_block.proofs.block.starts_with_end.Goals as goal
 
 pub returns-in_default : goal.returns-in_default

@@ -1,7 +1,7 @@
 use Rattle.std.proofs.Common.{◌==◌, sym, ◌∙◌, arith}
 use Rattle.std.proofs.lemmas.Bool.{eq-eqb, ne_eqb}
 use Rattle.text_block.specs.declared.characters.TheConstants.{EBCDIC}
-use Rattle.text_block.proofs.CharacterTables.{position_from-EBCDIC, position_from-here, position_from-drop}
+use Rattle.text_block.proofs.CharacterTableLemmas.{position_from-EBCDIC, position_from-here, position_from-drop}
 use Rattle.text_block.proofs.characters.ebcdic_byte.Goals as goal
 
 pub loop-byte-init : goal.loop-byte-init

@@ -4,7 +4,7 @@ use Rattle.std.specs.Int.{w32}
 use Rattle.std.proofs.lemmas.Int.{ints, to_z-of_z}
 use Rattle.sample_codes.specs.Formats.{width}
 use Rattle.trace_view.specs.Values.{samples_in}
-use Rattle.trace_record.specs.Narrow.{seen}
+use Rattle.trace_record.specs.Narrow.{statistics_of_narrow}
 use Rattle.trace_record.specs.Statistics.{statistics_of, one_sample, with_sample}
 use Rattle.trace_record.proofs.SampleLemmas.{samples_begun, sample_counted, samples_ended, sample_inside, sum_bounds}
 use Rattle.trace_record.proofs.narrow.narrow_statistics.Goals as goal
@@ -13,7 +13,7 @@ pub loop-i-init : goal.loop-i-init
 loop-i-init g c =
     let fits : SFits w32 c.at.result = search rules in
     let some : 0 < c.args.number = omega arith in
-    let begun : seen c.of-narrow.result 1 ≡ one_sample c.at.result = c.of-narrow.ensures ∙ ap one_sample (to_z-of_z w32 _ fits) in
+    let begun : statistics_of_narrow c.of-narrow.result 1 ≡ one_sample c.at.result = c.of-narrow.ensures ∙ ap one_sample (to_z-of_z w32 _ fits) in
     let sum = ap (λ r. r.sum) begun in
     record {
       rises = omega arith;
@@ -28,13 +28,13 @@ loop-i-preserved g c =
     let i = c.loop-i.i in
     let all = statistics_of (samples_in g.O.Ordered.order g.S.ReadsSample.format c.args.number c.args.bytes.now) in
     let fits : SFits w32 x = search rules in
-    let added : seen c.add.new.self (i + 1) ≡ with_sample (seen c.loop-i.narrow i) x = c.add.ensures i ∙ ap (with_sample (seen c.loop-i.narrow i)) (to_z-of_z w32 _ fits) in
+    let added : statistics_of_narrow c.add.new.self (i + 1) ≡ with_sample (statistics_of_narrow c.loop-i.narrow i) x = c.add.ensures i ∙ ap (with_sample (statistics_of_narrow c.loop-i.narrow i)) (to_z-of_z w32 _ fits) in
     let bounds = sum_bounds i c.loop-i.narrow.sum c.add.new.self.sum x (omega (arith, ints)) (omega (arith, ints)) (ap (λ r. r.sum) added) c.loop-i.invariant.low c.loop-i.invariant.high in
     record {
       rises = omega arith;
       low = bounds.0;
       high = bounds.1;
-      rest = sample_counted g.O.Ordered.order g.S.ReadsSample.format c.args.number i c.args.bytes.now (seen c.loop-i.narrow i) (seen c.add.new.self (i + 1)) x all c.loop-i-test.true c.at-in-loop-i.ensures added c.loop-i.invariant.rest;
+      rest = sample_counted g.O.Ordered.order g.S.ReadsSample.format c.args.number i c.args.bytes.now (statistics_of_narrow c.loop-i.narrow i) (statistics_of_narrow c.add.new.self (i + 1)) x all c.loop-i-test.true c.at-in-loop-i.ensures added c.loop-i.invariant.rest;
     }
 
 pub at-requires : goal.at-requires
@@ -46,10 +46,10 @@ at-requires-in-loop-i g c = sample_inside (width g.S.ReadsSample.format) c.args.
 pub returns : goal.returns
 returns g c =
     let all : c.loop-i.i ≡ c.args.number = omega arith in
-    let ended = samples_ended g.O.Ordered.order g.S.ReadsSample.format c.args.number c.loop-i.i c.args.bytes.now (seen c.loop-i.narrow c.loop-i.i) _ c.loop-i-test.false c.loop-i.invariant.rest in
+    let ended = samples_ended g.O.Ordered.order g.S.ReadsSample.format c.args.number c.loop-i.i c.args.bytes.now (statistics_of_narrow c.loop-i.narrow c.loop-i.i) _ c.loop-i-test.false c.loop-i.invariant.rest in
     let sum = ap (λ r. r.sum) c.statistics.ensures in
     let number = ap (λ r. r.number) c.statistics.ensures in
     record {
-      value = ap Some (c.statistics.ensures ∙ sym (ap (seen c.loop-i.narrow) all)) ∙ ended;
+      value = ap Some (c.statistics.ensures ∙ sym (ap (statistics_of_narrow c.loop-i.narrow) all)) ∙ ended;
       range = record { low = omega (arith, ints); high = omega (arith, ints) };
     }

@@ -1,6 +1,6 @@
 use Rattle.std.proofs.Common.{◌≡◌, ℕ, ◌+◌, ◌*◌, ap, ap₂, ◌∙◌}
 use Rattle.sample_codes.specs.Formats.{width}
-use Rattle.frame_cut.specs.declared.head.Head.{Head}
+use Rattle.frame_cut.specs.declared.file_head.Head.{Head}
 use Rattle.frame_cut.specs.Frames.{extensions_of}
 use Rattle.trace_view.specs.Shown.{bytes_of, head_of}
 use Rattle.trace_record.specs.Statistics.{statistics_of}

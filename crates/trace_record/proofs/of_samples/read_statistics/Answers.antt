@@ -1,5 +1,5 @@
 use Rattle.std.proofs.Common.{ap, ◌∙◌, length}
-use Rattle.frame_cut.specs.declared.head.Head.{Head}
+use Rattle.frame_cut.specs.declared.file_head.Head.{Head}
 use Rattle.trace_view.specs.Shown.{head_of}
 use Rattle.trace_view.specs.Values.{samples_in}
 use Rattle.trace_record.specs.Statistics.{statistics_of}

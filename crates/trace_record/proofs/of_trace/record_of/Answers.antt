@@ -3,8 +3,9 @@ use Rattle.std.specs.Int.{w16, w32, w128}
 use Rattle.std.proofs.lemmas.Int.{ints}
 use Rattle.trace_view.specs.Shown.{bytes_of, head_of}
 use Rattle.trace_view.specs.Values.{sample_bytes}
-use Rattle.trace_record.specs.Scaled.{scaled}
+use Rattle.trace_record.specs.Coordinates.{under_scalar}
 use Rattle.trace_record.proofs.FactsLemmas.{kept, facts_made}
+use Rattle.trace_record.proofs.GeometryLemmas.{names}
 use Rattle.trace_record.proofs.HeaderLemmas.{has_header}
 use Rattle.trace_record.proofs.SampleLemmas.{length-samples_in}
 use Rattle.trace_record.proofs.of_trace.record_of.Goals as goal
@@ -25,7 +26,7 @@ invariant_of-result c =
     record { sum_low = omega (arith, ints, range.low); sum_high = omega (arith, ints, range.high) }
 
 pub returns : goal.returns
-returns c =
+returns c has =
     let v = c.args.view.now in
     let s = c.samples_statistics-samples in
     let least : SFits w128 s.result.least = search rules in
@@ -41,13 +42,14 @@ returns c =
     let units : SFits w16 c.i16_at.result = search rules in
     let h = head_of v in
     let t = bytes_of v in
-    let the_scalar = kept w16 _ _ scalar c.scalar_of-scalar.ensures in
+    let named = names h c.args.fields.now.pairs t has in
+    let the_scalar = kept w16 _ _ scalar (c.scalar_of-scalar.ensures named.scalar) in
     facts_made _ h c.args.fields.now.pairs t (record {
-      inline = kept w32 _ _ inline c.geometry_value.ensures;
-      crossline = kept w32 _ _ crossline c.geometry_value-2.ensures;
-      offset = kept w32 _ _ offset c.geometry_value-3.ensures;
-      x = c.scaled.ensures.exact ∙ ap₂ scaled (kept w32 _ _ x c.geometry_value-x.ensures) the_scalar;
-      y = c.scaled-2.ensures.exact ∙ ap₂ scaled (kept w32 _ _ y c.geometry_value-y.ensures) the_scalar;
+      inline = kept w32 _ _ inline (c.geometry_value.ensures named.inline);
+      crossline = kept w32 _ _ crossline (c.geometry_value-2.ensures named.crossline);
+      offset = kept w32 _ _ offset (c.geometry_value-3.ensures named.offset);
+      x = c.scaled.ensures.exact ∙ ap₂ under_scalar (kept w32 _ _ x (c.geometry_value-x.ensures named.x)) the_scalar;
+      y = c.scaled-2.ensures.exact ∙ ap₂ under_scalar (kept w32 _ _ y (c.geometry_value-y.ensures named.y)) the_scalar;
       scalar = the_scalar;
       sequence = kept w32 _ _ sequence c.i32_at.ensures;
       units = kept w16 _ _ units c.i16_at.ensures;

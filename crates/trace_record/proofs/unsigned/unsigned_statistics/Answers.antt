@@ -3,7 +3,7 @@ use Rattle.std.specs.Prelude.{Some}
 use Rattle.std.proofs.lemmas.Int.{ints}
 use Rattle.sample_codes.specs.declared.format.Format.TheVariants.{Unsigned32}
 use Rattle.trace_view.specs.Values.{samples_in}
-use Rattle.trace_record.specs.Unsigned.{seen}
+use Rattle.trace_record.specs.Unsigned.{statistics_of_unsigned}
 use Rattle.trace_record.specs.Statistics.{statistics_of}
 use Rattle.trace_record.proofs.SampleLemmas.{samples_begun, sample_counted, samples_ended}
 use Rattle.trace_record.proofs.unsigned.unsigned_statistics.Goals as goal
@@ -27,16 +27,16 @@ loop-i-preserved g c =
     record {
       rises = omega arith;
       small = omega (arith, ints);
-      rest = sample_counted g.O.Ordered.order Unsigned32 c.args.number i c.args.bytes.now (seen c.loop-i.unsigned i) (seen c.add.new.self (i + 1)) x all c.loop-i-test.true (ap pos c.four_bytes-in-loop-i.ensures) (c.add.ensures i) c.loop-i.invariant.rest;
+      rest = sample_counted g.O.Ordered.order Unsigned32 c.args.number i c.args.bytes.now (statistics_of_unsigned c.loop-i.unsigned i) (statistics_of_unsigned c.add.new.self (i + 1)) x all c.loop-i-test.true (ap pos c.four_bytes-in-loop-i.ensures) (c.add.ensures i) c.loop-i.invariant.rest;
     }
 
 pub returns : goal.returns
 returns g c =
     let all : c.loop-i.i ≡ c.args.number = omega arith in
-    let ended = samples_ended g.O.Ordered.order Unsigned32 c.args.number c.loop-i.i c.args.bytes.now (seen c.loop-i.unsigned c.loop-i.i) _ c.loop-i-test.false c.loop-i.invariant.rest in
+    let ended = samples_ended g.O.Ordered.order Unsigned32 c.args.number c.loop-i.i c.args.bytes.now (statistics_of_unsigned c.loop-i.unsigned c.loop-i.i) _ c.loop-i-test.false c.loop-i.invariant.rest in
     let sum = ap (λ r. r.sum) c.statistics.ensures in
     let number = ap (λ r. r.number) c.statistics.ensures in
     record {
-      value = ap Some (c.statistics.ensures ∙ sym (ap (seen c.loop-i.unsigned) all)) ∙ ended;
+      value = ap Some (c.statistics.ensures ∙ sym (ap (statistics_of_unsigned c.loop-i.unsigned) all)) ∙ ended;
       range = record { low = omega (arith, ints); high = omega (arith, ints) };
     }

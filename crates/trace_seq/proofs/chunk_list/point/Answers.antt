@@ -2,7 +2,7 @@ use Rattle.std.proofs.Common.{◌≡◌, ◌≢◌, ◌<◌, ◌∷◌, [], leng
 use Rattle.std.proofs.lemmas.Bool.{cases_eq}
 use Rattle.std.proofs.lemmas.List.{length-set, get_or-set_same, get_or-set_other}
 use Rattle.trace_seq.specs.Order.{times}
-use Rattle.trace_seq.proofs.Times.{times-get, times-take, times-other, times-self}
+use Rattle.trace_seq.proofs.TimeLemmas.{times-get, times-take, times-other, times-self}
 use Rattle.trace_seq.proofs.chunk_list.point.Goals as goal
 
 pub index_mut-requires : goal.index_mut-requires

@@ -1,4 +1,4 @@
-use Rattle.trace_seq.proofs.Positions.{held_id_stands}
+use Rattle.trace_seq.proofs.PositionLemmas.{held_id_stands}
 use Rattle.trace_seq.proofs.laws.held_id_stands.Goals as goal
 
 pub returns : goal.returns

@@ -1,4 +1,4 @@
-use Rattle.trace_seq.proofs.Positions.{standing_id_is_held}
+use Rattle.trace_seq.proofs.PositionLemmas.{standing_id_is_held}
 use Rattle.trace_seq.proofs.laws.standing_id_is_held.Goals as goal
 
 pub returns : goal.returns

@@ -1,4 +1,4 @@
-use Rattle.trace_seq.proofs.Positions.{stands_at_one_position}
+use Rattle.trace_seq.proofs.PositionLemmas.{stands_at_one_position}
 use Rattle.trace_seq.proofs.laws.stands_at_one_position.Goals as goal
 
 pub returns : goal.returns

@@ -1,5 +1,5 @@
 use Rattle.std.proofs.Common.{arith, get_or}
-use Rattle.trace_seq.proofs.Times.{times-take, times-other}
+use Rattle.trace_seq.proofs.TimeLemmas.{times-take, times-other}
 use Rattle.trace_seq.proofs.scan.find_id.Goals as goal
 
 pub loop-place-preserved : goal.loop-place-preserved

@@ -1,6 +1,6 @@
 use Rattle.std.proofs.Common.{◌≤◌, ◌<◌, arith}
 use Rattle.trace_view.specs.Runs.{end_of}
-use Rattle.trace_view.proofs.Gaps.{Round, round, gap_here, counted_in_front, one_more_in_front, fits_one_more}
+use Rattle.trace_view.proofs.GapLemmas.{Round, round, gap_here, counted_in_front, one_more_in_front, fits_one_more}
 use Rattle.trace_view.proofs.gap.gap_before.Goals as goal
 
 pub overflow_add-run : goal.overflow_add-run

@@ -1,6 +1,6 @@
 use Rattle.std.proofs.Common.{◌≡◌, ◌+◌, ◌≤◌, ◌⊎◌, inr, ℕ, arith, drop, subst, sym}
 use Rattle.trace_view.specs.Runs.{FitFrom, end_of}
-use Rattle.trace_view.proofs.Gaps.{Round, round, gap_here, counted_behind, none_more_behind, place_le, place_more, fits_one_more}
+use Rattle.trace_view.proofs.GapLemmas.{Round, round, gap_here, counted_behind, none_more_behind, place_le, place_more, fits_one_more}
 use Rattle.trace_view.proofs.gap.gap_behind.Goals as goal
 use Rattle.trace_view.proofs.gap.gap_behind.Goals.{then-place-run_end, else-place-run_end}
 

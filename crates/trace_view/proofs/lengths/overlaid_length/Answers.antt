@@ -1,5 +1,5 @@
 use Rattle.std.proofs.Common.{length, ap, arith}
-use Rattle.trace_view.proofs.Written.{length-written}
+use Rattle.trace_view.proofs.WrittenLemmas.{length-written}
 use Rattle.trace_view.proofs.lengths.overlaid_length.Goals as goal
 
 pub extension_count-requires : goal.extension_count-requires

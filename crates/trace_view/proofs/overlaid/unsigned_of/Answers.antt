@@ -1,6 +1,6 @@
 use Rattle.std.proofs.Common.{arith}
 use Rattle.std.proofs.lemmas.Int.{ints}
-use Rattle.trace_view.proofs.Sizes.{unsigned-lt_32}
+use Rattle.trace_view.proofs.SizeLemmas.{unsigned-lt_32}
 use Rattle.trace_view.proofs.overlaid.unsigned_of.Goals as goal
 
 pub overflow_cast-result : goal.overflow_cast-result

@@ -1,5 +1,5 @@
 use Rattle.std.proofs.Common.{length, ap, arith}
-use Rattle.trace_view.proofs.Written.{length-written}
+use Rattle.trace_view.proofs.WrittenLemmas.{length-written}
 use Rattle.trace_view.proofs.put.joined.Goals as goal
 
 pub pieces-requires-clause-inside : goal.pieces-requires-clause-inside

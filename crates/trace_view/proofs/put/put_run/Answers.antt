@@ -1,6 +1,6 @@
 use Rattle.std.proofs.Common.{◌∙◌, sym}
-use Rattle.trace_view.proofs.Written.{FitFrom-le}
-use Rattle.trace_view.proofs.Puts.{IsPut, run-put, FitFrom-contents, written_from-contents, length-put}
+use Rattle.trace_view.proofs.WrittenLemmas.{FitFrom-le}
+use Rattle.trace_view.proofs.PutLemmas.{IsPut, run-put, FitFrom-contents, written_from-contents, length-put}
 use Rattle.trace_view.proofs.put.put_run.Goals as goal
 
 pub joined-requires-clause-inside : goal.joined-requires-clause-inside

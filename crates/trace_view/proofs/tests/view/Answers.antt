@@ -1,5 +1,5 @@
 use Rattle.std.proofs.Common.{◌≡◌, ◌∙◌, length, sym, arith, ap, Some}
-use Rattle.trace_view.proofs.Written.{length-written}
+use Rattle.trace_view.proofs.WrittenLemmas.{length-written}
 use Rattle.trace_view.proofs.tests.view.Goals as goal
 
 pub new-requires-clause-whole : goal.new-requires-clause-whole

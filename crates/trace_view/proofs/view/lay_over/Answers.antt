@@ -1,5 +1,5 @@
 use Rattle.std.proofs.Common.{arith}
-use Rattle.trace_view.proofs.Fronts.{laid-front}
+use Rattle.trace_view.proofs.FrontLemmas.{laid-front}
 use Rattle.trace_view.proofs.view.lay_over.Goals as goal
 
 pub returns-then-at-front : goal.returns-then-at-front

@@ -1,6 +1,6 @@
 use Rattle.std.proofs.Common.{refl}
 use Rattle.bench_core.specs.Held.{state_of}
-use Rattle.bench_core.proofs.HeaderEdits.{map_refused}
+use Rattle.bench_rules.proofs.HeaderEditLemmas.{map_refused}
 use Rattle.bench_core.proofs.bench.Bench.bind.Goals as goal
 
 pub returns-in_err-bind-clause-step : goal.returns-in_err-bind-clause-step

@@ -1,7 +1,7 @@
 use Rattle.std.proofs.Common.{◌≡◌, ◌∙◌, refl, ap, arith, length, ℕ, List}
 use Rattle.frame_cut.specs.Traces.{trace_at}
 use Rattle.bench_core.specs.Held.{state_of}
-use Rattle.bench_core.proofs.TraceSteps.{length-trace}
+use Rattle.bench_rules.proofs.TraceStepLemmas.{length-trace}
 use Rattle.bench_core.proofs.bench.Bench.copy_refusal.Goals as goal
 
 pub insert_refusal-requires : goal.insert_refusal-requires

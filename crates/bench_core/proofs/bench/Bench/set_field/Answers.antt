@@ -2,10 +2,10 @@ use Rattle.std.proofs.Common.{ℤ, sym, subst, ◌∙◌, rules}
 use Rattle.std.proofs.lemmas.Int.{to_z-of_z}
 use Rattle.std.specs.Int.{w128}
 use mir.Val.{SFits}
-use Rattle.bench_core.specs.declared.edit.Edit.TheVariants.{Set}
-use Rattle.bench_core.specs.declared.field.Field.TheVariants as field
-use Rattle.bench_core.specs.Steps.{Step}
-use Rattle.bench_core.proofs.HeaderEdits.{same_step}
+use Rattle.bench_rules.specs.declared.edit.Edit.TheVariants.{Set}
+use Rattle.bench_rules.specs.declared.field.Field.TheVariants as field
+use Rattle.bench_rules.specs.Steps.{Step}
+use Rattle.bench_rules.proofs.HeaderEditLemmas.{same_step}
 use Rattle.bench_core.proofs.bench.Bench.set_field.Goals as goal
 
 pub returns-in-Some-clause-step : goal.returns-in-Some-clause-step

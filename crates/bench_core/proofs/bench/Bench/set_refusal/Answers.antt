@@ -3,9 +3,9 @@ use Rattle.std.proofs.lemmas.Int.{to_z-of_z}
 use Rattle.std.specs.Int.{w128}
 use mir.Val.{SFits}
 use Rattle.trace_view.specs.Shown.{bytes_of, head_of}
-use Rattle.bench_core.specs.Refused.{set_refusal}
-use Rattle.bench_core.specs.State.{Session}
-use Rattle.bench_core.proofs.Sets.{refused_by}
+use Rattle.bench_rules.specs.Refused.{set_refusal}
+use Rattle.bench_rules.specs.State.{Session}
+use Rattle.bench_rules.proofs.SetLemmas.{refused_by}
 use Rattle.bench_core.proofs.bench.Bench.set_refusal.Goals as goal
 
 pub returns-clause-refusal : goal.returns-clause-refusal

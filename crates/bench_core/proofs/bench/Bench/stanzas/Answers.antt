@@ -1,6 +1,6 @@
 use Rattle.std.proofs.Common.{◌≡◌, ◌∙◌, ◌+◌, ◌-◌, ℕ, ap, sym, arith, Some, slice_get}
-use Rattle.bench_core.specs.Answer.{text_blocks}
-use Rattle.bench_core.proofs.HeaderEdits.{listed}
+use Rattle.bench_rules.specs.Answer.{text_blocks}
+use Rattle.bench_rules.proofs.HeaderEditLemmas.{listed}
 use Rattle.bench_core.proofs.bench.Bench.stanzas.Goals as goal
 
 pub loop-before-preserved : goal.loop-before-preserved

@@ -1,5 +1,5 @@
 use Rattle.std.proofs.Common.{◌≡◌, ◌++◌, ◌+◌, length, drop}
-use Rattle.bench_core.specs.Answer.{text_blocks, stanzas_from}
+use Rattle.bench_rules.specs.Answer.{text_blocks, stanzas_from}
 use Rattle.bench_core.proofs.bench.Bench.stanzas.Given as goal
 
 -- what was listed and what is left to list are all

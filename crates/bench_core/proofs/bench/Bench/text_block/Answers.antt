@@ -1,8 +1,8 @@
 use Rattle.std.proofs.Common.{◌≡◌, ◌∙◌, ◌-◌, ◌<◌, ℕ, ap, arith, slice_get}
-use Rattle.bench_core.specs.Answer.{text_blocks}
-use Rattle.bench_core.specs.State.{Session}
-use Rattle.edit_overlay.specs.Parts.{trailer_of}
-use Rattle.bench_core.proofs.HeaderEdits.{behind}
+use Rattle.bench_rules.specs.Answer.{text_blocks}
+use Rattle.bench_rules.specs.State.{Session}
+use Rattle.frame_cut.specs.Parts.{trailer_of}
+use Rattle.bench_rules.proofs.HeaderEditLemmas.{behind}
 use Rattle.bench_core.proofs.bench.Bench.text_block.Goals as goal
 
 pub returns-else-n-blocks : goal.returns-else-n-blocks

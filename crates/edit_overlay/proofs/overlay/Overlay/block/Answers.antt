@@ -1,5 +1,5 @@
 use Rattle.std.proofs.Common.{slice_get, refl, ◌≡◌, ◌-◌, ◌+◌, ◌*◌, List, ℕ, take, drop, ap, arith, sym, ◌∙◌, Option, Some}
-use Rattle.edit_overlay.proofs.Pieces.{read_block, slice_get-none, block_number}
+use Rattle.edit_overlay.proofs.PieceLemmas.{read_block, slice_get-none, block_number}
 use Rattle.edit_overlay.proofs.overlay.Overlay.block.Goals as goal
 
 pub returns-then-b-self : goal.returns-then-b-self

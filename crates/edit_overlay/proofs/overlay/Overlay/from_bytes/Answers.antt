@@ -1,5 +1,5 @@
 use Rattle.std.proofs.lemmas.Result.{err_from_is_err_and}
-use Rattle.edit_overlay.proofs.Pieces.{all_inside, all_whole}
+use Rattle.edit_overlay.proofs.PieceLemmas.{all_inside, all_whole}
 use Rattle.edit_overlay.proofs.overlay.Overlay.from_bytes.Goals as goal
 
 pub returns-in_err-cut-clause-refused : goal.returns-in_err-cut-clause-refused

@@ -4,17 +4,17 @@ use Rattle.frame_cut.specs.declared.load_fault.LoadFault.{LoadFault}
 use Rattle.frame_cut.specs.declared.load_fault.LoadFault.TheVariants.{OutOfMemory}
 use Rattle.frame_cut.specs.Cuts.{IsRefused}
 use Rattle.edit_overlay.specs.Loading.{IsLoadFault}
-use Rattle.edit_overlay.proofs.Faults.{kept_failures, load_fault}
+use Rattle.edit_overlay.proofs.FaultLemmas.{kept_failures, load_fault}
 use Rattle.edit_overlay.proofs.overlay.Overlay.load.Goals as goal
 
 pub returns-clause-refused : goal.returns-clause-refused
 returns-clause-refused g c =
     IfErr-weaker c.from_bytes.result
     (λ (fault : LoadFault). (fault ≡ OutOfMemory) ⊎ IsRefused c.in_ok-bytes.bytes.items c.args.reading c.args.limits fault)
-    (λ (fault : LoadFault). IsLoadFault (g.R.Read.remaining c.args.reader.now.0) c.args.reading c.args.limits fault)
-    (λ fault h. load_fault (g.R.Read.remaining c.args.reader.now.0) (g.R.Read.remaining c.read_file.new.reader.0) c.in_ok-bytes.bytes.items c.args.reading c.args.limits fault c.in_ok-bytes.ensures.taken c.in_ok-bytes.ensures.all h)
+    (λ (fault : LoadFault). IsLoadFault (g.R.Read.remaining c.args.reader.now.inner) c.args.reading c.args.limits fault)
+    (λ fault h. load_fault (g.R.Read.remaining c.args.reader.now.inner) (g.R.Read.remaining c.read_file.new.reader.inner) c.in_ok-bytes.bytes.items c.args.reading c.args.limits fault c.in_ok-bytes.ensures.all.taken c.in_ok-bytes.ensures.all.end h)
     c.from_bytes.ensures.refused
 
 pub returns-clause-failures : goal.returns-clause-failures
 returns-clause-failures g c =
-    kept_failures c.from_bytes.result c.args.reader.now.1 c.read_file.new.reader.1 c.in_ok-bytes.bytes.items c.args.reading c.args.limits c.in_ok-bytes.ensures.failures c.from_bytes.ensures.refused
+    kept_failures c.from_bytes.result c.args.reader.now.failures c.read_file.new.reader.failures c.in_ok-bytes.bytes.items c.args.reading c.args.limits c.in_ok-bytes.ensures.failures c.from_bytes.ensures.refused

@@ -1,8 +1,8 @@
 use Rattle.std.proofs.Common.{◌≡◌, ℕ, ◌<◌, ◌-◌, List, [], length, get_or, ap, arith, ◌∙◌}
 use Rattle.edit_overlay.specs.Slots.{traces_of}
 use Rattle.edit_overlay.specs.Held.{volume_with}
-use Rattle.edit_overlay.proofs.Held.{held_again}
-use Rattle.edit_overlay.proofs.Lengths.{total, total-set, trace-within}
+use Rattle.edit_overlay.proofs.HeldLemmas.{held_again}
+use Rattle.edit_overlay.proofs.LengthLemmas.{total, total-set, trace-within}
 use Rattle.edit_overlay.proofs.overlay.Overlay.replace.Goals as goal
 
 pub overflow_sub-self : goal.overflow_sub-self

@@ -1,11 +1,11 @@
 use Rattle.std.proofs.Common.{slice_get, refl, ◌≡◌, ◌-◌, ◌+◌, ◌*◌, List, ℕ, length, take, drop, ap, arith, sym, ◌∙◌, Option, Some}
-use Rattle.edit_overlay.proofs.Pieces.{read_record, slice_get-none, record_number}
+use Rattle.edit_overlay.proofs.PieceLemmas.{read_record, slice_get-none, record_number}
 use Rattle.edit_overlay.proofs.overlay.Overlay.trailer.Goals as goal
 
 pub returns-then-j-self : goal.returns-then-j-self
 returns-then-j-self c =
     sym (record_number c.args.self.now.volume c.args.j c.if-j-eq0.false
-    ∙ ap (λ o. slice_get o.volume.tail (c.args.j - 1)) (sym c.self.view_is)
+    ∙ ap (λ o. slice_get o.volume.trailer (c.args.j - 1)) (sym c.self.view_is)
     ∙ slice_get-none c.self.inside.store.head.trailer _ (c.args.j - 1) (omega (arith, c.if-j-eq0.false, c.if-j-self.true)))
 
 pub returns : goal.returns
@@ -15,5 +15,5 @@ returns c =
     let i = c.args.j - 1 in
     let read : c.array_at.result.now ≡ take 3200 (drop (length s.loaded.items - 3200 * n + 3200 * i) s.loaded.items) = c.array_at.ensures ∙ rw (c.as_slice.ensures.value, c.len.ensures, s.loaded.ok.0) refl in
     ap (λ (t : List ℕ). let o : Option (List ℕ) = Some t in o) read
-    ∙ sym (record_number c.args.self.now.volume c.args.j c.if-j-eq0.false ∙ ap (λ o. slice_get o.volume.tail i) (sym c.self.view_is)
+    ∙ sym (record_number c.args.self.now.volume c.args.j c.if-j-eq0.false ∙ ap (λ o. slice_get o.volume.trailer i) (sym c.self.view_is)
     ∙ read_record s.loaded.items n i (omega (arith, c.if-j-eq0.false, c.if-j-self.false)))

@@ -3,9 +3,9 @@ use Rattle.std.specs.List.{remove}
 use Rattle.std.proofs.lemmas.List.{length-map}
 use Rattle.std.proofs.lemmas.List.Edits.{length-remove}
 use Rattle.trace_seq.specs.Order.{times, AreDistinct}
-use Rattle.trace_seq.proofs.Times.{distinct-remove}
+use Rattle.trace_seq.proofs.TimeLemmas.{distinct-remove}
 use Rattle.edit_overlay.specs.Slots.{bytes_under}
-use Rattle.edit_overlay.proofs.Slots.{AreHeld, contains-at, absent-removed, held-removed, traces-removed}
+use Rattle.edit_overlay.proofs.SlotLemmas.{AreHeld, contains-at, absent-removed, held-removed, traces-removed}
 use Rattle.edit_overlay.proofs.store.TraceStore.delete.Goals as goal
 
 pub remove-requires-2 : goal.remove-requires-2

@@ -4,10 +4,10 @@ use Rattle.std.proofs.lemmas.List.{length-map}
 use Rattle.std.proofs.lemmas.List.Edits.{length-insert}
 use Rattle.slab.specs.Slab.{SameValues}
 use Rattle.trace_seq.specs.Order.{times, AreDistinct}
-use Rattle.trace_seq.proofs.Times.{distinct-insert}
+use Rattle.trace_seq.proofs.TimeLemmas.{distinct-insert}
 use Rattle.edit_overlay.specs.declared.slot.Slot.{Slot}
-use Rattle.edit_overlay.specs.Slots.{bytes_in, bytes_under}
-use Rattle.edit_overlay.proofs.Slots.{AreHeld, IsFreshSlot, fresh-slot, vacant-absent, room-made, room-counts, taken-back, held-same, traces-same, on_err, held-inserted, traces-inserted}
+use Rattle.edit_overlay.specs.Slots.{base_under, bytes_in, bytes_under}
+use Rattle.edit_overlay.proofs.SlotLemmas.{AreHeld, IsFreshSlot, fresh-slot, vacant-absent, room-made, room-counts, taken-back, held-same, bases-same, traces-same, on_err, held-inserted, traces-inserted}
 use Rattle.edit_overlay.proofs.store.TraceStore.insert.Goals as goal
 
 pub returns-in_err-reserve-clause-err : goal.returns-in_err-reserve-clause-err
@@ -39,6 +39,14 @@ returns-then-is_err-clause-err c =
     let back : SameValues c.reserve.new.self c.remove.new.self = taken-back c.reserve.new.self c.insert_reserved-id.new.self c.remove.new.self c.insert_reserved-id.result (Some (record { base = c.args.base; runs = c.new.result })) c.insert_reserved-id.ensures.was_vacant c.insert_reserved-id.ensures.updates c.remove.ensures.updates in
     ap (λ (xs : List ℕ). map (bytes_under s.loaded.items c.remove.new.self) xs) c.reserve_one.ensures.ids
     ∙ (traces-same s.loaded.items s.order.ids c.reserve.new.self c.remove.new.self back ∙ traces-same s.loaded.items s.order.ids s.slots c.reserve.new.self room)
+
+pub returns-then-is_err-clause-bases : goal.returns-then-is_err-clause-bases
+returns-then-is_err-clause-bases c =
+    let s = c.args.self.now in
+    let room : SameValues s.slots c.reserve.new.self = room-made s.slots c.reserve.new.self c.reserve.new.self.capacity c.reserve.ensures.rest_kept in
+    let back : SameValues c.reserve.new.self c.remove.new.self = taken-back c.reserve.new.self c.insert_reserved-id.new.self c.remove.new.self c.insert_reserved-id.result (Some (record { base = c.args.base; runs = c.new.result })) c.insert_reserved-id.ensures.was_vacant c.insert_reserved-id.ensures.updates c.remove.ensures.updates in
+    ap (λ (xs : List ℕ). map (base_under s.loaded.items c.remove.new.self) xs) c.reserve_one.ensures.ids
+    ∙ (bases-same s.loaded.items s.order.ids c.reserve.new.self c.remove.new.self back ∙ bases-same s.loaded.items s.order.ids s.slots c.reserve.new.self room)
 
 pub returns-clause-store : goal.returns-clause-store
 returns-clause-store c =

@@ -1,9 +1,9 @@
 use Rattle.std.proofs.Common.{◌≡◌, ◌-◌, ◌<◌, [], ◌∙◌, ℕ, List, length, map, sym, ap, subst, arith}
 use Rattle.std.proofs.lemmas.List.{length-map}
-use Rattle.trace_seq.specs.Order.{moved}
+use Rattle.trace_seq.specs.Order.{with_id_moved}
 use Rattle.edit_overlay.specs.Slots.{bytes_under}
-use Rattle.edit_overlay.proofs.Orders.{map-moved}
-use Rattle.edit_overlay.proofs.Slots.{AreHeld, held-moved, times-moved, length-moved}
+use Rattle.edit_overlay.proofs.OrderLemmas.{map-moved}
+use Rattle.edit_overlay.proofs.SlotLemmas.{AreHeld, held-moved, times-moved, length-moved}
 use Rattle.edit_overlay.proofs.store.TraceStore.move_to.Goals as goal
 
 pub returns-clause-store : goal.returns-clause-store
@@ -11,7 +11,7 @@ returns-clause-store c =
     let s = c.args.self.now in
     let short : c.args.a - 1 < length s.order.ids = omega (arith, c.requires.from_first, c.requires.from_last, length-map s.order.ids (bytes_under s.loaded.items s.slots)) in
     let most : c.args.b - 1 < length s.order.ids = omega (arith, c.requires.to_first, c.requires.to_last, length-map s.order.ids (bytes_under s.loaded.items s.slots)) in
-    let ids : c.move_to.new.self.ids ≡ moved s.order.ids c.args.a c.args.b = c.move_to.ensures.ids ∙ ap (λ (xs : List ℕ). moved xs c.args.a c.args.b) c.reserve_one.ensures.ids in
+    let ids : c.move_to.new.self.ids ≡ with_id_moved s.order.ids c.args.a c.args.b = c.move_to.ensures.ids ∙ ap (λ (xs : List ℕ). with_id_moved xs c.args.a c.args.b) c.reserve_one.ensures.ids in
     record {
       slots = subst (λ (xs : List ℕ). AreHeld s.loaded.items s.head xs s.slots) (sym ids) (held-moved s.loaded.items s.head s.order.ids s.slots c.args.a c.args.b c.requires.store.slots short);
       distinct = λ id. rw ids (omega (arith, c.requires.store.distinct id, times-moved id s.order.ids c.args.a c.args.b short));
@@ -23,5 +23,5 @@ pub returns-clause-ok : goal.returns-clause-ok
 returns-clause-ok c =
     let s = c.args.self.now in
     let short : c.args.a - 1 < length s.order.ids = omega (arith, c.requires.from_first, c.requires.from_last, length-map s.order.ids (bytes_under s.loaded.items s.slots)) in
-    let ids : c.move_to.new.self.ids ≡ moved s.order.ids c.args.a c.args.b = c.move_to.ensures.ids ∙ ap (λ (xs : List ℕ). moved xs c.args.a c.args.b) c.reserve_one.ensures.ids in
+    let ids : c.move_to.new.self.ids ≡ with_id_moved s.order.ids c.args.a c.args.b = c.move_to.ensures.ids ∙ ap (λ (xs : List ℕ). with_id_moved xs c.args.a c.args.b) c.reserve_one.ensures.ids in
     ap (λ (xs : List ℕ). map (bytes_under s.loaded.items s.slots) xs) ids ∙ map-moved (bytes_under s.loaded.items s.slots) s.order.ids c.args.a c.args.b [] short

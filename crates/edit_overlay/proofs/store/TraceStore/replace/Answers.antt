@@ -3,7 +3,7 @@ use Rattle.std.specs.Prelude.{slice_set}
 use Rattle.slab.specs.Slab.{with_value, Updates}
 use Rattle.edit_overlay.specs.declared.slot.Slot.{Slot}
 use Rattle.edit_overlay.specs.Slots.{traces_of}
-use Rattle.edit_overlay.proofs.Slots.{slot-missed, write-updates, write-counts, traces-changed, held-changed, fresh-slot, IsFreshSlot}
+use Rattle.edit_overlay.proofs.SlotLemmas.{slot-missed, write-updates, write-counts, traces-changed, held-changed, fresh-slot, IsFreshSlot}
 use Rattle.edit_overlay.proofs.store.TraceStore.replace.Goals as goal
 
 pub unreachable-requires : goal.unreachable-requires

@@ -1,10 +1,10 @@
 use Rattle.std.proofs.Common.{◌-◌, [], ℕ, List, Vec, Global, length, sym, ap, subst, arith}
 use Rattle.std.specs.Prelude.{slice_index_or}
 use Rattle.trace_view.specs.declared.run.Run.{Run}
-use Rattle.trace_view.proofs.Written.{length-written}
+use Rattle.trace_view.proofs.WrittenLemmas.{length-written}
 use Rattle.edit_overlay.specs.Slots.{base_of, bases_of, traces_of, IsInside}
-use Rattle.edit_overlay.proofs.Slots.{slot-found, slot-missed, trace-at, base-at}
-use Rattle.edit_overlay.proofs.Each.{both_ok, put-runs}
+use Rattle.edit_overlay.proofs.SlotLemmas.{slot-found, slot-missed, trace-at, base-at}
+use Rattle.edit_overlay.proofs.EachLemmas.{both_ok, put-runs}
 use Rattle.edit_overlay.proofs.store.TraceStore.runs_with.Goals as goal
 
 pub runs_with-requires-clause-base : goal.runs_with-requires-clause-base

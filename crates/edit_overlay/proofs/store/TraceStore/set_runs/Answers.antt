@@ -1,10 +1,10 @@
 use Rattle.std.proofs.Common.{◌-◌, [], ◌∙◌, ℕ, List, Some, length, refl, sym, ap}
 use Rattle.std.specs.Prelude.{slice_index_or, slice_set}
 use Rattle.slab.specs.Slab.{with_value, Updates}
-use Rattle.trace_view.specs.Runs.{written}
+use Rattle.trace_view.specs.Runs.{bytes_with_runs}
 use Rattle.edit_overlay.specs.declared.slot.Slot.{Slot}
 use Rattle.edit_overlay.specs.Slots.{bases_of, traces_of, IsSlot}
-use Rattle.edit_overlay.proofs.Slots.{slot-found, slot-missed, base-at, runs-slot, bases-kept, write-updates, write-counts, traces-changed, held-changed}
+use Rattle.edit_overlay.proofs.SlotLemmas.{slot-found, slot-missed, base-at, runs-slot, bases-kept, write-updates, write-counts, traces-changed, held-changed}
 use Rattle.edit_overlay.proofs.store.TraceStore.set_runs.Goals as goal
 
 pub unreachable-requires : goal.unreachable-requires
@@ -20,7 +20,7 @@ returns-clause-store c =
     let new : Slot = record { base = old.base; runs = c.args.runs } in
     let slot = slot-found s.loaded.items s.head s.order.ids s.slots c.args.p id old c.requires.store.slots c.id-id.ensures (sym c.in-Some.ensures.value) in
     let base = base-at s.loaded.items s.order.ids s.slots c.args.p id old c.id-id.ensures (sym c.in-Some.ensures.value) in
-    let sound : IsSlot s.loaded.items s.head new = runs-slot s.loaded.items s.head old new (slice_index_or (bases_of s) (c.args.p - 1) []) refl base slot c.requires.fit c.requires.whole in
+    let sound : IsSlot s.loaded.items s.head new = runs-slot s.loaded.items s.head old new (slice_index_or (bases_of s) (c.args.p - 1) []) refl base slot c.requires.runs.fit c.requires.runs.whole in
     let up : Updates s.slots (with_value s.slots id new) id (Some new) = write-updates s.slots id old new (sym c.in-Some.ensures.value) in
     record {
       slots = held-changed s.loaded.items s.head s.order.ids s.slots (with_value s.slots id new) id new c.requires.store.slots up sound;
@@ -47,4 +47,4 @@ returns-clause-traces c =
     let base = base-at s.loaded.items s.order.ids s.slots c.args.p id old c.id-id.ensures (sym c.in-Some.ensures.value) in
     let up : Updates s.slots (with_value s.slots id new) id (Some new) = write-updates s.slots id old new (sym c.in-Some.ensures.value) in
     traces-changed s.loaded.items s.order.ids s.slots (with_value s.slots id new) c.args.p id new c.requires.store.distinct c.id-id.ensures up
-    ∙ ap (λ (b : List ℕ). slice_set (traces_of s) (c.args.p - 1) (written b c.args.runs.items)) (sym base)
+    ∙ ap (λ (b : List ℕ). slice_set (traces_of s) (c.args.p - 1) (bytes_with_runs b c.args.runs.items)) (sym base)

@@ -1,6 +1,6 @@
 use Rattle.std.proofs.Common.{◌∙◌, ℕ, List, sym, subst}
 use Rattle.edit_overlay.specs.Slots.{IsInside}
-use Rattle.edit_overlay.proofs.Slots.{slot-found, slot-missed, trace-at}
+use Rattle.edit_overlay.proofs.SlotLemmas.{slot-found, slot-missed, trace-at}
 use Rattle.edit_overlay.proofs.store.TraceStore.view.Goals as goal
 
 pub base_bytes-base-requires : goal.base_bytes-base-requires

@@ -5,7 +5,7 @@ use Rattle.std.proofs.lemmas.Int.{to_z-of_z}
 use Rattle.trace_record.specs.Facts.{facts_of}
 use Rattle.trace_record.specs.Keys.{cell, inline, crossline, offset, coordinate_x, coordinate_y, least, greatest, triple}
 use Rattle.fault_live.specs.OfFaults.{count_in}
-use Rattle.fault_live.proofs.Triples.{times-triple, times-own}
+use Rattle.fault_live.proofs.TripleLemmas.{times-triple, times-own}
 use Rattle.fault_live.proofs.faults.FaultsRunning.add.Goals as goal
 
 -- the number as a 32-bit place holds it

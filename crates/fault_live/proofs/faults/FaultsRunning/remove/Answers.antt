@@ -4,7 +4,7 @@ use mir.Val.{SFits, to_z, of_z}
 use Rattle.std.proofs.lemmas.Int.{to_z-of_z}
 use Rattle.trace_record.specs.Facts.{facts_of}
 use Rattle.trace_record.specs.Keys.{cell, inline, crossline, offset, coordinate_x, coordinate_y, least, greatest, triple}
-use Rattle.fault_live.proofs.Triples.{times-triple, times-own}
+use Rattle.fault_live.proofs.TripleLemmas.{times-triple, times-own}
 use Rattle.fault_live.proofs.faults.FaultsRunning.remove.Goals as goal
 
 -- the number as a 32-bit place holds it

@@ -3,7 +3,7 @@ use Rattle.std.specs.Prelude.{None}
 use Rattle.field_map.specs.Maps.{NameMap}
 use Rattle.field_map.specs.Pairs.{shown}
 use Rattle.field_map.specs.Binding.{bind_fault}
-use Rattle.field_map.proofs.Geometry.{HasGeometry-bound}
+use Rattle.field_map.proofs.GeometryLemmas.{HasGeometry-bound}
 use Rattle.field_map.proofs.field_map.FieldMap.bind.Goals as goal
 
 pub invariant_of-self-in-None : goal.invariant_of-self-in-None

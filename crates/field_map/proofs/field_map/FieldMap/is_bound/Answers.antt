@@ -4,7 +4,7 @@ use Rattle.std.specs.Option.{option_copied}
 use Rattle.std.specs.Borrow.{Bor}
 use Rattle.std.specs.String.{string_bytes}
 use Rattle.field_map.specs.Pairs.{is_bound}
-use Rattle.field_map.proofs.Shown.{lookup-shown}
+use Rattle.field_map.proofs.ShownLemmas.{lookup-shown}
 use Rattle.field_map.proofs.field_map.FieldMap.is_bound.Goals as goal
 
 is_some-copied : {X : Type 0} (o : Option (Bor X)) → is_some o ≡ is_some (option_copied o)

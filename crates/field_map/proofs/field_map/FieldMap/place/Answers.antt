@@ -1,7 +1,7 @@
 use Rattle.std.proofs.Common.{◌∙◌, refl, ap, bytes_eq}
 use Rattle.std.specs.String.{string_bytes}
 use Rattle.field_map.specs.Pairs.{place_of}
-use Rattle.field_map.proofs.Shown.{lookup-shown}
+use Rattle.field_map.proofs.ShownLemmas.{lookup-shown}
 use Rattle.field_map.proofs.field_map.FieldMap.place.Goals as goal
 
 pub returns : goal.returns

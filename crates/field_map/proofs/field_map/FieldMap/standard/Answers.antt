@@ -1,7 +1,7 @@
 use Rattle.std.proofs.Common.{rules, ◌≡◌, sym, subst}
 use Rattle.field_map.specs.Pairs.{Pairs, shown}
 use Rattle.field_map.specs.Binding.{HasGeometry, geometry_at_load}
-use Rattle.field_map.proofs.Geometry.{HasGeometry-at-load}
+use Rattle.field_map.proofs.GeometryLemmas.{HasGeometry-at-load}
 use Rattle.field_map.proofs.field_map.FieldMap.standard.Goals as goal
 
 pub invariant_of-result : goal.invariant_of-result

@@ -1,6 +1,6 @@
 use Rattle.std.proofs.Common.{◌∙◌, sym}
 use Rattle.field_map.specs.Pairs.{shown}
-use Rattle.field_map.proofs.Geometry.{HasGeometry-unbound}
+use Rattle.field_map.proofs.GeometryLemmas.{HasGeometry-unbound}
 use Rattle.field_map.proofs.field_map.FieldMap.unbind.Goals as goal
 
 pub invariant_of-self : goal.invariant_of-self

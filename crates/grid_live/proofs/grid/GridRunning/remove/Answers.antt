@@ -5,7 +5,7 @@ use Rattle.std.proofs.lemmas.Int.{to_z-of_z}
 use Rattle.trace_record.specs.Facts.{facts_of}
 use Rattle.trace_record.specs.Keys.{cell, inline, crossline, offset, coordinate_x, coordinate_y, least, greatest, triple}
 use Rattle.grid_live.proofs.FittingLemmas.{CellsFit-lowered}
-use Rattle.grid_live.proofs.OwnKeys.{times-cell, own-cell, own-inline, own-crossline}
+use Rattle.grid_live.proofs.OwnKeyLemmas.{times-cell, own-cell, own-inline, own-crossline}
 use Rattle.grid_live.proofs.grid.GridRunning.remove.Goals as goal
 
 -- the number as a 32-bit place holds it

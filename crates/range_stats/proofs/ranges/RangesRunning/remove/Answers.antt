@@ -1,7 +1,7 @@
 use Rattle.std.proofs.Common.{arith}
 use Rattle.trace_record.specs.Facts.{facts_of}
 use Rattle.trace_record.specs.Keys.{inline, crossline, offset, coordinate_x, coordinate_y}
-use Rattle.range_stats.proofs.OwnValues.{times-inline, times-crossline, times-offset, times-x, times-y}
+use Rattle.range_stats.proofs.OwnValueLemmas.{times-inline, times-crossline, times-offset, times-x, times-y}
 use Rattle.range_stats.proofs.ranges.RangesRunning.remove.Goals as goal
 
 pub lower_lines-requires-clause-has_inline : goal.lower_lines-requires-clause-has_inline

@@ -1,7 +1,7 @@
 use Rattle.std.proofs.Common.{arith, rules, refl}
 use Rattle.trace_record.specs.Facts.{facts_of}
 use Rattle.trace_record.specs.Keys.{cell, inline, crossline, offset, coordinate_x, coordinate_y, least, greatest, triple}
-use Rattle.range_stats.proofs.EndKeys.{times-least, times-greatest, by_samples}
+use Rattle.range_stats.proofs.EndKeyLemmas.{times-least, times-greatest, by_samples}
 use Rattle.range_stats.proofs.totals.TotalsRunning.add.Goals as goal
 
 pub raise_ends-requires-clause-room_least : goal.raise_ends-requires-clause-room_least

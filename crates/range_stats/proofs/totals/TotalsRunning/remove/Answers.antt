@@ -1,7 +1,7 @@
 use Rattle.std.proofs.Common.{arith}
 use Rattle.trace_record.specs.Facts.{facts_of}
 use Rattle.trace_record.specs.Keys.{least, greatest}
-use Rattle.range_stats.proofs.EndKeys.{times-least, times-greatest}
+use Rattle.range_stats.proofs.EndKeyLemmas.{times-least, times-greatest}
 use Rattle.range_stats.proofs.totals.TotalsRunning.remove.Goals as goal
 
 pub lower_ends-requires-clause-has_least : goal.lower_ends-requires-clause-has_least

@@ -1,6 +1,6 @@
 use Rattle.std.proofs.Common.{sym, ap, ◌∙◌}
 use Rattle.script_run.specs.Words.{behind_word}
-use Rattle.script_run.proofs.Boundaries.{word_begins, word_ends, rest_is}
+use Rattle.script_run.proofs.BoundaryLemmas.{word_begins, word_ends, rest_is}
 use Rattle.script_run.proofs.WordLemmas.{no_words, next_is}
 use Rattle.script_run.proofs.words.Words.next.Goals as goal
 

@@ -1,5 +1,5 @@
 use Rattle.std.proofs.Common.{sym, ◌∙◌}
-use Rattle.script_run.proofs.Boundaries.{behind_gap}
+use Rattle.script_run.proofs.BoundaryLemmas.{behind_gap}
 use Rattle.script_run.proofs.words.Words.text_behind.Goals as goal
 
 pub split_at-requires : goal.split_at-requires

@@ -18,8 +18,8 @@ invariant_of-self-else-stays g c =
     = (c.get_mut.follows.holds c.in-Some.held.now).0 ∙ set_value_same (is_at (g.K.Ord.cmp c.args.key.now)) c.self.inside.map.entries c.in-Some.held.now (sym c.in-Some.ensures.value) in
     rw (c.remove.ensures.entries, unwritten) (All-map-remove_entry (is_at (g.K.Ord.cmp c.args.key.now)) (λ e. e.1) (λ n. 0 < n) c.self.inside.map.entries c.self.invariant)
 
-pub returns-else-stays-clause-lowered : goal.returns-else-stays-clause-lowered
-returns-else-stays-clause-lowered g c =
+pub returns-else-stays-clause-less : goal.returns-else-stays-clause-less
+returns-else-stays-clause-less g c =
     let unwritten : (c.get_mut.follows.lender c.in-Some.held.now).entries ≡ c.self.inside.map.entries
     = (c.get_mut.follows.holds c.in-Some.held.now).0 ∙ set_value_same (is_at (g.K.Ord.cmp c.args.key.now)) c.self.inside.map.entries c.in-Some.held.now (sym c.in-Some.ensures.value) in
     let number : count_of g.K.Ord.cmp c.self.inside.map.entries c.args.key.now ≡ c.in-Some.held.now = ap (λ o. unwrap_or o 0) (sym c.in-Some.ensures.value) in

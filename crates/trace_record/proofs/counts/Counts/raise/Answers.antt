@@ -4,7 +4,7 @@ use Rattle.std.specs.BTreeMap.{is_at}
 use Rattle.std.specs.Prelude.{unwrap_or}
 use Rattle.std.proofs.lemmas.Map.Views.{All-values-insert_entry, All-values-set_value}
 use Rattle.trace_record.specs.Counts.{count_of}
-use Rattle.trace_record.proofs.OneMore.{held_is_set}
+use Rattle.trace_record.proofs.OneMoreLemmas.{held_is_set}
 use Rattle.trace_record.proofs.counts.Counts.raise.Goals as goal
 
 pub invariant_of-self : goal.invariant_of-self

@@ -1,13 +1,13 @@
 use Rattle.std.proofs.Common.{rules, SFits, ◌+ℤ◌, ◌+◌, ◌∙◌, refl}
 use Rattle.std.proofs.lemmas.Int.{to_z-of_z}
 use Rattle.std.specs.Int.{w32, w64}
-use Rattle.trace_record.specs.Narrow.{seen}
+use Rattle.trace_record.specs.Narrow.{statistics_of_narrow}
 use Rattle.trace_record.proofs.AddedLemmas.{statistics_added}
 use Rattle.trace_record.proofs.narrow.Narrow.add.Goals as goal
 
 pub returns : goal.returns
 returns c n =
-    let old = seen c.args.self.now n in let x = c.args.sample in
+    let old = statistics_of_narrow c.args.self.now n in let x = c.args.sample in
     let least : SFits w32 old.least = search rules in
     let greatest : SFits w32 old.greatest = search rules in
     let sum : SFits w64 old.sum = search rules in

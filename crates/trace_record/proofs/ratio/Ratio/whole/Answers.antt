@@ -1,4 +1,4 @@
-use Rattle.trace_record.specs.Scaled.{one_positive, over_1}
+use Rattle.trace_record.specs.Coordinates.{one_positive, over_1}
 use Rattle.trace_record.proofs.ratio.Ratio.whole.Goals as goal
 
 pub invariant_of-result : goal.invariant_of-result

@@ -1,7 +1,7 @@
 use Rattle.std.proofs.Common.{◌∙◌, ap₂, ◌<◌, ◌^◌, rules, int_cmp}
 use mir.Syntax.{w64}
 use mir.Val.{SFits}
-use Rattle.trace_record.proofs.Products.{product_is}
+use Rattle.trace_record.proofs.ProductLemmas.{product_is}
 use Rattle.trace_record.proofs.ratio.RatioOrd.cmp.Goals as goal
 
 pub returns : goal.returns

@@ -4,9 +4,9 @@ use Rattle.std.proofs.lemmas.List.{length-set}
 use Rattle.std.proofs.lemmas.List.Edits.{get_or-remove_below}
 use Rattle.trace_seq.specs.declared.chunk.Chunk.{Chunk}
 use Rattle.trace_seq.specs.Order.{times}
-use Rattle.trace_seq.specs.Chunks.{joined, size_at}
-use Rattle.trace_seq.proofs.Joined.{size-set, size-read, join-ids}
-use Rattle.trace_seq.proofs.Sound.{join-at}
+use Rattle.trace_seq.specs.Chunks.{ids_of, size_at}
+use Rattle.trace_seq.proofs.ChunkIdLemmas.{size-set, size-read, join-ids}
+use Rattle.trace_seq.proofs.SoundLemmas.{join-at}
 use Rattle.trace_seq.proofs.chunk_list.ChunkList.join.Goals as goal
 
 -- what the chunk in front was, before the one behind it was taken out
@@ -49,7 +49,7 @@ returns-clause-ids c =
     let cs = c.args.self.now.chunks.items in
     let first = read-first cs c.remove-next.new.self.items c.args.k c.index_mut-chunk.result.now c.requires.chunk c.remove-next.ensures.items c.index_mut-chunk.ensures.value in
     let second = read-second cs c.args.k c.remove-next.result c.remove-next.ensures.value in
-    ap joined (kept-set cs c.remove-next.new.self.items c.args.k c.join.new.self c.remove-next.ensures.items)
+    ap ids_of (kept-set cs c.remove-next.new.self.items c.args.k c.join.new.self c.remove-next.ensures.items)
     ∙ join-ids cs c.args.k c.index_mut-chunk.result.now c.remove-next.result c.join.new.self (omega (arith, c.requires.chunk)) first second c.join.ensures.ids
 
 pub returns-clause-size : goal.returns-clause-size

@@ -1,5 +1,5 @@
 use Rattle.std.proofs.Common.{rules, arith, ◌≤◌, length}
-use Rattle.trace_seq.proofs.Joined.{chunks-few}
+use Rattle.trace_seq.proofs.ChunkIdLemmas.{chunks-few}
 use Rattle.trace_seq.proofs.chunk_list.ChunkList.next_key.Goals as goal
 
 pub overflow_cast-result : goal.overflow_cast-result

@@ -1,9 +1,10 @@
-use Rattle.std.proofs.Common.{arith, ◌+◌, length, take}
+use Rattle.std.proofs.Common.{arith, ℕ, ◌+◌, ◌<◌, ◌≤◌, List, length, take, ap}
 use Rattle.std.proofs.lemmas.List.{length-set}
 use Rattle.std.proofs.lemmas.List.Edits.{length-insert}
-use Rattle.trace_seq.specs.Chunks.{joined}
-use Rattle.trace_seq.proofs.Joined.{size-read, place-within}
-use Rattle.trace_seq.proofs.Sound.{put-at, put-ids}
+use Rattle.trace_seq.specs.Chunks.{ids_of, size}
+use Rattle.trace_seq.proofs.ChunkIdLemmas.{size-read, place-within}
+use Rattle.trace_seq.proofs.FrontLemmas.{set-raised}
+use Rattle.trace_seq.proofs.SoundLemmas.{put-at, put-ids}
 use Rattle.trace_seq.proofs.chunk_list.ChunkList.put.Goals as goal
 
 pub insert-requires-clause-within : goal.insert-requires-clause-within
@@ -20,8 +21,15 @@ returns-clause-whole c =
       sound = put-at cs c.args.spot.chunk c.index_mut-chunk.result.now c.insert.new.self c.args.self.now.spares.items c.args.self.now.home.items c.args.spot.offset c.args.id c.requires.chunk c.index_mut-chunk.ensures.value c.requires.whole.sound c.requires.offset c.requires.room c.requires.below c.requires.absent c.insert.ensures.key c.insert.ensures.ids c.insert.ensures.room;
       chunk_room = omega (arith, c.requires.whole.chunk_room, length-set cs c.args.spot.chunk c.insert.new.self);
       spare_room = omega (arith, c.requires.whole.spare_room, length-set cs c.args.spot.chunk c.insert.new.self);
-      count = rw ids (omega (arith, c.requires.whole.count, length-insert (joined cs) (length (joined (take c.args.spot.chunk cs)) + c.args.spot.offset) c.args.id (place-within cs c.args.spot.chunk c.args.spot.offset c.requires.offset)));
+      count = rw ids (omega (arith, c.requires.whole.count, length-insert (ids_of cs) (length (ids_of (take c.args.spot.chunk cs)) + c.args.spot.offset) c.args.id (place-within cs c.args.spot.chunk c.args.spot.offset c.requires.offset)));
     }
 
 pub returns-clause-ids : goal.returns-clause-ids
 returns-clause-ids c = put-ids c.args.self.now.chunks.items c.args.spot.chunk c.index_mut-chunk.result.now c.insert.new.self c.args.spot.offset c.args.id c.requires.chunk c.index_mut-chunk.ensures.value c.requires.offset c.insert.ensures.ids
+
+pub returns-clause-fronts : goal.returns-clause-fronts
+returns-clause-fronts c =
+    let cs = c.args.self.now.chunks.items in
+    let old = c.index_mut-chunk.result.now in
+    let within : c.args.spot.offset ≤ size old = omega (arith, c.requires.offset, size-read cs c.args.spot.chunk old c.requires.chunk c.index_mut-chunk.ensures.value) in
+    set-raised cs c.args.spot.chunk old c.insert.new.self c.requires.chunk c.index_mut-chunk.ensures.value (omega (arith, ap (λ (l : List ℕ). length l) c.insert.ensures.ids, length-insert old.ids.items c.args.spot.offset c.args.id within))

@@ -1,5 +1,5 @@
 use Rattle.std.proofs.Common.{arith}
-use Rattle.trace_seq.proofs.Joined.{size-read}
+use Rattle.trace_seq.proofs.ChunkIdLemmas.{size-read}
 use Rattle.trace_seq.proofs.chunk_list.ChunkList.size.Goals as goal
 
 pub returns-clause-size : goal.returns-clause-size

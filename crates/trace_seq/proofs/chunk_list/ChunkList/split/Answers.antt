@@ -4,10 +4,10 @@ use Rattle.std.proofs.lemmas.List.{length-set, length-take-le, length-drop}
 use Rattle.std.proofs.lemmas.List.Edits.{length-insert}
 use Rattle.trace_seq.specs.declared.chunk.Chunk.{Chunk}
 use Rattle.trace_seq.specs.Order.{times}
-use Rattle.trace_seq.specs.Chunks.{joined}
-use Rattle.trace_seq.proofs.Times.{times-cut}
-use Rattle.trace_seq.proofs.Joined.{size-read, split-ids, split-take, split-first, split-second, home-at}
-use Rattle.trace_seq.proofs.Sound.{split-at, empty-last}
+use Rattle.trace_seq.specs.Chunks.{ids_of}
+use Rattle.trace_seq.proofs.TimeLemmas.{times-cut}
+use Rattle.trace_seq.proofs.ChunkIdLemmas.{size-read, split-ids, split-take, split-first, split-second, home-at}
+use Rattle.trace_seq.proofs.SoundLemmas.{split-at, empty-last}
 use Rattle.trace_seq.proofs.chunk_list.ChunkList.split.Goals as goal
 
 -- the chunks with the second half behind the first
@@ -47,7 +47,7 @@ returns-clause-whole c =
 pub returns-clause-ids : goal.returns-clause-ids
 returns-clause-ids c =
     let cs = c.args.self.now.chunks.items in
-    ap joined (halved cs c.insert_within.new.list.items c.args.k c.halve.new.self c.halve.new.fresh c.insert_within.ensures.items)
+    ap ids_of (halved cs c.insert_within.new.list.items c.args.k c.halve.new.self c.halve.new.fresh c.insert_within.ensures.items)
     ∙ split-ids cs c.args.k c.index_mut-chunk.result.now c.halve.new.self c.halve.new.fresh c.requires.chunk c.index_mut-chunk.ensures.value c.halve.ensures.ids c.halve.ensures.fresh_ids
 
 pub returns-clause-behind : goal.returns-clause-behind

@@ -1,6 +1,6 @@
 use Rattle.std.proofs.Common.{arith, ◌≡◌, ◌+◌, ◌-◌, suc, length, take, ap}
-use Rattle.trace_seq.specs.Chunks.{joined}
-use Rattle.trace_seq.proofs.Joined.{size-step, thick-at, filled-at}
+use Rattle.trace_seq.specs.Chunks.{ids_of}
+use Rattle.trace_seq.proofs.ChunkIdLemmas.{size-step, thick-at, filled-at}
 use Rattle.trace_seq.proofs.chunk_list.ChunkList.thicken.Goals as goal
 
 pub returns-then-is_thin-clause-front : goal.returns-then-is_thin-clause-front
@@ -14,7 +14,7 @@ returns-then-is_thin-2-clause-place c =
     let k = c.args.spot.chunk - 1 in
     let cs = c.args.self.now.chunks.items in
     let next : suc k ≡ c.args.spot.chunk = omega arith in
-    omega (arith, c.join-then-is_thin-2.ensures.front, c.size-front.ensures.size, size-step cs k (omega (arith, c.requires.chunk)), ap (λ i. length (joined (take i cs))) next)
+    omega (arith, c.join-then-is_thin-2.ensures.front, c.size-front.ensures.size, size-step cs k (omega (arith, c.requires.chunk)), ap (λ i. length (ids_of (take i cs))) next)
 
 pub returns-then-is_thin-2-clause-front : goal.returns-then-is_thin-2-clause-front
 returns-then-is_thin-2-clause-front c = λ some.

@@ -1,6 +1,6 @@
 use Rattle.std.proofs.Common.{arith, ap, ◌∙◌, ◌-◌, ◌^◌, ◌<◌, length}
 use Rattle.trace_seq.specs.Order.{Order, times}
-use Rattle.trace_seq.proofs.Times.{distinct-insert, below-insert}
+use Rattle.trace_seq.proofs.TimeLemmas.{distinct-insert, below-insert}
 use Rattle.trace_seq.proofs.flat_seq.FlatSeqTraceSeq.insert.Goals as goal
 
 pub invariant_of-self : goal.invariant_of-self

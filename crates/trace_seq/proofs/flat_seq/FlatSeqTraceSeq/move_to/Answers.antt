@@ -1,6 +1,6 @@
 use Rattle.std.proofs.Common.{arith, ap, ◌-◌, ◌<◌, length}
 use Rattle.trace_seq.specs.Order.{Order}
-use Rattle.trace_seq.proofs.Times.{distinct-move, below-move}
+use Rattle.trace_seq.proofs.TimeLemmas.{distinct-move, below-move}
 use Rattle.trace_seq.proofs.flat_seq.FlatSeqTraceSeq.move_to.Goals as goal
 
 pub invariant_of-self : goal.invariant_of-self

@@ -1,6 +1,6 @@
 use Rattle.std.proofs.Common.{arith, ap, ◌-◌, ◌<◌, length}
 use Rattle.trace_seq.specs.Order.{Order}
-use Rattle.trace_seq.proofs.Times.{distinct-remove, below-remove}
+use Rattle.trace_seq.proofs.TimeLemmas.{distinct-remove, below-remove}
 use Rattle.trace_seq.proofs.flat_seq.FlatSeqTraceSeq.remove.Goals as goal
 
 pub invariant_of-self : goal.invariant_of-self

@@ -1,5 +1,5 @@
 use Rattle.std.proofs.Common.{◌<◌, ◌≤◌, length, arith}
-use Rattle.trace_view.proofs.Steps.{byte_read}
+use Rattle.trace_view.proofs.StepLemmas.{byte_read}
 use Rattle.trace_view.proofs.cursor.Cursor.read.Goals as goal
 
 pub loop-byte-preserved : goal.loop-byte-preserved

@@ -1,4 +1,4 @@
-use Rattle.trace_view.proofs.Steps.{past_front}
+use Rattle.trace_view.proofs.StepLemmas.{past_front}
 use Rattle.trace_view.proofs.cursor.Cursor.skip.Goals as goal
 
 pub loop-self-preserved : goal.loop-self-preserved

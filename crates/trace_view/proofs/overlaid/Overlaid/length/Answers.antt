@@ -1,5 +1,5 @@
 use Rattle.std.proofs.Common.{sym}
-use Rattle.trace_view.proofs.Written.{length-written}
+use Rattle.trace_view.proofs.WrittenLemmas.{length-written}
 use Rattle.trace_view.proofs.overlaid.Overlaid.length.Goals as goal
 
 pub returns : goal.returns

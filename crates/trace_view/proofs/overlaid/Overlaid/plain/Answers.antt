@@ -1,7 +1,7 @@
 use Rattle.std.proofs.Common.{arith, sym, ◌∙◌, ◌≡◌, ◌≤◌, length, true}
 use Rattle.trace_view.specs.Runs.{is_plain}
-use Rattle.trace_view.proofs.Written.{length-written}
-use Rattle.trace_view.proofs.Plain.{slice_range-written}
+use Rattle.trace_view.proofs.WrittenLemmas.{length-written}
+use Rattle.trace_view.proofs.PlainLemmas.{slice_range-written}
 use Rattle.trace_view.proofs.overlaid.Overlaid.plain.Goals as goal
 
 pub slice_bounds-result-end : goal.slice_bounds-result-end

@@ -2,7 +2,7 @@ use Rattle.std.proofs.Common.{rules, ◌≡◌, ◌-◌, ◌∷◌, sym, ◌∙�
 use Rattle.std.specs.Int.{w128}
 use Rattle.std.proofs.lemmas.Int.{to_z-of_z}
 use Rattle.trace_view.specs.Values.{samples_in}
-use Rattle.trace_view.proofs.SampleSteps.{sample_read}
+use Rattle.trace_view.proofs.SampleStepLemmas.{sample_read}
 use Rattle.trace_view.proofs.samples.SamplesIterator.next.Goals as goal
 
 pub returns-clause-steps : goal.returns-clause-steps

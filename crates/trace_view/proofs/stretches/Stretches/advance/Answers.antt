@@ -1,5 +1,5 @@
 use Rattle.std.proofs.Common.{arith}
-use Rattle.trace_view.proofs.Written.{fits_first}
+use Rattle.trace_view.proofs.WrittenLemmas.{fits_first}
 use Rattle.trace_view.proofs.stretches.Stretches.advance.Goals as goal
 
 pub slice_bounds-result-end-then-from-at : goal.slice_bounds-result-end-then-from-at

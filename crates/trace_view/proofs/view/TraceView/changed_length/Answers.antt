@@ -3,7 +3,7 @@ use Rattle.std.proofs.lemmas.Grind.{common_steps}
 use Rattle.frame_cut.specs.Frames.{front_length}
 use Rattle.frame_cut.specs.Splice.{splice}
 use Rattle.trace_view.specs.Shown.{head_of, bytes_of}
-use Rattle.trace_view.proofs.Fronts.{length-front}
+use Rattle.trace_view.proofs.FrontLemmas.{length-front}
 use Rattle.trace_view.proofs.view.TraceView.changed_length.Goals as goal
 
 pub returns : goal.returns

@@ -1,7 +1,7 @@
 use Rattle.std.proofs.Common.{◌≡◌, ◌+◌, ◌*◌, ◌≤◌, ℕ, ap, ◌∙◌, arith, slice_range}
 use Rattle.frame_cut.specs.Frames.{extensions_of}
 use Rattle.trace_view.specs.Shown.{bytes_of, head_of}
-use Rattle.trace_view.proofs.Places.{extension_found}
+use Rattle.trace_view.proofs.PlaceLemmas.{extension_found}
 use Rattle.trace_view.proofs.view.TraceView.extension.Goals as goal
 
 pub returns : goal.returns

@@ -1,6 +1,6 @@
 use Rattle.std.proofs.Common.{length}
 use Rattle.trace_view.specs.Shown.{bytes_of}
-use Rattle.trace_view.proofs.Fronts.{changed-front}
+use Rattle.trace_view.proofs.FrontLemmas.{changed-front}
 use Rattle.trace_view.proofs.view.TraceView.read_changed.Goals as goal
 
 pub returns : goal.returns

@@ -1,0 +1,16 @@
+# Completion of segywb's command line for bash.
+_segywb() {
+    local word=${COMP_WORDS[COMP_CWORD]} before=${COMP_WORDS[COMP_CWORD - 1]}
+    case $before in
+        --script | --out) compopt -o filenames 2> /dev/null; mapfile -t COMPREPLY < <(compgen -f -- "$word") ;;
+        --max-bytes) COMPREPLY=() ;;
+        *)
+            if [[ $word == -* ]]; then
+                mapfile -t COMPREPLY < <(compgen -W '--script --out --fixed --max-bytes --stop --help --version' -- "$word")
+            else
+                compopt -o filenames 2> /dev/null
+                mapfile -t COMPREPLY < <(compgen -f -- "$word")
+            fi ;;
+    esac
+}
+complete -F _segywb segywb

@@ -1,5 +1,0 @@
-use Rattle.bench_core.proofs.CutAgain as again
-use Rattle.bench_core.proofs.laws.stays_cut.Goals as goal
-
-pub returns : goal.returns
-returns c = λ s edit cut none. again.stays_cut s edit cut none

@@ -1,5 +1,0 @@
-use Rattle.bench_core.proofs.ResizeLaws as resize
-use Rattle.bench_core.proofs.number_laws.resize_keeps_samples.Goals as goal
-
-pub returns : goal.returns
-returns c = λ s p m v cut none after. resize.resize_keeps_samples s p m v cut none after

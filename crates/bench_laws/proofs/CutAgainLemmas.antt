@@ -1,0 +1,44 @@
+-- An edit that is not refused leaves a file that is cut.
+use Rattle.std.proofs.Common.{◌≡◌, Option, Some, None, refl, sym, ◌∙◌}
+use Rattle.field_map.specs.declared.place.Place.{Place}
+use Rattle.frame_cut.specs.Cuts.{IsCut}
+use Rattle.frame_cut.specs.Volume.{Volume}
+use Rattle.frame_cut.specs.Traces.{trace_at, with_trace}
+use Rattle.bench_rules.specs.declared.edit.Edit.TheVariants.{Set, SetBin, SetText, Map, Unmap, Patch, Blank, Copy, Delete, Move}
+use Rattle.bench_laws.specs.EditLaws.{StaysCut}
+use Rattle.bench_rules.specs.Places.{place_in_trace, place_in_binary}
+use Rattle.bench_rules.specs.Refused.{with_value}
+use Rattle.bench_rules.specs.After.{bytes_after}
+use Rattle.frame_cut.specs.Parts.{with_inserted, without, with_moved}
+use Rattle.bench_rules.specs.WholeTraces.{blank_trace}
+use Rattle.bench_rules.proofs.PatchLemmas.{with_samples}
+use Rattle.bench_rules.proofs.TraceStepLemmas.{patch_is_after, blank_done, copy_done, delete_done, move_done}
+use Rattle.bench_rules.proofs.SetLemmas.{accepted, is_after}
+use Rattle.bench_rules.proofs.HeaderEditLemmas.{same_refused, same_after, no_place, bin_accepted, with_binary, bin_is_after, text_accepted, with_text, text_is_after, no_bin_place}
+
+pub stays_cut : StaysCut
+stays_cut s (Set p f x) cut none = by (place_in_trace s.fields f) refl
+  where
+    by : (o : Option Place) → place_in_trace s.fields f ≡ o → (v : Volume) × IsCut (bytes_after s.volume s.fields (Set p f x)) s.reading s.limits v × (v.head ≡ s.volume.head)
+    by None e = absurd (no_place s p f x e none)
+    by (Some place) e =
+        let v : Volume = with_trace s.volume p (with_value s.volume.head (trace_at s.volume p) place x) in
+        let a = is_after s p place x cut (accepted s p place x (sym (same_refused s p f place x e) ∙ none)) in
+        (v, (same_after s p f place x (record s { volume = v }) e a).volume, refl)
+stays_cut s (SetBin f x) cut none = by (place_in_binary f) refl
+  where
+    by : (o : Option Place) → place_in_binary f ≡ o → (v : Volume) × IsCut (bytes_after s.volume s.fields (SetBin f x)) s.reading s.limits v × (v.head ≡ s.volume.head)
+    by None e = absurd (no_bin_place s f x e none)
+    by (Some place) e =
+        let v : Volume = with_binary s.volume place x in
+        (v, (bin_is_after s f place x e cut (bin_accepted s f place x e none)).volume, refl)
+stays_cut s (SetText q text) cut none = (with_text s.volume q text, (text_is_after s q text cut (text_accepted s q text none)).volume, refl)
+stays_cut s (Map name place) cut none = (s.volume, cut, refl)
+stays_cut s (Unmap name) cut none = (s.volume, cut, refl)
+stays_cut s (Patch p k values) cut none =
+    let w : Volume = with_trace s.volume p (with_samples s.volume.head (trace_at s.volume p) k values) in
+    (w, (patch_is_after s p k values cut none).volume, refl)
+stays_cut s (Blank p) cut none = (with_inserted s.volume p (blank_trace s.volume.head), (blank_done s p _ _ cut none refl refl).volume, refl)
+stays_cut s (Copy q p) cut none = (with_inserted s.volume p (trace_at s.volume q), (copy_done s q p _ _ cut none refl refl).volume, refl)
+stays_cut s (Delete p) cut none = (without s.volume p, (delete_done s p _ cut none refl).volume, refl)
+stays_cut s (Move a b) cut none = (with_moved s.volume a b, (move_done s a b _ cut none refl).volume, refl)

@@ -1,0 +1,12 @@
+mod CutAgainLemmas
+mod StepAgainLemmas
+mod ReadsSetLemmas
+mod LiveLemmas
+mod ResizingLemmas
+mod OneTraceLemmas
+mod ResizeLemmas
+mod RenumberingLemmas
+mod NumberCutAgainLemmas
+mod SliceRowLemmas
+mod KeptSliceLemmas
+mod KeptNumberLemmas

@@ -1,0 +1,206 @@
+-- A value that was set is read again, and the rest of the file is as it was.
+use Rattle.std.proofs.Common.{◌≡◌, ◌⊎◌, ℕ, ◌+◌, ◌*◌, ◌-◌, ◌<◌, ◌≤◌, Bool, true, false, ◌||◌, ◌&&◌, cond, leb, List, [], ◌++◌, length, take, drop, Option, Some, None, Ok, Err, ℤ, refl, sym, ap, subst, ◌∙◌, arith, inl, inr, append_assoc}
+use Rattle.std.specs.Prelude.{option_map, unwrap_or}
+use Rattle.std.proofs.lemmas.Bool.{leb-true, leb-false, le-leb, eqb-true}
+use Rattle.std.proofs.lemmas.List.{length-set, length-take-le, drop_at, get_or-set_same, get_or-set_other}
+use Rattle.std.proofs.Math.Seq.{take-append_seam}
+use Rattle.num_order.specs.Number.{num, bytes, fits, is_size, IsSize}
+use Rattle.num_order.proofs.InRangeLemmas.{in_range, length-number}
+use Rattle.num_order.proofs.RoundTripLemmas.{reads_back}
+use Rattle.sample_codes.specs.Formats.{width}
+use Rattle.field_map.specs.declared.place.Place.{Place}
+use Rattle.field_map.specs.Pairs.{Pairs}
+use Rattle.frame_cut.specs.declared.file_head.Head.{Head}
+use Rattle.frame_cut.specs.Cuts.{IsTrace, IsCut}
+use Rattle.frame_cut.specs.Frames.{header_bytes, extension_count, extensions_of, sample_count, trace_length, length_with}
+use Rattle.frame_cut.specs.Splice.{splice}
+use Rattle.frame_cut.specs.Traces.{count_of, is_trace, trace_at, with_trace}
+use Rattle.frame_cut.specs.Volume.{Volume, bytes_of}
+use Rattle.frame_cut.proofs.BinEditLemmas.{slice_before, slice_behind}
+use Rattle.frame_cut.proofs.OneCutLemmas.{at_most_one_cut}
+use Rattle.trace_view.specs.Values.{is_in_header, has_place, value_of, value_at}
+use Rattle.bench_rules.specs.declared.answer.Answer.TheVariants as answers
+use Rattle.bench_rules.specs.declared.ask_fault.AskFault.TheVariants.{NoTrace, NoPlace}
+use Rattle.bench_rules.specs.declared.edit.Edit.TheVariants.{Set}
+use Rattle.bench_rules.specs.declared.field.Field.{Field}
+use Rattle.bench_rules.specs.declared.query.Query.TheVariants as queries
+use Rattle.bench_rules.specs.After.{bytes_after}
+use Rattle.bench_rules.specs.Answer.{Reply, answer, of_trace, or_fault, trace_value}
+use Rattle.bench_laws.specs.EditLaws.{ReadsWhatWasSet, SetLeavesTheRest, LeavesOthers}
+use Rattle.bench_rules.specs.Places.{place_in_trace}
+use Rattle.bench_rules.specs.Refused.{first_refusal, with_value}
+use Rattle.bench_rules.specs.State.{State}
+use Rattle.bench_rules.proofs.HeaderEditLemmas.{same_refused, same_after, no_place}
+use Rattle.bench_rules.proofs.PlaceLemmas.{stands, place_inside}
+use Rattle.bench_rules.proofs.SetLemmas.{Accepted, accepted, is_after, whole_trace}
+
+-- ---- what a splice shows
+
+-- bytes apart from it are as they were
+pub apart : (t new : List ℕ) (at k m : ℕ) → at + length new ≤ length t → (k + m ≤ at) ⊎ (at + length new ≤ k) → take m (drop k (splice t at (length new) new)) ≡ take m (drop k t)
+apart t new at k m inside (inl before) = slice_before t at (length new) new k m before (omega arith)
+apart t new at k m inside (inr behind) = slice_behind t at new k m behind inside
+
+-- at its place are the new bytes
+pub itself : (t new : List ℕ) (at : ℕ) → at + length new ≤ length t → take (length new) (drop at (splice t at (length new) new)) ≡ new
+itself t new at inside =
+    let rest : List ℕ = drop (at + length new) t in
+    let front : length (take at t) ≡ at = length-take-le at t (omega arith) in
+    ap (λ (s : List ℕ). take (length new) (drop at s)) (append_assoc (take at t) new rest)
+    ∙ ap (take (length new)) (drop_at (take at t) (new ++ rest) at front)
+    ∙ take-append_seam new rest
+
+-- ---- the number of header extensions is as it was
+
+either : (a b : Bool) {P : Type 0} → (a ≡ true → P) → (b ≡ true → P) → (a || b) ≡ true → P
+either true b f g e = f refl
+either false b f g e = g e
+
+pub sized : (n : ℕ) → is_size n ≡ true → IsSize n
+sized n e =
+    either _ _
+    (either _ _
+    (either _ _
+    (either _ _ (λ e1. inl (eqb-true n 1 e1)) (λ e2. inr (inl (eqb-true n 2 e2))))
+    (λ e3. inr (inr (inl (eqb-true n 3 e3)))))
+    (λ e4. inr (inr (inr (inl (eqb-true n 4 e4))))))
+    (λ e8. inr (inr (inr (inr (eqb-true n 8 e8))))) e
+
+pub at_most_8 : (n : ℕ) → IsSize n → n ≤ 8
+at_most_8 n (inl e) = omega arith
+at_most_8 n (inr (inl e)) = omega arith
+at_most_8 n (inr (inr (inl e))) = omega arith
+at_most_8 n (inr (inr (inr (inl e)))) = omega arith
+at_most_8 n (inr (inr (inr (inr e)))) = omega arith
+
+same_count : (h : Head) (t u : List ℕ) → header_bytes 1 157 2 u ≡ header_bytes 1 157 2 t → extension_count h u ≡ extension_count h t
+same_count h t u e = rw e refl
+
+same_samples : (h : Head) (t u : List ℕ) → header_bytes 0 115 2 u ≡ header_bytes 0 115 2 t → header_bytes 1 137 4 u ≡ header_bytes 1 137 4 t → sample_count h u ≡ sample_count h t
+same_samples h t u e f = rw (e, f) refl
+
+one_number : (a b w n len : ℕ) → 240 * (1 + a) + w * n ≡ len → 240 * (1 + b) + w * n ≡ len → a ≡ b
+one_number a b w n len e f = omega arith
+
+-- two traces with one length and one number of samples have one number of extensions
+by_length : (h : Head) (o q : Option ℕ) (n len : ℕ) → option_map (λ e. length_with h e n) o ≡ Some len → option_map (λ e. length_with h e n) q ≡ Some len → unwrap_or o 0 ≡ unwrap_or q 0
+by_length h None q n len e f = absurd cc
+by_length h (Some a) None n len e f = absurd cc
+by_length h (Some a) (Some b) n len e f =
+    let first : length_with h a n ≡ len = cc in
+    let second : length_with h b n ≡ len = cc in
+    one_number a b (width h.format) n len first second
+
+-- at most 8 bytes that leave the length leave the number of extensions: they do not touch both it and a number of samples
+pub extensions_kept : (h : Head) (t new : List ℕ) (at : ℕ) → IsTrace h t → length new ≤ 8 → at + length new ≤ length t → trace_length h (splice t at (length new) new) ≡ Some (length t)
+    → extensions_of h (splice t at (length new) new) ≡ extensions_of h t
+extensions_kept h t new at is few inside exact = by (leb (at + length new) 396) (leb 398 at) refl refl
+  where
+    u : List ℕ
+    u = splice t at (length new) new
+
+    touched : 388 < at → extensions_of h u ≡ extensions_of h t
+    touched low =
+        let same : sample_count h u ≡ sample_count h t =
+        same_samples h t u (apart t new at 114 2 inside (inl (omega arith))) (apart t new at 376 4 inside (inl (omega arith))) in
+        by_length h (extension_count h u) (extension_count h t) (sample_count h t) (length t)
+        (ap (λ (n : ℕ). option_map (λ e. length_with h e n) (extension_count h u)) (sym same) ∙ exact) is.exact
+
+    by : (b c : Bool) → leb (at + length new) 396 ≡ b → leb 398 at ≡ c → extensions_of h u ≡ extensions_of h t
+    by true c e f = ap (λ (o : Option ℕ). unwrap_or o 0) (same_count h t u (apart t new at 396 2 inside (inr (leb-true _ _ e))))
+    by false true e f = ap (λ (o : Option ℕ). unwrap_or o 0) (same_count h t u (apart t new at 396 2 inside (inl (leb-true _ _ f))))
+    by false false e f =
+        let over : 396 < at + length new = leb-false (at + length new) 396 e in
+        touched (omega arith)
+
+-- ---- the value at the place
+
+-- the place is there with the value at it
+read_again : (h : Head) (t : List ℕ) (place : Place) (x : ℤ) → IsTrace h t → has_place h t place ≡ true → fits place.kind x ≡ true → trace_length h (with_value h t place x) ≡ Some (length t)
+    → value_of h (with_value h t place x) place ≡ Some x
+read_again h t place x is has fit exact =
+    let new : List ℕ = bytes h.order place.kind x in
+    let size : length new ≡ place.kind.size = length-number h.order place.kind x in
+    let at : ℕ = 240 * place.extension + place.byte - 1 in
+    let one : IsSize place.kind.size = sized place.kind.size (stands h t place has).size in
+    let inside : at + length new ≤ length t = omega (arith, size, place_inside h t place is has) in
+    let few : length new ≤ 8 = omega (arith, size, at_most_8 place.kind.size one) in
+    let u : List ℕ = with_value h t place x in
+    let same : u ≡ splice t at (length new) new = ap (λ (n : ℕ). splice t at n new) (sym size) in
+    let kept : extensions_of h u ≡ extensions_of h t =
+    ap (extensions_of h) same ∙ extensions_kept h t new at is few inside (sym (ap (trace_length h) same) ∙ exact) in
+    let there : has_place h u place ≡ true = ap (λ (n : ℕ). is_in_header place && leb place.extension n) kept ∙ has in
+    let shown : header_bytes place.extension place.byte place.kind.size u ≡ new =
+    ap (λ (n : ℕ). take n (drop at u)) (sym size) ∙ ap (λ (s : List ℕ). take (length new) (drop at s)) same ∙ itself t new at inside in
+    let value : value_at h u place ≡ x = ap (num h.order place.kind) shown ∙ reads_back h.order place.kind x one (in_range place.kind x fit) in
+    ap (λ (b : Bool). let o : Option ℤ = cond b (Some (value_at h u place)) None in o) there ∙ ap (λ (y : ℤ). let o : Option ℤ = Some y in o) value
+
+-- ---- the volume with the value
+
+-- trace p is there, and is the new one
+still_there : (v : Volume) (p : ℕ) (t : List ℕ) → 1 ≤ p → p ≤ count_of v → is_trace (with_trace v p t) p ≡ true
+still_there v p t first last =
+    let few : p ≤ count_of (with_trace v p t) = omega (arith, length-set v.traces (p - 1) t) in
+    rw (le-leb 1 p first, le-leb p (count_of (with_trace v p t)) few) refl
+
+-- the answer where each part of it is known
+replies : (w : Volume) (fields : Pairs) (p : ℕ) (f : Field) (place : Place) (t : List ℕ) (x : ℤ) → is_trace w p ≡ true → trace_at w p ≡ t → place_in_trace fields f ≡ Some place → value_of w.head t place ≡ Some x
+    → of_trace w p (λ u. trace_value w.head u (place_in_trace fields f)) ≡ Ok (answers.Value x)
+replies w fields p f place t x there is e read =
+    ap (λ (b : Bool). let r : Reply = cond b (trace_value w.head (trace_at w p) (place_in_trace fields f)) (Err (NoTrace p (count_of w))) in r) there
+    ∙ ap (λ (u : List ℕ). trace_value w.head u (place_in_trace fields f)) is
+    ∙ ap (trace_value w.head t) e
+    ∙ ap (λ (o : Option ℤ). or_fault o NoPlace answers.Value) read
+
+-- what is known of the volume that is read from the new bytes
+pub record IsMade (s : State) (p : ℕ) (place : Place) (x : ℤ) (v : Volume) : Type 0 where
+  pub accepted : Accepted s.volume p place x
+  pub same : v ≡ with_trace s.volume p (with_value s.volume.head (trace_at s.volume p) place x)
+
+pub made : (s : State) (p : ℕ) (f : Field) (place : Place) (x : ℤ) (v : Volume) → place_in_trace s.fields f ≡ Some place → IsCut (bytes_of s.volume) s.reading s.limits s.volume → first_refusal s (Set p f x) ≡ None
+    → IsCut (bytes_after s.volume s.fields (Set p f x)) s.reading s.limits v → IsMade s p place x v
+made s p f place x v e cut none after =
+    let w : Volume = with_trace s.volume p (with_value s.volume.head (trace_at s.volume p) place x) in
+    let a = accepted s p place x (sym (same_refused s p f place x e) ∙ none) in
+    let again = (same_after s p f place x (record s { volume = w }) e (is_after s p place x cut a)).volume in
+    record { accepted = a; same = at_most_one_cut (bytes_after s.volume s.fields (Set p f x)) s.reading s.limits v w after again }
+
+pub reads_what_was_set : ReadsWhatWasSet
+reads_what_was_set s p f x v cut none after = by (place_in_trace s.fields f) refl
+  where
+    by : (o : Option Place) → place_in_trace s.fields f ≡ o → answer (record s { volume = v }) (queries.Get p f) ≡ Ok (answers.Value x)
+    by None e = absurd (no_place s p f x e none)
+    by (Some place) e =
+        let t : List ℕ = trace_at s.volume p in
+        let u : List ℕ = with_value s.volume.head t place x in
+        let m = made s p f place x v e cut none after in
+        let a = m.accepted in
+        let there : p - 1 < length s.volume.traces = omega (arith, a.first, a.last) in
+        ap (λ (w : Volume). answer (record s { volume = w }) (queries.Get p f)) m.same
+        ∙ replies (with_trace s.volume p u) s.fields p f place u x
+        (still_there s.volume p u a.first a.last)
+        (get_or-set_same s.volume.traces (p - 1) u [] there) e
+        (read_again s.volume.head t place x (whole_trace s p cut a.first a.last) a.has a.fits a.length)
+
+-- ---- the rest
+
+pub leaves : (v : Volume) (p : ℕ) (t : List ℕ) → 1 ≤ p → LeavesOthers v (with_trace v p t) p
+leaves v p t first = record {
+  head = refl;
+  text = refl;
+  bin = refl;
+  blocks = refl;
+  trailer = refl;
+  count = length-set v.traces (p - 1) t;
+  traces = λ q low other. get_or-set_other v.traces (p - 1) (q - 1) t [] (λ same. other (omega arith));
+}
+
+pub set_leaves_the_rest : SetLeavesTheRest
+set_leaves_the_rest s p f x v cut none after = by (place_in_trace s.fields f) refl
+  where
+    by : (o : Option Place) → place_in_trace s.fields f ≡ o → LeavesOthers s.volume v p
+    by None e = absurd (no_place s p f x e none)
+    by (Some place) e =
+        let m = made s p f place x v e cut none after in
+        subst (λ (w : Volume). LeavesOthers s.volume w p) (sym m.same)
+        (leaves s.volume p (with_value s.volume.head (trace_at s.volume p) place x) m.accepted.first)

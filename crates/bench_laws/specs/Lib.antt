@@ -1,0 +1,3 @@
+pub mod EditLaws
+pub mod NumberLaws
+pub mod KeptLaws

@@ -1,0 +1,26 @@
+// What holds of edits, as contracts of calls that do nothing.
+ghost use Rattle.bench_laws.specs.EditLaws.{StaysCut, StepsStayCut, ReadsWhatWasSet, SetLeavesTheRest};
+
+/// A file that is cut is cut again, under the same reading and limits and with the same head, after
+/// any edit that is not refused: an accepted edit leaves a file that loads again.
+pub fn stays_cut()
+    ensures { StaysCut }
+{}
+
+/// After any list of edits, each done or refused, the parts that are held are what reading their
+/// bytes from scratch gives, under the same reading and limits and with the same head.
+pub fn steps_stay_cut()
+    ensures { StepsStayCut }
+{}
+
+/// The value of a field after a set that is not refused is the value that was set, in what reading
+/// the new bytes from scratch gives.
+pub fn reads_what_was_set()
+    ensures { ReadsWhatWasSet }
+{}
+
+/// A set that is not refused leaves the head, the textual header, the binary header, the extended
+/// textual headers, the data trailer records and every other trace as they were.
+pub fn set_leaves_the_rest()
+    ensures { SetLeavesTheRest }
+{}

@@ -1,0 +1,16 @@
+//! Laws of edits, queries and reports: what holds of them after any edit, or any list of edits.
+//! Each is the contract of a call that does nothing and takes no memory; its statement stands in
+//! `specs/`, or in those of the crate that has its words.
+#![tactic(auto)]
+
+mod kept_laws;
+mod laws;
+mod live_laws;
+mod number_laws;
+
+pub use crate::kept_laws::kept_slices_stay;
+pub use crate::laws::{reads_what_was_set, set_leaves_the_rest, stays_cut, steps_stay_cut};
+pub use crate::live_laws::running_values_show_the_reports;
+pub use crate::number_laws::{
+    number_edits_stay_cut, renumber_is_its_sets, resize_keeps_samples, resize_leaves_the_rest,
+};

@@ -1,0 +1,16 @@
+// What running values show of a volume, as the contract of a call that does nothing.
+ghost use Rattle.bench_rules.specs.Live.{ShowsFolds, ShowsTheCells, ShowsTheInlines, ShowsTheCrosslines, ShowsTheHistogram, ShowsRanges, ShowsTotals, ShowsFaults};
+
+/// What is read from running values that have counted the records of a volume's traces is what the
+/// reports say of the volume: each fold, the cells, inlines, crosslines and the histogram of folds,
+/// each range, the totals and the faults.
+pub fn running_values_show_the_reports()
+    ensures folds { ShowsFolds }
+    ensures cells { ShowsTheCells }
+    ensures inlines { ShowsTheInlines }
+    ensures crosslines { ShowsTheCrosslines }
+    ensures histogram { ShowsTheHistogram }
+    ensures ranges { ShowsRanges }
+    ensures totals { ShowsTotals }
+    ensures faults { ShowsFaults }
+{}

@@ -1,0 +1,28 @@
+// What holds of edits of numbers of samples and of fields of many traces, as contracts of calls
+// that do nothing.
+ghost use Rattle.bench_laws.specs.NumberLaws.{NumberEditsStayCut, ResizeKeepsSamples, ResizeLeavesTheRest, RenumberIsItsSets};
+
+/// A file that is cut is cut again, under the same reading and limits and with the same head, after
+/// another number of samples of a trace and after a field of many traces is counted up, where these
+/// are not refused.
+pub fn number_edits_stay_cut()
+    ensures { NumberEditsStayCut }
+{}
+
+/// A trace that is given m samples has them in what reading the new bytes from scratch gives: its
+/// first ones as they were, and zeros behind them.
+pub fn resize_keeps_samples()
+    ensures { ResizeKeepsSamples }
+{}
+
+/// Another number of samples of a trace leaves the head, the textual header, the binary header, the
+/// extended textual headers, the data trailer records and every other trace as they were.
+pub fn resize_leaves_the_rest()
+    ensures { ResizeLeavesTheRest }
+{}
+
+/// A field of many traces that is counted up is what the sets of each trace's value make, one after
+/// another, each of them done.
+pub fn renumber_is_its_sets()
+    ensures { RenumberIsItsSets }
+{}

@@ -1,0 +1,50 @@
+-- What an edit makes of a volume's bytes and of the field map.
+use Rattle.std.specs.Prelude.{ℕ, ◌+◌, ◌-◌, ◌*◌, ℤ, List}
+use Rattle.std.specs.Option.{option_map_or}
+use Rattle.std.specs.Str.{chars}
+use Rattle.num_order.specs.Number.{bytes}
+use Rattle.field_map.specs.declared.place.Place.{Place}
+use Rattle.field_map.specs.declared.place.TheConstants.{TRACE_HEADER_BYTES}
+use Rattle.field_map.specs.Pairs.{Pairs, bound, unbound}
+use Rattle.text_block.specs.Blocks.{code_of}
+use Rattle.text_block.specs.Lines.{encoded_line}
+use Rattle.frame_cut.specs.Splice.{splice}
+use Rattle.frame_cut.specs.Volume.{Volume, bytes_of, start_of}
+use Rattle.bench_rules.specs.declared.edit.Edit.{Edit}
+use Rattle.bench_rules.specs.declared.edit.Edit.TheVariants.{Set, SetBin, SetText, Map, Unmap, Patch, Blank, Copy, Delete, Move}
+use Rattle.bench_rules.specs.Places.{place_in_trace, place_in_binary}
+use Rattle.bench_rules.specs.WholeTraces.{bytes_after_patch, with_blank, with_copy, bytes_after_delete, bytes_after_move}
+
+-- the value over a place of trace p
+abbrev pub put_in_trace : Volume → ℕ → Place → ℤ → List ℕ → List ℕ
+put_in_trace v p place x file = splice file (start_of v (p - 1) + TRACE_HEADER_BYTES * place.extension + place.byte - 1) place.kind.size (bytes v.head.order place.kind x)
+
+-- the value over a place of the binary header
+abbrev pub put_in_binary : Volume → Place → ℤ → List ℕ → List ℕ
+put_in_binary v place x file = splice file (place.byte - 1) place.kind.size (bytes v.head.order place.kind x)
+
+-- the file's bytes after the edit
+abbrev pub bytes_after : Volume → Pairs → Edit → List ℕ
+bytes_after v fields (Set p field x) = option_map_or (λ place. put_in_trace v p place x (bytes_of v)) (place_in_trace fields field) (bytes_of v)
+bytes_after v fields (SetBin field x) = option_map_or (λ place. put_in_binary v place x (bytes_of v)) (place_in_binary field) (bytes_of v)
+bytes_after v fields (SetText q text) = splice (bytes_of v) (80 * (q - 1)) 80 (encoded_line (code_of v.text) (chars text))
+bytes_after v fields (Map name place) = bytes_of v
+bytes_after v fields (Unmap name) = bytes_of v
+bytes_after v fields (Patch p k values) = bytes_after_patch v p k values
+bytes_after v fields (Blank p) = with_blank v p
+bytes_after v fields (Copy q p) = with_copy v q p
+bytes_after v fields (Delete p) = bytes_after_delete v p
+bytes_after v fields (Move a b) = bytes_after_move v a b
+
+-- the field map after the edit
+abbrev pub fields_after : Pairs → Edit → Pairs
+fields_after fields (Map name place) = bound fields name place
+fields_after fields (Unmap name) = unbound fields name
+fields_after fields (Set p field x) = fields
+fields_after fields (SetBin field x) = fields
+fields_after fields (SetText q text) = fields
+fields_after fields (Patch p k values) = fields
+fields_after fields (Blank p) = fields
+fields_after fields (Copy q p) = fields
+fields_after fields (Delete p) = fields
+fields_after fields (Move a b) = fields

@@ -1,0 +1,104 @@
+-- The answer to every query, from a volume and its field map.
+use Rattle.std.specs.Prelude.{◌≡◌, ◌⊎◌, ℕ, max, not, List, ◌++◌, length, map, flat_map, Option, Some, None, Result, Ok, Err, IsOk, if◌then◌else◌}
+use Rattle.std.specs.List.{enumerate_from}
+use Rattle.num_order.specs.Number.{num}
+use Rattle.text_block.specs.Blocks.{code_of}
+use Rattle.text_block.specs.Lines.{shown_line}
+use Rattle.text_block.specs.Stanzas.{stanzas}
+use Rattle.field_map.specs.declared.place.Place.{Place}
+use Rattle.frame_cut.specs.declared.file_head.Head.{Head}
+use Rattle.frame_cut.specs.Traces.{count_of, is_trace, trace_at}
+use Rattle.frame_cut.specs.BinaryHeader.{bin_bytes}
+use Rattle.frame_cut.specs.Frames.{sample_count}
+use Rattle.frame_cut.specs.Volume.{Volume, bytes_of}
+use Rattle.trace_view.specs.Values.{value_of, sample_of}
+use Rattle.bench_rules.specs.declared.query.Query.{Query}
+use Rattle.bench_rules.specs.declared.query.Query.TheVariants as queries
+use Rattle.bench_rules.specs.declared.answer.Answer.{Answer}
+use Rattle.bench_rules.specs.declared.answer.Answer.TheVariants as answers
+use Rattle.bench_rules.specs.declared.ask_fault.AskFault.{AskFault}
+use Rattle.bench_rules.specs.declared.ask_fault.AskFault.TheVariants.{NoTrace, NoField, NoPlace, NoSample, OutOfMemory}
+use Rattle.bench_rules.specs.Places.{place_in_trace, place_in_binary, is_in_binary}
+use Rattle.bench_rules.specs.Refused.{is_line}
+use Rattle.frame_cut.specs.Parts.{block_of}
+use Rattle.bench_rules.specs.State.{State}
+
+-- an answer, or the reason that there is none
+abbrev pub Reply : Type 0
+Reply = Result Answer AskFault
+
+-- the answer where the value is there, else the fault
+abbrev pub or_fault : {X : Type 0} → Option X → AskFault → (X → Answer) → Reply
+or_fault None fault f = Err fault
+or_fault (Some x) fault f = Ok (f x)
+
+-- the answer of trace p, where there is one
+abbrev pub of_trace : Volume → ℕ → (List ℕ → Reply) → Reply
+of_trace v p f = if is_trace v p then f (trace_at v p) else Err (NoTrace p (count_of v))
+
+-- the value of a trace at the place of a field, if the field has one
+abbrev pub trace_value : Head → List ℕ → Option Place → Reply
+trace_value h t None = Err NoField
+trace_value h t (Some place) = or_fault (value_of h t place) NoPlace answers.Value
+
+-- sample k of a trace; the number named is at least the number of samples
+abbrev pub trace_sample : Head → List ℕ → ℕ → Reply
+trace_sample h t k = or_fault (sample_of h t k) (NoSample (max k (sample_count h t)) (sample_count h t)) answers.Value
+
+-- the value of the binary header at the place of a field, if the field has one
+abbrev pub binary_value : Volume → Option Place → Reply
+binary_value v None = Err NoField
+binary_value v (Some place) =
+    if is_in_binary place then Ok (answers.Value (num v.head.order place.kind (bin_bytes place.byte place.kind.size v.bin))) else Err NoPlace
+
+-- the code of a block, where there is one
+abbrev pub code_answer : Option (List ℕ) → Reply
+code_answer block = or_fault block NoPlace (λ b. answers.Code (code_of b))
+
+-- line q of a block, from 1 to 40, where there is one
+abbrev pub line_answer : Option (List ℕ) → ℕ → Reply
+line_answer block q = if not (is_line q) then Err NoPlace else or_fault block NoPlace (λ b. answers.Line (shown_line b q))
+
+-- the extended textual headers, then the data trailer records
+abbrev pub text_blocks : Volume → List (List ℕ)
+text_blocks v = v.blocks ++ v.trailer
+
+-- the stanzas of a block, each with the block's number
+abbrev pub numbered_stanzas : ℕ → List ℕ → List (ℕ × List ℕ)
+numbered_stanzas number block = map (λ name. (number, name)) (stanzas block)
+
+-- the stanzas of blocks that are numbered from here on
+abbrev pub stanzas_from : ℕ → List (List ℕ) → List (ℕ × List ℕ)
+stanzas_from number blocks = flat_map (λ b. numbered_stanzas b.0 b.1) (enumerate_from number blocks)
+
+-- the stanzas of the extended textual headers, then of the data trailer records, each with its block
+abbrev pub all_stanzas : Volume → List (ℕ × List ℕ)
+all_stanzas v = stanzas_from 1 (text_blocks v)
+
+-- the answer, or the first refusal
+abbrev pub answer : State → Query → Reply
+answer s queries.Count = Ok (answers.Count (count_of s.volume))
+answer s queries.Info = Ok (answers.Info (record { head = s.volume.head; traces = count_of s.volume; bytes = length (bytes_of s.volume) }))
+answer s (queries.Get p field) = of_trace s.volume p (λ t. trace_value s.volume.head t (place_in_trace s.fields field))
+answer s (queries.GetBin field) = binary_value s.volume (place_in_binary field)
+answer s (queries.Line b q) = line_answer (block_of s.volume b) q
+answer s (queries.Code b) = code_answer (block_of s.volume b)
+answer s queries.Stanzas = Ok (answers.Stanzas (all_stanzas s.volume))
+answer s queries.Fields = Ok (answers.Fields s.fields)
+answer s (queries.Sample p k) = of_trace s.volume p (λ t. trace_sample s.volume.head t k)
+
+-- whether a query may be refused for want of memory: its answer is a text or a list
+abbrev pub TakesMemory : Query → Type 0
+TakesMemory queries.Count = ⊥
+TakesMemory queries.Info = ⊥
+TakesMemory (queries.Get p field) = ⊥
+TakesMemory (queries.GetBin field) = ⊥
+TakesMemory (queries.Line b q) = Unit {0}
+TakesMemory (queries.Code b) = ⊥
+TakesMemory queries.Stanzas = Unit {0}
+TakesMemory queries.Fields = Unit {0}
+TakesMemory (queries.Sample p k) = ⊥
+
+-- the reply is the answer, or want of memory where the query takes it and is not refused
+abbrev pub IsReply : State → Query → Reply → Type 0
+IsReply s query reply = (reply ≡ answer s query) ⊎ ((reply ≡ Err OutOfMemory) × TakesMemory query × IsOk (answer s query))

@@ -1,0 +1,64 @@
+-- The numbers of the slices that are kept, at most 8, the last asked first. None is kept after a load, and a refused edit or query leaves
+-- them as they are.
+use Rattle.std.specs.Prelude.{ℕ, ◌==◌, ◌&&◌, Bool, not, ℤ, List, [], ◌∷◌, length, take, filter, codes, Option, Some, None, if◌then◌else◌}
+use Rattle.std.specs.List.{list_any}
+use Rattle.std.specs.Ordering.{int_eq}
+use Rattle.field_map.specs.declared.place.Place.{Place}
+use Rattle.field_map.specs.Binding.{is_geometry}
+use Rattle.field_map.specs.Pairs.{Pairs}
+use Rattle.frame_cut.specs.declared.file_head.Head.{Head}
+use Rattle.frame_cut.specs.Traces.{trace_at}
+use Rattle.trace_record.specs.OfTrace.{bound_value}
+use Rattle.time_slice.specs.Cache.{is_from}
+use Rattle.bench_rules.specs.declared.edit.Edit.{Edit}
+use Rattle.bench_rules.specs.declared.edit.Edit.TheVariants.{Set, SetBin, SetText, Map, Unmap, Patch, Blank, Copy, Delete, Move}
+use Rattle.bench_rules.specs.declared.query.Query.{Query}
+use Rattle.bench_rules.specs.Places.{place_in_trace}
+use Rattle.bench_rules.specs.Refused.{with_value}
+use Rattle.bench_rules.specs.State.{State}
+
+-- the slice with the number is kept
+abbrev pub is_kept : ℕ → List ℕ → Bool
+is_kept k kept = list_any (λ j. j == k) kept
+
+-- the numbers kept after a load
+abbrev pub kept_after_load : List ℕ
+kept_after_load = []
+
+-- the numbers kept after slice k was answered: k comes first, and the last of nine goes
+abbrev pub kept_after_slice : ℕ → List ℕ → List ℕ
+kept_after_slice k kept = take 8 (k ∷ filter (λ j. not (j == k)) kept)
+
+-- the numbers kept after a query of the headers, of the text or of one sample: as they were
+abbrev pub kept_after_query : Query → List ℕ → List ℕ
+kept_after_query query kept = kept
+
+-- two traces have one value of the name
+abbrev pub same_bound : Head → Pairs → List ℕ → List ℕ → List ℕ → Bool
+same_bound h fields t u name = int_eq (bound_value h fields t name) (bound_value h fields u name)
+
+-- two traces have one inline and one crossline
+abbrev pub same_cell : Head → Pairs → List ℕ → List ℕ → Bool
+same_cell h fields t u = same_bound h fields t u (codes "inline") && same_bound h fields t u (codes "crossline")
+
+-- the numbers kept where trace t becomes u in its headers: all, unless its inline or crossline is another
+abbrev pub kept_after_headers : Head → Pairs → List ℕ → List ℕ → List ℕ → List ℕ
+kept_after_headers h fields t u kept = if same_cell h fields t u then kept else []
+
+-- the numbers kept after the value over a place of the trace
+abbrev pub kept_after_set : Head → Pairs → List ℕ → Option Place → ℤ → List ℕ → List ℕ
+kept_after_set h fields t None x kept = kept
+kept_after_set h fields t (Some place) x kept = kept_after_headers h fields t (with_value h t place x) kept
+
+-- the numbers kept after an edit that is done in this state
+abbrev pub kept_after_edit : State → Edit → List ℕ → List ℕ
+kept_after_edit s (Set p field x) kept = kept_after_set s.volume.head s.fields (trace_at s.volume p) (place_in_trace s.fields field) x kept
+kept_after_edit s (SetBin field x) kept = kept
+kept_after_edit s (SetText q text) kept = kept
+kept_after_edit s (Map name place) kept = if is_geometry name then [] else kept
+kept_after_edit s (Unmap name) kept = kept
+kept_after_edit s (Patch p k values) kept = filter (λ j. not (is_from k (length values) j)) kept
+kept_after_edit s (Blank p) kept = []
+kept_after_edit s (Copy q p) kept = []
+kept_after_edit s (Delete p) kept = []
+kept_after_edit s (Move a b) kept = []

@@ -1,0 +1,105 @@
+-- The first refusal that an edit meets.
+use Rattle.std.specs.Prelude.{ℕ, ◌+◌, ◌-◌, ◌*◌, ◌==◌, ◌&&◌, nat_le, nat_lt, max, Bool, not, false, ℤ, List, length, Option, Some, None, option_map, if◌then◌else◌}
+use Rattle.std.specs.List.{list_all}
+use Rattle.std.specs.Option.{option_or}
+use Rattle.std.specs.Str.{chars}
+use Rattle.num_order.specs.Number.{bytes, fits}
+use Rattle.field_map.specs.declared.place.Place.{Place}
+use Rattle.field_map.specs.Places.{offset_of}
+use Rattle.field_map.specs.Binding.{bind_fault, unbind_fault}
+use Rattle.text_block.specs.Blocks.{code_of}
+use Rattle.text_block.specs.Lines.{text_fault}
+use Rattle.sample_codes.specs.Formats.{sample_fits}
+use Rattle.frame_cut.specs.declared.file_head.Head.{Head}
+use Rattle.frame_cut.specs.declared.limits.Limits.{Limits}
+use Rattle.frame_cut.specs.Splice.{splice}
+use Rattle.frame_cut.specs.Frames.{trace_length, sample_count}
+use Rattle.frame_cut.specs.Traces.{count_of, is_trace, trace_at}
+use Rattle.frame_cut.specs.Volume.{Volume, bytes_of}
+use Rattle.trace_view.specs.Values.{has_place}
+use Rattle.bench_rules.specs.declared.edit.Edit.{Edit}
+use Rattle.bench_rules.specs.declared.edit.Edit.TheVariants.{Set, SetBin, SetText, Map, Unmap, Patch, Blank, Copy, Delete, Move}
+use Rattle.bench_rules.specs.declared.refusal.Refusal.{Refusal}
+use Rattle.bench_rules.specs.declared.refusal.Refusal.TheVariants as refusals
+use Rattle.bench_rules.specs.Places.{place_in_trace, place_in_binary, is_in_binary, touches_frame}
+use Rattle.bench_rules.specs.State.{State}
+use Rattle.bench_rules.specs.WholeTraces.{blank_trace}
+
+-- there is no trace p
+abbrev pub no_trace : Volume → ℕ → Option Refusal
+no_trace v p = if is_trace v p then None else Some (refusals.NoTrace p (count_of v))
+
+-- there is no place p for a trace: in front of trace p, or behind the last
+abbrev pub no_place_for_trace : Volume → ℕ → Option Refusal
+no_place_for_trace v p = if nat_le 1 p && nat_le p (count_of v + 1) then None else Some (refusals.NoTrace p (count_of v))
+
+-- the refusal of one more trace of so many bytes under the limits
+abbrev pub room_refusal : Volume → Limits → ℕ → Option Refusal
+room_refusal v limits n =
+    if nat_lt limits.bytes (length (bytes_of v) + n) then Some refusals.TooLarge else
+    if nat_lt limits.traces (count_of v + 1) then Some refusals.TooManyTraces else None
+
+-- the refusal of one more trace of so many bytes at place p
+abbrev pub insert_refusal : Volume → Limits → ℕ → ℕ → Option Refusal
+insert_refusal v limits p n = option_or (no_place_for_trace v p) (room_refusal v limits n)
+
+-- so many samples from k on go past the n of the trace; the number named is the greater of k and n
+abbrev pub no_samples : ℕ → ℕ → ℕ → Option Refusal
+no_samples n k many = if nat_lt n (k + many) then Some (refusals.NoSample (max k n) n) else None
+
+-- the refusal of values over the samples of a trace from sample k on
+abbrev pub patch_refusal : Head → List ℕ → ℕ → List ℤ → Option Refusal
+patch_refusal h t k values =
+    if not (list_all (sample_fits h.format) values) then Some refusals.DoesNotFit else no_samples (sample_count h t) k (length values)
+
+-- the trace with the value over the place
+abbrev pub with_value : Head → List ℕ → Place → ℤ → List ℕ
+with_value h t place x = splice t (offset_of place) place.kind.size (bytes h.order place.kind x)
+
+-- the length is this one
+abbrev pub is_length : Option ℕ → ℕ → Bool
+is_length None n = false
+is_length (Some m) n = m == n
+
+-- with the value over the place the trace's headers give it another length than it has, or none
+abbrev pub changes_length : Head → List ℕ → Place → ℤ → Bool
+changes_length h t place x = not (is_length (trace_length h (with_value h t place x)) (length t))
+
+-- the refusal of a value at the place that a field of the trace has, if it has one
+abbrev pub set_refusal : Head → List ℕ → Option Place → ℤ → Option Refusal
+set_refusal h t None x = Some refusals.NoField
+set_refusal h t (Some place) x =
+    if not (has_place h t place) then Some refusals.NoPlace else
+    if not (fits place.kind x) then Some refusals.DoesNotFit else
+    if changes_length h t place x then Some refusals.Frame else None
+
+-- the refusal of a value at the place that a field of the binary header has, if it has one
+abbrev pub set_bin_refusal : Option Place → ℤ → Option Refusal
+set_bin_refusal None x = Some refusals.NoField
+set_bin_refusal (Some place) x =
+    if not (is_in_binary place) then Some refusals.NoPlace else
+    if not (fits place.kind x) then Some refusals.DoesNotFit else
+    if touches_frame place then Some refusals.Frame else None
+
+-- a line of a block, from 1 to 40
+abbrev pub is_line : ℕ → Bool
+is_line q = nat_le 1 q && nat_le q 40
+
+-- the refusal of a text as line q of the textual header
+abbrev pub text_refusal : List ℕ → ℕ → List ℕ → Option Refusal
+text_refusal block q text =
+    if not (is_line q) then Some refusals.NoPlace else
+    option_map (λ fault. refusals.Text fault) (text_fault (code_of block) (chars text))
+
+-- the first refusal of the edit, if it meets one; want of memory is none of these
+abbrev pub first_refusal : State → Edit → Option Refusal
+first_refusal s (Set p field x) = option_or (no_trace s.volume p) (set_refusal s.volume.head (trace_at s.volume p) (place_in_trace s.fields field) x)
+first_refusal s (SetBin field x) = set_bin_refusal (place_in_binary field) x
+first_refusal s (SetText q text) = text_refusal s.volume.text q text
+first_refusal s (Map name place) = option_map (λ fault. refusals.Map fault) (bind_fault s.volume.head.extensions s.fields name place)
+first_refusal s (Unmap name) = option_map (λ fault. refusals.Map fault) (unbind_fault s.fields name)
+first_refusal s (Patch p k values) = option_or (no_trace s.volume p) (patch_refusal s.volume.head (trace_at s.volume p) k values)
+first_refusal s (Blank p) = insert_refusal s.volume s.limits p (length (blank_trace s.volume.head))
+first_refusal s (Copy q p) = option_or (no_trace s.volume q) (insert_refusal s.volume s.limits p (length (trace_at s.volume q)))
+first_refusal s (Delete p) = no_trace s.volume p
+first_refusal s (Move a b) = option_or (no_trace s.volume a) (no_trace s.volume b)

@@ -1,0 +1,108 @@
+-- What each report says of a state: the from-scratch definition of its crate on the records of the volume's traces.
+use Rattle.std.specs.Prelude.{ℕ, ℤ, not, List, map, count_by, codes, bytes_eq, take, Option, option_map}
+use Rattle.std.specs.List.{range_with_len}
+use Rattle.text_block.specs.Lines.{shown_line}
+use Rattle.frame_cut.specs.BinaryHeader.{bin_unsigned}
+use Rattle.frame_cut.specs.Traces.{trace_of}
+use Rattle.frame_cut.specs.Volume.{Volume}
+use Rattle.trace_view.specs.Values.{samples_of}
+use Rattle.trace_record.specs.Facts.{Facts}
+use Rattle.trace_record.specs.OfTrace.{record_of}
+use Rattle.trace_record.specs.Statistics.{statistics_of}
+use Rattle.trace_record.specs.declared.ratio.Ratio.{Ratio}
+use Rattle.trace_record.specs.declared.statistics.Statistics.{Statistics}
+use Rattle.grid_live.specs.Cells.{fold_of, cells, inlines, crosslines, histogram}
+use Rattle.grid_live.specs.declared.cell.Cell.{Cell}
+use Rattle.grid_live.specs.declared.line.Line.{Line}
+use Rattle.grid_live.specs.declared.fold_count.FoldCount.{FoldCount}
+use Rattle.range_stats.specs.Ranges.{range_of}
+use Rattle.range_stats.specs.Totals.{totals_of}
+use Rattle.range_stats.specs.declared.quantity.Quantity.{Quantity}
+use Rattle.fault_live.specs.Faults.{faults_of}
+use Rattle.fault_live.specs.declared.fault.Fault.{Fault}
+use Rattle.fault_live.specs.declared.head_facts.HeadFacts.{HeadFacts}
+use Rattle.time_slice.specs.Slices.{slice_of}
+use Rattle.time_slice.specs.declared.row.Row.{Row}
+use Rattle.bench_rules.specs.State.{State}
+
+-- ---- what the reports take
+
+-- the record of each trace
+abbrev pub records : State → List Facts
+records s = map (record_of s.volume.head s.fields) s.volume.traces
+
+-- how many of the 40 lines of a block do not begin with `C` as they are shown
+abbrev pub lines_without_c : List ℕ → ℕ
+lines_without_c block = count_by (λ q. not (bytes_eq (take 1 (shown_line block q)) (codes "C"))) (range_with_len 1 40)
+
+-- what the file's headers say to the faults
+abbrev pub head_facts : Volume → HeadFacts
+head_facts v = record {
+  trace_count = bin_unsigned 3513 8 v.bin;
+  lines = lines_without_c v.text;
+  interval = bin_unsigned 3217 2 v.bin;
+  major = v.head.major;
+  minor = v.head.minor;
+}
+
+-- ---- the grid
+
+-- how many traces have this inline and crossline
+abbrev pub fold_in : State → ℤ → ℤ → ℕ
+fold_in s i c = fold_of (records s) i c
+
+-- the cells that have traces, each with its fold
+abbrev pub cells_in : State → List Cell
+cells_in s = cells (records s)
+
+-- the inlines that have traces, each with their number
+abbrev pub inlines_in : State → List Line
+inlines_in s = inlines (records s)
+
+-- the crosslines that have traces, each with their number
+abbrev pub crosslines_in : State → List Line
+crosslines_in s = crosslines (records s)
+
+-- the folds that occur, each with its number of cells
+abbrev pub histogram_in : State → List FoldCount
+histogram_in s = histogram (records s)
+
+-- ---- ranges, totals and single traces
+
+-- the least and the greatest value of this kind
+abbrev pub range_in : State → Quantity → Option (Ratio × Ratio)
+range_in s w = range_of w (records s)
+
+-- the least, the greatest, the sum and the number of all samples
+abbrev pub totals_in : State → Option Statistics
+totals_in s = totals_of (records s)
+
+-- the least, the greatest, the sum and the number of the samples of trace p, where there is one
+abbrev pub statistics_in : State → ℕ → Option (Option Statistics)
+statistics_in s p = option_map (λ t. statistics_of (samples_of s.volume.head t)) (trace_of s.volume p)
+
+-- where a trace lies: its numbers as they stand, and its coordinates under its scalar
+pub record Location : Type 0 where
+  pub inline : ℤ
+  pub crossline : ℤ
+  pub offset : ℤ
+  pub x : Ratio
+  pub y : Ratio
+
+-- where the trace of this record lies
+abbrev pub location_of : Facts → Location
+location_of f = record { inline = f.inline; crossline = f.crossline; offset = f.offset; x = f.x; y = f.y }
+
+-- where trace p lies, if there is one
+abbrev pub geometry_in : State → ℕ → Option Location
+geometry_in s p = option_map (λ t. location_of (record_of s.volume.head s.fields t)) (trace_of s.volume p)
+
+-- ---- slices and faults
+
+-- the rows of slice k
+abbrev pub slice_in : State → ℕ → List Row
+slice_in s k = slice_of s.volume.head s.fields k s.volume.traces
+
+-- the faults of the headers
+abbrev pub faults_in : State → List Fault
+faults_in s = faults_of (head_facts s.volume) (records s)

@@ -1,0 +1,49 @@
+-- Edits one after another, and what each is answered.
+use Rattle.std.specs.Prelude.{◌≡◌, List, [], ◌∷◌, Option, Some, None, Result, Ok, Err}
+use Rattle.frame_cut.specs.Cuts.{IsCut}
+use Rattle.bench_rules.specs.declared.edit.Edit.{Edit}
+use Rattle.bench_rules.specs.declared.edit.Edit.TheVariants.{Set, SetBin, SetText, Map, Unmap, Patch, Blank, Copy, Delete, Move}
+use Rattle.bench_rules.specs.declared.refusal.Refusal.{Refusal}
+use Rattle.bench_rules.specs.declared.refusal.Refusal.TheVariants.{OutOfMemory}
+use Rattle.bench_rules.specs.After.{bytes_after, fields_after}
+use Rattle.bench_rules.specs.Refused.{first_refusal}
+use Rattle.bench_rules.specs.State.{State}
+
+-- whether an edit may be refused for want of memory
+abbrev pub TakesMemory : Edit → Type 0
+TakesMemory (Set p field x) = Unit {0}
+TakesMemory (SetBin field x) = ⊥
+TakesMemory (SetText q text) = ⊥
+TakesMemory (Map name place) = Unit {0}
+TakesMemory (Unmap name) = ⊥
+TakesMemory (Patch p k values) = Unit {0}
+TakesMemory (Blank p) = Unit {0}
+TakesMemory (Copy q p) = Unit {0}
+TakesMemory (Delete p) = ⊥
+TakesMemory (Move a b) = Unit {0}
+
+-- the new volume is the cut of the bytes after the edit, with the field map after it
+pub record IsAfter (old : State) (edit : Edit) (new : State) : Type 0 where
+  pub volume : IsCut (bytes_after old.volume old.fields edit) old.reading old.limits new.volume
+  pub fields : new.fields ≡ fields_after old.fields edit
+  pub reading : new.reading ≡ old.reading
+  pub limits : new.limits ≡ old.limits
+
+-- an edit that meets a refusal changes nothing; else it is done, or refused for want of memory and changes nothing
+abbrev pub StepUnless : {T : Type 0} → Option Refusal → State → Edit → Result T Refusal → State → Type 0
+StepUnless (Some refusal) old edit (Ok done) new = ⊥
+StepUnless (Some refusal) old edit (Err r) new = (r ≡ refusal) × (new ≡ old)
+StepUnless None old edit (Ok done) new = IsAfter old edit new
+StepUnless None old edit (Err r) new = (r ≡ OutOfMemory) × TakesMemory edit × (new ≡ old)
+
+-- one edit with its reply
+abbrev pub Step : {T : Type 0} → State → Edit → Result T Refusal → State → Type 0
+Step old edit reply new = StepUnless (first_refusal old edit) old edit reply new
+
+-- one step for each edit, with one reply
+abbrev pub Steps : {T : Type 0} → State → List Edit → List (Result T Refusal) → State → Type 0
+Steps old [] [] new = new ≡ old
+Steps old [] (reply ∷ replies) new = ⊥
+Steps old (edit ∷ edits) [] new = ⊥
+Steps old (edit ∷ edits) (reply ∷ replies) new =
+    (mid : State) × Step old edit reply mid × Steps mid edits replies new

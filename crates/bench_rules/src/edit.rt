@@ -1,0 +1,37 @@
+use crate::field::Field;
+use crate::items::Items;
+use crate::text::Text;
+use field_map::Place;
+
+/// One edit of a volume. Traces count from 1, samples of a trace from 0, lines of the textual
+/// header from 1.
+#[derive(Drop)]
+pub enum Edit {
+    /// `Set(p, field, value)`: the value into a header field of trace p. Refused, in this order:
+    /// E01, E02, E03, E04, E06.
+    Set(u32, Field, i128),
+    /// `SetBin(field, value)`: the value into a field of the binary header. Refused, in this order:
+    /// E02, E03, E04, E06.
+    SetBin(Field, i128),
+    /// `SetText(q, text)`: the text as line q of the textual header, in its code, with blanks up to
+    /// 80 characters. Refused, in this order: E03, E07.
+    SetText(u32, Text),
+    /// `Map(name, place)`: the name bound to the place, in trace headers. Refused: E08.
+    Map(Text, Place),
+    /// `Unmap(name)`: the name no longer bound. Refused: E08.
+    Unmap(Text),
+    /// `Patch(p, k, values)`: the values over samples k, k + 1 and so on of trace p. No values at a
+    /// k up to the number of samples change nothing. Refused, in this order: E01, E04, E05.
+    Patch(u32, u32, Items<i128>),
+    /// `Blank(p)`: a trace of zeros in front of trace p, or behind the last, with as many header
+    /// extensions and samples as the binary header says. Refused, in this order: E01, E09, E10.
+    Blank(u32),
+    /// `Copy(q, p)`: trace q as it is now in front of trace p, or behind the last. Refused, in this
+    /// order: E01 for q, E01 for p, E09, E10.
+    Copy(u32, u32),
+    /// `Delete(p)`: trace p out. Refused: E01. Takes no memory.
+    Delete(u32),
+    /// `Move(a, b)`: trace a out, and in again so that it is trace b. Refused, in this order: E01
+    /// for a, E01 for b.
+    Move(u32, u32),
+}

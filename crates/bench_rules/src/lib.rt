@@ -1,0 +1,39 @@
+//! What edits and queries of a volume mean: the types of both, of their answers and refusals, which
+//! refusal comes first, and which bytes an edit gives. The definitions of all of it stand in
+//! `specs/`; the bench above holds a volume and follows them.
+//!
+//! Traces count from 1, bytes in a header from 1, samples of a trace from 0. No call takes memory
+//! but `add_stanzas`, `samples_bytes`, `joined` and `zeros`.
+#![tactic(auto)]
+
+mod answer;
+mod ask_fault;
+mod binary_header;
+mod edit;
+mod field;
+mod header_field;
+mod info;
+mod items;
+mod query;
+mod refusal;
+mod samples;
+mod stanzas;
+mod text;
+mod text_lines;
+mod trace_bytes;
+
+pub use crate::answer::Answer;
+pub use crate::ask_fault::AskFault;
+pub use crate::binary_header::{binary_offset, binary_value, place_in_binary, set_bin_refusal};
+pub use crate::edit::Edit;
+pub use crate::field::Field;
+pub use crate::header_field::set_refusal;
+pub use crate::info::Info;
+pub use crate::items::Items;
+pub use crate::query::Query;
+pub use crate::refusal::Refusal;
+pub use crate::samples::{patch_refusal, sample_place, trace_sample};
+pub use crate::stanzas::add_stanzas;
+pub use crate::text::Text;
+pub use crate::text_lines::is_line;
+pub use crate::trace_bytes::{all_fit, blank_length, joined, samples_bytes, zeros};

@@ -1,0 +1,74 @@
+// Bytes of samples and of whole traces.
+ghost use Rattle.std.specs.Prelude.{◌≡◌, ◌<◌, ◌≤◌, ◌^◌, length, replicate, IsTrue, IfOk, IfErr};
+ghost use Rattle.std.specs.List.{list_all};
+ghost use Rattle.sample_codes.specs.Formats.{sample_fits, samples_bytes as bytes_of_samples};
+ghost use Rattle.frame_cut.specs.Frames.{length_with};
+ghost use Rattle.trace_view.specs.Shown.{bytes_of};
+ghost use Rattle.bench_rules.specs.declared.refusal.Refusal.TheVariants.{OutOfMemory as no_memory};
+
+use crate::refusal::Refusal;
+use field_map::TRACE_HEADER_BYTES;
+use frame_cut::Head;
+use sample_codes::Format;
+use std::alloc::Global;
+use trace_view::TraceView;
+
+/// Whether the format has each of the values.
+pub fn all_fit(format: Format, values: &[i128]) -> bool
+    ensures { result ≡ list_all (sample_fits format) values.now }
+{
+    for value in values {
+        if !format.fits(*value) {
+            return false;
+        }
+    }
+    true
+}
+
+/// The bytes of the values as samples, one after another. Takes memory for all of them at once.
+pub fn samples_bytes(alloc: Global, head: &Head, values: &[i128]) -> Result<Vec<u8>, Refusal>
+    requires few { length values.now ≤ 2 ^ 40 }
+    requires fit { IsTrue (list_all (sample_fits head.now.format) values.now) }
+    ensures ok { IfOk result (λ bytes. bytes.items ≡ bytes_of_samples head.now.order head.now.format
+        values.now) }
+    ensures err { IfErr result (λ refusal. refusal ≡ no_memory) }
+{
+    let width = usize::from(head.format.width());
+    let mut bytes = Vec::with_capacity(alloc, width * values.len())?;
+    let mut buffer = [0u8; 8];
+    for value in values {
+        let sample = &mut buffer[..width];
+        head.format.encode(head.order, *value, sample);
+        bytes.extend_from_slice(sample)?;
+    }
+    Ok(bytes)
+}
+
+/// The trace's bytes in one vector. Takes memory for all of them at once.
+pub fn joined(alloc: Global, trace: &TraceView<'_>) -> Result<Vec<u8>, Refusal>
+    ensures ok { IfOk result (λ bytes. bytes.items ≡ bytes_of trace.now) }
+    ensures err { IfErr result (λ refusal. refusal ≡ no_memory) }
+{
+    let mut bytes = Vec::with_capacity(alloc, trace.length() as usize)?;
+    for piece in trace.pieces() {
+        bytes.extend_from_slice(piece)?;
+    }
+    Ok(bytes)
+}
+
+/// So many zeros.
+pub fn zeros(alloc: Global, count: usize) -> Result<Vec<u8>, Refusal>
+    ensures ok { IfOk result (λ bytes. bytes.items ≡ replicate count 0) }
+    ensures err { IfErr result (λ refusal. refusal ≡ no_memory) }
+{
+    Ok(vec![in alloc; 0u8; count]?)
+}
+
+/// How many bytes a trace of zeros has: its headers, and the samples that the binary header says.
+pub fn blank_length(head: &Head) -> u64
+    ensures length { result ≡ length_with head.now head.now.extensions head.now.samples }
+    ensures small { result < 2 ^ 40 }
+{
+    TRACE_HEADER_BYTES as u64 * (1 + u64::from(head.extensions))
+        + u64::from(head.format.width()) * u64::from(head.samples)
+}

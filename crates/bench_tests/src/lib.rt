@@ -1,0 +1,8 @@
+//! Tests of the bench through its public calls: edits, queries and saves over small files that are
+//! made by hand. They stand in a crate of their own, since a crate with tests is proved twice.
+#![tactic(auto)]
+
+#[cfg(test)]
+mod tests;
+#[cfg(test)]
+mod trace_tests;

@@ -1,0 +1,59 @@
+-- An overlay is sound again with another store of the same file.
+use Rattle.std.proofs.Common.{◌≡◌, ℕ, ◌+◌, List, length, refl, sym, ap, ◌∙◌, arith, Result, Ok, Err, OnOk, OnErr, None}
+use Rattle.frame_cut.specs.Volume.{Volume, bytes_of}
+use Rattle.edit_overlay.specs.Ahead.{traces_ahead}
+use Rattle.edit_overlay.specs.Held.{looked_of, volume_ahead, volume_with, IsHeld}
+use Rattle.edit_overlay.specs.Slots.{traces_of, IsStore}
+use Rattle.edit_overlay.specs.declared.store.TraceStore.{TraceStore}
+use Rattle.edit_overlay.specs.declared.overlay.Overlay.TheInside.{Inside}
+use Rattle.edit_overlay.proofs.AheadLemmas.{ahead_kept, ready_kept, IsSame}
+use Rattle.edit_overlay.proofs.LengthLemmas.{total, length-with}
+
+-- what follows from success and from failure alike
+pub settle : {T E : Type 0} (r : Result T E) {A B C : Type 0} → OnOk r A → OnErr r B → (A → C) → (B → C) → C
+settle (Ok x) a b f g = f a
+settle (Err e) a b f g = g b
+
+-- the store has the same loaded file under the same head
+pub record IsOver (s t : TraceStore) : Type 0 where
+  pub head : t.head ≡ s.head
+  pub loaded : t.loaded ≡ s.loaded
+
+other_traces : (text bin : List ℕ) (s t : TraceStore) → IsOver s t → volume_with text bin t ≡ record (volume_with text bin s) { traces = traces_of t }
+other_traces text bin s t over = rw (over.head, over.loaded) refl
+
+pub held_again : (o : Inside) (t : TraceStore) (n : ℕ) → IsHeld o → IsStore t → IsOver o.store t → n + total (traces_of o.store) ≡ o.length + total (traces_of t) → IsHeld (record o { store = t; prepared = None; length = n })
+held_again o t n held is over sum =
+    let v : Volume = volume_with o.text o.bin o.store in
+    let e : length (bytes_of (volume_with o.text o.bin t)) ≡ length (bytes_of (record v { traces = traces_of t })) = ap (λ (w : Volume). length (bytes_of w)) (other_traces o.text o.bin o.store t over) in
+    record {
+      store = is;
+      ends = record { front = rw over.head held.ends.front; whole = rw (over.head, over.loaded) held.ends.whole };
+      text = held.text;
+      bin = held.bin;
+      prepared = tt;
+      length = omega (arith, e, length-with v (traces_of t), held.length, sum);
+    }
+
+-- the same overlay, of which only the room for more grew
+same_traces : (text bin : List ℕ) (s t : TraceStore) → IsOver s t → IsSame s t → volume_with text bin t ≡ volume_with text bin s
+same_traces text bin s t over same = other_traces text bin s t over ∙ ap (λ (ts : List (List ℕ)). record (volume_with text bin s) { traces = ts }) same.traces
+
+pub held_kept : (o : Inside) (t : TraceStore) → IsHeld o → IsStore t → IsOver o.store t → IsSame o.store t → IsHeld (record o { store = t })
+held_kept o t held is over same = record {
+  store = is;
+  ends = record { front = rw over.head held.ends.front; whole = rw (over.head, over.loaded) held.ends.whole };
+  text = held.text;
+  bin = held.bin;
+  prepared = ready_kept o.store t o.prepared same held.prepared;
+  length = held.length ∙ ap (λ (v : Volume). length (bytes_of v)) (sym (same_traces o.text o.bin o.store t over same));
+}
+
+pub shown_kept : (o : Inside) (t : TraceStore) → IsOver o.store t → IsSame o.store t → looked_of (record o { store = t }) ≡ looked_of o
+shown_kept o t over same =
+    let v = same_traces o.text o.bin o.store t over same in
+    let s : Volume = volume_with o.text o.bin o.store in
+    let w : volume_ahead o.text o.bin t o.prepared ≡ volume_ahead o.text o.bin o.store o.prepared =
+    ap (λ (x : Volume). record x { traces = traces_ahead t o.prepared }) v ∙ ap (λ (ts : List (List ℕ)). record s { traces = ts }) (ahead_kept o.store t o.prepared same) in
+    let first : looked_of (record o { store = t }) ≡ record (looked_of (record o { store = t })) { volume = s } = ap (λ (x : Volume). record (looked_of (record o { store = t })) { volume = x }) v in
+    first ∙ ap (λ (x : Volume). record (looked_of o) { prepared = x }) w

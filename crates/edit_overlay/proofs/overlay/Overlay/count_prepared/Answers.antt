@@ -1,0 +1,7 @@
+use Rattle.std.proofs.Common.{◌∙◌, length, ap, sym}
+use Rattle.edit_overlay.proofs.AheadLemmas.{length-ahead}
+use Rattle.edit_overlay.proofs.overlay.Overlay.count_prepared.Goals as goal
+
+pub returns-clause-prepared : goal.returns-clause-prepared
+returns-clause-prepared c =
+    c.count.ensures ∙ (sym (length-ahead c.self.inside.store c.self.inside.prepared) ∙ ap (λ o. length o.prepared.traces) c.self.view_is)

@@ -1,0 +1,47 @@
+-- The traces of a store as they would be with prepared runs.
+use Rattle.std.specs.Prelude.{ℕ, ◌≡◌, ◌+◌, ◌<◌, List, [], ◌∷◌, length, slice_index_or, slice_set, Vec, Option, Some, None}
+use Rattle.std.specs.Global.{Global}
+use Rattle.std.specs.List.{concat}
+use Rattle.frame_cut.specs.declared.file_head.Head.{Head}
+use Rattle.frame_cut.specs.Cuts.{IsTrace}
+use Rattle.trace_view.specs.declared.run.Run.{Run}
+use Rattle.trace_view.specs.Runs.{Fit, bytes_with_runs}
+use Rattle.edit_overlay.specs.declared.prepared.Prepared.{Prepared}
+use Rattle.edit_overlay.specs.declared.store.TraceStore.{TraceStore}
+use Rattle.edit_overlay.specs.Slots.{bases_of, traces_of}
+
+-- the traces with a list of runs over the base of each of those from `place` on
+abbrev pub traces_with : (bases traces : List (List ℕ)) → ℕ → List (Vec Run Global) → List (List ℕ)
+traces_with bases traces place [] = traces
+traces_with bases traces place (runs ∷ lists) =
+    traces_with bases (slice_set traces place (bytes_with_runs (slice_index_or bases place []) runs.items)) (place + 1) lists
+
+-- the runs fit the base at `place`, and show a whole trace over it
+pub record AreRunsOf (h : Head) (bases : List (List ℕ)) (place : ℕ) (runs : List Run) : Type 0 where
+  pub there : place < length bases
+  pub fit : Fit runs (length (slice_index_or bases place []))
+  pub whole : IsTrace h (bytes_with_runs (slice_index_or bases place []) runs)
+
+-- each list of runs fits its base from `place` on, and shows a whole trace over it
+abbrev pub AreRunsFrom : Head → (bases : List (List ℕ)) → ℕ → List (Vec Run Global) → Type 0
+AreRunsFrom h bases place [] = Unit {0}
+AreRunsFrom h bases place (runs ∷ lists) = AreRunsOf h bases place runs.items × AreRunsFrom h bases (place + 1) lists
+
+-- the traces of the store as they would be
+abbrev pub traces_then : TraceStore → Prepared → List (List ℕ)
+traces_then s prepared = traces_with (bases_of s) (traces_of s) prepared.place prepared.lists.items
+
+-- the prepared runs fit the traces of the store, which stay as long as they are
+pub record IsReady (s : TraceStore) (prepared : Prepared) : Type 0 where
+  pub runs : AreRunsFrom s.head (bases_of s) prepared.place prepared.lists.items
+  pub length : length (concat (traces_then s prepared)) ≡ length (concat (traces_of s))
+
+-- the traces of the store as they would be, where something may be prepared or nothing
+abbrev pub traces_ahead : TraceStore → Option Prepared → List (List ℕ)
+traces_ahead s None = traces_of s
+traces_ahead s (Some prepared) = traces_then s prepared
+
+-- what is prepared, if anything, fits the traces of the store
+abbrev pub IsReadyIfSome : TraceStore → Option Prepared → Type 0
+IsReadyIfSome s None = Unit {0}
+IsReadyIfSome s (Some prepared) = IsReady s prepared

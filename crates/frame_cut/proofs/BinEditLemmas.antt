@@ -1,0 +1,214 @@
+-- What edits of the binary header do to a file that is cut: it stays cut where the fields that frame it keep their bytes.
+use Rattle.std.proofs.Common.{◌≡◌, ℕ, ◌+◌, ◌-◌, ◌≤◌, Bool, List, ◌++◌, length, take, drop, refl, sym, ap, ◌∙◌, arith, append_assoc, Option, Some, None, Result, Ok, Err, ℤ, ◌⊎◌, inl, inr, lit≤}
+use Rattle.std.specs.Prelude.{nat_abs, if◌then◌else◌}
+use Rattle.std.specs.List.{concat}
+use Rattle.num_order.specs.declared.order.Order.{Order}
+use Rattle.sample_codes.specs.declared.format.Format.{Format}
+use Rattle.sample_codes.specs.declared.format_fault.FormatFault.{FormatFault}
+use Rattle.sample_codes.specs.Formats.{format_of}
+use Rattle.frame_cut.specs.declared.file_head.Head.{Head}
+use Rattle.frame_cut.specs.declared.limits.Limits.{Limits}
+use Rattle.frame_cut.specs.declared.reading.Reading.{Reading}
+use Rattle.frame_cut.specs.declared.reading.Reading.TheVariants.{AsWritten, Fixed}
+use Rattle.frame_cut.specs.declared.load_fault.LoadFault.{LoadFault}
+use Rattle.frame_cut.specs.declared.load_fault.LoadFault.TheVariants.{PairSwapped, Revision}
+use Rattle.std.proofs.lemmas.List.{length-append, length-take, drop-drop, drop_at, take-append-drop}
+use Rattle.frame_cut.specs.Splice.{splice}
+use Rattle.frame_cut.specs.Volume.{Volume, bytes_of}
+use Rattle.frame_cut.specs.Cuts.{IsCut}
+use Rattle.frame_cut.proofs.BlockLemmas.{slice-append}
+use Rattle.frame_cut.proofs.HeadFrontLemmas.{head_of-bin}
+use Rattle.frame_cut.proofs.EditLemmas.{splice_inside}
+use Rattle.frame_cut.specs.BinaryHeader.{bin_bytes, order_of, is_pair_swapped, is_unknown_revision, major_of, minor_of, format_code, text_count, extensions_field, trailer_field, first_trace, samples_field, is_fixed}
+use Rattle.frame_cut.specs.Heads.{head_of, head_from, with_format, with_blocks, format_refusal, traces_at, blocks_for, head_in}
+
+-- the fields that frame the file keep their bytes
+pub record SameFrame (bin other : List ℕ) : Type 0 where
+  pub samples : bin_bytes 3221 2 other ≡ bin_bytes 3221 2 bin
+  pub format : bin_bytes 3225 2 other ≡ bin_bytes 3225 2 bin
+  pub wide_samples : bin_bytes 3269 4 other ≡ bin_bytes 3269 4 bin
+  pub order : bin_bytes 3297 4 other ≡ bin_bytes 3297 4 bin
+  pub major : bin_bytes 3501 1 other ≡ bin_bytes 3501 1 bin
+  pub minor : bin_bytes 3502 1 other ≡ bin_bytes 3502 1 bin
+  pub flag : bin_bytes 3503 2 other ≡ bin_bytes 3503 2 bin
+  pub text_count : bin_bytes 3505 2 other ≡ bin_bytes 3505 2 bin
+  pub extensions : bin_bytes 3507 4 other ≡ bin_bytes 3507 4 bin
+  pub first_trace : bin_bytes 3521 8 other ≡ bin_bytes 3521 8 bin
+  pub trailer : bin_bytes 3529 4 other ≡ bin_bytes 3529 4 bin
+
+-- ---- the fields have the same values
+
+order-same : (bin other : List ℕ) → SameFrame bin other → order_of other ≡ order_of bin
+order-same bin other s = rw s.order refl
+
+swapped-same : (bin other : List ℕ) → SameFrame bin other → is_pair_swapped other ≡ is_pair_swapped bin
+swapped-same bin other s = rw s.order refl
+
+major-same : (bin other : List ℕ) → SameFrame bin other → major_of other ≡ major_of bin
+major-same bin other s = rw (order-same bin other s, s.major) refl
+
+minor-same : (bin other : List ℕ) → SameFrame bin other → minor_of other ≡ minor_of bin
+minor-same bin other s = rw (order-same bin other s, s.minor) refl
+
+format-same : (bin other : List ℕ) → SameFrame bin other → format_code other ≡ format_code bin
+format-same bin other s = rw (order-same bin other s, s.format) refl
+
+unknown-same : (bin other : List ℕ) → SameFrame bin other → is_unknown_revision other ≡ is_unknown_revision bin
+unknown-same bin other s = rw (major-same bin other s, minor-same bin other s) refl
+
+samples-same : (bin other : List ℕ) → SameFrame bin other → samples_field other ≡ samples_field bin
+samples-same bin other s = rw (major-same bin other s, order-same bin other s, s.wide_samples, s.samples) refl
+
+fixed-same : (reading : Reading) (bin other : List ℕ) → SameFrame bin other → is_fixed reading other ≡ is_fixed reading bin
+fixed-same AsWritten bin other s = rw (major-same bin other s, order-same bin other s, s.flag) refl
+fixed-same Fixed bin other s = refl
+
+count-same : (bin other : List ℕ) → SameFrame bin other → text_count other ≡ text_count bin
+count-same bin other s = rw (major-same bin other s, order-same bin other s, s.text_count) refl
+
+extensions-same : (bin other : List ℕ) → SameFrame bin other → extensions_field other ≡ extensions_field bin
+extensions-same bin other s = rw (major-same bin other s, order-same bin other s, s.extensions) refl
+
+trailer-same : (bin other : List ℕ) → SameFrame bin other → trailer_field other ≡ trailer_field bin
+trailer-same bin other s = rw (major-same bin other s, order-same bin other s, s.trailer) refl
+
+first-same : (bin other : List ℕ) → SameFrame bin other → first_trace other ≡ first_trace bin
+first-same bin other s = rw (major-same bin other s, order-same bin other s, s.first_trace) refl
+
+-- ---- the head
+
+-- a head by its fields
+head_with : Order → ℕ → ℕ → Format → ℕ → Bool → ℤ → ℕ → ℤ → Head
+head_with order major minor format samples fixed extensions blocks trailer = record {
+  order = order;
+  major = major;
+  minor = minor;
+  format = format;
+  samples = samples;
+  fixed = fixed;
+  extensions = nat_abs extensions;
+  blocks = blocks;
+  trailer = nat_abs trailer;
+  traces_at = traces_at blocks;
+}
+
+head_in-is : (reading : Reading) (bin : List ℕ) (format : Format) (blocks : ℕ) → head_in reading bin format blocks ≡ head_with (order_of bin) (major_of bin) (minor_of bin) format (samples_field bin) (is_fixed reading bin) (extensions_field bin) blocks (trailer_field bin)
+unfolding head_with
+head_in-is reading bin format blocks = refl
+
+head_in-same : (reading : Reading) (bin other : List ℕ) (format : Format) (blocks : ℕ) → SameFrame bin other → head_in reading other format blocks ≡ head_in reading bin format blocks
+head_in-same reading bin other format blocks s =
+    head_in-is reading other format blocks
+    ∙ rw (fixed-same reading bin other s, extensions-same bin other s, trailer-same bin other s, samples-same bin other s, minor-same bin other s, major-same bin other s, order-same bin other s) refl
+    ∙ sym (head_in-is reading bin format blocks)
+
+with_blocks-same : (reading : Reading) (bin other rest : List ℕ) (format : Format) (o : Option ℕ) → SameFrame bin other → with_blocks reading other rest format o ≡ with_blocks reading bin rest format o
+with_blocks-same reading bin other rest format None s = rw (count-same bin other s) refl
+with_blocks-same reading bin other rest format (Some blocks) s =
+    rw (head_in-same reading bin other format blocks s, extensions-same bin other s, trailer-same bin other s, first-same bin other s) refl
+
+with_format-same : (reading : Reading) (bin other rest : List ℕ) (o : Result Format FormatFault) → SameFrame bin other → with_format reading other rest o ≡ with_format reading bin rest o
+with_format-same reading bin other rest (Err fault) s = ap (λ (code : ℕ). let r : Result Head LoadFault = Err (format_refusal fault code) in r) (format-same bin other s)
+with_format-same reading bin other rest (Ok format) s =
+    with_blocks-same reading bin other rest format (blocks_for (text_count other) rest) s
+    ∙ ap (λ (count : ℤ). with_blocks reading bin rest format (blocks_for count rest)) (count-same bin other s)
+
+by_revision : Bool → Bool → ℕ → ℕ → Result Head LoadFault → Result Head LoadFault
+by_revision swapped unknown major minor checked = if swapped then Err PairSwapped else if unknown then Err (Revision major minor) else checked
+
+head_from-is : (reading : Reading) (bin rest : List ℕ) → head_from reading bin rest ≡ by_revision (is_pair_swapped bin) (is_unknown_revision bin) (major_of bin) (minor_of bin) (with_format reading bin rest (format_of (format_code bin)))
+unfolding by_revision
+head_from-is reading bin rest = refl
+
+-- bytes of the binary header outside those fields do not count
+pub head_from-same : (reading : Reading) (bin other rest : List ℕ) → SameFrame bin other → head_from reading other rest ≡ head_from reading bin rest
+head_from-same reading bin other rest s =
+    let checked : with_format reading other rest (format_of (format_code other)) ≡ with_format reading bin rest (format_of (format_code bin)) =
+    with_format-same reading bin other rest (format_of (format_code other)) s ∙ ap (λ (code : ℕ). with_format reading bin rest (format_of code)) (format-same bin other s) in
+    head_from-is reading other rest
+    ∙ ap (λ (b : Bool). by_revision b (is_unknown_revision other) (major_of other) (minor_of other) (with_format reading other rest (format_of (format_code other)))) (swapped-same bin other s)
+    ∙ ap (λ (b : Bool). by_revision (is_pair_swapped bin) b (major_of other) (minor_of other) (with_format reading other rest (format_of (format_code other)))) (unknown-same bin other s)
+    ∙ ap (λ (n : ℕ). by_revision (is_pair_swapped bin) (is_unknown_revision bin) n (minor_of other) (with_format reading other rest (format_of (format_code other)))) (major-same bin other s)
+    ∙ ap (λ (n : ℕ). by_revision (is_pair_swapped bin) (is_unknown_revision bin) (major_of bin) n (with_format reading other rest (format_of (format_code other)))) (minor-same bin other s)
+    ∙ ap (by_revision (is_pair_swapped bin) (is_unknown_revision bin) (major_of bin) (minor_of bin)) checked
+    ∙ sym (head_from-is reading bin rest)
+
+-- ---- the file
+
+grouped_parts : (a b c d e : List ℕ) → a ++ b ++ c ++ d ++ e ≡ a ++ b ++ (c ++ d ++ e)
+grouped_parts a b c d e = simp append_assoc
+
+grouped : (v : Volume) → bytes_of v ≡ v.text ++ v.bin ++ (concat v.blocks ++ concat v.traces ++ concat v.trailer)
+grouped v = grouped_parts v.text v.bin (concat v.blocks) (concat v.traces) (concat v.trailer)
+
+-- another binary header that keeps the frame
+pub cut_with_bin : (reading : Reading) (l : Limits) (v : Volume) (bin : List ℕ) → IsCut (bytes_of v) reading l v → length bin ≡ 400 → SameFrame v.bin bin
+    → IsCut (bytes_of (record v { bin = bin })) reading l (record v { bin = bin })
+cut_with_bin reading l v bin cut len same =
+    let w : Volume = record v { bin = bin } in
+    let p = cut.parts in
+    let rest : List ℕ = concat v.blocks ++ concat v.traces ++ concat v.trailer in
+    let old : head_of (v.text ++ v.bin ++ rest) reading l ≡ Ok v.head = ap (λ (s : List ℕ). head_of s reading l) (sym (grouped v)) ∙ p.head in
+    let new : head_of (bytes_of w) reading l ≡ Ok v.head = ap (λ (s : List ℕ). head_of s reading l) (grouped w) ∙ head_of-bin reading l v.head v.text v.bin bin rest p.text p.bin len (head_from-same reading v.bin bin rest same) old in
+    record { joined = refl; parts = record { head = new; text = p.text; bin = len; blocks = p.blocks; traces = p.traces; few = p.few; trailer = p.trailer } }
+
+-- bytes spliced inside the binary header are spliced inside the file, 3200 bytes further
+pub bytes_with_bin : (v : Volume) (a n : ℕ) (new : List ℕ) → length v.text ≡ 3200 → a + n ≤ length v.bin → bytes_of (record v { bin = splice v.bin a n new }) ≡ splice (bytes_of v) (3200 + a) n new
+bytes_with_bin v a n new len h =
+    let rest : List ℕ = concat v.blocks ++ concat v.traces ++ concat v.trailer in
+    let old : bytes_of v ≡ v.text ++ (v.bin ++ rest) = grouped v ∙ append_assoc v.text v.bin rest in
+    let w : Volume = record v { bin = splice v.bin a n new } in
+    let new_is : bytes_of w ≡ v.text ++ (splice v.bin a n new ++ rest) = grouped w ∙ append_assoc v.text (splice v.bin a n new) rest in
+    new_is ∙ sym (splice_inside v.text v.bin rest a n new h) ∙ ap (λ (s : List ℕ). splice s (length v.text + a) n new) (sym old) ∙ ap (λ (i : ℕ). splice (bytes_of v) (i + a) n new) len
+
+-- ---- what a splice leaves
+
+-- bytes in front of it
+pub slice_before : (bytes : List ℕ) (a n : ℕ) (new : List ℕ) (k m : ℕ) → k + m ≤ a → a ≤ length bytes → take m (drop k (splice bytes a n new)) ≡ take m (drop k bytes)
+slice_before bytes a n new k m h le =
+    let rest : List ℕ = drop (a + n) bytes in
+    let front : length (take a bytes) ≡ a = omega (arith, length-take a bytes) in
+    ap (λ (s : List ℕ). take m (drop k s)) (append_assoc (take a bytes) new rest)
+    ∙ slice-append k m (take a bytes) (new ++ rest) (omega arith)
+    ∙ sym (slice-append k m (take a bytes) (drop a bytes) (omega arith))
+    ∙ ap (λ (s : List ℕ). take m (drop k s)) (take-append-drop a bytes)
+
+-- and behind it, where it keeps the length
+pub slice_behind : (bytes : List ℕ) (a : ℕ) (new : List ℕ) (k m : ℕ) → a + length new ≤ k → a + length new ≤ length bytes → take m (drop k (splice bytes a (length new) new)) ≡ take m (drop k bytes)
+slice_behind bytes a new k m h le =
+    let front : length (take a bytes ++ new) ≡ a + length new = omega (arith, length-append (take a bytes) new, length-take a bytes) in
+    let skip : drop (a + length new) (splice bytes a (length new) new) ≡ drop (a + length new) bytes = drop_at (take a bytes ++ new) (drop (a + length new) bytes) (a + length new) front in
+    let further : ℕ = k - (a + length new) in
+    let at : a + length new + further ≡ k = omega arith in
+    ap (take m) (ap (λ (i : ℕ). drop i (splice bytes a (length new) new)) (sym at)
+    ∙ sym (drop-drop further (a + length new) (splice bytes a (length new) new))
+    ∙ ap (drop further) skip
+    ∙ drop-drop further (a + length new) bytes
+    ∙ ap (λ (i : ℕ). drop i bytes) at)
+
+-- bytes apart from it
+slice_apart : (bytes : List ℕ) (a : ℕ) (new : List ℕ) (low high k m : ℕ) → low ≤ k → k + m ≤ high → (a + length new ≤ low) ⊎ (high ≤ a) → a + length new ≤ length bytes
+    → take m (drop k (splice bytes a (length new) new)) ≡ take m (drop k bytes)
+slice_apart bytes a new low high k m from to (inl behind) inside = slice_behind bytes a new k m (omega (arith, behind)) inside
+slice_apart bytes a new low high k m from to (inr before) inside = slice_before bytes a (length new) new k m (omega (arith, before)) (omega arith)
+
+-- bytes spliced into the binary header, at a place counted from 0 in it, apart from the fields that frame the file: bytes
+-- 3221-3222, 3225-3226, 3269-3272, 3297-3300, 3501-3510 and 3521-3532
+pub keeps_frame : (bin : List ℕ) (a : ℕ) (new : List ℕ) → length bin ≡ 400 → a + length new ≤ 400
+    → (a + length new ≤ 20) ⊎ (22 ≤ a) → (a + length new ≤ 24) ⊎ (26 ≤ a) → (a + length new ≤ 68) ⊎ (72 ≤ a) → (a + length new ≤ 96) ⊎ (100 ≤ a) → (a + length new ≤ 300) ⊎ (310 ≤ a) → (a + length new ≤ 320) ⊎ (332 ≤ a)
+    → SameFrame bin (splice bin a (length new) new)
+keeps_frame bin a new len inside samples format wide order revision places =
+    let fits : a + length new ≤ length bin = omega arith in
+    record {
+      samples = slice_apart bin a new 20 22 20 2 (lit≤ tt) (lit≤ tt) samples fits;
+      format = slice_apart bin a new 24 26 24 2 (lit≤ tt) (lit≤ tt) format fits;
+      wide_samples = slice_apart bin a new 68 72 68 4 (lit≤ tt) (lit≤ tt) wide fits;
+      order = slice_apart bin a new 96 100 96 4 (lit≤ tt) (lit≤ tt) order fits;
+      major = slice_apart bin a new 300 310 300 1 (lit≤ tt) (lit≤ tt) revision fits;
+      minor = slice_apart bin a new 300 310 301 1 (lit≤ tt) (lit≤ tt) revision fits;
+      flag = slice_apart bin a new 300 310 302 2 (lit≤ tt) (lit≤ tt) revision fits;
+      text_count = slice_apart bin a new 300 310 304 2 (lit≤ tt) (lit≤ tt) revision fits;
+      extensions = slice_apart bin a new 300 310 306 4 (lit≤ tt) (lit≤ tt) revision fits;
+      first_trace = slice_apart bin a new 320 332 320 8 (lit≤ tt) (lit≤ tt) places fits;
+      trailer = slice_apart bin a new 320 332 328 4 (lit≤ tt) (lit≤ tt) places fits;
+    }

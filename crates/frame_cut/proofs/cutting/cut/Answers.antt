@@ -1,0 +1,22 @@
+use Rattle.std.proofs.Common.{sym, arith}
+use Rattle.frame_cut.proofs.HeadFrontLemmas.{has_head}
+use Rattle.frame_cut.proofs.LaidLemmas.{cut_from, laid_from, stopped}
+use Rattle.frame_cut.proofs.cutting.cut.Goals as goal
+
+pub walk-requires : goal.walk-requires
+walk-requires c =
+    let k = has_head c.args.bytes.now c.args.reading c.args.limits c.in-Ok.head (sym c.in-Ok.ensures) in
+    omega (arith, k.whole, k.first)
+
+pub returns-in-Ok-walk-clause-ok : goal.returns-in-Ok-walk-clause-ok
+returns-in-Ok-walk-clause-ok c =
+    rw c.new.ensures
+    (cut_from c.args.bytes.now c.args.reading c.args.limits c.in-Ok.head c.in-Ok-walk.extents.items (sym c.in-Ok.ensures) c.in-Ok-walk.ensures.whole)
+
+pub returns-in-Ok-walk-clause-laid : goal.returns-in-Ok-walk-clause-laid
+returns-in-Ok-walk-clause-laid c =
+    rw c.new.ensures
+    (laid_from c.args.bytes.now c.args.reading c.args.limits c.in-Ok.head c.in-Ok-walk.extents.items (sym c.in-Ok.ensures) c.in-Ok-walk.ensures.whole)
+
+pub returns-in-Err-walk-clause-refused : goal.returns-in-Err-walk-clause-refused
+returns-in-Err-walk-clause-refused c = stopped c.args.bytes.now c.args.reading c.args.limits c.in-Ok.head c.in-Err-walk.fault (sym c.in-Ok.ensures) c.in-Err-walk.ensures.stops

@@ -1,0 +1,36 @@
+// Cuts a file.
+ghost use Rattle.std.specs.Prelude.{◌≡◌, ◌⊎◌, IfOk, IfErr};
+ghost use Rattle.frame_cut.specs.Layout.{volume_at, AreTracesOf};
+ghost use Rattle.frame_cut.specs.Cuts.{IsCut, IsRefused};
+
+use crate::file_cut::Cut;
+use crate::head_checks::head;
+use crate::limits::Limits;
+use crate::load_fault::LoadFault;
+use crate::reading::Reading;
+use crate::walk::walk;
+use std::alloc::Global;
+
+/// Cuts the file with these bytes into its parts. Refused with L02 to L15 only where there is no
+/// such cut: for the head's reason (see [`head`](crate::head)), else for the first trace that is
+/// refused: the traces' part of the file ends inside its front (L14), its first header extension
+/// names too many of them (L13), the traces' part ends inside it (L14), or it is one more than the
+/// limit (L15), in this order. Looks at the traces' headers, never at their samples. Takes memory
+/// for the list of the traces' places alone, never in step with a number that the file names; where
+/// that is refused the file is refused with L16.
+pub fn cut(alloc: Global, bytes: &[u8], reading: Reading, limits: Limits) -> Result<Cut, LoadFault>
+    ensures ok { IfOk result
+        (λ cut. IsCut bytes.now reading limits (volume_at bytes.now cut.0 cut.1)) }
+    ensures laid { IfOk result (λ cut. AreTracesOf bytes.now cut.0 cut.1) }
+    ensures refused { IfErr result (λ fault.
+        (fault ≡ LoadFault.OutOfMemory) ⊎ IsRefused bytes.now reading limits fault) }
+{
+    let head = match head(bytes, reading, limits) {
+        Ok(head) => head,
+        Err(fault) => return Err(fault),
+    };
+    match walk(alloc, &head, limits, bytes) {
+        Ok(extents) => Ok(Cut::new(head, extents)),
+        Err(fault) => Err(fault),
+    }
+}

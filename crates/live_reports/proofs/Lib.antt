@@ -1,0 +1,5 @@
+pub mod ListLemmas
+pub mod ChangeLemmas
+pub mod AlikeLemmas
+pub mod SmallLemmas
+pub mod EditLemmas

@@ -1,0 +1,69 @@
+-- The tallies of few records are small, with one record more too.
+use Rattle.std.specs.Prelude.{◌≡◌, ℕ, ℤ, pos, ◌+◌, ◌<◌, ◌≤◌, ◌^◌, Bool, List, [], ◌∷◌, ◌++◌, length, map, sum_by, refl}
+use Rattle.std.proofs.Common.{arith, sym, ap, ◌∙◌}
+use Rattle.std.proofs.lemmas.List.{length-map}
+use Rattle.std.proofs.lemmas.List.Sums.{sum_by-cons}
+use Rattle.trace_record.specs.Facts.{Facts, facts_of}
+use Rattle.trace_record.specs.Keys.{Counted, Key}
+use Rattle.trace_record.specs.Tally.{Tally, tally_of, plus, Same, IsSmall}
+use Rattle.trace_record.specs.declared.record.Record.{Record}
+use Rattle.trace_record.proofs.LoadLemmas.{IsSmall-uncounted}
+use Rattle.trace_record.proofs.TallyLemmas.{IsSmall-tally_of, IsSmall-Same, Same-sym, Same-trans, plus-Same, tally-cons, sum-low, sum-high}
+use Rattle.fault_live.specs.FaultKeys.{keys_of_faults}
+use Rattle.grid_live.specs.GridKeys.{keys_of_grid}
+use Rattle.range_stats.specs.RangeKeys.{keys_of_ranges}
+use Rattle.range_stats.specs.TotalKeys.{keys_of_totals}
+use Rattle.live_reports.specs.Reports.{AreFew}
+use Rattle.live_reports.specs.Tallies.{Tallies, tallies_of_records, plus_each, SameEach, AreSmall}
+
+-- the samples of records are those of their facts
+samples-map : (rs : List Record) → sum_by (λ (f : Facts). f.number) (map facts_of rs) ≡ sum_by (λ (r : Record). r.number) rs
+samples-map [] = refl
+samples-map (r ∷ rs) =
+    let one = sum_by-cons (λ (f : Facts). f.number) (facts_of r) (map facts_of rs) in
+    let other = sum_by-cons (λ (q : Record). q.number) r rs in
+    let rest = samples-map rs in
+    omega arith
+
+-- the tallies of records whose number and samples are within the bounds of a small one
+small_within : (rs : List Record) → length rs ≤ 2 ^ 33 → sum_by (λ (r : Record). r.number) rs ≤ 2 ^ 41 → AreSmall (tallies_of_records (map facts_of rs))
+small_within rs few samples =
+    let n = length-map rs facts_of in
+    let m = samples-map rs in
+    record {
+      grid = IsSmall-uncounted keys_of_grid.has (map facts_of rs) (omega arith);
+      ranges = IsSmall-uncounted keys_of_ranges.has (map facts_of rs) (omega arith);
+      totals = IsSmall-tally_of keys_of_totals (map facts_of rs) (omega arith) (omega arith) (sum-low rs) (sum-high rs);
+      triples = IsSmall-uncounted keys_of_faults.has (map facts_of rs) (omega arith);
+    }
+
+pub small_each : (rs : List Record) → AreFew rs → AreSmall (tallies_of_records (map facts_of rs))
+small_each rs few = let a = few.records in let b = few.samples in small_within rs (omega arith) (omega arith)
+
+-- tallies that say the same as small ones
+pub AreSmall-Same : (t u : Tallies) → SameEach t u → AreSmall u → AreSmall t
+AreSmall-Same t u s small = record {
+  grid = IsSmall-Same _ _ (Same-sym _ _ s.grid) small.grid;
+  ranges = IsSmall-Same _ _ (Same-sym _ _ s.ranges) small.ranges;
+  totals = IsSmall-Same _ _ (Same-sym _ _ s.totals) small.totals;
+  triples = IsSmall-Same _ _ (Same-sym _ _ s.triples) small.triples;
+}
+
+-- one record more, with as many samples as all may have
+pub room_each : (t : Tallies) (rs : List Record) (r : Record) → SameEach t (tallies_of_records (map facts_of rs)) → AreFew rs → r.number ≤ 2 ^ 40 → AreSmall (plus_each t (facts_of r))
+room_each t rs r s few own =
+    let a = few.records in
+    let b = few.samples in
+    let step = sum_by-cons (λ (q : Record). q.number) r rs in
+    let small = small_within (r ∷ rs) (omega arith) (omega arith) in
+    record {
+      grid = IsSmall-Same _ _ (Same-trans _ _ _ (tally-cons keys_of_grid (facts_of r) (map facts_of rs)) (plus-Same keys_of_grid _ _ (facts_of r) (Same-sym _ _ s.grid))) small.grid;
+      ranges = IsSmall-Same _ _ (Same-trans _ _ _ (tally-cons keys_of_ranges (facts_of r) (map facts_of rs)) (plus-Same keys_of_ranges _ _ (facts_of r) (Same-sym _ _ s.ranges))) small.ranges;
+      totals = IsSmall-Same _ _ (Same-trans _ _ _ (tally-cons keys_of_totals (facts_of r) (map facts_of rs)) (plus-Same keys_of_totals _ _ (facts_of r) (Same-sym _ _ s.totals))) small.totals;
+      triples = IsSmall-Same _ _ (Same-trans _ _ _ (tally-cons keys_of_faults (facts_of r) (map facts_of rs)) (plus-Same keys_of_faults _ _ (facts_of r) (Same-sym _ _ s.triples))) small.triples;
+    }
+
+-- a record of the list has no more samples than all together
+pub own_samples : (front behind : List Record) (r : Record) → r.number ≤ sum_by (λ (q : Record). q.number) (front ++ r ∷ behind)
+own_samples [] behind r = let step = sum_by-cons (λ (q : Record). q.number) r behind in omega arith
+own_samples (f ∷ front) behind r = let step = sum_by-cons (λ (q : Record). q.number) f (front ++ r ∷ behind) in let rest = own_samples front behind r in omega arith

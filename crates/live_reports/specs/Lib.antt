@@ -1,0 +1,4 @@
+pub mod Where
+pub mod Alike
+pub mod Tallies
+pub mod Reports

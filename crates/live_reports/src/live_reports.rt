@@ -1,0 +1,170 @@
+ghost use Rattle.std.specs.Prelude.{◌≡◌, ◌<◌, ◌≤◌, length, slice_get, slice_set, map, Some, IfOk, OnOk, OnErr, IsOk};
+ghost use Rattle.std.specs.List.{insert, remove};
+ghost use Rattle.record_list.specs.Order.{with_moved};
+ghost use Rattle.trace_record.specs.Facts.{facts_of};
+ghost use Rattle.trace_record.specs.Tally.{tally_of, Same};
+ghost use Rattle.fault_live.specs.FaultKeys.{keys_of_faults};
+ghost use Rattle.fault_live.specs.OfFaults.{tally_of_faults};
+ghost use Rattle.grid_live.specs.GridKeys.{keys_of_grid};
+ghost use Rattle.grid_live.specs.OfGrid.{tally_of_grid};
+ghost use Rattle.range_stats.specs.RangeKeys.{keys_of_ranges};
+ghost use Rattle.range_stats.specs.OfRanges.{tally_of_ranges};
+ghost use Rattle.range_stats.specs.TotalKeys.{keys_of_totals};
+ghost use Rattle.range_stats.specs.OfTotals.{tally_of_totals};
+ghost use Rattle.live_reports.specs.Reports.{AreFew, HasEachKey};
+
+use crate::OutOfMemory;
+use crate::changes::{all_changes, changes_between};
+use crate::values::Values;
+use fault_live::Faults;
+use grid_live::Grid;
+use range_stats::{Ranges, Totals};
+use record_list::RecordList;
+use std::alloc::Global;
+use std::marker::Model;
+use trace_record::Record;
+
+/// The records of a volume's traces, in order, with the grid, the ranges, the totals and the
+/// triples of inline, crossline and offset that have counted them. Seen as the list of the records.
+#[derive(Drop)]
+pub struct LiveReports {
+    records: RecordList<Record>,
+    values: Values,
+}
+
+impl Model for LiveReports {
+    ghost use Rattle.std.specs.Prelude.{List};
+    ghost use Rattle.trace_record.specs.declared.record.Record.{Record};
+    ghost use Rattle.live_reports.specs.Reports.{HaveCounted};
+
+    ghost Value = { List Record };
+
+    ghost view = { λ s. s.records };
+
+    ghost invariant = { λ s. HaveCounted s.values s.records };
+}
+
+impl LiveReports {
+    /// The reports of these records, each of the four made of all at once. Takes memory for what
+    /// they hold and, while one is made, for a list of keys and one of their runs; where a growth
+    /// is refused the records are dropped.
+    pub fn from_records(
+        alloc: Global,
+        records: RecordList<Record>,
+    ) -> Result<LiveReports, OutOfMemory>
+        requires { AreFew records }
+        ensures { IfOk result (λ reports. reports ≡ records) }
+    {
+        let values = Values::from_records(alloc, &records)?;
+        Ok(LiveReports { records, values })
+    }
+
+    /// The record at a place, from 0; `None` where there is none. Takes no memory.
+    pub fn get(&self, place: usize) -> Option<Record>
+        ensures { result ≡ slice_get self.now place }
+    {
+        self.records.get(place)
+    }
+
+    /// The records in order. Takes no memory.
+    pub fn records(&self) -> &RecordList<Record>
+        ensures records { result.now ≡ self.now }
+        ensures few { AreFew self.now }
+    {
+        &self.records
+    }
+
+    /// The grid of the records. Takes no memory.
+    pub fn grid(&self) -> &Grid
+        ensures { Same (tally_of_grid result.now) (tally_of keys_of_grid (map facts_of self.now)) }
+    {
+        &self.values.grid
+    }
+
+    /// The ranges of the records. Takes no memory.
+    pub fn ranges(&self) -> &Ranges
+        ensures { Same (tally_of_ranges result.now)
+            (tally_of keys_of_ranges (map facts_of self.now)) }
+    {
+        &self.values.ranges
+    }
+
+    /// The totals of the records. Takes no memory.
+    pub fn totals(&self) -> &Totals
+        ensures { Same (tally_of_totals result.now)
+            (tally_of keys_of_totals (map facts_of self.now)) }
+    {
+        &self.values.totals
+    }
+
+    /// How often inline, crossline and offset stand together in the records. Takes no memory.
+    pub fn triples(&self) -> &Faults
+        ensures { Same (tally_of_faults result.now)
+            (tally_of keys_of_faults (map facts_of self.now)) }
+    {
+        &self.values.triples
+    }
+
+    /// Puts the record where another stands. A value that counts both alike counts nothing anew.
+    /// Takes memory only for a key that no record has.
+    pub fn exchange(&mut self, place: usize, record: &Record) -> Result<(), OutOfMemory>
+        requires place { place < length self.old }
+        requires few { AreFew (slice_set self.old place record.now) }
+        ensures ok { OnOk result (self.new ≡ slice_set self.old place record.now) }
+        ensures err { OnErr result (self.new ≡ self.old) }
+        ensures held { HasEachKey self.old record.now → IsOk result }
+    {
+        let Some(old) = self.records.get(place) else {
+            unreachable!()
+        };
+        let changes = changes_between(&old, record);
+        self.values.add(changes, record)?;
+        self.values.remove(changes, &old);
+        self.records.set(place, *record);
+        Ok(())
+    }
+
+    /// Puts the record in front of the one at a place, or behind all where there is none. Takes
+    /// memory for the record and for its keys that no record has.
+    pub fn insert(
+        &mut self,
+        alloc: Global,
+        place: usize,
+        record: &Record,
+    ) -> Result<(), OutOfMemory>
+        requires place { place ≤ length self.old }
+        requires few { AreFew (insert self.old place record.now) }
+        ensures ok { OnOk result (self.new ≡ insert self.old place record.now) }
+        ensures err { OnErr result (self.new ≡ self.old) }
+    {
+        self.values.add(all_changes(), record)?;
+        if let Err(error) = self.records.insert(alloc, place, *record) {
+            self.values.remove(all_changes(), record);
+            return Err(OutOfMemory::from(error));
+        }
+        Ok(())
+    }
+
+    /// Takes out the record at a place. Takes no memory.
+    pub fn remove(&mut self, place: usize) -> Record
+        requires { place < length self.old }
+        ensures record { slice_get self.old place ≡ Some result }
+        ensures records { self.new ≡ remove self.old place }
+    {
+        let record = self.records.remove(place);
+        self.values.remove(all_changes(), &record);
+        record
+    }
+
+    /// Takes out the record at a place, and puts it at another place of what is left. Nothing is
+    /// counted anew. Takes memory where the record's new place has no room.
+    pub fn move_to(&mut self, alloc: Global, from: usize, to: usize) -> Result<(), OutOfMemory>
+        requires from { from < length self.old }
+        requires to { to < length self.old }
+        ensures ok { OnOk result (self.new ≡ with_moved self.old from to) }
+        ensures err { OnErr result (self.new ≡ self.old) }
+    {
+        self.records.move_to(alloc, from, to)?;
+        Ok(())
+    }
+}

@@ -1,0 +1,203 @@
+// Two traces of a small survey, and a third one that is exchanged for one of them or comes beside
+// them; what is told then is worked by hand.
+ghost use Rattle.std.specs.Prelude.{◌≡◌, ◌∷◌, [], IfOk};
+
+use crate::LiveReports;
+use fault_live::{Fault, HeadFacts};
+use range_stats::Quantity;
+use record_list::RecordList;
+use std::alloc::Global;
+use std::test::Fail;
+use trace_record::{Ratio, Record};
+
+// A trace with two samples at this crossline of inline 10.
+fn trace_at(sequence: i32, crossline: i32, x: i32) -> Record
+    ensures { result.number ≡ 2 }
+{
+    Record {
+        least: -2,
+        greatest: 1,
+        sum: -1,
+        x: Ratio::scaled(x, -100),
+        y: Ratio::whole(500),
+        inline: 10,
+        crossline,
+        offset: 100,
+        sequence,
+        number: 2,
+        scalar: -100,
+        units: 0,
+        interval: 4000,
+        samples_field: 2,
+        has_known_name: true,
+    }
+}
+
+// A trace with two other samples at the first one's crossline.
+fn deep_trace() -> Record
+    ensures { result.number ≡ 2 }
+{
+    Record {
+        least: -9,
+        greatest: 6,
+        sum: -3,
+        x: Ratio::scaled(250, -100),
+        y: Ratio::whole(500),
+        inline: 10,
+        crossline: 21,
+        offset: 100,
+        sequence: 2,
+        number: 2,
+        scalar: -100,
+        units: 0,
+        interval: 4000,
+        samples_field: 2,
+        has_known_name: true,
+    }
+}
+
+// The reports of two traces.
+fn pair(alloc: Global, first: &Record, second: &Record) -> Result<LiveReports, Fail>
+    requires first { first.now.number ≡ 2 }
+    requires second { second.now.number ≡ 2 }
+    ensures { IfOk result (λ reports. reports ≡ first.now ∷ second.now ∷ []) }
+{
+    let list = RecordList::from_slice(alloc, &[*first, *second])?;
+    Ok(LiveReports::from_records(alloc, list)?)
+}
+
+// The reports of two traces, the second of which was exchanged.
+fn exchanged(
+    alloc: Global,
+    first: &Record,
+    second: &Record,
+    new: &Record,
+) -> Result<LiveReports, Fail>
+    requires first { first.now.number ≡ 2 }
+    requires second { second.now.number ≡ 2 }
+    requires new { new.now.number ≡ 2 }
+{
+    let mut reports = pair(alloc, first, second)?;
+    reports.exchange(1, new)?;
+    Ok(reports)
+}
+
+// The reports of two traces and a third one between them.
+fn inserted(
+    alloc: Global,
+    first: &Record,
+    second: &Record,
+    new: &Record,
+) -> Result<LiveReports, Fail>
+    requires first { first.now.number ≡ 2 }
+    requires second { second.now.number ≡ 2 }
+    requires new { new.now.number ≡ 2 }
+{
+    let mut reports = pair(alloc, first, second)?;
+    reports.insert(alloc, 1, new)?;
+    Ok(reports)
+}
+
+// The reports of the second of two traces, once they changed places and the first one went.
+fn second_alone(alloc: Global, first: &Record, second: &Record) -> Result<LiveReports, Fail>
+    requires first { first.now.number ≡ 2 }
+    requires second { second.now.number ≡ 2 }
+{
+    let mut reports = pair(alloc, first, second)?;
+    reports.move_to(alloc, 0, 1)?;
+    let _ = reports.remove(1);
+    Ok(reports)
+}
+
+// Whether the record at the place has this sequence number.
+fn stands_at(reports: &LiveReports, place: usize, sequence: i32) -> bool {
+    match reports.get(place) {
+        Some(record) => record.sequence == sequence,
+        None => false,
+    }
+}
+
+// The faults of the records in a file of revision 1.0.
+fn faults_of(alloc: Global, reports: &LiveReports) -> Result<Vec<Fault>, Fail> {
+    let head = HeadFacts {
+        trace_count: 0,
+        lines: 0,
+        interval: 4000,
+        major: 1,
+        minor: 0,
+    };
+    let records = reports.records();
+    Ok(reports.triples().report(alloc, records, &head)?)
+}
+
+// How many faults there are, where the first of them, if any, is a repeat of trace 1 at trace 2.
+fn repeats_of(alloc: Global, reports: &LiveReports) -> Result<usize, Fail> {
+    let faults = faults_of(alloc, reports)?;
+    match faults.first() {
+        Some(Fault::Repeated(2, 1)) => Ok(faults.len()),
+        Some(_) => Ok(99),
+        None => Ok(0),
+    }
+}
+
+// Whether these are told: the fold of the cell 10, 21, the sum and the number of the samples.
+fn tells(reports: &LiveReports, fold: u64, sum: i128, number: u64) -> bool {
+    reports.grid().fold(10, 21) == fold
+        && reports.totals().sum() == sum
+        && reports.totals().number() == number
+}
+
+// Whether the range of x is told.
+fn ranges_over(reports: &LiveReports, least: Ratio, greatest: Ratio) -> bool {
+    match reports.ranges().range(Quantity::X) {
+        Some((from, to)) => from == least && to == greatest,
+        None => false,
+    }
+}
+
+#[test]
+fn two_traces(rt: HostRuntime) -> Result<(), Fail> {
+    let first = trace_at(1, 21, 100000);
+    let second = trace_at(2, 22, 200000);
+    let reports = pair(rt.alloc(), &first, &second)?;
+    let repeats = repeats_of(rt.alloc(), &reports)?;
+    let is_told = tells(&reports, 1, -2, 4)
+        && ranges_over(&reports, Ratio::whole(1000), Ratio::whole(2000))
+        && stands_at(&reports, 1, 2);
+    assert!(rt; is_told && repeats == 0);
+    Ok(())
+}
+
+#[test]
+fn another_trace_stands_in(rt: HostRuntime) -> Result<(), Fail> {
+    let first = trace_at(1, 21, 100000);
+    let second = trace_at(2, 22, 200000);
+    let reports = exchanged(rt.alloc(), &first, &second, &deep_trace())?;
+    let repeats = repeats_of(rt.alloc(), &reports)?;
+    let is_told = tells(&reports, 2, -4, 4)
+        && ranges_over(&reports, Ratio::scaled(5, -2), Ratio::whole(1000))
+        && stands_at(&reports, 1, 2);
+    assert!(rt; is_told && repeats == 1);
+    Ok(())
+}
+
+#[test]
+fn a_trace_comes_between(rt: HostRuntime) -> Result<(), Fail> {
+    let first = trace_at(1, 21, 100000);
+    let second = trace_at(3, 22, 200000);
+    let reports = inserted(rt.alloc(), &first, &second, &deep_trace())?;
+    let repeats = repeats_of(rt.alloc(), &reports)?;
+    let is_told = tells(&reports, 2, -5, 6) && stands_at(&reports, 2, 3);
+    assert!(rt; is_told && repeats == 1);
+    Ok(())
+}
+
+#[test]
+fn a_trace_moves_and_goes(rt: HostRuntime) -> Result<(), Fail> {
+    let second = trace_at(1, 22, 200000);
+    let reports = second_alone(rt.alloc(), &deep_trace(), &second)?;
+    let repeats = repeats_of(rt.alloc(), &reports)?;
+    let is_told = tells(&reports, 0, -1, 2) && stands_at(&reports, 0, 1);
+    assert!(rt; is_told && repeats == 0);
+    Ok(())
+}

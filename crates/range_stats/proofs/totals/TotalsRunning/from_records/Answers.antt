@@ -1,0 +1,11 @@
+use Rattle.std.proofs.Common.{◌∙◌, SFits, rules}
+use Rattle.std.specs.Int.{w128}
+use Rattle.std.proofs.lemmas.Int.{to_z-of_z}
+use Rattle.range_stats.proofs.LoadLemmas.{Same-loaded_totals}
+use Rattle.range_stats.proofs.totals.TotalsRunning.from_records.Goals as goal
+
+pub returns : goal.returns
+returns c =
+    let fits : SFits w128 c.sums_of-sums.result.sum = search rules in
+    Same-loaded_totals _ c.args.records.now c.len.ensures c.sums_of-sums.ensures.number (to_z-of_z w128 _ fits ∙ c.sums_of-sums.ensures.sum)
+    (rw c.in_ok-least_keys.ensures at c.in_ok-least_samples.ensures.shows) (rw c.in_ok-greatest_keys.ensures at c.in_ok-greatest_samples.ensures.shows)

@@ -1,5 +1,0 @@
-use Rattle.text_block.proofs.Encoded.{shows_encoded, both_ways}
-use Rattle.text_block.proofs.lines.shows_encoded.Goals as goal
-
-pub returns : goal.returns
-returns c = record { text = shows_encoded; characters = both_ways }

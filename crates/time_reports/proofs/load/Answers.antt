@@ -1,0 +1,5 @@
+use Rattle.time_reports.proofs.FrontLemmas.{few_records}
+use Rattle.time_reports.proofs.load.Goals as goal
+
+pub from_records-requires : goal.from_records-requires
+from_records-requires c = few_records c.args.records c.requires.few c.requires.short

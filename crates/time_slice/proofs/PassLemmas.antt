@@ -1,0 +1,40 @@
+-- The pass that makes the rows, and the slice that records give.
+use Rattle.std.specs.Prelude.{◌≡◌, ℕ, ℤ, ◌+◌, ◌-◌, ◌<◌, List, [], ◌∷◌, ◌++◌, map, Option, slice_index_or, refl}
+use Rattle.std.proofs.Common.{arith, sym, ap, ◌∙◌, append_assoc, drop, drop-cons, add-one}
+use Rattle.std.specs.List.{zip}
+use Rattle.field_map.specs.Pairs.{Pairs}
+use Rattle.frame_cut.specs.declared.file_head.Head.{Head}
+use Rattle.frame_cut.specs.Traces.{count_of, trace_at}
+use Rattle.frame_cut.specs.Volume.{Volume}
+use Rattle.trace_view.specs.Values.{sample_of}
+use Rattle.trace_record.specs.Facts.{Facts, facts_of}
+use Rattle.trace_record.specs.OfTrace.{record_of}
+use Rattle.trace_record.specs.declared.record.Record.{Record}
+use Rattle.time_slice.specs.declared.row.Row.{Row}
+use Rattle.time_slice.specs.Laws.{RowsAreOfTraces}
+use Rattle.time_slice.specs.OfRecords.{with_sample_of}
+use Rattle.time_slice.specs.Slices.{row_of, rows_from, slice_rows, with_sample}
+
+-- what is written and what is left are the whole, before and after one trace
+pub row_is_written : (v w : Volume) (k i : ℕ) (r : Record) (rs : List Record) (s : Option ℤ) (old new all : List Row) → w ≡ v → i < count_of v
+    → s ≡ sample_of w.head (trace_at w (i + 1)) k → new ≡ old ++ row_of (i + 1) (facts_of r) s
+    → old ++ rows_from (i + 1) (with_sample_of v.head k (r ∷ rs) (drop i v.traces)) ≡ all
+    → new ++ rows_from (i + 1 + 1) (with_sample_of v.head k rs (drop (i + 1) v.traces)) ≡ all
+row_is_written v w k i r rs s old new all same there seen grew told =
+    let rest = rows_from (i + 1 + 1) (with_sample_of v.head k rs (drop (i + 1) v.traces)) in
+    let place : i + 1 - 1 ≡ i = omega arith in
+    let sample : s ≡ sample_of v.head (slice_index_or v.traces i []) k = seen ∙ ap (λ (u : Volume). sample_of u.head (trace_at u (i + 1)) k) same ∙ ap (λ j. sample_of v.head (slice_index_or v.traces j []) k) place in
+    let first : drop i v.traces ≡ slice_index_or v.traces i [] ∷ drop (i + 1) v.traces = drop-cons v.traces i [] there ∙ ap (λ n. slice_index_or v.traces i [] ∷ drop n v.traces) (sym (add-one i)) in
+    ap (λ l. l ++ rest) (grew ∙ ap (λ o. old ++ row_of (i + 1) (facts_of r) o) sample)
+    ∙ append_assoc old (row_of (i + 1) (facts_of r) (sample_of v.head (slice_index_or v.traces i []) k)) rest
+    ∙ ap (λ ts. old ++ rows_from (i + 1) (with_sample_of v.head k (r ∷ rs) ts)) (sym first)
+    ∙ told
+
+-- facts beside the samples of their own traces
+beside_own : (h : Head) (fields : Pairs) (k : ℕ) (traces : List (List ℕ)) → zip (map (record_of h fields) traces) (map (λ t. sample_of h t k) traces) ≡ with_sample h fields k traces
+beside_own h fields k [] = refl
+beside_own h fields k (t ∷ ts) = ap (λ l. (record_of h fields t, sample_of h t k) ∷ l) (beside_own h fields k ts)
+
+pub rows_are_of_traces : RowsAreOfTraces
+rows_are_of_traces h fields k records traces same =
+    ap (λ (fs : List Facts). slice_rows (zip fs (map (λ t. sample_of h t k) traces))) same ∙ ap (λ ts. slice_rows ts) (beside_own h fields k traces)

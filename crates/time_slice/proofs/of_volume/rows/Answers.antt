@@ -1,0 +1,14 @@
+use Rattle.std.proofs.Common.{subst, List}
+use Rattle.std.specs.List.Sorted.{IsPermutation}
+use Rattle.time_slice.specs.OfRecords.{with_sample_of}
+use Rattle.time_slice.specs.declared.row.Row.{Row}
+use Rattle.time_slice.proofs.OrderLemmas.{slice_from_sorted}
+use Rattle.time_slice.proofs.of_volume.rows.Goals as goal
+
+pub returns-clause-rows : goal.returns-clause-rows
+returns-clause-rows c =
+    let v = c.args.overlay.now.volume in
+    let sorted = c.sort_unstable.new.self.items in
+    slice_from_sorted (with_sample_of v.head c.args.k c.args.records.now v.traces) sorted
+    (subst (λ (rows : List Row). IsPermutation rows sorted) c.in_ok-rows.ensures.rows c.sort_unstable.ensures.permutation)
+    c.sort_unstable.ensures.sorted

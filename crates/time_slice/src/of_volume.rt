@@ -1,0 +1,97 @@
+ghost use Rattle.std.specs.Prelude.{◌≡◌, ◌++◌, length, IfOk, OnOk, IsTrue};
+ghost use Rattle.frame_cut.specs.Traces.{count_of, is_trace, trace_at};
+ghost use Rattle.trace_view.specs.Values.{sample_of};
+ghost use Rattle.trace_record.specs.Facts.{facts_of};
+ghost use Rattle.edit_overlay.specs.CountedVolume.{with_one_look};
+ghost use Rattle.time_slice.specs.OfRecords.{with_sample_of};
+ghost use Rattle.time_slice.specs.Looks.{RisesAtMost};
+ghost use Rattle.time_slice.specs.Slices.{row_of, rows_from, slice_rows};
+
+use crate::{OutOfMemory, Row};
+use edit_overlay::Overlay;
+use record_list::RecordList;
+use std::alloc::Global;
+use trace_record::Record;
+
+/// Slice k, counted from 0: a row for each trace that has sample k, in rising order by inline,
+/// crossline and position. There are as many records as traces, and inline and crossline are those
+/// of the record at the trace's place. One pass over them, with one look at each trace, which reads
+/// the one sample by its place; then the rows are sorted where they stand. Takes memory for the
+/// rows; refused for want of it alone, and the volume stays as it is in any case.
+pub fn rows(
+    alloc: Global,
+    overlay: &mut Overlay,
+    records: &RecordList<Record>,
+    k: u32,
+) -> Result<Vec<Row>, OutOfMemory>
+    requires { length records.now ≡ count_of overlay.old.volume }
+    ensures rows { IfOk result (λ v. v.items ≡ slice_rows (with_sample_of
+        overlay.old.volume.head k records.now overlay.old.volume.traces)) }
+    ensures volume { overlay.new.volume ≡ overlay.old.volume }
+    ensures prepared { overlay.new.prepared ≡ overlay.old.prepared }
+    ensures looks { RisesAtMost overlay.old.looks overlay.new.looks (count_of overlay.old.volume) }
+{
+    let mut rows = rows_in_place(alloc, overlay, records, k)?;
+    rows.sort_unstable();
+    Ok(rows)
+}
+
+// A row for each trace that has sample k, in the order of the traces.
+fn rows_in_place(
+    alloc: Global,
+    overlay: &mut Overlay,
+    records: &RecordList<Record>,
+    k: u32,
+) -> Result<Vec<Row>, OutOfMemory>
+    requires { length records.now ≡ count_of overlay.old.volume }
+    ensures rows { IfOk result (λ v. v.items ≡ rows_from 1 (with_sample_of
+        overlay.old.volume.head k records.now overlay.old.volume.traces)) }
+    ensures volume { overlay.new.volume ≡ overlay.old.volume }
+    ensures prepared { overlay.new.prepared ≡ overlay.old.prepared }
+    ensures looks { RisesAtMost overlay.old.looks overlay.new.looks (count_of overlay.old.volume) }
+{
+    // Read for the proof alone, which learns that the positions fit 32 bits.
+    let _count = overlay.count();
+    let mut rows = Vec::new(alloc);
+    let mut position = 0;
+    for record in records.iter() {
+        position += 1;
+        let sample = look_at_sample(overlay, position, k);
+        push_row(&mut rows, &record, position, sample)?;
+    }
+    Ok(rows)
+}
+
+// The row of the trace at a position at the end of the rows, where it has the sample.
+fn push_row(
+    rows: &mut Vec<Row>,
+    trace: &Record,
+    position: u32,
+    sample: Option<i128>,
+) -> Result<(), OutOfMemory>
+    ensures { OnOk result (rows.new.items ≡ rows.old.items ++
+        row_of position (facts_of trace.now) sample) }
+{
+    if let Some(value) = sample {
+        rows.push(Row {
+            inline: trace.inline,
+            crossline: trace.crossline,
+            position,
+            value,
+        })?;
+    }
+    Ok(())
+}
+
+// Sample k of the trace at a position, in one look.
+fn look_at_sample(overlay: &mut Overlay, position: u32, k: u32) -> Option<i128>
+    requires { IsTrue (is_trace overlay.old.volume position) }
+    ensures sample { result ≡ sample_of overlay.old.volume.head
+        (trace_at overlay.old.volume position) k }
+    ensures overlay { overlay.new ≡ with_one_look overlay.old }
+{
+    let Some(trace) = overlay.look(position) else {
+        unreachable!()
+    };
+    trace.sample(k)
+}

@@ -1,0 +1,13 @@
+use std::alloc::AllocFailed;
+use thiserror::Error;
+
+/// A growth was refused, and nothing but the number of looks is changed.
+#[derive(Clone, Copy, Debug, PartialEq, Eq, Error)]
+#[error("out of memory")]
+pub struct OutOfMemory;
+
+impl<T: Drop> From<AllocFailed<T>> for OutOfMemory {
+    fn from(_error: AllocFailed<T>) -> OutOfMemory {
+        OutOfMemory
+    }
+}

@@ -1,0 +1,124 @@
+-- How many ids stand in front of chunks, where the chunks change.
+use Rattle.std.proofs.Common.{◌≡◌, ℕ, zero, suc, ◌+◌, ◌-◌, ◌*◌, ◌/◌, ◌<◌, ◌≤◌, List, [], ◌∷◌, ◌++◌, length, get_or, set, take, refl, ap, sym, ◌∙◌, arith, add-one, length-append, inl, inr}
+use Rattle.std.specs.Prelude.{slice_index}
+use Rattle.std.proofs.lemmas.Bool.{cases_lt}
+use Rattle.std.proofs.lemmas.List.{take-append-le, take_all}
+use Rattle.trace_seq.specs.declared.chunk.Chunk.{Chunk}
+use Rattle.trace_seq.specs.Chunks.{ids_of, size, size_at}
+use Rattle.trace_seq.specs.Fronts.{front, groups_of, AreFronts, AreKept, AreRaised}
+use Rattle.trace_seq.proofs.ChunkIdLemmas.{size-read, size-step}
+
+-- one chunk more in front
+pub front-more : (cs : List Chunk) (k : ℕ) → k < length cs → front cs (k + 1) ≡ front cs k + size_at cs k
+front-more cs k h = ap (front cs) (add-one k) ∙ size-step cs k h
+
+pub front-all : (cs : List Chunk) (k : ℕ) → length cs ≤ k → front cs k ≡ length (ids_of cs)
+front-all cs k h = ap (λ l. length (ids_of l)) (take_all k cs h)
+
+pub front-le : (cs : List Chunk) (k : ℕ) → front cs k ≤ length (ids_of cs)
+front-le cs zero = omega arith
+front-le [] (suc k) = omega arith
+front-le (x ∷ xs) (suc k) = omega (arith, front-le xs k, length-append x.ids.items (ids_of (take k xs)), length-append x.ids.items (ids_of xs))
+
+-- the further back, the more stand in front
+pub front-rises : (cs : List Chunk) (j k : ℕ) → j ≤ k → front cs j ≤ front cs k
+front-rises cs zero k h = omega arith
+front-rises [] (suc j) k h = omega arith
+front-rises (x ∷ xs) (suc j) zero h = absurd (omega arith)
+front-rises (x ∷ xs) (suc j) (suc k) h =
+    let e : j ≤ k = omega arith in
+    omega (arith, front-rises xs j k e, length-append x.ids.items (ids_of (take j xs)), length-append x.ids.items (ids_of (take k xs)))
+
+-- what stands in front of the chunk at j, where that at k is another
+front-set_below : (cs : List Chunk) (k j : ℕ) (d : Chunk) → j ≤ k → front (set cs k d) j ≡ front cs j
+front-set_below cs k zero d h = refl
+front-set_below [] k (suc j) d h = refl
+front-set_below (x ∷ xs) zero (suc j) d h = absurd (omega arith)
+front-set_below (x ∷ xs) (suc k) (suc j) d h =
+    let e : j ≤ k = omega arith in
+    omega (arith, front-set_below xs k j d e, length-append x.ids.items (ids_of (take j (set xs k d))), length-append x.ids.items (ids_of (take j xs)))
+
+front-set_above : (cs : List Chunk) (k j : ℕ) (d : Chunk) → k < length cs → k < j → front (set cs k d) j + size_at cs k ≡ front cs j + size d
+front-set_above [] k j d h lt = absurd (omega arith)
+front-set_above (x ∷ xs) k zero d h lt = absurd (omega arith)
+front-set_above (x ∷ xs) zero (suc j) d h lt = omega (arith, length-append d.ids.items (ids_of (take j xs)), length-append x.ids.items (ids_of (take j xs)))
+front-set_above (x ∷ xs) (suc k) (suc j) d h lt =
+    let e : k < length xs = omega arith in
+    let below : k < j = omega arith in
+    omega (arith, front-set_above xs k j d e below, length-append x.ids.items (ids_of (take j (set xs k d))), length-append x.ids.items (ids_of (take j xs)))
+
+-- a chunk with one id more, or one less
+pub set-raised : (cs : List Chunk) (k : ℕ) (c d : Chunk) → k < length cs → c ≡ get_or cs k c → size d ≡ size c + 1 → AreRaised cs (set cs k d) k
+set-raised cs k c d short read more = record {
+  below = λ j h. front-set_below cs k j d h;
+  above = λ j h. omega (arith, front-set_above cs k j d short h, size-read cs k c short read, more);
+}
+
+pub set-lowered : (cs : List Chunk) (k : ℕ) (c d : Chunk) → k < length cs → c ≡ get_or cs k c → size d + 1 ≡ size c → AreRaised (set cs k d) cs k
+set-lowered cs k c d short read less = record {
+  below = λ j h. sym (front-set_below cs k j d h);
+  above = λ j h. omega (arith, front-set_above cs k j d short h, size-read cs k c short read, less);
+}
+
+-- an id more in the last chunk, or in a chunk behind it
+pub raised-kept : (old new : List Chunk) (k : ℕ) → length new ≡ k + 1 → AreRaised old new k → AreKept old new
+raised-kept old new k last raised j h = raised.below j (omega (arith, h, last))
+
+pub push-kept : (cs new : List Chunk) (d : Chunk) → new ≡ cs ++ d ∷ [] → AreKept cs new
+push-kept cs new d is j h =
+    let within : j ≤ length cs = omega (arith, h, ap (λ (l : List Chunk). length l) is, length-append cs (d ∷ [])) in
+    ap (λ (l : List Chunk). front l j) is ∙ ap (λ l. length (ids_of l)) (take-append-le j cs (d ∷ []) within)
+
+-- ---- the numbers of the groups
+
+-- an id more in the chunk at k
+pub fronts-raised : (cs ds : List Chunk) (k : ℕ) (fs new : List ℕ) → AreRaised cs ds k → AreFronts cs fs → length new ≡ length fs → ((g : ℕ) → g < k / 16 + 1 → slice_index new g ≡ slice_index fs g)
+    → ((g : ℕ) → k / 16 + 1 ≤ g → g < length fs → slice_index new g ≡ slice_index fs g + 1) → AreFronts ds new
+fronts-raised cs ds k fs new raised right same low high = λ g within.
+    let here : g < length fs = omega arith in
+    elim (cases_lt g (k / 16 + 1)) [
+      | inl below ↦ omega (arith, low g below, right g here, raised.below (16 * g) (omega arith))
+      | inr above ↦ omega (arith, high g above here, right g here, raised.above (16 * g) (omega arith))
+    ]
+
+-- an id less
+pub fronts-lowered : (cs ds : List Chunk) (k : ℕ) (fs new : List ℕ) → AreRaised ds cs k → AreFronts cs fs → length new ≡ length fs → ((g : ℕ) → g < k / 16 + 1 → slice_index new g ≡ slice_index fs g)
+    → ((g : ℕ) → k / 16 + 1 ≤ g → g < length fs → slice_index new g + 1 ≡ slice_index fs g) → AreFronts ds new
+fronts-lowered cs ds k fs new raised right same low high = λ g within.
+    let here : g < length fs = omega arith in
+    elim (cases_lt g (k / 16 + 1)) [
+      | inl below ↦ omega (arith, low g below, right g here, raised.below (16 * g) (omega arith))
+      | inr above ↦ omega (arith, high g above here, right g here, raised.above (16 * g) (omega arith))
+    ]
+
+-- some id stands in front of each group behind that of a chunk with an id
+pub fronts-some : (cs ds : List Chunk) (k g : ℕ) (fs : List ℕ) → AreRaised ds cs k → AreFronts cs fs → k / 16 + 1 ≤ g → g < length fs → 0 < slice_index fs g
+fronts-some cs ds k g fs raised right above within = omega (arith, right g within, raised.above (16 * g) (omega arith))
+
+-- no number is more than that of all ids
+pub fronts-few : (cs : List Chunk) (g : ℕ) (fs : List ℕ) → AreFronts cs fs → g < length fs → slice_index fs g ≤ length (ids_of cs)
+fronts-few cs g fs right within = omega (arith, right g within, front-le cs (16 * g))
+
+-- an id more behind all, and the numbers are still right
+pub fronts-kept : (cs ds : List Chunk) (fs : List ℕ) → AreKept cs ds → 16 * length fs ≤ length ds + 15 → AreFronts cs fs → AreFronts ds fs
+fronts-kept cs ds fs kept few right = λ g within. right g within ∙ sym (kept (16 * g) (omega arith))
+
+-- ---- a place is found
+
+-- how many ids stand in front of the group that was found
+pub front-found : (cs : List Chunk) (fs : List ℕ) (number first : ℕ) → AreFronts cs fs → (0 < number → slice_index fs number ≡ first) → (0 < number → number < length fs) → (number ≡ 0 → first ≡ 0) → front cs (16 * number) ≡ first
+front-found cs fs zero first right told within start = sym (start refl)
+front-found cs fs (suc n) first right told within start = sym (right (suc n) (within (omega arith))) ∙ told (omega arith)
+
+-- a place in front of another group is in this one
+pub few-chunks : (cs : List Chunk) (fs : List ℕ) (number k offset place : ℕ) → AreFronts cs fs → length fs ≡ groups_of (length cs) → (0 < number → number < length fs) → (number + 1 < length fs → place < slice_index fs (number + 1))
+    → front cs k + offset ≡ place → k < length cs → 16 * number ≤ k → (length fs - 1) + (k + 1 - 16 * number) ≤ length cs
+few-chunks cs fs number k offset place right groups within behind at short from = elim (cases_lt (number + 1) (length fs)) [
+  | inl more ↦
+      let stop : place < front cs (16 * (number + 1)) = omega (arith, behind more, right (number + 1) more) in
+      elim (cases_lt k (16 * (number + 1))) [
+        | inl near ↦ omega (arith, near, groups, more, from)
+        | inr far ↦ absurd (omega (arith, front-rises cs (16 * (number + 1)) k far, stop, at))
+      ]
+  | inr last ↦ omega (arith, last, groups, short, from, within)
+]

@@ -1,0 +1,17 @@
+use Rattle.std.proofs.Common.{arith, length}
+use Rattle.trace_seq.specs.Fronts.{groups_of}
+use Rattle.trace_seq.proofs.FrontLemmas.{fronts-kept}
+use Rattle.trace_seq.proofs.counted_chunks.CountedChunks.append.Goals as goal
+
+pub returns-else-len-clause-counted : goal.returns-else-len-clause-counted
+returns-else-len-clause-counted c =
+    let held = c.requires.counted in
+    let cs = c.args.self.now.list.chunks.items in
+    let ds = c.append.new.self.chunks in
+    let fs = c.args.self.now.fronts in
+    record {
+      whole = c.append.ensures.whole;
+      fronts = fronts-kept cs ds.items fs.items c.append.ensures.fronts (omega (arith, held.groups, c.append.ensures.no_fewer)) held.fronts;
+      groups = omega (arith, held.groups, c.append.ensures.no_fewer, c.append.ensures.chunks, c.if-len.false, c.len.ensures, c.len-2.ensures, ds.ok, fs.ok);
+      room = rw c.append.ensures.all held.room;
+    }

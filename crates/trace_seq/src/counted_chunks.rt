@@ -1,0 +1,251 @@
+ghost use Rattle.std.specs.Prelude.{◌≡◌, ◌+◌, ◌-◌, ◌<◌, ◌≤◌, ◌^◌, length, slice_get, slice_index, Some, IsOk, OnOk, OnErr};
+ghost use Rattle.std.specs.List.{insert, remove};
+ghost use Rattle.std.specs.Vec.{vec_capacity};
+ghost use Rattle.trace_seq.specs.Order.{times};
+ghost use Rattle.trace_seq.specs.Chunks.{ids_of, place_at, size_at, chunk_count, IsWhole};
+ghost use Rattle.trace_seq.specs.Fronts.{IsCounted};
+
+use crate::chunk::{ROOM, Spot};
+use crate::chunk_list::ChunkList;
+use crate::fronts::{GROUP, count, find_group, locate, lower, raise};
+use crate::out_of_memory::OutOfMemory;
+use crate::room::push_within;
+use std::alloc::Global;
+
+/// Chunks in order, and for each 16th of them how many ids stand in front of it.
+#[derive(Drop)]
+pub struct CountedChunks {
+    pub list: ChunkList,
+    pub fronts: Vec<usize>,
+}
+
+impl CountedChunks {
+    /// Counts anew what stands in front of each group.
+    fn recount(&mut self)
+        requires whole { IsWhole self.old.list }
+        requires room { chunk_count self.old.list ≤ vec_capacity self.old.fronts }
+        ensures counted { IsCounted self.new }
+        ensures list { self.new.list ≡ self.old.list }
+    {
+        // Brings the range of the count into the proof, and does nothing at run time.
+        let _within = self.list.count;
+        let groups = self.list.chunks.len().div_ceil(GROUP);
+        match self.fronts.resize(groups, 0) {
+            Ok(()) => {}
+            Err(_) => unreachable!(),
+        }
+        count(&mut self.fronts, &self.list.chunks);
+    }
+
+    /// Where the id at a place stands, from 0.
+    fn find(&self, place: usize, probes: &mut u64) -> Spot
+        requires counted { IsCounted self.now }
+        requires place { place < length (ids_of self.now.list.chunks.items) }
+        ensures place { place_at self.now.list.chunks.items result ≡ place }
+        ensures offset { result.offset < size_at self.now.list.chunks.items result.chunk }
+        ensures chunk { result.chunk < length self.now.list.chunks.items }
+        ensures counted { probes.old ≤ probes.new }
+        ensures few_probes { probes.new ≤ probes.old + length self.now.list.chunks.items }
+    {
+        let group = find_group(&self.fronts, place, probes);
+        locate(
+            &self.list.chunks,
+            GROUP * group.number,
+            group.first,
+            place,
+            probes,
+        )
+    }
+
+    /// Puts an id that is not held at a place, from 0, of which the last is behind all others.
+    pub fn insert(&mut self, place: usize, id: usize)
+        requires counted { IsCounted self.old }
+        requires place { place ≤ length (ids_of self.old.list.chunks.items) }
+        requires few { self.old.list.count < 2 ^ 32 - 1 }
+        requires spare { 0 < length self.old.list.spares.items }
+        requires below { id < length self.old.list.home.items }
+        requires absent { times id (ids_of self.old.list.chunks.items) ≡ 0 }
+        ensures counted { IsCounted self.new }
+        ensures ids { ids_of self.new.list.chunks.items ≡ insert
+            (ids_of self.old.list.chunks.items) place id }
+        ensures spares { length self.old.list.spares.items ≤ length self.new.list.spares.items + 1 }
+        ensures home { length self.new.list.home.items ≡ length self.old.list.home.items }
+    {
+        if place == self.list.count as usize {
+            self.append(id);
+        } else {
+            self.insert_before(place, id);
+        }
+    }
+
+    /// Puts an id that is not held behind all others.
+    fn append(&mut self, id: usize)
+        requires counted { IsCounted self.old }
+        requires few { self.old.list.count < 2 ^ 32 - 1 }
+        requires spare { 0 < length self.old.list.spares.items }
+        requires below { id < length self.old.list.home.items }
+        requires absent { times id (ids_of self.old.list.chunks.items) ≡ 0 }
+        ensures counted { IsCounted self.new }
+        ensures ids { ids_of self.new.list.chunks.items ≡ insert
+            (ids_of self.old.list.chunks.items) (length (ids_of self.old.list.chunks.items)) id }
+        ensures spares { length self.old.list.spares.items ≤ length self.new.list.spares.items + 1 }
+        ensures home { length self.new.list.home.items ≡ length self.old.list.home.items }
+    {
+        let front = self.list.count as usize;
+        self.list.append(id);
+        if self.list.chunks.len() > GROUP * self.fronts.len() {
+            push_within(&mut self.fronts, front);
+        }
+    }
+
+    /// Puts an id that is not held at a place in front of another, from 0.
+    fn insert_before(&mut self, place: usize, id: usize)
+        requires counted { IsCounted self.old }
+        requires place { place < length (ids_of self.old.list.chunks.items) }
+        requires few { self.old.list.count < 2 ^ 32 - 1 }
+        requires spare { 0 < length self.old.list.spares.items }
+        requires below { id < length self.old.list.home.items }
+        requires absent { times id (ids_of self.old.list.chunks.items) ≡ 0 }
+        ensures counted { IsCounted self.new }
+        ensures ids { ids_of self.new.list.chunks.items ≡ insert
+            (ids_of self.old.list.chunks.items) place id }
+        ensures spares { length self.old.list.spares.items ≤ length self.new.list.spares.items + 1 }
+        ensures home { length self.new.list.home.items ≡ length self.old.list.home.items }
+    {
+        let mut uncounted = 0;
+        let spot = self.find(place, &mut uncounted);
+        if self.list.size(spot.chunk) < ROOM {
+            self.put(spot, id);
+            return;
+        }
+        let spot = self.list.make_room(spot);
+        self.list.put(spot, id);
+        self.recount();
+    }
+
+    /// Puts an id that is not held at a spot of a chunk that is not full.
+    fn put(&mut self, spot: Spot, id: usize)
+        requires counted { IsCounted self.old }
+        requires chunk { spot.chunk < length self.old.list.chunks.items }
+        requires offset { spot.offset ≤ size_at self.old.list.chunks.items spot.chunk }
+        requires room { size_at self.old.list.chunks.items spot.chunk < 512 }
+        requires few { self.old.list.count < 2 ^ 32 - 1 }
+        requires below { id < length self.old.list.home.items }
+        requires absent { times id (ids_of self.old.list.chunks.items) ≡ 0 }
+        ensures counted { IsCounted self.new }
+        ensures ids { ids_of self.new.list.chunks.items ≡ insert
+            (ids_of self.old.list.chunks.items) (place_at self.old.list.chunks.items spot) id }
+        ensures spares { self.new.list.spares ≡ self.old.list.spares }
+        ensures home { length self.new.list.home.items ≡ length self.old.list.home.items }
+    {
+        self.list.put(spot, id);
+        raise(&mut self.fronts, spot.chunk / GROUP + 1);
+    }
+
+    /// Takes out the id at a place, from 0.
+    pub fn remove(&mut self, place: usize)
+        requires counted { IsCounted self.old }
+        requires place { place < length (ids_of self.old.list.chunks.items) }
+        ensures counted { IsCounted self.new }
+        ensures ids { ids_of self.new.list.chunks.items ≡ remove
+            (ids_of self.old.list.chunks.items) place }
+        ensures spares { length self.old.list.spares.items ≤ length self.new.list.spares.items }
+        ensures home { length self.new.list.home.items ≡ length self.old.list.home.items }
+    {
+        let mut uncounted = 0;
+        let spot = self.find(place, &mut uncounted);
+        if self.list.size(spot.chunk) == 1 {
+            self.list.drop_chunk(spot.chunk);
+            self.recount();
+            return;
+        }
+        if self.list.is_thin(spot.chunk) || (spot.chunk > 0 && self.list.is_thin(spot.chunk - 1)) {
+            let spot = self.list.thicken(spot);
+            self.list.take_id(spot);
+            self.recount();
+            return;
+        }
+        self.take_id(spot);
+    }
+
+    /// Takes out the id at a spot of a chunk that holds another id, and that stays thick enough
+    /// with its neighbours.
+    fn take_id(&mut self, spot: Spot)
+        requires counted { IsCounted self.old }
+        requires offset { spot.offset < size_at self.old.list.chunks.items spot.chunk }
+        requires chunk { spot.chunk < length self.old.list.chunks.items }
+        requires others { 1 < size_at self.old.list.chunks.items spot.chunk }
+        requires front { 0 < spot.chunk →
+            257 < size_at self.old.list.chunks.items (spot.chunk - 1) + size_at
+            self.old.list.chunks.items spot.chunk }
+        requires back { spot.chunk + 1 < length self.old.list.chunks.items →
+            257 < size_at self.old.list.chunks.items spot.chunk + size_at
+            self.old.list.chunks.items (spot.chunk + 1) }
+        ensures counted { IsCounted self.new }
+        ensures ids { ids_of self.new.list.chunks.items ≡ remove
+            (ids_of self.old.list.chunks.items) (place_at self.old.list.chunks.items spot) }
+        ensures spares { self.new.list.spares ≡ self.old.list.spares }
+        ensures home { self.new.list.home ≡ self.old.list.home }
+    {
+        self.list.take_id(spot);
+        lower(&mut self.fronts, spot.chunk / GROUP + 1);
+    }
+
+    /// Takes out the id at a place, and puts it at another of what is left, both from 0.
+    pub fn move_to(&mut self, from: usize, to: usize)
+        requires counted { IsCounted self.old }
+        requires from { from < length (ids_of self.old.list.chunks.items) }
+        requires to { to < length (ids_of self.old.list.chunks.items) }
+        requires spare { 0 < length self.old.list.spares.items }
+        ensures counted { IsCounted self.new }
+        ensures ids { ids_of self.new.list.chunks.items ≡ insert
+            (remove (ids_of self.old.list.chunks.items) from) to
+            (slice_index (ids_of self.old.list.chunks.items) from) }
+        ensures spares { length self.old.list.spares.items ≤ length self.new.list.spares.items + 1 }
+        ensures home { length self.new.list.home.items ≡ length self.old.list.home.items }
+    {
+        // Brings the range of the count into the proof, and does nothing at run time.
+        let _within = self.list.count;
+        let mut uncounted = 0;
+        let id = self.get(from, &mut uncounted);
+        self.remove(from);
+        self.insert(to, id);
+    }
+
+    /// The id at a place, from 0.
+    pub fn get(&self, place: usize, probes: &mut u64) -> usize
+        requires counted { IsCounted self.now }
+        requires place { place < length (ids_of self.now.list.chunks.items) }
+        ensures id { slice_get (ids_of self.now.list.chunks.items) place ≡ Some result }
+        ensures counted { probes.old ≤ probes.new }
+        ensures few_probes { probes.new ≤ probes.old + (length self.now.list.chunks.items + 1) }
+    {
+        let spot = self.find(place, probes);
+        *probes = probes.saturating_add(1);
+        self.list.id_at(spot)
+    }
+
+    /// Makes room for one chunk more where none is spare, and for ids up to this one.
+    pub fn reserve(&mut self, alloc: Global, id: usize) -> Result<(), OutOfMemory>
+        requires counted { IsCounted self.old }
+        requires id { id < 2 ^ 64 - 1 }
+        ensures counted { IsCounted self.new }
+        ensures chunks { self.new.list.chunks.items ≡ self.old.list.chunks.items }
+        ensures spare { OnOk result (0 < length self.new.list.spares.items) }
+        ensures spares { length self.old.list.spares.items ≤ length self.new.list.spares.items }
+        ensures enough { OnOk result (id < length self.new.list.home.items) }
+        ensures grows { length self.old.list.home.items ≤ length self.new.list.home.items }
+        ensures succeeds { 0 < length self.old.list.spares.items →
+            id < length self.old.list.home.items → IsOk result }
+        ensures same_spares { OnErr result
+            (length self.new.list.spares.items ≡ length self.old.list.spares.items) }
+        ensures same_home { OnErr result
+            (length self.new.list.home.items ≡ length self.old.list.home.items) }
+    {
+        if self.list.spares.is_empty() {
+            let chunks = self.list.chunks.len();
+            self.fronts.reserve(chunks + 1)?;
+        }
+        self.list.reserve(alloc, id)
+    }
+}

@@ -1,0 +1,105 @@
+# The documents, and what is made from them or beside them. Sourced by run.sh, which has `program`, `here`, `work` and `tell`.
+top=$(cd "$here/.." && pwd)
+
+# same NAME ONE OTHER: two texts, told by their first difference
+same() {
+    if [ "$2" = "$3" ]; then tell "$1" ok; else tell "$1" "$(diff <(echo "$2") <(echo "$3") | head -n 5)"; fi
+}
+
+# runs_well NAME WORD..: a command that ends with status 0
+runs_well() {
+    local name=$1 told
+    shift
+    if told=$("$@" 2>&1); then tell "$name" ok; else tell "$name" "$told"; fi
+}
+
+# ---- each example of each document
+examples=0
+for document in "$top"/README.md "$top"/CONTRIBUTING.md "$top"/docs/*.md "$top"/tests/transcripts/*.md; do
+    document=${document#"$top"/}
+    grep -q '^```\(sh\|text\)' "$top/$document" || continue
+    examples=$((examples + 1))
+    if told=$(cd "$top" && bash tests/transcripts.sh "$program" "$document" 2>&1); then tell "examples of $document" ok; grep '^left out' <<< "$told"; else tell "examples of $document" "$told"; fi
+done
+[ "$examples" -ge 4 ] && tell 'documents with examples' ok || tell 'documents with examples' "$examples"
+
+# ---- the example files, the man pages and the rows of the definitions are what their sources give
+mkdir made
+runs_well 'examples are made' bash "$top/examples/make" made
+runs_well 'the example files' diff -r -x make made "$top/examples"
+rm -rf made
+runs_well 'man pages are made' bash "$top/tools/manpages" made
+runs_well 'the man pages are those of the manual' diff -r made "$top/man"
+runs_well 'the rows of the definitions' bash "$top/tools/definitions" --check
+for page in segywb.1 segywb-script.5; do
+    if command -v mandoc > /dev/null; then same "mandoc on $page" "$(mandoc -Tlint "$top/man/$page" 2>&1)" ''; fi
+    if command -v man > /dev/null && man --help 2>&1 | grep -q -- --warnings; then
+        same "man on $page" "$(LC_ALL=C man --warnings -E UTF-8 -l -Tutf8 -Z "$top/man/$page" 2>&1 > /dev/null)" ''
+    fi
+done
+
+# ---- the manual has each name at its place, each command, each refusal
+names() {
+    cat "$top/crates/field_map/specs/StandardNames.antt" "$top/crates/field_map/specs/Binding.antt" |
+        sed -n 's/.*(codes "\([a-z0-9_]*\)", \([a-z_]*\) \([0-9]*\) \([0-9]*\)).*/\1 \2 \3 \4/p' |
+        while read -r name kind byte size; do
+            bytes=bytes
+            [ "$size" != 1 ] || bytes=byte
+            case $kind in
+                signed_at) echo "$name @$byte:$size $size $bytes, signed" ;;
+                unsigned_at) echo "$name @$byte:${size}u $size $bytes, unsigned" ;;
+                unsigned_in_first_extension) echo "$name @1.$byte:${size}u $size $bytes, unsigned" ;;
+            esac
+        done | sort
+}
+same 'the names of the manual' "$(names)" "$(sed -n 's/^| `\([a-z0-9_]*\)` | `\(@[^`]*\)` | \([^|]*\) |.*/\1 \2 \3/p' "$top/docs/MANUAL.md" | sort)"
+[ "$(names | wc -l)" -ge 55 ] && tell 'there are names' ok || tell 'there are names' "$(names | wc -l)"
+same 'the commands of the manual' "$(sed -n 's/.*(codes "\([a-z]*\)", read_.*/\1/p' "$top/crates/script_run/specs/Commands.antt" | sort)" \
+    "$(sed -n 's/^### \([a-z]*\).*/\1/p' "$top/docs/MANUAL.md" | sort)"
+# a text of the definitions ends where a number follows, and the manual has a letter there
+texts() { grep -o 'codes "[LPSE][0-9][0-9] [^"]*"' "$top/crates/script_run/specs/RefusalTexts.antt" | sed 's/codes "//; s/ *"$//' | sort -u; }
+rows() { sed -n 's/^| \([LPSE][0-9][0-9]\) | `\([^`]*\)` |.*/\1 \2/p' "$top/docs/MANUAL.md" | sed 's/ [A-Z]\( of N\)\?$//; s/ A\.B$//' | sort -u; }
+same 'the refusals of the manual' "$(texts)" "$(rows)"
+[ "$(texts | wc -l)" -ge 40 ] && tell 'there are refusals' ok || tell 'there are refusals' "$(texts | wc -l)"
+
+# ---- each file that a document names is there
+missing=$(cd "$top" && {
+    grep -oh '`crates/[^` ]*`' README.md CONTRIBUTING.md docs/*.md | tr -d '`' | grep -v '[*]\|NAME\|FUNCTION\|/out/'
+    # rows as `CRATE/specs/A.antt`, `B.antt`; ..
+    sed -n '/^| What | Files |/,/^$/p' docs/PROOF.md | grep -o '`[a-z_]*/specs/[^`]*`\|`[A-Za-z]*\.antt`' | tr -d '`' |
+        while read -r file; do
+            case $file in */*) folder=crates/${file%/*}; echo "crates/$file" ;; *) echo "$folder/$file" ;; esac
+        done
+} | sort -u | while read -r file; do [ -e "$file" ] || echo "$file"; done)
+same 'files that documents name' "$missing" ''
+
+# ---- the version, and the completions, which know the options of --help and no others
+same 'the version' "$("$program" --version 2>&1)" "segywb $(cat "$top/VERSION")"
+options() { grep -o -e '--[a-z][a-z-]*' | sort -u; }
+shown=$("$program" --help 2>&1 | sed -n '/^Options:/,/^$/p' | options)
+same 'bash completes' "$(options < "$top/completions/segywb.bash")" "$shown"
+same 'zsh completes' "$(options < "$top/completions/_segywb")" "$shown"
+same 'fish completes' "$(sed -n 's/.* -l \([a-z-]*\).*/--\1/p' "$top/completions/segywb.fish" | sort -u)" "$shown"
+runs_well 'the completion for bash' bash -n "$top/completions/segywb.bash"
+if command -v zsh > /dev/null; then runs_well 'the completion for zsh' zsh -n "$top/completions/_segywb"; fi
+if command -v fish > /dev/null; then runs_well 'the completion for fish' fish -n "$top/completions/segywb.fish"; fi
+completed=$(bash -c '. "$1"; COMP_WORDS=(segywb --m); COMP_CWORD=1; _segywb; echo "${COMPREPLY[@]}"' - "$top/completions/segywb.bash")
+same 'bash completes a word' "$completed" --max-bytes
+
+# ---- install and uninstall
+place() { (cd "$top" && env -u MAKEFLAGS -u MAKELEVEL -u MFLAGS make -s "$@" PROGRAM="$program" DESTDIR="$work/root" PREFIX=/opt/segywb); }
+runs_well 'make install' place install
+runs_well 'the program that was installed' cmp "$program" root/opt/segywb/bin/segywb
+same 'what was installed' "$(cd root && find . -type f | grep -v examples | sort)" './opt/segywb/bin/segywb
+./opt/segywb/share/bash-completion/completions/segywb
+./opt/segywb/share/doc/segywb/COOKBOOK.md
+./opt/segywb/share/doc/segywb/LICENSE
+./opt/segywb/share/doc/segywb/LICENSE-APACHE
+./opt/segywb/share/doc/segywb/LICENSE-MIT
+./opt/segywb/share/doc/segywb/MANUAL.md
+./opt/segywb/share/fish/vendor_completions.d/segywb.fish
+./opt/segywb/share/man/man1/segywb.1
+./opt/segywb/share/man/man5/segywb-script.5
+./opt/segywb/share/zsh/site-functions/_segywb'
+runs_well 'make uninstall' place uninstall
+same 'what is left' "$(find root -type f)" ''

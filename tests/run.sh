@@ -261,6 +261,8 @@ line 'a limit that is no number' s.sgy --script script --max-bytes many
 line 'help' --help
 expect 'the greatest limit' 0 'ok\n' '' s.sgy --script script --max-bytes 1099511627776
 
+. "$here/reports.sh" || tell 'reports.sh' 'did not run to its end'
+
 . "$here/documents.sh" || tell 'documents.sh' 'did not run to its end'
 
 . "$here/growth.sh" || tell 'growth.sh' 'did not run to its end'

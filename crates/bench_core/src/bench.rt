@@ -1,8 +1,8 @@
-ghost use Rattle.std.specs.Prelude.{◌≡◌, ◌≤◌, ◌-◌, ◌++◌, length, None, Some, IfOk, IfErr, OnOk, MatchResult, option_map, slice_get};
+ghost use Rattle.std.specs.Prelude.{◌≡◌, ◌≤◌, ◌-◌, ◌++◌, [], true, false, length, None, Some, IfOk, IfErr, OnOk, MatchResult, option_map, slice_get};
 ghost use Rattle.std.specs.Option.{option_or};
 ghost use Rattle.std.specs.Io.KnownBytes.{Consumes, IsAtEnd};
 ghost use Rattle.device_io.specs.Failures.{CountsFailure};
-ghost use Rattle.field_map.specs.Binding.{geometry_at_load};
+ghost use Rattle.field_map.specs.Binding.{geometry_at_load, is_geometry as is_geometry_name};
 ghost use Rattle.frame_cut.specs.Cuts.{IsCut};
 ghost use Rattle.frame_cut.specs.Traces.{count_of, is_trace};
 ghost use Rattle.frame_cut.specs.Volume.{bytes_of};
@@ -12,7 +12,8 @@ ghost use Rattle.bench_rules.specs.declared.edit.Edit.TheVariants as edits;
 ghost use Rattle.bench_rules.specs.declared.field.Field.TheVariants as fields;
 ghost use Rattle.bench_rules.specs.declared.query.Query.TheVariants as queries;
 ghost use Rattle.bench_rules.specs.declared.refusal.Refusal.TheVariants.{OutOfMemory as no_memory, NoField as no_such_field};
-ghost use Rattle.bench_rules.specs.Looks.{RisesAtMost, edit_looks, query_looks};
+ghost use Rattle.edit_overlay.specs.CountedVolume.{RisesAtMost};
+ghost use Rattle.bench_rules.specs.Looks.{load_looks, edit_looks, query_looks};
 ghost use Rattle.bench_rules.specs.Places.{place_in_trace};
 ghost use Rattle.bench_rules.specs.Refused.{first_refusal, no_trace};
 ghost use Rattle.bench_rules.specs.Steps.{IsAfter, Step};
@@ -24,21 +25,24 @@ use bench_rules::{
 };
 use device_io::{Sink, Source};
 use edit_overlay::{Overlay, SaveFault};
-use field_map::{FieldMap, Place, standard};
+use field_map::{FieldMap, Place, is_geometry, standard};
 use frame_cut::{Limits, LoadFault, Reading};
+use live_reports::LiveReports;
 use num_order::write;
 use std::alloc::Global;
 use std::io::{Read, Write};
 use std::marker::Model;
 use text_block::{TEXT_BLOCK_BYTES, code_of, encode_line, line};
+use volume_records::reports;
 
 /// One volume: a file that was loaded, with the edits that were accepted since.
 #[derive(Drop)]
 pub struct Bench {
     pub(crate) overlay: Overlay,
-    fields: FieldMap,
+    pub(crate) fields: FieldMap,
     reading: Reading,
     pub(crate) limits: Limits,
+    pub(crate) reports: LiveReports,
 }
 
 impl Model for Bench {
@@ -55,8 +59,9 @@ impl Model for Bench {
 
 impl Bench {
     /// Reads a whole file and cuts it; the field map is then the six geometry names at their
-    /// standard places. Takes memory. Refused: L01 where a read failed in this call, L02 to L15 for
-    /// the first reason that the file gives, L16 where a growth was refused.
+    /// standard places. Looks at each trace once at most, for its record. Takes memory. Refused:
+    /// L01 where a read failed in this call, L02 to L15 for the first reason that the file gives,
+    /// L16 where a growth was refused.
     pub fn load<R: Read>(
         alloc: Global,
         reader: &mut Source<R>,
@@ -66,7 +71,7 @@ impl Bench {
         ensures taken { IfOk result (λ b. Consumes (R.remaining reader.old.inner)
             (R.remaining reader.new.inner) (bytes_of b.state.volume)) }
         ensures all { IfOk result (λ _. IsAtEnd (R.remaining reader.new.inner)) }
-        ensures looks { IfOk result (λ b. b.looks ≡ 0) }
+        ensures looks { IfOk result (λ b. b.looks ≤ load_looks b.state.volume) }
         ensures cut { IfOk result (λ b. IsCut (bytes_of b.state.volume) reading limits
             b.state.volume) }
         ensures fields { IfOk result (λ b. b.state.fields ≡ geometry_at_load) }
@@ -77,8 +82,11 @@ impl Bench {
         ensures failures { MatchResult result (λ _. reader.new.failures ≡ reader.old.failures)
             (λ fault. FailuresAfterRefusal fault reader.old.failures reader.new.failures) }
     {
-        let overlay = Overlay::load(alloc, reader, reading, limits)?;
+        let mut overlay = Overlay::load(alloc, reader, reading, limits)?;
         let Ok(fields) = FieldMap::standard(alloc, overlay.head().extensions) else {
+            return Err(LoadFault::OutOfMemory);
+        };
+        let Ok(reports) = reports(alloc, &mut overlay, &fields) else {
             return Err(LoadFault::OutOfMemory);
         };
         Ok(Bench {
@@ -86,15 +94,17 @@ impl Bench {
             fields,
             reading,
             limits,
+            reports,
         })
     }
 
-    /// One edit: done, or refused and the state is as it was. `Set`, `Map`, `Patch`, `Blank`,
-    /// `Copy` and `Move` take memory, and are refused for want of it, E11, only where nothing else
-    /// refuses them.
+    /// One edit: done, and the reports follow it; or refused, and all is as it was. `Set`, `Map`,
+    /// `Patch`, `Blank`, `Copy` and `Move` take memory, and are refused for want of it, E11, only
+    /// where nothing else refuses them.
     pub fn apply(&mut self, alloc: Global, edit: &Edit) -> Result<(), Refusal>
         ensures step { Step self.old.state edit.now result self.new.state }
-        ensures looks { RisesAtMost self.old.looks self.new.looks (edit_looks edit.now) }
+        ensures looks { RisesAtMost self.old.looks self.new.looks
+            (edit_looks self.old.state.volume edit.now) }
     {
         match edit {
             Edit::Set(p, field, value) => self.set_field(alloc, *p, field, *value),
@@ -177,13 +187,13 @@ impl Bench {
             self.new.state) }
         ensures err { IfErr result (λ refusal. (refusal ≡ no_memory) ×
             (self.new.state ≡ self.old.state)) }
-        ensures looks { self.new.looks ≡ self.old.looks }
+        ensures looks { RisesAtMost self.old.looks self.new.looks 1 }
     {
         let mut buffer = [0u8; 8];
         let new = &mut buffer[..usize::from(place.kind.size)];
         write(self.overlay.head().order, place.kind, value, new);
-        self.overlay.put(alloc, p, u64::from(place.offset()), new)?;
-        Ok(())
+        let samples = self.held(p);
+        self.put(alloc, p, u64::from(place.offset()), new, Some(samples))
     }
 
     // The first refusal of the value at the place of trace p: E01, E03, E04, E06.
@@ -246,6 +256,50 @@ impl Bench {
     // The name bound to the place, or the first refusal.
     fn bind(&mut self, alloc: Global, name: &Text, place: Place) -> Result<(), Refusal>
         ensures step { Step self.old.state (edits.Map name.now place) result self.new.state }
+        ensures looks { RisesAtMost self.old.looks self.new.looks
+            (edit_looks self.old.state.volume (edits.Map name.now place)) }
+    {
+        if is_geometry(name.as_str()) {
+            self.bind_geometry(alloc, name, place)
+        } else {
+            self.bind_name(alloc, name, place)
+        }
+    }
+
+    // A geometry name bound to the place, or the first refusal. Each trace is looked at for its new
+    // record, and the reports are made anew beside the old ones; where that is refused, the name
+    // gets its old place again, which takes no memory.
+    fn bind_geometry(&mut self, alloc: Global, name: &Text, place: Place) -> Result<(), Refusal>
+        requires { is_geometry_name name.now ≡ true }
+        ensures step { Step self.old.state (edits.Map name.now place) result self.new.state }
+        ensures looks { RisesAtMost self.old.looks self.new.looks
+            (count_of self.old.state.volume) }
+    {
+        let text = name.as_str();
+        self.fields.geometry_stands();
+        if let Some(fault) = self.fields.binding_refusal(text, place) {
+            return Err(Refusal::Map(fault));
+        }
+        let Some(old) = self.fields.place(text) else {
+            unreachable!()
+        };
+        self.fields.set_geometry(text, place);
+        match reports(alloc, &mut self.overlay, &self.fields) {
+            Ok(reports) => {
+                self.reports = reports;
+                Ok(())
+            }
+            Err(_) => {
+                self.fields.set_geometry(text, old);
+                Err(Refusal::OutOfMemory)
+            }
+        }
+    }
+
+    // Another name bound to the place, or the first refusal.
+    fn bind_name(&mut self, alloc: Global, name: &Text, place: Place) -> Result<(), Refusal>
+        requires { is_geometry_name name.now ≡ false }
+        ensures step { Step self.old.state (edits.Map name.now place) result self.new.state }
         ensures looks { self.new.looks ≡ self.old.looks }
     {
         self.fields.bind(alloc, name.as_str(), place)?;
@@ -261,11 +315,13 @@ impl Bench {
         Ok(())
     }
 
-    /// The answer to a query, which leaves the state as it is.
+    /// The answer to a query, which leaves the state as it is. Takes memory where the answer is a
+    /// text or a list, and is refused for want of it, E11, only where nothing else refuses it.
     pub fn ask(&mut self, alloc: Global, query: &Query) -> Result<Answer, AskFault>
         ensures reply { IsReply self.old.state query.now result }
         ensures unchanged { self.new.state ≡ self.old.state }
-        ensures looks { RisesAtMost self.old.looks self.new.looks (query_looks query.now) }
+        ensures looks { RisesAtMost self.old.looks self.new.looks
+            (query_looks self.old.state.volume [] query.now) }
     {
         match query {
             Query::Count => Ok(Answer::Count(self.overlay.count())),
@@ -277,6 +333,17 @@ impl Bench {
             Query::Stanzas => self.stanzas(alloc),
             Query::Fields => self.bound_fields(alloc),
             Query::Sample(p, k) => self.sample(*p, *k),
+            Query::Geometry(p) => self.geometry_answer(*p),
+            Query::Stat(p) => self.stat_answer(*p),
+            Query::Fold(inline, crossline) => self.fold_answer(inline, crossline),
+            Query::Grid => self.cells_answer(alloc),
+            Query::Inlines => self.inlines_answer(alloc),
+            Query::Crosslines => self.crosslines_answer(alloc),
+            Query::Histogram => self.histogram_answer(alloc),
+            Query::Range(quantity) => self.range_answer(*quantity),
+            Query::Totals => self.totals_answer(),
+            Query::Slice(k) => self.slice_answer(alloc, *k),
+            Query::Faults => self.faults_answer(alloc),
         }
     }
 

@@ -1,17 +1,20 @@
 // Edits of samples and of whole traces.
-ghost use Rattle.std.specs.Prelude.{◌≡◌, ◌<◌, ◌≤◌, ◌^◌, length, None, OnOk, IfErr};
+ghost use Rattle.std.specs.Prelude.{◌≡◌, ◌<◌, ◌≤◌, ◌^◌, length, Some, None, IsTrue, IfOk, OnOk, IfErr};
+ghost use Rattle.frame_cut.specs.Traces.{is_trace, trace_at};
 ghost use Rattle.frame_cut.specs.Frames.{length_with};
 ghost use Rattle.bench_rules.specs.declared.edit.Edit.TheVariants as edits;
 ghost use Rattle.bench_rules.specs.declared.refusal.Refusal.TheVariants.{OutOfMemory as no_memory};
-ghost use Rattle.bench_rules.specs.Looks.{RisesAtMost};
+ghost use Rattle.edit_overlay.specs.CountedVolume.{RisesAtMost};
 ghost use Rattle.bench_rules.specs.Refused.{first_refusal, no_trace, no_place_for_trace, room_refusal, insert_refusal};
 ghost use Rattle.bench_rules.specs.Steps.{IsAfter, Step};
+ghost use Rattle.bench_core.specs.Held.{sample_start};
 
 use crate::bench::Bench;
 use bench_rules::{
     Refusal, blank_length, joined, patch_refusal, sample_place, samples_bytes, zeros,
 };
 use std::alloc::Global;
+use volume_records::record_of_bytes;
 
 impl Bench {
     // The first refusal of a trace's number: E01.
@@ -92,16 +95,24 @@ impl Bench {
         self.insert_refusal(p, length)
     }
 
-    // The first refusal of values over samples: E01, E04, E05.
-    fn patch_refusal(&mut self, p: u32, k: u32, values: &[i128]) -> Option<Refusal>
-        ensures refusal { result ≡ first_refusal self.old.state (edits.Patch p k values.now) }
+    // Where sample k of trace p begins in it, or the first refusal of values from there on: E01,
+    // E04, E05.
+    fn patch_place(&mut self, p: u32, k: u32, values: &[i128]) -> Result<u64, Refusal>
+        ensures ok { OnOk result (first_refusal self.old.state (edits.Patch p k values.now)
+            ≡ None) }
+        ensures place { IfOk result (λ at. at ≡ sample_start self.old.state.volume p k) }
+        ensures err { IfErr result (λ refusal. first_refusal self.old.state
+            (edits.Patch p k values.now) ≡ Some refusal) }
         ensures state { self.new.state ≡ self.old.state }
         ensures looks { RisesAtMost self.old.looks self.new.looks 1 }
     {
         let format = self.overlay.head().format;
-        match self.overlay.look(p) {
-            Some(trace) => patch_refusal(format, &trace, k, values),
-            None => Some(Refusal::NoTrace(p, self.count())),
+        let Some(trace) = self.overlay.look(p) else {
+            return Err(Refusal::NoTrace(p, self.count()));
+        };
+        match patch_refusal(format, &trace, k, values) {
+            Some(refusal) => Err(refusal),
+            None => Ok(sample_place(format, &trace, k)),
         }
     }
 
@@ -116,15 +127,21 @@ impl Bench {
         ensures step { Step self.old.state (edits.Patch p k values.now) result self.new.state }
         ensures looks { RisesAtMost self.old.looks self.new.looks 2 }
     {
-        match self.patch_refusal(p, k, values) {
-            Some(refusal) => Err(refusal),
-            None => self.put_values(alloc, p, k, values),
-        }
+        let at = self.patch_place(p, k, values)?;
+        self.put_values(alloc, p, k, at, values)
     }
 
     // The values over samples of trace p, where nothing but memory refuses them.
-    fn put_values(&mut self, alloc: Global, p: u32, k: u32, values: &[i128]) -> Result<(), Refusal>
-        requires { first_refusal self.old.state (edits.Patch p k values.now) ≡ None }
+    fn put_values(
+        &mut self,
+        alloc: Global,
+        p: u32,
+        k: u32,
+        at: u64,
+        values: &[i128],
+    ) -> Result<(), Refusal>
+        requires none { first_refusal self.old.state (edits.Patch p k values.now) ≡ None }
+        requires place { at ≡ sample_start self.old.state.volume p k }
         ensures ok { OnOk result (IsAfter self.old.state (edits.Patch p k values.now)
             self.new.state) }
         ensures err { IfErr result (λ refusal. (refusal ≡ no_memory) ×
@@ -133,12 +150,7 @@ impl Bench {
     {
         let head = self.overlay.head();
         let bytes = samples_bytes(alloc, &head, values)?;
-        let at = match self.overlay.look(p) {
-            Some(trace) => sample_place(head.format, &trace, k),
-            None => unreachable!(),
-        };
-        self.overlay.put(alloc, p, at, bytes.as_slice())?;
-        Ok(())
+        self.put(alloc, p, at, bytes.as_slice(), None)
     }
 
     // A blank trace in front of trace p, or behind the last, or the first refusal: E01, E09, E10.
@@ -160,9 +172,10 @@ impl Bench {
             (self.new.state ≡ self.old.state)) }
         ensures looks { self.new.looks ≡ self.old.looks }
     {
-        let trace = zeros(alloc, blank_length(&self.overlay.head()) as usize)?;
-        self.overlay.insert(alloc, p, trace)?;
-        Ok(())
+        let head = self.overlay.head();
+        let bytes = zeros(alloc, blank_length(&head) as usize)?;
+        let trace = record_of_bytes(&head, bytes.as_slice(), &self.fields);
+        self.insert(alloc, p, bytes, &trace)
     }
 
     // A copy of trace q in front of trace p, or behind the last, or the first refusal: E01, E09,
@@ -177,6 +190,20 @@ impl Bench {
         }
     }
 
+    // The bytes of trace q, in one vector.
+    fn trace_bytes(&mut self, alloc: Global, q: u32) -> Result<Vec<u8>, Refusal>
+        requires { IsTrue (is_trace self.old.state.volume q) }
+        ensures ok { IfOk result (λ bytes. bytes.items ≡ trace_at self.old.state.volume q) }
+        ensures err { IfErr result (λ refusal. refusal ≡ no_memory) }
+        ensures state { self.new.state ≡ self.old.state }
+        ensures looks { RisesAtMost self.old.looks self.new.looks 1 }
+    {
+        let Some(trace) = self.overlay.look(q) else {
+            unreachable!()
+        };
+        joined(alloc, &trace)
+    }
+
     // A copy of trace q in front of trace p, or behind the last, where nothing but memory refuses
     // it.
     fn insert_copy(&mut self, alloc: Global, q: u32, p: u32) -> Result<(), Refusal>
@@ -186,12 +213,11 @@ impl Bench {
             (self.new.state ≡ self.old.state)) }
         ensures looks { RisesAtMost self.old.looks self.new.looks 1 }
     {
-        let bytes = match self.overlay.look(q) {
-            Some(trace) => joined(alloc, &trace)?,
-            None => unreachable!(),
+        let Some(trace) = self.reports.get(q as usize - 1) else {
+            unreachable!()
         };
-        self.overlay.insert(alloc, p, bytes)?;
-        Ok(())
+        let bytes = self.trace_bytes(alloc, q)?;
+        self.insert(alloc, p, bytes, &trace)
     }
 
     // Trace p out, or the refusal: E01.
@@ -215,6 +241,7 @@ impl Bench {
         ensures looks { self.new.looks ≡ self.old.looks }
     {
         self.overlay.delete(p);
+        self.reports.remove(p as usize - 1);
     }
 
     // Trace a as trace b, or the first refusal: E01.
@@ -236,7 +263,16 @@ impl Bench {
             (self.new.state ≡ self.old.state)) }
         ensures looks { self.new.looks ≡ self.old.looks }
     {
-        self.overlay.move_to(alloc, a, b)?;
-        Ok(())
+        self.overlay.prepare_move(alloc, a, b)?;
+        match self.reports.move_to(alloc, a as usize - 1, b as usize - 1) {
+            Ok(()) => {
+                self.overlay.commit();
+                Ok(())
+            }
+            Err(_) => {
+                self.overlay.discard();
+                Err(Refusal::OutOfMemory)
+            }
+        }
     }
 }

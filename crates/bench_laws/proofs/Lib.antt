@@ -1,7 +1,6 @@
 mod CutAgainLemmas
 mod StepAgainLemmas
 mod ReadsSetLemmas
-mod LiveLemmas
 mod ResizingLemmas
 mod OneTraceLemmas
 mod ResizeLemmas

@@ -6,7 +6,10 @@ use Rattle.frame_cut.proofs.OneCutLemmas.{at_most_one_cut}
 use Rattle.bench_rules.specs.declared.edit.Edit.{Edit}
 use Rattle.bench_rules.specs.declared.refusal.Refusal.{Refusal}
 use Rattle.bench_rules.specs.After.{bytes_after}
-use Rattle.bench_laws.specs.EditLaws.{IsReadAlike, StepsStayCut}
+use Rattle.bench_laws.specs.EditLaws.{IsReadAlike, StepsStayCut, AnswersFromScratch}
+use Rattle.bench_rules.specs.Answer.{answer}
+use Rattle.frame_cut.specs.declared.limits.Limits.{Limits}
+use Rattle.frame_cut.specs.declared.reading.Reading.{Reading}
 use Rattle.bench_rules.specs.Refused.{first_refusal}
 use Rattle.bench_rules.specs.State.{State}
 use Rattle.bench_rules.specs.Steps.{IsAfter, StepUnless}
@@ -60,3 +63,12 @@ steps_stay_cut old new (e ∷ es) (r ∷ rs) cut steps =
     let mid : State = steps.0 in
     let first = unless (first_refusal old e) old mid e r refl cut steps.1 in
     then old mid new first (steps_stay_cut mid new es rs (read_again old mid first) steps.2)
+
+-- an answer of what reading the new bytes from scratch gives
+pub answers_from_scratch : AnswersFromScratch
+answers_from_scratch old new edits replies v query cut steps scratch =
+    let alike = steps_stay_cut old new edits replies cut steps in
+    let same : new.volume ≡ v = at_most_one_cut (bytes_of new.volume) old.reading old.limits new.volume v alike.cut scratch in
+    ap (λ (u : Volume). let s : State = record new { volume = u } in answer s query) same
+    ∙ ap (λ (r : Reading). let s : State = record new { volume = v; reading = r } in answer s query) alike.reading
+    ∙ ap (λ (l : Limits). let s : State = record { volume = v; fields = new.fields; reading = old.reading; limits = l } in answer s query) alike.limits

@@ -7,6 +7,7 @@ use Rattle.bench_rules.specs.declared.answer.Answer.TheVariants as answers
 use Rattle.bench_rules.specs.declared.edit.Edit.{Edit}
 use Rattle.bench_rules.specs.declared.edit.Edit.TheVariants.{Set}
 use Rattle.bench_rules.specs.declared.field.Field.{Field}
+use Rattle.bench_rules.specs.declared.query.Query.{Query}
 use Rattle.bench_rules.specs.declared.query.Query.TheVariants as queries
 use Rattle.bench_rules.specs.declared.refusal.Refusal.{Refusal}
 use Rattle.bench_rules.specs.After.{bytes_after}
@@ -31,6 +32,13 @@ pub record IsReadAlike (old new : State) : Type 0 where
 abbrev pub StepsStayCut : Type 0
 StepsStayCut = (old new : State) (edits : List Edit) (replies : List (Result (Unit {0}) Refusal))
     → IsCut (bytes_of old.volume) old.reading old.limits old.volume → Steps old edits replies new → IsReadAlike old new
+
+-- after any list of edits, each done or refused, any query is answered as it is of what reading the new bytes from scratch gives, as the
+-- old file was read and under the field map in force
+abbrev pub AnswersFromScratch : Type 0
+AnswersFromScratch = (old new : State) (edits : List Edit) (replies : List (Result (Unit {0}) Refusal)) (v : Volume) (query : Query)
+    → IsCut (bytes_of old.volume) old.reading old.limits old.volume → Steps old edits replies new → IsCut (bytes_of new.volume) old.reading old.limits v
+    → answer new query ≡ answer (record { volume = v; fields = new.fields; reading = old.reading; limits = old.limits }) query
 
 -- after a set that is not refused, the field of that trace has the value, in the volume that is read from the new bytes
 abbrev pub ReadsWhatWasSet : Type 0

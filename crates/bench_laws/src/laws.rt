@@ -1,5 +1,5 @@
 // What holds of edits, as contracts of calls that do nothing.
-ghost use Rattle.bench_laws.specs.EditLaws.{StaysCut, StepsStayCut, ReadsWhatWasSet, SetLeavesTheRest};
+ghost use Rattle.bench_laws.specs.EditLaws.{StaysCut, StepsStayCut, AnswersFromScratch, ReadsWhatWasSet, SetLeavesTheRest};
 
 /// A file that is cut is cut again, under the same reading and limits and with the same head, after
 /// any edit that is not refused: an accepted edit leaves a file that loads again.
@@ -11,6 +11,13 @@ pub fn stays_cut()
 /// bytes from scratch gives, under the same reading and limits and with the same head.
 pub fn steps_stay_cut()
     ensures { StepsStayCut }
+{}
+
+/// The headline. After any list of edits, each done or refused, every answer, each report among
+/// them, is the one that reading the new bytes from scratch gives: of any cut of them under the
+/// reading and the limits of the load, and under the field map in force.
+pub fn answers_from_scratch()
+    ensures { AnswersFromScratch }
 {}
 
 /// The value of a field after a set that is not refused is the value that was set, in what reading

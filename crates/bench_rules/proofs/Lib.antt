@@ -6,3 +6,5 @@ pub mod WholeTraceLemmas
 pub mod PatchLemmas
 pub mod ValueLemmas
 pub mod TraceStepLemmas
+pub mod LiveLemmas
+pub mod LetterLemmas

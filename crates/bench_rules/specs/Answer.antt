@@ -20,6 +20,7 @@ use Rattle.bench_rules.specs.declared.ask_fault.AskFault.{AskFault}
 use Rattle.bench_rules.specs.declared.ask_fault.AskFault.TheVariants.{NoTrace, NoField, NoPlace, NoSample, OutOfMemory}
 use Rattle.bench_rules.specs.Places.{place_in_trace, place_in_binary, is_in_binary}
 use Rattle.bench_rules.specs.Refused.{is_line}
+use Rattle.bench_rules.specs.Reports.{geometry_in, statistics_in, fold_in, cells_in, inlines_in, crosslines_in, histogram_in, range_in, totals_in, slice_in, faults_in}
 use Rattle.frame_cut.specs.Parts.{block_of}
 use Rattle.bench_rules.specs.State.{State}
 
@@ -75,6 +76,10 @@ stanzas_from number blocks = flat_map (λ b. numbered_stanzas b.0 b.1) (enumerat
 abbrev pub all_stanzas : Volume → List (ℕ × List ℕ)
 all_stanzas v = stanzas_from 1 (text_blocks v)
 
+-- the answer of what trace p has, where there is such a trace
+abbrev pub or_no_trace : {X : Type 0} → Volume → ℕ → Option X → (X → Answer) → Reply
+or_no_trace v p x f = or_fault x (NoTrace p (count_of v)) f
+
 -- the answer, or the first refusal
 abbrev pub answer : State → Query → Reply
 answer s queries.Count = Ok (answers.Count (count_of s.volume))
@@ -86,6 +91,17 @@ answer s (queries.Code b) = code_answer (block_of s.volume b)
 answer s queries.Stanzas = Ok (answers.Stanzas (all_stanzas s.volume))
 answer s queries.Fields = Ok (answers.Fields s.fields)
 answer s (queries.Sample p k) = of_trace s.volume p (λ t. trace_sample s.volume.head t k)
+answer s (queries.Geometry p) = or_no_trace s.volume p (geometry_in s p) answers.Geometry
+answer s (queries.Stat p) = or_no_trace s.volume p (statistics_in s p) answers.Stat
+answer s (queries.Fold i c) = Ok (answers.Fold (fold_in s i c))
+answer s queries.Grid = Ok (answers.Grid (cells_in s))
+answer s queries.Inlines = Ok (answers.Inlines (inlines_in s))
+answer s queries.Crosslines = Ok (answers.Crosslines (crosslines_in s))
+answer s queries.Histogram = Ok (answers.Histogram (histogram_in s))
+answer s (queries.Range quantity) = Ok (answers.Range (range_in s quantity))
+answer s queries.Totals = Ok (answers.Totals (totals_in s))
+answer s (queries.Slice k) = Ok (answers.Slice (slice_in s k))
+answer s queries.Faults = Ok (answers.Faults (faults_in s))
 
 -- whether a query may be refused for want of memory: its answer is a text or a list
 abbrev pub TakesMemory : Query → Type 0
@@ -98,6 +114,17 @@ TakesMemory (queries.Code b) = ⊥
 TakesMemory queries.Stanzas = Unit {0}
 TakesMemory queries.Fields = Unit {0}
 TakesMemory (queries.Sample p k) = ⊥
+TakesMemory (queries.Geometry p) = ⊥
+TakesMemory (queries.Stat p) = ⊥
+TakesMemory (queries.Fold i c) = ⊥
+TakesMemory queries.Grid = Unit {0}
+TakesMemory queries.Inlines = Unit {0}
+TakesMemory queries.Crosslines = Unit {0}
+TakesMemory queries.Histogram = Unit {0}
+TakesMemory (queries.Range quantity) = ⊥
+TakesMemory queries.Totals = ⊥
+TakesMemory (queries.Slice k) = Unit {0}
+TakesMemory queries.Faults = Unit {0}
 
 -- the reply is the answer, or want of memory where the query takes it and is not refused
 abbrev pub IsReply : State → Query → Reply → Type 0

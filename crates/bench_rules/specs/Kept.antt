@@ -13,6 +13,7 @@ use Rattle.time_slice.specs.Cache.{is_from}
 use Rattle.bench_rules.specs.declared.edit.Edit.{Edit}
 use Rattle.bench_rules.specs.declared.edit.Edit.TheVariants.{Set, SetBin, SetText, Map, Unmap, Patch, Blank, Copy, Delete, Move}
 use Rattle.bench_rules.specs.declared.query.Query.{Query}
+use Rattle.bench_rules.specs.declared.query.Query.TheVariants.{Count, Info, Get, GetBin, Line, Code, Stanzas, Fields, Sample, Geometry, Stat, Fold, Grid, Inlines, Crosslines, Histogram, Range, Totals, Slice, Faults}
 use Rattle.bench_rules.specs.Places.{place_in_trace}
 use Rattle.bench_rules.specs.Refused.{with_value}
 use Rattle.bench_rules.specs.State.{State}
@@ -29,9 +30,28 @@ kept_after_load = []
 abbrev pub kept_after_slice : ℕ → List ℕ → List ℕ
 kept_after_slice k kept = take 8 (k ∷ filter (λ j. not (j == k)) kept)
 
--- the numbers kept after a query of the headers, of the text or of one sample: as they were
+-- the numbers kept after a query was answered: a slice makes its number the first, and all else leaves them
 abbrev pub kept_after_query : Query → List ℕ → List ℕ
-kept_after_query query kept = kept
+kept_after_query (Slice k) kept = kept_after_slice k kept
+kept_after_query Count kept = kept
+kept_after_query Info kept = kept
+kept_after_query (Get p field) kept = kept
+kept_after_query (GetBin field) kept = kept
+kept_after_query (Line b q) kept = kept
+kept_after_query (Code b) kept = kept
+kept_after_query Stanzas kept = kept
+kept_after_query Fields kept = kept
+kept_after_query (Sample p k) kept = kept
+kept_after_query (Geometry p) kept = kept
+kept_after_query (Stat p) kept = kept
+kept_after_query (Fold i c) kept = kept
+kept_after_query Grid kept = kept
+kept_after_query Inlines kept = kept
+kept_after_query Crosslines kept = kept
+kept_after_query Histogram kept = kept
+kept_after_query (Range quantity) kept = kept
+kept_after_query Totals kept = kept
+kept_after_query Faults kept = kept
 
 -- two traces have one value of the name
 abbrev pub same_bound : Head → Pairs → List ℕ → List ℕ → List ℕ → Bool

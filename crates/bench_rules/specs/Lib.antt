@@ -3,6 +3,7 @@ pub mod Answer
 pub mod Examples
 pub mod Kept
 pub mod KeptExamples
+pub mod Letters
 pub mod Live
 pub mod Looks
 pub mod MapFaults
@@ -12,9 +13,7 @@ pub mod NumberRefusals
 pub mod Places
 pub mod RefusalExamples
 pub mod Refused
-pub mod ReportAnswers
 pub mod ReportExamples
-pub mod ReportQueries
 pub mod Reports
 pub mod State
 pub mod Steps

@@ -1,35 +1,50 @@
 -- How often edits and queries look at traces.
-use Rattle.std.specs.Prelude.{ℕ, ◌+◌, ◌≤◌}
+use Rattle.std.specs.Prelude.{ℕ, List, if◌then◌else◌}
+use Rattle.field_map.specs.Binding.{is_geometry}
+use Rattle.frame_cut.specs.Traces.{count_of}
+use Rattle.frame_cut.specs.Volume.{Volume}
 use Rattle.bench_rules.specs.declared.edit.Edit.{Edit}
 use Rattle.bench_rules.specs.declared.edit.Edit.TheVariants as edits
 use Rattle.bench_rules.specs.declared.query.Query.{Query}
 use Rattle.bench_rules.specs.declared.query.Query.TheVariants as queries
+use Rattle.bench_rules.specs.Kept.{is_kept}
 
--- a count is not less than it was, and so many more at most
-abbrev pub RisesAtMost : ℕ → ℕ → ℕ → Type 0
-RisesAtMost old new n = (old ≤ new) × (new ≤ old + n)
+-- the most traces that a load looks at: each once, for its record
+abbrev pub load_looks : Volume → ℕ
+load_looks v = count_of v
 
--- the most traces that an edit looks at
-abbrev pub edit_looks : Edit → ℕ
-edit_looks (edits.Set p field x) = 2
-edit_looks (edits.SetBin field x) = 0
-edit_looks (edits.SetText q text) = 0
-edit_looks (edits.Map name place) = 0
-edit_looks (edits.Unmap name) = 0
-edit_looks (edits.Patch p k values) = 2
-edit_looks (edits.Blank p) = 1
-edit_looks (edits.Copy q p) = 2
-edit_looks (edits.Delete p) = 0
-edit_looks (edits.Move a b) = 0
+-- the most traces that an edit looks at; a geometry name bound anew gives each trace another record
+abbrev pub edit_looks : Volume → Edit → ℕ
+edit_looks v (edits.Set p field x) = 2
+edit_looks v (edits.SetBin field x) = 0
+edit_looks v (edits.SetText q text) = 0
+edit_looks v (edits.Map name place) = if is_geometry name then count_of v else 0
+edit_looks v (edits.Unmap name) = 0
+edit_looks v (edits.Patch p k values) = 2
+edit_looks v (edits.Blank p) = 1
+edit_looks v (edits.Copy q p) = 2
+edit_looks v (edits.Delete p) = 0
+edit_looks v (edits.Move a b) = 0
 
--- the most traces that a query looks at
-abbrev pub query_looks : Query → ℕ
-query_looks queries.Count = 0
-query_looks queries.Info = 0
-query_looks (queries.Get p field) = 1
-query_looks (queries.GetBin field) = 0
-query_looks (queries.Line b q) = 0
-query_looks (queries.Code b) = 0
-query_looks queries.Stanzas = 0
-query_looks queries.Fields = 0
-query_looks (queries.Sample p k) = 1
+-- the most traces that a query looks at, where the slices with these numbers are kept
+abbrev pub query_looks : Volume → List ℕ → Query → ℕ
+query_looks v kept queries.Count = 0
+query_looks v kept queries.Info = 0
+query_looks v kept (queries.Get p field) = 1
+query_looks v kept (queries.GetBin field) = 0
+query_looks v kept (queries.Line b q) = 0
+query_looks v kept (queries.Code b) = 0
+query_looks v kept queries.Stanzas = 0
+query_looks v kept queries.Fields = 0
+query_looks v kept (queries.Sample p k) = 1
+query_looks v kept (queries.Geometry p) = 0
+query_looks v kept (queries.Stat p) = 0
+query_looks v kept (queries.Fold i c) = 0
+query_looks v kept queries.Grid = 0
+query_looks v kept queries.Inlines = 0
+query_looks v kept queries.Crosslines = 0
+query_looks v kept queries.Histogram = 0
+query_looks v kept (queries.Range quantity) = 0
+query_looks v kept queries.Totals = 0
+query_looks v kept (queries.Slice k) = if is_kept k kept then 0 else count_of v
+query_looks v kept queries.Faults = 0

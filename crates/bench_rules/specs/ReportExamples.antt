@@ -6,8 +6,10 @@ use Rattle.frame_cut.specs.SmallFiles.{wide_limits, volume_plain}
 use Rattle.trace_record.specs.Coordinates.{under_scalar}
 use Rattle.trace_record.specs.SmallSurvey.{survey, trace_2}
 use Rattle.bench_rules.specs.Reports.{records, head_facts, faults_in, geometry_in, location_of}
-use Rattle.bench_rules.specs.ReportAnswers as answers
-use Rattle.bench_rules.specs.ReportQueries.{Geometry, Fold, Slice, report, report_looks}
+use Rattle.bench_rules.specs.Answer.{answer}
+use Rattle.bench_rules.specs.Looks.{query_looks}
+use Rattle.bench_rules.specs.declared.answer.Answer.TheVariants as answers
+use Rattle.bench_rules.specs.declared.query.Query.TheVariants.{Geometry, Fold, Slice}
 use Rattle.bench_rules.specs.declared.ask_fault.AskFault.TheVariants.{NoTrace}
 use Rattle.bench_rules.specs.State.{State}
 
@@ -32,21 +34,21 @@ pub faults-plain : faults_in loaded ≡ []
 unfolding under_scalar
 faults-plain = refl
 
-pub report-no_trace : report loaded (Geometry 4) ≡ Err (NoTrace 4 3)
+pub report-no_trace : answer loaded (Geometry 4) ≡ Err (NoTrace 4 3)
 report-no_trace = refl
 
 -- a cell that no trace has
-pub report-fold : report loaded (Fold (pos 10) (negsuc 0)) ≡ Ok (answers.Fold 0)
+pub report-fold : answer loaded (Fold (pos 10) (negsuc 0)) ≡ Ok (answers.Fold 0)
 unfolding under_scalar
 report-fold = refl
 
 -- no trace has a third sample
-pub report-slice : report loaded (Slice 2) ≡ Ok (answers.Slice [])
+pub report-slice : answer loaded (Slice 2) ≡ Ok (answers.Slice [])
 report-slice = refl
 
 -- three looks, and none where the slice is kept
-pub looks-slice : report_looks volume_plain (7 ∷ []) (Slice 2) ≡ 3
+pub looks-slice : query_looks volume_plain (7 ∷ []) (Slice 2) ≡ 3
 looks-slice = refl
 
-pub looks-kept : report_looks volume_plain (7 ∷ 2 ∷ []) (Slice 2) ≡ 0
+pub looks-kept : query_looks volume_plain (7 ∷ 2 ∷ []) (Slice 2) ≡ 0
 looks-kept = refl

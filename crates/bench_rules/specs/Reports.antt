@@ -1,8 +1,9 @@
 -- What each report says of a state: the from-scratch definition of its crate on the records of the volume's traces.
-use Rattle.std.specs.Prelude.{ℕ, ℤ, not, List, map, count_by, codes, bytes_eq, take, Option, option_map}
+use Rattle.std.specs.Prelude.{ℕ, ℤ, Bool, not, List, map, count_by, codes, bytes_eq, take, Option, option_map}
 use Rattle.std.specs.List.{range_with_len}
 use Rattle.text_block.specs.Lines.{shown_line}
 use Rattle.frame_cut.specs.BinaryHeader.{bin_unsigned}
+use Rattle.frame_cut.specs.declared.file_head.Head.{Head}
 use Rattle.frame_cut.specs.Traces.{trace_of}
 use Rattle.frame_cut.specs.Volume.{Volume}
 use Rattle.trace_view.specs.Values.{samples_of}
@@ -23,6 +24,7 @@ use Rattle.fault_live.specs.declared.fault.Fault.{Fault}
 use Rattle.fault_live.specs.declared.head_facts.HeadFacts.{HeadFacts}
 use Rattle.time_slice.specs.Slices.{slice_of}
 use Rattle.time_slice.specs.declared.row.Row.{Row}
+use Rattle.bench_rules.specs.declared.location.Location.{Location}
 use Rattle.bench_rules.specs.State.{State}
 
 -- ---- what the reports take
@@ -31,19 +33,27 @@ use Rattle.bench_rules.specs.State.{State}
 abbrev pub records : State → List Facts
 records s = map (record_of s.volume.head s.fields) s.volume.traces
 
--- how many of the 40 lines of a block do not begin with `C` as they are shown
-abbrev pub lines_without_c : List ℕ → ℕ
-lines_without_c block = count_by (λ q. not (bytes_eq (take 1 (shown_line block q)) (codes "C"))) (range_with_len 1 40)
+-- line q of a block does not begin with `C` as it is shown
+abbrev pub is_without_c : List ℕ → ℕ → Bool
+is_without_c block q = not (bytes_eq (take 1 (shown_line block q)) (codes "C"))
 
--- what the file's headers say to the faults
-abbrev pub head_facts : Volume → HeadFacts
-head_facts v = record {
-  trace_count = bin_unsigned 3513 8 v.bin;
-  lines = lines_without_c v.text;
-  interval = bin_unsigned 3217 2 v.bin;
-  major = v.head.major;
-  minor = v.head.minor;
+-- how many of the 40 lines of a block do not
+abbrev pub lines_without_c : List ℕ → ℕ
+lines_without_c block = count_by (is_without_c block) (range_with_len 1 40)
+
+-- what a head, a textual header and a binary header say to the faults
+abbrev pub facts_of_headers : Head → (text bin : List ℕ) → HeadFacts
+facts_of_headers h text bin = record {
+  trace_count = bin_unsigned 3513 8 bin;
+  lines = lines_without_c text;
+  interval = bin_unsigned 3217 2 bin;
+  major = h.major;
+  minor = h.minor;
 }
+
+-- what the file's headers say to them
+abbrev pub head_facts : Volume → HeadFacts
+head_facts v = facts_of_headers v.head v.text v.bin
 
 -- ---- the grid
 
@@ -80,14 +90,6 @@ totals_in s = totals_of (records s)
 -- the least, the greatest, the sum and the number of the samples of trace p, where there is one
 abbrev pub statistics_in : State → ℕ → Option (Option Statistics)
 statistics_in s p = option_map (λ t. statistics_of (samples_of s.volume.head t)) (trace_of s.volume p)
-
--- where a trace lies: its numbers as they stand, and its coordinates under its scalar
-pub record Location : Type 0 where
-  pub inline : ℤ
-  pub crossline : ℤ
-  pub offset : ℤ
-  pub x : Ratio
-  pub y : Ratio
 
 -- where the trace of this record lies
 abbrev pub location_of : Facts → Location

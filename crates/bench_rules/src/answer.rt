@@ -1,8 +1,13 @@
 use crate::info::Info;
 use crate::items::Items;
+use crate::location::Location;
 use crate::text::Text;
+use fault_live::Fault;
 use field_map::Place;
+use grid_live::{Cell, FoldCount};
 use text_block::Code;
+use time_slice::Row;
+use trace_record::{Ratio, Statistics};
 
 /// The answer to a query.
 #[derive(Drop)]
@@ -20,4 +25,25 @@ pub enum Answer {
     Stanzas(Items<(u64, Text)>),
     /// Each bound name with its place, in the map's order.
     Fields(Items<(Text, Place)>),
+    Geometry(Location),
+    /// `None` of a trace without samples.
+    Stat(Option<Statistics>),
+    /// The number of traces.
+    Fold(u64),
+    /// Each cell with its fold, rising by inline and then by crossline.
+    Grid(Items<Cell>),
+    /// Each inline with its number of traces, rising.
+    Inlines(Items<grid_live::Line>),
+    /// Each crossline with its number of traces, rising.
+    Crosslines(Items<grid_live::Line>),
+    /// Each fold with its number of cells, rising.
+    Histogram(Items<FoldCount>),
+    /// The least and the greatest value; `None` without traces.
+    Range(Option<(Ratio, Ratio)>),
+    /// `None` without samples.
+    Totals(Option<Statistics>),
+    /// A row for each trace that has the sample, rising by inline, crossline and position.
+    Slice(Items<Row>),
+    /// Those of the headers, then those of each trace in order.
+    Faults(Items<Fault>),
 }

@@ -53,3 +53,33 @@ impl From<text_block::OutOfMemory> for AskFault {
         AskFault::OutOfMemory
     }
 }
+
+impl From<grid_live::OutOfMemory> for AskFault {
+    ghost use Rattle.bench_rules.specs.declared.ask_fault.AskFault.TheVariants.{OutOfMemory as no_memory};
+
+    ghost from_gives = { λ _ fault. fault ≡ no_memory };
+
+    fn from(_: grid_live::OutOfMemory) -> AskFault {
+        AskFault::OutOfMemory
+    }
+}
+
+impl From<fault_live::OutOfMemory> for AskFault {
+    ghost use Rattle.bench_rules.specs.declared.ask_fault.AskFault.TheVariants.{OutOfMemory as no_memory};
+
+    ghost from_gives = { λ _ fault. fault ≡ no_memory };
+
+    fn from(_: fault_live::OutOfMemory) -> AskFault {
+        AskFault::OutOfMemory
+    }
+}
+
+impl From<time_slice::OutOfMemory> for AskFault {
+    ghost use Rattle.bench_rules.specs.declared.ask_fault.AskFault.TheVariants.{OutOfMemory as no_memory};
+
+    ghost from_gives = { λ _ fault. fault ≡ no_memory };
+
+    fn from(_: time_slice::OutOfMemory) -> AskFault {
+        AskFault::OutOfMemory
+    }
+}

@@ -3,7 +3,8 @@
 //! `specs/`; the bench above holds a volume and follows them.
 //!
 //! Traces count from 1, bytes in a header from 1, samples of a trace from 0. No call takes memory
-//! but `add_stanzas`, `samples_bytes`, `joined` and `zeros`.
+//! but `add_stanzas`, `samples_bytes`, `joined`, `zeros`, and for the lists that they answer
+//! `cells`, `inlines`, `crosslines`, `histogram` and `faults`.
 #![tactic(auto)]
 
 mod answer;
@@ -14,8 +15,11 @@ mod field;
 mod header_field;
 mod info;
 mod items;
+mod location;
+mod of_headers;
 mod query;
 mod refusal;
+mod report_answers;
 mod samples;
 mod stanzas;
 mod text;
@@ -30,8 +34,13 @@ pub use crate::field::Field;
 pub use crate::header_field::set_refusal;
 pub use crate::info::Info;
 pub use crate::items::Items;
+pub use crate::location::Location;
+pub use crate::of_headers::head_facts;
 pub use crate::query::Query;
 pub use crate::refusal::Refusal;
+pub use crate::report_answers::{
+    cells, crosslines, faults, fold, geometry, histogram, inlines, range, stat, totals,
+};
 pub use crate::samples::{patch_refusal, sample_place, trace_sample};
 pub use crate::stanzas::add_stanzas;
 pub use crate::text::Text;

@@ -1,4 +1,5 @@
 use crate::field::Field;
+use range_stats::Quantity;
 
 /// What is asked of a volume. Traces count from 1, samples of a trace from 0. Block 0 is the
 /// textual header, the extended textual headers are blocks 1 and up, and lines of a block count
@@ -24,4 +25,26 @@ pub enum Query {
     Fields,
     /// `Sample(p, k)`: sample k of trace p. Refused, in this order: E01, E05.
     Sample(u32, u32),
+    /// `Geometry(p)`: where trace p lies. Refused: E01.
+    Geometry(u32),
+    /// `Stat(p)`: the statistics of the samples of trace p. Refused: E01.
+    Stat(u32),
+    /// `Fold(i, c)`: how many traces have this inline and crossline, any two numbers.
+    Fold(i128, i128),
+    /// The cells that have traces.
+    Grid,
+    /// The inlines that have traces.
+    Inlines,
+    /// The crosslines that have traces.
+    Crosslines,
+    /// How many cells have each fold.
+    Histogram,
+    /// The least and the greatest value of this kind.
+    Range(Quantity),
+    /// The statistics of all samples.
+    Totals,
+    /// `Slice(k)`: sample k of each trace that has it.
+    Slice(u32),
+    /// What the headers contradict each other in, or the traces each other.
+    Faults,
 }

@@ -1,7 +1,6 @@
--- Traces as they would be with prepared runs.
-use Rattle.std.proofs.Common.{◌≡◌, ℕ, zero, suc, ◌+◌, ◌-◌, ◌*◌, ◌/◌, ◌%◌, ◌<◌, ◌≤◌, List, [], ◌∷◌, length, map, drop, get_or, refl, sym, ap, ◌∙◌, subst, arith, Option, Some, None, Vec, Global}
+-- Traces as they would be with the edit that is prepared.
+use Rattle.std.proofs.Common.{◌≡◌, ℕ, zero, suc, ◌+◌, ◌*◌, ◌/◌, ◌%◌, ◌<◌, ◌≤◌, List, [], ◌∷◌, length, drop, get_or, refl, sym, ap, ◌∙◌, subst, arith, Option, Some, None, Vec, Global}
 use Rattle.std.specs.Prelude.{slice_index_or, slice_set}
-use Rattle.std.specs.List.{concat}
 use Rattle.std.proofs.lemmas.List.{length-map, length-set, get_or-set_same, get_or-set_other}
 use Rattle.frame_cut.specs.declared.file_head.Head.{Head}
 use Rattle.frame_cut.specs.Cuts.{IsTrace}
@@ -10,12 +9,14 @@ use Rattle.frame_cut.specs.Splice.{splice}
 use Rattle.trace_view.specs.declared.run.Run.{Run}
 use Rattle.trace_view.specs.Runs.{bytes_with_runs}
 use Rattle.edit_overlay.specs.declared.prepared.Prepared.{Prepared}
+use Rattle.edit_overlay.specs.declared.prepared.Prepared.TheVariants.{Runs, Move}
 use Rattle.edit_overlay.specs.declared.store.TraceStore.{TraceStore}
 use Rattle.edit_overlay.specs.Ahead.{traces_ahead, traces_then, traces_with, AreRunsFrom, AreRunsOf, IsReady, IsReadyIfSome}
 use Rattle.edit_overlay.specs.Each.{part_of, ArePutEach, ArePutRuns}
 use Rattle.edit_overlay.specs.Slots.{base_under, bases_of, bytes_under, traces_of}
 use Rattle.edit_overlay.proofs.EachLemmas.{laid-next, so_far_all, so_far_more, ArePutSoFar}
 use Rattle.edit_overlay.proofs.LengthLemmas.{total, total-set}
+use Rattle.edit_overlay.proofs.MoveLemmas.{length-moved, total-moved, AreTraces}
 use Rattle.edit_overlay.proofs.PieceLemmas.{length-splice}
 
 -- each trace has its base
@@ -28,9 +29,10 @@ pub length-with : (bases ts : List (List ℕ)) (place : ℕ) (lists : List (Vec 
 length-with bases ts place [] = refl
 length-with bases ts place (runs ∷ lists) = length-with bases (slice_set ts place (bytes_with_runs (slice_index_or bases place []) runs.items)) (place + 1) lists ∙ length-set ts place (bytes_with_runs (slice_index_or bases place []) runs.items)
 
-pub length-ahead : (s : TraceStore) (prepared : Option Prepared) → length (traces_ahead s prepared) ≡ length (traces_of s)
-length-ahead s None = refl
-length-ahead s (Some prepared) = length-with (bases_of s) (traces_of s) prepared.place prepared.lists.items
+pub length-ahead : (s : TraceStore) (prepared : Option Prepared) → IsReadyIfSome s prepared → length (traces_ahead s prepared) ≡ length (traces_of s)
+length-ahead s None ready = refl
+length-ahead s (Some (Runs runs)) ready = length-with (bases_of s) (traces_of s) runs.place runs.lists.items
+length-ahead s (Some (Move m)) ready = length-moved (traces_of s) m.from m.to (record { from_first = ready.fit.from_first; from_last = ready.fit.from_last; to_first = ready.fit.to_first; to_last = ready.fit.to_last })
 
 pub in_front : (bases ts : List (List ℕ)) (place j : ℕ) (lists : List (Vec Run Global)) → j < place → slice_index_or (traces_with bases ts place lists) j [] ≡ slice_index_or ts j []
 in_front bases ts place j [] h = refl
@@ -72,14 +74,14 @@ with-at h bases ts place j (suc k) (first ∷ lists) runs all same within is e =
 
 pub ready_one : (s : TraceStore) (place at : ℕ) (bytes : List ℕ) (lists : Vec (Vec Run Global) Global) (runs : Vec Run Global) → lists.items ≡ runs ∷ [] → place < length (traces_of s)
     → at + length bytes ≤ length (slice_index_or (traces_of s) place []) → IsTrace s.head (splice (slice_index_or (traces_of s) place []) at (length bytes) bytes)
-    → ArePutRuns (slice_index_or (bases_of s) place []) (slice_index_or (traces_of s) place []) at bytes runs.items → IsReady s (record { place = place; lists = lists })
+    → ArePutRuns (slice_index_or (bases_of s) place []) (slice_index_or (traces_of s) place []) at bytes runs.items → IsReady s (Runs (record { place = place; lists = lists }))
 ready_one s place at bytes lists runs is there inside whole put =
     let ts : List (List ℕ) = traces_of s in
     let t : List ℕ = slice_index_or ts place [] in
     let one : AreRunsOf s.head (bases_of s) place runs.items = record { there = omega (arith, there, length-bases s); fit = put.fit; whole = rw put.shows whole } in
     let then_is : traces_with (bases_of s) ts place lists.items ≡ slice_set ts place (splice t at (length bytes) bytes) = rw is (ap (λ (x : List ℕ). slice_set ts place x) put.shows) in
     record {
-      runs = subst (λ (xs : List (Vec Run Global)). AreRunsFrom s.head (bases_of s) place xs) (sym is) (one, tt);
+      fit = subst (λ (xs : List (Vec Run Global)). AreRunsFrom s.head (bases_of s) place xs) (sym is) (one, tt);
       length = omega (arith, ap total then_is, total-set ts place (splice t at (length bytes) bytes) there, length-splice t at bytes inside);
     }
 
@@ -121,36 +123,58 @@ none_yet old place at size bytes =
 
 module _ (s : TraceStore) (place at size : ℕ) (bytes : List ℕ) (lists : Vec (Vec Run Global) Global) (some : 0 < size) (count : length lists.items ≡ length bytes / size) (room : place + length bytes / size ≤ length (traces_of s))
     (puts : ArePutEach (bases_of s) (traces_of s) place at size bytes 0 lists.items) where
-  pub then_each : length bytes % size ≡ 0 → traces_then s (record { place = place; lists = lists }) ≡ put_each_at (traces_of s) place at size bytes
+  pub then_each : length bytes % size ≡ 0 → traces_then s (Runs (record { place = place; lists = lists })) ≡ put_each_at (traces_of s) place at size bytes
   then_each exact =
       let here : place + 0 ≡ place = omega arith in
       ap (λ (q : ℕ). traces_with (bases_of s) (traces_of s) q lists.items) (sym here)
       ∙ each-traces (bases_of s) (traces_of s) (traces_of s) place at size bytes 0 lists.items (none_yet (traces_of s) place at size bytes) puts some (omega (arith, count)) exact room
 
   pub ready_each : length bytes % size ≡ 0 → ((i : ℕ) → i < length bytes / size → IsTrace s.head (splice (slice_index_or (traces_of s) (place + i) []) at size (part_of bytes size i)))
-      → total (put_each_at (traces_of s) place at size bytes) ≡ total (traces_of s) → IsReady s (record { place = place; lists = lists })
+      → total (put_each_at (traces_of s) place at size bytes) ≡ total (traces_of s) → IsReady s (Runs (record { place = place; lists = lists }))
   ready_each exact whole same =
       let here : place + 0 ≡ place = omega arith in
       record {
-        runs = subst (λ (q : ℕ). AreRunsFrom s.head (bases_of s) q lists.items) here (each-runs s.head (bases_of s) (traces_of s) place at size bytes 0 lists.items puts some (omega (arith, count)) (omega (arith, room, length-bases s)) whole);
+        fit = subst (λ (q : ℕ). AreRunsFrom s.head (bases_of s) q lists.items) here (each-runs s.head (bases_of s) (traces_of s) place at size bytes 0 lists.items puts some (omega (arith, count)) (omega (arith, room, length-bases s)) whole);
         length = ap total (then_each exact) ∙ same;
       }
 
+-- ---- a move
+
+pub ready_move : (s : TraceStore) (a b : ℕ) → AreTraces (traces_of s) a b → 1 ≤ s.order.spare → IsReady s (Move (record { from = a; to = b }))
+ready_move s a b there room = record {
+  fit = record { from_first = there.from_first; from_last = there.from_last; to_first = there.to_first; to_last = there.to_last; room = room };
+  length = total-moved (traces_of s) a b there;
+}
+
 -- ---- the same traces in another store
 
--- a store has the same traces over the same bases
+-- a store has the same traces over the same bases, and no less room in its order
 pub record IsSame (s t : TraceStore) : Type 0 where
   pub head : t.head ≡ s.head
   pub bases : bases_of t ≡ bases_of s
   pub traces : traces_of t ≡ traces_of s
+  pub room : s.order.spare ≤ t.order.spare
 
 pub ahead_kept : (s t : TraceStore) (prepared : Option Prepared) → IsSame s t → traces_ahead t prepared ≡ traces_ahead s prepared
 ahead_kept s t None same = same.traces
-ahead_kept s t (Some prepared) same = rw (same.bases, same.traces) refl
+ahead_kept s t (Some (Runs runs)) same = rw (same.bases, same.traces) refl
+ahead_kept s t (Some (Move m)) same = rw same.traces refl
 
 pub ready_kept : (s t : TraceStore) (prepared : Option Prepared) → IsSame s t → IsReadyIfSome s prepared → IsReadyIfSome t prepared
 ready_kept s t None same ready = tt
-ready_kept s t (Some prepared) same ready = record {
-  runs = rw (same.head, same.bases) ready.runs;
+ready_kept s t (Some (Runs runs)) same ready = record {
+  fit = rw (same.head, same.bases) ready.fit;
   length = rw (same.bases, same.traces) ready.length;
 }
+ready_kept s t (Some (Move m)) same ready =
+    let count : length (traces_of t) ≡ length (traces_of s) = ap (λ (ts : List (List ℕ)). length ts) same.traces in
+    record {
+      fit = record {
+        from_first = ready.fit.from_first;
+        from_last = omega (arith, ready.fit.from_last, count);
+        to_first = ready.fit.to_first;
+        to_last = omega (arith, ready.fit.to_last, count);
+        room = omega (arith, ready.fit.room, same.room);
+      };
+      length = rw same.traces ready.length;
+    }

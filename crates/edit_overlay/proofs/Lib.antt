@@ -3,6 +3,7 @@ pub mod EachLemmas
 pub mod FaultLemmas
 pub mod HeldLemmas
 pub mod LengthLemmas
+pub mod MoveLemmas
 pub mod OrderLemmas
 pub mod PieceLemmas
 pub mod SavingLemmas

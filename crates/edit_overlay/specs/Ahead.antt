@@ -1,12 +1,14 @@
--- The traces of a store as they would be with prepared runs.
-use Rattle.std.specs.Prelude.{ℕ, ◌≡◌, ◌+◌, ◌<◌, List, [], ◌∷◌, length, slice_index_or, slice_set, Vec, Option, Some, None}
+-- The traces of a store as they would be with the edit that is prepared.
+use Rattle.std.specs.Prelude.{ℕ, ◌≡◌, ◌+◌, ◌-◌, ◌<◌, ◌≤◌, List, [], ◌∷◌, length, slice_index_or, slice_set, Vec, Option, Some, None}
 use Rattle.std.specs.Global.{Global}
-use Rattle.std.specs.List.{concat}
+use Rattle.std.specs.List.{concat, insert, remove}
 use Rattle.frame_cut.specs.declared.file_head.Head.{Head}
 use Rattle.frame_cut.specs.Cuts.{IsTrace}
 use Rattle.trace_view.specs.declared.run.Run.{Run}
 use Rattle.trace_view.specs.Runs.{Fit, bytes_with_runs}
 use Rattle.edit_overlay.specs.declared.prepared.Prepared.{Prepared}
+use Rattle.edit_overlay.specs.declared.prepared.Prepared.TheVariants.{Runs, Move}
+use Rattle.edit_overlay.specs.declared.prepared.TraceMove.{TraceMove}
 use Rattle.edit_overlay.specs.declared.store.TraceStore.{TraceStore}
 use Rattle.edit_overlay.specs.Slots.{bases_of, traces_of}
 
@@ -27,13 +29,31 @@ abbrev pub AreRunsFrom : Head → (bases : List (List ℕ)) → ℕ → List (Ve
 AreRunsFrom h bases place [] = Unit {0}
 AreRunsFrom h bases place (runs ∷ lists) = AreRunsOf h bases place runs.items × AreRunsFrom h bases (place + 1) lists
 
+-- the traces with trace a taken out, and put in again so that it is trace b
+abbrev pub traces_moved : List (List ℕ) → ℕ → ℕ → List (List ℕ)
+traces_moved traces a b = insert (remove traces (a - 1)) (b - 1) (slice_index_or traces (a - 1) [])
+
+-- the store has both traces of the move, and its order has room for it
+pub record MayMove (s : TraceStore) (m : TraceMove) : Type 0 where
+  pub from_first : 1 ≤ m.from
+  pub from_last : m.from ≤ length (traces_of s)
+  pub to_first : 1 ≤ m.to
+  pub to_last : m.to ≤ length (traces_of s)
+  pub room : 1 ≤ s.order.spare
+
 -- the traces of the store as they would be
 abbrev pub traces_then : TraceStore → Prepared → List (List ℕ)
-traces_then s prepared = traces_with (bases_of s) (traces_of s) prepared.place prepared.lists.items
+traces_then s (Runs runs) = traces_with (bases_of s) (traces_of s) runs.place runs.lists.items
+traces_then s (Move m) = traces_moved (traces_of s) m.from m.to
 
--- the prepared runs fit the traces of the store, which stay as long as they are
+-- what is prepared fits the store
+abbrev pub IsFit : TraceStore → Prepared → Type 0
+IsFit s (Runs runs) = AreRunsFrom s.head (bases_of s) runs.place runs.lists.items
+IsFit s (Move m) = MayMove s m
+
+-- what is prepared fits the store, and all its traces together stay as long as they are
 pub record IsReady (s : TraceStore) (prepared : Prepared) : Type 0 where
-  pub runs : AreRunsFrom s.head (bases_of s) prepared.place prepared.lists.items
+  pub fit : IsFit s prepared
   pub length : length (concat (traces_then s prepared)) ≡ length (concat (traces_of s))
 
 -- the traces of the store as they would be, where something may be prepared or nothing

@@ -1,5 +1,5 @@
 -- What an overlay shows: a volume, what it would be with a prepared edit, and how often its traces were looked at.
-use Rattle.std.specs.Prelude.{ℕ, ◌≡◌, ◌+◌, ◌-◌, ◌^◌, nat_lt, if◌then◌else◌}
+use Rattle.std.specs.Prelude.{ℕ, ◌≡◌, ◌+◌, ◌-◌, ◌≤◌, ◌^◌, nat_lt, if◌then◌else◌}
 use Rattle.frame_cut.specs.Traces.{trace_at}
 use Rattle.frame_cut.specs.Volume.{Volume}
 use Rattle.trace_view.specs.declared.view.TraceView.{TraceView}
@@ -15,6 +15,10 @@ pub record CountedVolume : Type 0 where
 -- the count of looks after one more; it stays at `u64::MAX` once there
 abbrev pub one_more : ℕ → ℕ
 one_more n = if nat_lt n (2 ^ 64 - 1) then n + 1 else n
+
+-- a count of looks is not less than it was, and so many more at most
+abbrev pub RisesAtMost : ℕ → ℕ → ℕ → Type 0
+RisesAtMost old new n = (old ≤ new) × (new ≤ old + n)
 
 -- the same volume after one more look
 abbrev pub with_one_look : CountedVolume → CountedVolume

@@ -20,7 +20,7 @@ volume_with text bin s = record {
   trailer = blocks_of s.head.trailer (drop (length s.loaded.items - 3200 * s.head.trailer) s.loaded.items);
 }
 
--- the same as it would be with prepared runs
+-- the same as it would be with the edit that is prepared
 abbrev pub volume_ahead : List ℕ → List ℕ → TraceStore → Option Prepared → Volume
 volume_ahead text bin s prepared = record (volume_with text bin s) { traces = traces_ahead s prepared }
 

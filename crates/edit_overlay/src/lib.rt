@@ -13,13 +13,15 @@
 //!
 //! `load` takes memory for the file's bytes, and like `from_bytes` for a slot for each trace; `put`
 //! and `put_each`, and what prepares them, take it for the runs of the traces that they change,
-//! `insert` for one slot and for room in the order, `move_to` for room in the order. Each of them
-//! may be refused for want of memory, and then nothing is changed. No other call takes any.
+//! `insert` for one slot and for room in the order, `move_to` and `prepare_move` for room in the
+//! order. Each of them may be refused for want of memory, and then nothing is changed. No other
+//! call takes any.
 //!
-//! A put has two parts for a caller that has to show its outcome first: `prepare_put` and
-//! `prepare_put_each` take all the memory and change nothing, `look_prepared` shows a trace as it
-//! would be, and `commit`, which cannot fail, makes the edit; `discard` drops it. An overlay holds
-//! one such edit at a time, and any other edit drops it.
+//! A put or a move has two parts for a caller that has to show its outcome first, or to take memory
+//! elsewhere too: `prepare_put`, `prepare_put_each` and `prepare_move` take all the memory and
+//! change nothing, `look_prepared` shows a trace as it would be, and `commit`, which cannot fail,
+//! makes the edit; `discard` drops it. An overlay holds one such edit at a time, and any other edit
+//! drops it.
 //!
 //! `look` and `look_prepared` show a trace in the pieces in which it is held, and are counted:
 //! contracts can say how often traces were read.

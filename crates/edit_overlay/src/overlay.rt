@@ -321,12 +321,30 @@ impl Overlay {
         Ok(())
     }
 
+    /// Prepares a `move_to`, which takes trace a out and puts it in again so that it is trace b,
+    /// both counted from 1; in place of what was prepared before. The volume stays as it is. Takes
+    /// memory for room in the order; may be refused for want of memory alone, and then nothing is
+    /// changed.
+    pub fn prepare_move(&mut self, alloc: Global, a: u32, b: u32) -> Result<(), OutOfMemory>
+        requires from_first { 1 ≤ a }
+        requires from_last { a ≤ count_of self.old.volume }
+        requires to_first { 1 ≤ b }
+        requires to_last { b ≤ count_of self.old.volume }
+        ensures ok { OnOk result
+            (self.new ≡ with_prepared self.old (with_moved self.old.volume a b)) }
+        ensures err { OnErr result (self.new ≡ self.old) }
+    {
+        let prepared = self.store.prepare_move(alloc, a, b)?;
+        self.prepared = Some(prepared);
+        Ok(())
+    }
+
     /// Makes the edit that is prepared, if one is. Takes no memory.
     pub fn commit(&mut self)
         ensures { self.new ≡ with_volume self.old self.old.prepared }
     {
         if let Some(prepared) = self.prepared.take() {
-            self.store.lay(prepared);
+            self.store.commit(prepared);
         }
     }
 
@@ -432,8 +450,8 @@ impl Overlay {
             (self.new ≡ with_volume self.old (with_moved self.old.volume a b)) }
         ensures err { OnErr result (self.new ≡ self.old) }
     {
-        self.store.move_to(alloc, a, b)?;
-        self.prepared = None;
+        self.prepare_move(alloc, a, b)?;
+        self.commit();
         Ok(())
     }
 

@@ -10,10 +10,10 @@ ghost use Rattle.trace_view.specs.Shown.{bytes_of, head_of};
 ghost use Rattle.edit_overlay.specs.Slots.{base_of, bases_of, traces_of, IsInside, IsStore};
 ghost use Rattle.frame_cut.specs.Parts.{put_each_at};
 ghost use Rattle.edit_overlay.specs.Each.{part_of, ArePutRuns, ArePutEach};
-ghost use Rattle.edit_overlay.specs.Ahead.{traces_then, AreRunsOf, IsReady};
+ghost use Rattle.edit_overlay.specs.Ahead.{traces_moved, traces_then, traces_with, AreRunsFrom, AreRunsOf, IsReady};
 
 use crate::out_of_memory::OutOfMemory;
-use crate::prepared::Prepared;
+use crate::prepared::{Prepared, TraceMove, TraceRuns};
 use crate::slot::{Base, Slot};
 use frame_cut::{Extent, Head};
 use slab::Slab;
@@ -117,7 +117,7 @@ impl TraceStore {
         }
     }
 
-    // Trace p as it would be with the prepared runs.
+    // Trace p as it would be with the edit that is prepared.
     pub fn view_then<'a>(&'a self, p: u32, prepared: &'a Prepared) -> TraceView<'a>
         requires store { IsStore self.now }
         requires ready { IsReady self.now prepared.now }
@@ -126,6 +126,23 @@ impl TraceStore {
         ensures head { head_of result ≡ self.now.head }
         ensures bytes { bytes_of result ≡ slice_index_or (traces_then self.now prepared.now) (p - 1)
             [] }
+    {
+        match prepared {
+            Prepared::Runs(runs) => self.view_laid(p, runs),
+            Prepared::Move(places) => self.view(places.origin(p)),
+        }
+    }
+
+    // Trace p as it would be with the prepared runs.
+    fn view_laid<'a>(&'a self, p: u32, prepared: &'a TraceRuns) -> TraceView<'a>
+        requires store { IsStore self.now }
+        requires runs { AreRunsFrom self.now.head (bases_of self.now) prepared.now.place
+            prepared.now.lists.items }
+        requires first { 1 ≤ p }
+        requires last { p ≤ length (traces_of self.now) }
+        ensures head { head_of result ≡ self.now.head }
+        ensures bytes { bytes_of result ≡ slice_index_or (traces_with (bases_of self.now)
+            (traces_of self.now) prepared.now.place prepared.now.lists.items) (p - 1) [] }
     {
         let at = p - 1;
         if at < prepared.place {
@@ -163,15 +180,15 @@ impl TraceStore {
     {
         let place = p - 1;
         if bytes.is_empty() {
-            return Ok(Prepared {
+            return Ok(Prepared::Runs(TraceRuns {
                 place,
                 lists: Vec::new(alloc),
-            });
+            }));
         }
         let runs = self.runs_with(alloc, p, at, bytes)?;
         let mut lists = Vec::with_capacity(alloc, 1)?;
         lists.push(runs)?;
-        Ok(Prepared { place, lists })
+        Ok(Prepared::Runs(TraceRuns { place, lists }))
     }
 
     // The runs that lay the bytes, `size` of them over each trace, over the traces from `a` on, in
@@ -199,20 +216,59 @@ impl TraceStore {
             ≡ put_each_at (traces_of self.now) (a - 1) at size bytes.now) }
     {
         let lists = self.runs_for_each(alloc, a, at, size, bytes)?;
-        Ok(Prepared {
+        Ok(Prepared::Runs(TraceRuns {
             place: a - 1,
             lists,
-        })
+        }))
     }
 
-    // Gives the traces the prepared runs.
-    pub fn lay(&mut self, prepared: Prepared)
+    // The move of trace a to where it is trace b, and room for it in the order. Where memory is
+    // refused, nothing is changed.
+    pub fn prepare_move(&mut self, alloc: Global, a: u32, b: u32) -> Result<Prepared, OutOfMemory>
+        requires store { IsStore self.old }
+        requires from_first { 1 ≤ a }
+        requires from_last { a ≤ length (traces_of self.old) }
+        requires to_first { 1 ≤ b }
+        requires to_last { b ≤ length (traces_of self.old) }
+        ensures store { IsStore self.new }
+        ensures head { self.new.head ≡ self.old.head }
+        ensures loaded { self.new.loaded ≡ self.old.loaded }
+        ensures bases { bases_of self.new ≡ bases_of self.old }
+        ensures traces { traces_of self.new ≡ traces_of self.old }
+        ensures room { self.old.order.spare ≤ self.new.order.spare }
+        ensures ready { IfOk result (IsReady self.new) }
+        ensures moved { IfOk result (λ prepared. traces_then self.new prepared
+            ≡ traces_moved (traces_of self.old) a b) }
+    {
+        self.order.reserve_one(alloc, 0)?;
+        Ok(Prepared::Move(TraceMove { from: a, to: b }))
+    }
+
+    // Makes the edit that is prepared.
+    pub fn commit(&mut self, prepared: Prepared)
         requires store { IsStore self.old }
         requires ready { IsReady self.old prepared }
         ensures store { IsStore self.new }
         ensures head { self.new.head ≡ self.old.head }
         ensures loaded { self.new.loaded ≡ self.old.loaded }
         ensures traces { traces_of self.new ≡ traces_then self.old prepared }
+    {
+        match prepared {
+            Prepared::Runs(runs) => self.lay(runs),
+            Prepared::Move(places) => self.move_to(places.from, places.to),
+        }
+    }
+
+    // Gives the traces the prepared runs.
+    fn lay(&mut self, prepared: TraceRuns)
+        requires store { IsStore self.old }
+        requires runs { AreRunsFrom self.old.head (bases_of self.old) prepared.place
+            prepared.lists.items }
+        ensures store { IsStore self.new }
+        ensures head { self.new.head ≡ self.old.head }
+        ensures loaded { self.new.loaded ≡ self.old.loaded }
+        ensures traces { traces_of self.new ≡ traces_with (bases_of self.old) (traces_of self.old)
+            prepared.place prepared.lists.items }
     {
         let mut done = prepared.place;
         for runs in prepared.lists {
@@ -310,6 +366,7 @@ impl TraceStore {
             (base_of self.old.loaded.items base)) }
         ensures err { OnErr result (traces_of self.new ≡ traces_of self.old) }
         ensures bases { OnErr result (bases_of self.new ≡ bases_of self.old) }
+        ensures room { OnErr result (self.old.order.spare ≤ self.new.order.spare) }
     {
         self.slots.reserve(1)?;
         let id = self.slots.insert_reserved(Slot {
@@ -341,26 +398,20 @@ impl TraceStore {
         let _ = self.slots.remove(id);
     }
 
-    // Takes trace a out, and puts it in again so that it is trace b. Where memory is refused,
-    // nothing is changed.
-    pub fn move_to(&mut self, alloc: Global, a: u32, b: u32) -> Result<(), OutOfMemory>
+    // Takes trace a out, and puts it in again so that it is trace b.
+    fn move_to(&mut self, a: u32, b: u32)
         requires store { IsStore self.old }
         requires from_first { 1 ≤ a }
         requires from_last { a ≤ length (traces_of self.old) }
         requires to_first { 1 ≤ b }
         requires to_last { b ≤ length (traces_of self.old) }
+        requires room { 1 ≤ self.old.order.spare }
         ensures store { IsStore self.new }
         ensures head { self.new.head ≡ self.old.head }
         ensures loaded { self.new.loaded ≡ self.old.loaded }
-        ensures ok { OnOk result (traces_of self.new ≡
-            insert (remove (traces_of self.old) (a - 1)) (b - 1)
-            (slice_index_or (traces_of self.old) (a - 1) [])) }
-        ensures err { OnErr result (traces_of self.new ≡ traces_of self.old) }
-        ensures bases { OnErr result (bases_of self.new ≡ bases_of self.old) }
+        ensures traces { traces_of self.new ≡ traces_moved (traces_of self.old) a b }
     {
-        self.order.reserve_one(alloc, 0)?;
         self.order.move_to(a, b);
-        Ok(())
     }
 
     // Makes the base the whole of trace p, without runs.

@@ -175,6 +175,15 @@ fn ends_ahead(volume: &mut Overlay, p: u32, end: &[u8]) -> bool {
     *part(&room, 240, 244) == *end
 }
 
+fn prepare_move(alloc: Global, volume: &mut Overlay, a: u32, b: u32) -> Result<(), Fail> {
+    let count = volume.count();
+    if a == 0 || a > count || b == 0 || b > count {
+        return Err(Fail::from("no such trace"));
+    }
+    volume.prepare_move(alloc, a, b)?;
+    Ok(())
+}
+
 fn insert(alloc: Global, volume: &mut Overlay, p: u32, bytes: Vec<u8>) -> Result<(), Fail> {
     if volume.count() > 10_000 || volume.length() > 10_000_000 || bytes.len() > 10_000 {
         return Err(Fail::from("too much"));
@@ -372,6 +381,40 @@ fn prepares_and_commits(rt: HostRuntime) -> Result<(), Fail> {
         alloc,
         &volume,
         &[part(file.as_slice(), 0, 4084), &[3, 4, 0, 9]],
+    )
+}
+
+// The traces stay where they are, and are shown where they would be, until the move is made.
+#[test]
+fn prepares_and_commits_a_move(rt: HostRuntime) -> Result<(), Fail> {
+    let alloc = rt.alloc();
+    let file = small_file(alloc)?;
+    let last = trace(alloc, 2, 0x11)?;
+    let mut volume = volume(alloc)?;
+    insert(alloc, &mut volume, 3, trace(alloc, 2, 0x11)?)?;
+    prepare_move(alloc, &mut volume, 3, 1)?;
+    assert!(rt; ends_ahead(&mut volume, 1, &[0x11; 4]));
+    assert!(rt; ends_ahead(&mut volume, 2, &[0, 7, 0, 0]));
+    assert!(rt; ends_ahead(&mut volume, 3, &[0, 0, 0, 9]));
+    volume.discard();
+    assert!(rt; ends_ahead(&mut volume, 1, &[0, 7, 0, 0]));
+    expect_saved(&rt, alloc, &volume, &[file.as_slice(), last.as_slice()])?;
+
+    prepare_move(alloc, &mut volume, 1, 2)?;
+    assert!(rt; ends_ahead(&mut volume, 1, &[0, 0, 0, 9]));
+    assert!(rt; ends_ahead(&mut volume, 2, &[0, 7, 0, 0]));
+    assert!(rt; ends_ahead(&mut volume, 3, &[0x11; 4]));
+    expect_saved(&rt, alloc, &volume, &[file.as_slice(), last.as_slice()])?;
+    volume.commit();
+    volume.commit();
+    let headers = part(file.as_slice(), 0, 3600);
+    let first = part(file.as_slice(), 3600, 3844);
+    let second = part(file.as_slice(), 3844, 4088);
+    expect_saved(
+        &rt,
+        alloc,
+        &volume,
+        &[headers, second, first, last.as_slice()],
     )
 }
 

@@ -1,7 +1,7 @@
 -- The geometry names stay bound to places where they may stand.
-use Rattle.std.proofs.Common.{◌≡◌, ◌∙◌, sym, subst, arith, ℕ, Bool, true, false, List, [], ◌∷◌, refl}
+use Rattle.std.proofs.Common.{◌≡◌, ◌∙◌, ap, sym, subst, arith, ℕ, Bool, true, false, List, [], ◌∷◌, refl}
 use Rattle.std.proofs.lemmas.Bool.Decides.{nat_tests}
-use Rattle.std.specs.Prelude.{bytes_eq, not, ◌&&◌, ◌||◌, Option, Some, None, is_some, nat_lt, if◌then◌else◌}
+use Rattle.std.specs.Prelude.{bytes_eq, unwrap_or, not, ◌&&◌, ◌||◌, Option, Some, None, is_some, nat_lt, if◌then◌else◌}
 use Rattle.std.specs.Option.{option_map_or}
 use Rattle.std.specs.List.{list_all}
 use Rattle.std.specs.Map.{remove_entry}
@@ -41,6 +41,18 @@ place-beside (e ∷ es) n p q h = go (bytes_eq n e.0) refl (bytes_eq q e.0) refl
 -- a name that is bound leaves where another stands
 pub place-bound : (es : Pairs) (n : List ℕ) (p : Place) (q : List ℕ) → bytes_eq q n ≡ false → place_of (bound es n p) q ≡ place_of es q
 place-bound es n p q h = rw (← insert_entry-bound es n p) (place-beside es n p q h)
+
+back : (es : Pairs) (n : List ℕ) (p was : Place) → place_of es n ≡ Some was → insert_entry bytes_eq (insert_entry bytes_eq es n p) n was ≡ es
+back [] n p was h = absurd cc
+back (e ∷ es) n p was h = go (bytes_eq n e.0) refl (back es n p was) h
+  where
+    go : (b : Bool) → bytes_eq n e.0 ≡ b → (place_of es n ≡ Some was → insert_entry bytes_eq (insert_entry bytes_eq es n p) n was ≡ es) → place_of (e ∷ es) n ≡ Some was → insert_entry bytes_eq (insert_entry bytes_eq (e ∷ es) n p) n was ≡ e ∷ es
+    go true g rest h = let is : Some e.1 ≡ Some was = rw g at h in rw (g, g) (ap (λ (x : Place). (e.0, x) ∷ es) (sym (ap (λ (o : Option Place). unwrap_or o was) is)))
+    go false g rest h = rw (g, g) (ap (λ xs. e ∷ xs) (rest (rw g at h)))
+
+-- a name that gets another place, and then the one that it had, is bound as it was
+pub bound-back : (es : Pairs) (n : List ℕ) (p was : Place) → place_of es n ≡ Some was → bound (bound es n p) n was ≡ es
+bound-back es n p was h = rw (← insert_entry-bound (bound es n p) n was, ← insert_entry-bound es n p) (back es n p was h)
 
 -- and so does one that is taken out
 pub place-removed : (es : Pairs) (n q : List ℕ) → bytes_eq q n ≡ false → place_of (remove_entry (bytes_eq n) es) q ≡ place_of es q
@@ -92,6 +104,17 @@ HasGeometry-bound extensions pairs n p free has = record { stands = λ name g. r
         let free_name : bind_fault extensions pairs name p ≡ None = subst (λ (x : List ℕ). bind_fault extensions pairs x p ≡ None) (sym e) free in
         let found : place_of (insert_entry bytes_eq pairs n p) name ≡ Some p = subst (λ (x : List ℕ). place_of (insert_entry bytes_eq pairs n p) x ≡ Some p) (sym e) (place-inserted pairs n p) in
         rw found (place-bindable extensions pairs name p g free_name)
+    go name g false h = rw (place-beside pairs n p name h) (has.stands name g)
+
+pub HasGeometry-set : (extensions : ℕ) (pairs : Pairs) (n : List ℕ) (p : Place) → is_geometry_place extensions n p ≡ true → HasGeometry extensions pairs → HasGeometry extensions (bound pairs n p)
+HasGeometry-set extensions pairs n p may has = record { stands = λ name g. rw (← insert_entry-bound pairs n p) (go name g (bytes_eq name n) refl) }
+  where
+    go : (name : List ℕ) → is_geometry name ≡ true → (b : Bool) → bytes_eq name n ≡ b → option_map_or (is_geometry_place extensions name) (place_of (insert_entry bytes_eq pairs n p) name) false ≡ true
+    go name g true h =
+        let e : name ≡ n = (bytes_eq-Decides name n).0 h in
+        let there : is_geometry_place extensions name p ≡ true = subst (λ (x : List ℕ). is_geometry_place extensions x p ≡ true) (sym e) may in
+        let found : place_of (insert_entry bytes_eq pairs n p) name ≡ Some p = subst (λ (x : List ℕ). place_of (insert_entry bytes_eq pairs n p) x ≡ Some p) (sym e) (place-inserted pairs n p) in
+        rw found there
     go name g false h = rw (place-beside pairs n p name h) (has.stands name g)
 
 pub HasGeometry-unbound : (extensions : ℕ) (pairs : Pairs) (n : List ℕ) → is_geometry n ≡ false → HasGeometry extensions pairs → HasGeometry extensions (unbound pairs n)

@@ -2,7 +2,7 @@
 use Rattle.std.proofs.Common.{◌≡◌, ◌∙◌, ap, ℕ, Bool, true, false, List, [], ◌∷◌, map, refl}
 use Rattle.std.specs.Prelude.{bytes_eq}
 use Rattle.indexmap.specs.IndexMap.{insert_entry}
-use Rattle.std.specs.Map.{lookup, remove_entry}
+use Rattle.std.specs.Map.{lookup, remove_entry, set_value}
 use Rattle.field_map.specs.declared.place.Place.{Place}
 use Rattle.field_map.specs.Pairs.{Pairs, bound, is_bound}
 
@@ -19,6 +19,14 @@ module _ {K B V : Type 0} (f : K → B) (test : K → Bool) (read : B → Bool) 
   remove_entry-shown (e ∷ es) = go (read (f e.0)) refl (remove_entry-shown es)
     where
       go : (b : Bool) → read (f e.0) ≡ b → shown (remove_entry test es) ≡ remove_entry read (shown es) → shown (remove_entry test (e ∷ es)) ≡ remove_entry read (shown (e ∷ es))
+      go true h rest = rw (same e.0, h) refl
+      go false h rest = rw (same e.0, h) (ap (λ xs. (f e.0, e.1) ∷ xs) rest)
+
+  pub set_value-shown : (v : V) (es : List (K × V)) → shown (set_value test es v) ≡ set_value read (shown es) v
+  set_value-shown v [] = refl
+  set_value-shown v (e ∷ es) = go (read (f e.0)) refl (set_value-shown v es)
+    where
+      go : (b : Bool) → read (f e.0) ≡ b → shown (set_value test es v) ≡ set_value read (shown es) v → shown (set_value test (e ∷ es) v) ≡ set_value read (shown (e ∷ es)) v
       go true h rest = rw (same e.0, h) refl
       go false h rest = rw (same e.0, h) (ap (λ xs. (f e.0, e.1) ∷ xs) rest)
 

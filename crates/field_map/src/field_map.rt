@@ -1,6 +1,6 @@
-ghost use Rattle.std.specs.Prelude.{◌≡◌, ◌⊎◌, Some, None, IfOk, IfErr, OnOk, OnErr, MatchResult};
+ghost use Rattle.std.specs.Prelude.{◌≡◌, ◌⊎◌, true, Some, None, IfOk, IfErr, OnOk, OnErr, MatchResult};
 ghost use Rattle.field_map.specs.Pairs.{shown, bound, unbound, place_of, is_bound};
-ghost use Rattle.field_map.specs.Binding.{geometry_at_load, HasGeometry, bind_fault, unbind_fault, further_names, is_full};
+ghost use Rattle.field_map.specs.Binding.{geometry_at_load, HasGeometry, is_geometry, is_geometry_place, bind_fault, unbind_fault, further_names, is_full};
 ghost use Rattle.field_map.specs.declared.map_fault.MapFault.TheVariants.{OutOfMemory as no_memory};
 
 use crate::entries::Entries;
@@ -78,6 +78,16 @@ impl FieldMap {
         Entries::new(self.map.iter())
     }
 
+    /// Gives a geometry name another place where it may stand. Takes no memory.
+    pub fn set_geometry(&mut self, name: &str, place: Place)
+        requires name { is_geometry name.now ≡ true }
+        requires place { is_geometry_place self.old.extensions name.now place ≡ true }
+        ensures extensions { self.new.extensions ≡ self.old.extensions }
+        ensures pairs { self.new.pairs ≡ bound self.old.pairs name.now place }
+    {
+        set_place(&mut self.map, name, place);
+    }
+
     // Whether the name is bound.
     fn is_bound(&self, name: &str) -> bool
         ensures { result ≡ is_bound self.now.pairs name.now }
@@ -126,8 +136,9 @@ impl FieldMap {
         Ok(())
     }
 
-    // The first reason not to bind the name to the place.
-    fn binding_refusal(&self, name: &str, place: Place) -> Option<MapFault>
+    /// The first reason not to bind the name to the place, want of memory aside: M01 to M04 and
+    /// M07, as `bind` has them. Takes no memory.
+    pub fn binding_refusal(&self, name: &str, place: Place) -> Option<MapFault>
         ensures { result ≡ bind_fault self.now.extensions self.now.pairs name.now place }
     {
         if !is_name(name) {
@@ -180,6 +191,16 @@ fn put(
     let key = String::from_str(alloc, name)?;
     map.insert(key, place)?;
     Ok(())
+}
+
+// Gives a bound name another place.
+fn set_place(map: &mut IndexMap<String, Place>, name: &str, place: Place)
+    requires { is_bound (shown map.old.entries) name.now ≡ true }
+    ensures { shown map.new.entries ≡ bound (shown map.old.entries) name.now place }
+{
+    if let Some(held) = map.get_mut(name) {
+        *held = place;
+    }
 }
 
 fn take_out(map: &mut IndexMap<String, Place>, name: &str)

@@ -22,6 +22,7 @@ pub use crate::map_fault::MapFault;
 pub use crate::names::{bin_field, standard};
 pub use crate::out_of_memory::OutOfMemory;
 pub use crate::place::{Place, TRACE_HEADER_BYTES};
+pub use crate::rules::is_geometry;
 
 #[cfg(test)]
 mod tests;

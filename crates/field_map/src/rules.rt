@@ -6,8 +6,9 @@ ghost use Rattle.field_map.specs.Binding.{begins_with_letter as begins_with_lett
 use crate::place::{Place, TRACE_HEADER_BYTES};
 use num_order::Kind;
 
-// One of the six names that are always bound.
-pub(crate) fn is_geometry(name: &str) -> bool
+/// Whether the name is one of the six geometry names, which are always bound: `inline`,
+/// `crossline`, `offset`, `x`, `y` and `scalar`. Takes no memory.
+pub fn is_geometry(name: &str) -> bool
     ensures { result ≡ is_geometry_name name.now }
 {
     matches!(

@@ -16,7 +16,9 @@ pub(crate) fn is_pair_swapped(bin: &[u8]) -> bool
     bin[3297 - 3201..3301 - 3201] == [2, 1, 4, 3]
 }
 
-pub(crate) fn order_of(bin: &[u8]) -> Order
+/// The order of bytes in a file with this binary header: little-endian where the byte-order
+/// constant, bytes 3297-3300 of the file, says so. Takes no memory.
+pub fn order_of(bin: &[u8]) -> Order
     requires { length bin.now ≡ BINARY_HEADER_BYTES }
     ensures { result ≡ order_in bin.now }
 {

@@ -26,6 +26,7 @@ mod sizes;
 mod text_headers;
 mod walk;
 
+pub use crate::binary_header::order_of;
 pub use crate::cutting::cut;
 pub use crate::extent::Extent;
 pub use crate::file_cut::Cut;

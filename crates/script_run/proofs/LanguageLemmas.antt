@@ -7,8 +7,9 @@ use Rattle.script_run.specs.declared.command.Command.{Command}
 use Rattle.script_run.specs.declared.line_fault.LineFault.{LineFault}
 use Rattle.script_run.specs.declared.line_fault.LineFault.TheVariants.{NotText}
 use Rattle.script_run.specs.Words.{words_of, behind_word, is_note}
-use Rattle.script_run.specs.Commands.{Reader, commands, command_of, read_by, some_command, words_by, line_result}
-use Rattle.script_run.specs.ReportCommands.{AnyCommand, Known, as_any_command, all_commands, further_commands, any_command_of, any_line_result, CommandsStay}
+use Rattle.script_run.specs.Readers.{Reader}
+use Rattle.script_run.specs.Commands.{commands, command_of, read_by, some_command, words_by, line_result}
+use Rattle.script_run.specs.NumberCommands.{AnyCommand, Known, as_any_command, all_commands, further_commands, any_command_of, any_line_result, CommandsStay}
 
 -- what is found in a list is found where more follows
 found_here : {K X : Type 0} (test : K → Bool) (x : K × X) (xs ys : List (K × X)) (v : X) → (lookup test xs ≡ Some v → lookup test (xs ++ ys) ≡ Some v) → (b : Bool) → test x.0 ≡ b

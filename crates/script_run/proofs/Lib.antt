@@ -5,8 +5,9 @@ pub mod NumberLemmas
 pub mod PlaceLemmas
 pub mod ParseLemmas
 pub mod LineLemmas
+pub mod LanguageLemmas
 pub mod TextLemmas
+pub mod OutLemmas
 pub mod ScriptLemmas
 pub mod RunLemmas
 pub mod EndLemmas
-pub mod LanguageLemmas

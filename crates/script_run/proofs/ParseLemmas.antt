@@ -9,7 +9,8 @@ use Rattle.script_run.specs.declared.command.Command.{Command}
 use Rattle.script_run.specs.declared.command.Command.TheVariants.{Apply, Ask}
 use Rattle.script_run.specs.declared.line_fault.LineFault.{LineFault}
 use Rattle.script_run.specs.declared.line_fault.LineFault.TheVariants.{Number, OutOfMemory}
-use Rattle.script_run.specs.Commands.{field_of, read_set, read_get, read_bin, read_getbin, read_text, read_map, read_unmap, IsFieldRead, IsName, HoldsMemory, CommandTakesMemory, IsRead}
+use Rattle.script_run.specs.Readers.{field_of}
+use Rattle.script_run.specs.Commands.{read_set, read_get, read_bin, read_getbin, read_text, read_map, read_unmap, IsFieldRead, IsName, HoldsMemory, CommandTakesMemory, IsRead}
 use Rattle.script_run.specs.Numbers.{position_of, number_of, place_of_word}
 use Rattle.script_run.specs.Words.{text_behind_word}
 

@@ -1,20 +1,17 @@
 -- How a run goes on by one line.
-use Rattle.std.proofs.Common.{◌≡◌, ℕ, suc, ◌+◌, ◌≤◌, List, [], ◌∷◌, ◌++◌, length, take, Bool, true, false, cond, Option, Some, None, Result, Ok, Err, refl, ap, ap₂, sym, subst, ◌∙◌, arith, append_assoc, append-nil, length-append}
-use Rattle.std.specs.Prelude.{IsTrue, MatchResult}
-use Rattle.std.specs.Result.{IsErrAnd}
+use Rattle.std.proofs.Common.{◌≡◌, ℕ, suc, ◌+◌, ◌≤◌, List, [], ◌∷◌, ◌++◌, length, take, Bool, true, false, cond, refl, ap, ap₂, sym, subst, ◌∙◌, arith, append_assoc, append-nil, length-append}
+use Rattle.std.specs.Prelude.{IsTrue}
 use Rattle.std.specs.List.{onto_first}
 use Rattle.std.specs.Io.KnownBytes.{Appends}
-use Rattle.std.proofs.Math.Seq.{take-add}
-use Rattle.std.proofs.lemmas.List.{take_at, drop_at, length-map}
+use Rattle.std.proofs.lemmas.List.{take_at, length-map}
 use Rattle.std.proofs.lemmas.List.Sums.{sum_by_push}
 use Rattle.std.proofs.lemmas.List.Concat.{flat_map-append}
-use Rattle.device_io.specs.Failures.{one_more as one_more_failure}
 use Rattle.bench_rules.specs.State.{State}
 use Rattle.script_run.specs.Words.{is_line_feed, parts_by_line_feed, script_lines, without_return}
 use Rattle.script_run.specs.Replies.{Printed}
 use Rattle.script_run.specs.Devices.{Device, Takes, TakesPart, count_in_64_bits}
 use Rattle.script_run.specs.Runs.{LineStep, LineSteps, printed_text, refusals, StopsAt, BreaksOff}
-use Rattle.device_io.specs.Growth.{Appends_more}
+use Rattle.script_run.proofs.OutLemmas.{takes_more, takes_part_more}
 
 -- ---- a script has no more lines than bytes
 
@@ -80,16 +77,6 @@ none_yet start all stop before same = record {
   taken = record { bytes = same; failures = refl };
 }
 
-pub stays : (known : Option (List ℕ)) → Appends known known []
-stays None = tt
-stays (Some bytes) = sym (append-nil bytes)
-
-takes_more : (before mid after : Device) (xs ys : List ℕ) → Takes before mid xs → Takes mid after ys → Takes before after (xs ++ ys)
-takes_more before mid after xs ys p q = record {
-  bytes = Appends_more before.bytes mid.bytes after.bytes xs ys p.bytes q.bytes;
-  failures = q.failures ∙ p.failures;
-}
-
 module _ (start : State) (all rest : List (List ℕ)) (line : List ℕ) (stop : Bool) (number refused written : ℕ) (before mid : Device) (now next : State) (p : Printed)
     (so_far : SoFar start all (line ∷ rest) stop number refused written before mid now) (step : LineStep now line p next) where
   through : LineSteps start (so_far.done ++ line ∷ []) (so_far.printed ++ p ∷ []) next
@@ -119,10 +106,6 @@ module _ (start : State) (all rest : List (List ℕ)) (line : List ℕ) (stop : 
     taken = rw (text_more so_far.printed p) (takes_more before mid after (printed_text so_far.printed) p.text so_far.taken taken);
   }
 
-  part_more : (xs ys : List ℕ) (n : ℕ) → take (length xs + n) (xs ++ ys) ≡ xs ++ take n ys
-  part_more xs ys n =
-      take-add (length xs) n (xs ++ ys) ∙ ap₂ (λ a b. a ++ take n b) (take_at xs ys (length xs) refl) (drop_at xs ys (length xs) refl)
-
   -- a line whose reply is not written whole
   pub breaks_off : (script : List ℕ) (after : Device) (k told : ℕ) → all ≡ script_lines script → TakesPart mid after p.text k → told ≡ count_in_64_bits (written + k)
       → (text : List ℕ) × (taken : ℕ) × (told ≡ count_in_64_bits taken) × BreaksOff start script stop taken text next × TakesPart before after text taken
@@ -131,10 +114,7 @@ module _ (start : State) (all rest : List (List ℕ)) (line : List ℕ) (stop : 
       let taken : ℕ = length (printed_text so_far.printed) + k in
       let text_is : text ≡ printed_text so_far.printed ++ p.text = text_more so_far.printed p in
       let long : length text ≡ length (printed_text so_far.printed) + length p.text =
-      ap length text_is ∙ length-append (printed_text so_far.printed) p.text in
-      let bytes : Appends before.bytes after.bytes (take taken text) =
-      rw (text_is, part_more (printed_text so_far.printed) p.text k)
-      (Appends_more before.bytes mid.bytes after.bytes (printed_text so_far.printed) (take k p.text) so_far.taken.bytes part.bytes) in (
+      ap length text_is ∙ length-append (printed_text so_far.printed) p.text in (
         text,
         taken,
         omega (arith, told_is, so_far.written_is),
@@ -147,11 +127,7 @@ module _ (start : State) (all rest : List (List ℕ)) (line : List ℕ) (stop : 
           taken_before = omega arith;
           not_taken = omega (arith, long, part.short);
         },
-        record {
-          bytes = bytes;
-          short = omega (arith, long, part.short);
-          failures = part.failures ∙ ap one_more_failure so_far.taken.failures;
-        },
+        rw text_is (takes_part_more before mid after (printed_text so_far.printed) p.text k so_far.taken part),
       )
 
   -- a refused line at which the run stops
@@ -171,8 +147,3 @@ module _ (start : State) (all rest : List (List ℕ)) (line : List ℕ) (stop : 
     rw (text_more so_far.printed p) (takes_more before mid after (printed_text so_far.printed) p.text so_far.taken taken),
     stop_is,
   )
-
--- a reply that was not written whole, told by its fault
-pub by_fault : {T E : Type 0} (r : Result T E) (fault : E) (P : T → Type 0) (Q : E → Type 0) → IsErrAnd r (λ x. x ≡ fault) → Q fault → MatchResult r P Q
-by_fault (Ok x) fault P Q is q = absurd is
-by_fault (Err e) fault P Q is q = subst Q (sym is) q

@@ -6,3 +6,11 @@ three_parts a b c d = simp append_assoc
 
 pub four_parts : (a b c d e : List ℕ) → (((a ++ b) ++ c) ++ d) ++ e ≡ a ++ (b ++ (c ++ (d ++ e)))
 four_parts a b c d e = simp append_assoc
+
+-- four numbers, each behind its word
+pub four_numbered : (w a b c d e f g h : List ℕ) → (((w ++ (a ++ b)) ++ (c ++ d)) ++ (e ++ f)) ++ (g ++ h) ≡ w ++ (a ++ (b ++ (c ++ (d ++ (e ++ (f ++ (g ++ h)))))))
+four_numbered w a b c d e f g h = simp append_assoc
+
+-- three numbers and two fractions, each behind its word
+pub five_behind : (a b c d e f g h i j k : List ℕ) → ((((((a ++ b) ++ (c ++ d)) ++ (e ++ f)) ++ g) ++ h) ++ i ++ j) ++ k ≡ (a ++ (b ++ (c ++ (d ++ (e ++ (f ++ (g ++ (h ++ (i ++ j))))))))) ++ k
+five_behind a b c d e f g h i j k = simp append_assoc

@@ -11,6 +11,7 @@ use Rattle.bench_rules.specs.declared.info.Info.{Info}
 use Rattle.bench_rules.specs.declared.answer.Answer.{Answer}
 use Rattle.bench_rules.specs.declared.answer.Answer.TheVariants as answers
 use Rattle.text_block.specs.Lines.{without_blanks}
+use Rattle.script_run.specs.ReportTexts.{location_text, statistics_text, range_text, cell_text, numbered_text, fold_count_text, row_text, fault_text}
 use Rattle.script_run.specs.Texts.{with_blanks, with_line_end, list_lines, place_text}
 
 -- the order of bytes
@@ -58,3 +59,14 @@ answer_text (answers.Line text) = with_line_end (codes "line |" ++ without_blank
 answer_text (answers.Code code) = with_line_end (codes "code " ++ code_text code)
 answer_text (answers.Stanzas stanzas) = list_lines (codes "stanzas") (map stanza_text stanzas)
 answer_text (answers.Fields fields) = list_lines (codes "fields") (map field_text fields)
+answer_text (answers.Geometry location) = with_line_end (location_text location)
+answer_text (answers.Stat statistics) = with_line_end (statistics_text (codes "stat") statistics)
+answer_text (answers.Fold n) = with_line_end (with_blanks (codes "fold" ∷ decimal n ∷ []))
+answer_text (answers.Grid cells) = list_lines (codes "cells") (map (cell_text (codes "cell")) cells)
+answer_text (answers.Inlines lines) = list_lines (codes "inlines") (map (numbered_text (codes "inline")) lines)
+answer_text (answers.Crosslines lines) = list_lines (codes "crosslines") (map (numbered_text (codes "crossline")) lines)
+answer_text (answers.Histogram times) = list_lines (codes "histogram") (map (fold_count_text (codes "times")) times)
+answer_text (answers.Range range) = with_line_end (range_text range)
+answer_text (answers.Totals statistics) = with_line_end (statistics_text (codes "totals") statistics)
+answer_text (answers.Slice rows) = list_lines (codes "slice") (map (row_text (codes "row")) rows)
+answer_text (answers.Faults faults) = list_lines (codes "faults") (map fault_text faults)

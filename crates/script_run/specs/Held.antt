@@ -1,8 +1,11 @@
--- How a reply is held.
-use Rattle.std.specs.Prelude.{◌==◌, length, if◌then◌else◌}
-use Rattle.script_run.specs.Replies.{Printed}
-use Rattle.script_run.specs.declared.reply.Reply.TheInside.{Inside}
+-- What is printed for a reply that is held.
+use Rattle.script_run.specs.Replies.{Printed, nothing, fault_reply, edit_reply, query_reply}
+use Rattle.script_run.specs.declared.reply.Reply.{Reply}
+use Rattle.script_run.specs.declared.reply.Reply.TheVariants.{Silent, Fault, Edited, Asked}
 
--- the short text, where there is no long one
-abbrev pub printed_of : Inside → Printed
-printed_of r = record { text = if length r.long.items == 0 then r.short else r.long.items; is_refusal = r.is_refusal }
+-- what a reply prints
+abbrev pub printed_of : Reply → Printed
+printed_of Silent = nothing
+printed_of (Fault fault) = fault_reply fault
+printed_of (Edited reply) = edit_reply reply
+printed_of (Asked reply) = query_reply reply

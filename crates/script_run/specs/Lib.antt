@@ -1,5 +1,7 @@
 pub mod Words
 pub mod Numbers
+pub mod Readers
+pub mod ReportCommands
 pub mod Commands
 pub mod Texts
 pub mod RefusalTexts
@@ -8,10 +10,12 @@ pub mod Replies
 pub mod Held
 pub mod Runs
 pub mod Devices
+pub mod Printing
 pub mod Loading
 pub mod LineRuns
 pub mod Ends
 pub mod Examples
 pub mod ReportTexts
-pub mod ReportCommands
+pub mod NumberCommands
+pub mod LineExamples
 pub mod ReportExamples

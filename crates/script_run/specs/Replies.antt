@@ -1,10 +1,8 @@
 -- What a line of a script prints.
-use Rattle.std.specs.Prelude.{◌≡◌, ◌⊎◌, ℕ, Bool, true, false, List, [], Result, Ok, Err}
+use Rattle.std.specs.Prelude.{ℕ, Bool, true, false, List, [], Result, Ok, Err}
 use Rattle.bench_rules.specs.declared.refusal.Refusal.{Refusal}
 use Rattle.bench_rules.specs.declared.answer.Answer.{Answer}
-use Rattle.bench_rules.specs.declared.answer.Answer.TheVariants as answers
 use Rattle.bench_rules.specs.declared.ask_fault.AskFault.{AskFault}
-use Rattle.bench_rules.specs.declared.ask_fault.AskFault.TheVariants.{OutOfMemory}
 use Rattle.script_run.specs.declared.line_fault.LineFault.{LineFault}
 use Rattle.script_run.specs.AnswerTexts.{answer_text}
 use Rattle.script_run.specs.RefusalTexts.{accepted_line, refused_line, refusal_text, ask_fault_text, line_fault_text}
@@ -35,18 +33,3 @@ edit_reply (Err fault) = refusal (refusal_text fault)
 abbrev pub query_reply : Result Answer AskFault → Printed
 query_reply (Ok answer) = record { text = answer_text answer; is_refusal = false }
 query_reply (Err fault) = refusal (ask_fault_text fault)
-
--- the answer holds a text or a list, so that its text takes memory
-abbrev pub IsLong : Answer → Type 0
-IsLong (answers.Count n) = ⊥
-IsLong (answers.Info info) = ⊥
-IsLong (answers.Value v) = ⊥
-IsLong (answers.Line text) = Unit {0}
-IsLong (answers.Code code) = ⊥
-IsLong (answers.Stanzas stanzas) = Unit {0}
-IsLong (answers.Fields fields) = Unit {0}
-
--- a query prints its reply, or want of memory where the answer holds a text or a list
-abbrev pub QueryPrints : Result Answer AskFault → Printed → Type 0
-QueryPrints (Ok answer) printed = (printed ≡ query_reply (Ok answer)) ⊎ (IsLong answer × (printed ≡ query_reply (Err OutOfMemory)))
-QueryPrints (Err fault) printed = printed ≡ query_reply (Err fault)

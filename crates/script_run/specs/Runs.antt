@@ -9,14 +9,14 @@ use Rattle.script_run.specs.declared.command.Command.TheVariants.{Apply, Ask}
 use Rattle.script_run.specs.declared.line_fault.LineFault.{LineFault}
 use Rattle.script_run.specs.Words.{script_lines}
 use Rattle.script_run.specs.Commands.{IsParsed}
-use Rattle.script_run.specs.Replies.{Printed, nothing, fault_reply, edit_reply, QueryPrints}
+use Rattle.script_run.specs.Replies.{Printed, nothing, fault_reply, edit_reply, query_reply}
 
 -- a command with what it prints: an edit is one step, a query changes nothing
 abbrev pub CommandStep : State → Command → Printed → State → Type 0
 CommandStep old (Apply edit) printed new =
     (reply : Result (Unit {0}) Refusal) × Step old edit reply new × (printed ≡ edit_reply reply)
 CommandStep old (Ask query) printed new =
-    (reply : Reply) × IsReply old query reply × QueryPrints reply printed × (new ≡ old)
+    (reply : Reply) × IsReply old query reply × (printed ≡ query_reply reply) × (new ≡ old)
 
 -- a line that was read, with what it prints
 abbrev pub ReadStep : State → Result (Option Command) LineFault → Printed → State → Type 0

@@ -1,41 +1,94 @@
 // The lines that are printed for answers.
-ghost use Rattle.std.specs.Prelude.{◌≡◌, ◌≤◌, ◌++◌, [], length, codes, IfSome, IfNone};
+ghost use Rattle.std.specs.Prelude.{◌≡◌, ◌≤◌, ◌++◌, [], length, codes};
 ghost use Rattle.script_run.specs.AnswerTexts.{answer_text, info_text, order_text, yes_or_no, code_text};
-ghost use Rattle.script_run.specs.Replies.{IsLong};
+ghost use Rattle.script_run.specs.Devices.{device_of};
+ghost use Rattle.script_run.specs.Printing.{Pushes};
+ghost use Rattle.script_run.specs.Texts.{with_line_end};
 
+use crate::list_texts::push_list;
+use crate::long_texts::{push_fields, push_shown_line, push_stanzas};
+use crate::out_buffer::OutBuffer;
+use crate::report_texts::{location_line, range_line, statistics_line};
 use crate::text_buffer::TextBuffer;
 use bench_core::{Answer, Info};
+use device_io::{Sink, WriteFault};
+use itoa::Integer;
 use num_order::Order;
+use std::io::Write;
 use text_block::Code;
 
-/// The line for an answer that is no text and no list, or nothing.
-pub(crate) fn answer_line(answer: &Answer) -> Option<TextBuffer>
-    ensures short { IfSome result (λ line. line ≡ answer_text answer.now) }
-    ensures long { IfNone result (IsLong answer.now) }
+/// Pushes the lines of an answer. Takes no memory.
+pub(crate) fn push_answer<W: Write>(
+    out: &mut OutBuffer,
+    writer: &mut Sink<W>,
+    answer: &Answer,
+) -> Result<(), WriteFault>
+    ensures { Pushes (device_of W.contents writer.old) (device_of W.contents writer.new)
+        out.old out.new (answer_text answer.now) result }
 {
-    let mut line = TextBuffer::new();
     match answer {
-        Answer::Count(count) => line.push_numbered(b"traces ", *count),
-        Answer::Info(info) => push_info(&mut line, *info),
-        Answer::Value(value) => line.push_numbered(b"value ", *value),
-        Answer::Code(code) => push_code(&mut line, *code),
-        _ => return None,
+        Answer::Line(line) => push_shown_line(out, writer, line),
+        Answer::Stanzas(stanzas) => push_stanzas(out, writer, stanzas.as_slice()),
+        Answer::Fields(fields) => push_fields(out, writer, fields.as_slice()),
+        Answer::Grid(cells) => push_list(out, writer, b"cells", b"cell", cells.as_slice()),
+        Answer::Inlines(lines) => push_list(out, writer, b"inlines", b"inline", lines.as_slice()),
+        Answer::Crosslines(lines) => {
+            push_list(out, writer, b"crosslines", b"crossline", lines.as_slice())
+        }
+        Answer::Histogram(times) => push_list(
+            out,
+            writer,
+            b"histogram",
+            b"times",
+            times.as_slice(),
+        ),
+        Answer::Slice(rows) => push_list(out, writer, b"slice", b"row", rows.as_slice()),
+        Answer::Faults(faults) => push_list(out, writer, b"faults", b"", faults.as_slice()),
+        Answer::Count(count) => out.push(writer, numbered_line(b"traces ", *count).as_slice()),
+        Answer::Info(info) => out.push(writer, info_line(*info).as_slice()),
+        Answer::Value(value) => out.push(writer, numbered_line(b"value ", *value).as_slice()),
+        Answer::Code(code) => out.push(writer, code_line(*code).as_slice()),
+        Answer::Geometry(location) => out.push(writer, location_line(*location).as_slice()),
+        Answer::Stat(found) => out.push(writer, statistics_line(b"stat", *found).as_slice()),
+        Answer::Fold(fold) => out.push(writer, numbered_line(b"fold ", *fold).as_slice()),
+        Answer::Range(range) => out.push(writer, range_line(*range).as_slice()),
+        Answer::Totals(found) => out.push(writer, statistics_line(b"totals", *found).as_slice()),
     }
-    line.push(b"\n");
-    Some(line)
 }
 
-// The code of a block.
-fn push_code(line: &mut TextBuffer, code: Code)
-    requires { line.old ≡ [] }
-    ensures text { line.new ≡ codes "code " ++ code_text code }
-    ensures short { length line.new ≤ 639 }
+// The line of one number behind its word, which ends with a blank.
+fn numbered_line<I: Integer>(word: &[u8], number: I) -> TextBuffer
+    requires { length word.now ≤ 100 }
+    ensures { result ≡ with_line_end (word.now ++ I.text number) }
 {
+    let mut line = TextBuffer::new();
+    line.push_numbered(word, number);
+    line.push(b"\n");
+    line
+}
+
+// The line of the code of a block.
+fn code_line(code: Code) -> TextBuffer
+    ensures { result ≡ with_line_end (codes "code " ++ code_text code) }
+{
+    let mut line = TextBuffer::new();
     line.push(b"code ");
     line.push(match code {
         Code::Ebcdic => b"ebcdic".as_slice(),
         Code::Ascii => b"ascii",
     });
+    line.push(b"\n");
+    line
+}
+
+// The line of what a file is.
+fn info_line(info: Info) -> TextBuffer
+    ensures { result ≡ with_line_end (info_text info) }
+{
+    let mut line = TextBuffer::new();
+    push_info(&mut line, info);
+    line.push(b"\n");
+    line
 }
 
 // What a file is.

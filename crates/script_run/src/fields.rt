@@ -1,7 +1,8 @@
 // Words that are places, and fields of a header.
 ghost use Rattle.std.specs.Prelude.{◌≡◌, IfOk, IfErr};
 ghost use Rattle.script_run.specs.Numbers.{place_of_word, place_in};
-ghost use Rattle.script_run.specs.Commands.{field_of, IsFieldRead};
+ghost use Rattle.script_run.specs.Readers.{field_of};
+ghost use Rattle.script_run.specs.Commands.{IsFieldRead};
 ghost use Rattle.script_run.specs.declared.line_fault.LineFault.TheVariants.{OutOfMemory as no_memory};
 
 use crate::line_fault::LineFault;

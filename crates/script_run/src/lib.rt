@@ -8,9 +8,8 @@
 //!
 //! [`parse_line`] reads one line, and takes memory only where its command holds a text or a list.
 //! [`run`] loads a volume, reads a script whole and runs its lines; it takes memory for both, and
-//! tells want of it as L16, P03 or E11. Short answers take none; a text or a list takes memory, and
-//! is answered by E11 where that is refused. `run` answers by [`RunEnd`], which is the whole report
-//! of a run. [`commands_stay`] does nothing: its contract is a law.
+//! tells want of it as L16, P03 or E11. To print a reply takes none. `run` answers by [`RunEnd`],
+//! which is the whole report of a run. [`commands_stay`] does nothing: its contract is a law.
 #![tactic(auto)]
 
 mod answer_texts;
@@ -20,13 +19,16 @@ mod laws;
 mod line_fault;
 mod lines;
 mod lines_end;
+mod list_texts;
 mod long_texts;
 mod numbers;
 mod options;
-mod out_of_memory;
+mod out_buffer;
 mod parse;
 mod refusal_texts;
 mod reply;
+mod report_commands;
+mod report_texts;
 mod run_end;
 mod running;
 mod script;

@@ -1,26 +1,31 @@
-// The lines that are printed for answers that are texts or lists, which take memory.
-ghost use Rattle.std.specs.Prelude.{◌≡◌, ◌≤◌, ◌+◌, ◌++◌, length, map, codes, decimal, IfOk, OnOk, MatchResult};
+// The lines that are printed for texts, and for lists of what has a text.
+ghost use Rattle.std.specs.Prelude.{◌≡◌, ◌≤◌, ◌++◌, length};
 ghost use Rattle.text_block.specs.Lines.{without_blanks as without_blanks_of};
-ghost use Rattle.script_run.specs.Texts.{with_line_end, list_lines, with_line_ends, place_text};
+ghost use Rattle.script_run.specs.Devices.{device_of};
+ghost use Rattle.script_run.specs.Printing.{Pushes};
+ghost use Rattle.script_run.specs.Texts.{with_line_end, place_text};
 ghost use Rattle.script_run.specs.AnswerTexts.{answer_text, stanza_text, field_text};
 ghost use Rattle.bench_rules.specs.declared.answer.Answer.TheVariants as answers;
 
-use crate::out_of_memory::OutOfMemory;
+use crate::list_texts::push_head;
+use crate::out_buffer::OutBuffer;
 use crate::text_buffer::TextBuffer;
 use bench_core::Text;
+use device_io::{Sink, WriteFault};
 use field_map::Place;
-use std::alloc::Global;
+use std::io::Write;
 
-/// The line for a shown line, without the blanks at its end.
-pub(crate) fn line_text(alloc: Global, line: &Text) -> Result<Vec<u8>, OutOfMemory>
-    ensures { IfOk result (λ text. text.items ≡ answer_text (answers.Line line.now)) }
+/// Pushes the line for a shown line, without the blanks at its end. Takes no memory.
+pub(crate) fn push_shown_line<W: Write>(
+    out: &mut OutBuffer,
+    writer: &mut Sink<W>,
+    line: &Text,
+) -> Result<(), WriteFault>
+    ensures { Pushes (device_of W.contents writer.old) (device_of W.contents writer.new)
+        out.old out.new (answer_text (answers.Line line.now)) result }
 {
-    let mut text = Vec::new(alloc);
-    text.extend_from_slice(b"line |")?;
-    text.extend_from_slice(without_blanks(line.as_str().as_bytes()))?;
-    text.extend_from_slice(b"|")?;
-    text.extend_from_slice(b"\n")?;
-    Ok(text)
+    let text = without_blanks(line.as_str().as_bytes());
+    push_between(out, writer, b"line |", text, b"|\n")
 }
 
 // The text without the blanks at its end.
@@ -34,72 +39,101 @@ fn without_blanks(text: &[u8]) -> &[u8]
     &text[..end]
 }
 
-// The line that a list begins with: its word and its number of lines.
-fn push_head(text: &mut Vec<u8>, word: &[u8], count: u64) -> Result<(), OutOfMemory>
-    requires { length word.now ≤ 100 }
-    ensures { OnOk result (text.new.items ≡ text.old.items
-        ++ with_line_end (word.now ++ codes " " ++ decimal count)) }
+// Pushes a text of any length between two others.
+fn push_between<W: Write>(
+    out: &mut OutBuffer,
+    writer: &mut Sink<W>,
+    before: &[u8],
+    text: &[u8],
+    behind: &[u8],
+) -> Result<(), WriteFault>
+    ensures { Pushes (device_of W.contents writer.old) (device_of W.contents writer.new)
+        out.old out.new (before.now ++ (text.now ++ behind.now)) result }
 {
-    let mut line = TextBuffer::new();
-    line.push(word);
-    line.push(b" ");
-    line.push_number(count);
-    line.push(b"\n");
-    text.extend_from_slice(line.as_slice())?;
+    out.push(writer, before)?;
+    out.push(writer, text)?;
+    out.push(writer, behind)
+}
+
+/// Pushes the lines for stanzas. Takes no memory.
+pub(crate) fn push_stanzas<W: Write>(
+    out: &mut OutBuffer,
+    writer: &mut Sink<W>,
+    stanzas: &[(u64, Text)],
+) -> Result<(), WriteFault>
+    ensures { Pushes (device_of W.contents writer.old) (device_of W.contents writer.new)
+        out.old out.new (answer_text (answers.Stanzas stanzas.now)) result }
+{
+    let mut head = TextBuffer::new();
+    push_head(&mut head, b"stanzas", stanzas.len() as u64);
+    out.push(writer, head.as_slice())?;
+    for (block, name) in stanzas {
+        push_stanza(out, writer, *block, name)?;
+    }
     Ok(())
 }
 
-/// The lines for stanzas.
-pub(crate) fn stanzas_text(alloc: Global, stanzas: &[(u64, Text)]) -> Result<Vec<u8>, OutOfMemory>
-    ensures { IfOk result (λ text. text.items ≡ answer_text (answers.Stanzas stanzas.now)) }
-{
-    let mut text = Vec::new(alloc);
-    push_head(&mut text, b"stanzas", stanzas.len() as u64)?;
-    for (block, name) in stanzas {
-        push_stanza(&mut text, *block, name)?;
-    }
-    Ok(text)
-}
-
-// The line for a stanza: its block and its name.
-fn push_stanza(text: &mut Vec<u8>, block: u64, name: &Text) -> Result<(), OutOfMemory>
-    ensures { OnOk result
-        (text.new.items ≡ text.old.items ++ with_line_end (stanza_text (block, name.now))) }
+// Pushes the line for a stanza: its block and its name.
+fn push_stanza<W: Write>(
+    out: &mut OutBuffer,
+    writer: &mut Sink<W>,
+    block: u64,
+    name: &Text,
+) -> Result<(), WriteFault>
+    ensures { Pushes (device_of W.contents writer.old) (device_of W.contents writer.new)
+        out.old out.new (with_line_end (stanza_text (block, name.now))) result }
 {
     let mut head = TextBuffer::new();
     head.push_numbered(b"stanza ", block);
     head.push(b" ");
-    text.extend_from_slice(head.as_slice())?;
-    text.extend_from_slice(name.as_str().as_bytes())?;
-    text.extend_from_slice(b"\n")?;
+    push_between(
+        out,
+        writer,
+        head.as_slice(),
+        name.as_str().as_bytes(),
+        b"\n",
+    )
+}
+
+/// Pushes the lines for bound names and their places. Takes no memory.
+pub(crate) fn push_fields<W: Write>(
+    out: &mut OutBuffer,
+    writer: &mut Sink<W>,
+    fields: &[(Text, Place)],
+) -> Result<(), WriteFault>
+    ensures { Pushes (device_of W.contents writer.old) (device_of W.contents writer.new)
+        out.old out.new (answer_text (answers.Fields fields.now)) result }
+{
+    let mut head = TextBuffer::new();
+    push_head(&mut head, b"fields", fields.len() as u64);
+    out.push(writer, head.as_slice())?;
+    for (name, place) in fields {
+        push_field(out, writer, name, *place)?;
+    }
     Ok(())
 }
 
-/// The lines for bound names and their places.
-pub(crate) fn fields_text(alloc: Global, fields: &[(Text, Place)]) -> Result<Vec<u8>, OutOfMemory>
-    ensures { IfOk result (λ text. text.items ≡ answer_text (answers.Fields fields.now)) }
+// Pushes the line for a bound name and its place.
+fn push_field<W: Write>(
+    out: &mut OutBuffer,
+    writer: &mut Sink<W>,
+    name: &Text,
+    place: Place,
+) -> Result<(), WriteFault>
+    ensures { Pushes (device_of W.contents writer.old) (device_of W.contents writer.new)
+        out.old out.new (with_line_end (field_text (name.now, place))) result }
 {
-    let mut text = Vec::new(alloc);
-    push_head(&mut text, b"fields", fields.len() as u64)?;
-    for (name, place) in fields {
-        push_field(&mut text, name, *place)?;
-    }
-    Ok(text)
-}
-
-// The line for a bound name and its place.
-fn push_field(text: &mut Vec<u8>, name: &Text, place: Place) -> Result<(), OutOfMemory>
-    ensures { OnOk result
-        (text.new.items ≡ text.old.items ++ with_line_end (field_text (name.now, place))) }
-{
-    text.extend_from_slice(b"field ")?;
-    text.extend_from_slice(name.as_str().as_bytes())?;
     let mut tail = TextBuffer::new();
     tail.push(b" ");
     push_place(&mut tail, place);
     tail.push(b"\n");
-    text.extend_from_slice(tail.as_slice())?;
-    Ok(())
+    push_between(
+        out,
+        writer,
+        b"field ",
+        name.as_str().as_bytes(),
+        tail.as_slice(),
+    )
 }
 
 // A place as a script has it.

@@ -1,12 +1,15 @@
 // A line of a script into a command.
 ghost use Rattle.std.specs.Prelude.{◌≡◌, ◌≢◌, ◌∷◌, [], length, IfSome, IfNone};
-ghost use Rattle.script_run.specs.Words.{words_of, behind_word};
-ghost use Rattle.script_run.specs.Commands.{command_of, read_set, read_get, read_bin, read_getbin, read_text, read_line, read_code, read_stanzas, read_map, read_unmap, read_fields, read_count, read_info, read_sample, IsRead, IsParsed};
+ghost use Rattle.script_run.specs.Words.{words_of};
+ghost use Rattle.script_run.specs.declared.command.Command.TheVariants.{Ask as ask};
+ghost use Rattle.script_run.specs.Readers.{alone};
+ghost use Rattle.script_run.specs.Commands.{command_of, read_set, read_get, read_bin, read_getbin, read_text, read_line, read_code, read_map, read_unmap, read_sample, IsRead, IsParsed};
 
 use crate::command::Command;
 use crate::fields::{field, place, text_of};
 use crate::line_fault::LineFault;
 use crate::numbers::{number, position};
+use crate::report_commands::report;
 use crate::trace_commands::{blank, copy, delete, move_trace, patch};
 use crate::words::Words;
 use bench_core::{Edit, Query};
@@ -17,9 +20,9 @@ use std::str;
 /// dropped; `Ok(None)` where it has no words, or its first word begins with `#`.
 ///
 /// Words are separated by blanks and tabs. A line that is not UTF-8 is S04, a first word that is no
-/// command S01, too few or too many words S02, and a word that has to be a number or a place and is
-/// none S03; the first of these that holds is told. Takes memory only where the command holds a
-/// text, a name or a list of numbers, and is E11 where that was refused.
+/// command S01, too few or too many words S02, and a word that has to be a number, a place or a
+/// kind of value and is none S03; the first of these that holds is told. Takes memory only where
+/// the command holds a text, a name or a list of numbers, and is E11 where that was refused.
 pub fn parse_line(alloc: Global, line: &[u8]) -> Result<Option<Command>, LineFault>
     ensures { IsParsed line.now result }
 {
@@ -46,19 +49,19 @@ fn command(alloc: Global, word: &str, words: Words) -> Result<Command, LineFault
         "text" => text(alloc, words),
         "line" => line(words),
         "code" => code(words),
-        "stanzas" => stanzas(words),
+        "stanzas" => query_alone(words, Query::Stanzas),
         "map" => map(alloc, words),
         "unmap" => unmap(alloc, words),
-        "fields" => fields(words),
-        "count" => count(words),
-        "info" => info(words),
+        "fields" => query_alone(words, Query::Fields),
+        "count" => query_alone(words, Query::Count),
+        "info" => query_alone(words, Query::Info),
         "sample" => sample(words),
         "patch" => patch(alloc, words),
         "blank" => blank(words),
         "copy" => copy(words),
         "delete" => delete(words),
         "move" => move_trace(words),
-        _ => Err(LineFault::Unknown),
+        _ => report(word, words),
     }
 }
 
@@ -124,15 +127,6 @@ fn code(words: Words) -> Result<Command, LineFault>
     Ok(Command::Ask(Query::Code(b)))
 }
 
-fn stanzas(words: Words) -> Result<Command, LineFault>
-    ensures { result ≡ read_stanzas (words_of words.entry) }
-{
-    match none(words) {
-        Some(()) => Ok(Command::Ask(Query::Stanzas)),
-        None => Err(LineFault::Words),
-    }
-}
-
 fn map(alloc: Global, words: Words) -> Result<Command, LineFault>
     ensures { IsRead (read_map (words_of words.entry)) result }
 {
@@ -150,33 +144,6 @@ fn unmap(alloc: Global, words: Words) -> Result<Command, LineFault>
     Ok(Command::Apply(Edit::Unmap(name)))
 }
 
-fn fields(words: Words) -> Result<Command, LineFault>
-    ensures { result ≡ read_fields (words_of words.entry) }
-{
-    match none(words) {
-        Some(()) => Ok(Command::Ask(Query::Fields)),
-        None => Err(LineFault::Words),
-    }
-}
-
-fn count(words: Words) -> Result<Command, LineFault>
-    ensures { result ≡ read_count (words_of words.entry) }
-{
-    match none(words) {
-        Some(()) => Ok(Command::Ask(Query::Count)),
-        None => Err(LineFault::Words),
-    }
-}
-
-fn info(words: Words) -> Result<Command, LineFault>
-    ensures { result ≡ read_info (words_of words.entry) }
-{
-    match none(words) {
-        Some(()) => Ok(Command::Ask(Query::Info)),
-        None => Err(LineFault::Words),
-    }
-}
-
 fn sample(words: Words) -> Result<Command, LineFault>
     ensures { result ≡ read_sample (words_of words.entry) }
 {
@@ -186,14 +153,13 @@ fn sample(words: Words) -> Result<Command, LineFault>
     Ok(Command::Ask(Query::Sample(p, k)))
 }
 
-// Nothing, where there are no words.
-fn none(mut words: Words) -> Option<()>
-    ensures none { IfNone result (words_of words.entry ≢ []) }
-    ensures some { IfSome result (λ _. words_of words.entry ≡ []) }
+// The query, where no words follow its own.
+pub(crate) fn query_alone(mut words: Words, query: Query) -> Result<Command, LineFault>
+    ensures { result ≡ alone (ask query) (words_of words.entry) }
 {
     match words.next() {
-        Some(_) => None,
-        None => Some(()),
+        Some(_) => Err(LineFault::Words),
+        None => Ok(Command::Ask(query)),
     }
 }
 

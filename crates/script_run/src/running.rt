@@ -1,6 +1,7 @@
 // Runs the lines of a script over a volume.
-ghost use Rattle.std.specs.Prelude.{◌≡◌, ◌≤◌, length, MatchResult};
-ghost use Rattle.script_run.specs.Devices.{device_of, Takes, TakesPart};
+ghost use Rattle.std.specs.Prelude.{◌≡◌, ◌≤◌, ℕ, length, MatchResult};
+ghost use Rattle.script_run.specs.Devices.{device_of, Takes, TakesPart, count_in_64_bits};
+ghost use Rattle.script_run.specs.Held.{printed_of};
 ghost use Rattle.script_run.specs.LineRuns.{RunsLines};
 ghost use Rattle.script_run.specs.Replies.{Printed};
 ghost use Rattle.script_run.specs.Runs.{LineStep, CommandStep};
@@ -8,16 +9,16 @@ ghost use Rattle.script_run.specs.Runs.{LineStep, CommandStep};
 use crate::command::Command;
 use crate::lines::Lines;
 use crate::lines_end::LinesEnd;
+use crate::out_buffer::OutBuffer;
 use crate::parse::parse_line;
-use crate::reply::{Reply, edit_reply, fault_reply, query_reply, silent};
-use crate::write_text::write_text;
+use crate::reply::{Reply, is_refusal, push_reply};
 use bench_core::Bench;
 use device_io::{Sink, WriteFault};
 use std::alloc::Global;
 use std::io::Write;
 
-/// Runs the lines in order, and writes the reply to each before the next is run: in one write,
-/// where the writer takes it.
+/// Runs the lines in order, and writes the whole reply to each before the next is run, a short one
+/// at once.
 pub(crate) fn run_lines<A: Write>(
     alloc: Global,
     bench: &mut Bench,
@@ -31,12 +32,13 @@ pub(crate) fn run_lines<A: Write>(
         (device_of A.contents answers.new) result }
 {
     let mut lines = Lines::new(script);
+    let mut out = OutBuffer::new();
     let mut number = 0u64;
     let mut refused = 0u64;
     let mut written = 0u64;
     'lines: while let Some(line) = lines.next() {
         number += 1;
-        match answer_line(alloc, bench, line, answers) {
+        match answer_line(alloc, bench, line, &mut out, answers) {
             Ok(told) => {
                 written = written.saturating_add(told.length);
                 if told.is_refusal {
@@ -68,40 +70,44 @@ fn answer_line<A: Write>(
     alloc: Global,
     bench: &mut Bench,
     line: &[u8],
+    out: &mut OutBuffer,
     answers: &mut Sink<A>,
 ) -> Result<Told, WriteFault>
     ensures { let old = device_of A.contents answers.old in
         let new = device_of A.contents answers.new in
         (printed : Printed) × LineStep bench.old.state line.now printed bench.new.state
-        × MatchResult result (λ told. Takes old new printed.text ×
-        (told.length ≡ length printed.text) × (told.is_refusal ≡ printed.is_refusal))
-        (λ fault. TakesPart old new printed.text fault.written) }
+        × MatchResult result (λ told. Takes old new printed.text
+        × (told.length ≡ count_in_64_bits (length printed.text))
+        × (told.is_refusal ≡ printed.is_refusal))
+        (λ fault. (taken : ℕ) × (fault.written ≡ count_in_64_bits taken)
+        × TakesPart old new printed.text taken) }
 {
     let reply = run_line(alloc, bench, line);
-    let text = reply.text();
-    write_text(answers, text)?;
+    out.begin();
+    push_reply(out, answers, &reply)?;
+    out.flush(answers)?;
     Ok(Told {
-        length: text.len() as u64,
-        is_refusal: reply.is_refusal(),
+        length: out.written(),
+        is_refusal: is_refusal(&reply),
     })
 }
 
 // Runs one line.
 fn run_line(alloc: Global, bench: &mut Bench, line: &[u8]) -> Reply
-    ensures { LineStep bench.old.state line.now result bench.new.state }
+    ensures { LineStep bench.old.state line.now (printed_of result) bench.new.state }
 {
     match parse_line(alloc, line) {
-        Ok(None) => silent(alloc),
+        Ok(None) => Reply::Silent,
         Ok(Some(command)) => run_command(alloc, bench, &command),
-        Err(fault) => fault_reply(alloc, fault),
+        Err(fault) => Reply::Fault(fault),
     }
 }
 
 fn run_command(alloc: Global, bench: &mut Bench, command: &Command) -> Reply
-    ensures { CommandStep bench.old.state command.now result bench.new.state }
+    ensures { CommandStep bench.old.state command.now (printed_of result) bench.new.state }
 {
     match command {
-        Command::Apply(edit) => edit_reply(alloc, bench.apply(alloc, edit)),
-        Command::Ask(query) => query_reply(alloc, bench.ask(alloc, query)),
+        Command::Apply(edit) => Reply::Edited(bench.apply(alloc, edit)),
+        Command::Ask(query) => Reply::Asked(bench.ask(alloc, query)),
     }
 }

@@ -34,6 +34,13 @@ impl TextBuffer {
         }
     }
 
+    /// Forgets what is there.
+    pub(crate) fn clear(&mut self)
+        ensures { self.new ≡ [] }
+    {
+        self.length = 0;
+    }
+
     /// Writes the text behind what is there.
     pub(crate) fn push(&mut self, text: &[u8])
         requires { length self.old + length text.now ≤ 640 }

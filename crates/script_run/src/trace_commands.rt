@@ -2,7 +2,8 @@
 ghost use Rattle.std.specs.Prelude.{◌≡◌, is_some, if◌then◌else◌};
 ghost use Rattle.script_run.specs.declared.line_fault.LineFault.TheVariants.{OutOfMemory as no_memory, Number as no_number};
 ghost use Rattle.script_run.specs.Words.{words_of};
-ghost use Rattle.script_run.specs.Commands.{read_patch, read_blank, read_copy, read_delete, read_move, numbers_of, AreNumbersRead, IsRead};
+ghost use Rattle.script_run.specs.Readers.{numbers_of};
+ghost use Rattle.script_run.specs.Commands.{read_patch, read_blank, read_copy, read_delete, read_move, AreNumbersRead, IsRead};
 
 use crate::command::Command;
 use crate::line_fault::LineFault;

@@ -1,6 +1,5 @@
 pub mod Slices
 pub mod OfRecords
-pub mod Looks
 pub mod Laws
 pub mod Examples
 pub mod Cache

@@ -2,9 +2,8 @@ ghost use Rattle.std.specs.Prelude.{◌≡◌, ◌++◌, length, IfOk, OnOk, IsT
 ghost use Rattle.frame_cut.specs.Traces.{count_of, is_trace, trace_at};
 ghost use Rattle.trace_view.specs.Values.{sample_of};
 ghost use Rattle.trace_record.specs.Facts.{facts_of};
-ghost use Rattle.edit_overlay.specs.CountedVolume.{with_one_look};
+ghost use Rattle.edit_overlay.specs.CountedVolume.{RisesAtMost, with_one_look};
 ghost use Rattle.time_slice.specs.OfRecords.{with_sample_of};
-ghost use Rattle.time_slice.specs.Looks.{RisesAtMost};
 ghost use Rattle.time_slice.specs.Slices.{row_of, rows_from, slice_rows};
 
 use crate::{OutOfMemory, Row};

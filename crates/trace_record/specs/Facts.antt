@@ -3,6 +3,7 @@ use Rattle.std.specs.Prelude.{ℕ, ℤ, Bool, List, length}
 use Rattle.trace_record.specs.Statistics.{least_of, greatest_of, int_sum}
 use Rattle.trace_record.specs.declared.ratio.Ratio.{Ratio}
 use Rattle.trace_record.specs.declared.record.Record.{Record}
+use Rattle.trace_record.specs.declared.statistics.Statistics.{Statistics}
 
 -- the facts of one trace, its coordinates under its scalar
 pub record Facts : Type 0 where
@@ -51,3 +52,11 @@ facts_of r = record {
 -- the same facts with the statistics of these samples
 abbrev pub with_samples : Facts → List ℤ → Facts
 with_samples f vs = record f { least = least_of vs; greatest = greatest_of vs; sum = int_sum vs; number = length vs }
+
+-- the same facts with these statistics of the samples
+abbrev pub with_statistics : Facts → Statistics → Facts
+with_statistics f s = record f { least = s.least; greatest = s.greatest; sum = s.sum; number = s.number }
+
+-- the same facts with what other facts say of the samples
+abbrev pub with_samples_of : Facts → Facts → Facts
+with_samples_of f g = record f { least = g.least; greatest = g.greatest; sum = g.sum; number = g.number }

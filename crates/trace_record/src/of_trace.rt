@@ -1,7 +1,7 @@
 ghost use Rattle.std.specs.Prelude.{◌≡◌, length, true, codes};
 ghost use Rattle.trace_view.specs.Shown.{bytes_of, head_of};
 ghost use Rattle.trace_view.specs.Values.{samples_of};
-ghost use Rattle.trace_record.specs.Facts.{facts_of};
+ghost use Rattle.trace_record.specs.Facts.{facts_of, with_samples_of, with_statistics};
 ghost use Rattle.trace_record.specs.OfTrace.{record_of as record_of_trace, bound_value, has_named, has_geometry};
 ghost use Rattle.trace_record.specs.Statistics.{least_of, greatest_of, int_sum, HasRange};
 
@@ -22,10 +22,39 @@ pub fn record_of(view: &TraceView<'_>, fields: &FieldMap) -> Record
     ensures { has_geometry (head_of view.now) fields.now.pairs (bytes_of view.now) ≡ true →
         facts_of result ≡ record_of_trace (head_of view.now) fields.now.pairs (bytes_of view.now) }
 {
+    record_with(view, fields, &samples_statistics(view), view.sample_count())
+}
+
+/// The record of a trace but for the least, greatest, sum and number of its samples, which are
+/// those of another record: that of the trace before its headers changed, say. Reads no sample.
+/// Each of the six names is bound to a place in the trace, as by a map for the trace's file; of any
+/// other map the record tells nothing. Refuses nothing. Takes no memory.
+pub fn record_with_samples_of(view: &TraceView<'_>, fields: &FieldMap, samples: &Record) -> Record
+    ensures { has_geometry (head_of view.now) fields.now.pairs (bytes_of view.now) ≡ true →
+        facts_of result ≡ with_samples_of
+        (record_of_trace (head_of view.now) fields.now.pairs (bytes_of view.now))
+        (facts_of samples.now) }
+{
+    let statistics = Statistics {
+        least: samples.least,
+        greatest: samples.greatest,
+        sum: samples.sum,
+        number: u64::from(samples.number),
+    };
+    record_with(view, fields, &statistics, samples.number)
+}
+
+// What the headers give, with the statistics of so many samples.
+fn record_with(view: &TraceView<'_>, fields: &FieldMap, samples: &Statistics, number: u32) -> Record
+    requires number { samples.now.number ≡ number }
+    requires range { HasRange samples.now }
+    ensures { has_geometry (head_of view.now) fields.now.pairs (bytes_of view.now) ≡ true →
+        facts_of result ≡ with_statistics
+        (record_of_trace (head_of view.now) fields.now.pairs (bytes_of view.now)) samples.now }
+{
     let scalar = scalar_of(view, fields);
     let x = geometry_value(view, fields, "x");
     let y = geometry_value(view, fields, "y");
-    let samples = samples_statistics(view);
     Record {
         least: samples.least,
         greatest: samples.greatest,
@@ -36,7 +65,7 @@ pub fn record_of(view: &TraceView<'_>, fields: &FieldMap) -> Record
         crossline: geometry_value(view, fields, "crossline"),
         offset: geometry_value(view, fields, "offset"),
         sequence: i32_at(view, 5 - 1),
-        number: view.sample_count(),
+        number,
         scalar,
         units: i16_at(view, 89 - 1),
         interval: u16_at(view, 117 - 1),

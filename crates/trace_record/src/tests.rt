@@ -4,7 +4,7 @@ ghost use Rattle.std.specs.Prelude.{◌≡◌, length, IfOk};
 ghost use Rattle.trace_view.specs.Runs.{Fit};
 ghost use Rattle.trace_view.specs.Shown.{head_of};
 
-use crate::{Counts, OutOfMemory, Ratio, Record, record_of};
+use crate::{Counts, OutOfMemory, Ratio, Record, record_of, record_with_samples_of};
 use field_map::{FieldMap, Place};
 use frame_cut::{Head, front_length};
 use num_order::{Kind, Order};
@@ -183,13 +183,30 @@ fn run(alloc: Global, at: u64, bytes: &[u8]) -> Result<Run, AllocError>
 fn made(rt: &impl Abort, head: &Head, fields: &FieldMap, base: &[u8], runs: &[Run]) -> Record
     requires fit { Fit runs.now (length base.now) }
 {
+    made_with(rt, head, fields, base, runs, None)
+}
+
+// The same with the samples of another record, where one is given.
+fn made_with(
+    rt: &impl Abort,
+    head: &Head,
+    fields: &FieldMap,
+    base: &[u8],
+    runs: &[Run],
+    samples: Option<&Record>,
+) -> Record
+    requires fit { Fit runs.now (length base.now) }
+{
     assert!(rt; base.len() >= front_length(head));
     let Some(length) = overlaid_length(head, base, runs) else {
         panic!(rt; "too many extensions");
     };
     assert!(rt; length == base.len() as u64);
     let view = TraceView::new(head, base, runs);
-    record_of(&view, fields)
+    match samples {
+        Some(samples) => record_with_samples_of(&view, fields, samples),
+        None => record_of(&view, fields),
+    }
 }
 
 // The first trace of a small survey: inline 10, crossline 21, two 16-bit samples, 1 and -2.
@@ -359,5 +376,20 @@ fn takes_a_trace_without_samples(rt: HostRuntime) -> Result<(), Fail> {
     let record = made(&rt, &head, &fields, &[0; 240], &[]);
     assert_eq!(rt; (record.least, record.greatest, record.sum), (0, 0, 0));
     assert_eq!(rt; (record.number, record.interval), (0, 0));
+    Ok(())
+}
+
+// The headers of the trace, and four samples that its bytes have under another head.
+#[test]
+fn takes_the_samples_of_another_record(rt: HostRuntime) -> Result<(), Fail> {
+    let fields = FieldMap::standard(rt.alloc(), 0)?;
+    let bytes = plain_head(Order::Little, Format::Unsigned8, 4);
+    let other = made(&rt, &bytes, &fields, &small_trace(), &[]);
+    let head = plain_head(Order::Big, Format::Signed16, 2);
+    let record = made_with(&rt, &head, &fields, &small_trace(), &[], Some(&other));
+    assert_eq!(rt; (record.least, record.greatest, record.sum), (0, 255, 510));
+    assert_eq!(rt; (record.number, record.samples_field), (4, 2));
+    assert_eq!(rt; (record.inline, record.crossline), (10, 21));
+    assert_eq!(rt; record.x, Ratio::whole(1000));
     Ok(())
 }

@@ -1,4 +1,4 @@
-use Rattle.bench_laws.proofs.LiveLemmas as lemmas
+use Rattle.bench_rules.proofs.LiveLemmas as lemmas
 use Rattle.bench_laws.proofs.live_laws.running_values_show_the_reports.Goals as goal
 
 pub returns-clause-cells : goal.returns-clause-cells

@@ -2,7 +2,8 @@ use Rattle.std.proofs.Common.{◌≤◌, ◌+◌, length, false, refl, sym, arit
 use Rattle.std.specs.Prelude.{IsTrue}
 use Rattle.script_run.specs.Devices.{device_of}
 use Rattle.script_run.specs.Words.{script_lines}
-use Rattle.script_run.proofs.RunLemmas.{lines-le, none_yet, stays, one_more, breaks_off, stops}
+use Rattle.script_run.proofs.OutLemmas.{stays}
+use Rattle.script_run.proofs.RunLemmas.{lines-le, none_yet, one_more, breaks_off, stops}
 use Rattle.script_run.proofs.running.run_lines.Goals as goal
 
 pub lines-init : goal.lines-init
@@ -17,7 +18,7 @@ lines-init g c =
 pub returns-in-Err : goal.returns-in-Err
 returns-in-Err g c =
     breaks_off _ _ _ _ _ _ _ _ _ _ _ c.answer_line.new.bench.state c.in-Err.ensures.0 (rw c.in-Some.ensures.some at c.lines.invariant.0) c.in-Err.ensures.1
-    c.args.script.now _ c.in-Err.fault.written c.saturating_add.result refl c.in-Err.ensures.2 c.saturating_add.ensures
+    c.args.script.now _ c.in-Err.ensures.2.0 c.saturating_add.result refl c.in-Err.ensures.2.2 (omega (arith, c.saturating_add.ensures, c.in-Err.ensures.2.1))
 
 pub returns-then-stop : goal.returns-then-stop
 returns-then-stop g c =

@@ -1,6 +1,6 @@
 use Rattle.std.proofs.Common.{◌≡◌, length, is_some}
 use Rattle.script_run.specs.Words.{words_of}
-use Rattle.script_run.specs.Commands.{numbers_of}
+use Rattle.script_run.specs.Readers.{numbers_of}
 use Rattle.script_run.proofs.trace_commands.are_numbers.Given as goal
 
 -- whether all words are numbers is whether those left are

@@ -1,6 +1,6 @@
 use Rattle.std.proofs.Common.{◌≡◌, ◌++◌, length, option_map}
 use Rattle.script_run.specs.Words.{words_of}
-use Rattle.script_run.specs.Commands.{numbers_of}
+use Rattle.script_run.specs.Readers.{numbers_of}
 use Rattle.script_run.proofs.trace_commands.numbers.Given as goal
 
 -- the numbers of all words are those that are read, and then those of the words left

@@ -1,7 +1,7 @@
 use Rattle.std.proofs.Common.{◌≡◌, ◌+◌, ◌++◌, length, drop}
 use Rattle.frame_cut.specs.Traces.{count_of}
 use Rattle.time_slice.specs.OfRecords.{with_sample_of}
-use Rattle.time_slice.specs.Looks.{RisesAtMost}
+use Rattle.edit_overlay.specs.CountedVolume.{RisesAtMost}
 use Rattle.time_slice.specs.Slices.{rows_from}
 use Rattle.time_slice.proofs.of_volume.rows_in_place.Given as goal
 

@@ -1,63 +1,18 @@
-use Rattle.std.proofs.Common.{rules, ◌≡◌, SFits, sym, ap₂, ◌∙◌, arith}
-use Rattle.std.specs.Int.{w16, w32, w128}
-use Rattle.std.proofs.lemmas.Int.{ints}
+use Rattle.std.proofs.Common.{sym, ◌∙◌}
 use Rattle.trace_view.specs.Shown.{bytes_of, head_of}
 use Rattle.trace_view.specs.Values.{sample_bytes}
-use Rattle.trace_record.specs.Coordinates.{under_scalar}
-use Rattle.trace_record.proofs.FactsLemmas.{kept, facts_made}
-use Rattle.trace_record.proofs.GeometryLemmas.{names}
-use Rattle.trace_record.proofs.HeaderLemmas.{has_header}
+use Rattle.trace_record.proofs.FactsLemmas.{with_own}
 use Rattle.trace_record.proofs.SampleLemmas.{length-samples_in}
 use Rattle.trace_record.proofs.of_trace.record_of.Goals as goal
 
-pub u16_at-requires-2 : goal.u16_at-requires-2
-u16_at-requires-2 c =
+pub record_with-requires-clause-number : goal.record_with-requires-clause-number
+record_with-requires-clause-number c =
     let v = c.args.view.now in
-    let long = has_header (head_of v) (bytes_of v) v.whole in
-    omega arith
-
-pub invariant_of-result : goal.invariant_of-result
-invariant_of-result c =
-    let v = c.args.view.now in
-    let s = c.samples_statistics-samples in
-    let fits : SFits w128 s.result.sum = search rules in
-    let number : s.result.number ≡ c.sample_count.result = s.ensures.number ∙ length-samples_in (head_of v).order (head_of v).format _ (sample_bytes (head_of v) (bytes_of v)) ∙ sym c.sample_count.ensures in
-    let range = s.ensures.range in
-    record { sum_low = omega (arith, ints, range.low); sum_high = omega (arith, ints, range.high) }
+    c.samples_statistics.ensures.number ∙ length-samples_in (head_of v).order (head_of v).format _ (sample_bytes (head_of v) (bytes_of v)) ∙ sym c.sample_count.ensures
 
 pub returns : goal.returns
 returns c has =
     let v = c.args.view.now in
-    let s = c.samples_statistics-samples in
-    let least : SFits w128 s.result.least = search rules in
-    let greatest : SFits w128 s.result.greatest = search rules in
-    let sum : SFits w128 s.result.sum = search rules in
-    let inline : SFits w32 c.geometry_value.result = search rules in
-    let crossline : SFits w32 c.geometry_value-2.result = search rules in
-    let offset : SFits w32 c.geometry_value-3.result = search rules in
-    let x : SFits w32 c.geometry_value-x.result = search rules in
-    let y : SFits w32 c.geometry_value-y.result = search rules in
-    let sequence : SFits w32 c.i32_at.result = search rules in
-    let scalar : SFits w16 c.scalar_of-scalar.result = search rules in
-    let units : SFits w16 c.i16_at.result = search rules in
-    let h = head_of v in
-    let t = bytes_of v in
-    let named = names h c.args.fields.now.pairs t has in
-    let the_scalar = kept w16 _ _ scalar (c.scalar_of-scalar.ensures named.scalar) in
-    facts_made _ h c.args.fields.now.pairs t (record {
-      inline = kept w32 _ _ inline (c.geometry_value.ensures named.inline);
-      crossline = kept w32 _ _ crossline (c.geometry_value-2.ensures named.crossline);
-      offset = kept w32 _ _ offset (c.geometry_value-3.ensures named.offset);
-      x = c.scaled.ensures.exact ∙ ap₂ under_scalar (kept w32 _ _ x (c.geometry_value-x.ensures named.x)) the_scalar;
-      y = c.scaled-2.ensures.exact ∙ ap₂ under_scalar (kept w32 _ _ y (c.geometry_value-y.ensures named.y)) the_scalar;
-      scalar = the_scalar;
-      sequence = kept w32 _ _ sequence c.i32_at.ensures;
-      units = kept w16 _ _ units c.i16_at.ensures;
-      interval = c.u16_at.ensures;
-      samples_field = c.u16_at-2.ensures;
-      has_known_name = c.has_known_name.ensures;
-      least = kept w128 _ _ least s.ensures.least;
-      greatest = kept w128 _ _ greatest s.ensures.greatest;
-      sum = kept w128 _ _ sum s.ensures.sum;
-      number = c.sample_count.ensures ∙ sym (length-samples_in h.order h.format _ (sample_bytes h t));
-    })
+    let s = c.samples_statistics in
+    c.record_with.ensures has
+    ∙ with_own (head_of v) c.args.fields.now.pairs (bytes_of v) s.result s.ensures.least s.ensures.greatest s.ensures.sum s.ensures.number

@@ -8,6 +8,7 @@ use Rattle.frame_cut.specs.Volume.{Volume}
 use Rattle.bench_rules.specs.declared.field.Field.TheVariants as field
 use Rattle.bench_rules.specs.declared.edit.Edit.TheVariants.{SetBin}
 use Rattle.edit_overlay.specs.CountedVolume.{CountedVolume}
+use Rattle.volume_records.specs.OfVolume.{records_of}
 use Rattle.bench_core.specs.Held.{state_of}
 use Rattle.bench_rules.proofs.HeaderEditLemmas.{bin_accepted, bin_done, bin_room, after_cut}
 use Rattle.bench_core.proofs.bench.Bench.put_in_binary.Goals as goal
@@ -32,6 +33,7 @@ invariant_of-self c =
     record {
       cut = after_cut (state_of c.self.inside) (SetBin (field.Place c.args.place) c.args.value) c.put_head.new.self.volume done;
       extensions = c.self.invariant.extensions ∙ ap (λ (v : Volume). v.head.extensions) (sym (ap (λ (o : CountedVolume). o.volume) c.put_head.ensures));
+      records = c.self.invariant.records ∙ ap (λ (v : Volume). records_of v c.self.inside.fields.pairs) (sym (ap (λ (o : CountedVolume). o.volume) c.put_head.ensures));
     }
 
 pub returns-clause-after : goal.returns-clause-after

@@ -5,6 +5,7 @@ use Rattle.text_block.specs.Lines.{text_fault, encoded_line}
 use Rattle.frame_cut.specs.Volume.{Volume}
 use Rattle.bench_rules.specs.declared.edit.Edit.TheVariants.{SetText}
 use Rattle.edit_overlay.specs.CountedVolume.{CountedVolume}
+use Rattle.volume_records.specs.OfVolume.{records_of}
 use Rattle.bench_core.specs.Held.{state_of}
 use Rattle.bench_rules.specs.Refused.{is_line}
 use Rattle.bench_rules.proofs.HeaderEditLemmas.{text_done, text_refused_none, after_cut}
@@ -20,6 +21,7 @@ invariant_of-self c =
     record {
       cut = after_cut (state_of c.self.inside) (SetText c.args.q c.args.text.now) c.put_text.new.self.volume done;
       extensions = c.self.invariant.extensions ∙ ap (λ (v : Volume). v.head.extensions) (sym (ap (λ (o : CountedVolume). o.volume) c.put_text.ensures));
+      records = c.self.invariant.records ∙ ap (λ (v : Volume). records_of v c.self.inside.fields.pairs) (sym (ap (λ (o : CountedVolume). o.volume) c.put_text.ensures));
     }
 
 pub returns-clause-step : goal.returns-clause-step

@@ -14,6 +14,6 @@ pub returns-in_err-insert-clause-err : goal.returns-in_err-insert-clause-err
 returns-in_err-insert-clause-err c =
     on_err c.from_residual.result _ (
     shown_kept c.self.inside c.insert.new.self (record { head = c.insert.ensures.head; loaded = c.insert.ensures.loaded })
-    (record { head = c.insert.ensures.head; bases = c.in_err-insert.ensures.bases; traces = c.in_err-insert.ensures.err })
+    (record { head = c.insert.ensures.head; bases = c.in_err-insert.ensures.bases; traces = c.in_err-insert.ensures.err; room = c.in_err-insert.ensures.room })
     ∙ c.self.view_is
     )

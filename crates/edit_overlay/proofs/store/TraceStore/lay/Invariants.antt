@@ -1,6 +1,6 @@
 use Rattle.std.proofs.Common.{◌≡◌}
 use Rattle.std.specs.Vec.Iter.{into_iter_items}
-use Rattle.edit_overlay.specs.Ahead.{traces_then, traces_with, AreRunsFrom}
+use Rattle.edit_overlay.specs.Ahead.{traces_with, AreRunsFrom}
 use Rattle.edit_overlay.specs.Slots.{bases_of, traces_of, IsStore}
 use Rattle.edit_overlay.proofs.store.TraceStore.lay.Given as goal
 
@@ -11,5 +11,5 @@ invariant-loop-runs l = record {
   head : l.self.head ≡ l.fn.self.head;
   loaded : l.self.loaded ≡ l.fn.self.loaded;
   runs : AreRunsFrom l.self.head (bases_of l.self) l.done (into_iter_items l.runs-iterator);
-  traces : traces_with (bases_of l.self) (traces_of l.self) l.done (into_iter_items l.runs-iterator) ≡ traces_then l.fn.self l.fn.prepared;
+  traces : traces_with (bases_of l.self) (traces_of l.self) l.done (into_iter_items l.runs-iterator) ≡ traces_with (bases_of l.fn.self) (traces_of l.fn.self) l.fn.prepared.place l.fn.prepared.lists.items;
 }

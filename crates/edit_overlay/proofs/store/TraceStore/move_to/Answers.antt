@@ -1,6 +1,5 @@
-use Rattle.std.proofs.Common.{◌≡◌, ◌-◌, ◌<◌, [], ◌∙◌, ℕ, List, length, map, sym, ap, subst, arith}
+use Rattle.std.proofs.Common.{◌-◌, ◌<◌, [], ◌∙◌, ℕ, List, length, map, sym, ap, subst, arith}
 use Rattle.std.proofs.lemmas.List.{length-map}
-use Rattle.trace_seq.specs.Order.{with_id_moved}
 use Rattle.edit_overlay.specs.Slots.{bytes_under}
 use Rattle.edit_overlay.proofs.OrderLemmas.{map-moved}
 use Rattle.edit_overlay.proofs.SlotLemmas.{AreHeld, held-moved, times-moved, length-moved}
@@ -11,7 +10,7 @@ returns-clause-store c =
     let s = c.args.self.now in
     let short : c.args.a - 1 < length s.order.ids = omega (arith, c.requires.from_first, c.requires.from_last, length-map s.order.ids (bytes_under s.loaded.items s.slots)) in
     let most : c.args.b - 1 < length s.order.ids = omega (arith, c.requires.to_first, c.requires.to_last, length-map s.order.ids (bytes_under s.loaded.items s.slots)) in
-    let ids : c.move_to.new.self.ids ≡ with_id_moved s.order.ids c.args.a c.args.b = c.move_to.ensures.ids ∙ ap (λ (xs : List ℕ). with_id_moved xs c.args.a c.args.b) c.reserve_one.ensures.ids in
+    let ids = c.move_to.ensures.ids in
     record {
       slots = subst (λ (xs : List ℕ). AreHeld s.loaded.items s.head xs s.slots) (sym ids) (held-moved s.loaded.items s.head s.order.ids s.slots c.args.a c.args.b c.requires.store.slots short);
       distinct = λ id. rw ids (omega (arith, c.requires.store.distinct id, times-moved id s.order.ids c.args.a c.args.b short));
@@ -19,9 +18,8 @@ returns-clause-store c =
       few = rw ids (omega (arith, c.requires.store.few, length-moved s.order.ids c.args.a c.args.b short most));
     }
 
-pub returns-clause-ok : goal.returns-clause-ok
-returns-clause-ok c =
+pub returns-clause-traces : goal.returns-clause-traces
+returns-clause-traces c =
     let s = c.args.self.now in
     let short : c.args.a - 1 < length s.order.ids = omega (arith, c.requires.from_first, c.requires.from_last, length-map s.order.ids (bytes_under s.loaded.items s.slots)) in
-    let ids : c.move_to.new.self.ids ≡ with_id_moved s.order.ids c.args.a c.args.b = c.move_to.ensures.ids ∙ ap (λ (xs : List ℕ). with_id_moved xs c.args.a c.args.b) c.reserve_one.ensures.ids in
-    ap (λ (xs : List ℕ). map (bytes_under s.loaded.items s.slots) xs) ids ∙ map-moved (bytes_under s.loaded.items s.slots) s.order.ids c.args.a c.args.b [] short
+    ap (λ (xs : List ℕ). map (bytes_under s.loaded.items s.slots) xs) c.move_to.ensures.ids ∙ map-moved (bytes_under s.loaded.items s.slots) s.order.ids c.args.a c.args.b [] short

@@ -1,36 +1,20 @@
-use Rattle.std.proofs.Common.{◌≡◌, ◌-◌, ◌∙◌, [], List, arith, ap, sym}
+use Rattle.std.proofs.Common.{◌-◌, ◌∙◌, [], sym, ap, subst}
 use Rattle.std.specs.Prelude.{slice_index_or}
-use Rattle.trace_view.specs.declared.run.Run.{Run}
-use Rattle.trace_view.specs.Runs.{bytes_with_runs}
-use Rattle.edit_overlay.specs.Slots.{bases_of, traces_of}
-use Rattle.edit_overlay.proofs.AheadLemmas.{behind, in_front, length-bases, runs-at, with-at}
+use Rattle.edit_overlay.specs.declared.prepared.Prepared.{Prepared}
+use Rattle.edit_overlay.specs.declared.prepared.Prepared.TheVariants.{Move}
+use Rattle.edit_overlay.specs.Ahead.{traces_then, IsReady}
+use Rattle.edit_overlay.specs.Slots.{traces_of}
+use Rattle.edit_overlay.proofs.MoveLemmas.{moved-at}
 use Rattle.edit_overlay.proofs.store.TraceStore.view_then.Goals as goal
 
-pub returns-then-at-prepared-clause-bytes : goal.returns-then-at-prepared-clause-bytes
-returns-then-at-prepared-clause-bytes c =
+pub returns-in-Move-clause-bytes : goal.returns-in-Move-clause-bytes
+returns-in-Move-clause-bytes c =
     let s = c.args.self.now in
-    c.view.ensures.bytes ∙ sym (in_front (bases_of s) (traces_of s) c.args.prepared.now.place (c.args.p - 1) c.args.prepared.now.lists.items c.if-at-prepared.true)
-
-pub returns-then-k-len-clause-bytes : goal.returns-then-k-len-clause-bytes
-returns-then-k-len-clause-bytes c =
-    let s = c.args.self.now in
-    let lists = c.args.prepared.now.lists in
-    c.view-then-k-len.ensures.bytes ∙ sym (behind (bases_of s) (traces_of s) c.args.prepared.now.place (c.args.p - 1) lists.items (omega (arith, c.if-at-prepared.false, c.if-k-len.true, c.len.ensures, lists.ok)))
-
-pub view_with-requires-clause-runs : goal.view_with-requires-clause-runs
-view_with-requires-clause-runs c =
-    let s = c.args.self.now in
-    let place = c.args.prepared.now.place in
-    let lists = c.args.prepared.now.lists in
-    rw c.as_slice.ensures.value (
-    runs-at s.head (bases_of s) place (c.args.p - 1) (c.args.p - 1 - place) lists.items c.index.result.now c.requires.ready.runs (omega (arith, c.if-k-len.false, c.len.ensures, lists.ok)) (sym c.index.ensures) (omega (arith, c.if-at-prepared.false))
-    )
-
-pub returns-clause-bytes : goal.returns-clause-bytes
-returns-clause-bytes c =
-    let s = c.args.self.now in
-    let place = c.args.prepared.now.place in
-    let lists = c.args.prepared.now.lists in
-    c.view_with.ensures.bytes
-    ∙ (ap (λ (rs : List Run). bytes_with_runs (slice_index_or (bases_of s) (c.args.p - 1) []) rs) c.as_slice.ensures.value
-    ∙ sym (with-at s.head (bases_of s) (traces_of s) place (c.args.p - 1) (c.args.p - 1 - place) lists.items c.index.result.now c.requires.ready.runs (length-bases s) (omega (arith, c.if-k-len.false, c.len.ensures, lists.ok)) (sym c.index.ensures) (omega (arith, c.if-at-prepared.false))))
+    let m = c.in-Move.places in
+    let ready : IsReady s (Move m) = subst (λ (d : Prepared). IsReady s d) c.in-Move.is c.requires.ready in
+    c.view.ensures.bytes
+    ∙ (sym (moved-at (traces_of s) m.from m.to c.args.p c.origin.result
+    (record { from_first = ready.fit.from_first; from_last = ready.fit.from_last; to_first = ready.fit.to_first; to_last = ready.fit.to_last })
+    (record { moved = c.origin.ensures.moved; forth = c.origin.ensures.forth; back = c.origin.ensures.back; in_front = c.origin.ensures.in_front; behind = c.origin.ensures.behind })
+    c.requires.first)
+    ∙ ap (λ (d : Prepared). slice_index_or (traces_then s d) (c.args.p - 1) []) (sym c.in-Move.is))

@@ -1,8 +1,7 @@
-use Rattle.std.proofs.Common.{◌-◌, ◌∙◌, [], ℕ, List, length, sym, ap, subst}
-use Rattle.std.specs.Prelude.{slice_index_or}
+use Rattle.std.proofs.Common.{◌∙◌, ℕ, List, length, sym, ap, subst}
 use Rattle.frame_cut.specs.Cuts.{IsTrace}
 use Rattle.trace_view.specs.Runs.{Fit, bytes_with_runs}
-use Rattle.edit_overlay.specs.Slots.{base_of, bases_of, IsInside}
+use Rattle.edit_overlay.specs.Slots.{IsInside}
 use Rattle.edit_overlay.proofs.SlotLemmas.{slot-found, slot-missed, base-at}
 use Rattle.edit_overlay.proofs.store.TraceStore.view_with.Goals as goal
 

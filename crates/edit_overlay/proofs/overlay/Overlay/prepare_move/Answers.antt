@@ -1,0 +1,12 @@
+use Rattle.std.proofs.Common.{◌∙◌}
+use Rattle.edit_overlay.proofs.HeldLemmas.{shown_kept}
+use Rattle.edit_overlay.proofs.SlotLemmas.{on_err}
+use Rattle.edit_overlay.proofs.overlay.Overlay.prepare_move.Goals as goal
+
+pub returns-in_err-prepared-clause-err : goal.returns-in_err-prepared-clause-err
+returns-in_err-prepared-clause-err c =
+    on_err c.from_residual.result _ (
+    shown_kept c.self.inside c.prepare_move.new.self (record { head = c.prepare_move.ensures.head; loaded = c.prepare_move.ensures.loaded })
+    (record { head = c.prepare_move.ensures.head; bases = c.prepare_move.ensures.bases; traces = c.prepare_move.ensures.traces; room = c.prepare_move.ensures.room })
+    ∙ c.self.view_is
+    )

@@ -1,0 +1,152 @@
+-- Bytes over the headers of a trace that leave it whole leave its samples.
+use Rattle.std.proofs.Common.{◌≡◌, ◌⊎◌, ℕ, ◌+◌, ◌*◌, ◌-◌, ◌/◌, ◌<◌, ◌≤◌, Bool, true, false, leb, List, ◌++◌, length, take, drop, Option, Some, None, lit≤, refl, sym, ap, subst, ◌∙◌, arith, inl, inr}
+use Rattle.std.specs.Prelude.{option_map, unwrap_or}
+use Rattle.std.proofs.Math.Nat.{mul-div_cancel_left}
+use Rattle.std.proofs.Math.Seq.{drop-append-add}
+use Rattle.std.proofs.lemmas.Bool.{leb-true, leb-false}
+use Rattle.std.proofs.lemmas.List.{length-append, length-take-le, drop-drop}
+use Rattle.sample_codes.specs.declared.format.Format.{Format}
+use Rattle.sample_codes.specs.declared.format.Format.TheVariants.{Signed32, Signed16, Signed24, Signed8, Signed64, Unsigned32, Unsigned16, Unsigned64, Unsigned24, Unsigned8}
+use Rattle.sample_codes.specs.Formats.{width}
+use Rattle.field_map.specs.Pairs.{Pairs}
+use Rattle.frame_cut.specs.declared.file_head.Head.{Head}
+use Rattle.frame_cut.specs.Cuts.{IsTrace}
+use Rattle.frame_cut.specs.Frames.{header_bytes, extension_count, extensions_of, sample_count, trace_length, length_with}
+use Rattle.frame_cut.specs.Splice.{splice}
+use Rattle.frame_cut.proofs.BinEditLemmas.{slice_before, slice_behind}
+use Rattle.frame_cut.proofs.EditLemmas.{length-splice}
+use Rattle.trace_view.specs.Values.{samples_at, sample_bytes, samples_in, samples_of}
+use Rattle.trace_record.specs.Facts.{with_samples, with_samples_of}
+use Rattle.trace_record.specs.OfTrace.{record_of}
+
+-- ---- the parts of a trace
+
+-- a sample has at least one byte
+pub width-positive : (f : Format) → 1 ≤ width f
+width-positive Signed32 = lit≤ tt
+width-positive Signed16 = lit≤ tt
+width-positive Signed24 = lit≤ tt
+width-positive Signed8 = lit≤ tt
+width-positive Signed64 = lit≤ tt
+width-positive Unsigned32 = lit≤ tt
+width-positive Unsigned16 = lit≤ tt
+width-positive Unsigned64 = lit≤ tt
+width-positive Unsigned24 = lit≤ tt
+width-positive Unsigned8 = lit≤ tt
+
+-- the headers and the samples are the whole trace
+pub record IsMeasured (h : Head) (t : List ℕ) : Type 0 where
+  pub whole : samples_at h t + width h.format * sample_count h t ≡ length t
+
+measured-by : (h : Head) (t : List ℕ) (o : Option ℕ) → extension_count h t ≡ o → option_map (λ e. length_with h e (sample_count h t)) o ≡ Some (length t) → IsMeasured h t
+measured-by h t None e is = absurd cc
+measured-by h t (Some x) e is =
+    let same : length_with h x (sample_count h t) ≡ length t = cc in
+    let extensions : extensions_of h t ≡ x = ap (λ (o : Option ℕ). unwrap_or o 0) e in
+    record { whole = rw extensions same }
+
+pub measured : (h : Head) (t : List ℕ) → IsTrace h t → IsMeasured h t
+measured h t is = measured-by h t (extension_count h t) refl is.exact
+
+-- ---- what a splice leaves
+
+-- bytes apart from it are as they were
+apart : (t new : List ℕ) (at k m : ℕ) → at + length new ≤ length t → (k + m ≤ at) ⊎ (at + length new ≤ k) → take m (drop k (splice t at (length new) new)) ≡ take m (drop k t)
+apart t new at k m inside (inl before) = slice_before t at (length new) new k m before (omega arith)
+apart t new at k m inside (inr behind) = slice_behind t at new k m behind inside
+
+-- so are all bytes behind it
+drop-splice : (t new : List ℕ) (at k : ℕ) → at + length new ≤ k → k ≤ length t → drop k (splice t at (length new) new) ≡ drop k t
+drop-splice t new at k behind inside =
+    let end : ℕ = at + length new in
+    let more : ℕ = k - end in
+    let front : length (take at t ++ new) ≡ end = omega (arith, length-append (take at t) new, length-take-le at t (omega arith)) in
+    let place : k ≡ length (take at t ++ new) + more = omega (arith, front) in
+    let same : end + more ≡ k = omega arith in
+    ap (λ (i : ℕ). drop i (splice t at (length new) new)) place
+    ∙ drop-append-add (take at t ++ new) (drop end t) more
+    ∙ drop-drop more end t
+    ∙ ap (λ (i : ℕ). drop i t) same
+
+-- ---- the number of header extensions
+
+same_count : (h : Head) (t u : List ℕ) → header_bytes 1 157 2 u ≡ header_bytes 1 157 2 t → extension_count h u ≡ extension_count h t
+same_count h t u e = rw e refl
+
+same_number : (h : Head) (t u : List ℕ) → header_bytes 0 115 2 u ≡ header_bytes 0 115 2 t → header_bytes 1 137 4 u ≡ header_bytes 1 137 4 t → sample_count h u ≡ sample_count h t
+same_number h t u e f = rw (e, f) refl
+
+one_number : (a b w n len : ℕ) → 240 * (1 + a) + w * n ≡ len → 240 * (1 + b) + w * n ≡ len → a ≡ b
+one_number a b w n len e f = omega arith
+
+-- two traces with one length and one number of samples have one number of extensions
+by_length : (h : Head) (o q : Option ℕ) (n len : ℕ) → option_map (λ e. length_with h e n) o ≡ Some len → option_map (λ e. length_with h e n) q ≡ Some len → unwrap_or o 0 ≡ unwrap_or q 0
+by_length h None q n len e f = absurd cc
+by_length h (Some a) None n len e f = absurd cc
+by_length h (Some a) (Some b) n len e f =
+    let first : length_with h a n ≡ len = cc in
+    let second : length_with h b n ≡ len = cc in
+    one_number a b (width h.format) n len first second
+
+-- the length that the headers give after a splice
+exact-splice : (h : Head) (t new : List ℕ) (at : ℕ) → at + length new ≤ length t → IsTrace h (splice t at (length new) new) → trace_length h (splice t at (length new) new) ≡ Some (length t)
+exact-splice h t new at inside whole = whole.exact ∙ ap (λ (n : ℕ). let o : Option ℕ = Some n in o) (length-splice t at new inside)
+
+-- at most 8 bytes that leave a trace whole leave the number of extensions: they do not touch both it and a number of samples
+pub extensions_kept : (h : Head) (t new : List ℕ) (at : ℕ) → IsTrace h t → length new ≤ 8 → at + length new ≤ length t → IsTrace h (splice t at (length new) new)
+    → extensions_of h (splice t at (length new) new) ≡ extensions_of h t
+extensions_kept h t new at is few inside whole = by (leb (at + length new) 396) (leb 398 at) refl refl
+  where
+    u : List ℕ
+    u = splice t at (length new) new
+
+    touched : 388 < at → extensions_of h u ≡ extensions_of h t
+    touched low =
+        let same : sample_count h u ≡ sample_count h t =
+        same_number h t u (apart t new at 114 2 inside (inl (omega arith))) (apart t new at 376 4 inside (inl (omega arith))) in
+        by_length h (extension_count h u) (extension_count h t) (sample_count h t) (length t)
+        (ap (λ (n : ℕ). option_map (λ e. length_with h e n) (extension_count h u)) (sym same) ∙ exact-splice h t new at inside whole) is.exact
+
+    by : (b c : Bool) → leb (at + length new) 396 ≡ b → leb 398 at ≡ c → extensions_of h u ≡ extensions_of h t
+    by true c e f = ap (λ (o : Option ℕ). unwrap_or o 0) (same_count h t u (apart t new at 396 2 inside (inr (leb-true _ _ e))))
+    by false true e f = ap (λ (o : Option ℕ). unwrap_or o 0) (same_count h t u (apart t new at 396 2 inside (inl (leb-true _ _ f))))
+    by false false e f =
+        let over : 396 < at + length new = leb-false (at + length new) 396 e in
+        touched (omega arith)
+
+-- ---- the samples
+
+times-cancel : (w a b : ℕ) → 0 < w → w * a ≡ w * b → a ≡ b
+times-cancel w a b some e = sym (mul-div_cancel_left a some) ∙ ap (λ (n : ℕ). n / w) e ∙ mul-div_cancel_left b some
+
+-- bytes over the headers that leave the number of extensions leave the samples
+pub samples_of-splice : (h : Head) (t new : List ℕ) (at : ℕ) → IsTrace h t → IsTrace h (splice t at (length new) new) → at + length new ≤ samples_at h t
+    → extensions_of h (splice t at (length new) new) ≡ extensions_of h t → samples_of h (splice t at (length new) new) ≡ samples_of h t
+samples_of-splice h t new at is whole front extensions =
+    let u : List ℕ = splice t at (length new) new in
+    let old = measured h t is in
+    let now = measured h u whole in
+    let inside : at + length new ≤ length t = omega (arith, front, old.whole) in
+    let len : length u ≡ length t = length-splice t at new inside in
+    let starts : samples_at h u ≡ samples_at h t = ap (λ (x : ℕ). 240 * (1 + x)) extensions in
+    let counts : sample_count h u ≡ sample_count h t = times-cancel (width h.format) _ _ (width-positive h.format) (omega (arith, now.whole, old.whole, starts, len)) in
+    let there : samples_at h t ≤ length t = omega (arith, old.whole) in
+    let bytes : sample_bytes h u ≡ sample_bytes h t = ap (λ (k : ℕ). drop k u) starts ∙ drop-splice t new at (samples_at h t) front there in
+    ap (λ (n : ℕ). samples_in h.order h.format n (sample_bytes h u)) counts ∙ ap (samples_in h.order h.format (sample_count h t)) bytes
+
+-- at most 8 bytes over the headers that leave the trace whole leave the samples
+pub samples_of-header : (h : Head) (t u new : List ℕ) (at : ℕ) → IsTrace h t → IsTrace h u → u ≡ splice t at (length new) new → length new ≤ 8 → at + length new ≤ samples_at h t
+    → samples_of h u ≡ samples_of h t
+samples_of-header h t u new at is whole e few front =
+    let spliced : IsTrace h (splice t at (length new) new) = subst (λ (s : List ℕ). IsTrace h s) e whole in
+    let inside : at + length new ≤ length t = omega (arith, front, (measured h t is).whole) in
+    ap (samples_of h) e ∙ samples_of-splice h t new at is spliced front (extensions_kept h t new at is few inside spliced)
+
+-- a trace with the samples of another: its record is that of its headers, with the samples of the other's
+pub record-same_samples : (h : Head) (fields : Pairs) (t u : List ℕ) → samples_of h u ≡ samples_of h t → with_samples_of (record_of h fields u) (record_of h fields t) ≡ record_of h fields u
+record-same_samples h fields t u e = ap (with_samples (record_of h fields u)) (sym e)
+
+-- so it is after at most 8 bytes over the headers that leave the trace whole
+pub record-header : (h : Head) (fields : Pairs) (t u new : List ℕ) (at : ℕ) → IsTrace h t → IsTrace h u → u ≡ splice t at (length new) new → length new ≤ 8 → at + length new ≤ samples_at h t
+    → with_samples_of (record_of h fields u) (record_of h fields t) ≡ record_of h fields u
+record-header h fields t u new at is whole e few front = record-same_samples h fields t u (samples_of-header h t u new at is whole e few front)

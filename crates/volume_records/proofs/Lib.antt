@@ -1,0 +1,8 @@
+pub mod ListLemmas
+pub mod SeenLemmas
+pub mod RecordLemmas
+pub mod PassLemmas
+pub mod FewLemmas
+pub mod EditLemmas
+pub mod NameLemmas
+pub mod HeaderLemmas

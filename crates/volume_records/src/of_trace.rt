@@ -1,0 +1,63 @@
+ghost use Rattle.std.specs.Prelude.{◌≡◌, IsTrue};
+ghost use Rattle.frame_cut.specs.Cuts.{IsTrace};
+ghost use Rattle.frame_cut.specs.Traces.{is_trace, trace_at};
+ghost use Rattle.trace_record.specs.Facts.{facts_of, with_samples_of};
+ghost use Rattle.trace_record.specs.OfTrace.{record_of as record_of_trace};
+ghost use Rattle.edit_overlay.specs.CountedVolume.{with_one_look};
+
+use edit_overlay::Overlay;
+use field_map::FieldMap;
+use frame_cut::Head;
+use trace_record::{Record, record_of, record_with_samples_of};
+use trace_view::TraceView;
+
+/// The record of trace p, counted from 1, as it would be with the edit that is prepared, under a
+/// map for the file. One look. Takes no memory.
+pub fn prepared_record(overlay: &mut Overlay, fields: &FieldMap, p: u32) -> Record
+    requires trace { IsTrue (is_trace overlay.old.prepared p) }
+    requires fields { fields.now.extensions ≡ overlay.old.prepared.head.extensions }
+    ensures record { facts_of result ≡ record_of_trace overlay.old.prepared.head fields.now.pairs
+        (trace_at overlay.old.prepared p) }
+    ensures overlay { overlay.new ≡ with_one_look overlay.old }
+{
+    fields.geometry_stands();
+    let Some(trace) = overlay.look_prepared(p) else {
+        unreachable!()
+    };
+    record_of(&trace, fields)
+}
+
+/// The record of trace p, counted from 1, as it would be with the edit that is prepared, but for
+/// the least, greatest, sum and number of its samples, which are those of another record. For an
+/// edit of headers alone. One look, which reads no sample. Takes no memory.
+pub fn prepared_headers(
+    overlay: &mut Overlay,
+    fields: &FieldMap,
+    p: u32,
+    samples: &Record,
+) -> Record
+    requires trace { IsTrue (is_trace overlay.old.prepared p) }
+    requires fields { fields.now.extensions ≡ overlay.old.prepared.head.extensions }
+    ensures record { facts_of result ≡ with_samples_of
+        (record_of_trace overlay.old.prepared.head fields.now.pairs
+        (trace_at overlay.old.prepared p)) (facts_of samples.now) }
+    ensures overlay { overlay.new ≡ with_one_look overlay.old }
+{
+    fields.geometry_stands();
+    let Some(headers) = overlay.look_prepared(p) else {
+        unreachable!()
+    };
+    record_with_samples_of(&headers, fields, samples)
+}
+
+/// The record of a whole trace in memory that no volume holds yet, under the head of a file and a
+/// map for the file. No look. Takes no memory.
+pub fn record_of_bytes(head: &Head, bytes: &[u8], fields: &FieldMap) -> Record
+    requires whole { IsTrace head.now bytes.now }
+    requires fields { fields.now.extensions ≡ head.now.extensions }
+    ensures { facts_of result ≡ record_of_trace head.now fields.now.pairs bytes.now }
+{
+    fields.geometry_stands();
+    let whole = TraceView::new(head, bytes, &[]);
+    record_of(&whole, fields)
+}

@@ -1,0 +1,18 @@
+use thiserror::Error;
+
+/// A growth was refused, and nothing but the number of looks is changed.
+#[derive(Clone, Copy, Debug, PartialEq, Eq, Error)]
+#[error("out of memory")]
+pub struct OutOfMemory;
+
+impl From<record_list::OutOfMemory> for OutOfMemory {
+    fn from(_error: record_list::OutOfMemory) -> OutOfMemory {
+        OutOfMemory
+    }
+}
+
+impl From<live_reports::OutOfMemory> for OutOfMemory {
+    fn from(_error: live_reports::OutOfMemory) -> OutOfMemory {
+        OutOfMemory
+    }
+}

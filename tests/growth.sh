@@ -76,3 +76,10 @@ if [ "$refusals" -ge 8 ] && [ "$got" = 0 ]; then tell 'names and texts with no g
 printf 'patch 2 1 -7\ncopy 2 1\nmove 1 4\nblank 2\ndelete 3\nset 2 @189:4 7\nsample 4 1\n' > script
 each_growth judge_lines ' among edits of traces'
 if [ "$refusals" -ge 8 ] && [ "$got" = 0 ]; then tell 'edits of traces with no growth refused' ok; else tell 'edits of traces with no growth refused' "status $got after $refusals"; fi
+
+# the records and the values that run with them follow each edit, or none of it; a list is answered whole, or not at all
+for list in grid inlines crosslines histogram 'slice 1' faults; do
+    printf 'set 2 inline 11\nmap inline @193:4\ncopy 1 2\nmove 1 3\nblank 1\ntotals\n%s\n' "$list" > script
+    each_growth judge_lines " before $list"
+    if [ "$refusals" -ge 20 ] && [ "$got" = 0 ]; then tell "$list with no growth refused" ok; else tell "$list with no growth refused" "status $got after $refusals"; fi
+done

@@ -40,6 +40,40 @@ expect 'a geometry name bound anew' 1 'ok\ncells 3\ncell 21 21 1\ncell 22 22 1\n
 printf 'text 1 NO C\ntext 2 \nbin interval 2000\nfaults\n' > script
 expect 'faults of the headers' 0 'ok\nok\nok\nfaults 4\nF8 lines 2\nF3 trace 1 interval 4000 binary 2000\nF3 trace 2 interval 4000 binary 2000\nF3 trace 3 interval 4000 binary 2000\n' '' s.sgy --script script
 
+# ---- scripts with their answers, lines between ` ; ` and ` / `
+# answers NAME STATUS FILE LINES ANSWERS [WORD..]
+answers() {
+    local name=$1 status=$2 file=$3 lines=$4 told=$5 outcome=ok got
+    shift 5
+    sed 's/ ; /\n/g' <<< "$lines" > script
+    sed 's: / :\n:g' <<< "$told" > wanted
+    "$program" "$file" --script script --out o.sgy "$@" > answered 2> errors
+    got=$?
+    [ "$got" = "$status" ] || outcome="status $got, not $status"
+    cmp -s wanted answered || outcome="answers: $(head -c 300 answered)"
+    tell "$name" "$outcome"
+}
+answers 'no traces' 0 none.sgy 'info ; range x ; totals ; faults' 'info order big revision 1.0 format 3 samples 2 fixed yes extensions 0 blocks 0 trailer 0 traces 0 bytes 3600 / range none / totals none / faults 0'
+{ head -c 3840 s.sgy; tail -c +3845 s.sgy | head -c 240; tail -c +4089 s.sgy | head -c 240; } > bare.sgy; put bare.sgy 3220 0000
+answers 'no samples' 0 bare.sgy 'totals ; stat 1 ; count' 'totals none / stat none / traces 3'
+answers 'samples of three bytes, little-endian' 0 t.sgy 'sample 1 0 ; sample 1 1 ; totals ; set 1 @1:4 258 ; patch 1 0 -2' 'value -1 / value -8388608 / totals least -8388608 greatest -1 sum -8388609 samples 2 / ok / ok'
+{ head -c 3600 s.sgy; for _ in 1 2; do zeros 240; printf '\377\377\377\377\377\377\377\377'; done; } > wide.sgy; put wide.sgy 3220 0001; put wide.sgy 3224 000c
+answers 'the sum of the greatest samples' 0 wide.sgy 'totals' 'totals least 18446744073709551615 greatest 18446744073709551615 sum 36893488147419103230 samples 2'
+answers 'a slice of traces of their own lengths' 1 v.sgy 'set 1 @115:2u 4 ; set 2 @115:2u 2 ; slice 2' 'refused E06 frame / ok / slice 2 / row 0 0 1 0 / row 0 0 3 0'
+answers 'a number of samples that the reading does not use' 0 loose.sgy 'set 1 @115:2u 4 ; faults' 'ok / faults 1 / F2 trace 1 field 4 samples 2' --fixed
+answers 'ranges under scalars' 0 s.sgy 'set 1 scalar 100 ; set 1 x 3 ; set 2 scalar -100 ; set 2 x 250 ; set 3 x 40 ; range x ; delete 1 ; range x' 'ok / ok / ok / ok / ok / range 5/2 300 / ok / range 5/2 40'
+answers 'the least scalar and coordinate' 1 s.sgy 'set 1 scalar -32768 ; set 1 x -2147483648 ; geometry 1 ; set 1 x 2147483648' 'ok / ok / geometry inline 10 crossline 21 offset 100 x -65536 y 125/8192 / refused E04 does not fit'
+answers 'places that overlap' 0 s.sgy 'map scalar @189:2 ; set 1 inline 327680 ; get 1 scalar ; range x ; range inline ; faults' 'ok / ok / value 5 / range 2000 5000 / range 10 327680 / faults 1 / F4 trace 1 scalar 5'
+answers 'a moved trace' 0 s.sgy 'set 3 crossline 21 ; set 3 offset 100 ; faults ; move 3 1 ; faults ; grid ; histogram' 'ok / ok / faults 1 / F6 trace 3 first 1 / ok / faults 4 / F1 trace 1 sequence 3 / F1 trace 2 sequence 1 / F6 trace 2 first 1 / F1 trace 3 sequence 2 / cells 2 / cell 10 21 2 / cell 10 22 1 / histogram 2 / times 1 1 / times 2 1'
+answers 'all out and a blank one in' 1 s.sgy 'delete 3 ; delete 2 ; delete 1 ; totals ; blank 1 ; count ; faults ; delete 2' 'ok / ok / ok / totals none / ok / traces 1 / faults 1 / F1 trace 1 sequence 0 / refused E01 no trace 2 of 1'
+answers 'a slice after a patch' 1 s.sgy 'slice 1 ; patch 2 1 -7 ; slice 1 ; slice 2 ; patch 2 1 40000 ; patch 2 1 1 2' 'slice 3 / row 10 21 1 -2 / row 10 22 2 4 / row 10 23 3 6 / ok / slice 3 / row 10 21 1 -2 / row 10 22 2 -7 / row 10 23 3 6 / slice 0 / refused E04 does not fit / refused E05 no sample 2 of 2'
+{ for _ in $(seq 3200); do printf '\100'; done; tail -c +3201 s.sgy; } > blanks.sgy
+answers 'lines without a C' 1 blanks.sgy "code 0 ; faults ; text 1 C 1 LINE[ ; text 1 $(printf 'C%.0s' $(seq 81)) ; text 1 C 1 LINE ; line 0 1 ; faults" 'code ebcdic / faults 1 / F8 lines 40 / refused E07 T02 no code for column 9 / refused E07 T01 too long / ok / line |C 1 LINE| / faults 1 / F8 lines 39'
+answers 'a patch and its statistics' 1 x.sgy 'set 1 @10:2 258 ; get 1 @9:4 ; set 1 @1.157:2 2 ; patch 1 0 7 ; patch 1 0 5 6 ; stat 1' 'ok / value 66048 / refused E06 frame / ok / ok / stat least 5 greatest 6 sum 11 samples 2'
+answers 'the number of traces' 0 x.sgy 'bin trace_count 2 ; faults' 'ok / faults 1 / F7 count 2 traces 1'
+answers 'a negative fraction, and a name' 0 x.sgy 'set 1 scalar -100 ; set 1 x -250 ; range x ; set 1 @233:1 1 ; faults' 'ok / ok / range -5/2 -5/2 / ok / faults 1 / F9 trace 1 name'
+answers 'copies and moves' 1 s.sgy 'copy 3 1 ; stat 1 ; move 2 4 ; sample 4 1 ; range offset ; move 1 5 ; copy 1 6 ; set 0 inline 1 ; getbin interval ; inlines ; crosslines ; fold 10 23' 'ok / stat least -5 greatest 6 sum 1 samples 2 / ok / value -2 / range 100 300 / refused E01 no trace 5 of 4 / refused E01 no trace 6 of 4 / refused E01 no trace 0 of 4 / value 4000 / inlines 1 / inline 10 4 / crosslines 3 / crossline 21 1 / crossline 22 1 / crossline 23 2 / fold 2'
+
 # ---- the answer is that of the saved file loaded anew
 reloads 'reports before any edit' s.sgy ''
 reloads 'reports after sets' s.sgy 'set 1 inline 12\nset 2 crossline 21\nset 3 x -7\nset 3 scalar -100\nset 1 @190:1 5\nset 2 @187:8 1000\nset 9 inline 1\nset 1 @239:4 1\n'

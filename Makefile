@@ -72,11 +72,12 @@ uninstall:
 	rm -f $(INTO)/share/fish/vendor_completions.d/segywb.fish
 	rm -rf $(INTO)/share/doc/segywb
 
-# Speed: the program as ratios to cp and md5sum of the same file in the same run, the order of traces at three sizes, and the
-# running reports over a million records.
+# Speed: the program as ratios to cp and md5sum of the same file in the same run, the reports on two surveys, the order of traces
+# at three sizes, and the running reports over a million records.
 bench: build
 	cd crates/time_records && { rt run > out.log 2>&1 || true; }
 	bash benchmarks/run $(BUILT) crates/time_records/out/time_records
+	bash benchmarks/live $(BUILT)
 	cd crates/time_orders && { rt run > out.log 2>&1 || true; }
 	bash benchmarks/orders crates/time_orders/out/time_orders
 	cd crates/time_reports && { rt run > out.log 2>&1 || true; }

@@ -41,7 +41,8 @@ pub fn geometry(trace: &Record) -> Answer
 
 /// The statistics of the samples of the trace of this record. Takes no memory.
 pub fn stat(trace: &Record) -> Answer
-    ensures { (h : Heads) (fields : Pairs) (t : List ℕ) → facts_of trace.now ≡ record_of h fields t →
+    ensures { (h : Heads) (fields : Pairs) (t : List ℕ) →
+        facts_of trace.now ≡ record_of h fields t →
         result ≡ answers.Stat (statistics_of (samples_of h t)) }
 {
     if trace.number == 0 {

@@ -1,7 +1,7 @@
 // Runs a script over a volume.
 ghost use Rattle.std.specs.Prelude.{IfOk, IfErr, MatchResult};
 ghost use Rattle.frame_cut.specs.Volume.{bytes_of};
-ghost use Rattle.script_run.specs.Devices.{device_of, Takes, TakesPart};
+ghost use Rattle.script_run.specs.Devices.{Device, device_of, Takes, TakesPart};
 ghost use Rattle.script_run.specs.Loading.{Loads, IsLoadRefused};
 ghost use Rattle.script_run.specs.Ends.{devices, IsTold, Runs};
 
@@ -45,18 +45,40 @@ pub fn run<R: Read, S: Read, A: Write, O: Write>(
         (device_of A.contents answers.new) (device_of O.contents out.new))
         result }
 {
-    let mut bench = match load(alloc, reader, options) {
-        Ok(bench) => bench,
-        Err(fault) => return tell(answers, &load_fault_line(fault), RunEnd::Load(fault)),
-    };
+    match load(alloc, reader, options) {
+        Ok(mut bench) => run_loaded(alloc, &mut bench, script, answers, out, options),
+        Err(fault) => tell(answers, &load_fault_line(fault), RunEnd::Load(fault)),
+    }
+}
+
+// What follows the load: reads the script whole, runs its lines over the volume, and saves it where
+// that is asked for. The volume is borrowed here: the proof of a function that owns one grows with
+// each of its ends.
+fn run_loaded<S: Read, A: Write, O: Write>(
+    alloc: Global,
+    bench: &mut Bench,
+    script: &mut Source<S>,
+    answers: &mut Sink<A>,
+    out: &mut Sink<O>,
+    options: Options,
+) -> RunEnd
+    ensures { (before after : Device) →
+        Loads before after options.reading options.limits bench.old.state →
+        Runs options
+        (devices before (device_of S.remaining script.old)
+        (device_of A.contents answers.old) (device_of O.contents out.old))
+        (devices after (device_of S.remaining script.new)
+        (device_of A.contents answers.new) (device_of O.contents out.new))
+        result }
+{
     let lines = match read_script(alloc, script) {
         Ok(lines) => lines,
         Err(fault) => return tell(answers, &script_fault_line(fault), RunEnd::Script(fault)),
     };
-    match run_lines(alloc, &mut bench, lines.as_slice(), answers, options.stop) {
+    match run_lines(alloc, bench, lines.as_slice(), answers, options.stop) {
         LinesEnd::Stopped { line } => RunEnd::Stopped { line },
         LinesEnd::Answers { written } => RunEnd::Answers { written },
-        LinesEnd::Whole { refused } if options.save => match save(&bench, out) {
+        LinesEnd::Whole { refused } if options.save => match save(bench, out) {
             Ok(()) => RunEnd::Done { refused },
             Err(fault) => RunEnd::Save(fault),
         },

@@ -99,6 +99,8 @@ place() { (cd "$top" && env -u MAKEFLAGS -u MAKELEVEL -u MFLAGS make -s "$@" PRO
 runs_well 'make install' place install
 runs_well 'the program that was installed' cmp "$program" root/opt/segywb/bin/segywb
 same 'what was installed' "$(cd root && find . -type f | grep -v examples | sort)" './opt/segywb/bin/segywb
+./opt/segywb/bin/segywb-plot
+./opt/segywb/bin/segywb-report
 ./opt/segywb/share/bash-completion/completions/segywb
 ./opt/segywb/share/doc/segywb/COOKBOOK.md
 ./opt/segywb/share/doc/segywb/LICENSE

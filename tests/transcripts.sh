@@ -4,7 +4,8 @@
 #   sh top        the block is run at the top of the repository, else in a folder with the example files
 #   sh needs=WORD the block is left out where there is no command WORD
 #   text status=N the last command's exit status, which is else 0
-# The blocks of one document share a folder, and are run one after another. `segywb` is the program that is tried.
+# The blocks of one document share a folder, and are run one after another. `segywb` is the program that is tried, and the tools
+# for pictures and pages are there.
 # usage: tests/transcripts.sh PROGRAM DOCUMENT.md..
 set -u
 here=$(cd "$(dirname "$0")" && pwd)
@@ -15,8 +16,9 @@ room=$(mktemp -d)
 trap 'rm -rf "$room"' EXIT
 mkdir "$room/bin" "$room/home"
 ln -s "$PROGRAM" "$room/bin/segywb"
+ln -s "$top/tools/segywb-plot" "$top/tools/segywb-report" "$room/bin"
 export PROGRAM PATH="$room/bin:$PATH" HOME="$room/home" LC_ALL=C
-unset MAKEFLAGS MAKELEVEL MFLAGS PREFIX DESTDIR
+unset MAKEFLAGS MAKELEVEL MFLAGS PREFIX DESTDIR SEGYWB GNUPLOT
 passed=0
 failed=0
 left_out=0

@@ -1,0 +1,230 @@
+#!/usr/bin/env bash
+# The pictures of tools/segywb-plot and the page of tools/segywb-report. The page is tried without gnuplot; where gnuplot is
+# there, the pictures are drawn, and gnuplot itself tells the colours of their pixels.
+# usage: tests/pictures.sh PROGRAM
+set -u
+here=$(cd "$(dirname "$0")" && pwd)
+tools=$here/../tools
+SEGYWB=$(realpath "$1")
+export SEGYWB LC_ALL=C
+gnuplot=${GNUPLOT:-gnuplot}
+. "$here/files.sh"
+work=$(mktemp -d)
+trap 'rm -rf "$work"' EXIT
+cd "$work" || exit 1
+cp "$here"/../examples/*.sgy .
+head -c 3600 cube.sgy > none.sgy
+head -c 6000 cube.sgy > torn.sgy
+passed=0
+failed=0
+
+tell() { if [ "$2" = ok ]; then passed=$((passed + 1)); else failed=$((failed + 1)); printf 'FAILED %s: %s\n' "$1" "$2"; fi; }
+same() { if [ "$2" = "$3" ]; then tell "$1" ok; else tell "$1" "$2, not $3"; fi; }
+# has NAME FILE TEXT, lacks NAME FILE TEXT
+has() { if grep -qF -- "$3" "$2"; then tell "$1" ok; else tell "$1" "lacks $3"; fi; }
+lacks() { if grep -qF -- "$3" "$2"; then tell "$1" "has $(grep -F -- "$3" "$2" | head -n 1 | cut -c 1-200)"; else tell "$1" ok; fi; }
+# runs NAME STATUS ERRORS WORD..: a tool ends so; ERRORS is a text that standard error begins with
+runs() {
+    local name=$1 status=$2 wanted=$3 got
+    shift 3
+    "$tools/$1" "${@:2}" > told 2> errors < /dev/null
+    got=$?
+    if [ "$got" != "$status" ]; then tell "$name" "status $got, not $status: $(head -c 300 errors)"; return; fi
+    if [ -s told ]; then tell "$name" "told $(head -c 100 told)"; return; fi
+    case $(cat errors) in "$wanted") tell "$name" ok ;; "$wanted"*) [ -n "$wanted" ] && tell "$name" ok || tell "$name" "$(head -c 300 errors)" ;; *) tell "$name" "$(head -c 300 errors)" ;; esac
+}
+absent() { if [ -e "$2" ]; then tell "$1" "$2 was made"; else tell "$1" ok; fi; }
+
+# ---- without gnuplot
+export GNUPLOT=none/gnuplot
+runs 'a picture without gnuplot' 5 'segywb-plot: there is no none/gnuplot: install it' segywb-plot fold cube.sgy x.png
+absent 'no picture without gnuplot' x.png
+runs 'a page without gnuplot' 0 'segywb-report: no pictures: there is no none/gnuplot' segywb-report cube.sgy page.html
+has 'the page says why it has no pictures' page.html '<p>No pictures: there is no none/gnuplot'
+lacks 'and has none' page.html '<img'
+has 'what the file is' page.html '<tr><th scope="row">bytes</th><td>6600</td></tr>'
+has 'what ranges it has' page.html '<tr><th scope="row">x, under the scalar</th><td>450000 to 450075</td></tr>'
+has 'its totals' page.html '<tr><th scope="row">least sample</th><td>-103</td></tr>'
+has 'no faults' page.html '<p>None.</p>'
+same 'the lines of the textual header' "$(grep -c '^<div>C[ 1-4][0-9]' page.html)" 40
+
+# texts of the file and of the script do not become markup
+odd="a'b\"c\$(touch touched);\`touch touched\`{_^@&%}\\n<script>.sgy"
+printf '%s\n' "text 3 C <script>alert(\"1\") & 'x'</script>" > script
+"$SEGYWB" cube.sgy --script script --out "$odd" > /dev/null
+printf '%s\n' 'text 4 </div><script>' '# <script> is a note' '' 'nonsense <script>' 'grid' $'# \377' '  ' 'get 99 inline' 'line 0 3' > '<script>.txt'
+runs 'a page with a script' 1 'segywb-report: 3 lines of the script were refused' segywb-report --no-pictures "$odd" page.html '<script>.txt'
+lacks 'nothing becomes a script' page.html '<script'
+has 'the textual header' page.html '<div>C &lt;script&gt;alert(&quot;1&quot;) &amp; &#39;x&#39;&lt;/script&gt;</div>'
+has 'the edit of the textual header' page.html '<div class="differs">&lt;/div&gt;&lt;script&gt;</div>'
+has 'the name of the file' page.html "<h1>a&#39;b&quot;c\$(touch touched);\`touch touched\`{_^@&amp;%}\\n&lt;script&gt;.sgy</h1>"
+has 'the name of the script' page.html '<code>&lt;script&gt;.txt</code>: 6 lines with an answer, 3 refused.'
+has 'a refused line' page.html '<tr><th scope="row">4</th><td>S01 unknown word</td><td><code>nonsense &lt;script&gt;</code></td></tr>'
+has 'a line that is no text' page.html '<tr><th scope="row">6</th><td>S04 not text</td><td><code># ?</code></td></tr>'
+has 'a refused line behind a list' page.html '<tr><th scope="row">8</th><td>E01 no trace 99 of 12</td><td><code>get 99 inline</code></td></tr>'
+
+# before and after
+{ seq -f 'set %.0f inline 102' 5 8; printf 'text 5 C CORRECTED'; } > fix.txt
+runs 'before and after' 0 '' segywb-report --no-pictures wrong_line.sgy page.html fix.txt
+has 'a number that the edits change' page.html '<tr class="differs"><th scope="row">cells of the grid</th><td>8</td><td>12</td></tr>'
+has 'a number that they leave' page.html '<tr><th scope="row">traces</th><td>12</td><td>12</td></tr>'
+has 'faults that they take away' page.html '<td>4</td><td>trace 5 first 1; trace 6 first 2; trace 7 first 3; trace 8 first 4</td><td>0</td><td></td>'
+has 'the line as it was' page.html '<div class="differs">C 5</div>'
+has 'the line as it is' page.html '<div class="differs">C CORRECTED</div>'
+same 'no other line is marked' "$(grep -c '^<div class="differs">' page.html)" 2
+cmp -s wrong_line.sgy "$here/../examples/wrong_line.sgy" && tell 'the file stays as it was' ok || tell 'the file stays as it was' 'it was changed'
+runs 'a page of more than five faults' 0 '' segywb-report --no-pictures wrong_count.sgy page.html
+has 'names the first five' page.html '<td>12</td><td>trace 1 interval 4000 binary 2000; trace 2 interval 4000 binary 2000; trace 3 interval 4000 binary 2000; trace 4 interval 4000 binary 2000; trace 5 interval 4000 binary 2000; ..</td>'
+runs 'a page of a file without traces' 0 '' segywb-report --no-pictures none.sgy page.html
+has 'says so' page.html '<tr><th scope="row">fold (traces of a cell)</th><td>none</td></tr>'
+
+# refusals
+rm -f x.html
+runs 'a refused file' 3 'torn.sgy: load refused L14 truncated trace 10' segywb-report --no-pictures torn.sgy x.html
+runs 'no file' 3 'segywb: cannot open absent.sgy' segywb-report --no-pictures absent.sgy x.html
+runs 'no script' 4 'segywb-report: cannot read absent.txt' segywb-report --no-pictures cube.sgy x.html absent.txt
+runs 'the file as the page' 2 'segywb-report: OUT.html is FILE or SCRIPT itself' segywb-report --no-pictures cube.sgy cube.sgy
+runs 'an unknown option' 2 'segywb-report: unknown option --nothing' segywb-report --nothing cube.sgy x.html
+runs 'a limit' 3 'cube.sgy: load refused L02 too large' segywb-report --no-pictures --max-bytes 6599 cube.sgy x.html
+absent 'a refusal makes no page' x.html
+runs 'no place for the page' 4 'segywb-report: cannot write none/x.html' segywb-report --no-pictures cube.sgy none/x.html
+SEGYWB=none/segywb runs 'no program' 5 'segywb-report: there is no program none/segywb' segywb-report --no-pictures cube.sgy x.html
+same 'a help' "$("$tools/segywb-plot" --help | head -n 1)" 'Draws a picture of a SEG-Y file, by the answers of segywb and with gnuplot.'
+
+finish() { printf 'pictures: %d passed, %d failed\n' "$passed" "$failed"; [ "$failed" = 0 ]; exit; }
+GNUPLOT=$gnuplot
+command -v "$gnuplot" > /dev/null || { echo 'left out the pictures themselves: no gnuplot'; finish; }
+
+# ---- with gnuplot
+# drawn NAME SIZE WORD..: segywb-plot draws x.png, without a word, and it has this size
+drawn() {
+    local name=$1 size=$2 errors=$3
+    shift 3
+    rm -f x.png
+    runs "$name" 0 "$errors" segywb-plot "$@" x.png
+    same "$name: width and height" "$(od -An -tu1 -j16 -N8 x.png | awk '{ print 256 * (256 * $2 + $3) + $4 "x" 256 * (256 * $6 + $7) + $8 }')" "$size"
+    same "$name: it is a PNG picture" "$(head -c 4 x.png | tail -c 3)" PNG
+}
+drawn 'a fold map' 1200x900 '' fold cube.sgy
+drawn 'a file without traces' 700x500 'segywb-plot: no traces' --size 700x500 fold none.sgy
+drawn 'positions of no traces' 1200x900 'segywb-plot: no traces' coordinates none.sgy
+drawn 'a histogram of no traces' 1200x900 'segywb-plot: no traces' histogram none.sgy
+drawn 'a sample that no trace has' 1200x900 'segywb-plot: no trace has sample 5' slice 5 cube.sgy
+drawn 'a survey of one line' 1200x900 '' slice 1 survey.sgy
+printf 'delete 3\ndelete 2\n' > script
+drawn 'a survey of one trace' 1200x900 '' --script script fold survey.sgy
+drawn 'the position of one trace' 400x300 '' --size 400x300 --script script coordinates survey.sgy
+runs 'a picture of a refused file' 3 'torn.sgy: load refused L14 truncated trace 10' segywb-plot fold torn.sgy y.png
+absent 'is not made' y.png
+
+# look [N]: every second (or nth) pixel of every second (nth) row of x.png goes to the file `table`, a line for each; rows count
+# from below, and the uppermost is looked at
+look() {
+    printf "set table 'table'\nplot 'x.png' binary filetype=png every %s:%s with rgbimage\n" "${1:-2}" "${1:-2}" | "$gnuplot" > said 2>&1 && grep -q '^ *0 ' table
+}
+look || { echo 'left out the colours of pixels: this gnuplot reads no PNG'; finish; }
+
+# at NAME COLUMN ROW RED GREEN BLUE: this pixel is to have this colour, within 8 of 255; `judge [N]` looks at x.png and tells
+: > expected
+at() { printf '%s\t%s %s\t%s %s %s\n' "$@" >> expected; }
+judge() {
+    local name outcome judged=0
+    look "$@"
+    while IFS=$'\t' read -r name outcome; do
+        tell "$name" "$outcome"
+        judged=$((judged + 1))
+    done < <(awk -F '\t' '
+        part == 1 { place[FNR] = $2; name[FNR] = $1; colour[FNR] = $3; asked[$2] = 1; n = FNR; next }
+        { split($0, word, " "); if (word[1] " " word[2] in asked) found[word[1] " " word[2]] = word[3] " " word[4] " " word[5] }
+        END {
+            for (k = 1; k <= n; k++) {
+                outcome = split(found[place[k]], got, " ") == 3 ? "ok" : "no such pixel"
+                split(colour[k], wanted, " ")
+                for (c = 1; c <= 3; c++) if (got[c] - wanted[c] > 8 || wanted[c] - got[c] > 8) outcome = "pixel " place[k] " is " found[place[k]] ", not " colour[k]
+                print name[k] "\t" outcome
+            }
+        }' part=1 expected part=2 table)
+    same 'all pixels were judged' "$judged" "$(wc -l < expected)"
+    : > expected
+}
+# The plot of a picture of 400x300 stands on the columns 52 to 340 and the rows 36 to 258. The cube has 4 crosslines and 3 inlines.
+# cell NAME INLINE CROSSLINE RED GREEN BLUE: the colour in the middle of a cell
+cell() { at "$1: cell $2 $3" $((52 + (2 * ($3 - 201) + 1) * 288 / 8)) $((36 + (2 * ($2 - 101) + 1) * 222 / 6)) "$4" "$5" "$6"; }
+
+# cells NAME INLINE CROSSLINE RED GREEN BLUE: all cells have the colour of fold 1, but this one
+cells() {
+    local inline crossline
+    for inline in 101 102 103; do
+        for crossline in 201 202 203 204; do
+            if [ $inline = "$2" ] && [ $crossline = "$3" ]; then cell "$1" $inline $crossline "$4" "$5" "$6"; else cell "$1" $inline $crossline 59 82 139; fi
+        done
+    done
+    judge
+}
+drawn 'a fold map of the cube with a trace twice' 400x300 '' --size 400x300 fold twice.sgy
+cells 'a trace twice' 101 204 253 231 37
+drawn 'a fold map of the cube without a trace' 400x300 '' --size 400x300 fold missing.sgy
+cells 'a missing trace' 102 203 204 204 204
+printf 'map inline @9:4\nmap crossline @21:4\ncopy 9 9\n' > script
+drawn 'a fold map after edits' 400x300 '' --size 400x300 --script script fold elsewhere.sgy
+cells 'after edits' 103 201 253 231 37
+
+# the greatest and the least sample are red and blue, and 0 is white
+printf 'patch 2 1 500\npatch 12 1 -500\npatch 5 1 0\ndelete 9\n' > script
+drawn 'a slice' 400x300 '' --size 400x300 slice 1 cube.sgy --script script
+cell 'the greatest sample' 101 202 168 15 20
+cell 'the least sample' 103 204 10 47 156
+cell 'a sample of 0' 102 201 255 255 255
+cell 'no trace' 103 201 204 204 204
+judge
+drawn 'a clipped slice' 400x300 '' --size 400x300 slice 1 cube.sgy --clip 21
+cell 'a sample above the clip' 103 204 168 15 20
+judge
+
+# three traces 1000 apart on a line: the first, the middle one, the last
+drawn 'positions' 400x300 '' --size 400x300 coordinates survey.sgy
+at 'the first trace' 62 147 68 1 84
+at 'the second trace' 196 147 33 145 140
+at 'the third trace' 328 147 232 197 0
+at 'nothing between them' 110 147 255 255 255
+at 'nothing beside them' 180 181 255 255 255
+judge
+
+# 11 cells have fold 1, one has fold 2
+drawn 'a histogram' 400x300 '' --size 400x300 histogram twice.sgy
+at 'the bar of fold 1' 148 207 59 82 139
+at 'the bar of fold 2 is lower' 244 207 255 255 255
+at 'the bar of fold 2' 244 45 59 82 139
+at 'no bar beside them' 196 45 255 255 255
+judge
+
+# an odd name changes the label alone
+drawn 'a fold map of a file with an odd name' 400x300 '' --size 400x300 fold "$odd"
+cells 'an odd name' none none 0 0 0
+absent 'nothing is run' touched
+absent 'by either tool' "${odd%/*}/touched"
+
+# of many traces one of each few is asked: here as if 5 were many
+(
+    . "$tools/segywb-plot"
+    most=5
+    begin
+    ask cube.sgy answers <<< count
+    ask_positions cube.sgy answers positions
+    echo "$every" $(cut -d ' ' -f 3 "$work/positions")
+) > told 2> errors
+same 'positions of some traces' "$(cat told)" '3 1 4 7 10'
+
+# the page has the pictures of both sides, in one frame
+runs 'a page with pictures' 0 '' segywb-report wrong_line.sgy page.html fix.txt
+grep -o 'src="data:image/png;base64,[^"]*"' page.html | sed 's/.*base64,//; s/"$//' > encoded
+same 'its pictures' "$(wc -l < encoded)" 6
+lacks 'nothing from elsewhere' <(sed 's/base64,[^"]*//' page.html) '://'
+for k in 1 4; do
+    sed -n "${k}p" encoded | base64 -d > x.png
+    # three times as many pixels each way as above
+    if [ $k = 1 ]; then at 'inline 102 before' 588 443 204 204 204; else at 'inline 102 after' 588 443 59 82 139; fi
+    if [ $k = 1 ]; then at 'inline 101 before' 588 219 253 231 37; else at 'inline 101 after' 588 219 59 82 139; fi
+    judge 4
+done
+finish

@@ -1,4 +1,6 @@
-// Loads, edits and saves over small files that are made by hand.
+// Loads, edits and saves over small files that are made by hand. One function owns the overlay of
+// each test and lends it out: the check of a function that owns an overlay takes the longer the
+// more it does, and that of a borrower stays short.
 ghost use Rattle.std.specs.Prelude.{◌≡◌, ◌≤◌, ◌+◌, length, IsTrue};
 ghost use Rattle.frame_cut.specs.Cuts.{IsTrace};
 ghost use Rattle.frame_cut.specs.Splice.{splice};
@@ -48,6 +50,18 @@ fn limits() -> Result<Limits, Fail> {
 fn volume(alloc: Global) -> Result<Overlay, Fail> {
     let file = small_file(alloc)?;
     Ok(Overlay::from_bytes(alloc, file, Reading::AsWritten, limits()?)?)
+}
+
+// What the function answers of the small file and of an overlay over it.
+fn on_small<F: FnOnce(&[u8], &mut Overlay) -> Result<(), Fail>>(
+    alloc: Global,
+    ask: F,
+) -> Result<(), Fail>
+    requires { F.IsAlwaysCallable ask }
+{
+    let file = small_file(alloc)?;
+    let mut volume = volume(alloc)?;
+    ask(file.as_slice(), &mut volume)
 }
 
 // Asserts that a save writes these parts, one behind the other.
@@ -184,31 +198,31 @@ fn prepare_move(alloc: Global, volume: &mut Overlay, a: u32, b: u32) -> Result<(
     Ok(())
 }
 
-fn insert(alloc: Global, volume: &mut Overlay, p: u32, bytes: Vec<u8>) -> Result<(), Fail> {
+fn insert(alloc: Global, volume: &mut Overlay, p: u32, bytes: &[u8]) -> Result<(), Fail> {
     if volume.count() > 10_000 || volume.length() > 10_000_000 || bytes.len() > 10_000 {
         return Err(Fail::from("too much"));
     }
     if p == 0 || p > volume.count() + 1 {
         return Err(Fail::from("no such position"));
     }
-    if !is_trace(&volume.head(), bytes.as_slice()) {
+    if !is_trace(&volume.head(), bytes) {
         return Err(Fail::from("no trace"));
     }
-    volume.insert(alloc, p, bytes)?;
+    volume.insert(alloc, p, Vec::from_slice(alloc, bytes)?)?;
     Ok(())
 }
 
-fn replace(alloc: Global, volume: &mut Overlay, p: u32, bytes: Vec<u8>) -> Result<(), Fail> {
+fn replace(alloc: Global, volume: &mut Overlay, p: u32, bytes: &[u8]) -> Result<(), Fail> {
     if volume.length() > 10_000_000 || bytes.len() > 10_000 {
         return Err(Fail::from("too much"));
     }
     if p == 0 || p > volume.count() {
         return Err(Fail::from("no such trace"));
     }
-    if !is_trace(&volume.head(), bytes.as_slice()) {
+    if !is_trace(&volume.head(), bytes) {
         return Err(Fail::from("no trace"));
     }
-    volume.replace(alloc, p, bytes);
+    volume.replace(alloc, p, Vec::from_slice(alloc, bytes)?);
     Ok(())
 }
 
@@ -232,276 +246,325 @@ fn move_to(alloc: Global, volume: &mut Overlay, a: u32, b: u32) -> Result<(), Fa
 #[test]
 fn cuts_bytes_in_memory(rt: HostRuntime) -> Result<(), Fail> {
     let alloc = rt.alloc();
-    let file = small_file(alloc)?;
-    let mut volume = volume(alloc)?;
-    assert_eq!(rt; volume.count(), 2);
-    assert_eq!(rt; volume.length(), 4088);
-    assert_eq!(rt; volume.head().samples, 2);
-    assert!(rt; volume.block(1).is_none());
-    assert!(rt; volume.trailer(1).is_none());
-    expect_trace(&rt, &mut volume, 1, part(file.as_slice(), 3600, 3844));
-    expect_trace(&rt, &mut volume, 2, part(file.as_slice(), 3844, 4088));
-    expect_saved(&rt, alloc, &volume, &[file.as_slice()])
+    on_small(alloc, |file, volume| {
+        assert_eq!(rt; volume.count(), 2);
+        assert_eq!(rt; volume.length(), 4088);
+        assert_eq!(rt; volume.head().samples, 2);
+        assert!(rt; volume.block(1).is_none());
+        assert!(rt; volume.trailer(1).is_none());
+        expect_trace(&rt, volume, 1, part(file, 3600, 3844));
+        expect_trace(&rt, volume, 2, part(file, 3844, 4088));
+        expect_saved(&rt, alloc, volume, &[file])
+    })
 }
 
 #[test]
 fn counts_looks(rt: HostRuntime) -> Result<(), Fail> {
-    let mut volume = volume(rt.alloc())?;
-    assert_eq!(rt; volume.looks(), 0);
-    assert!(rt; volume.look(1).is_some());
-    assert!(rt; volume.look(2).is_some());
-    assert!(rt; volume.look(2).is_some());
-    assert!(rt; volume.look(0).is_none());
-    assert!(rt; volume.look(3).is_none());
-    assert_eq!(rt; volume.looks(), 3);
-    Ok(())
+    on_small(rt.alloc(), |_, volume| {
+        assert_eq!(rt; volume.looks(), 0);
+        assert!(rt; volume.look(1).is_some());
+        assert!(rt; volume.look(2).is_some());
+        assert!(rt; volume.look(2).is_some());
+        assert!(rt; volume.look(0).is_none());
+        assert!(rt; volume.look(3).is_none());
+        assert_eq!(rt; volume.looks(), 3);
+        Ok(())
+    })
+}
+
+fn expect_as_loaded(
+    rt: &impl Abort,
+    alloc: Global,
+    loaded: &Overlay,
+    file: &[u8],
+) -> Result<(), Fail> {
+    assert_eq!(rt; loaded.count(), 2);
+    assert_eq!(rt; loaded.looks(), 0);
+    expect_saved(rt, alloc, loaded, &[file])
+}
+
+fn load_in_steps(rt: &impl Abort, alloc: Global, file: &[u8]) -> Result<(), Fail> {
+    let mut reader = Source::new(StepReader::new(file, 1, u64::MAX));
+    let loaded = Overlay::load(alloc, &mut reader, Reading::AsWritten, limits()?)?;
+    assert_eq!(rt; reader.failures(), 0);
+    expect_as_loaded(rt, alloc, &loaded, file)
 }
 
 #[test]
 fn loads_in_steps(rt: HostRuntime) -> Result<(), Fail> {
     let alloc = rt.alloc();
     let file = small_file(alloc)?;
-    let mut reader = Source::new(StepReader::new(file.as_slice(), 1, u64::MAX));
-    let loaded = Overlay::load(alloc, &mut reader, Reading::AsWritten, limits()?)?;
-    assert_eq!(rt; loaded.count(), 2);
-    assert_eq!(rt; loaded.looks(), 0);
-    assert_eq!(rt; reader.failures(), 0);
-    expect_saved(&rt, alloc, &loaded, &[file.as_slice()])
+    load_in_steps(&rt, alloc, file.as_slice())
+}
+
+// The fault of a load, if it met one.
+fn load_fault(
+    alloc: Global,
+    reader: &mut Source<StepReader<'_>>,
+    limits: Limits,
+) -> Option<LoadFault> {
+    Overlay::load(alloc, reader, Reading::AsWritten, limits).err()
+}
+
+fn refuse_to_load(rt: &impl Abort, alloc: Global, file: &[u8]) -> Result<(), Fail> {
+    let mut reader = Source::new(StepReader::new(file, 1000, 3));
+    let refused = load_fault(alloc, &mut reader, limits()?);
+    assert_eq!(rt; refused, Some(LoadFault::ReadFailed));
+    assert_eq!(rt; reader.failures(), 1);
+
+    let small = Limits::new(4087, 2).ok_or("limits")?;
+    let mut reader = Source::new(StepReader::new(file, 1000, u64::MAX));
+    let refused = load_fault(alloc, &mut reader, small);
+    assert_eq!(rt; refused, Some(LoadFault::TooLarge));
+    Ok(())
 }
 
 #[test]
 fn refuses_what_cannot_be_read(rt: HostRuntime) -> Result<(), Fail> {
     let alloc = rt.alloc();
     let file = small_file(alloc)?;
-    let mut reader = Source::new(StepReader::new(file.as_slice(), 1000, 3));
-    let refused = Overlay::load(alloc, &mut reader, Reading::AsWritten, limits()?).err();
-    assert_eq!(rt; refused, Some(LoadFault::ReadFailed));
-    assert_eq!(rt; reader.failures(), 1);
-
-    let small = Limits::new(4087, 2).ok_or("limits")?;
-    let mut reader = Source::new(StepReader::new(file.as_slice(), 1000, u64::MAX));
-    let refused = Overlay::load(alloc, &mut reader, Reading::AsWritten, small).err();
-    assert_eq!(rt; refused, Some(LoadFault::TooLarge));
-    Ok(())
+    refuse_to_load(&rt, alloc, file.as_slice())
 }
 
 // A put over an older one, and one beside it.
 #[test]
 fn puts_and_saves(rt: HostRuntime) -> Result<(), Fail> {
     let alloc = rt.alloc();
-    let file = small_file(alloc)?;
-    let mut volume = volume(alloc)?;
-    put(alloc, &mut volume, 2, 240, &[1, 2])?;
-    put(alloc, &mut volume, 2, 241, &[3])?;
-    put(alloc, &mut volume, 2, 242, &[4, 5])?;
-    let front = part(file.as_slice(), 0, 4084);
-    expect_saved(&rt, alloc, &volume, &[front, &[1, 3, 4, 5]])
+    on_small(alloc, |file, volume| {
+        put(alloc, volume, 2, 240, &[1, 2])?;
+        put(alloc, volume, 2, 241, &[3])?;
+        put(alloc, volume, 2, 242, &[4, 5])?;
+        let front = part(file, 0, 4084);
+        expect_saved(&rt, alloc, volume, &[front, &[1, 3, 4, 5]])
+    })
+}
+
+// Asserts that a save into the room stops where its writer fails, behind 4000 bytes.
+fn expect_stopped(rt: &impl Abort, volume: &Overlay, room: &mut [u8]) {
+    let mut writer = Sink::new(StepWriter::new(room, 1, 4000));
+    let fault = volume.write_to(&mut writer).err();
+    assert_eq!(rt; fault, Some(SaveFault { written: 4000 }));
+    assert_eq!(rt; writer.failures(), 1);
+    let _writer = writer.into_inner();
 }
 
 #[test]
 fn stops_where_the_writer_fails(rt: HostRuntime) -> Result<(), Fail> {
     let alloc = rt.alloc();
-    let file = small_file(alloc)?;
-    let mut volume = volume(alloc)?;
-    put(alloc, &mut volume, 2, 0, &[8])?;
-    let mut room = [0u8; 5000];
-    let mut writer = Sink::new(StepWriter::new(&mut room, 1, 4000));
-    let fault = volume.write_to(&mut writer).err();
-    assert_eq!(rt; fault, Some(SaveFault { written: 4000 }));
-    assert_eq!(rt; writer.failures(), 1);
-    let _writer = writer.into_inner();
-    assert!(rt; *part(&room, 0, 3844) == *part(file.as_slice(), 0, 3844));
-    assert_eq!(rt; room[3844], 8);
-    assert!(rt; *part(&room, 3845, 4000) == *part(file.as_slice(), 3845, 4000));
-    assert_eq!(rt; room[4000], 0);
-    Ok(())
+    on_small(alloc, |file, volume| {
+        put(alloc, volume, 2, 0, &[8])?;
+        let mut room = [0u8; 5000];
+        expect_stopped(&rt, volume, &mut room);
+        assert!(rt; *part(&room, 0, 3844) == *part(file, 0, 3844));
+        assert_eq!(rt; room[3844], 8);
+        assert!(rt; *part(&room, 3845, 4000) == *part(file, 3845, 4000));
+        assert_eq!(rt; room[4000], 0);
+        Ok(())
+    })
 }
 
 #[test]
 fn puts_text_and_head(rt: HostRuntime) -> Result<(), Fail> {
     let alloc = rt.alloc();
-    let file = small_file(alloc)?;
-    let mut volume = volume(alloc)?;
-    volume.put_text(40, &[0xC3; 80]);
-    volume.put_head(398, &[6, 7]);
-    let text = part(file.as_slice(), 0, 3120);
-    let head = part(file.as_slice(), 3200, 3598);
-    let traces = part(file.as_slice(), 3600, 4088);
-    expect_saved(
-        &rt,
-        alloc,
-        &volume,
-        &[text, &[0xC3; 80], head, &[6, 7], traces],
-    )
+    on_small(alloc, |file, volume| {
+        volume.put_text(40, &[0xC3; 80]);
+        volume.put_head(398, &[6, 7]);
+        let text = part(file, 0, 3120);
+        let head = part(file, 3200, 3598);
+        let traces = part(file, 3600, 4088);
+        expect_saved(
+            &rt,
+            alloc,
+            volume,
+            &[text, &[0xC3; 80], head, &[6, 7], traces],
+        )
+    })
 }
 
 #[test]
 fn puts_over_two_traces(rt: HostRuntime) -> Result<(), Fail> {
     let alloc = rt.alloc();
-    let file = small_file(alloc)?;
-    let mut volume = volume(alloc)?;
-    put(alloc, &mut volume, 2, 241, &[3])?;
-    put_over_two(alloc, &mut volume, 240, &[1, 2, 5, 6])?;
-    let front = part(file.as_slice(), 0, 3840);
-    let middle = part(file.as_slice(), 3842, 4084);
-    let back = part(file.as_slice(), 4086, 4088);
-    expect_saved(
-        &rt,
-        alloc,
-        &volume,
-        &[front, &[1, 2], middle, &[5, 6], back],
-    )
+    on_small(alloc, |file, volume| {
+        put(alloc, volume, 2, 241, &[3])?;
+        put_over_two(alloc, volume, 240, &[1, 2, 5, 6])?;
+        let front = part(file, 0, 3840);
+        let middle = part(file, 3842, 4084);
+        let back = part(file, 4086, 4088);
+        expect_saved(&rt, alloc, volume, &[front, &[1, 2], middle, &[5, 6], back])
+    })
+}
+
+fn prepare_and_discard(
+    rt: &impl Abort,
+    alloc: Global,
+    file: &[u8],
+    volume: &mut Overlay,
+) -> Result<(), Fail> {
+    let first = part(file, 3600, 3844);
+    prepare_over_two(alloc, volume, 240, &[1, 2, 5, 6])?;
+    expect_trace(rt, volume, 1, first);
+    assert!(rt; volume.looks() == 3);
+    assert!(rt; ends_ahead(volume, 1, &[1, 2, 0, 0]));
+    assert!(rt; ends_ahead(volume, 2, &[5, 6, 0, 9]));
+    assert!(rt; volume.looks() == 5);
+    volume.discard();
+    assert!(rt; ends_ahead(volume, 1, &[0, 7, 0, 0]));
+    expect_saved(rt, alloc, volume, &[file])
+}
+
+fn prepare_and_commit(
+    rt: &impl Abort,
+    alloc: Global,
+    file: &[u8],
+    volume: &mut Overlay,
+) -> Result<(), Fail> {
+    prepare(alloc, volume, 2, 240, &[3, 4])?;
+    assert!(rt; ends_ahead(volume, 1, &[0, 7, 0, 0]));
+    assert!(rt; ends_ahead(volume, 2, &[3, 4, 0, 9]));
+    expect_saved(rt, alloc, volume, &[file])?;
+    volume.commit();
+    volume.commit();
+    expect_saved(rt, alloc, volume, &[part(file, 0, 4084), &[3, 4, 0, 9]])
 }
 
 // The traces stay as they are, and are shown as they would be, until the edit is made.
 #[test]
 fn prepares_and_commits(rt: HostRuntime) -> Result<(), Fail> {
     let alloc = rt.alloc();
-    let file = small_file(alloc)?;
-    let mut volume = volume(alloc)?;
-    let first = part(file.as_slice(), 3600, 3844);
-    prepare_over_two(alloc, &mut volume, 240, &[1, 2, 5, 6])?;
-    expect_trace(&rt, &mut volume, 1, first);
-    assert!(rt; volume.looks() == 3);
-    assert!(rt; ends_ahead(&mut volume, 1, &[1, 2, 0, 0]));
-    assert!(rt; ends_ahead(&mut volume, 2, &[5, 6, 0, 9]));
-    assert!(rt; volume.looks() == 5);
-    volume.discard();
-    assert!(rt; ends_ahead(&mut volume, 1, &[0, 7, 0, 0]));
-    expect_saved(&rt, alloc, &volume, &[file.as_slice()])?;
+    on_small(alloc, |file, volume| {
+        prepare_and_discard(&rt, alloc, file, volume)?;
+        prepare_and_commit(&rt, alloc, file, volume)
+    })
+}
 
-    prepare(alloc, &mut volume, 2, 240, &[3, 4])?;
-    assert!(rt; ends_ahead(&mut volume, 1, &[0, 7, 0, 0]));
-    assert!(rt; ends_ahead(&mut volume, 2, &[3, 4, 0, 9]));
-    expect_saved(&rt, alloc, &volume, &[file.as_slice()])?;
+fn move_and_discard(
+    rt: &impl Abort,
+    alloc: Global,
+    file: &[u8],
+    last: &[u8],
+    volume: &mut Overlay,
+) -> Result<(), Fail> {
+    prepare_move(alloc, volume, 3, 1)?;
+    assert!(rt; ends_ahead(volume, 1, &[0x11; 4]));
+    assert!(rt; ends_ahead(volume, 2, &[0, 7, 0, 0]));
+    assert!(rt; ends_ahead(volume, 3, &[0, 0, 0, 9]));
+    volume.discard();
+    assert!(rt; ends_ahead(volume, 1, &[0, 7, 0, 0]));
+    expect_saved(rt, alloc, volume, &[file, last])
+}
+
+fn move_and_commit(
+    rt: &impl Abort,
+    alloc: Global,
+    file: &[u8],
+    last: &[u8],
+    volume: &mut Overlay,
+) -> Result<(), Fail> {
+    prepare_move(alloc, volume, 1, 2)?;
+    assert!(rt; ends_ahead(volume, 1, &[0, 0, 0, 9]));
+    assert!(rt; ends_ahead(volume, 2, &[0, 7, 0, 0]));
+    assert!(rt; ends_ahead(volume, 3, &[0x11; 4]));
+    expect_saved(rt, alloc, volume, &[file, last])?;
     volume.commit();
     volume.commit();
-    expect_saved(
-        &rt,
-        alloc,
-        &volume,
-        &[part(file.as_slice(), 0, 4084), &[3, 4, 0, 9]],
-    )
+    let headers = part(file, 0, 3600);
+    let first = part(file, 3600, 3844);
+    let second = part(file, 3844, 4088);
+    expect_saved(rt, alloc, volume, &[headers, second, first, last])
 }
 
 // The traces stay where they are, and are shown where they would be, until the move is made.
 #[test]
 fn prepares_and_commits_a_move(rt: HostRuntime) -> Result<(), Fail> {
     let alloc = rt.alloc();
-    let file = small_file(alloc)?;
     let last = trace(alloc, 2, 0x11)?;
-    let mut volume = volume(alloc)?;
-    insert(alloc, &mut volume, 3, trace(alloc, 2, 0x11)?)?;
-    prepare_move(alloc, &mut volume, 3, 1)?;
-    assert!(rt; ends_ahead(&mut volume, 1, &[0x11; 4]));
-    assert!(rt; ends_ahead(&mut volume, 2, &[0, 7, 0, 0]));
-    assert!(rt; ends_ahead(&mut volume, 3, &[0, 0, 0, 9]));
-    volume.discard();
-    assert!(rt; ends_ahead(&mut volume, 1, &[0, 7, 0, 0]));
-    expect_saved(&rt, alloc, &volume, &[file.as_slice(), last.as_slice()])?;
-
-    prepare_move(alloc, &mut volume, 1, 2)?;
-    assert!(rt; ends_ahead(&mut volume, 1, &[0, 0, 0, 9]));
-    assert!(rt; ends_ahead(&mut volume, 2, &[0, 7, 0, 0]));
-    assert!(rt; ends_ahead(&mut volume, 3, &[0x11; 4]));
-    expect_saved(&rt, alloc, &volume, &[file.as_slice(), last.as_slice()])?;
-    volume.commit();
-    volume.commit();
-    let headers = part(file.as_slice(), 0, 3600);
-    let first = part(file.as_slice(), 3600, 3844);
-    let second = part(file.as_slice(), 3844, 4088);
-    expect_saved(
-        &rt,
-        alloc,
-        &volume,
-        &[headers, second, first, last.as_slice()],
-    )
+    on_small(alloc, |file, volume| {
+        insert(alloc, volume, 3, last.as_slice())?;
+        move_and_discard(&rt, alloc, file, last.as_slice(), volume)?;
+        move_and_commit(&rt, alloc, file, last.as_slice(), volume)
+    })
 }
 
 // In front of the first, and behind the last.
 #[test]
 fn inserts_and_deletes(rt: HostRuntime) -> Result<(), Fail> {
     let alloc = rt.alloc();
-    let file = small_file(alloc)?;
     let first = trace(alloc, 3, 0x11)?;
     let last = trace(alloc, 1, 0x22)?;
-    let mut volume = volume(alloc)?;
-    insert(alloc, &mut volume, 1, trace(alloc, 3, 0x11)?)?;
-    insert(alloc, &mut volume, 4, trace(alloc, 1, 0x22)?)?;
-    let headers = part(file.as_slice(), 0, 3600);
-    let traces = part(file.as_slice(), 3600, 4088);
-    expect_saved(
-        &rt,
-        alloc,
-        &volume,
-        &[headers, first.as_slice(), traces, last.as_slice()],
-    )?;
-    delete(&mut volume, 2)?;
-    let traces = part(file.as_slice(), 3844, 4088);
-    expect_saved(
-        &rt,
-        alloc,
-        &volume,
-        &[headers, first.as_slice(), traces, last.as_slice()],
-    )
+    on_small(alloc, |file, volume| {
+        let (first, last) = (first.as_slice(), last.as_slice());
+        insert(alloc, volume, 1, first)?;
+        insert(alloc, volume, 4, last)?;
+        let headers = part(file, 0, 3600);
+        let traces = part(file, 3600, 4088);
+        expect_saved(&rt, alloc, volume, &[headers, first, traces, last])?;
+        delete(volume, 2)?;
+        let traces = part(file, 3844, 4088);
+        expect_saved(&rt, alloc, volume, &[headers, first, traces, last])
+    })
 }
 
 // To the front, and to the back.
 #[test]
 fn moves_traces(rt: HostRuntime) -> Result<(), Fail> {
     let alloc = rt.alloc();
-    let file = small_file(alloc)?;
     let new = trace(alloc, 3, 0x11)?;
-    let mut volume = volume(alloc)?;
-    insert(alloc, &mut volume, 3, trace(alloc, 3, 0x11)?)?;
-    let headers = part(file.as_slice(), 0, 3600);
-    let first = part(file.as_slice(), 3600, 3844);
-    let second = part(file.as_slice(), 3844, 4088);
-    move_to(alloc, &mut volume, 3, 1)?;
-    expect_saved(
-        &rt,
-        alloc,
-        &volume,
-        &[headers, new.as_slice(), first, second],
-    )?;
-    move_to(alloc, &mut volume, 2, 3)?;
-    expect_saved(
-        &rt,
-        alloc,
-        &volume,
-        &[headers, new.as_slice(), second, first],
-    )
+    on_small(alloc, |file, volume| {
+        let new = new.as_slice();
+        insert(alloc, volume, 3, new)?;
+        let headers = part(file, 0, 3600);
+        let first = part(file, 3600, 3844);
+        let second = part(file, 3844, 4088);
+        move_to(alloc, volume, 3, 1)?;
+        expect_saved(&rt, alloc, volume, &[headers, new, first, second])?;
+        move_to(alloc, volume, 2, 3)?;
+        expect_saved(&rt, alloc, volume, &[headers, new, second, first])
+    })
 }
 
 // By a longer one; what was put over it before is gone.
 #[test]
 fn replaces_a_trace(rt: HostRuntime) -> Result<(), Fail> {
     let alloc = rt.alloc();
-    let file = small_file(alloc)?;
     let longer = trace(alloc, 5, 0x33)?;
-    let mut volume = volume(alloc)?;
-    put(alloc, &mut volume, 1, 0, &[8])?;
-    replace(alloc, &mut volume, 1, trace(alloc, 5, 0x33)?)?;
-    expect_trace(&rt, &mut volume, 1, longer.as_slice());
-    put(alloc, &mut volume, 1, 249, &[9])?;
-    let headers = part(file.as_slice(), 0, 3600);
-    let changed = part(longer.as_slice(), 0, 249);
-    let second = part(file.as_slice(), 3844, 4088);
-    expect_saved(&rt, alloc, &volume, &[headers, changed, &[9], second])
+    on_small(alloc, |file, volume| {
+        let longer = longer.as_slice();
+        put(alloc, volume, 1, 0, &[8])?;
+        replace(alloc, volume, 1, longer)?;
+        expect_trace(&rt, volume, 1, longer);
+        put(alloc, volume, 1, 249, &[9])?;
+        let headers = part(file, 0, 3600);
+        let changed = part(longer, 0, 249);
+        let second = part(file, 3844, 4088);
+        expect_saved(&rt, alloc, volume, &[headers, changed, &[9], second])
+    })
+}
+
+// Inserts the trace so often in front of the first.
+fn insert_many(alloc: Global, volume: &mut Overlay, times: u32, new: &[u8]) -> Result<(), Fail> {
+    for _ in 0..times {
+        insert(alloc, volume, 1, new)?;
+    }
+    Ok(())
+}
+
+// Deletes the first trace so often.
+fn delete_many(volume: &mut Overlay, times: u32) -> Result<(), Fail> {
+    for _ in 0..times {
+        delete(volume, 1)?;
+    }
+    Ok(())
 }
 
 #[test]
 fn is_as_loaded_after_many_inserts_and_deletes(rt: HostRuntime) -> Result<(), Fail> {
     let alloc = rt.alloc();
-    let file = small_file(alloc)?;
-    let mut volume = volume(alloc)?;
-    for _ in 0..1200 {
-        insert(alloc, &mut volume, 1, trace(alloc, 2, 0x44)?)?;
-    }
-    assert_eq!(rt; volume.count(), 1202);
-    expect_trace(&rt, &mut volume, 1201, part(file.as_slice(), 3600, 3844));
-    for _ in 0..1200 {
-        delete(&mut volume, 1)?;
-    }
-    expect_saved(&rt, alloc, &volume, &[file.as_slice()])
+    let new = trace(alloc, 2, 0x44)?;
+    on_small(alloc, |file, volume| {
+        insert_many(alloc, volume, 1200, new.as_slice())?;
+        assert_eq!(rt; volume.count(), 1202);
+        expect_trace(&rt, volume, 1201, part(file, 3600, 3844));
+        delete_many(volume, 1200)?;
+        expect_saved(&rt, alloc, volume, &[file])
+    })
 }

@@ -1,6 +1,6 @@
 # For use, without any toolchain:
 #   make demo       the first job on a sample file, with the shipped program
-#   make install    the program, its man pages and completions, under PREFIX (and DESTDIR); make uninstall takes them away
+#   make install    the program, its tools for pictures, its man pages and completions, under PREFIX (and DESTDIR); make uninstall takes them away
 #   make quick      the end-to-end tests, in less than a minute
 # With the Rattle kit (the command rt on the PATH):
 #   make build      proves and builds the program from the sources
@@ -56,6 +56,7 @@ pages:
 
 install: program
 	install -D -m 755 $(PROGRAM) $(INTO)/bin/segywb
+	install -m 755 -t $(INTO)/bin tools/segywb-plot tools/segywb-report
 	install -D -m 644 man/segywb.1 $(INTO)/share/man/man1/segywb.1
 	install -D -m 644 man/segywb-script.5 $(INTO)/share/man/man5/segywb-script.5
 	install -D -m 644 completions/segywb.bash $(INTO)/share/bash-completion/completions/segywb
@@ -65,7 +66,7 @@ install: program
 	install -D -m 644 -t $(INTO)/share/doc/segywb/examples examples/*.sgy
 
 uninstall:
-	rm -f $(INTO)/bin/segywb
+	rm -f $(INTO)/bin/segywb $(INTO)/bin/segywb-plot $(INTO)/bin/segywb-report
 	rm -f $(INTO)/share/man/man1/segywb.1 $(INTO)/share/man/man5/segywb-script.5
 	rm -f $(INTO)/share/bash-completion/completions/segywb
 	rm -f $(INTO)/share/zsh/site-functions/_segywb
@@ -78,6 +79,7 @@ bench: build
 	cd crates/time_records && { rt run > out.log 2>&1 || true; }
 	bash benchmarks/run $(BUILT) crates/time_records/out/time_records
 	bash benchmarks/live $(BUILT)
+	bash benchmarks/slices $(BUILT)
 	cd crates/time_orders && { rt run > out.log 2>&1 || true; }
 	bash benchmarks/orders crates/time_orders/out/time_orders
 	cd crates/time_reports && { rt run > out.log 2>&1 || true; }

@@ -114,3 +114,35 @@ tail -n +$((lines + 1)) answers > live
 "$program" o.sgy --script reports > anew 2> errors
 if [ -s anew ] && cmp -s live anew; then tell 'reports after 10000 edits at random' ok; else tell 'reports after 10000 edits at random' "$(diff live anew | head -3 | tr '\n' ';')"; fi
 rm -f many.sgy o.sgy live anew
+
+# ---- slices that are kept: after each edit a slice is asked, in one run as it comes, in the other behind eight others, so that
+# none is kept that is asked again
+head -c 3600 s.sgy > kept.sgy
+put kept.sgy 3220 000c
+RANDOM=29
+: > script
+: > evicting
+for n in $(seq 430); do
+    p=$((1 + RANDOM % 30)) q=$((1 + RANDOM % 30))
+    case $((n <= 30 ? 9 : RANDOM % 9)) in
+        0) edit="move $p $q" ;;
+        1) edit="patch $p $((RANDOM % 10)) $((RANDOM - 16384)) $((RANDOM - 16384))" ;;
+        2) edit="patch $p $((RANDOM % 2)) $((RANDOM - 16384))" ;;
+        3) edit="set $p inline $((RANDOM % 5))" ;;
+        4) edit="set $p @$((187 + RANDOM % 6)):4 $((RANDOM % 5))" ;;
+        5) edit="set $p x $RANDOM" ;;
+        6) edit="map crossline @$((193 + 4 * (RANDOM % 2))):4" ;;
+        7) edit="copy $p $q" ;;
+        8) edit="delete $p" ;;
+        9) edit='blank 1' ;;
+    esac
+    k=$((RANDOM % 3))
+    printf '%s\nslice %s\n' "$edit" "$k" >> script
+    { echo "$edit"; seq -f 'slice %.0f' 3 10; echo "slice $k"; } >> evicting
+done
+# asked N: of the answers, those of slices that stand N behind an edit
+asked() { awk -v n="$1" '/^(ok|refused)/ { at = 0; next } /^slice/ { at++ } at == n'; }
+"$program" kept.sgy --script script 2> errors | asked 1 > live
+"$program" kept.sgy --script evicting 2> errors | asked 9 > anew
+if [ "$(grep -c '^slice' live)" = 430 ] && [ "$(grep -c '^row' live)" -gt 8000 ] && cmp -s live anew; then tell 'kept slices are those read anew' ok; else tell 'kept slices are those read anew' "$(diff live anew | head -3 | tr '\n' ';')"; fi
+rm -f kept.sgy evicting live anew

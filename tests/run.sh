@@ -11,6 +11,9 @@ cd "$work" || exit 1
 passed=0
 failed=0
 
+# the pictures and the page are tried beside the other tests
+{ bash "$here/pictures.sh" "$program" > pictures.told 2>&1; echo $? > pictures.status; } &
+
 # tell NAME OUTCOME: counts one test
 tell() {
     if [ "$2" = ok ]; then passed=$((passed + 1)); else failed=$((failed + 1)); printf 'FAILED %s: %s\n' "$1" "$2"; fi
@@ -266,6 +269,9 @@ expect 'the greatest limit' 0 'ok\n' '' s.sgy --script script --max-bytes 109951
 . "$here/documents.sh" || tell 'documents.sh' 'did not run to its end'
 
 . "$here/growth.sh" || tell 'growth.sh' 'did not run to its end'
+
+wait
+if [ "$(cat pictures.status)" = 0 ]; then tell 'pictures' ok; grep '^left out' pictures.told; else tell 'pictures' "$(cat pictures.told)"; fi
 
 printf 'segywb: %d passed, %d failed\n' "$passed" "$failed"
 [ "$failed" = 0 ]

@@ -1,54 +1,46 @@
-ghost use Rattle.std.specs.Prelude.{◌≡◌, ◌≤◌, ◌-◌, ◌++◌, [], true, false, length, None, Some, IfOk, IfErr, OnOk, MatchResult, option_map, slice_get};
-ghost use Rattle.std.specs.Option.{option_or};
+ghost use Rattle.std.specs.Prelude.{◌≡◌, ◌≤◌, length, IfOk, IfErr, MatchResult};
 ghost use Rattle.std.specs.Io.KnownBytes.{Consumes, IsAtEnd};
 ghost use Rattle.device_io.specs.Failures.{CountsFailure};
-ghost use Rattle.field_map.specs.Binding.{geometry_at_load, is_geometry as is_geometry_name};
+ghost use Rattle.field_map.specs.Binding.{geometry_at_load};
 ghost use Rattle.frame_cut.specs.Cuts.{IsCut};
-ghost use Rattle.frame_cut.specs.Traces.{count_of, is_trace};
+ghost use Rattle.frame_cut.specs.Traces.{count_of};
 ghost use Rattle.frame_cut.specs.Volume.{bytes_of};
+ghost use Rattle.edit_overlay.specs.CountedVolume.{RisesAtMost};
 ghost use Rattle.edit_overlay.specs.Loading.{IsLoadFault, FailuresAfterRefusal};
 ghost use Rattle.edit_overlay.specs.Saving.{Saves};
-ghost use Rattle.bench_rules.specs.declared.edit.Edit.TheVariants as edits;
-ghost use Rattle.bench_rules.specs.declared.field.Field.TheVariants as fields;
 ghost use Rattle.bench_rules.specs.declared.query.Query.TheVariants as queries;
-ghost use Rattle.bench_rules.specs.declared.refusal.Refusal.TheVariants.{OutOfMemory as no_memory, NoField as no_such_field};
-ghost use Rattle.edit_overlay.specs.CountedVolume.{RisesAtMost};
+ghost use Rattle.bench_rules.specs.Answer.{IsReply};
+ghost use Rattle.bench_rules.specs.Kept.{is_kept, kept_after_load, kept_after_edit, kept_after_query};
+ghost use Rattle.bench_rules.specs.Live.{IsGridOf, AreRangesOf, AreTotalsOf, AreTriplesOf, kept_after_reply};
 ghost use Rattle.bench_rules.specs.Looks.{load_looks, edit_looks, query_looks};
-ghost use Rattle.bench_rules.specs.Places.{place_in_trace};
-ghost use Rattle.bench_rules.specs.Refused.{first_refusal, no_trace};
-ghost use Rattle.bench_rules.specs.Steps.{IsAfter, Step};
-ghost use Rattle.bench_rules.specs.Answer.{answer, text_blocks, IsReply};
+ghost use Rattle.bench_rules.specs.Steps.{Step};
 
-use bench_rules::{
-    Answer, AskFault, Edit, Field, Info, Items, Query, Refusal, Text, add_stanzas, binary_offset,
-    binary_value, is_line, place_in_binary, set_bin_refusal, set_refusal, trace_sample,
-};
+use crate::changes::{follow, is_moved, no_slices, set_cell};
+use bench_rules::{Answer, AskFault, Edit, Items, Query, Refusal};
 use device_io::{Sink, Source};
-use edit_overlay::{Overlay, SaveFault};
-use field_map::{FieldMap, Place, is_geometry, standard};
+use edit_overlay::SaveFault;
+use fault_live::Faults;
 use frame_cut::{Limits, LoadFault, Reading};
-use live_reports::LiveReports;
-use num_order::write;
+use grid_live::Grid;
+use live_volume::LiveVolume;
+use range_stats::{Ranges, Totals};
 use std::alloc::Global;
 use std::io::{Read, Write};
 use std::marker::Model;
-use text_block::{TEXT_BLOCK_BYTES, code_of, encode_line, line};
-use volume_records::reports;
+use time_slice::SliceCache;
 
-/// One volume: a file that was loaded, with the edits that were accepted since.
+/// One volume: a file that was loaded, with the edits that were accepted since, and the slices that
+/// were asked last.
 #[derive(Drop)]
 pub struct Bench {
-    pub(crate) overlay: Overlay,
-    pub(crate) fields: FieldMap,
-    reading: Reading,
-    pub(crate) limits: Limits,
-    pub(crate) reports: LiveReports,
+    volume: LiveVolume,
+    slices: SliceCache,
 }
 
 impl Model for Bench {
-    ghost use Rattle.bench_rules.specs.State.{Session};
+    ghost use Rattle.bench_rules.specs.Live.{LiveSession};
 
-    ghost Value = { Session };
+    ghost Value = { LiveSession };
 
     ghost use Rattle.bench_core.specs.Held.{session_of, IsHeld};
 
@@ -59,9 +51,9 @@ impl Model for Bench {
 
 impl Bench {
     /// Reads a whole file and cuts it; the field map is then the six geometry names at their
-    /// standard places. Looks at each trace once at most, for its record. Takes memory. Refused:
-    /// L01 where a read failed in this call, L02 to L15 for the first reason that the file gives,
-    /// L16 where a growth was refused.
+    /// standard places, and no slice is kept. Looks at each trace once at most, for its record.
+    /// Takes memory. Refused: L01 where a read failed in this call, L02 to L15 for the first reason
+    /// that the file gives, L16 where a growth was refused.
     pub fn load<R: Read>(
         alloc: Global,
         reader: &mut Source<R>,
@@ -72,6 +64,7 @@ impl Bench {
             (R.remaining reader.new.inner) (bytes_of b.state.volume)) }
         ensures all { IfOk result (λ _. IsAtEnd (R.remaining reader.new.inner)) }
         ensures looks { IfOk result (λ b. b.looks ≤ load_looks b.state.volume) }
+        ensures kept { IfOk result (λ b. b.kept ≡ kept_after_load) }
         ensures cut { IfOk result (λ b. IsCut (bytes_of b.state.volume) reading limits
             b.state.volume) }
         ensures fields { IfOk result (λ b. b.state.fields ≡ geometry_at_load) }
@@ -82,407 +75,98 @@ impl Bench {
         ensures failures { MatchResult result (λ _. reader.new.failures ≡ reader.old.failures)
             (λ fault. FailuresAfterRefusal fault reader.old.failures reader.new.failures) }
     {
-        let mut overlay = Overlay::load(alloc, reader, reading, limits)?;
-        let Ok(fields) = FieldMap::standard(alloc, overlay.head().extensions) else {
+        let volume = LiveVolume::load(alloc, reader, reading, limits)?;
+        let Ok(slices) = no_slices(alloc) else {
             return Err(LoadFault::OutOfMemory);
         };
-        let Ok(reports) = reports(alloc, &mut overlay, &fields) else {
-            return Err(LoadFault::OutOfMemory);
-        };
-        Ok(Bench {
-            overlay,
-            fields,
-            reading,
-            limits,
-            reports,
-        })
+        Ok(Bench { volume, slices })
     }
 
     /// One edit: done, and the reports follow it; or refused, and all is as it was. `Set`, `Map`,
     /// `Patch`, `Blank`, `Copy` and `Move` take memory, and are refused for want of it, E11, only
-    /// where nothing else refuses them.
+    /// where nothing else refuses them. Slices that the edit may have changed are forgotten.
     pub fn apply(&mut self, alloc: Global, edit: &Edit) -> Result<(), Refusal>
         ensures step { Step self.old.state edit.now result self.new.state }
         ensures looks { RisesAtMost self.old.looks self.new.looks
             (edit_looks self.old.state.volume edit.now) }
+        ensures kept { self.new.kept ≡ kept_after_reply result
+            (kept_after_edit self.old.state edit.now self.old.kept) self.old.kept }
     {
-        match edit {
-            Edit::Set(p, field, value) => self.set_field(alloc, *p, field, *value),
-            Edit::SetBin(field, value) => self.set_bin(field, *value),
-            Edit::SetText(q, text) => self.set_text(*q, text),
-            Edit::Map(name, place) => self.bind(alloc, name, *place),
-            Edit::Unmap(name) => self.unbind(name),
-            Edit::Patch(p, k, values) => self.patch(alloc, *p, *k, values.as_slice()),
-            Edit::Blank(p) => self.blank(alloc, *p),
-            Edit::Copy(q, p) => self.copy(alloc, *q, *p),
-            Edit::Delete(p) => self.delete(*p),
-            Edit::Move(a, b) => self.move_trace(alloc, *a, *b),
-        }
-    }
-
-    // The place of a trace's field, where it has one.
-    fn place_in_trace(&self, field: &Field) -> Option<Place>
-        ensures { result ≡ place_in_trace self.now.state.fields field.now }
-    {
-        match field {
-            Field::Place(place) => Some(*place),
-            Field::Name(name) => match self.fields.place(name.as_str()) {
-                Some(place) => Some(place),
-                None => standard(name.as_str()),
-            },
-        }
-    }
-
-    // Whether there is a trace p.
-    pub(crate) fn has_trace(&self, p: u32) -> bool
-        ensures { result ≡ is_trace self.now.state.volume p }
-    {
-        p >= 1 && p <= self.overlay.count()
-    }
-
-    // The value into the field of trace p, or the first refusal: E01, E02, E03, E04, E06.
-    fn set_field(
-        &mut self,
-        alloc: Global,
-        p: u32,
-        field: &Field,
-        value: i128,
-    ) -> Result<(), Refusal>
-        ensures step { Step self.old.state (edits.Set p field.now value) result self.new.state }
-        ensures looks { RisesAtMost self.old.looks self.new.looks 2 }
-    {
-        match self.place_in_trace(field) {
-            Some(place) => self.set(alloc, p, place, value),
-            None => Err(self.no_field(p)),
-        }
-    }
-
-    // The first refusal of a field without a place: E01, E02.
-    fn no_field(&self, p: u32) -> Refusal
-        ensures { Some result ≡ option_or (no_trace self.now.state.volume p) (Some no_such_field) }
-    {
-        if self.has_trace(p) {
-            Refusal::NoField
-        } else {
-            Refusal::NoTrace(p, self.overlay.count())
-        }
-    }
-
-    // The value into the place of trace p, or the first refusal.
-    fn set(&mut self, alloc: Global, p: u32, place: Place, value: i128) -> Result<(), Refusal>
-        ensures step { Step self.old.state (edits.Set p (fields.Place place) value) result
-            self.new.state }
-        ensures looks { RisesAtMost self.old.looks self.new.looks 2 }
-    {
-        match self.set_refusal(p, place, value) {
-            Some(refusal) => Err(refusal),
-            None => self.put_value(alloc, p, place, value),
-        }
-    }
-
-    // The value into the place of trace p, where nothing but memory refuses it.
-    fn put_value(&mut self, alloc: Global, p: u32, place: Place, value: i128) -> Result<(), Refusal>
-        requires { first_refusal self.old.state (edits.Set p (fields.Place place) value) ≡ None }
-        ensures ok { OnOk result (IsAfter self.old.state (edits.Set p (fields.Place place) value)
-            self.new.state) }
-        ensures err { IfErr result (λ refusal. (refusal ≡ no_memory) ×
-            (self.new.state ≡ self.old.state)) }
-        ensures looks { RisesAtMost self.old.looks self.new.looks 1 }
-    {
-        let mut buffer = [0u8; 8];
-        let new = &mut buffer[..usize::from(place.kind.size)];
-        write(self.overlay.head().order, place.kind, value, new);
-        let samples = self.held(p);
-        self.put(alloc, p, u64::from(place.offset()), new, Some(samples))
-    }
-
-    // The first refusal of the value at the place of trace p: E01, E03, E04, E06.
-    fn set_refusal(&mut self, p: u32, place: Place, value: i128) -> Option<Refusal>
-        ensures refusal { result ≡ first_refusal self.old.state
-            (edits.Set p (fields.Place place) value) }
-        ensures state { self.new.state ≡ self.old.state }
-        ensures looks { RisesAtMost self.old.looks self.new.looks 1 }
-    {
-        let head = self.overlay.head();
-        let Some(trace) = self.overlay.look(p) else {
-            return Some(Refusal::NoTrace(p, self.overlay.count()));
-        };
-        set_refusal(head.order, &trace, place, value)
-    }
-
-    // The value into the field of the binary header, or the first refusal: E02, E03, E04, E06.
-    fn set_bin(&mut self, field: &Field, value: i128) -> Result<(), Refusal>
-        ensures step { Step self.old.state (edits.SetBin field.now value) result self.new.state }
-        ensures looks { self.new.looks ≡ self.old.looks }
-    {
-        let Some(place) = place_in_binary(field) else {
-            return Err(Refusal::NoField);
-        };
-        match set_bin_refusal(place, value) {
-            Some(refusal) => Err(refusal),
-            None => {
-                self.put_in_binary(place, value);
-                Ok(())
-            }
-        }
-    }
-
-    // The value into the place of the binary header, where nothing refuses it.
-    fn put_in_binary(&mut self, place: Place, value: i128)
-        requires { first_refusal self.old.state (edits.SetBin (fields.Place place) value) ≡ None }
-        ensures after { IsAfter self.old.state (edits.SetBin (fields.Place place) value)
-            self.new.state }
-        ensures looks { self.new.looks ≡ self.old.looks }
-    {
-        let mut buffer = [0u8; 8];
-        let new = &mut buffer[..usize::from(place.kind.size)];
-        write(self.overlay.head().order, place.kind, value, new);
-        self.overlay.put_head(u32::from(binary_offset(place)), new);
-    }
-
-    // The text as line q of the textual header, or the first refusal: E03, E07.
-    fn set_text(&mut self, q: u32, text: &Text) -> Result<(), Refusal>
-        ensures step { Step self.old.state (edits.SetText q text.now) result self.new.state }
-        ensures looks { self.new.looks ≡ self.old.looks }
-    {
-        if !is_line(q) {
-            return Err(Refusal::NoPlace);
-        }
-        let line = encode_line(code_of(self.overlay.text()), text.as_str())?;
-        self.overlay.put_text(q, &line);
-        Ok(())
-    }
-
-    // The name bound to the place, or the first refusal.
-    fn bind(&mut self, alloc: Global, name: &Text, place: Place) -> Result<(), Refusal>
-        ensures step { Step self.old.state (edits.Map name.now place) result self.new.state }
-        ensures looks { RisesAtMost self.old.looks self.new.looks
-            (edit_looks self.old.state.volume (edits.Map name.now place)) }
-    {
-        if is_geometry(name.as_str()) {
-            self.bind_geometry(alloc, name, place)
-        } else {
-            self.bind_name(alloc, name, place)
-        }
-    }
-
-    // A geometry name bound to the place, or the first refusal. Each trace is looked at for its new
-    // record, and the reports are made anew beside the old ones; where that is refused, the name
-    // gets its old place again, which takes no memory.
-    fn bind_geometry(&mut self, alloc: Global, name: &Text, place: Place) -> Result<(), Refusal>
-        requires { is_geometry_name name.now ≡ true }
-        ensures step { Step self.old.state (edits.Map name.now place) result self.new.state }
-        ensures looks { RisesAtMost self.old.looks self.new.looks
-            (count_of self.old.state.volume) }
-    {
-        let text = name.as_str();
-        self.fields.geometry_stands();
-        if let Some(fault) = self.fields.binding_refusal(text, place) {
-            return Err(Refusal::Map(fault));
-        }
-        let Some(old) = self.fields.place(text) else {
-            unreachable!()
-        };
-        self.fields.set_geometry(text, place);
-        match reports(alloc, &mut self.overlay, &self.fields) {
-            Ok(reports) => {
-                self.reports = reports;
-                Ok(())
-            }
-            Err(_) => {
-                self.fields.set_geometry(text, old);
-                Err(Refusal::OutOfMemory)
-            }
-        }
-    }
-
-    // Another name bound to the place, or the first refusal.
-    fn bind_name(&mut self, alloc: Global, name: &Text, place: Place) -> Result<(), Refusal>
-        requires { is_geometry_name name.now ≡ false }
-        ensures step { Step self.old.state (edits.Map name.now place) result self.new.state }
-        ensures looks { self.new.looks ≡ self.old.looks }
-    {
-        self.fields.bind(alloc, name.as_str(), place)?;
-        Ok(())
-    }
-
-    // The name no longer bound, or the first refusal.
-    fn unbind(&mut self, name: &Text) -> Result<(), Refusal>
-        ensures step { Step self.old.state (edits.Unmap name.now) result self.new.state }
-        ensures looks { self.new.looks ≡ self.old.looks }
-    {
-        self.fields.unbind(name.as_str())?;
+        self.volume.stands();
+        let before = set_cell(&self.volume, edit);
+        self.volume.apply(alloc, edit)?;
+        let moved = is_moved(before, set_cell(&self.volume, edit));
+        follow(&mut self.slices, edit, moved);
         Ok(())
     }
 
     /// The answer to a query, which leaves the state as it is. Takes memory where the answer is a
-    /// text or a list, and is refused for want of it, E11, only where nothing else refuses it.
+    /// text or a list, and is refused for want of it, E11, only where nothing else refuses it. A
+    /// slice that is answered is kept, and answered again without a look at any trace.
     pub fn ask(&mut self, alloc: Global, query: &Query) -> Result<Answer, AskFault>
         ensures reply { IsReply self.old.state query.now result }
         ensures unchanged { self.new.state ≡ self.old.state }
         ensures looks { RisesAtMost self.old.looks self.new.looks
-            (query_looks self.old.state.volume [] query.now) }
+            (query_looks self.old.state.volume self.old.kept query.now) }
+        ensures kept { self.new.kept ≡ kept_after_reply result
+            (kept_after_query query.now self.old.kept) self.old.kept }
     {
-        match query {
-            Query::Count => Ok(Answer::Count(self.overlay.count())),
-            Query::Info => Ok(Answer::Info(self.info())),
-            Query::Get(p, field) => self.get_field(*p, field),
-            Query::GetBin(field) => self.get_bin(field),
-            Query::Line(b, q) => self.line(alloc, *b, *q),
-            Query::Code(b) => self.code(*b),
-            Query::Stanzas => self.stanzas(alloc),
-            Query::Fields => self.bound_fields(alloc),
-            Query::Sample(p, k) => self.sample(*p, *k),
-            Query::Geometry(p) => self.geometry_answer(*p),
-            Query::Stat(p) => self.stat_answer(*p),
-            Query::Fold(inline, crossline) => self.fold_answer(inline, crossline),
-            Query::Grid => self.cells_answer(alloc),
-            Query::Inlines => self.inlines_answer(alloc),
-            Query::Crosslines => self.crosslines_answer(alloc),
-            Query::Histogram => self.histogram_answer(alloc),
-            Query::Range(quantity) => self.range_answer(*quantity),
-            Query::Totals => self.totals_answer(),
-            Query::Slice(k) => self.slice_answer(alloc, *k),
-            Query::Faults => self.faults_answer(alloc),
+        if let Query::Slice(k) = query {
+            return self.slice(alloc, *k);
         }
+        self.volume.ask(alloc, query)
     }
 
-    // The value of the field of trace p: E01, E02, E03.
-    fn get_field(&mut self, p: u32, field: &Field) -> Result<Answer, AskFault>
-        ensures reply { result ≡ answer self.old.state (queries.Get p field.now) }
-        ensures state { self.new.state ≡ self.old.state }
-        ensures looks { RisesAtMost self.old.looks self.new.looks 1 }
+    // Sample k of each trace that has it.
+    fn slice(&mut self, alloc: Global, k: u32) -> Result<Answer, AskFault>
+        ensures reply { IsReply self.old.state (queries.Slice k) result }
+        ensures unchanged { self.new.state ≡ self.old.state }
+        ensures looks { RisesAtMost self.old.looks self.new.looks
+            (query_looks self.old.state.volume self.old.kept (queries.Slice k)) }
+        ensures kept { self.new.kept ≡ kept_after_reply result
+            (kept_after_query (queries.Slice k) self.old.kept) self.old.kept }
     {
-        match self.place_in_trace(field) {
-            Some(place) => self.get(p, place),
-            None if self.has_trace(p) => Err(AskFault::NoField),
-            None => Err(AskFault::NoTrace(p, self.overlay.count())),
-        }
+        let rows = self.volume.slice(alloc, &mut self.slices, k)?;
+        Ok(Answer::Slice(Items::new(rows)))
     }
 
-    // The value of the field of the binary header: E02, E03.
-    fn get_bin(&self, field: &Field) -> Result<Answer, AskFault>
-        ensures { result ≡ answer self.now.state (queries.GetBin field.now) }
+    /// Whether slice k, counted from 0, is kept: a query of it looks at no trace then. Takes no
+    /// memory and looks at none.
+    pub fn cached(&self, k: u32) -> bool
+        ensures { result ≡ is_kept k self.now.kept }
     {
-        let Some(place) = place_in_binary(field) else {
-            return Err(AskFault::NoField);
-        };
-        let order = self.overlay.head().order;
-        match binary_value(order, self.overlay.bin(), place) {
-            Some(value) => Ok(Answer::Value(value)),
-            None => Err(AskFault::NoPlace),
-        }
+        self.slices.cached(k)
     }
 
-    // Line q of block b: E03.
-    fn line(&self, alloc: Global, b: u32, q: u32) -> Result<Answer, AskFault>
-        ensures { IsReply self.now.state (queries.Line b q) result }
+    /// The grid, which has counted the traces as they are now. Takes no memory and looks at none.
+    pub fn grid(&self) -> &Grid
+        ensures { IsGridOf self.now.state result.now }
     {
-        if !is_line(q) {
-            return Err(AskFault::NoPlace);
-        }
-        let Some(block) = self.overlay.block(b) else {
-            return Err(AskFault::NoPlace);
-        };
-        Ok(Answer::Line(Text::new(line(alloc, block, q)?)))
+        self.volume.grid()
     }
 
-    // The code of block b: E03.
-    fn code(&self, b: u32) -> Result<Answer, AskFault>
-        ensures { result ≡ answer self.now.state (queries.Code b) }
+    /// The ranges, which have counted the traces as they are now. Takes no memory and looks at
+    /// none.
+    pub fn ranges(&self) -> &Ranges
+        ensures { AreRangesOf self.now.state result.now }
     {
-        match self.overlay.block(b) {
-            Some(block) => Ok(Answer::Code(code_of(block))),
-            None => Err(AskFault::NoPlace),
-        }
+        self.volume.ranges()
     }
 
-    // The number of extended textual headers and data trailer records.
-    fn text_block_count(&self) -> u64
-        ensures { result ≡ length (text_blocks self.now.state.volume) }
+    /// The totals, which have counted the traces as they are now. Takes no memory and looks at
+    /// none.
+    pub fn totals(&self) -> &Totals
+        ensures { AreTotalsOf self.now.state result.now }
     {
-        let head = self.overlay.head();
-        u64::from(head.blocks) + u64::from(head.trailer)
+        self.volume.totals()
     }
 
-    // The extended textual header n, counted from 1, or behind the last the data trailer record.
-    fn text_block(&self, n: u64) -> Option<&[u8; TEXT_BLOCK_BYTES]>
-        requires first { 1 ≤ n }
-        requires last { n ≤ length (text_blocks self.now.state.volume) }
-        ensures { option_map (λ x. x.now) result ≡ slice_get (text_blocks self.now.state.volume)
-            (n - 1) }
+    /// How often inline, crossline and offset stand together in the traces as they are now. Takes
+    /// no memory and looks at none.
+    pub fn triples(&self) -> &Faults
+        ensures { AreTriplesOf self.now.state result.now }
     {
-        let blocks = u64::from(self.overlay.head().blocks);
-        if n <= blocks {
-            self.overlay.block(n as u32)
-        } else {
-            self.overlay.trailer((n - blocks) as u32)
-        }
-    }
-
-    // The stanzas of all extended textual headers and data trailer records.
-    fn stanzas(&self, alloc: Global) -> Result<Answer, AskFault>
-        ensures { IsReply self.now.state queries.Stanzas result }
-    {
-        let mut all = Vec::new(alloc);
-        for before in 0..self.text_block_count() {
-            let Some(block) = self.text_block(before + 1) else {
-                unreachable!()
-            };
-            add_stanzas(alloc, &mut all, before + 1, block)?;
-        }
-        Ok(Answer::Stanzas(Items::new(all)))
-    }
-
-    // The bound names with their places.
-    fn bound_fields(&self, alloc: Global) -> Result<Answer, AskFault>
-        ensures { IsReply self.now.state queries.Fields result }
-    {
-        let mut all = Vec::new(alloc);
-        for (name, place) in self.fields.entries() {
-            all.push((Text::new(String::from_str(alloc, name)?), place))?;
-        }
-        Ok(Answer::Fields(Items::new(all)))
-    }
-
-    // The value at the place of trace p: E01, E03.
-    fn get(&mut self, p: u32, place: Place) -> Result<Answer, AskFault>
-        ensures reply { result ≡ answer self.old.state (queries.Get p (fields.Place place)) }
-        ensures state { self.new.state ≡ self.old.state }
-        ensures looks { RisesAtMost self.old.looks self.new.looks 1 }
-    {
-        let Some(trace) = self.overlay.look(p) else {
-            return Err(AskFault::NoTrace(p, self.overlay.count()));
-        };
-        match trace.value(place) {
-            Some(value) => Ok(Answer::Value(value)),
-            None => Err(AskFault::NoPlace),
-        }
-    }
-
-    // Sample k of trace p: E01, E05.
-    fn sample(&mut self, p: u32, k: u32) -> Result<Answer, AskFault>
-        ensures reply { result ≡ answer self.old.state (queries.Sample p k) }
-        ensures state { self.new.state ≡ self.old.state }
-        ensures looks { RisesAtMost self.old.looks self.new.looks 1 }
-    {
-        let Some(trace) = self.overlay.look(p) else {
-            return Err(AskFault::NoTrace(p, self.overlay.count()));
-        };
-        trace_sample(&trace, k)
-    }
-
-    // What the file is.
-    fn info(&self) -> Info
-        ensures head { result.head ≡ self.now.state.volume.head }
-        ensures traces { result.traces ≡ count_of self.now.state.volume }
-        ensures bytes { result.bytes ≡ length (bytes_of self.now.state.volume) }
-    {
-        Info {
-            head: self.overlay.head(),
-            traces: self.overlay.count(),
-            bytes: self.overlay.length(),
-        }
+        self.volume.triples()
     }
 
     /// Writes the file as it is now. Refused where the writer failed; `written` is then the length
@@ -492,14 +176,14 @@ impl Bench {
             (bytes_of self.now.state.volume) result }
         ensures failures { CountsFailure result writer.old.failures writer.new.failures }
     {
-        self.overlay.write_to(writer)
+        self.volume.save(writer)
     }
 
     /// The number of traces.
     pub fn count(&self) -> u32
         ensures { result ≡ count_of self.now.state.volume }
     {
-        self.overlay.count()
+        self.volume.count()
     }
 
     /// How often traces were looked at since the file was loaded; stays at `u64::MAX` once there.
@@ -507,13 +191,13 @@ impl Bench {
     pub fn looks(&self) -> u64
         ensures { result ≡ self.now.looks }
     {
-        self.overlay.looks()
+        self.volume.looks()
     }
 
     /// The file's length in bytes.
     pub fn length(&self) -> u64
         ensures { result ≡ length (bytes_of self.now.state.volume) }
     {
-        self.overlay.length()
+        self.volume.length()
     }
 }

@@ -1,11 +1,11 @@
 mod CutAgainLemmas
 mod StepAgainLemmas
-mod ReadsSetLemmas
+pub mod ReadsSetLemmas
 mod ResizingLemmas
 mod OneTraceLemmas
 mod ResizeLemmas
 mod RenumberingLemmas
 mod NumberCutAgainLemmas
 mod SliceRowLemmas
-mod KeptSliceLemmas
+pub mod KeptSliceLemmas
 mod KeptNumberLemmas

@@ -53,6 +53,10 @@ kept_after_query (Range quantity) kept = kept
 kept_after_query Totals kept = kept
 kept_after_query Faults kept = kept
 
+-- the inline and the crossline of a trace
+abbrev pub cell_of : Head → Pairs → List ℕ → ℤ × ℤ
+cell_of h fields t = (bound_value h fields t (codes "inline"), bound_value h fields t (codes "crossline"))
+
 -- two traces have one value of the name
 abbrev pub same_bound : Head → Pairs → List ℕ → List ℕ → List ℕ → Bool
 same_bound h fields t u name = int_eq (bound_value h fields t name) (bound_value h fields u name)

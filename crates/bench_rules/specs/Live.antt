@@ -24,18 +24,9 @@ use Rattle.range_stats.specs.declared.quantity.Quantity.{Quantity}
 use Rattle.fault_live.specs.Faults.{faults_of}
 use Rattle.fault_live.specs.OfFaults.{tally_of_faults}
 use Rattle.fault_live.specs.declared.faults.Faults.{Faults}
-use Rattle.time_slice.specs.Cache.{Cache, kept_numbers, AreRight}
-use Rattle.edit_overlay.specs.CountedVolume.{RisesAtMost}
-use Rattle.bench_rules.specs.declared.edit.Edit.{Edit}
-use Rattle.bench_rules.specs.declared.query.Query.{Query}
-use Rattle.bench_rules.specs.declared.refusal.Refusal.{Refusal}
-use Rattle.bench_rules.specs.Answer.{Reply, IsReply}
-use Rattle.bench_rules.specs.Kept.{kept_after_edit, kept_after_query}
-use Rattle.bench_rules.specs.Looks.{edit_looks, query_looks}
-use Rattle.bench_rules.specs.NumberEdits.{NumberEdit, NumberStep, number_looks, kept_after_number}
+use Rattle.time_slice.specs.Cache.{Cache, AreRight}
 use Rattle.bench_rules.specs.Reports.{records, head_facts, fold_in, cells_in, inlines_in, crosslines_in, histogram_in, range_in, totals_in, faults_in}
 use Rattle.bench_rules.specs.State.{State}
-use Rattle.bench_rules.specs.Steps.{Step}
 
 -- ---- the records of a volume's traces, and the values that run with them
 
@@ -59,55 +50,22 @@ AreTotalsOf s totals = Same (tally_of_totals totals) (tally_of keys_of_totals (r
 abbrev pub AreTriplesOf : State → Faults → Type 0
 AreTriplesOf s triples = Same (tally_of_faults triples) (tally_of keys_of_faults (records s))
 
--- ---- one call, where slices are kept too
+-- ---- one volume with what is held beside it
 
--- the slices with these numbers are kept, the last asked first, each with the rows of the volume's traces
-pub record AreKept (s : State) (cache : Cache) (kept : List ℕ) : Type 0 where
-  pub numbers : kept_numbers cache ≡ kept
-  pub rows : AreRight s.volume.head s.fields s.volume.traces cache
+-- each slice that is kept is that of the volume's traces
+abbrev pub AreSlicesOf : State → Cache → Type 0
+AreSlicesOf s cache = AreRight s.volume.head s.fields s.volume.traces cache
 
--- a volume with what is held beside it: the count of looks, the records, and the kept slices with their numbers
+-- a state, how often traces were looked at, and the numbers of the slices that are kept, the last asked first
 pub record LiveSession : Type 0 where
   pub state : State
   pub looks : ℕ
-  pub records : List Record
-  pub slices : Cache
   pub kept : List ℕ
-
--- what is held beside a volume is that of the volume
-pub record IsLive (s : LiveSession) : Type 0 where
-  pub records : AreRecordsOf s.state s.records
-  pub slices : AreKept s.state s.slices s.kept
-
--- after a call that looks at so many traces at most and leaves these numbers kept
-pub record IsLiveAfter (old : LiveSession) (most : ℕ) (numbers : List ℕ) (new : LiveSession) : Type 0 where
-  pub looks : RisesAtMost old.looks new.looks most
-  pub kept : new.kept ≡ numbers
-  pub live : IsLive new
 
 -- the numbers kept after a call: as they were, where it was refused
 abbrev pub kept_after_reply : {A E : Type 0} → Result A E → List ℕ → List ℕ → List ℕ
 kept_after_reply (Ok answer) after before = after
 kept_after_reply (Err refusal) after before = before
-
--- one edit
-abbrev pub LiveStep : {T : Type 0} → LiveSession → Edit → Result T Refusal → LiveSession → Type 0
-LiveStep old edit reply new =
-    Step old.state edit reply new.state
-    × IsLiveAfter old (edit_looks old.state.volume edit) (kept_after_reply reply (kept_after_edit old.state edit old.kept) old.kept) new
-
--- one edit of a number of samples, or of a field of many traces
-abbrev pub LiveNumberStep : {T : Type 0} → LiveSession → NumberEdit → Result T Refusal → LiveSession → Type 0
-LiveNumberStep old edit reply new =
-    NumberStep old.state edit reply new.state
-    × IsLiveAfter old (number_looks old.state.volume edit) (kept_after_reply reply (kept_after_number old.state edit old.kept) old.kept) new
-
--- one query
-abbrev pub LiveAnswer : LiveSession → Query → Reply → LiveSession → Type 0
-LiveAnswer old query reply new =
-    IsReply old.state query reply
-    × (new.state ≡ old.state)
-    × IsLiveAfter old (query_looks old.state.volume old.kept query) (kept_after_reply reply (kept_after_query query old.kept) old.kept) new
 
 -- ---- what running values show is what the reports say of the volume
 

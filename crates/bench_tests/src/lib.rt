@@ -5,6 +5,8 @@
 #[cfg(test)]
 mod report_tests;
 #[cfg(test)]
+mod slice_tests;
+#[cfg(test)]
 mod tests;
 #[cfg(test)]
 mod trace_tests;

@@ -12,7 +12,10 @@ use trace_record::Ratio;
 
 // What the function answers of the small file: its traces on crosslines 21, 22 and 23, and with
 // samples 1 and -2, 3 and 4, -5 and 6.
-fn on_survey<F: FnOnce(&mut Bench) -> Result<(), Fail>>(alloc: Global, ask: F) -> Result<(), Fail>
+pub(crate) fn on_survey<F: FnOnce(&mut Bench) -> Result<(), Fail>>(
+    alloc: Global,
+    ask: F,
+) -> Result<(), Fail>
     requires { F.IsAlwaysCallable ask }
 {
     let mut file = sample_file(alloc)?;

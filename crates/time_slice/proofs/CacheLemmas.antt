@@ -1,13 +1,25 @@
--- Laws of kept slices: how their numbers follow one another, and that they stay right.
-use Rattle.std.specs.Prelude.{◌≡◌, ℕ, ◌==◌, not, Bool, true, false, cond, List, [], ◌∷◌, All, map, take, filter, unwrap_or, Some, refl}
-use Rattle.std.specs.Map.{lookup}
-use Rattle.std.proofs.Common.{ap, sym, ◌∙◌}
-use Rattle.std.proofs.lemmas.Bool.{eqb-true}
+-- Laws of kept slices: how their numbers follow one another, that they stay right, and that their rows are got back.
+use Rattle.std.specs.Prelude.{◌≡◌, ℕ, ℤ, ◌+◌, ◌-◌, ◌==◌, ◌++◌, not, Bool, true, false, cond, List, [], ◌∷◌, All, map, take, filter, slice_get, Option, option_map, Some, None, refl}
+use Rattle.std.specs.List.{zip}
+use Rattle.std.specs.Option.{option_map_or}
+use Rattle.std.specs.declared.cmp.Ordering.{Ordering}
+use Rattle.std.proofs.Common.{ap, sym, ◌∙◌, arith, suc}
 use Rattle.std.proofs.lemmas.List.{take-map}
-use Rattle.std.proofs.lemmas.List.Elements.{All-cons, All-head, All-tail, All-filter, All-take}
-use Rattle.time_slice.specs.Slices.{slice_of}
-use Rattle.time_slice.specs.Cache.{Cache, is_from, IsRight}
-use Rattle.time_slice.specs.CacheLaws.{NumbersAfterAsked, NumbersAfterForgotten, AskedStaysRight}
+use Rattle.std.proofs.lemmas.List.Elements.{All-nil, All-cons, All-head, All-tail, All-filter, All-take, All-weaker}
+use Rattle.std.proofs.lemmas.Option.{slice_get-map}
+use Rattle.std.proofs.lemmas.Map.Views.{All-insert_key}
+use Rattle.frame_cut.specs.declared.file_head.Head.{Head}
+use Rattle.trace_view.specs.Values.{sample_of}
+use Rattle.trace_record.specs.Facts.{Facts, facts_of}
+use Rattle.trace_record.specs.OfTrace.{record_of}
+use Rattle.trace_record.specs.Rising.{rising}
+use Rattle.trace_record.specs.declared.record.Record.{Record}
+use Rattle.time_slice.specs.declared.row.Row.{Row}
+use Rattle.time_slice.specs.OfRecords.{with_sample_of}
+use Rattle.time_slice.specs.Slices.{row_cmp, row_of, rows_from, slice_rows, slice_of}
+use Rattle.time_slice.specs.Cache.{Cache, kept_of, row_again, rows_again, is_from, cache_after_slice, cache_after_change, IsRight, IsRightOf, AreRightOf}
+use Rattle.time_slice.specs.CacheLaws.{NumbersAfterAsked, NumbersAfterForgotten, AskedStaysRight, ForgottenStaysRight, RowsComeBack, RightOfRecords}
+use Rattle.time_slice.proofs.PassLemmas.{beside_own, rows_are_of_traces}
 
 -- ---- the numbers
 
@@ -27,19 +39,79 @@ numbers_after_asked room k rows cache =
 pub numbers_after_forgotten : NumbersAfterForgotten
 numbers_after_forgotten k many cache = map-filter (λ j. not (is_from k many j)) cache
 
--- ---- the rows
-
--- among values that their numbers determine, the one that is found at a number is the number's
-unwrap_or-lookup : {X : Type 0} (f : ℕ → X) (k : ℕ) (es : List (ℕ × X)) → All (λ e. e.1 ≡ f e.0) es → unwrap_or (lookup (λ j. j == k) es) (f k) ≡ f k
-unwrap_or-lookup f k [] all = refl
-unwrap_or-lookup f k (e ∷ es) all = by (e.0 == k) refl (unwrap_or-lookup f k es (All-tail (λ e. e.1 ≡ f e.0) e es all))
-  where
-    by : (b : Bool) → (e.0 == k) ≡ b → unwrap_or (lookup (λ j. j == k) es) (f k) ≡ f k → unwrap_or (cond b (Some e.1) (lookup (λ j. j == k) es)) (f k) ≡ f k
-    by true same rest = All-head (λ e. e.1 ≡ f e.0) e es all ∙ ap f (eqb-true e.0 k same)
-    by false other rest = rest
+-- ---- right slices
 
 pub asked_stays_right : AskedStaysRight
 asked_stays_right h fields traces room k cache all =
-    let first : IsRight h fields traces (k, unwrap_or (lookup (λ j. j == k) cache) (slice_of h fields k traces)) = unwrap_or-lookup (λ j. slice_of h fields j traces) k cache all in
     All-take (IsRight h fields traces) room _
-    (All-cons (IsRight h fields traces) _ _ first (All-filter (λ e. not (e.0 == k)) (IsRight h fields traces) cache all))
+    (All-cons (IsRight h fields traces) (k, kept_of (slice_of h fields k traces)) _ refl (All-filter (λ e. not (e.0 == k)) (IsRight h fields traces) cache all))
+
+pub forgotten_stays_right : ForgottenStaysRight
+forgotten_stays_right h fields traces k many cache all = All-filter (λ e. not (is_from k many e.0)) (IsRight h fields traces) cache all
+
+pub right_of_records : RightOfRecords
+right_of_records h fields records traces cache same =
+    let one : (k : ℕ) → kept_of (slice_rows (with_sample_of h k records traces)) ≡ kept_of (slice_of h fields k traces) = λ k. ap kept_of (rows_are_of_traces h fields k records traces same) in (
+      All-weaker (IsRightOf h records traces) (IsRight h fields traces) (λ e right. right ∙ one e.0) cache,
+      All-weaker (IsRight h fields traces) (IsRightOf h records traces) (λ e right. right ∙ sym (one e.0)) cache,
+    )
+
+-- ---- rows got back
+
+-- what holds of each of a list holds of each of the rising list
+pub All-rising : {K : Type 0} (cmp : K → K → Ordering) (P : K → Type 0) (ks : List K) → All P ks → All P (rising cmp ks)
+All-rising cmp P [] all = all
+All-rising cmp P (k ∷ ks) all = All-insert_key cmp k P (rising cmp ks) (All-rising cmp P ks (All-tail P k ks all)) (All-head P k ks all)
+
+-- the row is got back
+abbrev ComesBack : List Facts → Row → Type 0
+ComesBack facts r = row_again facts (r.position, r.value) ≡ r ∷ []
+
+-- the rows of the traces from a place on, counted from 0, are got back
+from_place : (facts rest : List Facts) (samples : List (Option ℤ)) (i : ℕ) → ((j : ℕ) → slice_get facts (i + j) ≡ slice_get rest j) → All (ComesBack facts) (rows_from (i + 1) (zip rest samples))
+from_place facts [] samples i there = All-nil (ComesBack facts)
+from_place facts (f ∷ rest) [] i there = All-nil (ComesBack facts)
+from_place facts (f ∷ rest) (s ∷ samples) i there = by s (from_place facts rest samples (i + 1) (λ j. let e : i + 1 + j ≡ i + suc j = omega arith in ap (slice_get facts) e ∙ there (suc j)))
+  where
+    here : slice_get facts (i + 1 - 1) ≡ Some f
+    here = let e : i + 1 - 1 ≡ i + 0 = omega arith in ap (slice_get facts) e ∙ there 0
+
+    by : (s : Option ℤ) → All (ComesBack facts) (rows_from (i + 1 + 1) (zip rest samples)) → All (ComesBack facts) (row_of (i + 1) f s ++ rows_from (i + 1 + 1) (zip rest samples))
+    by None later = later
+    by (Some v) later = All-cons (ComesBack facts) (record { inline = f.inline; crossline = f.crossline; position = i + 1; value = v }) _ (ap (λ (o : Option Facts). option_map_or (λ g. row_of (i + 1) g (Some v)) o []) here) later
+
+each_again : (facts : List Facts) (rows : List Row) → All (ComesBack facts) rows → rows_again facts (kept_of rows) ≡ rows
+each_again facts [] all = refl
+each_again facts (r ∷ rows) all =
+    ap (λ (xs : List Row). xs ++ rows_again facts (kept_of rows)) (All-head (ComesBack facts) r rows all)
+    ∙ ap (λ (xs : List Row). r ∷ xs) (each_again facts rows (All-tail (ComesBack facts) r rows all))
+
+-- the rows of facts beside samples are got back
+pub slice_again : (facts : List Facts) (samples : List (Option ℤ)) → rows_again facts (kept_of (slice_rows (zip facts samples))) ≡ slice_rows (zip facts samples)
+slice_again facts samples =
+    each_again facts (slice_rows (zip facts samples)) (All-rising row_cmp (ComesBack facts) (rows_from 1 (zip facts samples)) (from_place facts facts samples 0 (λ j. let e : 0 + j ≡ j = omega arith in ap (slice_get facts) e)))
+
+pub rows_come_back : RowsComeBack
+rows_come_back h fields k traces =
+    let facts = map (record_of h fields) traces in
+    let again = slice_again facts (map (λ t. sample_of h t k) traces) in
+    ap (λ ts. rows_again facts (kept_of (slice_rows ts))) (sym (beside_own h fields k traces)) ∙ again ∙ ap (λ ts. slice_rows ts) (beside_own h fields k traces)
+
+-- the row of the record at a place is got back
+pub row_at_place : (records : List Record) (p place : ℕ) (v : ℤ) (r : Record) → place ≡ p - 1 → slice_get records place ≡ Some r → row_again (map facts_of records) (p, v) ≡ row_of p (facts_of r) (Some v)
+row_at_place records p place v r there here =
+    ap (λ (o : Option Facts). option_map_or (λ f. row_of p f (Some v)) o []) (slice_get-map facts_of records (p - 1) ∙ ap (option_map facts_of) (ap (slice_get records) (sym there) ∙ here))
+
+pub no_row_at : (records : List Record) (p place : ℕ) (v : ℤ) → place ≡ p - 1 → slice_get records place ≡ None → row_again (map facts_of records) (p, v) ≡ []
+no_row_at records p place v there here =
+    ap (λ (o : Option Facts). option_map_or (λ f. row_of p f (Some v)) o []) (slice_get-map facts_of records (p - 1) ∙ ap (option_map facts_of) (ap (slice_get records) (sym there) ∙ here))
+
+-- right slices that records give are right after one was asked for, and after some were forgotten
+pub asked_stays_right_of : (h : Head) (records : List Record) (traces : List (List ℕ)) (room k : ℕ) (cache : Cache)
+    → AreRightOf h records traces cache → AreRightOf h records traces (cache_after_slice room k (slice_rows (with_sample_of h k records traces)) cache)
+asked_stays_right_of h records traces room k cache all =
+    All-take (IsRightOf h records traces) room _
+    (All-cons (IsRightOf h records traces) (k, kept_of (slice_rows (with_sample_of h k records traces))) _ refl (All-filter (λ e. not (e.0 == k)) (IsRightOf h records traces) cache all))
+
+pub forgotten_stays_right_of : (h : Head) (records : List Record) (traces : List (List ℕ)) (k many : ℕ) (cache : Cache) → AreRightOf h records traces cache → AreRightOf h records traces (cache_after_change k many cache)
+forgotten_stays_right_of h records traces k many cache all = All-filter (λ e. not (is_from k many e.0)) (IsRightOf h records traces) cache all

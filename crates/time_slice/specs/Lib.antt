@@ -5,3 +5,4 @@ pub mod Examples
 pub mod Cache
 pub mod CacheExamples
 pub mod CacheLaws
+pub mod Shown

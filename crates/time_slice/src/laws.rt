@@ -1,5 +1,5 @@
 // Laws of slices, each the contract of a call that does nothing.
-ghost use Rattle.time_slice.specs.CacheLaws.{NumbersAfterAsked, NumbersAfterForgotten, AskedStaysRight};
+ghost use Rattle.time_slice.specs.CacheLaws.{NumbersAfterAsked, NumbersAfterForgotten, AskedStaysRight, ForgottenStaysRight, RowsComeBack, RightOfRecords};
 ghost use Rattle.time_slice.specs.Laws.{SliceIsSlice, AtMostOneSlice, RowsAreOfTraces};
 
 /// The rows of a list of traces, in rising order, are a slice.
@@ -31,4 +31,20 @@ pub fn numbers_after_forgotten()
 /// Kept slices that are right stay so when one more is asked for and answered with its rows.
 pub fn asked_stays_right()
     ensures { AskedStaysRight }
+{}
+
+/// Kept slices that are right stay so when some are forgotten.
+pub fn forgotten_stays_right()
+    ensures { ForgottenStaysRight }
+{}
+
+/// The rows of a slice are got back from what is kept of them and the facts of the traces.
+pub fn rows_come_back()
+    ensures { RowsComeBack }
+{}
+
+/// Where each record holds the facts of the trace at its place, the slices that the records give
+/// are those of the traces.
+pub fn right_of_records()
+    ensures { RightOfRecords }
 {}

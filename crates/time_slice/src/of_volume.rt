@@ -1,5 +1,7 @@
-ghost use Rattle.std.specs.Prelude.{◌≡◌, ◌++◌, length, IfOk, OnOk, IsTrue};
+ghost use Rattle.std.specs.Prelude.{◌≡◌, ◌++◌, length, All, IfOk, IfSome, OnOk, IsTrue};
 ghost use Rattle.frame_cut.specs.Traces.{count_of, is_trace, trace_at};
+ghost use Rattle.sample_codes.specs.Formats.{width, sample_value, sample_fits};
+ghost use Rattle.trace_view.specs.Shown.{head_of, bytes_of};
 ghost use Rattle.trace_view.specs.Values.{sample_of};
 ghost use Rattle.trace_record.specs.Facts.{facts_of};
 ghost use Rattle.edit_overlay.specs.CountedVolume.{RisesAtMost, with_one_look};
@@ -8,9 +10,12 @@ ghost use Rattle.time_slice.specs.Slices.{row_of, rows_from, slice_rows};
 
 use crate::{OutOfMemory, Row};
 use edit_overlay::Overlay;
+use field_map::TRACE_HEADER_BYTES;
+use frame_cut::Head;
 use record_list::RecordList;
 use std::alloc::Global;
 use trace_record::Record;
+use trace_view::TraceView;
 
 /// Slice k, counted from 0: a row for each trace that has sample k, in rising order by inline,
 /// crossline and position. There are as many records as traces, and inline and crossline are those
@@ -26,6 +31,8 @@ pub fn rows(
     requires { length records.now ≡ count_of overlay.old.volume }
     ensures rows { IfOk result (λ v. v.items ≡ slice_rows (with_sample_of
         overlay.old.volume.head k records.now overlay.old.volume.traces)) }
+    ensures fits { IfOk result (λ v.
+        All (λ r. IsTrue (sample_fits overlay.old.volume.head.format r.value)) v.items) }
     ensures volume { overlay.new.volume ≡ overlay.old.volume }
     ensures prepared { overlay.new.prepared ≡ overlay.old.prepared }
     ensures looks { RisesAtMost overlay.old.looks overlay.new.looks (count_of overlay.old.volume) }
@@ -45,6 +52,8 @@ fn rows_in_place(
     requires { length records.now ≡ count_of overlay.old.volume }
     ensures rows { IfOk result (λ v. v.items ≡ rows_from 1 (with_sample_of
         overlay.old.volume.head k records.now overlay.old.volume.traces)) }
+    ensures fits { IfOk result (λ v.
+        All (λ r. IsTrue (sample_fits overlay.old.volume.head.format r.value)) v.items) }
     ensures volume { overlay.new.volume ≡ overlay.old.volume }
     ensures prepared { overlay.new.prepared ≡ overlay.old.prepared }
     ensures looks { RisesAtMost overlay.old.looks overlay.new.looks (count_of overlay.old.volume) }
@@ -62,7 +71,7 @@ fn rows_in_place(
 }
 
 // The row of the trace at a position at the end of the rows, where it has the sample.
-fn push_row(
+pub(crate) fn push_row(
     rows: &mut Vec<Row>,
     trace: &Record,
     position: u32,
@@ -87,10 +96,41 @@ fn look_at_sample(overlay: &mut Overlay, position: u32, k: u32) -> Option<i128>
     requires { IsTrue (is_trace overlay.old.volume position) }
     ensures sample { result ≡ sample_of overlay.old.volume.head
         (trace_at overlay.old.volume position) k }
+    ensures fits { IfSome result (λ v. IsTrue (sample_fits overlay.old.volume.head.format v)) }
     ensures overlay { overlay.new ≡ with_one_look overlay.old }
 {
     let Some(trace) = overlay.look(position) else {
         unreachable!()
     };
-    trace.sample(k)
+    sample_that_fits(&trace, k)
+}
+
+// Sample k of the trace. Read by its bytes, since they tell that its format has the number.
+fn sample_that_fits(trace: &TraceView<'_>, k: u32) -> Option<i128>
+    ensures sample { result ≡ sample_of (head_of trace.now) (bytes_of trace.now) k }
+    ensures fits { IfSome result (λ v. IsTrue (sample_fits (head_of trace.now).format v)) }
+{
+    if k >= trace.sample_count() {
+        return None;
+    }
+    let head = trace.head();
+    let headers = TRACE_HEADER_BYTES as u64 * (1 + u64::from(trace.extension_count()));
+    let width = u64::from(head.format.width());
+    let at = headers + width * u64::from(k);
+    if let Some(bytes) = trace.plain(at, at + width) {
+        return Some(number_of(head, bytes));
+    }
+    let mut sample = [0; 8];
+    let bytes = &mut sample[..width as usize];
+    trace.read(at, bytes);
+    Some(number_of(head, bytes))
+}
+
+// The number of the bytes of a sample, which its format has.
+fn number_of(head: &Head, bytes: &[u8]) -> i128
+    requires { length bytes.now ≡ width head.now.format }
+    ensures value { result ≡ sample_value head.now.order head.now.format bytes.now }
+    ensures fits { IsTrue (sample_fits head.now.format result) }
+{
+    head.format.decode(head.order, bytes)
 }

@@ -1,5 +1,7 @@
-use Rattle.std.proofs.Common.{subst, List}
+use Rattle.std.proofs.Common.{subst, List, IsTrue}
+use Rattle.std.proofs.lemmas.List.Sorted.{All-permutation}
 use Rattle.std.specs.List.Sorted.{IsPermutation}
+use Rattle.sample_codes.specs.Formats.{sample_fits}
 use Rattle.time_slice.specs.OfRecords.{with_sample_of}
 use Rattle.time_slice.specs.declared.row.Row.{Row}
 use Rattle.time_slice.proofs.OrderLemmas.{slice_from_sorted}
@@ -12,3 +14,7 @@ returns-clause-rows c =
     slice_from_sorted (with_sample_of v.head c.args.k c.args.records.now v.traces) sorted
     (subst (λ (rows : List Row). IsPermutation rows sorted) c.in_ok-rows.ensures.rows c.sort_unstable.ensures.permutation)
     c.sort_unstable.ensures.sorted
+
+pub returns-clause-fits : goal.returns-clause-fits
+returns-clause-fits c =
+    All-permutation (λ r. IsTrue (sample_fits c.args.overlay.now.volume.head.format r.value)) _ _ c.sort_unstable.ensures.permutation c.in_ok-rows.ensures.fits

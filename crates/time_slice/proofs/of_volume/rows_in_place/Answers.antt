@@ -1,8 +1,11 @@
-use Rattle.std.proofs.Common.{rules, arith, ap, subst, sym, ◌∙◌, ◌≡◌, ◌+◌, ◌++◌, length, List, drop, add-one}
+use Rattle.std.proofs.Common.{rules, arith, ap, subst, sym, ◌∙◌, ◌≡◌, ◌+◌, ◌++◌, length, List, drop, add-one, IfSome, IsTrue}
+use Rattle.frame_cut.specs.Volume.{Volume}
+use Rattle.sample_codes.specs.Formats.{sample_fits}
+use Rattle.trace_record.specs.Facts.{facts_of}
 use Rattle.trace_record.specs.declared.record.Record.{Record}
 use Rattle.time_slice.specs.OfRecords.{with_sample_of}
 use Rattle.time_slice.specs.Slices.{rows_from}
-use Rattle.time_slice.proofs.PassLemmas.{row_is_written}
+use Rattle.time_slice.proofs.PassLemmas.{row_is_written, fits_more}
 use Rattle.time_slice.proofs.of_volume.rows_in_place.Goals as goal
 
 pub loop-record-preserved : goal.loop-record-preserved
@@ -19,4 +22,8 @@ loop-record-preserved c =
       search rules,
       search rules,
       search rules,
+      fits_more v.head.format c.loop-record.rows.items c.push_row.new.rows.items (i + 1) (facts_of c.in-Some.record) c.look_at_sample-sample.result
+          c.in_ok-push_row.ensures
+          (subst (λ (w : Volume). IfSome c.look_at_sample-sample.result (λ s. IsTrue (sample_fits w.head.format s))) told.3 c.look_at_sample-sample.ensures.fits)
+          told.6,
     )

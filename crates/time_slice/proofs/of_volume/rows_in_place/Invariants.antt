@@ -1,4 +1,5 @@
-use Rattle.std.proofs.Common.{◌≡◌, ◌+◌, ◌++◌, length, drop}
+use Rattle.std.proofs.Common.{◌≡◌, ◌+◌, ◌++◌, length, drop, All, IsTrue}
+use Rattle.sample_codes.specs.Formats.{sample_fits}
 use Rattle.frame_cut.specs.Traces.{count_of}
 use Rattle.time_slice.specs.OfRecords.{with_sample_of}
 use Rattle.edit_overlay.specs.CountedVolume.{RisesAtMost}
@@ -13,3 +14,4 @@ invariant-loop-record l =
     × (l.overlay.volume ≡ l.fn.overlay.volume)
     × (l.overlay.prepared ≡ l.fn.overlay.prepared)
     × RisesAtMost l.fn.overlay.looks l.overlay.looks l.position
+    × All (λ r. IsTrue (sample_fits l.fn.overlay.volume.head.format r.value)) l.rows.items

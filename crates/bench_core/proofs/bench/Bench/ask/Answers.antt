@@ -1,10 +1,13 @@
-use Rattle.std.proofs.Common.{sym, subst, inl}
-use Rattle.bench_rules.specs.declared.query.Query.{Query}
-use Rattle.bench_rules.specs.Answer.{IsReply}
+use Rattle.std.proofs.Common.{sym}
+use Rattle.bench_core.proofs.ChangeLemmas.{no_slice, same_kept}
 use Rattle.bench_core.proofs.bench.Bench.ask.Goals as goal
 
-pub returns-in-Fold-clause-reply : goal.returns-in-Fold-clause-reply
-returns-in-Fold-clause-reply c = subst (λ (q : Query). IsReply c.args.self.now.state q c.fold_answer.result) (sym c.in-Fold.is) (inl c.fold_answer.ensures)
-
-pub returns-in-Faults-clause-reply : goal.returns-in-Faults-clause-reply
-returns-in-Faults-clause-reply c = subst (λ (q : Query). IsReply c.args.self.now.state q c.faults_answer.result) (sym c.in-Faults.is) c.faults_answer.ensures
+pub returns : goal.returns
+returns c =
+    let other = no_slice c.args.query.now c.in_default.not-Slice in
+    rw (← c.self.view_is) (record {
+      reply = c.ask.ensures.reply;
+      unchanged = c.ask.ensures.unchanged;
+      looks = rw (other.0 c.self.inside.volume.state.volume _) c.ask.ensures.looks;
+      kept = sym (same_kept c.ask.result (other.1 _));
+    })

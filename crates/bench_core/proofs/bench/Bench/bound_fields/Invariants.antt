@@ -1,6 +1,0 @@
-use Rattle.std.proofs.Common.{◌≡◌, ◌++◌}
-use Rattle.bench_core.proofs.bench.Bench.bound_fields.Given as goal
-
--- what was listed and what is left to list are all
-abbrev pub invariant-loop-name : goal.invariant-loop-name
-invariant-loop-name l = l.all.items ++ l.name-iterator ≡ l.initial.name-iterator

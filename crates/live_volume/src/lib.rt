@@ -1,0 +1,25 @@
+//! One volume under edits, and what is asked of it.
+//!
+//! Contracts see a [`LiveVolume`] as its state and a count of its looks at traces. The state is the
+//! parts of the file as they are now, the field map in force, and the reading and the limits under
+//! which the file was loaded. Traces count from 1, bytes in a header from 1, samples of a trace
+//! from 0. A refused edit or query leaves the state as it is.
+//!
+//! Beside the parts a bench holds the record of each trace, and the grid, the ranges, the totals
+//! and the triples that have counted them. Each edit keeps them those of the traces as they are, so
+//! a report looks at no trace; a slice alone looks at each.
+//!
+//! `load` takes memory for the file's bytes, the list of its traces, the six geometry names and the
+//! records with what has counted them; `apply` for `Set`, `Map`, `Patch`, `Blank`, `Copy` and
+//! `Move` alone; `ask` for answers that are texts or lists alone: `Line`, `Stanzas`, `Fields`,
+//! `Grid`, `Inlines`, `Crosslines`, `Histogram`, `Slice` and `Faults`.
+#![tactic(auto)]
+
+mod kept_slices;
+mod live_volume;
+mod report_queries;
+mod trace_edits;
+mod volume_edits;
+
+pub use crate::live_volume::LiveVolume;
+pub use bench_rules::{Answer, AskFault, Edit, Field, Info, Items, Query, Refusal, Text};

@@ -1,0 +1,154 @@
+// Changes of the volume and of the reports that hold the records of its traces: of both, or of
+// neither where memory is refused. What can be refused comes first, and what is done then takes no
+// memory.
+ghost use Rattle.std.specs.Prelude.{◌≡◌, ◌+◌, ◌-◌, ◌≤◌, ◌<◌, ◌^◌, length, slice_set, IsTrue, IfSome, OnOk, IfErr};
+ghost use Rattle.frame_cut.specs.Cuts.{IsTrace};
+ghost use Rattle.frame_cut.specs.Parts.{with_inserted};
+ghost use Rattle.frame_cut.specs.Splice.{splice};
+ghost use Rattle.frame_cut.specs.Traces.{count_of, is_trace, trace_at, with_trace};
+ghost use Rattle.frame_cut.specs.Volume.{bytes_of};
+ghost use Rattle.trace_record.specs.Facts.{facts_of};
+ghost use Rattle.trace_record.specs.OfTrace.{record_of};
+ghost use Rattle.edit_overlay.specs.CountedVolume.{RisesAtMost, with_one_look, with_volume as with_counted_volume};
+ghost use Rattle.live_reports.specs.Reports.{AreFew};
+ghost use Rattle.bench_rules.specs.declared.refusal.Refusal.TheVariants.{OutOfMemory as no_memory};
+ghost use Rattle.live_volume.specs.Held.{with_volume, HasSamplesOf, IsCutAs};
+
+use crate::live_volume::LiveVolume;
+use bench_rules::Refusal;
+use edit_overlay::Overlay;
+use field_map::FieldMap;
+use live_reports::LiveReports;
+use std::alloc::Global;
+use trace_record::Record;
+use volume_records::{prepared_headers, prepared_record};
+
+impl LiveVolume {
+    // The record of trace p.
+    pub(crate) fn held(&self, p: u32) -> Record
+        requires first { 1 ≤ p }
+        requires last { p ≤ count_of self.now.state.volume }
+        ensures { facts_of result ≡ record_of self.now.state.volume.head self.now.state.fields
+            (trace_at self.now.state.volume p) }
+    {
+        let Some(trace) = self.reports.get(p as usize - 1) else {
+            unreachable!()
+        };
+        trace
+    }
+
+    // Lays the bytes over those of trace p from place `at` on, counted from 0 in the trace. The
+    // trace is looked at for its new record; where the record of its samples is known, they are not
+    // read.
+    pub(crate) fn put(
+        &mut self,
+        alloc: Global,
+        p: u32,
+        at: u64,
+        bytes: &[u8],
+        samples: Option<Record>,
+    ) -> Result<(), Refusal>
+        requires first { 1 ≤ p }
+        requires last { p ≤ count_of self.old.state.volume }
+        requires inside { at + length bytes.now ≤ length (trace_at self.old.state.volume p) }
+        requires whole { IsTrace self.old.state.volume.head
+            (splice (trace_at self.old.state.volume p) at (length bytes.now) bytes.now) }
+        requires cut { IsCutAs self.old.state (with_trace self.old.state.volume p
+            (splice (trace_at self.old.state.volume p) at (length bytes.now) bytes.now)) }
+        requires samples { IfSome samples (HasSamplesOf self.old.state.volume.head
+            self.old.state.fields
+            (splice (trace_at self.old.state.volume p) at (length bytes.now) bytes.now)) }
+        ensures ok { OnOk result (self.new.state ≡ with_volume self.old.state
+            (with_trace self.old.state.volume p
+            (splice (trace_at self.old.state.volume p) at (length bytes.now) bytes.now))) }
+        ensures err { IfErr result (λ refusal. (refusal ≡ no_memory) ×
+            (self.new.state ≡ self.old.state)) }
+        ensures looks { RisesAtMost self.old.looks self.new.looks 1 }
+    {
+        self.overlay.prepare_put(alloc, p, at, bytes)?;
+        let record = new_record(&mut self.overlay, &self.fields, p, samples);
+        exchange(&mut self.overlay, &mut self.reports, p, &record)?;
+        Ok(())
+    }
+
+    // Puts a new trace of these bytes, with this record, in front of trace p, or behind the last.
+    pub(crate) fn insert(
+        &mut self,
+        alloc: Global,
+        p: u32,
+        bytes: Vec<u8>,
+        trace: &Record,
+    ) -> Result<(), Refusal>
+        requires first { 1 ≤ p }
+        requires last { p ≤ count_of self.old.state.volume + 1 }
+        requires few { count_of self.old.state.volume + 1 < 2 ^ 32 }
+        requires whole { IsTrace self.old.state.volume.head bytes.items }
+        requires small { length (bytes_of self.old.state.volume) + length bytes.items < 2 ^ 64 }
+        requires cut { IsCutAs self.old.state
+            (with_inserted self.old.state.volume p bytes.items) }
+        requires record { facts_of trace.now ≡ record_of self.old.state.volume.head
+            self.old.state.fields bytes.items }
+        ensures ok { OnOk result (self.new.state ≡ with_volume self.old.state
+            (with_inserted self.old.state.volume p bytes.items)) }
+        ensures err { IfErr result (λ refusal. (refusal ≡ no_memory) ×
+            (self.new.state ≡ self.old.state)) }
+        ensures looks { self.new.looks ≡ self.old.looks }
+    {
+        let Ok(()) = self.reports.insert(alloc, p as usize - 1, trace) else {
+            return Err(Refusal::OutOfMemory);
+        };
+        match self.overlay.insert(alloc, p, bytes) {
+            Ok(()) => Ok(()),
+            Err(_) => {
+                self.reports.remove(p as usize - 1);
+                Err(Refusal::OutOfMemory)
+            }
+        }
+    }
+}
+
+// The record of trace p with the prepared edit, in one look. No sample is read where a record is
+// known that has the same ones.
+fn new_record(overlay: &mut Overlay, fields: &FieldMap, p: u32, samples: Option<Record>) -> Record
+    requires trace { IsTrue (is_trace overlay.old.prepared p) }
+    requires fields { fields.now.extensions ≡ overlay.old.prepared.head.extensions }
+    requires samples { IfSome samples (HasSamplesOf overlay.old.prepared.head fields.now.pairs
+        (trace_at overlay.old.prepared p)) }
+    ensures record { facts_of result ≡ record_of overlay.old.prepared.head fields.now.pairs
+        (trace_at overlay.old.prepared p) }
+    ensures overlay { overlay.new ≡ with_one_look overlay.old }
+{
+    match samples {
+        Some(known) => prepared_headers(overlay, fields, p, &known),
+        None => prepared_record(overlay, fields, p),
+    }
+}
+
+// Makes the prepared edit of trace p, whose record is then this one, or drops it where memory is
+// refused.
+fn exchange(
+    overlay: &mut Overlay,
+    reports: &mut LiveReports,
+    p: u32,
+    trace: &Record,
+) -> Result<(), Refusal>
+    requires first { 1 ≤ p }
+    requires last { p ≤ length reports.old }
+    requires few { AreFew (slice_set reports.old (p - 1) trace.now) }
+    ensures ok { OnOk result ((overlay.new ≡ with_counted_volume overlay.old overlay.old.prepared)
+        × (reports.new ≡ slice_set reports.old (p - 1) trace.now)) }
+    ensures err { IfErr result (λ refusal. (refusal ≡ no_memory)
+        × (overlay.new ≡ with_counted_volume overlay.old overlay.old.volume)
+        × (reports.new ≡ reports.old)) }
+{
+    match reports.exchange(p as usize - 1, trace) {
+        Ok(()) => {
+            overlay.commit();
+            Ok(())
+        }
+        Err(_) => {
+            overlay.discard();
+            Err(Refusal::OutOfMemory)
+        }
+    }
+}

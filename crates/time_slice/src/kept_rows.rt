@@ -1,0 +1,117 @@
+// What is kept of the rows of a slice.
+ghost use Rattle.std.specs.Prelude.{◌≡◌, ◌++◌, map, All, IfOk, OnOk, IsTrue};
+ghost use Rattle.num_order.specs.Number.{IsBetween};
+ghost use Rattle.sample_codes.specs.Formats.{sample_fits};
+ghost use Rattle.trace_record.specs.Facts.{facts_of};
+ghost use Rattle.time_slice.specs.Cache.{kept_of, row_again, rows_again};
+ghost use Rattle.time_slice.specs.Shown.{pair_of};
+
+use crate::of_volume::push_row;
+use crate::{OutOfMemory, Row};
+use num_order::{Kind, Order};
+use record_list::RecordList;
+use sample_codes::Format;
+use std::alloc::Global;
+use std::marker::Model;
+use std::mem::size_of;
+use trace_record::Record;
+
+// The position of a row, and its sample as a number of 8 bytes: 12 bytes in all.
+#[derive(Clone, Copy)]
+pub(crate) struct KeptRow {
+    position: u32,
+    sample: [u8; 8],
+}
+
+const _: () = prove!(size_of::<KeptRow>() == 12);
+
+impl KeptRow {
+    ghost use Rattle.std.specs.Prelude.{◌≡◌};
+    ghost use Rattle.num_order.specs.Number.{IsBetween};
+    ghost use Rattle.time_slice.specs.Shown.{pair_of};
+
+    fn of(row: Row, signed: bool) -> KeptRow
+        requires { IsBetween signed 8 row.value }
+        ensures { pair_of signed result ≡ (row.position, row.value) }
+    {
+        num_order::reads_back();
+        let mut sample = [0; 8];
+        let kind = Kind { size: 8, signed };
+        num_order::write(Order::Little, kind, row.value, &mut sample);
+        KeptRow {
+            position: row.position,
+            sample,
+        }
+    }
+
+    fn value(self, signed: bool) -> i128
+        ensures { result ≡ (pair_of signed self).1 }
+    {
+        let kind = Kind { size: 8, signed };
+        num_order::read(Order::Little, kind, &self.sample)
+    }
+}
+
+// Rows without their inlines and crosslines, which are those of the traces. Seen as the positions
+// with their samples.
+#[derive(Drop)]
+pub(crate) struct KeptRows {
+    signed: bool,
+    rows: Vec<KeptRow>,
+}
+
+impl Model for KeptRows {
+    ghost use Rattle.std.specs.Prelude.{ℕ, ℤ, List, map};
+    ghost use Rattle.time_slice.specs.Shown.{pair_of};
+
+    ghost Value = { List (ℕ × ℤ) };
+
+    ghost view = { λ a. map (pair_of a.signed) a.rows.items };
+}
+
+impl KeptRows {
+    // What is kept of rows whose samples the format has.
+    pub(crate) fn of(alloc: Global, rows: &[Row], format: Format) -> Result<KeptRows, OutOfMemory>
+        requires { All (λ r. IsTrue (sample_fits format r.value)) rows.now }
+        ensures { IfOk result (λ kept. kept ≡ kept_of rows.now) }
+    {
+        let signed = format.kind().signed;
+        let mut kept = Vec::with_capacity(alloc, rows.len())?;
+        for row in rows {
+            kept.push(KeptRow::of(*row, signed))?;
+        }
+        Ok(KeptRows { signed, rows: kept })
+    }
+
+    // The rows of which this is kept.
+    pub(crate) fn rows(
+        &self,
+        alloc: Global,
+        records: &RecordList<Record>,
+    ) -> Result<Vec<Row>, OutOfMemory>
+        ensures { IfOk result (λ v. v.items ≡ rows_again (map facts_of records.now) self.now) }
+    {
+        let mut rows = Vec::with_capacity(alloc, self.rows.len())?;
+        for kept in &self.rows {
+            push_again(&mut rows, records, *kept, self.signed)?;
+        }
+        Ok(rows)
+    }
+}
+
+// The row of which this is kept at the end of the rows.
+fn push_again(
+    rows: &mut Vec<Row>,
+    records: &RecordList<Record>,
+    kept: KeptRow,
+    signed: bool,
+) -> Result<(), OutOfMemory>
+    ensures { OnOk result (rows.new.items ≡ rows.old.items ++
+        row_again (map facts_of records.now) (pair_of signed kept)) }
+{
+    let place = (kept.position as usize).saturating_sub(1);
+    if let Some(record) = records.get(place) {
+        push_row(rows, &record, kept.position, Some(kept.value(signed)))?;
+    }
+    Ok(())
+}

@@ -1,0 +1,189 @@
+ghost use Rattle.std.specs.Prelude.{◌≡◌, ◌≤◌, ◌∷◌, [], ◌++◌, ℕ, ℤ, List, if◌then◌else◌, length, map, All, Some, IfOk, OnOk, OnErr, IsTrue, IsFalse};
+ghost use Rattle.frame_cut.specs.Traces.{count_of};
+ghost use Rattle.sample_codes.specs.Formats.{sample_fits};
+ghost use Rattle.trace_record.specs.Facts.{facts_of};
+ghost use Rattle.edit_overlay.specs.CountedVolume.{RisesAtMost};
+ghost use Rattle.lru.specs.LruCache.{lru_cache};
+ghost use Rattle.time_slice.specs.OfRecords.{with_sample_of};
+ghost use Rattle.time_slice.specs.Slices.{slice_rows};
+ghost use Rattle.time_slice.specs.Cache.{Cache, AreRightOf, keeps, kept_of, kept_rows, rows_again, is_from, cache_after_change, none_kept, after_slice, after_change};
+
+use crate::kept_rows::KeptRows;
+use crate::{OutOfMemory, Row, rows};
+use edit_overlay::Overlay;
+use lru::LruCache;
+use record_list::RecordList;
+use sample_codes::Format;
+use std::alloc::Global;
+use std::marker::Model;
+use std::num::NonZeroUsize;
+use trace_record::Record;
+
+/// The slices that were asked last, of a volume under edits. Of each row only its position and its
+/// sample are kept, in 12 bytes. Contracts see the entries, the last asked first, each a number
+/// with the positions and samples of its rows, and how many there is room for.
+#[derive(Drop)]
+pub struct SliceCache {
+    cache: LruCache<u32, KeptRows>,
+}
+
+impl Model for SliceCache {
+    ghost use Rattle.time_slice.specs.Cache.{KeptSlices, kept_slices_code};
+
+    ghost Value = { KeptSlices };
+
+    ghost coded = { kept_slices_code };
+
+    ghost view = { λ a. record { entries = a.cache.entries; capacity = a.cache.cap } };
+}
+
+impl SliceCache {
+    /// A cache that keeps none, with room for so many slices. Takes memory in step with their
+    /// number; refused for want of it alone.
+    pub fn new(alloc: Global, capacity: usize) -> Result<SliceCache, OutOfMemory>
+        requires { 1 ≤ capacity }
+        ensures { IfOk result (λ cache. cache ≡ none_kept capacity) }
+    {
+        let Some(capacity) = NonZeroUsize::new(capacity) else {
+            unreachable!()
+        };
+        let cache = LruCache::new(alloc, capacity)?;
+        Ok(SliceCache { cache })
+    }
+
+    /// Whether slice k is kept. Takes no memory.
+    pub fn cached(&self, k: u32) -> bool
+        ensures { result ≡ keeps k self.now.entries }
+    {
+        self.cache.contains(&k)
+    }
+
+    /// Slice k, counted from 0, as [`rows`] gives it, which is kept then and comes first. A slice
+    /// that is kept already is answered without a look, any other with one at each trace. There are
+    /// as many records as traces, and each kept slice is the one that they give. Takes memory for
+    /// the rows and for what is kept of them; refused for want of it alone, and then the same
+    /// slices are kept, in the same order. The volume stays as it is in any case.
+    pub fn slice(
+        &mut self,
+        alloc: Global,
+        overlay: &mut Overlay,
+        records: &RecordList<Record>,
+        k: u32,
+    ) -> Result<Vec<Row>, OutOfMemory>
+        requires count { length records.now ≡ count_of overlay.old.volume }
+        requires right { AreRightOf overlay.old.volume.head records.now overlay.old.volume.traces
+            self.old.entries }
+        ensures rows { IfOk result (λ v. v.items ≡ slice_rows (with_sample_of
+            overlay.old.volume.head k records.now overlay.old.volume.traces)) }
+        ensures ok { OnOk result (self.new ≡ after_slice self.old k (slice_rows (with_sample_of
+            overlay.old.volume.head k records.now overlay.old.volume.traces))) }
+        ensures err { OnErr result (self.new ≡ self.old) }
+        ensures volume { overlay.new.volume ≡ overlay.old.volume }
+        ensures prepared { overlay.new.prepared ≡ overlay.old.prepared }
+        ensures looks { RisesAtMost overlay.old.looks overlay.new.looks
+            (if keeps k self.old.entries then 0 else count_of overlay.old.volume) }
+    {
+        if self.cached(k) {
+            return self.answer_kept(alloc, records, k);
+        }
+        let rows = rows(alloc, overlay, records, k)?;
+        self.keep(alloc, k, rows.as_slice(), overlay.head().format)?;
+        Ok(rows)
+    }
+
+    /// Forgets each kept slice whose number is that of one of so many samples from k on. The others
+    /// stay as they are, in their order. Takes one step for each kept slice, and no memory.
+    pub fn forget(&mut self, k: u32, many: usize)
+        ensures { self.new ≡ after_change self.old k many }
+    {
+        forget_numbers(&mut self.cache, k, many);
+    }
+
+    /// Forgets each kept slice. Takes no memory.
+    pub fn clear(&mut self)
+        ensures { self.new ≡ none_kept self.old.capacity }
+    {
+        self.cache.clear();
+    }
+
+    // A kept slice from what is kept of it, which comes first then.
+    fn answer_kept(
+        &mut self,
+        alloc: Global,
+        records: &RecordList<Record>,
+        k: u32,
+    ) -> Result<Vec<Row>, OutOfMemory>
+        requires { IsTrue (keeps k self.old.entries) }
+        ensures rows { (rows : List Row) → kept_rows k self.old.entries ≡ Some (kept_of rows) →
+            IfOk result (λ v. v.items ≡ rows_again (map facts_of records.now) (kept_of rows)) }
+        ensures ok { (rows : List Row) → kept_rows k self.old.entries ≡ Some (kept_of rows) →
+            OnOk result (self.new ≡ after_slice self.old k rows) }
+        ensures err { OnErr result (self.new ≡ self.old) }
+    {
+        // Read for the proof alone, which learns that no number is kept twice.
+        let _count = self.cache.len();
+        let Some(kept) = self.cache.peek(&k) else {
+            unreachable!()
+        };
+        let rows = kept.rows(alloc, records)?;
+        self.cache.promote(&k);
+        Ok(rows)
+    }
+
+    // Keeps a slice that is not kept, whose samples the format has.
+    fn keep(
+        &mut self,
+        alloc: Global,
+        k: u32,
+        rows: &[Row],
+        format: Format,
+    ) -> Result<(), OutOfMemory>
+        requires new { IsFalse (keeps k self.old.entries) }
+        requires fits { All (λ r. IsTrue (sample_fits format r.value)) rows.now }
+        ensures ok { OnOk result (self.new ≡ after_slice self.old k rows.now) }
+        ensures err { OnErr result (self.new ≡ self.old) }
+    {
+        // Read for the proof alone, which learns that there is room for one.
+        let _count = self.cache.len();
+        let kept = KeptRows::of(alloc, rows, format)?;
+        self.cache.put(k, kept)?;
+        Ok(())
+    }
+}
+
+// Forgets the entries whose numbers are those of so many samples from k on. Each entry is the last
+// once, and comes first again where it stays, so that those that stay have their order.
+fn forget_numbers(cache: &mut LruCache<u32, KeptRows>, k: u32, many: usize)
+    ensures { cache.new ≡ lru_cache (cache_after_change k many cache.old.entries) cache.old.cap }
+{
+    for _ in 0..cache.len() {
+        turn(cache, k, many);
+    }
+}
+
+// The last entry goes, where its number is that of one of so many samples from k on, and comes
+// first else.
+fn turn(cache: &mut LruCache<u32, KeptRows>, k: u32, many: usize)
+    ensures turned { (es : Cache) (e : ℕ × List (ℕ × ℤ)) → cache.old.entries ≡ es ++ e ∷ [] →
+        cache.new.entries ≡ (if is_from k many e.0 then es else (e ∷ es)) }
+    ensures capacity { cache.new.cap ≡ cache.old.cap }
+{
+    // Read for the proof alone, which learns that no number is kept twice.
+    let _count = cache.len();
+    let Some((number, _)) = cache.peek_lru() else {
+        return;
+    };
+    let number = *number;
+    if is_among(k, many, number) {
+        cache.pop_lru();
+    } else {
+        cache.promote(&number);
+    }
+}
+
+// Whether the number is that of one of so many samples from k on.
+fn is_among(k: u32, many: usize, number: u32) -> bool
+    ensures { result ≡ is_from k many number }
+{
+    number >= k && ((number - k) as usize) < many
+}

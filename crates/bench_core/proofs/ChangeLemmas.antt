@@ -57,10 +57,10 @@ moved_by_set old new p place x first last fields volume =
     let long : p ≤ count_of w = omega (arith, length-set old.volume.traces (p - 1) u, last) in
     let again : trace_at w p ≡ u = get_or-set_same old.volume.traces (p - 1) u [] there in
     let after : cell_at new p ≡ Some (cell_of old.volume.head old.fields u) =
-        ap (λ (v : Volume). option_map (cell_of v.head new.fields) (trace_of v p)) volume
-        ∙ ap (λ fields. option_map (cell_of w.head fields) (trace_of w p)) fields
-        ∙ cell_there s p first long
-        ∙ ap (λ t. let o : Option (ℤ × ℤ) = Some (cell_of old.volume.head old.fields t) in o) again in
+    ap (λ (v : Volume). option_map (cell_of v.head new.fields) (trace_of v p)) volume
+    ∙ ap (λ fields. option_map (cell_of w.head fields) (trace_of w p)) fields
+    ∙ cell_there s p first long
+    ∙ ap (λ t. let o : Option (ℤ × ℤ) = Some (cell_of old.volume.head old.fields t) in o) again in
     ap (λ c. is_moved c (cell_at new p)) (cell_there old p first last)
     ∙ ap (λ c. is_moved (Some (cell_of old.volume.head old.fields (trace_at old.volume p))) c) after
 

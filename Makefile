@@ -33,7 +33,7 @@ build:
 	tools/build
 
 test:
-	@echo 'The whole gate: every proof from nothing. On 4 cores it takes about an hour.'
+	@echo 'The whole gate: every proof from nothing. It takes two hours and more.'
 	@test -x $(SHIPPED) || { echo 'There is no shipped program $(SHIPPED): make build, then make dist.'; exit 1; }
 	bash tests/lines.sh
 	rm -f $(BUILT)

@@ -1,10 +1,10 @@
 -- The tally of a list in which one record stands in for another, comes or goes.
-use Rattle.std.specs.Prelude.{◌≡◌, ℕ, ◌+◌, ◌+ℤ◌, ◌≤◌, Bool, true, false, cond, List, [], ◌∷◌, ◌++◌, refl}
-use Rattle.std.proofs.Common.{arith, sym, ap, ◌∙◌}
+use Rattle.std.specs.Prelude.{◌≡◌, ◌+◌, ◌+ℤ◌, Bool, true, false, cond, List, ◌∷◌, ◌++◌, refl}
+use Rattle.std.proofs.Common.{arith, ap}
 use Rattle.trace_record.specs.Facts.{Facts}
 use Rattle.trace_record.specs.Keys.{Counted, Key}
-use Rattle.trace_record.specs.Tally.{Tally, tally_of, plus, minus, Same, Holds, HasKeys, times, IsSmall}
-use Rattle.trace_record.proofs.TallyLemmas.{Same-trans, Same-sym, plus-Same, minus-Same, minus-plus, plus_in_any_order, Holds-plus, tally_of_one_more, tally_of_one_less, tally_holds_each, IsSmall-Same}
+use Rattle.trace_record.specs.Tally.{Tally, tally_of, plus, minus, Same, HasKeys, IsSmall}
+use Rattle.trace_record.proofs.TallyLemmas.{Same-trans, Same-sym, plus-Same, minus-Same, minus-plus, plus_in_any_order, tally_of_one_more, tally_holds_each, IsSmall-Same}
 use Rattle.live_reports.specs.Where.{plus_where, minus_where, SmallWhere, HeldWhere, HasKeysWhere}
 
 -- two traces are counted alike

@@ -1,6 +1,6 @@
 -- What the running values have counted where a record is exchanged, inserted, removed or moved.
-use Rattle.std.specs.Prelude.{◌≡◌, ℕ, ◌+◌, ◌<◌, ◌≤◌, ◌^◌, Bool, true, false, List, [], ◌∷◌, ◌++◌, length, map, sum_by, slice_get, slice_set, Some, refl}
-use Rattle.std.proofs.Common.{arith, sym, ap, ◌∙◌, subst, length-append}
+use Rattle.std.specs.Prelude.{◌≡◌, ℕ, ◌+◌, ◌<◌, ◌≤◌, true, false, List, [], ◌∷◌, ◌++◌, length, map, sum_by, slice_get, slice_set, Some}
+use Rattle.std.proofs.Common.{arith, sym, ap, ◌∙◌, subst}
 use Rattle.std.specs.List.{insert, remove}
 use Rattle.std.proofs.lemmas.List.{map-append}
 use Rattle.std.proofs.lemmas.List.Sums.{sum_by-cons}
@@ -9,7 +9,7 @@ use Rattle.trace_record.specs.Facts.{Facts, facts_of}
 use Rattle.trace_record.specs.Keys.{Counted}
 use Rattle.trace_record.specs.Tally.{Tally, tally_of, plus, minus, Same, Holds, IsSmall}
 use Rattle.trace_record.specs.declared.record.Record.{Record}
-use Rattle.trace_record.proofs.TallyLemmas.{Same-trans, Same-sym, plus-Same, minus-Same, minus-plus, Holds-plus, tally_of_one_more, tally_of_one_less, tally_holds_each, IsSmall-Same}
+use Rattle.trace_record.proofs.TallyLemmas.{Same-trans, Same-sym, plus-Same, minus-Same, minus-plus, tally_of_one_more, tally_of_one_less, tally_holds_each, IsSmall-Same}
 use Rattle.fault_live.specs.FaultKeys.{keys_of_faults}
 use Rattle.grid_live.specs.GridKeys.{keys_of_grid}
 use Rattle.range_stats.specs.RangeKeys.{keys_of_ranges}
@@ -17,7 +17,7 @@ use Rattle.range_stats.specs.TotalKeys.{keys_of_totals}
 use Rattle.live_reports.specs.declared.changes.Changes.{Changes}
 use Rattle.live_reports.specs.declared.values.Values.{Values}
 use Rattle.live_reports.specs.Reports.{AreFew, HaveCounted}
-use Rattle.live_reports.specs.Tallies.{Tallies, tallies_of, tallies_of_records, plus_each, minus_each, plus_where_each, minus_where_each, SameEach, AreSmall, AreSmallWhere, HoldEach}
+use Rattle.live_reports.specs.Tallies.{Tallies, tallies_of, plus_each, minus_each, plus_where_each, minus_where_each, SameEach, AreSmall, AreSmallWhere, HoldEach}
 use Rattle.live_reports.proofs.ListLemmas.{stands_at, cuts_at, item_at}
 use Rattle.live_reports.proofs.ChangeLemmas.{AreAlike, held, fits, counted}
 use Rattle.live_reports.proofs.SmallLemmas.{small_each, room_each, own_samples, AreSmall-Same}

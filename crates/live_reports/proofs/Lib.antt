@@ -3,3 +3,4 @@ pub mod ChangeLemmas
 pub mod AlikeLemmas
 pub mod SmallLemmas
 pub mod EditLemmas
+pub mod ExchangeLemmas

@@ -1,11 +1,9 @@
 -- The tallies of few records are small, with one record more too.
-use Rattle.std.specs.Prelude.{◌≡◌, ℕ, ℤ, pos, ◌+◌, ◌<◌, ◌≤◌, ◌^◌, Bool, List, [], ◌∷◌, ◌++◌, length, map, sum_by, refl}
-use Rattle.std.proofs.Common.{arith, sym, ap, ◌∙◌}
+use Rattle.std.specs.Prelude.{◌≡◌, ◌≤◌, ◌^◌, List, [], ◌∷◌, ◌++◌, length, map, sum_by, refl}
+use Rattle.std.proofs.Common.{arith}
 use Rattle.std.proofs.lemmas.List.{length-map}
 use Rattle.std.proofs.lemmas.List.Sums.{sum_by-cons}
 use Rattle.trace_record.specs.Facts.{Facts, facts_of}
-use Rattle.trace_record.specs.Keys.{Counted, Key}
-use Rattle.trace_record.specs.Tally.{Tally, tally_of, plus, Same, IsSmall}
 use Rattle.trace_record.specs.declared.record.Record.{Record}
 use Rattle.trace_record.proofs.LoadLemmas.{IsSmall-uncounted}
 use Rattle.trace_record.proofs.TallyLemmas.{IsSmall-tally_of, IsSmall-Same, Same-sym, Same-trans, plus-Same, tally-cons, sum-low, sum-high}
@@ -26,7 +24,7 @@ samples-map (r ∷ rs) =
     omega arith
 
 -- the tallies of records whose number and samples are within the bounds of a small one
-small_within : (rs : List Record) → length rs ≤ 2 ^ 33 → sum_by (λ (r : Record). r.number) rs ≤ 2 ^ 41 → AreSmall (tallies_of_records (map facts_of rs))
+pub small_within : (rs : List Record) → length rs ≤ 2 ^ 33 → sum_by (λ (r : Record). r.number) rs ≤ 2 ^ 41 → AreSmall (tallies_of_records (map facts_of rs))
 small_within rs few samples =
     let n = length-map rs facts_of in
     let m = samples-map rs in

@@ -2,3 +2,4 @@ pub mod Where
 pub mod Alike
 pub mod Tallies
 pub mod Reports
+pub mod Exchanged

@@ -1,5 +1,5 @@
 -- Records with the running values that have counted them.
-use Rattle.std.specs.Prelude.{ℕ, ◌<◌, ◌≤◌, ◌^◌, List, length, map, sum_by}
+use Rattle.std.specs.Prelude.{◌<◌, ◌≤◌, ◌^◌, List, length, map, sum_by}
 use Rattle.trace_record.specs.Facts.{facts_of}
 use Rattle.trace_record.specs.Tally.{tally_of, HasKeys}
 use Rattle.trace_record.specs.declared.record.Record.{Record}

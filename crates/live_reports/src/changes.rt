@@ -34,7 +34,7 @@ pub(crate) fn changes_between(old: &Record, new: &Record) -> Changes
     ensures totals { result.totals ≡ not (same_samples old.now new.now) }
     ensures triples { result.triples ≡ not (same_triple old.now new.now) }
 {
-    let has_cell = old.inline == new.inline && old.crossline == new.crossline;
+    let has_cell = has_same_cell(old, new);
     let has_offset = old.offset == new.offset;
     let has_place = has_same_place(old, new);
     Changes {
@@ -43,6 +43,13 @@ pub(crate) fn changes_between(old: &Record, new: &Record) -> Changes
         totals: !has_same_samples(old, new),
         triples: !(has_cell && has_offset),
     }
+}
+
+// Whether both have the same inline and crossline.
+pub(crate) fn has_same_cell(old: &Record, new: &Record) -> bool
+    ensures { result ≡ same_cell old.now new.now }
+{
+    old.inline == new.inline && old.crossline == new.crossline
 }
 
 fn has_same_place(old: &Record, new: &Record) -> bool

@@ -10,6 +10,7 @@
 
 mod changes;
 mod counting;
+mod exchanging;
 mod live_reports;
 mod out_of_memory;
 mod values;

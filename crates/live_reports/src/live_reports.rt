@@ -1,4 +1,4 @@
-ghost use Rattle.std.specs.Prelude.{◌≡◌, ◌<◌, ◌≤◌, length, slice_get, slice_set, map, Some, IfOk, OnOk, OnErr, IsOk};
+ghost use Rattle.std.specs.Prelude.{◌≡◌, ◌<◌, ◌≤◌, ◌+◌, length, drop, slice_get, slice_set, map, Some, IfOk, OnOk, OnErr, IsOk};
 ghost use Rattle.std.specs.List.{insert, remove};
 ghost use Rattle.record_list.specs.Order.{with_moved};
 ghost use Rattle.trace_record.specs.Facts.{facts_of};
@@ -11,10 +11,12 @@ ghost use Rattle.range_stats.specs.RangeKeys.{keys_of_ranges};
 ghost use Rattle.range_stats.specs.OfRanges.{tally_of_ranges};
 ghost use Rattle.range_stats.specs.TotalKeys.{keys_of_totals};
 ghost use Rattle.range_stats.specs.OfTotals.{tally_of_totals};
+ghost use Rattle.live_reports.specs.Exchanged.{with_records, same_cells};
 ghost use Rattle.live_reports.specs.Reports.{AreFew, HasEachKey};
 
 use crate::OutOfMemory;
-use crate::changes::{all_changes, changes_between};
+use crate::changes::{all_changes, changes_between, has_same_cell};
+use crate::exchanging::{add_each, put_each};
 use crate::values::Values;
 use fault_live::Faults;
 use grid_live::Grid;
@@ -122,6 +124,36 @@ impl LiveReports {
         self.values.remove(changes, &old);
         self.records.set(place, *record);
         Ok(())
+    }
+
+    /// Puts the records where as many others stand, from a place on. A value that counts two alike
+    /// counts nothing anew. All or none. Takes memory only for a key that no record has.
+    pub fn exchange_each(&mut self, place: usize, records: &[Record]) -> Result<(), OutOfMemory>
+        requires place { place + length records.now ≤ length self.old }
+        requires few { AreFew (with_records self.old place records.now) }
+        ensures ok { OnOk result (self.new ≡ with_records self.old place records.now) }
+        ensures err { OnErr result (self.new ≡ self.old) }
+    {
+        add_each(&mut self.values, &self.records, place, records)?;
+        put_each(&mut self.values, &mut self.records, place, records);
+        Ok(())
+    }
+
+    /// Whether the records have, one by one, the inline and crossline of those that stand from a
+    /// place on. Takes no memory.
+    pub fn same_cells(&self, place: usize, records: &[Record]) -> bool
+        requires { place + length records.now ≤ length self.now }
+        ensures { result ≡ same_cells (drop place self.now) records.now }
+    {
+        for (k, record) in records.iter().enumerate() {
+            let Some(held) = self.records.get(place + k) else {
+                unreachable!()
+            };
+            if !has_same_cell(&held, record) {
+                return false;
+            }
+        }
+        true
     }
 
     /// Puts the record in front of the one at a place, or behind all where there is none. Takes

@@ -82,6 +82,44 @@ fn exchanged(
     Ok(reports)
 }
 
+// The reports of two traces, once others stood in for both at once.
+fn exchanged_both(
+    alloc: Global,
+    first: &Record,
+    second: &Record,
+    new_first: &Record,
+    new_second: &Record,
+) -> Result<LiveReports, Fail>
+    requires first { first.now.number ≡ 2 }
+    requires second { second.now.number ≡ 2 }
+    requires new_first { new_first.now.number ≡ 2 }
+    requires new_second { new_second.now.number ≡ 2 }
+    ensures { IfOk result (λ reports. reports ≡ new_first.now ∷ new_second.now ∷ []) }
+{
+    let mut reports = pair(alloc, first, second)?;
+    reports.exchange_each(0, &[*new_first, *new_second])?;
+    Ok(reports)
+}
+
+// The reports of two traces, once no trace stood in for none, and one for the second.
+fn exchanged_behind(
+    alloc: Global,
+    first: &Record,
+    second: &Record,
+    new: &Record,
+) -> Result<LiveReports, Fail>
+    requires first { first.now.number ≡ 2 }
+    requires second { second.now.number ≡ 2 }
+    requires new { new.now.number ≡ 2 }
+    ensures { IfOk result (λ reports. reports ≡ first.now ∷ new.now ∷ []) }
+{
+    let mut reports = pair(alloc, first, second)?;
+    reports.exchange_each(1, &[])?;
+    reports.exchange_each(2, &[])?;
+    reports.exchange_each(1, &[*new])?;
+    Ok(reports)
+}
+
 // The reports of two traces and a third one between them.
 fn inserted(
     alloc: Global,
@@ -178,6 +216,52 @@ fn another_trace_stands_in(rt: HostRuntime) -> Result<(), Fail> {
         && ranges_over(&reports, Ratio::scaled(5, -2), Ratio::whole(1000))
         && stands_at(&reports, 1, 2);
     assert!(rt; is_told && repeats == 1);
+    Ok(())
+}
+
+#[test]
+fn other_traces_stand_in(rt: HostRuntime) -> Result<(), Fail> {
+    let first = trace_at(1, 21, 100000);
+    let second = trace_at(2, 22, 200000);
+    let moved = trace_at(1, 21, 300000);
+    let reports = exchanged_both(rt.alloc(), &first, &second, &moved, &deep_trace())?;
+    let repeats = repeats_of(rt.alloc(), &reports)?;
+    let is_told = tells(&reports, 2, -4, 4)
+        && ranges_over(&reports, Ratio::scaled(5, -2), Ratio::whole(3000))
+        && stands_at(&reports, 0, 1)
+        && stands_at(&reports, 1, 2);
+    assert!(rt; is_told && repeats == 1);
+    Ok(())
+}
+
+#[test]
+fn other_traces_stand_in_from_a_place_on(rt: HostRuntime) -> Result<(), Fail> {
+    let first = trace_at(1, 21, 100000);
+    let second = trace_at(2, 22, 200000);
+    let third = trace_at(2, 23, 50000);
+    let reports = exchanged_behind(rt.alloc(), &first, &second, &third)?;
+    let repeats = repeats_of(rt.alloc(), &reports)?;
+    let is_told = tells(&reports, 1, -2, 4)
+        && reports.grid().fold(10, 22) == 0
+        && reports.grid().fold(10, 23) == 1
+        && ranges_over(&reports, Ratio::whole(500), Ratio::whole(1000))
+        && stands_at(&reports, 0, 1)
+        && stands_at(&reports, 1, 2);
+    assert!(rt; is_told && repeats == 0);
+    Ok(())
+}
+
+#[test]
+fn tells_the_same_cells(rt: HostRuntime) -> Result<(), Fail> {
+    let first = trace_at(1, 21, 100000);
+    let second = trace_at(2, 22, 200000);
+    let moved = trace_at(3, 21, 300000);
+    let reports = pair(rt.alloc(), &first, &second)?;
+    assert!(rt; reports.same_cells(0, &[moved, second]));
+    assert!(rt; reports.same_cells(0, &[deep_trace()]));
+    assert!(rt; reports.same_cells(2, &[]));
+    assert!(rt; !reports.same_cells(0, &[moved, deep_trace()]));
+    assert!(rt; !reports.same_cells(1, &[moved]));
     Ok(())
 }
 

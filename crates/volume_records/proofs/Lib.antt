@@ -6,3 +6,4 @@ pub mod FewLemmas
 pub mod EditLemmas
 pub mod NameLemmas
 pub mod HeaderLemmas
+pub mod EachLemmas

@@ -1,14 +1,17 @@
 -- The pass that makes the records.
-use Rattle.std.proofs.Common.{◌≡◌, ℕ, ◌+◌, ◌-◌, ◌<◌, List, [], ◌∷◌, ◌++◌, length, take, get_or, sym, ap, ap₂, ◌∙◌, arith}
-use Rattle.std.specs.Prelude.{map}
-use Rattle.std.proofs.lemmas.List.{length-map, map-append, take-map, take_more, take_all}
+use Rattle.std.proofs.Common.{◌≡◌, ℕ, ◌+◌, ◌-◌, ◌<◌, List, [], ◌∷◌, ◌++◌, length, take, drop, get_or, Some, sym, ap, ap₂, ◌∙◌, arith}
+use Rattle.std.specs.Prelude.{map, slice_get}
+use Rattle.std.specs.List.{zip}
+use Rattle.std.proofs.lemmas.List.{length-map, length-drop, get_or-drop, get_or-map, map-append, take-map, take_more, take_all}
+use Rattle.std.proofs.lemmas.Option.{get_or_from_slice_get, slice_get_within}
+use Rattle.std.proofs.lemmas.Slice.Zip.{get_or-zip, length-zip}
 use Rattle.field_map.specs.Pairs.{Pairs}
 use Rattle.frame_cut.specs.Traces.{count_of, trace_at}
 use Rattle.frame_cut.specs.Volume.{Volume}
-use Rattle.trace_record.specs.Facts.{Facts, facts_of}
+use Rattle.trace_record.specs.Facts.{Facts, facts_of, with_samples_of}
 use Rattle.trace_record.specs.OfTrace.{record_of}
 use Rattle.trace_record.specs.declared.record.Record.{Record}
-use Rattle.volume_records.specs.OfVolume.{records_of}
+use Rattle.volume_records.specs.OfVolume.{records_of, headers_of}
 
 -- the first items of what is made of each, with one more
 first-more : {T U : Type 0} (f : T → U) (xs : List T) (n : ℕ) (d : T) → n < length xs → take (n + 1) (map f xs) ≡ take n (map f xs) ++ f (get_or xs n d) ∷ []
@@ -32,3 +35,32 @@ one_record_more v w fields n old new r same there e is grew =
 -- and all of them
 pub all_records : (v : Volume) (fields : Pairs) (n : ℕ) (rs : List Record) → n ≡ count_of v → map facts_of rs ≡ take n (records_of v fields) → map facts_of rs ≡ records_of v fields
 all_records v fields n rs whole e = e ∙ take_all n (records_of v fields) (omega (arith, length-map v.traces (record_of v.head fields), whole))
+
+-- one record more of the headers of a trace, with the samples of the record that is held at its place
+pub one_header_more : (v w : Volume) (fields : Pairs) (known : List Record) (p n q : ℕ) (old new : List Record) (r held : Record) → w ≡ v → p + n < count_of v → slice_get known (p + n) ≡ Some held → q ≡ p + n + 1
+    → map facts_of old ≡ take n (drop p (headers_of v fields (map facts_of known))) → facts_of r ≡ with_samples_of (record_of w.head fields (trace_at w q)) (facts_of held) → new ≡ old ++ r ∷ []
+    → map facts_of new ≡ take (n + 1) (drop p (headers_of v fields (map facts_of known)))
+one_header_more v w fields known p n q old new r held same there known_there place e is grew =
+    let i : ℕ = p + n in
+    let fs : List Facts = map facts_of known in
+    let made = λ (x : List ℕ × Facts). with_samples_of (record_of v.head fields x.0) x.1 in
+    let h : List Facts = headers_of v fields fs in
+    let inside : i < length known = slice_get_within known i held known_there in
+    let many : length fs ≡ length known = length-map known facts_of in
+    let among : i < length fs = omega arith in
+    let long : i < length (zip v.traces fs) = omega (arith, length-zip v.traces fs) in
+    let there_too : n < length (drop p h) = omega (arith, length-drop p h, length-map (zip v.traces fs) made) in
+    let spot : q - 1 ≡ i = omega arith in
+    let fact : get_or fs i (facts_of held) ≡ facts_of held = get_or-map facts_of known i held (facts_of held) inside ∙ ap facts_of (get_or_from_slice_get known i held held known_there) in
+    let here : facts_of r ≡ get_or (drop p h) n (facts_of r) =
+    is
+    ∙ ap (λ (u : Volume). with_samples_of (record_of u.head fields (trace_at u q)) (facts_of held)) same
+    ∙ ap (λ k. with_samples_of (record_of v.head fields (get_or v.traces k [])) (facts_of held)) spot
+    ∙ ap (λ (f : Facts). with_samples_of (record_of v.head fields (get_or v.traces i [])) f) (sym fact)
+    ∙ ap made (sym (get_or-zip v.traces fs i ([], facts_of held) there among))
+    ∙ sym (get_or-map made (zip v.traces fs) i ([], facts_of held) (facts_of r) long)
+    ∙ sym (get_or-drop p h n (facts_of r)) in
+    ap (map facts_of) grew
+    ∙ map-append facts_of old (r ∷ [])
+    ∙ ap₂ (λ (l : List Facts) (f : Facts). l ++ f ∷ []) e here
+    ∙ sym (take_more (drop p h) n (facts_of r) there_too)

@@ -1,9 +1,22 @@
+use std::alloc::{AllocError, AllocFailed};
 use thiserror::Error;
 
 /// A growth was refused, and nothing but the number of looks is changed.
 #[derive(Clone, Copy, Debug, PartialEq, Eq, Error)]
 #[error("out of memory")]
 pub struct OutOfMemory;
+
+impl From<AllocError> for OutOfMemory {
+    fn from(_error: AllocError) -> OutOfMemory {
+        OutOfMemory
+    }
+}
+
+impl<T: Drop> From<AllocFailed<T>> for OutOfMemory {
+    fn from(_error: AllocFailed<T>) -> OutOfMemory {
+        OutOfMemory
+    }
+}
 
 impl From<record_list::OutOfMemory> for OutOfMemory {
     fn from(_error: record_list::OutOfMemory) -> OutOfMemory {

@@ -6,7 +6,7 @@ ghost use Rattle.frame_cut.specs.Splice.{splice};
 ghost use Rattle.frame_cut.specs.Traces.{is_trace as has_trace, trace_at};
 ghost use Rattle.volume_records.specs.OfVolume.{IsOfFile};
 
-use crate::{prepared_headers, prepared_record, record_of_bytes, reports};
+use crate::{prepared_headers, prepared_record, prepared_records, record_of_bytes, reports};
 use edit_overlay::Overlay;
 use field_map::FieldMap;
 use frame_cut::{Head, Limits, Reading, front_length, trace_length};
@@ -124,6 +124,57 @@ fn makes_prepared_records(rt: HostRuntime) -> Result<(), Fail> {
     let other = made_of_bytes(&FieldMap::standard(alloc, 0)?)?;
     let (record, headers) = prepared(alloc, &mut volume, &fields, 2, 190, &[1, 4], &other)?;
     assert!(rt; says(&record, 260, 1, 6) && says(&headers, 260, 2, 66));
+    Ok(())
+}
+
+// The records of traces 2 and 3 with two of the bytes laid over each, and with the samples of the
+// records that are held.
+fn prepared_two(
+    alloc: Global,
+    volume: &mut Overlay,
+    fields: &FieldMap,
+    held: &LiveReports,
+    at: u64,
+    bytes: &[u8; 4],
+) -> Result<Vec<Record>, Fail>
+    requires { fields.now.extensions ≡ volume.old.volume.head.extensions }
+{
+    if held.records().len() < 3 {
+        return Err(Fail::from("no three records"));
+    }
+    if !may_put(volume, 2, at, &bytes[..2]) {
+        return Err(Fail::from("no place for the bytes"));
+    }
+    if !may_put(volume, 3, at, &bytes[2..]) {
+        return Err(Fail::from("no place for the bytes"));
+    }
+    volume.prepare_put_each(alloc, 2, at, 2, bytes)?;
+    Ok(prepared_records(alloc, volume, fields, held, 2, 2)?)
+}
+
+// Whether the records of two traces are told after a look at each of the three traces for the
+// reports, one at each of the two for their length, and one for its record.
+fn tells_two(alloc: Global, volume: &mut Overlay, fields: &FieldMap) -> Result<bool, Fail>
+    requires file { IsOfFile volume.old.volume }
+    requires fields { fields.now.extensions ≡ volume.old.volume.head.extensions }
+{
+    let before = volume.looks();
+    let held = reports(alloc, volume, fields)?;
+    let two = prepared_two(alloc, volume, fields, &held, 190, &[1, 4, 2, 5])?;
+    let is_told = match two.as_slice() {
+        [second, third] => says(second, 260, 1, 6) && says(third, 517, 2, 262),
+        _ => false,
+    };
+    Ok(is_told && volume.looks().checked_sub(before) == Some(7))
+}
+
+#[test]
+fn makes_the_records_of_two_traces(rt: HostRuntime) -> Result<(), Fail> {
+    let alloc = rt.alloc();
+    let limits = Limits::new(4330, 3).ok_or("limits")?;
+    let mut volume = Overlay::from_bytes(alloc, small_file(alloc)?, Reading::AsWritten, limits)?;
+    let fields = FieldMap::standard(alloc, volume.head().extensions)?;
+    assert!(rt; tells_two(alloc, &mut volume, &fields)?);
     Ok(())
 }
 

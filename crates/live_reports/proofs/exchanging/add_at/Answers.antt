@@ -1,0 +1,23 @@
+use Rattle.std.proofs.Common.{sym, ◌∙◌}
+use Rattle.live_reports.specs.Tallies.{tallies_of}
+use Rattle.live_reports.proofs.ExchangeLemmas.{small_from, room_from, each_added, on_ok}
+use Rattle.live_reports.proofs.SmallLemmas.{AreSmall-Same}
+use Rattle.live_reports.proofs.exchanging.add_at.Goals as goal
+
+pub add-requires-clause-small : goal.add-requires-clause-small
+add-requires-clause-small c =
+    AreSmall-Same _ _ c.requires.counted
+    (small_from c.args.records.now c.args.place c.args.k c.args.new.now c.in-Some.old c.index-new-k.result (sym c.get.ensures ∙ c.in-Some.is) c.requires.there c.index-new-k.is c.requires.few)
+
+pub add-requires-clause-room : goal.add-requires-clause-room
+add-requires-clause-room c =
+    room_from c.args.records.now c.args.place c.args.k c.args.new.now c.in-Some.old c.index-new-k.result (sym c.get.ensures ∙ c.in-Some.is) c.requires.there c.index-new-k.is
+    (tallies_of c.args.values.now) c.requires.counted c.requires.few
+
+pub returns-clause-ok : goal.returns-clause-ok
+returns-clause-ok c =
+    on_ok c.add.result
+    (each_added c.args.records.now c.args.place c.args.k c.args.new.now c.in-Some.old c.index-new-k.result (sym c.get.ensures ∙ c.in-Some.is) c.requires.there c.index-new-k.is
+    c.changes_between.result c.changes_between.ensures.grid c.changes_between.ensures.ranges c.changes_between.ensures.totals c.changes_between.ensures.triples
+    (tallies_of c.args.values.now) (tallies_of c.add.new.self) c.requires.counted)
+    c.add.ensures.ok

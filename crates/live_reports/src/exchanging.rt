@@ -1,0 +1,150 @@
+// Records that stand in for as many others, from a place on: first the new ones are counted beside
+// the old ones, since that may be refused, and then the old ones are counted no longer.
+ghost use Rattle.std.specs.Prelude.{◌≡◌, ◌+◌, ◌<◌, ◌≤◌, length, map, drop, OnOk, OnErr};
+ghost use Rattle.trace_record.specs.Facts.{facts_of};
+ghost use Rattle.live_reports.specs.Exchanged.{with_records, tallies_with_new, AreFewTogether};
+ghost use Rattle.live_reports.specs.Tallies.{tallies_of, tallies_of_records, SameEach};
+
+use crate::changes::changes_between;
+use crate::values::Values;
+use record_list::RecordList;
+use trace_record::{OutOfMemory, Record};
+
+// Counts the new records beside the others, or none of them where a growth is refused.
+pub(crate) fn add_each(
+    values: &mut Values,
+    records: &RecordList<Record>,
+    place: usize,
+    new: &[Record],
+) -> Result<(), OutOfMemory>
+    requires place { place + length new.now ≤ length records.now }
+    requires few { AreFewTogether records.now new.now }
+    requires counted { SameEach (tallies_of values.old)
+        (tallies_of_records (map facts_of records.now)) }
+    ensures ok { OnOk result (SameEach (tallies_of values.new)
+        (tallies_with_new records.now place new.now 0)) }
+    ensures err { OnErr result (SameEach (tallies_of values.new)
+        (tallies_of_records (map facts_of records.now))) }
+{
+    for k in (0..new.len()).rev() {
+        if let Err(error) = add_at(values, records, place, new, k) {
+            remove_from(values, records, place, new, k + 1);
+            return Err(error);
+        }
+    }
+    Ok(())
+}
+
+// Counts new record k beside those that follow it and the others.
+fn add_at(
+    values: &mut Values,
+    records: &RecordList<Record>,
+    place: usize,
+    new: &[Record],
+    k: usize,
+) -> Result<(), OutOfMemory>
+    requires there { k < length new.now }
+    requires place { place + length new.now ≤ length records.now }
+    requires few { AreFewTogether records.now (drop k new.now) }
+    requires counted { SameEach (tallies_of values.old)
+        (tallies_with_new records.now place new.now (k + 1)) }
+    ensures ok { OnOk result (SameEach (tallies_of values.new)
+        (tallies_with_new records.now place new.now k)) }
+    ensures err { OnErr result (SameEach (tallies_of values.new) (tallies_of values.old)) }
+{
+    let Some(old) = records.get(place + k) else {
+        unreachable!()
+    };
+    let record = new[k];
+    values.add(changes_between(&old, &record), &record)
+}
+
+// No longer counts the new records from new record k on.
+fn remove_from(
+    values: &mut Values,
+    records: &RecordList<Record>,
+    place: usize,
+    new: &[Record],
+    k: usize,
+)
+    requires place { place + length new.now ≤ length records.now }
+    requires few { AreFewTogether records.now new.now }
+    requires counted { SameEach (tallies_of values.old)
+        (tallies_with_new records.now place new.now k) }
+    ensures { SameEach (tallies_of values.new) (tallies_of_records (map facts_of records.now)) }
+{
+    for at in k..new.len() {
+        remove_at(values, records, place, new, at);
+    }
+}
+
+// No longer counts new record k.
+fn remove_at(
+    values: &mut Values,
+    records: &RecordList<Record>,
+    place: usize,
+    new: &[Record],
+    k: usize,
+)
+    requires there { k < length new.now }
+    requires place { place + length new.now ≤ length records.now }
+    requires few { AreFewTogether records.now (drop k new.now) }
+    requires counted { SameEach (tallies_of values.old)
+        (tallies_with_new records.now place new.now k) }
+    ensures { SameEach (tallies_of values.new)
+        (tallies_with_new records.now place new.now (k + 1)) }
+{
+    let Some(old) = records.get(place + k) else {
+        unreachable!()
+    };
+    let record = new[k];
+    values.remove(changes_between(&old, &record), &record);
+}
+
+// Puts the new records, which are counted, where the others stand, and no longer counts those.
+pub(crate) fn put_each(
+    values: &mut Values,
+    records: &mut RecordList<Record>,
+    place: usize,
+    new: &[Record],
+)
+    requires place { place + length new.now ≤ length records.old }
+    requires few { AreFewTogether records.old new.now }
+    requires counted { SameEach (tallies_of values.old)
+        (tallies_with_new records.old place new.now 0) }
+    ensures counted { SameEach (tallies_of values.new)
+        (tallies_of_records (map facts_of records.new)) }
+    ensures records { records.new ≡ with_records records.old place new.now }
+{
+    for k in 0..new.len() {
+        put_at(values, records, place, new, k);
+    }
+}
+
+// Puts new record k in its place, and no longer counts the one that stood there.
+fn put_at(
+    values: &mut Values,
+    records: &mut RecordList<Record>,
+    place: usize,
+    new: &[Record],
+    k: usize,
+)
+    requires there { k < length new.now }
+    requires place { place + length new.now ≤ length records.old }
+    requires few { AreFewTogether records.old (drop k new.now) }
+    requires counted { SameEach (tallies_of values.old)
+        (tallies_with_new records.old place new.now k) }
+    ensures few { AreFewTogether records.new (drop (k + 1) new.now) }
+    ensures counted { SameEach (tallies_of values.new)
+        (tallies_with_new records.new place new.now (k + 1)) }
+    ensures length { length records.new ≡ length records.old }
+    ensures records { with_records records.new (place + (k + 1)) (drop (k + 1) new.now) ≡
+        with_records records.old (place + k) (drop k new.now) }
+{
+    let Some(old) = records.get(place + k) else {
+        unreachable!()
+    };
+    let record = new[k];
+    values.remove(changes_between(&old, &record), &old);
+    records.set(place + k, record);
+}

@@ -229,11 +229,22 @@ fn small_trace() -> [u8; 244] {
     base
 }
 
-#[test]
-fn makes_the_record_of_a_trace(rt: HostRuntime) -> Result<(), Fail> {
+// What the function answers of the map at a load of a file without header extensions. One function
+// owns the map of each test and lends it out: the proof of a function that owns a map takes the
+// longer the more it does, and that of a borrower stays short.
+fn with_standard<F: FnOnce(&FieldMap) -> Result<(), Fail>>(
+    alloc: Global,
+    ask: F,
+) -> Result<(), Fail>
+    requires { F.IsAlwaysCallable ask }
+{
+    let fields = FieldMap::standard(alloc, 0)?;
+    ask(&fields)
+}
+
+fn record_of_small(rt: &impl Abort, fields: &FieldMap) {
     let head = plain_head(Order::Big, Format::Signed16, 2);
-    let fields = FieldMap::standard(rt.alloc(), 0)?;
-    let record = made(&rt, &head, &fields, &small_trace(), &[]);
+    let record = made(rt, &head, fields, &small_trace(), &[]);
     assert_eq!(rt; (record.least, record.greatest, record.sum), (-2, 1, -1));
     assert_eq!(rt; record.x, Ratio::whole(1000));
     assert_eq!(rt; record.y, Ratio::whole(500));
@@ -243,15 +254,35 @@ fn makes_the_record_of_a_trace(rt: HostRuntime) -> Result<(), Fail> {
     assert_eq!(rt; (record.scalar, record.units), (0, 0));
     assert_eq!(rt; record.interval, 4000);
     assert!(rt; record.has_known_name);
-    Ok(())
+}
+
+#[test]
+fn makes_the_record_of_a_trace(rt: HostRuntime) -> Result<(), Fail> {
+    with_standard(rt.alloc(), |fields| {
+        record_of_small(&rt, fields);
+        Ok(())
+    })
 }
 
 // The scalar -100 by a run, the inline's place by the map, another name in bytes 233-240, and
 // bytes 115-116 which say more samples than the trace has.
+fn record_under_runs(rt: &impl Abort, fields: &FieldMap, runs: &[Run])
+    requires fit { Fit runs.now 244 }
+{
+    let head = plain_head(Order::Big, Format::Signed16, 2);
+    let record = made(rt, &head, fields, &small_trace(), runs);
+    assert_eq!(rt; record.inline, -5);
+    assert_eq!(rt; record.scalar, -100);
+    assert_eq!(rt; record.x, Ratio::whole(10));
+    assert_eq!(rt; record.y, Ratio::whole(5));
+    assert_eq!(rt; record.units, -1);
+    assert_eq!(rt; (record.number, record.samples_field), (2, 65_535));
+    assert!(rt; !record.has_known_name);
+}
+
 #[test]
 fn reads_headers_under_runs_and_by_the_map(rt: HostRuntime) -> Result<(), Fail> {
     let alloc = rt.alloc();
-    let head = plain_head(Order::Big, Format::Signed16, 2);
     let mut fields = FieldMap::standard(alloc, 0)?;
     let place = Place {
         extension: 0,
@@ -269,30 +300,31 @@ fn reads_headers_under_runs_and_by_the_map(rt: HostRuntime) -> Result<(), Fail> 
         run(alloc, 114, &[0xFF, 0xFF])?,
         run(alloc, 232, b"SEG00001")?,
     ];
-    let record = made(&rt, &head, &fields, &small_trace(), &runs);
-    assert_eq!(rt; record.inline, -5);
-    assert_eq!(rt; record.scalar, -100);
-    assert_eq!(rt; record.x, Ratio::whole(10));
-    assert_eq!(rt; record.y, Ratio::whole(5));
-    assert_eq!(rt; record.units, -1);
-    assert_eq!(rt; (record.number, record.samples_field), (2, 65_535));
-    assert!(rt; !record.has_known_name);
-    let runs = [run(alloc, 232, b"SEG00000")?];
-    assert!(rt; made(&rt, &head, &fields, &small_trace(), &runs).has_known_name);
-    let runs = [run(
-        alloc,
-        232,
-        &[0xE2, 0xC5, 0xC7, 0xF0, 0xF0, 0xF0, 0xF0, 0xF0],
-    )?];
-    assert!(rt; made(&rt, &head, &fields, &small_trace(), &runs).has_known_name);
+    record_under_runs(&rt, &fields, &runs);
+    Ok(())
+}
+
+// Whether the trace with this name in bytes 233-240 says a plain trace.
+fn has_known_name(rt: &impl Abort, alloc: Global, name: &[u8; 8]) -> Result<bool, Fail> {
+    let fields = FieldMap::standard(alloc, 0)?;
+    let head = plain_head(Order::Big, Format::Signed16, 2);
+    let runs = [run(alloc, 232, name)?];
+    Ok(made(rt, &head, &fields, &small_trace(), &runs).has_known_name)
+}
+
+#[test]
+fn knows_a_name_in_both_codes(rt: HostRuntime) -> Result<(), Fail> {
+    let alloc = rt.alloc();
+    assert!(rt; has_known_name(&rt, alloc, b"SEG00000")?);
+    let ebcdic = [0xE2, 0xC5, 0xC7, 0xF0, 0xF0, 0xF0, 0xF0, 0xF0];
+    assert!(rt; has_known_name(&rt, alloc, &ebcdic)?);
+    assert!(rt; !has_known_name(&rt, alloc, b"SEG00002")?);
     Ok(())
 }
 
 // The 24 bytes 80 00 .. 00 01 FF as samples of each width, in both orders: the first sample, zeros,
 // and the last one.
-#[test]
-fn takes_samples_of_each_format(rt: HostRuntime) -> Result<(), Fail> {
-    let fields = FieldMap::standard(rt.alloc(), 0)?;
+fn samples_of_each_format(rt: &impl Abort, fields: &FieldMap) {
     let mut base = [0; 264];
     base[240] = 0x80;
     base[262] = 0x01;
@@ -317,46 +349,56 @@ fn takes_samples_of_each_format(rt: HostRuntime) -> Result<(), Fail> {
     ];
     for (order, format, samples, first, last) in rows {
         let head = plain_head(order, format, samples);
-        let record = made(&rt, &head, &fields, &base, &[]);
+        let record = made(rt, &head, fields, &base, &[]);
         assert_eq!(rt; record.least, first.min(last).min(0));
         assert_eq!(rt; record.greatest, first.max(last).max(0));
         assert_eq!(rt; Some(record.sum), first.checked_add(last));
         assert_eq!(rt; record.number, samples);
     }
-    Ok(())
+}
+
+#[test]
+fn takes_samples_of_each_format(rt: HostRuntime) -> Result<(), Fail> {
+    with_standard(rt.alloc(), |fields| {
+        samples_of_each_format(&rt, fields);
+        Ok(())
+    })
 }
 
 // The same bytes as samples of one byte.
-#[test]
-fn takes_samples_of_a_byte(rt: HostRuntime) -> Result<(), Fail> {
-    let fields = FieldMap::standard(rt.alloc(), 0)?;
+fn samples_of_a_byte(rt: &impl Abort, fields: &FieldMap) {
     let mut base = [0; 243];
     base[240] = 0x80;
     base[241] = 0x01;
     base[242] = 0xFF;
     let head = plain_head(Order::Big, Format::Signed8, 3);
-    let record = made(&rt, &head, &fields, &base, &[]);
+    let record = made(rt, &head, fields, &base, &[]);
     assert_eq!(rt;
         (record.least, record.greatest, record.sum),
         (-128, 1, -128)
     );
     let head = plain_head(Order::Little, Format::Unsigned8, 3);
-    let record = made(&rt, &head, &fields, &base, &[]);
+    let record = made(rt, &head, fields, &base, &[]);
     assert_eq!(rt; (record.least, record.greatest, record.sum), (1, 255, 384));
-    Ok(())
+}
+
+#[test]
+fn takes_samples_of_a_byte(rt: HostRuntime) -> Result<(), Fail> {
+    with_standard(rt.alloc(), |fields| {
+        samples_of_a_byte(&rt, fields);
+        Ok(())
+    })
 }
 
 // A thousand samples, of which a run lays two over, and the same bytes without a run.
-#[test]
-fn takes_samples_under_a_run(rt: HostRuntime) -> Result<(), Fail> {
-    let alloc = rt.alloc();
-    let fields = FieldMap::standard(alloc, 0)?;
+fn samples_under_a_run(rt: &impl Abort, fields: &FieldMap, runs: &[Run])
+    requires fit { Fit runs.now 3240 }
+{
     let head = plain_head(Order::Big, Format::Signed24, 1000);
     let mut base = [0; 3240];
     base[240] = 0xFF;
     base[3239] = 0x05;
-    let runs = [run(alloc, 1776, &[0x7F, 0xFF, 0xFF, 0x80])?];
-    let record = made(&rt, &head, &fields, &base, &runs);
+    let record = made(rt, &head, fields, &base, runs);
     assert_eq!(rt;
         (record.least, record.greatest, record.sum),
         (-8_388_608, 8_388_607, -65_532)
@@ -365,31 +407,49 @@ fn takes_samples_under_a_run(rt: HostRuntime) -> Result<(), Fail> {
     base[1777] = 0xFF;
     base[1778] = 0xFF;
     base[1779] = 0x80;
-    assert_eq!(rt; made(&rt, &head, &fields, &base, &[]), record);
+    assert_eq!(rt; made(rt, &head, fields, &base, &[]), record);
+}
+
+#[test]
+fn takes_samples_under_a_run(rt: HostRuntime) -> Result<(), Fail> {
+    let alloc = rt.alloc();
+    let fields = FieldMap::standard(alloc, 0)?;
+    let runs = [run(alloc, 1776, &[0x7F, 0xFF, 0xFF, 0x80])?];
+    samples_under_a_run(&rt, &fields, &runs);
     Ok(())
+}
+
+fn record_without_samples(rt: &impl Abort, fields: &FieldMap) {
+    let head = plain_head(Order::Little, Format::Signed32, 0);
+    let record = made(rt, &head, fields, &[0; 240], &[]);
+    assert_eq!(rt; (record.least, record.greatest, record.sum), (0, 0, 0));
+    assert_eq!(rt; (record.number, record.interval), (0, 0));
 }
 
 #[test]
 fn takes_a_trace_without_samples(rt: HostRuntime) -> Result<(), Fail> {
-    let fields = FieldMap::standard(rt.alloc(), 0)?;
-    let head = plain_head(Order::Little, Format::Signed32, 0);
-    let record = made(&rt, &head, &fields, &[0; 240], &[]);
-    assert_eq!(rt; (record.least, record.greatest, record.sum), (0, 0, 0));
-    assert_eq!(rt; (record.number, record.interval), (0, 0));
-    Ok(())
+    with_standard(rt.alloc(), |fields| {
+        record_without_samples(&rt, fields);
+        Ok(())
+    })
 }
 
 // The headers of the trace, and four samples that its bytes have under another head.
-#[test]
-fn takes_the_samples_of_another_record(rt: HostRuntime) -> Result<(), Fail> {
-    let fields = FieldMap::standard(rt.alloc(), 0)?;
+fn samples_of_another_record(rt: &impl Abort, fields: &FieldMap) {
     let bytes = plain_head(Order::Little, Format::Unsigned8, 4);
-    let other = made(&rt, &bytes, &fields, &small_trace(), &[]);
+    let other = made(rt, &bytes, fields, &small_trace(), &[]);
     let head = plain_head(Order::Big, Format::Signed16, 2);
-    let record = made_with(&rt, &head, &fields, &small_trace(), &[], Some(&other));
+    let record = made_with(rt, &head, fields, &small_trace(), &[], Some(&other));
     assert_eq!(rt; (record.least, record.greatest, record.sum), (0, 255, 510));
     assert_eq!(rt; (record.number, record.samples_field), (4, 2));
     assert_eq!(rt; (record.inline, record.crossline), (10, 21));
     assert_eq!(rt; record.x, Ratio::whole(1000));
-    Ok(())
+}
+
+#[test]
+fn takes_the_samples_of_another_record(rt: HostRuntime) -> Result<(), Fail> {
+    with_standard(rt.alloc(), |fields| {
+        samples_of_another_record(&rt, fields);
+        Ok(())
+    })
 }

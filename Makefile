@@ -1,7 +1,7 @@
 # For use, without any toolchain:
 #   make demo       the first job on a sample file, with the shipped program
 #   make install    the program, its tools for pictures, its man pages and completions, under PREFIX (and DESTDIR); make uninstall takes them away
-#   make quick      the end-to-end tests, in less than a minute
+#   make quick      the end-to-end tests, in a minute or two
 # With the Rattle kit (the command rt on the PATH):
 #   make build      proves and builds the program from the sources
 #   make test       the whole gate: every proof from nothing, the must-fail edits, then the end-to-end runs
@@ -80,6 +80,7 @@ bench: build
 	bash benchmarks/run $(BUILT) crates/time_records/out/time_records
 	bash benchmarks/live $(BUILT)
 	bash benchmarks/slices $(BUILT)
+	bash benchmarks/renumber $(BUILT)
 	cd crates/time_orders && { rt run > out.log 2>&1 || true; }
 	bash benchmarks/orders crates/time_orders/out/time_orders
 	cd crates/time_reports && { rt run > out.log 2>&1 || true; }

@@ -1,6 +1,7 @@
 -- The slices that are kept after an edit are those of the volume after it.
-use Rattle.std.proofs.Common.{◌≡◌, ℕ, ℤ, ◌-◌, ◌<◌, ◌≤◌, Bool, true, false, cond, eqb, List, [], ◌∷◌, length, Option, Some, None, refl, sym, ap, ◌∙◌, arith, get_or-set_same, length-set}
-use Rattle.std.specs.Prelude.{Result, Ok, Err, option_map, not}
+use Rattle.std.proofs.Common.{◌≡◌, ℕ, ℤ, ◌-◌, ◌<◌, ◌≤◌, Bool, true, false, cond, eqb, List, [], ◌∷◌, length, Option, Some, None, refl, sym, ap, subst, ◌∙◌, arith, get_or-set_same, length-set}
+use Rattle.std.specs.Prelude.{Result, Ok, Err, IfOk, option_map, not}
+use Rattle.std.specs.Result.{IsErrAnd}
 use Rattle.std.specs.List.{list_any}
 use Rattle.std.proofs.lemmas.Bool.{eq-eqb, le-leb}
 use Rattle.std.proofs.lemmas.List.Elements.{All-cons, All-head, All-nil, All-tail, All-filter}
@@ -12,7 +13,7 @@ use Rattle.frame_cut.specs.Volume.{Volume, bytes_of}
 use Rattle.time_slice.specs.Cache.{Cache, kept_numbers, kept_of, is_from, IsRight}
 use Rattle.time_slice.proofs.CacheLemmas.{numbers_after_forgotten}
 use Rattle.bench_rules.specs.declared.edit.Edit.{Edit}
-use Rattle.bench_rules.specs.declared.edit.Edit.TheVariants.{Set, SetBin, SetText, Map, Unmap, Patch, Blank, Copy, Delete, Move}
+use Rattle.bench_rules.specs.declared.edit.Edit.TheVariants.{Set, SetBin, SetText, Map, Unmap, Patch, Blank, Copy, Delete, Move, Resize, Renumber}
 use Rattle.bench_rules.specs.declared.refusal.Refusal.{Refusal}
 use Rattle.bench_rules.specs.declared.query.Query.{Query}
 use Rattle.bench_rules.specs.declared.query.Query.TheVariants.{Count, Info, Get, GetBin, Line, Code, Stanzas, Fields, Sample, Geometry, Stat, Fold, Grid, Inlines, Crosslines, Histogram, Range, Totals, Slice, Faults}
@@ -27,7 +28,9 @@ use Rattle.bench_rules.specs.Steps.{IsAfter, Step, StepUnless}
 use Rattle.bench_rules.proofs.HeaderEditLemmas.{no_place}
 use Rattle.bench_laws.proofs.KeptSliceLemmas.{Has, kept_slices_stay}
 use Rattle.bench_laws.proofs.ReadsSetLemmas.{made}
-use Rattle.bench_core.specs.Changes.{cell_at, set_cell, is_moved, entries_after}
+use Rattle.live_volume.specs.Held.{any_moves}
+use Rattle.bench_core.specs.Changes.{cell_at, has_moved, is_moved, entries_after}
+use Rattle.bench_core.proofs.ManyTracesLemmas.{numbers_of_many}
 
 -- ---- an edit that is done
 
@@ -38,6 +41,20 @@ done old new edit u step = by (first_refusal old edit) refl step
     by : (o : Option Refusal) → first_refusal old edit ≡ o → StepUnless o old edit (Ok u) new → (first_refusal old edit ≡ None) × IsAfter old edit new
     by (Some refusal) e bad = absurd bad
     by None e after = (e, after)
+
+-- a refusal is one, whatever would be told of an edit that is done
+pub refused_too : (T U : Type 0) (old new : State) (edit : Edit) (r : Refusal) (s : Result U Refusal) → IsErrAnd s (λ e. e ≡ r) → (let t : Result T Refusal = Err r in Step old edit t new) → Step old edit s new
+refused_too T U old new edit r (Ok u) is step = absurd is
+refused_too T U old new edit r (Err e) is step = subst (λ (x : Refusal). let s : Result U Refusal = Err x in Step old edit s new) (sym is) (by (first_refusal old edit) step)
+  where
+    by : (o : Option Refusal) → (let t : Result T Refusal = Err r in StepUnless o old edit t new) → (let s : Result U Refusal = Err r in StepUnless o old edit s new)
+    by (Some refusal) h = h
+    by None h = h
+
+-- nothing is told of it then
+pub none_told : {T E : Type 0} (P : E → Type 0) (Q : T → Type 0) (s : Result T E) → IsErrAnd s P → IfOk s Q
+none_told P Q (Ok x) is = absurd is
+none_told P Q (Err e) is = tt
 
 -- ---- the numbers
 
@@ -75,7 +92,7 @@ numbers_unless false cache = refl
 -- the numbers that stay are those that the definition keeps
 pub numbers_follow : (old new : State) (edit : Edit) (cache : Cache) → IsCut (bytes_of old.volume) old.reading old.limits old.volume
     → first_refusal old edit ≡ None → IsAfter old edit new
-    → kept_numbers (entries_after (is_moved (set_cell old edit) (set_cell new edit)) edit cache) ≡ kept_after_edit old edit (kept_numbers cache)
+    → kept_numbers (entries_after (has_moved old edit new) edit cache) ≡ kept_after_edit old edit (kept_numbers cache)
 numbers_follow old new (Set p f x) cache cut none after = by (place_in_trace old.fields f) refl
   where
     by : (o : Option Place) → place_in_trace old.fields f ≡ o
@@ -96,6 +113,9 @@ numbers_follow old new (Blank p) cache cut none after = refl
 numbers_follow old new (Copy q p) cache cut none after = refl
 numbers_follow old new (Delete p) cache cut none after = refl
 numbers_follow old new (Move a b) cache cut none after = refl
+numbers_follow old new (Resize p m) cache cut none after = refl
+numbers_follow old new (Renumber a b f first step) cache cut none after =
+    numbers_unless (any_moves old new a b) cache ∙ numbers_of_many old new a b f first step (kept_numbers cache) cut none after
 
 -- ---- the rows
 
@@ -137,13 +157,15 @@ right_part s edit moved cache all = by edit
     by (Copy q p) = All-nil R
     by (Delete p) = All-nil R
     by (Move a b) = All-nil R
+    by (Resize p m) = All-nil R
+    by (Renumber a b f first step) = if_not moved
 
 -- each slice that stays is that of the volume after the edit
 pub slices_follow : (old new : State) (edit : Edit) (cache : Cache) → IsCut (bytes_of old.volume) old.reading old.limits old.volume → HasGeometry old.volume.head.extensions old.fields
     → first_refusal old edit ≡ None → IsAfter old edit new → AreSlicesOf old cache
-    → AreSlicesOf new (entries_after (is_moved (set_cell old edit) (set_cell new edit)) edit cache)
+    → AreSlicesOf new (entries_after (has_moved old edit new) edit cache)
 slices_follow old new edit cache cut has none after all =
-    let moved : Bool = is_moved (set_cell old edit) (set_cell new edit) in
+    let moved : Bool = has_moved old edit new in
     let numbers = numbers_follow old new edit cache cut none after in
     right_again old new (entries_after moved edit cache)
     (λ k any. kept_slices_stay old new edit (kept_numbers cache) k cut has none after (ap (λ (ns : List ℕ). list_any (λ j. eqb j k) ns) (sym numbers) ∙ any))

@@ -1,1 +1,2 @@
+mod ManyTracesLemmas
 pub mod ChangeLemmas

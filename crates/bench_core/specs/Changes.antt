@@ -5,26 +5,14 @@ use Rattle.field_map.specs.Binding.{is_geometry}
 use Rattle.frame_cut.specs.Traces.{trace_of}
 use Rattle.time_slice.specs.Cache.{Cache, cache_after_change}
 use Rattle.bench_rules.specs.declared.edit.Edit.{Edit}
-use Rattle.bench_rules.specs.declared.edit.Edit.TheVariants.{Set, SetBin, SetText, Map, Unmap, Patch, Blank, Copy, Delete, Move}
+use Rattle.bench_rules.specs.declared.edit.Edit.TheVariants.{Set, SetBin, SetText, Map, Unmap, Patch, Blank, Copy, Delete, Move, Resize, Renumber}
 use Rattle.bench_rules.specs.Kept.{cell_of}
 use Rattle.bench_rules.specs.State.{State}
+use Rattle.live_volume.specs.Held.{any_moves}
 
 -- the inline and the crossline of trace p
 abbrev pub cell_at : State → ℕ → Option (ℤ × ℤ)
 cell_at s p = option_map (cell_of s.volume.head s.fields) (trace_of s.volume p)
-
--- those of the trace that a set changes
-abbrev pub set_cell : State → Edit → Option (ℤ × ℤ)
-set_cell s (Set p field x) = cell_at s p
-set_cell s (SetBin field x) = None
-set_cell s (SetText q text) = None
-set_cell s (Map name place) = None
-set_cell s (Unmap name) = None
-set_cell s (Patch p k values) = None
-set_cell s (Blank p) = None
-set_cell s (Copy q p) = None
-set_cell s (Delete p) = None
-set_cell s (Move a b) = None
 
 -- the trace has another inline or crossline than before
 abbrev pub is_moved : Option (ℤ × ℤ) → Option (ℤ × ℤ) → Bool
@@ -33,8 +21,23 @@ is_moved (Some old) None = false
 is_moved None (Some new) = false
 is_moved None None = false
 
--- what stays of the kept slices: after a set that gave its trace another inline or crossline, a geometry name bound anew and edits of whole
--- traces nothing; after a patch all but the slices of its samples; else all
+-- a set gave its trace, or a renumbering one of its traces, another inline or crossline
+abbrev pub has_moved : State → Edit → State → Bool
+has_moved old (Set p field x) new = is_moved (cell_at old p) (cell_at new p)
+has_moved old (Renumber a b field first step) new = any_moves old new a b
+has_moved old (SetBin field x) new = false
+has_moved old (SetText q text) new = false
+has_moved old (Map name place) new = false
+has_moved old (Unmap name) new = false
+has_moved old (Patch p k values) new = false
+has_moved old (Blank p) new = false
+has_moved old (Copy q p) new = false
+has_moved old (Delete p) new = false
+has_moved old (Move a b) new = false
+has_moved old (Resize p count) new = false
+
+-- what stays of the kept slices: nothing, after a set or a renumbering that gave a trace another inline or crossline, a geometry name bound
+-- anew, and edits of whole traces; after a patch all but the slices of its samples; else all
 abbrev pub entries_after : Bool → Edit → Cache → Cache
 entries_after moved (Set p field x) cache = if moved then [] else cache
 entries_after moved (SetBin field x) cache = cache
@@ -46,3 +49,5 @@ entries_after moved (Blank p) cache = []
 entries_after moved (Copy q p) cache = []
 entries_after moved (Delete p) cache = []
 entries_after moved (Move a b) cache = []
+entries_after moved (Resize p count) cache = []
+entries_after moved (Renumber a b field first step) cache = if moved then [] else cache

@@ -15,7 +15,7 @@ ghost use Rattle.bench_rules.specs.Live.{IsGridOf, AreRangesOf, AreTotalsOf, Are
 ghost use Rattle.bench_rules.specs.Looks.{load_looks, edit_looks, query_looks};
 ghost use Rattle.bench_rules.specs.Steps.{Step};
 
-use crate::changes::{follow, is_moved, no_slices, set_cell};
+use crate::changes::{change, follow, no_slices};
 use bench_rules::{Answer, AskFault, Edit, Items, Query, Refusal};
 use device_io::{Sink, Source};
 use edit_overlay::SaveFault;
@@ -82,9 +82,10 @@ impl Bench {
         Ok(Bench { volume, slices })
     }
 
-    /// One edit: done, and the reports follow it; or refused, and all is as it was. `Set`, `Map`,
-    /// `Patch`, `Blank`, `Copy` and `Move` take memory, and are refused for want of it, E11, only
-    /// where nothing else refuses them. Slices that the edit may have changed are forgotten.
+    /// One edit: done whole, and the reports follow it; or refused, and all is as it was, after a
+    /// renumbering too. `Set`, `Map`, `Patch`, `Blank`, `Copy`, `Move`, `Resize` and `Renumber`
+    /// take memory, and are refused for want of it, E11, only where nothing else refuses them.
+    /// Slices that the edit may have changed are forgotten.
     pub fn apply(&mut self, alloc: Global, edit: &Edit) -> Result<(), Refusal>
         ensures step { Step self.old.state edit.now result self.new.state }
         ensures looks { RisesAtMost self.old.looks self.new.looks
@@ -93,9 +94,7 @@ impl Bench {
             (kept_after_edit self.old.state edit.now self.old.kept) self.old.kept }
     {
         self.volume.stands();
-        let before = set_cell(&self.volume, edit);
-        self.volume.apply(alloc, edit)?;
-        let moved = is_moved(before, set_cell(&self.volume, edit));
+        let moved = change(&mut self.volume, alloc, edit)?;
         follow(&mut self.slices, edit, moved);
         Ok(())
     }

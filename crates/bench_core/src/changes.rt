@@ -1,9 +1,12 @@
 // What an edit that was done leaves of the slices that are kept.
 ghost use Rattle.std.specs.Prelude.{◌≡◌, IfOk};
 ghost use Rattle.time_slice.specs.Cache.{none_kept};
-ghost use Rattle.bench_core.specs.Changes.{set_cell, is_moved, entries_after};
+ghost use Rattle.edit_overlay.specs.CountedVolume.{RisesAtMost};
+ghost use Rattle.bench_rules.specs.Looks.{edit_looks};
+ghost use Rattle.bench_rules.specs.Steps.{Step};
+ghost use Rattle.bench_core.specs.Changes.{has_moved, is_moved, entries_after};
 
-use bench_rules::Edit;
+use bench_rules::{Edit, Refusal};
 use field_map::is_geometry;
 use live_volume::LiveVolume;
 use std::alloc::Global;
@@ -16,13 +19,28 @@ pub fn no_slices(alloc: Global) -> Result<SliceCache, OutOfMemory>
     SliceCache::new(alloc, 8)
 }
 
-/// Inline and crossline of the trace that a set changes; `None` for any other edit.
-pub fn set_cell(volume: &LiveVolume, edit: &Edit) -> Option<(i32, i32)>
-    ensures { result ≡ set_cell volume.now.state edit.now }
+/// The edit in the volume. Where it is done, tells whether a set gave its trace, or a renumbering
+/// one of its traces, another inline or crossline; of any other edit it tells no.
+pub fn change(volume: &mut LiveVolume, alloc: Global, edit: &Edit) -> Result<bool, Refusal>
+    ensures step { Step volume.old.state edit.now result volume.new.state }
+    ensures looks { RisesAtMost volume.old.looks volume.new.looks
+        (edit_looks volume.old.state.volume edit.now) }
+    ensures moved { IfOk result (λ moved. moved
+        ≡ has_moved volume.old.state edit.now volume.new.state) }
 {
     match edit {
-        Edit::Set(p, _, _) => volume.cell(*p),
-        _ => None,
+        Edit::Set(p, _, _) => {
+            let before = volume.cell(*p);
+            volume.apply(alloc, edit)?;
+            Ok(is_moved(before, volume.cell(*p)))
+        }
+        Edit::Renumber(a, b, field, first, step) => {
+            volume.renumber(alloc, *a, *b, field, *first, *step)
+        }
+        _ => {
+            volume.apply(alloc, edit)?;
+            Ok(false)
+        }
     }
 }
 
@@ -36,15 +54,15 @@ pub fn is_moved(before: Option<(i32, i32)>, after: Option<(i32, i32)>) -> bool
     }
 }
 
-/// Forgets the slices that an edit may have changed; `moved` tells whether a set gave its trace
-/// another inline or crossline. Takes no memory.
+/// Forgets the slices that an edit may have changed; `moved` tells whether a set or a renumbering
+/// gave a trace another inline or crossline. Takes no memory.
 pub fn follow(slices: &mut SliceCache, edit: &Edit, moved: bool)
     ensures entries { slices.new.entries ≡ entries_after moved edit.now slices.old.entries }
     ensures capacity { slices.new.capacity ≡ slices.old.capacity }
 {
     match edit {
         Edit::SetBin(_, _) | Edit::SetText(_, _) | Edit::Unmap(_) => {}
-        Edit::Set(_, _, _) => {
+        Edit::Set(_, _, _) | Edit::Renumber(_, _, _, _, _) => {
             if moved {
                 slices.clear();
             }
@@ -55,6 +73,10 @@ pub fn follow(slices: &mut SliceCache, edit: &Edit, moved: bool)
             }
         }
         Edit::Patch(_, k, values) => slices.forget(*k, values.as_slice().len()),
-        Edit::Blank(_) | Edit::Copy(_, _) | Edit::Delete(_) | Edit::Move(_, _) => slices.clear(),
+        Edit::Blank(_)
+        | Edit::Copy(_, _)
+        | Edit::Delete(_)
+        | Edit::Move(_, _)
+        | Edit::Resize(_, _) => slices.clear(),
     }
 }

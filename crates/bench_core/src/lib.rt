@@ -12,8 +12,9 @@
 //!
 //! `load` takes memory for the file's bytes, the list of its traces, the six geometry names, the
 //! records with what has counted them, and room for kept slices; `apply` for `Set`, `Map`,
-//! `Patch`, `Blank`, `Copy` and `Move` alone; `ask` for answers that are texts or lists alone:
-//! `Line`, `Stanzas`, `Fields`, `Grid`, `Inlines`, `Crosslines`, `Histogram`, `Slice` and `Faults`.
+//! `Patch`, `Blank`, `Copy`, `Move`, `Resize` and `Renumber` alone; `ask` for answers that are
+//! texts or lists alone: `Line`, `Stanzas`, `Fields`, `Grid`, `Inlines`, `Crosslines`, `Histogram`,
+//! `Slice` and `Faults`.
 #![tactic(auto)]
 
 mod bench;

@@ -1,11 +1,10 @@
-mod CutAgainLemmas
-mod StepAgainLemmas
+mod ResizedSampleLemmas
 pub mod ReadsSetLemmas
-mod ResizingLemmas
-mod OneTraceLemmas
 mod ResizeLemmas
 mod RenumberingLemmas
-mod NumberCutAgainLemmas
+mod CutAgainLemmas
+mod StepAgainLemmas
 mod SliceRowLemmas
-pub mod KeptSliceLemmas
+mod KeptSetLemmas
 mod KeptNumberLemmas
+pub mod KeptSliceLemmas

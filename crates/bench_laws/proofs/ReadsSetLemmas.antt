@@ -1,10 +1,9 @@
 -- A value that was set is read again, and the rest of the file is as it was.
-use Rattle.std.proofs.Common.{◌≡◌, ◌⊎◌, ℕ, ◌+◌, ◌*◌, ◌-◌, ◌<◌, ◌≤◌, Bool, true, false, ◌||◌, ◌&&◌, cond, leb, List, [], ◌++◌, length, take, drop, Option, Some, None, Ok, Err, ℤ, refl, sym, ap, subst, ◌∙◌, arith, inl, inr, append_assoc}
+use Rattle.std.proofs.Common.{◌≡◌, ℕ, ◌+◌, ◌*◌, ◌-◌, ◌<◌, ◌≤◌, Bool, true, false, ◌&&◌, cond, leb, List, [], length, take, drop, Option, Some, None, Ok, Err, ℤ, refl, sym, ap, subst, ◌∙◌, arith, inl, inr}
 use Rattle.std.specs.Prelude.{option_map, unwrap_or}
-use Rattle.std.proofs.lemmas.Bool.{leb-true, leb-false, le-leb, eqb-true}
-use Rattle.std.proofs.lemmas.List.{length-set, length-take-le, drop_at, get_or-set_same, get_or-set_other}
-use Rattle.std.proofs.Math.Seq.{take-append_seam}
-use Rattle.num_order.specs.Number.{num, bytes, fits, is_size, IsSize}
+use Rattle.std.proofs.lemmas.Bool.{leb-true, leb-false, le-leb}
+use Rattle.std.proofs.lemmas.List.{length-set, get_or-set_same, get_or-set_other}
+use Rattle.num_order.specs.Number.{num, bytes, fits, IsSize}
 use Rattle.num_order.proofs.InRangeLemmas.{in_range, length-number}
 use Rattle.num_order.proofs.RoundTripLemmas.{reads_back}
 use Rattle.sample_codes.specs.Formats.{width}
@@ -16,7 +15,6 @@ use Rattle.frame_cut.specs.Frames.{header_bytes, extension_count, extensions_of,
 use Rattle.frame_cut.specs.Splice.{splice}
 use Rattle.frame_cut.specs.Traces.{count_of, is_trace, trace_at, with_trace}
 use Rattle.frame_cut.specs.Volume.{Volume, bytes_of}
-use Rattle.frame_cut.proofs.BinEditLemmas.{slice_before, slice_behind}
 use Rattle.frame_cut.proofs.OneCutLemmas.{at_most_one_cut}
 use Rattle.trace_view.specs.Values.{is_in_header, has_place, value_of, value_at}
 use Rattle.bench_rules.specs.declared.answer.Answer.TheVariants as answers
@@ -31,47 +29,11 @@ use Rattle.bench_rules.specs.Places.{place_in_trace}
 use Rattle.bench_rules.specs.Refused.{first_refusal, with_value}
 use Rattle.bench_rules.specs.State.{State}
 use Rattle.bench_rules.proofs.HeaderEditLemmas.{same_refused, same_after, no_place}
-use Rattle.bench_rules.proofs.PlaceLemmas.{stands, place_inside}
+use Rattle.bench_rules.proofs.PlaceLemmas.{stands, place_inside, sized, at_most_8}
 use Rattle.bench_rules.proofs.SetLemmas.{Accepted, accepted, is_after, whole_trace}
-
--- ---- what a splice shows
-
--- bytes apart from it are as they were
-pub apart : (t new : List ℕ) (at k m : ℕ) → at + length new ≤ length t → (k + m ≤ at) ⊎ (at + length new ≤ k) → take m (drop k (splice t at (length new) new)) ≡ take m (drop k t)
-apart t new at k m inside (inl before) = slice_before t at (length new) new k m before (omega arith)
-apart t new at k m inside (inr behind) = slice_behind t at new k m behind inside
-
--- at its place are the new bytes
-pub itself : (t new : List ℕ) (at : ℕ) → at + length new ≤ length t → take (length new) (drop at (splice t at (length new) new)) ≡ new
-itself t new at inside =
-    let rest : List ℕ = drop (at + length new) t in
-    let front : length (take at t) ≡ at = length-take-le at t (omega arith) in
-    ap (λ (s : List ℕ). take (length new) (drop at s)) (append_assoc (take at t) new rest)
-    ∙ ap (take (length new)) (drop_at (take at t) (new ++ rest) at front)
-    ∙ take-append_seam new rest
+use Rattle.bench_rules.proofs.SpliceLemmas.{apart, itself}
 
 -- ---- the number of header extensions is as it was
-
-either : (a b : Bool) {P : Type 0} → (a ≡ true → P) → (b ≡ true → P) → (a || b) ≡ true → P
-either true b f g e = f refl
-either false b f g e = g e
-
-pub sized : (n : ℕ) → is_size n ≡ true → IsSize n
-sized n e =
-    either _ _
-    (either _ _
-    (either _ _
-    (either _ _ (λ e1. inl (eqb-true n 1 e1)) (λ e2. inr (inl (eqb-true n 2 e2))))
-    (λ e3. inr (inr (inl (eqb-true n 3 e3)))))
-    (λ e4. inr (inr (inr (inl (eqb-true n 4 e4))))))
-    (λ e8. inr (inr (inr (inr (eqb-true n 8 e8))))) e
-
-pub at_most_8 : (n : ℕ) → IsSize n → n ≤ 8
-at_most_8 n (inl e) = omega arith
-at_most_8 n (inr (inl e)) = omega arith
-at_most_8 n (inr (inr (inl e))) = omega arith
-at_most_8 n (inr (inr (inr (inl e)))) = omega arith
-at_most_8 n (inr (inr (inr (inr e)))) = omega arith
 
 same_count : (h : Head) (t u : List ℕ) → header_bytes 1 157 2 u ≡ header_bytes 1 157 2 t → extension_count h u ≡ extension_count h t
 same_count h t u e = rw e refl

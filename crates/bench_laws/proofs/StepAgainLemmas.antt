@@ -13,11 +13,8 @@ use Rattle.frame_cut.specs.declared.reading.Reading.{Reading}
 use Rattle.bench_rules.specs.Refused.{first_refusal}
 use Rattle.bench_rules.specs.State.{State}
 use Rattle.bench_rules.specs.Steps.{IsAfter, StepUnless}
+use Rattle.bench_rules.proofs.RenumberLemmas.{IsRead}
 use Rattle.bench_laws.proofs.CutAgainLemmas.{stays_cut}
-
--- the volume is the cut of its own bytes
-abbrev pub IsRead : State → Type 0
-IsRead s = IsCut (bytes_of s.volume) s.reading s.limits s.volume
 
 itself : (s : State) → IsRead s → IsReadAlike s s
 itself s cut = record { cut = cut; head = refl; reading = refl; limits = refl }

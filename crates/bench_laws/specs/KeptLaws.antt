@@ -5,7 +5,6 @@ use Rattle.frame_cut.specs.Cuts.{IsCut}
 use Rattle.frame_cut.specs.Volume.{bytes_of}
 use Rattle.bench_rules.specs.declared.edit.Edit.{Edit}
 use Rattle.bench_rules.specs.Kept.{is_kept, kept_after_edit}
-use Rattle.bench_rules.specs.NumberEdits.{NumberEdit, first_number_refusal, IsAfterNumber, kept_after_number}
 use Rattle.bench_rules.specs.Refused.{first_refusal}
 use Rattle.bench_rules.specs.Reports.{slice_in}
 use Rattle.bench_rules.specs.State.{State}
@@ -17,9 +16,3 @@ abbrev pub KeptSlicesStay : Type 0
 KeptSlicesStay = (old new : State) (edit : Edit) (kept : List ℕ) (k : ℕ)
     → IsCut (bytes_of old.volume) old.reading old.limits old.volume → HasGeometry old.volume.head.extensions old.fields → first_refusal old edit ≡ None → IsAfter old edit new
     → IsTrue (is_kept k (kept_after_edit old edit kept)) → slice_in new k ≡ slice_in old k
-
--- the same after another number of samples of a trace, and after a field of many traces is counted up
-abbrev pub KeptSlicesStayAfterNumber : Type 0
-KeptSlicesStayAfterNumber = (old new : State) (edit : NumberEdit) (kept : List ℕ) (k : ℕ)
-    → IsCut (bytes_of old.volume) old.reading old.limits old.volume → HasGeometry old.volume.head.extensions old.fields → first_number_refusal old edit ≡ None → IsAfterNumber old edit new
-    → IsTrue (is_kept k (kept_after_number old edit kept)) → slice_in new k ≡ slice_in old k

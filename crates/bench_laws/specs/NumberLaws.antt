@@ -5,19 +5,16 @@ use Rattle.frame_cut.specs.Frames.{sample_count}
 use Rattle.frame_cut.specs.Traces.{trace_at}
 use Rattle.frame_cut.specs.Volume.{Volume, bytes_of}
 use Rattle.trace_view.specs.Values.{samples_of}
+use Rattle.bench_rules.specs.declared.edit.Edit.{Edit}
+use Rattle.bench_rules.specs.declared.edit.Edit.TheVariants.{Set, Resize, Renumber}
 use Rattle.bench_rules.specs.declared.field.Field.{Field}
 use Rattle.bench_rules.specs.declared.refusal.Refusal.{Refusal}
 use Rattle.bench_laws.specs.EditLaws.{LeavesOthers}
-use Rattle.bench_rules.specs.NumberEdits.{NumberEdit, Resize, Renumber, bytes_after_number, first_number_refusal, IsAfterNumber}
-use Rattle.bench_rules.specs.NumberRefusals.{sets_of}
+use Rattle.bench_rules.specs.After.{bytes_after}
+use Rattle.bench_rules.specs.Refused.{first_refusal}
 use Rattle.bench_rules.specs.State.{State}
-use Rattle.bench_rules.specs.Steps.{Steps}
+use Rattle.bench_rules.specs.Steps.{IsAfter, Steps}
 use Rattle.bench_rules.specs.TraceEdits.{numbers}
-
--- a file that is cut is cut again after such an edit that is not refused, and has the same head
-abbrev pub NumberEditsStayCut : Type 0
-NumberEditsStayCut = (s : State) (edit : NumberEdit) → IsCut (bytes_of s.volume) s.reading s.limits s.volume → first_number_refusal s edit ≡ None
-    → (v : Volume) × IsCut (bytes_after_number s.volume s.fields edit) s.reading s.limits v × (v.head ≡ s.volume.head)
 
 -- ---- another number of samples
 
@@ -28,16 +25,20 @@ samples_up_to n m xs = take m xs ++ replicate (m - n) (pos 0)
 -- after an edit that gives trace p m samples it has them: its first ones as they were, and zeros behind them
 abbrev pub ResizeKeepsSamples : Type 0
 ResizeKeepsSamples = (s : State) (p : ℕ) (m : ℤ) (v : Volume)
-    → IsCut (bytes_of s.volume) s.reading s.limits s.volume → first_number_refusal s (Resize p m) ≡ None → IsCut (bytes_after_number s.volume s.fields (Resize p m)) s.reading s.limits v
+    → IsCut (bytes_of s.volume) s.reading s.limits s.volume → first_refusal s (Resize p m) ≡ None → IsCut (bytes_after s.volume s.fields (Resize p m)) s.reading s.limits v
     → samples_of v.head (trace_at v p) ≡ samples_up_to (sample_count s.volume.head (trace_at s.volume p)) (nat_abs m) (samples_of s.volume.head (trace_at s.volume p))
 
--- and all but trace p is as it was
+-- after such an edit all but trace p is as it was
 abbrev pub ResizeLeavesTheRest : Type 0
 ResizeLeavesTheRest = (s : State) (p : ℕ) (m : ℤ) (v : Volume)
-    → IsCut (bytes_of s.volume) s.reading s.limits s.volume → first_number_refusal s (Resize p m) ≡ None → IsCut (bytes_after_number s.volume s.fields (Resize p m)) s.reading s.limits v
+    → IsCut (bytes_of s.volume) s.reading s.limits s.volume → first_refusal s (Resize p m) ≡ None → IsCut (bytes_after s.volume s.fields (Resize p m)) s.reading s.limits v
     → LeavesOthers s.volume v p
 
 -- ---- a field of many traces
+
+-- each trace's value as a set of the field
+abbrev pub sets_of : Field → List (ℕ × ℤ) → List Edit
+sets_of field ns = map (λ n. Set n.0 field n.1) ns
 
 -- one reply for each of these, that it was done
 abbrev pub all_done : List (ℕ × ℤ) → List (Result (Unit {0}) Refusal)
@@ -46,5 +47,5 @@ all_done ns = map (λ n. Ok tt) ns
 -- a field counted up is what its sets make, one after another, each of them done
 abbrev pub RenumberIsItsSets : Type 0
 RenumberIsItsSets = (s : State) (a b : ℕ) (field : Field) (first step : ℤ)
-    → IsCut (bytes_of s.volume) s.reading s.limits s.volume → first_number_refusal s (Renumber a b field first step) ≡ None
-    → (new : State) × Steps s (sets_of field (numbers a b first step)) (all_done (numbers a b first step)) new × IsAfterNumber s (Renumber a b field first step) new
+    → IsCut (bytes_of s.volume) s.reading s.limits s.volume → first_refusal s (Renumber a b field first step) ≡ None
+    → (new : State) × Steps s (sets_of field (numbers a b first step)) (all_done (numbers a b first step)) new × IsAfter s (Renumber a b field first step) new

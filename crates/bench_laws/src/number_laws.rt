@@ -1,13 +1,6 @@
 // What holds of edits of numbers of samples and of fields of many traces, as contracts of calls
 // that do nothing.
-ghost use Rattle.bench_laws.specs.NumberLaws.{NumberEditsStayCut, ResizeKeepsSamples, ResizeLeavesTheRest, RenumberIsItsSets};
-
-/// A file that is cut is cut again, under the same reading and limits and with the same head, after
-/// another number of samples of a trace and after a field of many traces is counted up, where these
-/// are not refused.
-pub fn number_edits_stay_cut()
-    ensures { NumberEditsStayCut }
-{}
+ghost use Rattle.bench_laws.specs.NumberLaws.{ResizeKeepsSamples, ResizeLeavesTheRest, RenumberIsItsSets};
 
 /// A trace that is given m samples has them in what reading the new bytes from scratch gives: its
 /// first ones as they were, and zeros behind them.

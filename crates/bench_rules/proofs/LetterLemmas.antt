@@ -1,5 +1,5 @@
 -- The lines of a block that begin with the letter C as they are shown.
-use Rattle.std.proofs.Common.{◌≡◌, ◌∙◌, ◌+◌, ◌-◌, ◌*◌, ◌<◌, ◌≤◌, ℕ, Bool, true, false, List, [], ◌∷◌, ◌++◌, length, take, drop, not, bytes_eq, slice_index_or, get_or, take_all, refl, sym, ap, arith, drop-cons, add-one}
+use Rattle.std.proofs.Common.{◌≡◌, ◌∙◌, ◌+◌, ◌-◌, ◌*◌, ◌<◌, ℕ, Bool, true, false, List, ◌∷◌, ◌++◌, length, take, drop, bytes_eq, slice_index_or, get_or, take_all, refl, sym, ap, arith, drop-cons, add-one}
 use Rattle.std.specs.Prelude.{codes, count_by, ◌==◌, Option, Some, None}
 use Rattle.std.specs.List.{range_with_len}
 use Rattle.std.proofs.lemmas.Bool.{agree_below_at}
@@ -10,7 +10,7 @@ use Rattle.text_block.specs.declared.code.Code.{Code}
 use Rattle.text_block.specs.declared.code.Code.TheVariants.{Ebcdic, Ascii}
 use Rattle.text_block.specs.Blocks.{code_of}
 use Rattle.text_block.specs.Characters.{character_of, shown_as, shown_byte, shown_bytes}
-use Rattle.text_block.specs.Lines.{line_bytes, shown_line}
+use Rattle.text_block.specs.Lines.{shown_line}
 
 -- a text begins with C
 abbrev pub begins_with_c : List ℕ → Bool

@@ -6,5 +6,11 @@ pub mod WholeTraceLemmas
 pub mod PatchLemmas
 pub mod ValueLemmas
 pub mod TraceStepLemmas
+pub mod SpliceLemmas
+pub mod ResizingLemmas
+pub mod ResizeLemmas
+pub mod RenumberLemmas
+pub mod KeptLemmas
+mod CountedLemmas
 pub mod LiveLemmas
 pub mod LetterLemmas

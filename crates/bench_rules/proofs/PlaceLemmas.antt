@@ -1,11 +1,11 @@
 -- A place that a trace has lies in one of its headers.
-use Rattle.std.proofs.Common.{◌≡◌, ℕ, ◌+◌, ◌*◌, ◌-◌, ◌<◌, ◌≤◌, Bool, true, false, ◌&&◌, List, append_assoc, length, take, drop, ◌++◌, Option, Some, None, refl, sym, ap, ◌∙◌, arith}
+use Rattle.std.proofs.Common.{◌≡◌, ℕ, ◌+◌, ◌*◌, ◌-◌, ◌<◌, ◌≤◌, Bool, true, false, ◌&&◌, ◌||◌, List, append_assoc, length, take, drop, ◌++◌, Option, Some, None, refl, sym, ap, ◌∙◌, arith, inl, inr}
 use Rattle.std.specs.Prelude.{nat_eq, not, option_map, unwrap_or}
 use Rattle.std.specs.Option.{option_eq}
-use Rattle.std.proofs.lemmas.Bool.{ltb-true, leb-true}
+use Rattle.std.proofs.lemmas.Bool.{ltb-true, leb-true, eqb-true}
 use Rattle.std.proofs.lemmas.List.{length-take, take-append-le, take-append-drop}
 use Rattle.field_map.specs.declared.place.Place.{Place}
-use Rattle.num_order.specs.Number.{is_size}
+use Rattle.num_order.specs.Number.{is_size, IsSize}
 use Rattle.frame_cut.specs.declared.file_head.Head.{Head}
 use Rattle.frame_cut.specs.Cuts.{IsTrace}
 use Rattle.frame_cut.specs.Frames.{front_length, extension_count, extensions_of, sample_count, trace_length, length_with}
@@ -58,6 +58,29 @@ pub place_inside : (h : Head) (t : List ℕ) (place : Place) → IsTrace h t →
 place_inside h t place is e =
     let s = stands h t place e in
     omega (arith, headers-le h t is.exact, s.first, s.last, s.header)
+
+-- ---- its size
+
+either : (a b : Bool) {P : Type 0} → (a ≡ true → P) → (b ≡ true → P) → (a || b) ≡ true → P
+either true b f g e = f refl
+either false b f g e = g e
+
+pub sized : (n : ℕ) → is_size n ≡ true → IsSize n
+sized n e =
+    either _ _
+    (either _ _
+    (either _ _
+    (either _ _ (λ e1. inl (eqb-true n 1 e1)) (λ e2. inr (inl (eqb-true n 2 e2))))
+    (λ e3. inr (inr (inl (eqb-true n 3 e3)))))
+    (λ e4. inr (inr (inr (inl (eqb-true n 4 e4))))))
+    (λ e8. inr (inr (inr (inr (eqb-true n 8 e8))))) e
+
+pub at_most_8 : (n : ℕ) → IsSize n → n ≤ 8
+at_most_8 n (inl e) = omega arith
+at_most_8 n (inr (inl e)) = omega arith
+at_most_8 n (inr (inr (inl e))) = omega arith
+at_most_8 n (inr (inr (inr (inl e)))) = omega arith
+at_most_8 n (inr (inr (inr (inr e)))) = omega arith
 
 -- ---- the length that the headers give, with a splice behind them
 

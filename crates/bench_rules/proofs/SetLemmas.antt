@@ -2,7 +2,7 @@
 use Rattle.std.proofs.Common.{◌≡◌, ℕ, ◌+◌, ◌*◌, ◌-◌, ◌<◌, ◌≤◌, Bool, true, false, ◌&&◌, cond, List, [], length, Option, Some, None, ℤ, refl, sym, ap, subst, ◌∙◌, arith}
 use Rattle.std.specs.Prelude.{nat_eq, not}
 use Rattle.std.specs.Option.{option_eq, option_or, is_some}
-use Rattle.std.proofs.lemmas.Bool.{leb-true, eqb-true}
+use Rattle.std.proofs.lemmas.Bool.{leb-true, le-leb, eqb-true, eq-eqb}
 use Rattle.std.proofs.lemmas.List.Elements.{All-get_or}
 use Rattle.num_order.specs.Number.{bytes, fits}
 use Rattle.field_map.specs.declared.place.Place.{Place}
@@ -74,6 +74,15 @@ accepted s p place x e =
       fits = fit.0;
       length = same_length _ _ same.0;
     }
+
+-- and where it is accepted, none is met
+pub not_refused : (s : State) (p : ℕ) (place : Place) (x : ℤ) → Accepted s.volume p place x → first_refusal s (Set p (field.Place place) x) ≡ None
+not_refused s p place x a =
+    let v : Volume = s.volume in
+    let t : List ℕ = trace_at v p in
+    let there : is_trace v p ≡ true = rw (le-leb 1 p a.first, le-leb p (count_of v) a.last) refl in
+    let same : is_length (trace_length v.head (with_value v.head t place x)) (length t) ≡ true = rw a.length (eq-eqb (length t) (length t) refl) in
+    refused_at s p place x there ∙ last_refusal v.head t place x a.has a.fits ∙ ap (λ (b : Bool). let o : Option Refusal = cond (not b) (Some Frame) None in o) same
 
 -- ---- what the value makes of the volume
 

@@ -1,23 +1,19 @@
 -- What an edit makes of a volume's bytes and of the field map.
-use Rattle.std.specs.Prelude.{ℕ, ◌+◌, ◌-◌, ◌*◌, ℤ, List}
+use Rattle.std.specs.Prelude.{ℕ, ◌-◌, ◌*◌, nat_abs, ℤ, List}
 use Rattle.std.specs.Option.{option_map_or}
 use Rattle.std.specs.Str.{chars}
 use Rattle.num_order.specs.Number.{bytes}
 use Rattle.field_map.specs.declared.place.Place.{Place}
-use Rattle.field_map.specs.declared.place.TheConstants.{TRACE_HEADER_BYTES}
 use Rattle.field_map.specs.Pairs.{Pairs, bound, unbound}
 use Rattle.text_block.specs.Blocks.{code_of}
 use Rattle.text_block.specs.Lines.{encoded_line}
 use Rattle.frame_cut.specs.Splice.{splice}
-use Rattle.frame_cut.specs.Volume.{Volume, bytes_of, start_of}
+use Rattle.frame_cut.specs.Volume.{Volume, bytes_of}
 use Rattle.bench_rules.specs.declared.edit.Edit.{Edit}
-use Rattle.bench_rules.specs.declared.edit.Edit.TheVariants.{Set, SetBin, SetText, Map, Unmap, Patch, Blank, Copy, Delete, Move}
+use Rattle.bench_rules.specs.declared.edit.Edit.TheVariants.{Set, SetBin, SetText, Map, Unmap, Patch, Blank, Copy, Delete, Move, Resize, Renumber}
 use Rattle.bench_rules.specs.Places.{place_in_trace, place_in_binary}
+use Rattle.bench_rules.specs.TraceEdits.{put_in_trace, bytes_after_resize, bytes_after_renumber}
 use Rattle.bench_rules.specs.WholeTraces.{bytes_after_patch, with_blank, with_copy, bytes_after_delete, bytes_after_move}
-
--- the value over a place of trace p
-abbrev pub put_in_trace : Volume → ℕ → Place → ℤ → List ℕ → List ℕ
-put_in_trace v p place x file = splice file (start_of v (p - 1) + TRACE_HEADER_BYTES * place.extension + place.byte - 1) place.kind.size (bytes v.head.order place.kind x)
 
 -- the value over a place of the binary header
 abbrev pub put_in_binary : Volume → Place → ℤ → List ℕ → List ℕ
@@ -35,6 +31,8 @@ bytes_after v fields (Blank p) = with_blank v p
 bytes_after v fields (Copy q p) = with_copy v q p
 bytes_after v fields (Delete p) = bytes_after_delete v p
 bytes_after v fields (Move a b) = bytes_after_move v a b
+bytes_after v fields (Resize p m) = bytes_after_resize v p (nat_abs m)
+bytes_after v fields (Renumber a b field first step) = option_map_or (λ place. bytes_after_renumber v a b place first step) (place_in_trace fields field) (bytes_of v)
 
 -- the field map after the edit
 abbrev pub fields_after : Pairs → Edit → Pairs
@@ -48,3 +46,5 @@ fields_after fields (Blank p) = fields
 fields_after fields (Copy q p) = fields
 fields_after fields (Delete p) = fields
 fields_after fields (Move a b) = fields
+fields_after fields (Resize p m) = fields
+fields_after fields (Renumber a b field first step) = fields

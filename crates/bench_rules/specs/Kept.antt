@@ -11,12 +11,13 @@ use Rattle.frame_cut.specs.Traces.{trace_at}
 use Rattle.trace_record.specs.OfTrace.{bound_value}
 use Rattle.time_slice.specs.Cache.{is_from}
 use Rattle.bench_rules.specs.declared.edit.Edit.{Edit}
-use Rattle.bench_rules.specs.declared.edit.Edit.TheVariants.{Set, SetBin, SetText, Map, Unmap, Patch, Blank, Copy, Delete, Move}
+use Rattle.bench_rules.specs.declared.edit.Edit.TheVariants.{Set, SetBin, SetText, Map, Unmap, Patch, Blank, Copy, Delete, Move, Resize, Renumber}
 use Rattle.bench_rules.specs.declared.query.Query.{Query}
 use Rattle.bench_rules.specs.declared.query.Query.TheVariants.{Count, Info, Get, GetBin, Line, Code, Stanzas, Fields, Sample, Geometry, Stat, Fold, Grid, Inlines, Crosslines, Histogram, Range, Totals, Slice, Faults}
 use Rattle.bench_rules.specs.Places.{place_in_trace}
 use Rattle.bench_rules.specs.Refused.{with_value}
 use Rattle.bench_rules.specs.State.{State}
+use Rattle.bench_rules.specs.TraceEdits.{numbers}
 
 -- the slice with the number is kept
 abbrev pub is_kept : ℕ → List ℕ → Bool
@@ -74,6 +75,11 @@ abbrev pub kept_after_set : Head → Pairs → List ℕ → Option Place → ℤ
 kept_after_set h fields t None x kept = kept
 kept_after_set h fields t (Some place) x kept = kept_after_headers h fields t (with_value h t place x) kept
 
+-- the numbers kept after each value over the place of its trace: none, where one of them changes an inline or a crossline
+abbrev pub kept_after_sets : State → Option Place → List (ℕ × ℤ) → List ℕ → List ℕ
+kept_after_sets s place [] kept = kept
+kept_after_sets s place (n ∷ ns) kept = kept_after_sets s place ns (kept_after_set s.volume.head s.fields (trace_at s.volume n.0) place n.1 kept)
+
 -- the numbers kept after an edit that is done in this state
 abbrev pub kept_after_edit : State → Edit → List ℕ → List ℕ
 kept_after_edit s (Set p field x) kept = kept_after_set s.volume.head s.fields (trace_at s.volume p) (place_in_trace s.fields field) x kept
@@ -86,3 +92,5 @@ kept_after_edit s (Blank p) kept = []
 kept_after_edit s (Copy q p) kept = []
 kept_after_edit s (Delete p) kept = []
 kept_after_edit s (Move a b) kept = []
+kept_after_edit s (Resize p m) kept = []
+kept_after_edit s (Renumber a b field first step) kept = kept_after_sets s (place_in_trace s.fields field) (numbers a b first step) kept

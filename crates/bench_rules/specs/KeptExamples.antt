@@ -4,10 +4,10 @@ use Rattle.field_map.specs.Binding.{geometry_at_load}
 use Rattle.field_map.specs.Pairs.{signed_at}
 use Rattle.frame_cut.specs.declared.reading.Reading.TheVariants.{AsWritten}
 use Rattle.frame_cut.specs.SmallFiles.{wide_limits, volume_plain}
-use Rattle.bench_rules.specs.declared.edit.Edit.TheVariants.{Set, Map, Patch, Delete}
+use Rattle.bench_rules.specs.declared.edit.Edit.TheVariants.{Set, Map, Patch, Delete, Renumber}
 use Rattle.bench_rules.specs.declared.field.Field.TheVariants as field
 use Rattle.bench_rules.specs.Kept.{kept_after_slice, kept_after_edit}
-use Rattle.bench_rules.specs.NumberEdits.{Renumber, kept_after_number, number_looks}
+use Rattle.bench_rules.specs.Looks.{edit_looks}
 use Rattle.bench_rules.specs.State.{State}
 
 -- three traces, of inline 10 and crosslines 21 to 23
@@ -55,15 +55,15 @@ pub map-other : kept_after_edit loaded (Map (codes "shot") (signed_at 9 4)) thre
 map-other = refl
 
 -- all three traces get the crossline that they have, and then the second another
-pub renumber-same : kept_after_number loaded (Renumber 1 3 (field.Name (codes "crossline")) (pos 21) (pos 1)) three ≡ three
+pub renumber-same : kept_after_edit loaded (Renumber 1 3 (field.Name (codes "crossline")) (pos 21) (pos 1)) three ≡ three
 renumber-same = refl
 
-pub renumber-other : kept_after_number loaded (Renumber 1 3 (field.Name (codes "crossline")) (pos 21) (pos 2)) three ≡ []
+pub renumber-other : kept_after_edit loaded (Renumber 1 3 (field.Name (codes "crossline")) (pos 21) (pos 2)) three ≡ []
 renumber-other = refl
 
 -- three traces are looked at twice, and none where the last stands before the first
-pub renumber-looks : number_looks volume_plain (Renumber 1 3 (field.Name (codes "crossline")) (pos 21) (pos 2)) ≡ 6
+pub renumber-looks : edit_looks volume_plain (Renumber 1 3 (field.Name (codes "crossline")) (pos 21) (pos 2)) ≡ 6
 renumber-looks = refl
 
-pub renumber-no_looks : number_looks volume_plain (Renumber 2 1 (field.Name (codes "crossline")) (pos 21) (negsuc 0)) ≡ 0
+pub renumber-no_looks : edit_looks volume_plain (Renumber 2 1 (field.Name (codes "crossline")) (pos 21) (negsuc 0)) ≡ 0
 renumber-no_looks = refl

@@ -7,9 +7,7 @@ pub mod Letters
 pub mod Live
 pub mod Looks
 pub mod MapFaults
-pub mod NumberEdits
 pub mod NumberExamples
-pub mod NumberRefusals
 pub mod Places
 pub mod RefusalExamples
 pub mod Refused

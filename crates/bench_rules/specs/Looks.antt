@@ -1,5 +1,6 @@
 -- How often edits and queries look at traces.
-use Rattle.std.specs.Prelude.{ℕ, List, if◌then◌else◌}
+use Rattle.std.specs.Prelude.{ℕ, ◌+◌, ◌-◌, ◌*◌, List, Option, Some, None, if◌then◌else◌}
+use Rattle.std.specs.Option.{option_or}
 use Rattle.field_map.specs.Binding.{is_geometry}
 use Rattle.frame_cut.specs.Traces.{count_of}
 use Rattle.frame_cut.specs.Volume.{Volume}
@@ -7,11 +8,18 @@ use Rattle.bench_rules.specs.declared.edit.Edit.{Edit}
 use Rattle.bench_rules.specs.declared.edit.Edit.TheVariants as edits
 use Rattle.bench_rules.specs.declared.query.Query.{Query}
 use Rattle.bench_rules.specs.declared.query.Query.TheVariants as queries
+use Rattle.bench_rules.specs.declared.refusal.Refusal.{Refusal}
 use Rattle.bench_rules.specs.Kept.{is_kept}
+use Rattle.bench_rules.specs.Refused.{no_trace, no_trace_from}
 
 -- the most traces that a load looks at: each once, for its record
 abbrev pub load_looks : Volume → ℕ
 load_looks v = count_of v
+
+-- twice the traces a to b; none where a is no trace, or b is none of those from a on
+abbrev pub renumber_looks : Option Refusal → ℕ → ℕ → ℕ
+renumber_looks (Some refusal) a b = 0
+renumber_looks None a b = 2 * (b + 1 - a)
 
 -- the most traces that an edit looks at; a geometry name bound anew gives each trace another record
 abbrev pub edit_looks : Volume → Edit → ℕ
@@ -25,6 +33,8 @@ edit_looks v (edits.Blank p) = 1
 edit_looks v (edits.Copy q p) = 2
 edit_looks v (edits.Delete p) = 0
 edit_looks v (edits.Move a b) = 0
+edit_looks v (edits.Resize p m) = 2
+edit_looks v (edits.Renumber a b field first step) = renumber_looks (option_or (no_trace v a) (no_trace_from v a b)) a b
 
 -- the most traces that a query looks at, where the slices with these numbers are kept
 abbrev pub query_looks : Volume → List ℕ → Query → ℕ

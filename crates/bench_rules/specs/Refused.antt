@@ -1,5 +1,5 @@
 -- The first refusal that an edit meets.
-use Rattle.std.specs.Prelude.{ℕ, ◌+◌, ◌-◌, ◌*◌, ◌==◌, ◌&&◌, nat_le, nat_lt, max, Bool, not, false, ℤ, List, length, Option, Some, None, option_map, if◌then◌else◌}
+use Rattle.std.specs.Prelude.{ℕ, ◌+◌, ◌-◌, ◌==◌, ◌&&◌, nat_le, nat_lt, nat_abs, int_lt, max, Bool, not, false, ℤ, pos, List, [], ◌∷◌, length, Option, Some, None, option_map, if◌then◌else◌}
 use Rattle.std.specs.List.{list_all}
 use Rattle.std.specs.Option.{option_or}
 use Rattle.std.specs.Str.{chars}
@@ -18,11 +18,12 @@ use Rattle.frame_cut.specs.Traces.{count_of, is_trace, trace_at}
 use Rattle.frame_cut.specs.Volume.{Volume, bytes_of}
 use Rattle.trace_view.specs.Values.{has_place}
 use Rattle.bench_rules.specs.declared.edit.Edit.{Edit}
-use Rattle.bench_rules.specs.declared.edit.Edit.TheVariants.{Set, SetBin, SetText, Map, Unmap, Patch, Blank, Copy, Delete, Move}
+use Rattle.bench_rules.specs.declared.edit.Edit.TheVariants.{Set, SetBin, SetText, Map, Unmap, Patch, Blank, Copy, Delete, Move, Resize, Renumber}
 use Rattle.bench_rules.specs.declared.refusal.Refusal.{Refusal}
 use Rattle.bench_rules.specs.declared.refusal.Refusal.TheVariants as refusals
 use Rattle.bench_rules.specs.Places.{place_in_trace, place_in_binary, is_in_binary, touches_frame}
 use Rattle.bench_rules.specs.State.{State}
+use Rattle.bench_rules.specs.TraceEdits.{resized, numbers}
 use Rattle.bench_rules.specs.WholeTraces.{blank_trace}
 
 -- there is no trace p
@@ -91,6 +92,40 @@ text_refusal block q text =
     if not (is_line q) then Some refusals.NoPlace else
     option_map (λ fault. refusals.Text fault) (text_fault (code_of block) (chars text))
 
+-- ---- another number of samples of a trace
+
+-- the most samples that the headers of a trace can count: in two bytes, and in four where the file has header extensions
+abbrev pub most_samples : Head → ℕ
+most_samples h = if h.extensions == 0 then 65535 else 4294967295
+
+-- the headers of a trace can count so many samples: 0 would stand for the binary header's number
+abbrev pub is_sample_count : Head → ℤ → Bool
+is_sample_count h m = int_lt (pos 0) m && nat_le (nat_abs m) (most_samples h)
+
+-- a file of so many bytes would be longer than its limit with m samples in this trace
+abbrev pub is_too_large : Head → (file limit : ℕ) → List ℕ → ℕ → Bool
+is_too_large h file limit t m = nat_lt limit (file - length t + length (resized h t m))
+
+-- the refusal of m samples in a trace of a file of so many bytes
+abbrev pub count_refusal : Head → (file limit : ℕ) → List ℕ → ℤ → Option Refusal
+count_refusal h file limit t m =
+    if not (is_sample_count h m) then Some refusals.DoesNotFit else
+    if h.fixed then Some refusals.Frame else
+    if is_too_large h file limit t (nat_abs m) then Some refusals.TooLarge else None
+
+-- ---- a field of many traces
+
+-- trace b is none of those from trace a on
+abbrev pub no_trace_from : Volume → ℕ → ℕ → Option Refusal
+no_trace_from v a b = if nat_le a b && nat_le b (count_of v) then None else Some (refusals.NoTrace b (count_of v))
+
+-- the first refusal of these values, each at the place that a field of its trace has, if it has one; each in the file as it is
+abbrev pub first_refusal_among : Volume → Option Place → List (ℕ × ℤ) → Option Refusal
+first_refusal_among v place [] = None
+first_refusal_among v place (n ∷ ns) = option_or (set_refusal v.head (trace_at v n.0) place n.1) (first_refusal_among v place ns)
+
+-- ---- every edit
+
 -- the first refusal of the edit, if it meets one; want of memory is none of these
 abbrev pub first_refusal : State → Edit → Option Refusal
 first_refusal s (Set p field x) = option_or (no_trace s.volume p) (set_refusal s.volume.head (trace_at s.volume p) (place_in_trace s.fields field) x)
@@ -103,3 +138,6 @@ first_refusal s (Blank p) = insert_refusal s.volume s.limits p (length (blank_tr
 first_refusal s (Copy q p) = option_or (no_trace s.volume q) (insert_refusal s.volume s.limits p (length (trace_at s.volume q)))
 first_refusal s (Delete p) = no_trace s.volume p
 first_refusal s (Move a b) = option_or (no_trace s.volume a) (no_trace s.volume b)
+first_refusal s (Resize p m) = option_or (no_trace s.volume p) (count_refusal s.volume.head (length (bytes_of s.volume)) s.limits.bytes (trace_at s.volume p) m)
+first_refusal s (Renumber a b field first step) =
+    option_or (no_trace s.volume a) (option_or (no_trace_from s.volume a b) (first_refusal_among s.volume (place_in_trace s.fields field) (numbers a b first step)))

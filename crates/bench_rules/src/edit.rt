@@ -34,4 +34,11 @@ pub enum Edit {
     /// `Move(a, b)`: trace a out, and in again so that it is trace b. Refused, in this order: E01
     /// for a, E01 for b.
     Move(u32, u32),
+    /// `Resize(p, m)`: trace p with m samples: its first ones as they were, zeros behind them.
+    /// Refused, in this order: E01, E04, E06, E09.
+    Resize(u32, i128),
+    /// `Renumber(a, b, field, first, step)`: the field of traces a to b counted up from first by
+    /// step, whole or not at all. Refused, in this order: E01 for a, E01 for b, then the first
+    /// refusal of the lowest trace's value, each judged in the file as it was: E02, E03, E04, E06.
+    Renumber(u32, u32, Field, i128, i128),
 }

@@ -1,11 +1,11 @@
 -- What a bench holds after an edit: the records stay those of its traces.
 use Rattle.std.proofs.lemmas.Bool.{le-leb, leb-true, leb-false}
 use Rattle.std.proofs.lemmas.Option.{slice_get-map, slice_get-get_or, slice_get_past}
-use Rattle.std.proofs.Common.{◌≡◌, ◌∙◌, ℕ, zero, suc, leb, take, drop, ◌++◌, ◌∷◌, get_or-set_same, length-set, append_assoc, take_at, drop_at, length-append, length-take-le, take-append-drop, ◌-◌, ◌<◌, ◌≤◌, ◌^◌, Bool, true, false, List, [], length, map, refl, sym, ap, arith}
+use Rattle.std.proofs.Common.{◌≡◌, ◌∙◌, ℕ, zero, suc, leb, take, drop, ◌++◌, ◌∷◌, get_or-set_same, length-set, append_assoc, take_at, drop_at, length-append, length-take-le, take-append-drop, ◌-◌, ◌<◌, ◌≤◌, ◌^◌, Bool, true, false, List, [], length, map, refl, sym, ap, subst, arith}
 use Rattle.std.specs.List.{insert, remove}
 use Rattle.num_order.specs.Number.{is_size}
 use Rattle.std.proofs.lemmas.Bool.Decides.{nat_tests}
-use Rattle.std.specs.Prelude.{slice_set, Result, Ok, Err, IfOk, OnOk, Option, Some, None, option_map, unwrap_or, slice_get, if◌then◌else◌}
+use Rattle.std.specs.Prelude.{slice_set, Result, Ok, Err, IfOk, IfErr, OnOk, Option, Some, None, option_map, unwrap_or, slice_get, if◌then◌else◌}
 use Rattle.field_map.specs.Pairs.{Pairs}
 use Rattle.frame_cut.specs.declared.file_head.Head.{Head}
 use Rattle.frame_cut.specs.declared.limits.Limits.{Limits}
@@ -19,12 +19,14 @@ use Rattle.trace_record.specs.declared.record.Record.{Record}
 use Rattle.live_reports.specs.Reports.{AreFew}
 use Rattle.field_map.specs.declared.place.Place.{Place}
 use Rattle.field_map.specs.Binding.{bind_fault}
+use Rattle.bench_rules.specs.declared.edit.Edit.{Edit}
 use Rattle.bench_rules.specs.declared.edit.Edit.TheVariants.{Map}
 use Rattle.bench_rules.specs.declared.refusal.Refusal.{Refusal}
 use Rattle.bench_rules.specs.declared.refusal.Refusal.TheVariants.{OutOfMemory}
 use Rattle.bench_rules.specs.Reports.{facts_of_headers, head_facts}
 use Rattle.bench_rules.specs.State.{State}
-use Rattle.bench_rules.specs.Steps.{Step}
+use Rattle.bench_rules.specs.Refused.{first_refusal}
+use Rattle.bench_rules.specs.Steps.{IsAfter, Step, TakesMemory}
 use Rattle.volume_records.specs.OfVolume.{records_of}
 use Rattle.volume_records.proofs.FewLemmas.{cut_is_few, of_cut}
 
@@ -123,3 +125,14 @@ map_wants_memory s u name place none same = rw none (refl, record {}, same)
 -- the same volume and field map, read in the same way, are the same state
 pub same_state : (s : State) (v : Volume) (fields : Pairs) → v ≡ s.volume → fields ≡ s.fields → record s { volume = v; fields = fields } ≡ s
 same_state s v fields e f = ap (λ (u : Volume). let x : State = record s { volume = u; fields = fields } in x) e ∙ ap (λ (ps : Pairs). let x : State = record s { fields = ps } in x) f
+
+-- want of memory that leaves a state leaves the one that it is
+pub err_back : {T : Type 0} (r : Result T Refusal) (new mid old : State) → mid ≡ old → IfErr r (λ refusal. (refusal ≡ OutOfMemory) × (new ≡ mid)) → IfErr r (λ refusal. (refusal ≡ OutOfMemory) × (new ≡ old))
+err_back (Ok x) new mid old same h = h
+err_back (Err refusal) new mid old same h = (h.0, h.1 ∙ same)
+
+-- an edit that nothing but memory refuses is a step
+pub stepped : {T : Type 0} (old mid new : State) (edit : Edit) (r : Result T Refusal) → first_refusal old edit ≡ None → mid ≡ old → TakesMemory edit
+    → OnOk r (IsAfter mid edit new) → IfErr r (λ refusal. (refusal ≡ OutOfMemory) × (new ≡ mid)) → Step old edit r new
+stepped old mid new edit (Ok x) none same takes ok err = rw none (subst (λ (s : State). IsAfter s edit new) same ok)
+stepped old mid new edit (Err e) none same takes ok err = rw none (err.0, takes, err.1 ∙ same)

@@ -1,5 +1,6 @@
 -- How a bench holds its state.
-use Rattle.std.specs.Prelude.{◌≡◌, ℕ, ◌+◌, ◌*◌, List}
+use Rattle.std.specs.Prelude.{◌≡◌, ℕ, ◌+◌, ◌-◌, ◌*◌, Bool, not, List}
+use Rattle.std.specs.List.{list_any, range_with_len}
 use Rattle.field_map.specs.Pairs.{Pairs}
 use Rattle.frame_cut.specs.declared.file_head.Head.{Head}
 use Rattle.frame_cut.specs.Cuts.{IsCut}
@@ -10,6 +11,7 @@ use Rattle.trace_view.specs.Values.{samples_at}
 use Rattle.trace_record.specs.Facts.{facts_of, with_samples_of}
 use Rattle.trace_record.specs.OfTrace.{record_of}
 use Rattle.trace_record.specs.declared.record.Record.{Record}
+use Rattle.bench_rules.specs.Kept.{same_cell}
 use Rattle.bench_rules.specs.Live.{AreRecordsOf}
 use Rattle.bench_rules.specs.State.{State, Session}
 use Rattle.live_volume.specs.declared.live_volume.LiveVolume.TheInside.{Inside}
@@ -44,3 +46,11 @@ sample_start v p k = samples_at v.head (trace_at v p) + width v.head.format * k
 -- the record has the statistics of the trace's samples
 abbrev pub HasSamplesOf : Head → Pairs → List ℕ → Record → Type 0
 HasSamplesOf h fields t r = with_samples_of (record_of h fields t) (facts_of r) ≡ record_of h fields t
+
+-- trace p of the new state has another inline or crossline than that of the old one, both under the old field map
+abbrev pub moves : State → State → ℕ → Bool
+moves old new p = not (same_cell old.volume.head old.fields (trace_at old.volume p) (trace_at new.volume p))
+
+-- one of traces a to b has
+abbrev pub any_moves : State → State → ℕ → ℕ → Bool
+any_moves old new a b = list_any (moves old new) (range_with_len a (b + 1 - a))

@@ -10,13 +10,14 @@
 //! a report looks at no trace; a slice alone looks at each.
 //!
 //! `load` takes memory for the file's bytes, the list of its traces, the six geometry names and the
-//! records with what has counted them; `apply` for `Set`, `Map`, `Patch`, `Blank`, `Copy` and
-//! `Move` alone; `ask` for answers that are texts or lists alone: `Line`, `Stanzas`, `Fields`,
-//! `Grid`, `Inlines`, `Crosslines`, `Histogram`, `Slice` and `Faults`.
+//! records with what has counted them; `apply` for `Set`, `Map`, `Patch`, `Blank`, `Copy`, `Move`,
+//! `Resize` and `Renumber` alone; `ask` for answers that are texts or lists alone: `Line`,
+//! `Stanzas`, `Fields`, `Grid`, `Inlines`, `Crosslines`, `Histogram`, `Slice` and `Faults`.
 #![tactic(auto)]
 
 mod kept_slices;
 mod live_volume;
+mod number_edits;
 mod report_queries;
 mod trace_edits;
 mod volume_edits;

@@ -99,8 +99,8 @@ impl LiveVolume {
     }
 
     /// One edit: done, and the reports follow it; or refused, and all is as it was. `Set`, `Map`,
-    /// `Patch`, `Blank`, `Copy` and `Move` take memory, and are refused for want of it, E11, only
-    /// where nothing else refuses them.
+    /// `Patch`, `Blank`, `Copy`, `Move`, `Resize` and `Renumber` take memory, and are refused for
+    /// want of it, E11, only where nothing else refuses them.
     pub fn apply(&mut self, alloc: Global, edit: &Edit) -> Result<(), Refusal>
         ensures step { Step self.old.state edit.now result self.new.state }
         ensures looks { RisesAtMost self.old.looks self.new.looks
@@ -117,11 +117,16 @@ impl LiveVolume {
             Edit::Copy(q, p) => self.copy(alloc, *q, *p),
             Edit::Delete(p) => self.delete(*p),
             Edit::Move(a, b) => self.move_trace(alloc, *a, *b),
+            Edit::Resize(p, count) => self.resize(alloc, *p, *count),
+            Edit::Renumber(a, b, field, first, step) => {
+                self.renumber(alloc, *a, *b, field, *first, *step)?;
+                Ok(())
+            }
         }
     }
 
     // The place of a trace's field, where it has one.
-    fn place_in_trace(&self, field: &Field) -> Option<Place>
+    pub(crate) fn place_in_trace(&self, field: &Field) -> Option<Place>
         ensures { result ≡ place_in_trace self.now.state.fields field.now }
     {
         match field {

@@ -18,7 +18,7 @@ use volume_records::record_of_bytes;
 
 impl LiveVolume {
     // The first refusal of a trace's number: E01.
-    fn no_trace(&self, p: u32) -> Option<Refusal>
+    pub(crate) fn no_trace(&self, p: u32) -> Option<Refusal>
         ensures { result ≡ no_trace self.now.state.volume p }
     {
         if self.has_trace(p) {

@@ -1,18 +1,20 @@
 // Changes of the volume and of the reports that hold the records of its traces: of both, or of
 // neither where memory is refused. What can be refused comes first, and what is done then takes no
 // memory.
-ghost use Rattle.std.specs.Prelude.{◌≡◌, ◌+◌, ◌-◌, ◌≤◌, ◌<◌, ◌^◌, length, slice_set, IsTrue, IfSome, OnOk, IfErr};
+ghost use Rattle.std.specs.Prelude.{◌≡◌, ◌+◌, ◌-◌, ◌≤◌, ◌<◌, ◌^◌, ◌/◌, [], length, slice_index_or, slice_set, ℕ, IsTrue, IfSome, IfOk, OnOk, IfErr};
 ghost use Rattle.frame_cut.specs.Cuts.{IsTrace};
-ghost use Rattle.frame_cut.specs.Parts.{with_inserted};
+ghost use Rattle.frame_cut.specs.Parts.{with_each, with_inserted};
 ghost use Rattle.frame_cut.specs.Splice.{splice};
 ghost use Rattle.frame_cut.specs.Traces.{count_of, is_trace, trace_at, with_trace};
 ghost use Rattle.frame_cut.specs.Volume.{bytes_of};
 ghost use Rattle.trace_record.specs.Facts.{facts_of};
 ghost use Rattle.trace_record.specs.OfTrace.{record_of};
 ghost use Rattle.edit_overlay.specs.CountedVolume.{RisesAtMost, with_one_look, with_volume as with_counted_volume};
+ghost use Rattle.live_reports.specs.Exchanged.{with_records};
 ghost use Rattle.live_reports.specs.Reports.{AreFew};
 ghost use Rattle.bench_rules.specs.declared.refusal.Refusal.TheVariants.{OutOfMemory as no_memory};
-ghost use Rattle.live_volume.specs.Held.{with_volume, HasSamplesOf, IsCutAs};
+ghost use Rattle.volume_records.specs.OfVolume.{AreHeaderParts};
+ghost use Rattle.live_volume.specs.Held.{any_moves, with_volume, HasSamplesOf, IsCutAs};
 
 use crate::live_volume::LiveVolume;
 use bench_rules::Refusal;
@@ -21,7 +23,7 @@ use field_map::FieldMap;
 use live_reports::LiveReports;
 use std::alloc::Global;
 use trace_record::Record;
-use volume_records::{prepared_headers, prepared_record};
+use volume_records::{prepared_headers, prepared_record, prepared_records};
 
 impl LiveVolume {
     // The record of trace p.
@@ -105,6 +107,80 @@ impl LiveVolume {
             }
         }
     }
+
+    // Makes the bytes, with this record, the whole of trace p.
+    pub(crate) fn replace(
+        &mut self,
+        alloc: Global,
+        p: u32,
+        bytes: Vec<u8>,
+        trace: &Record,
+    ) -> Result<(), Refusal>
+        requires first { 1 ≤ p }
+        requires last { p ≤ count_of self.old.state.volume }
+        requires whole { IsTrace self.old.state.volume.head bytes.items }
+        requires small { length (bytes_of self.old.state.volume) + length bytes.items < 2 ^ 64 }
+        requires cut { IsCutAs self.old.state (with_trace self.old.state.volume p bytes.items) }
+        requires record { facts_of trace.now ≡ record_of self.old.state.volume.head
+            self.old.state.fields bytes.items }
+        ensures ok { OnOk result (self.new.state ≡ with_volume self.old.state
+            (with_trace self.old.state.volume p bytes.items)) }
+        ensures err { IfErr result (λ refusal. (refusal ≡ no_memory) ×
+            (self.new.state ≡ self.old.state)) }
+        ensures looks { self.new.looks ≡ self.old.looks }
+    {
+        let Ok(()) = self.reports.exchange(p as usize - 1, trace) else {
+            return Err(Refusal::OutOfMemory);
+        };
+        self.overlay.replace(alloc, p, bytes);
+        Ok(())
+    }
+
+    // Lays the bytes, `size` of them over each trace, over the headers of so many traces from trace
+    // a on, in each from place `at` on, counted from 0 in the trace: all of them or none. Tells
+    // whether a trace has another inline or crossline then. Each is looked at for its new record,
+    // and no sample is read.
+    pub(crate) fn put_each(
+        &mut self,
+        alloc: Global,
+        a: u32,
+        count: u32,
+        at: u64,
+        size: u32,
+        bytes: &[u8],
+    ) -> Result<bool, Refusal>
+        requires first { 1 ≤ a }
+        requires count { length bytes.now / size ≡ count }
+        requires parts { AreHeaderParts self.old.state.volume a at size bytes.now }
+        requires inside { (k : ℕ) → k < length bytes.now / size → at + size
+            ≤ length (slice_index_or self.old.state.volume.traces (a - 1 + k) []) }
+        requires cut { IsCutAs self.old.state
+            (with_each self.old.state.volume a at size bytes.now) }
+        ensures ok { OnOk result (self.new.state ≡ with_volume self.old.state
+            (with_each self.old.state.volume a at size bytes.now)) }
+        ensures err { IfErr result (λ refusal. (refusal ≡ no_memory) ×
+            (self.new.state ≡ self.old.state)) }
+        ensures moved { IfOk result (λ moved. moved ≡ any_moves self.old.state
+            (with_volume self.old.state (with_each self.old.state.volume a at size bytes.now))
+            a (a - 1 + count)) }
+        ensures looks { RisesAtMost self.old.looks self.new.looks count }
+    {
+        self.overlay.prepare_put_each(alloc, a, at, size, bytes)?;
+        let Ok(records) = prepared_records(
+            alloc,
+            &mut self.overlay,
+            &self.fields,
+            &self.reports,
+            a,
+            count,
+        ) else {
+            self.overlay.discard();
+            return Err(Refusal::OutOfMemory);
+        };
+        let stays = self.reports.same_cells(a as usize - 1, records.as_slice());
+        exchange_each(&mut self.overlay, &mut self.reports, a, records.as_slice())?;
+        Ok(!stays)
+    }
 }
 
 // The record of trace p with the prepared edit, in one look. No sample is read where a record is
@@ -142,6 +218,35 @@ fn exchange(
         × (reports.new ≡ reports.old)) }
 {
     match reports.exchange(p as usize - 1, trace) {
+        Ok(()) => {
+            overlay.commit();
+            Ok(())
+        }
+        Err(_) => {
+            overlay.discard();
+            Err(Refusal::OutOfMemory)
+        }
+    }
+}
+
+// Makes the prepared edit of as many traces as there are records, from trace a on, whose records
+// are then these, or drops it where memory is refused.
+fn exchange_each(
+    overlay: &mut Overlay,
+    reports: &mut LiveReports,
+    a: u32,
+    records: &[Record],
+) -> Result<(), Refusal>
+    requires first { 1 ≤ a }
+    requires last { a - 1 + length records.now ≤ length reports.old }
+    requires few { AreFew (with_records reports.old (a - 1) records.now) }
+    ensures ok { OnOk result ((overlay.new ≡ with_counted_volume overlay.old overlay.old.prepared)
+        × (reports.new ≡ with_records reports.old (a - 1) records.now)) }
+    ensures err { IfErr result (λ refusal. (refusal ≡ no_memory)
+        × (overlay.new ≡ with_counted_volume overlay.old overlay.old.volume)
+        × (reports.new ≡ reports.old)) }
+{
+    match reports.exchange_each(a as usize - 1, records) {
         Ok(()) => {
             overlay.commit();
             Ok(())

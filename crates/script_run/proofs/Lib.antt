@@ -5,7 +5,6 @@ pub mod NumberLemmas
 pub mod PlaceLemmas
 pub mod ParseLemmas
 pub mod LineLemmas
-pub mod LanguageLemmas
 pub mod TextLemmas
 pub mod OutLemmas
 pub mod ScriptLemmas

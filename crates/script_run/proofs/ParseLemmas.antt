@@ -10,7 +10,7 @@ use Rattle.script_run.specs.declared.command.Command.TheVariants.{Apply, Ask}
 use Rattle.script_run.specs.declared.line_fault.LineFault.{LineFault}
 use Rattle.script_run.specs.declared.line_fault.LineFault.TheVariants.{Number, OutOfMemory}
 use Rattle.script_run.specs.Readers.{field_of}
-use Rattle.script_run.specs.Commands.{read_set, read_get, read_bin, read_getbin, read_text, read_map, read_unmap, IsFieldRead, IsName, HoldsMemory, CommandTakesMemory, IsRead}
+use Rattle.script_run.specs.Commands.{read_set, read_get, read_bin, read_getbin, read_text, read_map, read_unmap, read_renumber, IsFieldRead, IsName, HoldsMemory, CommandTakesMemory, IsRead}
 use Rattle.script_run.specs.Numbers.{position_of, number_of, place_of_word}
 use Rattle.script_run.specs.Words.{text_behind_word}
 
@@ -70,6 +70,17 @@ module _ (ws : List (List ℕ)) (at : List ℕ) (words : ws ≡ at ∷ []) where
 
   pub getbin_err : (fault : LineFault) (r : Read) → IsErrAnd r (λ e. e ≡ fault) → IsFieldRead (field_of at) (Err fault) → IsRead (read_getbin ws) r
   getbin_err fault r is h = rw words (field_err (λ o. ok_or (option_map (λ f. Ask (queries.GetBin f)) o) Number) (λ f. Ask (queries.GetBin f)) refl (λ f. refl) (λ f n. n) (field_of at) fault r is h)
+
+module _ (ws : List (List ℕ)) (s t at v w : List ℕ) (a b : ℕ) (x y : ℤ) (words : ws ≡ s ∷ t ∷ at ∷ v ∷ w ∷ []) (from : position_of s ≡ Some a) (to : position_of t ≡ Some b)
+    (first : number_of v ≡ Some x) (step : number_of w ≡ Some y) where
+  abbrev renumber_expected : Option Field → Read
+  renumber_expected o = ok_or (option_map (λ f. Apply (edits.Renumber a b f x y)) o) Number
+
+  pub renumber_ok : (f : Field) → IsFieldRead (field_of at) (Ok f) → IsRead (read_renumber ws) (Ok (Apply (edits.Renumber a b f x y)))
+  renumber_ok f h = rw (words, from, to, first, step) (field_ok renumber_expected (λ f. Apply (edits.Renumber a b f x y)) refl (λ f. refl) (field_of at) f h)
+
+  pub renumber_err : (fault : LineFault) (r : Read) → IsErrAnd r (λ e. e ≡ fault) → IsFieldRead (field_of at) (Err fault) → IsRead (read_renumber ws) r
+  renumber_err fault r is h = rw (words, from, to, first, step) (field_err renumber_expected (λ f. Apply (edits.Renumber a b f x y)) refl (λ f. refl) (λ f n. n) (field_of at) fault r is h)
 
 -- ---- a text that found no memory
 

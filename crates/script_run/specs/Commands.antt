@@ -14,7 +14,7 @@ use Rattle.script_run.specs.declared.line_fault.LineFault.{LineFault}
 use Rattle.script_run.specs.declared.line_fault.LineFault.TheVariants.{Unknown, Number, NotText, OutOfMemory}
 use Rattle.script_run.specs.Words.{words_of, behind_word, text_behind_word, is_note}
 use Rattle.script_run.specs.Numbers.{number_of, position_of, place_of_word}
-use Rattle.script_run.specs.Readers.{Reader, name_of, field_of, alone, one, two, three, one_and_text, two_and_numbers}
+use Rattle.script_run.specs.Readers.{Reader, name_of, field_of, alone, one, two, three, five, one_and_text, two_and_numbers}
 use Rattle.script_run.specs.ReportCommands.{report_commands}
 
 -- ---- the commands
@@ -95,6 +95,14 @@ read_delete = one position_of (λ p. Apply (edits.Delete p))
 abbrev pub read_move : Reader Command
 read_move = two position_of position_of (λ a b. Apply (edits.Move a b))
 
+-- `resize P NUMBER`
+abbrev pub read_resize : Reader Command
+read_resize = two position_of number_of (λ p count. Apply (edits.Resize p count))
+
+-- `renumber P Q FIELD NUMBER NUMBER`
+abbrev pub read_renumber : Reader Command
+read_renumber = five position_of position_of field_of number_of number_of (λ a b field first step. Apply (edits.Renumber a b field first step))
+
 -- each command's word with what reads the words behind it, which stand in this rest of the line
 abbrev pub commands : List ℕ → List (List ℕ × Reader Command)
 commands rest =
@@ -117,6 +125,8 @@ commands rest =
     ∷ (codes "copy", read_copy)
     ∷ (codes "delete", read_delete)
     ∷ (codes "move", read_move)
+    ∷ (codes "resize", read_resize)
+    ∷ (codes "renumber", read_renumber)
     ∷ report_commands
 
 -- the reader's command, where the word has a reader
@@ -176,6 +186,8 @@ EditHoldsMemory (edits.Blank p) = ⊥
 EditHoldsMemory (edits.Copy q p) = ⊥
 EditHoldsMemory (edits.Delete p) = ⊥
 EditHoldsMemory (edits.Move a b) = ⊥
+EditHoldsMemory (edits.Resize p count) = ⊥
+EditHoldsMemory (edits.Renumber a b field first step) = IsName field
 
 -- a query that holds a text
 abbrev pub QueryHoldsMemory : Query → Type 0

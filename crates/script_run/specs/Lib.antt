@@ -16,6 +16,5 @@ pub mod LineRuns
 pub mod Ends
 pub mod Examples
 pub mod ReportTexts
-pub mod NumberCommands
 pub mod LineExamples
 pub mod ReportExamples

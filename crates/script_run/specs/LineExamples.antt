@@ -1,4 +1,4 @@
--- Worked lines of the reports, and of the edits of many numbers.
+-- Worked lines of the reports, and of the edits of numbers of samples and of many traces.
 use Rattle.std.specs.Prelude.{◌≡◌, pos, negsuc, codes, Some, Ok, Err, refl}
 use Rattle.std.specs.Str.{is_utf8, chars}
 use Rattle.std.specs.Char.{encode_utf8}
@@ -6,11 +6,9 @@ use Rattle.range_stats.specs.declared.quantity.Quantity.TheVariants.{X}
 use Rattle.bench_rules.specs.declared.field.Field.TheVariants as fields
 use Rattle.bench_rules.specs.declared.edit.Edit.TheVariants as edits
 use Rattle.bench_rules.specs.declared.query.Query.TheVariants as queries
-use Rattle.bench_rules.specs.NumberEdits as numbers
 use Rattle.script_run.specs.declared.command.Command.TheVariants.{Apply, Ask}
 use Rattle.script_run.specs.declared.line_fault.LineFault.TheVariants.{Unknown, Words, Number}
 use Rattle.script_run.specs.Commands.{line_result}
-use Rattle.script_run.specs.NumberCommands.{Known, Alter, any_line_result}
 
 -- ---- reports
 
@@ -45,13 +43,22 @@ pub line-unknown : line_result (codes "grids") ≡ Err Unknown
 unfolding is_utf8 chars encode_utf8
 line-unknown = refl
 
--- ---- edits of many numbers
+-- ---- edits of numbers of samples, and of a field of many traces
 
-pub line-renumber : any_line_result (codes "renumber 1 3 crossline 100 -5") ≡ Ok (Some (Alter (numbers.Renumber 1 3 (fields.Name (codes "crossline")) (pos 100) (negsuc 4))))
+pub line-resize : line_result (codes "resize 2 65536") ≡ Ok (Some (Apply (edits.Resize 2 (pos 65536))))
+unfolding is_utf8 chars encode_utf8
+line-resize = refl
+
+pub line-renumber : line_result (codes "renumber 1 3 crossline 100 -5") ≡ Ok (Some (Apply (edits.Renumber 1 3 (fields.Name (codes "crossline")) (pos 100) (negsuc 4))))
 unfolding is_utf8 chars encode_utf8
 line-renumber = refl
 
--- a command of `Command` is one of the whole language
-pub line-known : any_line_result (codes "delete 3") ≡ Ok (Some (Known (Apply (edits.Delete 3))))
+-- the step is missing
+pub line-renumber_few : line_result (codes "renumber 1 3 crossline 100") ≡ Err Words
 unfolding is_utf8 chars encode_utf8
-line-known = refl
+line-renumber_few = refl
+
+-- a step that is no number of 128 bits
+pub line-renumber_step : line_result (codes "renumber 1 3 crossline 1 170141183460469231731687303715884105728") ≡ Err Number
+unfolding is_utf8 chars encode_utf8
+line-renumber_step = refl

@@ -62,6 +62,17 @@ three a b c command (v ∷ w ∷ []) = Err Words
 three a b c command (w ∷ []) = Err Words
 three a b c command [] = Err Words
 
+-- five words; the third, which may want memory, is read last
+abbrev pub five : {A B C D E F : Type 0} → (List ℕ → Option A) → (List ℕ → Option B) → (List ℕ → Option C) → (List ℕ → Option D) → (List ℕ → Option E) → (A → B → C → D → E → F) → Reader F
+five a b c d e command (s ∷ t ∷ u ∷ v ∷ w ∷ []) =
+    ok_or (option_and_then (λ i. option_and_then (λ j. option_and_then (λ l. option_and_then (λ m. option_map (λ k. command i j k l m) (c u)) (e w)) (d v)) (b t)) (a s)) Number
+five a b c d e command (r ∷ s ∷ t ∷ u ∷ v ∷ w ∷ words) = Err Words
+five a b c d e command (t ∷ u ∷ v ∷ w ∷ []) = Err Words
+five a b c d e command (u ∷ v ∷ w ∷ []) = Err Words
+five a b c d e command (v ∷ w ∷ []) = Err Words
+five a b c d e command (w ∷ []) = Err Words
+five a b c d e command [] = Err Words
+
 -- one word, and then a text, whatever words that is
 abbrev pub one_and_text : {A C : Type 0} → (List ℕ → Option A) → (A → C) → Reader C
 one_and_text a command (v ∷ words) = ok_or (option_map command (a v)) Number

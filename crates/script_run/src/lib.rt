@@ -9,13 +9,12 @@
 //! [`parse_line`] reads one line, and takes memory only where its command holds a text or a list.
 //! [`run`] loads a volume, reads a script whole and runs its lines; it takes memory for both, and
 //! tells want of it as L16, P03 or E11. To print a reply takes none. `run` answers by [`RunEnd`],
-//! which is the whole report of a run. [`commands_stay`] does nothing: its contract is a law.
+//! which is the whole report of a run.
 #![tactic(auto)]
 
 mod answer_texts;
 mod command;
 mod fields;
-mod laws;
 mod line_fault;
 mod lines;
 mod lines_end;
@@ -41,7 +40,6 @@ mod words;
 mod write_text;
 
 pub use crate::command::Command;
-pub use crate::laws::commands_stay;
 pub use crate::line_fault::LineFault;
 pub use crate::options::Options;
 pub use crate::parse::parse_line;

@@ -10,7 +10,7 @@ use crate::fields::{field, place, text_of};
 use crate::line_fault::LineFault;
 use crate::numbers::{number, position};
 use crate::report_commands::report;
-use crate::trace_commands::{blank, copy, delete, move_trace, patch};
+use crate::trace_commands::{blank, copy, delete, move_trace, patch, renumber, resize};
 use crate::words::Words;
 use bench_core::{Edit, Query};
 use std::alloc::Global;
@@ -61,6 +61,8 @@ fn command(alloc: Global, word: &str, words: Words) -> Result<Command, LineFault
         "copy" => copy(words),
         "delete" => delete(words),
         "move" => move_trace(words),
+        "resize" => resize(words),
+        "renumber" => renumber(alloc, words),
         _ => report(word, words),
     }
 }
@@ -196,5 +198,24 @@ fn three(mut words: Words) -> Option<(&str, &str, &str)>
     match words.next() {
         Some(_) => None,
         None => Some(three),
+    }
+}
+
+// The five words, where they are five.
+pub(crate) fn five(mut words: Words) -> Option<(&str, &str, &str, &str, &str)>
+    ensures none { IfNone result (length (words_of words.entry) ≢ 5) }
+    ensures some { IfSome result (λ t. words_of words.entry
+        ≡ t.0.now ∷ t.1.now ∷ t.2.now ∷ t.3.now ∷ t.4.now ∷ []) }
+{
+    let five = (
+        words.next()?,
+        words.next()?,
+        words.next()?,
+        words.next()?,
+        words.next()?,
+    );
+    match words.next() {
+        Some(_) => None,
+        None => Some(five),
     }
 }

@@ -1,14 +1,15 @@
-// The commands on samples and whole traces.
+// The commands on samples, on whole traces and on many traces.
 ghost use Rattle.std.specs.Prelude.{◌≡◌, is_some, if◌then◌else◌};
 ghost use Rattle.script_run.specs.declared.line_fault.LineFault.TheVariants.{OutOfMemory as no_memory, Number as no_number};
 ghost use Rattle.script_run.specs.Words.{words_of};
 ghost use Rattle.script_run.specs.Readers.{numbers_of};
-ghost use Rattle.script_run.specs.Commands.{read_patch, read_blank, read_copy, read_delete, read_move, AreNumbersRead, IsRead};
+ghost use Rattle.script_run.specs.Commands.{read_patch, read_blank, read_copy, read_delete, read_move, read_resize, read_renumber, AreNumbersRead, IsRead};
 
 use crate::command::Command;
+use crate::fields::field;
 use crate::line_fault::LineFault;
 use crate::numbers::{number, position};
-use crate::parse::{one, two};
+use crate::parse::{five, one, two};
 use crate::words::Words;
 use bench_core::{Edit, Items};
 use std::alloc::Global;
@@ -60,6 +61,27 @@ pub(crate) fn move_trace(words: Words) -> Result<Command, LineFault>
     let a = position(a).ok_or(LineFault::Number)?;
     let b = position(b).ok_or(LineFault::Number)?;
     Ok(Command::Apply(Edit::Move(a, b)))
+}
+
+pub(crate) fn resize(words: Words) -> Result<Command, LineFault>
+    ensures { result ≡ read_resize (words_of words.entry) }
+{
+    let (p, count) = two(words).ok_or(LineFault::Words)?;
+    let p = position(p).ok_or(LineFault::Number)?;
+    let count = number(count).ok_or(LineFault::Number)?;
+    Ok(Command::Apply(Edit::Resize(p, count)))
+}
+
+pub(crate) fn renumber(alloc: Global, words: Words) -> Result<Command, LineFault>
+    ensures { IsRead (read_renumber (words_of words.entry)) result }
+{
+    let (a, b, at, first, step) = five(words).ok_or(LineFault::Words)?;
+    let a = position(a).ok_or(LineFault::Number)?;
+    let b = position(b).ok_or(LineFault::Number)?;
+    let first = number(first).ok_or(LineFault::Number)?;
+    let step = number(step).ok_or(LineFault::Number)?;
+    let at = field(alloc, at)?;
+    Ok(Command::Apply(Edit::Renumber(a, b, at, first, step)))
 }
 
 // Whether each word of the text is a number.

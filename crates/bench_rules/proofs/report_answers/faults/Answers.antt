@@ -1,5 +1,5 @@
-use Rattle.std.proofs.Common.{List, ap, ◌∙◌, ◌≡◌, inl, inr, refl, sym, subst, map}
-use Rattle.std.specs.Prelude.{Result, Ok, Err}
+use Rattle.std.proofs.Common.{List, ap, ◌∙◌, inl, sym, subst, map}
+use Rattle.std.specs.Prelude.{Ok}
 use Rattle.trace_record.specs.Facts.{Facts, facts_of}
 use Rattle.trace_record.specs.Tally.{Same, tally_of}
 use Rattle.fault_live.specs.FaultKeys.{keys_of_faults}
@@ -9,7 +9,7 @@ use Rattle.fault_live.specs.declared.head_facts.HeadFacts.{HeadFacts}
 use Rattle.fault_live.specs.Faults.{faults_of}
 use Rattle.bench_rules.specs.declared.answer.Answer.TheVariants as answers
 use Rattle.bench_rules.specs.Answer.{Reply}
-use Rattle.bench_rules.specs.Reports.{records, head_facts}
+use Rattle.bench_rules.specs.Reports.{head_facts}
 use Rattle.bench_rules.proofs.LiveLemmas.{wants_memory}
 use Rattle.bench_rules.proofs.report_answers.faults.Goals as goal
 

@@ -1,0 +1,84 @@
+// Another number of samples of a trace, and a field of many traces counted up, over small files
+// that are made by hand.
+use crate::report_tests::on_survey;
+use crate::tests::{meets, on_file, put_bytes, sample_file, shows, signed, value};
+use bench_core::{Bench, Edit, Query, Refusal};
+use frame_cut::Reading;
+use std::alloc::Global;
+use std::process::Abort;
+use std::test::Fail;
+
+fn count_up(rt: &impl Abort, alloc: Global, bench: &mut Bench) -> Result<(), Fail> {
+    bench.ask(alloc, &Query::Slice(0))?;
+    let before = bench.looks();
+    let sequence = Edit::Renumber(1, 3, signed(0, 1, 4), 7, -2);
+    assert!(rt; meets(bench, alloc, sequence, None));
+    assert!(rt; bench.looks().checked_sub(before) <= Some(6));
+    assert!(rt; bench.cached(0));
+    assert_eq!(rt; value(bench, alloc, 3, signed(0, 1, 4))?, 3);
+    let inlines = Edit::Renumber(1, 3, signed(0, 189, 4), 10, 1);
+    assert!(rt; meets(bench, alloc, inlines, None));
+    assert!(rt; !bench.cached(0));
+    assert_eq!(rt; value(bench, alloc, 3, signed(0, 189, 4))?, 12);
+    Ok(())
+}
+
+// A field counted up forgets the slices where a trace has another inline or crossline, and only
+// there.
+#[test]
+fn a_field_is_counted_up(rt: HostRuntime) -> Result<(), Fail> {
+    let alloc = rt.alloc();
+    on_survey(alloc, |bench| count_up(&rt, alloc, bench))
+}
+
+fn refuse_whole(rt: &impl Abort, alloc: Global, bench: &mut Bench) -> Result<(), Fail> {
+    let wide = Edit::Renumber(1, 3, signed(0, 189, 4), 2147483646, 1);
+    assert!(rt; meets(bench, alloc, wide, Some(Refusal::DoesNotFit)));
+    assert_eq!(rt; value(bench, alloc, 1, signed(0, 189, 4))?, 10);
+    let before = bench.looks();
+    let past = Edit::Renumber(2, 4, signed(0, 189, 4), 1, 1);
+    assert!(rt; meets(bench, alloc, past, Some(Refusal::NoTrace(4, 3))));
+    let turned = Edit::Renumber(2, 1, signed(0, 189, 4), 1, 1);
+    assert!(rt; meets(bench, alloc, turned, Some(Refusal::NoTrace(1, 3))));
+    assert_eq!(rt; bench.looks(), before);
+    Ok(())
+}
+
+// Where the last value alone does not fit nothing is changed; a range that is none costs no look.
+#[test]
+fn a_refused_count_changes_nothing(rt: HostRuntime) -> Result<(), Fail> {
+    let alloc = rt.alloc();
+    on_survey(alloc, |bench| refuse_whole(&rt, alloc, bench))
+}
+
+fn resize_one(rt: &impl Abort, alloc: Global, bench: &mut Bench) -> Result<(), Fail> {
+    bench.ask(alloc, &Query::Slice(0))?;
+    let before = bench.looks();
+    assert!(rt; meets(bench, alloc, Edit::Resize(2, 3), None));
+    assert!(rt; bench.looks().checked_sub(before) <= Some(2));
+    assert!(rt; !bench.cached(0));
+    for (k, expected) in &[(0, 0), (1, 9), (2, 0)] {
+        assert!(rt; shows(bench, alloc, 2, *k, *expected));
+    }
+    assert_eq!(rt; value(bench, alloc, 2, signed(0, 115, 2))?, 3);
+    assert_eq!(rt; bench.length(), 4334);
+    let empty = Some(Refusal::DoesNotFit);
+    assert!(rt; meets(bench, alloc, Edit::Resize(2, 0), empty));
+    assert!(rt; meets(bench, alloc, Edit::Resize(2, 4), Some(Refusal::TooLarge)));
+    Ok(())
+}
+
+// A trace of a file whose traces have their own lengths, under a limit of 4334 bytes.
+#[test]
+fn a_trace_has_another_number_of_samples(rt: HostRuntime) -> Result<(), Fail> {
+    let alloc = rt.alloc();
+    let mut file = sample_file(alloc)?;
+    put_bytes(file.as_mut_slice(), &[(3503, 0), (4087, 9)]);
+    on_file(
+        alloc,
+        file.as_slice(),
+        Reading::AsWritten,
+        (4334, 3),
+        |bench| resize_one(&rt, alloc, bench),
+    )
+}

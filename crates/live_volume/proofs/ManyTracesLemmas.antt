@@ -1,0 +1,152 @@
+-- A field of many traces counted up: what is known after the first values, and whether a trace has another inline or crossline then.
+use Rattle.std.proofs.Common.{◌≡◌, ℕ, ℤ, zero, suc, ◌+◌, ◌-◌, ◌<◌, ◌≤◌, Bool, true, false, ◌&&◌, ◌||◌, leb, ltb, List, [], ◌∷◌, length, take, drop, map, get_or, Option, Some, None, refl, sym, ap, ap₂, ◌∙◌, arith}
+use Rattle.std.specs.Prelude.{is_some, not}
+use Rattle.std.specs.List.{list_any, range_with_len}
+use Rattle.std.specs.Ordering.{int_eq}
+use Rattle.std.proofs.lemmas.Bool.{le-leb, ltb-true, ltb-false}
+use Rattle.std.proofs.lemmas.List.{drop_more}
+use Rattle.field_map.specs.declared.place.Place.{Place}
+use Rattle.frame_cut.specs.Traces.{count_of, is_trace, trace_at}
+use Rattle.frame_cut.specs.Volume.{Volume}
+use Rattle.trace_record.specs.Facts.{Facts, facts_of}
+use Rattle.trace_record.specs.OfTrace.{record_of}
+use Rattle.trace_record.specs.declared.record.Record.{Record}
+use Rattle.edit_overlay.specs.CountedVolume.{RisesAtMost}
+use Rattle.live_reports.specs.Alike.{same_cell}
+use Rattle.live_reports.specs.Exchanged.{same_cells}
+use Rattle.bench_rules.specs.declared.edit.Edit.TheVariants.{Renumber}
+use Rattle.bench_rules.specs.declared.field.Field.TheVariants as field
+use Rattle.bench_rules.specs.declared.refusal.Refusal.{Refusal}
+use Rattle.bench_rules.specs.Kept.{same_cell as cell}
+use Rattle.bench_rules.specs.Refused.{first_refusal, first_refusal_among, set_refusal}
+use Rattle.bench_rules.specs.State.{State, Session}
+use Rattle.bench_rules.specs.TraceEdits.{counted, numbers}
+use Rattle.bench_rules.proofs.RenumberLemmas.{NoneRefused, renumber_refused, renumber_not_refused}
+use Rattle.live_volume.specs.Held.{moves, any_moves, with_volume}
+
+-- ---- the first refusal
+
+-- the first k values are not refused, at a look each
+pub record IsSoFar (old mid : Session) (place : Place) (a : ℕ) (first step : ℤ) (k : ℕ) : Type 0 where
+  pub state : mid.state ≡ old.state
+  pub looks : RisesAtMost old.looks mid.looks k
+  pub none : NoneRefused old.state.volume place a first step k
+
+pub none_yet : (s : Session) (place : Place) (a : ℕ) (first step : ℤ) → IsSoFar s s place a first step 0
+none_yet s place a first step = record { state = refl; looks = (omega arith, omega arith); none = λ j less. absurd (omega (arith, less)) }
+
+nothing_told : (r : Option Refusal) → is_some r ≡ false → r ≡ None
+nothing_told None e = refl
+nothing_told (Some x) e = absurd cc
+
+pub none_again : (old mid new : Session) (place : Place) (a : ℕ) (first step : ℤ) (k : ℕ) (r : Option Refusal) → IsSoFar old mid place a first step k
+    → is_some r ≡ false → r ≡ set_refusal mid.state.volume.head (trace_at mid.state.volume (a + k)) (Some place) (counted first step k)
+    → new.state ≡ mid.state → RisesAtMost mid.looks new.looks 1 → IsSoFar old new place a first step (k + 1)
+none_again old mid new place a first step k r far nothing is same rises = record {
+  state = same ∙ far.state;
+  looks = (omega (arith, far.looks.0, rises.0), omega (arith, far.looks.1, rises.1));
+  none = λ j less. by j (ltb j k) refl less;
+}
+  where
+    here : set_refusal old.state.volume.head (trace_at old.state.volume (a + k)) (Some place) (counted first step k) ≡ None
+    here = ap (λ (s : State). set_refusal s.volume.head (trace_at s.volume (a + k)) (Some place) (counted first step k)) (sym far.state) ∙ sym is ∙ nothing_told r nothing
+
+    by : (j : ℕ) (b : Bool) → ltb j k ≡ b → j < k + 1 → set_refusal old.state.volume.head (trace_at old.state.volume (a + j)) (Some place) (counted first step j) ≡ None
+    by j true e less = far.none j (ltb-true j k e)
+    by j false e less =
+        let same : k ≡ j = omega (arith, less, ltb-false j k e) in
+        rw same at here
+
+-- traces a to b are there, so the values decide
+among_values : (s : State) (a b : ℕ) (place : Place) (first step : ℤ) → 1 ≤ a → a ≤ b → b ≤ count_of s.volume
+    → first_refusal s (Renumber a b (field.Place place) first step) ≡ first_refusal_among s.volume (Some place) (numbers a b first step)
+among_values s a b place first step low high last =
+    let here : is_trace s.volume a ≡ true = rw (le-leb 1 a low, le-leb a (count_of s.volume) (omega (arith, high, last))) refl in
+    let range : (leb a b && leb b (count_of s.volume)) ≡ true = rw (le-leb a b high, le-leb b (count_of s.volume) last) refl in
+    rw (here, range) refl
+
+-- the value that is refused behind those that are not is the answer
+pub told_at : (old mid : Session) (place : Place) (a b : ℕ) (first step : ℤ) (k : ℕ) (r : Option Refusal) → 1 ≤ a → b ≤ count_of old.state.volume → IsSoFar old mid place a first step k → a + k ≤ b
+    → is_some r ≡ true → r ≡ set_refusal mid.state.volume.head (trace_at mid.state.volume (a + k)) (Some place) (counted first step k)
+    → r ≡ first_refusal_among old.state.volume (Some place) (numbers a b first step)
+told_at old mid place a b first step k None low last far there some is = absurd cc
+told_at old mid place a b first step k (Some r) low last far there some is =
+    let s : State = old.state in
+    let here : set_refusal s.volume.head (trace_at s.volume (a + k)) (Some place) (counted first step k) ≡ Some r =
+    ap (λ (u : State). set_refusal u.volume.head (trace_at u.volume (a + k)) (Some place) (counted first step k)) (sym far.state) ∙ sym is in
+    sym (renumber_refused s a b (field.Place place) first step place k r low last refl far.none there here) ∙ among_values s a b place first step low (omega (arith, there)) last
+
+-- none is refused
+pub told_none : (old mid : Session) (place : Place) (a b : ℕ) (first step : ℤ) (k : ℕ) → 1 ≤ a → a ≤ b → b ≤ count_of old.state.volume → IsSoFar old mid place a first step k → k ≡ b + 1 - a
+    → (let none : Option Refusal = None in none) ≡ first_refusal_among old.state.volume (Some place) (numbers a b first step)
+told_none old mid place a b first step k low high last far all =
+    let s : State = old.state in
+    sym (renumber_not_refused s a b (field.Place place) first step place low high last refl (λ j less. far.none j (omega (arith, less, all)))) ∙ among_values s a b place first step low high last
+
+-- ---- the cells
+
+cons-head : {X : Type 0} (x y : X) (xs ys : List X) → x ∷ xs ≡ y ∷ ys → x ≡ y
+cons-head {X = X} x y xs ys e = ap (λ (zs : List X). get_or zs 0 x) e
+
+cons-tail : {X : Type 0} (x y : X) (xs ys : List X) → x ∷ xs ≡ y ∷ ys → xs ≡ ys
+cons-tail {X = X} x y xs ys e = ap (λ (zs : List X). drop 1 zs) e
+
+not_not : (b : Bool) → not (not b) ≡ b
+not_not true = refl
+not_not false = refl
+
+not_either : (a b : Bool) → not (a || b) ≡ (not a && not b)
+not_either true b = refl
+not_either false b = refl
+
+-- records are alike where their traces' cells are
+cells_of : (s : State) (w : Volume) (n i : ℕ) (os new : List Record) → i + n ≤ length s.volume.traces → i + n ≤ length w.traces
+    → map facts_of os ≡ map (record_of s.volume.head s.fields) (drop i s.volume.traces) → map facts_of new ≡ map (record_of s.volume.head s.fields) (take n (drop i w.traces))
+    → same_cells os new ≡ not (list_any (moves s (with_volume s w)) (range_with_len (suc i) n))
+cells_of s w zero i [] [] inside within e g = refl
+cells_of s w zero i (o ∷ os) [] inside within e g = refl
+cells_of s w zero i os (x ∷ xs) inside within e g = absurd cc
+cells_of s w (suc n) i os new inside within e g =
+    by (λ os new e g. cells_of s w n (i + 1) os new (omega (arith, inside)) (omega (arith, within)) e g) os new
+    (e ∙ ap (λ ts. map f ts) (drop_more s.volume.traces i [] (omega (arith, inside))))
+    (g ∙ ap (λ ts. map f (take (suc n) ts)) (drop_more w.traces i [] (omega (arith, within))))
+  where
+    f : List ℕ → Facts
+    f = record_of s.volume.head s.fields
+
+    t : List ℕ
+    t = get_or s.volume.traces i []
+
+    u : List ℕ
+    u = get_or w.traces i []
+
+    test : ℕ → Bool
+    test = moves s (with_volume s w)
+
+    -- what holds of the rest
+    Again : Type 0
+    Again = (os new : List Record) → map facts_of os ≡ map f (drop (i + 1) s.volume.traces) → map facts_of new ≡ map f (take n (drop (i + 1) w.traces))
+        → same_cells os new ≡ not (list_any test (range_with_len (suc (i + 1)) n))
+
+    by : Again → (os new : List Record) → map facts_of os ≡ f t ∷ map f (drop (i + 1) s.volume.traces) → map facts_of new ≡ f u ∷ map f (take n (drop (i + 1) w.traces))
+        → same_cells os new ≡ not (list_any test (range_with_len (suc i) (suc n)))
+    by again [] new e g = absurd cc
+    by again (o ∷ os) [] e g = absurd cc
+    by again (o ∷ os) (x ∷ xs) e g =
+        let next : suc (i + 1) ≡ suc i + 1 = omega arith in
+        let rest = again os xs (cons-tail _ _ _ _ e) (cons-tail _ _ _ _ g) ∙ ap (λ (k : ℕ). not (list_any test (range_with_len k n))) next in
+        let here : suc i - 1 ≡ i = omega arith in
+        let own : same_cell o x ≡ not (test (suc i)) =
+        rw here (ap₂ (λ (a b : Facts). int_eq a.inline b.inline && int_eq a.crossline b.crossline) (cons-head _ _ _ _ e) (cons-head _ _ _ _ g) ∙ sym (not_not (cell s.volume.head s.fields t u))) in
+        ap₂ (λ (a b : Bool). a && b) own rest ∙ sym (not_either (test (suc i)) (list_any test (range_with_len (suc i + 1) n)))
+
+-- whether the new records of traces from trace a on have the cells of the old ones
+pub cells_stay : (s : State) (w : Volume) (a n : ℕ) (rs new : List Record) → 1 ≤ a → a - 1 + n ≤ length s.volume.traces → a - 1 + n ≤ length w.traces
+    → map facts_of (drop (a - 1) rs) ≡ map (record_of s.volume.head s.fields) (drop (a - 1) s.volume.traces) → map facts_of new ≡ map (record_of s.volume.head s.fields) (take n (drop (a - 1) w.traces))
+    → not (same_cells (drop (a - 1) rs) new) ≡ any_moves s (with_volume s w) a (a - 1 + n)
+cells_stay s w a n rs new low inside within e g =
+    let from : suc (a - 1) ≡ a = omega (arith, low) in
+    let count : a - 1 + n + 1 - a ≡ n = omega (arith, low) in
+    ap not (cells_of s w n (a - 1) (drop (a - 1) rs) new inside within e g)
+    ∙ not_not (list_any (moves s (with_volume s w)) (range_with_len (suc (a - 1)) n))
+    ∙ ap₂ (λ (k m : ℕ). list_any (moves s (with_volume s w)) (range_with_len k m)) from (sym count)

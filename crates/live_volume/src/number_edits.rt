@@ -1,0 +1,207 @@
+// Another number of samples of a trace, and a field of many traces counted up.
+ghost use Rattle.std.specs.Prelude.{◌≡◌, ◌+◌, ◌-◌, ◌≤◌, None, Some, IsTrue, IfOk, IfErr, OnOk};
+ghost use Rattle.std.specs.Option.{option_or};
+ghost use Rattle.frame_cut.specs.Traces.{count_of, is_trace, trace_at};
+ghost use Rattle.edit_overlay.specs.CountedVolume.{RisesAtMost};
+ghost use Rattle.bench_rules.specs.declared.edit.Edit.TheVariants as edits;
+ghost use Rattle.bench_rules.specs.declared.field.Field.TheVariants as fields;
+ghost use Rattle.bench_rules.specs.declared.refusal.Refusal.TheVariants.{OutOfMemory as no_memory};
+ghost use Rattle.bench_rules.specs.Looks.{edit_looks};
+ghost use Rattle.bench_rules.specs.Refused.{first_refusal, first_refusal_among, no_trace, no_trace_from, set_refusal};
+ghost use Rattle.bench_rules.specs.Steps.{IsAfter, Step};
+ghost use Rattle.bench_rules.specs.TraceEdits.{counted, numbers, resized as bytes_resized};
+ghost use Rattle.live_volume.specs.Held.{any_moves};
+
+use crate::live_volume::LiveVolume;
+use bench_rules::{Field, Refusal, count_refusal, renumber_refusal, resized, values_bytes};
+use field_map::Place;
+use std::alloc::Global;
+use volume_records::record_of_bytes;
+
+impl LiveVolume {
+    // The first refusal of so many samples for trace p: E01, E04, E06, E09.
+    fn resize_refusal(&mut self, p: u32, count: i128) -> Option<Refusal>
+        ensures refusal { result ≡ first_refusal self.old.state (edits.Resize p count) }
+        ensures state { self.new.state ≡ self.old.state }
+        ensures looks { RisesAtMost self.old.looks self.new.looks 1 }
+    {
+        let length = self.overlay.length();
+        let most = self.limits.bytes();
+        let Some(trace) = self.overlay.look(p) else {
+            return Some(Refusal::NoTrace(p, self.count()));
+        };
+        count_refusal(&trace, length, most, count)
+    }
+
+    // Trace p with so many samples, or the first refusal: E01, E04, E06, E09.
+    pub(crate) fn resize(&mut self, alloc: Global, p: u32, count: i128) -> Result<(), Refusal>
+        ensures step { Step self.old.state (edits.Resize p count) result self.new.state }
+        ensures looks { RisesAtMost self.old.looks self.new.looks 2 }
+    {
+        match self.resize_refusal(p, count) {
+            Some(refusal) => Err(refusal),
+            None => self.put_resized(alloc, p, count),
+        }
+    }
+
+    // Trace p with so many samples, where nothing but memory refuses it.
+    fn put_resized(&mut self, alloc: Global, p: u32, count: i128) -> Result<(), Refusal>
+        requires { first_refusal self.old.state (edits.Resize p count) ≡ None }
+        ensures ok { OnOk result (IsAfter self.old.state (edits.Resize p count)
+            self.new.state) }
+        ensures err { IfErr result (λ refusal. (refusal ≡ no_memory) ×
+            (self.new.state ≡ self.old.state)) }
+        ensures looks { RisesAtMost self.old.looks self.new.looks 1 }
+    {
+        let head = self.overlay.head();
+        let bytes = self.resized_bytes(alloc, p, count as u32)?;
+        let trace = record_of_bytes(&head, bytes.as_slice(), &self.fields);
+        self.replace(alloc, p, bytes, &trace)
+    }
+
+    // The bytes of trace p with so many samples.
+    fn resized_bytes(&mut self, alloc: Global, p: u32, count: u32) -> Result<Vec<u8>, Refusal>
+        requires { IsTrue (is_trace self.old.state.volume p) }
+        ensures ok { IfOk result (λ bytes. bytes.items ≡ bytes_resized self.old.state.volume.head
+            (trace_at self.old.state.volume p) count) }
+        ensures err { IfErr result (λ refusal. refusal ≡ no_memory) }
+        ensures state { self.new.state ≡ self.old.state }
+        ensures looks { RisesAtMost self.old.looks self.new.looks 1 }
+    {
+        let Some(trace) = self.overlay.look(p) else {
+            unreachable!()
+        };
+        resized(alloc, &trace, count)
+    }
+
+    /// The field of traces a to b counted up from a first value by a step: done whole, and then
+    /// whether a trace has another inline or crossline than before; or refused, and all is as it
+    /// was. Looks twice at each of the traces at most, and at none where a or b is refused. Takes
+    /// memory in step with their number. Refused, in this order: E01 for a, E01 for b, then the
+    /// first refusal of the lowest trace whose value is refused, E02, E03, E04 or E06; else E11
+    /// alone.
+    pub fn renumber(
+        &mut self,
+        alloc: Global,
+        a: u32,
+        b: u32,
+        field: &Field,
+        first: i128,
+        step: i128,
+    ) -> Result<bool, Refusal>
+        ensures step { Step self.old.state (edits.Renumber a b field.now first step) result
+            self.new.state }
+        ensures looks { RisesAtMost self.old.looks self.new.looks
+            (edit_looks self.old.state.volume (edits.Renumber a b field.now first step)) }
+        ensures moved { IfOk result (λ moved. moved
+            ≡ any_moves self.old.state self.new.state a b) }
+    {
+        if let Some(refusal) = self.range_refusal(a, b) {
+            return Err(refusal);
+        }
+        let Some(place) = self.place_in_trace(field) else {
+            return Err(Refusal::NoField);
+        };
+        if let Some(refusal) = self.values_refusal(a, b, place, first, step) {
+            return Err(refusal);
+        }
+        self.count_up(alloc, a, b, place, first, step)
+    }
+
+    // The first refusal of a range of traces: E01.
+    fn range_refusal(&self, a: u32, b: u32) -> Option<Refusal>
+        ensures { result ≡ option_or (no_trace self.now.state.volume a)
+            (no_trace_from self.now.state.volume a b) }
+    {
+        match self.no_trace(a) {
+            Some(refusal) => Some(refusal),
+            None if b < a || b > self.count() => Some(Refusal::NoTrace(b, self.count())),
+            None => None,
+        }
+    }
+
+    // The first refusal of the values counted up over the place of traces a to b, each in the file
+    // as it is: E03, E04, E06 of the lowest trace that has one.
+    fn values_refusal(
+        &mut self,
+        a: u32,
+        b: u32,
+        place: Place,
+        first: i128,
+        step: i128,
+    ) -> Option<Refusal>
+        requires first { 1 ≤ a }
+        requires range { a ≤ b }
+        requires last { b ≤ count_of self.old.state.volume }
+        ensures refusal { result ≡ first_refusal_among self.old.state.volume (Some place)
+            (numbers a b first step) }
+        ensures state { self.new.state ≡ self.old.state }
+        ensures looks { RisesAtMost self.old.looks self.new.looks (b + 1 - a) }
+    {
+        for k in 0..b - a + 1 {
+            let refusal = self.value_refusal(a + k, place, first, step, k);
+            if refusal.is_some() {
+                return refusal;
+            }
+        }
+        None
+    }
+
+    // The refusal at the place of trace p of the value that stands k steps behind the first: E03,
+    // E04, E06.
+    fn value_refusal(
+        &mut self,
+        p: u32,
+        place: Place,
+        first: i128,
+        step: i128,
+        k: u32,
+    ) -> Option<Refusal>
+        requires { IsTrue (is_trace self.old.state.volume p) }
+        ensures refusal { result ≡ set_refusal self.old.state.volume.head
+            (trace_at self.old.state.volume p) (Some place) (counted first step k) }
+        ensures state { self.new.state ≡ self.old.state }
+        ensures looks { RisesAtMost self.old.looks self.new.looks 1 }
+    {
+        let order = self.overlay.head().order;
+        let Some(trace) = self.overlay.look(p) else {
+            unreachable!()
+        };
+        renumber_refusal(order, &trace, place, first, step, k)
+    }
+
+    // The values counted up over the place of traces a to b, where nothing but memory refuses them;
+    // whether a trace has another inline or crossline then.
+    fn count_up(
+        &mut self,
+        alloc: Global,
+        a: u32,
+        b: u32,
+        place: Place,
+        first: i128,
+        step: i128,
+    ) -> Result<bool, Refusal>
+        requires { first_refusal self.old.state
+            (edits.Renumber a b (fields.Place place) first step) ≡ None }
+        ensures ok { OnOk result (IsAfter self.old.state
+            (edits.Renumber a b (fields.Place place) first step) self.new.state) }
+        ensures err { IfErr result (λ refusal. (refusal ≡ no_memory) ×
+            (self.new.state ≡ self.old.state)) }
+        ensures looks { RisesAtMost self.old.looks self.new.looks (b + 1 - a) }
+        ensures moved { IfOk result (λ moved. moved
+            ≡ any_moves self.old.state self.new.state a b) }
+    {
+        let count = b - a + 1;
+        let order = self.overlay.head().order;
+        let bytes = values_bytes(alloc, order, place.kind, first, step, count)?;
+        let at = u64::from(place.offset());
+        self.put_each(
+            alloc,
+            a,
+            count,
+            at,
+            u32::from(place.kind.size),
+            bytes.as_slice(),
+        )
+    }
+}

@@ -1,85 +1,170 @@
+#!/usr/bin/env bash
 # Each growth of memory is refused in turn: the program runs under a preloaded library that refuses the nth, for n = 1, 2, ..
-# until a run meets none. Each run ends as the definitions allow: a file refused with L16, a script refused with P03, a line
-# answered E11 that changes nothing (every other line then answers as if that line were not there), or a command line that is
-# not accepted for want of memory. Sourced by run.sh.
+# until a run meets none. Each run ends as the definitions allow: a file refused with L16, a script refused with P03, one line
+# answered E11 that changes nothing (every other line then answers, and the file is saved, as if that line were not there), a
+# command line that is not accepted for want of memory, or as with ample memory where the program can do without that growth.
+# usage: tests/growth.sh [PROGRAM]
+. "$(dirname "$0")/sweeps.sh"
+. "$here/framed.sh"
+compiled refuse_growth -shared -fPIC
+library=LD_PRELOAD=./refuse_growth.so
+printf 'load refused L16 out of memory\n' > l16.txt
+printf 'script refused P03 out of memory\n' > p03.txt
+early=(may words 2 - '=segywb: cannot read the command line' - may words 2 - '=error: out of memory' -
+    may room 4 - '=segywb: out of memory' - may L16 3 l16.txt - - may P03 4 p03.txt - -)
+# how often each command was answered E11, and how often the last line of a script
+declare -A refused=()
+last=0
 
-cc=${CC:-}
-for name in cc gcc clang; do [ -n "$cc" ] || { command -v $name > /dev/null && cc=$name; }; done
-if [ -z "$cc" ]; then
-    kit=$(dirname "$(rt doc 2> /dev/null)")
-    cc=$(ls "$kit"/toolchain/bin/clang "$kit"/toolchain/*/bin/clang 2> /dev/null | head -n 1)
-fi
-"$cc" -shared -fPIC -O1 -o "$work/refuse_growth.so" "$here/refuse_growth.c" -ldl || tell 'build of refuse_growth.so' 'failed'
-
-# meets NUMBER: runs the program with that growth refused; the growths that were asked for are in the file `asked`
-meets() {
-    rm -f asked o.sgy
-    REFUSE=$1 REFUSE_COUNT=$work/asked LD_PRELOAD=$work/refuse_growth.so "$program" s.sgy --script script --out o.sgy > answers 2> errors
-    got=$?
+# may_want LINE: whether this line may be answered E11: its command takes memory, or to be read it does (names, texts, numbers)
+may_want() {
+    case $1 in
+        count | info | totals | sample* | geometry* | stat\ * | fold* | range* | code* | delete*) return 1 ;;
+        get*@* | bin*@*) return 1 ;;
+    esac
 }
 
-# each_growth JUDGE WHERE: refuses each growth of the script's run in turn; JUDGE sets `outcome` to ok where the run ended as it
-# may. Leaves the number of runs that met a refusal in `refusals`, and the status of the last, which met none, in `got`.
-each_growth() {
-    refusals=0
-    for number in $(seq 1 400); do
-        meets "$number"
-        asked=$(cat asked 2> /dev/null || echo 0)
-        [ "$number" -gt "$asked" ] && break
-        refusals=$((refusals + 1))
-        outcome="status $got with growth $number of $asked refused: $(head -c 100 answers) $(head -c 100 errors)"
-        "$1"
-        tell "growth $number refused$2" "$outcome"
+# ways FILE LINE..: how a run of these lines may end, in the array `ways`
+ways() {
+    local file=$1 at=0 k status
+    shift
+    printf '%s\n' "$@" > script
+    "$program" "$file" --script script --out whole.sgy > whole.txt
+    status=$?
+    ways=("${early[@]}" may whole $status whole.txt - whole.sgy)
+    # behind each line stands one that no line of the script is: so the answers to each line are known
+    printf '%s\n=\n' "$@" > marked
+    "$program" "$file" --script marked > marked.txt
+    mapfile -t marked < marked.txt
+    for ((k = 1; k <= $#; k++)); do
+        if may_want "${!k}"; then
+            : > fewer
+            [ $# = 1 ] || printf '%s\n' "${@:1:k-1}" "${@:k+1}" > fewer
+            "$program" "$file" --script fewer --out "fewer.$k.sgy" > fewer.txt
+            mapfile -t told < fewer.txt
+            printf '%s\n' "${told[@]:0:at}" 'refused E11 out of memory' "${told[@]:at}" > "fewer.$k.txt"
+            ways+=(may "$k" 1 "fewer.$k.txt" - "fewer.$k.sgy")
+        fi
+        while [ "${marked[0]}" != 'refused S01 unknown word' ]; do marked=("${marked[@]:1}"); at=$((at + 1)); done
+        marked=("${marked[@]:1}")
     done
 }
 
-judge_set() {
-    case $got in
-        0) # met a growth that the program can do without
-            printf 'ok\nvalue 7\n' | cmp -s - answers && cmp -s o.sgy whole.sgy && [ ! -s errors ] && outcome=ok ;;
-        1) # the edit was refused, and changed nothing
-            printf 'refused E11 out of memory\nvalue 10\n' | cmp -s - answers && cmp -s o.sgy s.sgy && [ ! -s errors ] && outcome=ok ;;
-        2) # the command line was not read
-            [ ! -s answers ] && [ ! -e o.sgy ] && outcome=ok ;;
-        3) # the file could not be opened, or was refused
-            if [ -s errors ]; then printf 'segywb: cannot open s.sgy\n' | cmp -s - errors && [ ! -s answers ] && [ ! -e o.sgy ] && outcome=ok
-            else printf 'load refused L16 out of memory\n' | cmp -s - answers && [ ! -e o.sgy ] && outcome=ok; fi ;;
-        4) # the script, the answers or the save failed
-            if grep -qs 'segywb: save failed after 0 bytes' errors; then { [ ! -s answers ] || printf 'ok\nvalue 7\n' | cmp -s - answers; } && [ ! -e o.sgy ] && outcome=ok
-            elif [ -s errors ]; then printf 'segywb: cannot open script\n' | cmp -s - errors && [ ! -s answers ] && [ ! -e o.sgy ] && outcome=ok
-            else printf 'script refused P03 out of memory\n' | cmp -s - answers && [ ! -e o.sgy ] && outcome=ok; fi ;;
-    esac
+# grows NAME FILE LINE..: each growth of the run of these lines is refused in turn; those of the command line in the first alone
+first=1
+grows() {
+    local name=$1 file=$2 kind number word
+    shift 2
+    ways "$file" "$@"
+    env $library REFUSE_COUNT=asked "$program" "$file" --script script --out o.sgy > o.txt
+    sweep "$name: growth" $first "$(< asked)" saves o.sgy "${ways[@]}" -- $library REFUSE=% "$program" "$file" --script script --out o.sgy
+    while read -r kind number; do
+        case $kind in
+            words) first=$((first + number)) ;;
+            [0-9]*) word=${!kind}; word=${word%% *}; refused[$word]=$((${refused[$word]:-0} + number)); last=$number ;;
+        esac
+    done < kinds
+    once "$name: no growth" saves o.sgy "${ways[@]:${#early[@]}:6}" -- $library REFUSE=$(($(< asked) + 1)) "$program" "$file" --script script --out o.sgy
 }
 
-# Lines that were answered E11 changed nothing: without them the program prints and saves the same.
-judge_lines() {
-    case $got in
-        0 | 1) # some lines were answered E11
-            paste -d '\t' script <(head -n 7 answers) | grep -v 'refused E11 out of memory$' | cut -f 1 > fewer
-            "$program" s.sgy --script fewer --out fewer.sgy > expected
-            grep -v '^refused E11 out of memory$' answers | cmp -s - expected && cmp -s o.sgy fewer.sgy && [ ! -s errors ] && outcome=ok ;;
-        2 | 3 | 4) # told as above
-            [ ! -e o.sgy ] && outcome=ok ;;
-    esac
-}
+queries=(grid inlines crosslines histogram 'slice 0' 'slice 1' faults fields stanzas 'line 0 1' totals 'range inline' 'range crossline' 'range offset' 'range x' 'range y'
+    count info 'code 0' 'geometry 1' 'geometry 2' 'stat 1' 'stat 2' 'sample 2 1' 'fold 10 21' 'fold 11 22' 'get 2 @189:4' 'getbin @3217:2')
 
-printf 'set 2 @189:4 7\nget 2 @189:4\n' > script
-"$program" s.sgy --script script --out whole.sgy > /dev/null
-each_growth judge_set ''
-# the last run met no refusal, and at least the file, the list of its traces and the script grew
-if [ "$refusals" -ge 3 ] && [ "$got" = 0 ] && cmp -s o.sgy whole.sgy; then tell 'a run with no growth refused' ok; else tell 'a run with no growth refused' "status $got after $refusals"; fi
-
-printf 'map mine @189:4\nset 2 mine 7\nget 2 inline\ntext 1 C 1 LINE\nline 0 1\nunmap mine\nfields\n' > script
-each_growth judge_lines ' among names and texts'
-if [ "$refusals" -ge 8 ] && [ "$got" = 0 ]; then tell 'names and texts with no growth refused' ok; else tell 'names and texts with no growth refused' "status $got after $refusals"; fi
-
-printf 'patch 2 1 -7\ncopy 2 1\nmove 1 4\nblank 2\ndelete 3\nset 2 @189:4 7\nsample 4 1\n' > script
-each_growth judge_lines ' among edits of traces'
-if [ "$refusals" -ge 8 ] && [ "$got" = 0 ]; then tell 'edits of traces with no growth refused' ok; else tell 'edits of traces with no growth refused' "status $got after $refusals"; fi
-
-# the records and the values that run with them follow each edit, or none of it; a list is answered whole, or not at all
-for list in grid inlines crosslines histogram 'slice 1' faults; do
-    printf 'set 2 inline 11\nmap inline @193:4\ncopy 1 2\nmove 1 3\nblank 1\ntotals\n%s\n' "$list" > script
-    each_growth judge_lines " before $list"
-    if [ "$refusals" -ge 20 ] && [ "$got" = 0 ]; then tell "$list with no growth refused" ok; else tell "$list with no growth refused" "status $got after $refusals"; fi
+# ---- each kind of edit, twice, and then each query: the second edit is as with ample memory where the first was refused
+for edit in 'set 2 @189:4 7' 'set 2 inline 11' 'set 2 crossline 5' 'set 2 offset 7' 'set 3 x -7' 'set 3 scalar -100' 'set 1 @1:4 258' 'set 1 @225:8 5' \
+    'patch 1 0 32767 -32768' 'patch 2 1 9' 'blank 1' 'blank 4' 'copy 1 2' 'copy 3 4' 'delete 2' 'move 1 3' 'move 3 1' \
+    'renumber 1 3 inline 70 1' 'renumber 1 3 @1:4 7 -2' 'renumber 2 3 scalar -1 -99' 'resize 1 4' \
+    'map inline @193:4' 'map x @73:4' 'map scalar @69:2' 'map mine @17:4' 'bin interval 2000' 'bin @3217:2 2000' 'text 1 NO C'; do
+    grows "$edit" s.sgy "$edit" "$edit" "${queries[@]}"
 done
+grows 'names bound and left out' s.sgy 'map mine @189:4' 'set 2 mine 7' 'get 2 inline' 'unmap mine' 'get 2 mine' 'map mine @9:4' fields
+
+# ---- each kind of query, twice
+for query in 'get 1 inline' 'getbin interval' 'get 1 @189:4' count info 'code 0' 'geometry 2' 'stat 2' 'sample 2 1' 'fold 10 21' 'range inline' totals \
+    'line 0 1' stanzas fields grid inlines crosslines histogram 'slice 1' faults; do
+    grows "$query" s.sgy "$query" "$query" 'delete 1' "$query"
+done
+
+# ---- files of every kind: header extensions, extended textual headers, data trailer records, lengths of their own, 24 bits, no trace
+{ head -c 3600 s.sgy; zeros 528; } > twelve.sgy
+put twelve.sgy 3220 000c
+all=('patch 1 0 7' 'set 1 inline 7' 'text 1 C' 'copy 1 2' 'blank 1' 'move 1 2' 'delete 3' 'map mine @9:4' "${queries[@]}")
+grows 'header extensions' x.sgy 'set 1 @1.1:8 -1' 'map deep @1.9:4' 'set 1 deep 5' 'set 1 ext_count 1' "${all[@]}"
+grows 'header extensions by trace' deep.sgy 'set 1 @2.1:4 5' 'copy 1 1' 'set 2 @1.137:4u 2' "${all[@]}"
+grows 'extended textual headers' ended.sgy stanzas 'line 1 1' 'line 2 1' 'code 2' "${all[@]}"
+grows 'data trailer records' tail.sgy stanzas "${all[@]}"
+grows 'other numbers of samples' v.sgy 'slice 2' 'resize 2 4' 'slice 2' 'resize 2 4' 'resize 1 1' 'stat 1' 'resize 3 2' 'patch 2 3 -7' 'slice 1' totals 'get 2 @115:2'
+grows 'another number of samples, with header extensions' deep.sgy 'resize 1 5' 'stat 1' 'resize 1 70000' 'resize 1 1' 'stat 1' 'get 1 @1.137:4u'
+grows 'many traces' twelve.sgy 'renumber 1 2 inline 5 3' 'slice 0' 'renumber 1 2 @1:4 5 3' 'slice 0' 'renumber 1 2 crossline 5 2147483647' 'renumber 1 2 crossline 5 1' 'slice 0' grid faults
+grows 'traces of their own lengths' v.sgy 'slice 2' 'patch 3 65000 1 2 3' 'move 3 1' 'slice 2' 'delete 1' "${all[@]}"
+grows 'samples of 24 bits, little-endian' t.sgy 'patch 1 1 8388607' "${all[@]}"
+grows 'no trace' none.sgy "${queries[@]}" 'blank 1' 'blank 1' "${all[@]}"
+
+# ---- slices that are kept: asked again, after edits that they outlive or do not, and when more are asked than are kept
+grows 'kept slices' s.sgy 'slice 1' 'slice 0' 'slice 1' 'patch 1 0 9' 'slice 0' 'slice 1' 'set 2 x 7' 'slice 1' 'set 2 inline 7' 'slice 1' 'map offset @1:4' 'slice 1' 'slice 0'
+grows 'more slices than are kept' twelve.sgy 'slice 0' 'slice 1' 'slice 2' 'slice 3' 'slice 4' 'slice 5' 'slice 6' 'slice 7' 'slice 8' 'slice 0' 'slice 1' 'slice 8' 'slice 11' 'slice 8'
+
+# ---- a text line, a field of the binary header and a name that is left out want memory to be read and no more: the edit that is done
+# is answered E11 no more often than the one that is refused by name
+# reads_alone DONE REFUSED: two lines, behind `map mine @9:4`
+reads_alone() {
+    local done_one
+    grows "$1" s.sgy 'map mine @9:4' "$1"
+    done_one=$last
+    grows "$2" s.sgy 'map mine @9:4' "$2"
+    if [ "$done_one" = "$last" ] && [ "$last" -gt 0 ]; then tell "$1 wants memory to be read alone" ok; else tell "$1 wants memory to be read alone" "$done_one times, and $2 $last times"; fi
+}
+reads_alone 'text 40 C40 END' 'text 41 C40 END'
+reads_alone 'bin interval 1000' 'bin intervals 1000'
+reads_alone 'unmap mine' 'unmap nine'
+
+# ---- long scripts: edits and queries at random
+random_lines() { # SEED NUMBER: into the array `all`
+    local n p q
+    RANDOM=$1
+    all=()
+    for ((n = 0; n < $2; n++)); do
+        p=$((1 + RANDOM % 5)) q=$((1 + RANDOM % 5))
+        case $((RANDOM % 26)) in
+            0 | 1) all+=("set $p inline $((RANDOM % 30))") ;;
+            2 | 3) all+=("set $p @$((1 + RANDOM % 237)):4 $RANDOM") ;;
+            4) all+=("set $p x $RANDOM") ;;
+            5) all+=("set $p scalar $((RANDOM % 3 - 1))00") ;;
+            6 | 7) all+=("patch $p $((RANDOM % 2)) $((RANDOM - 16384))") ;;
+            8) all+=("blank $p") ;;
+            9 | 10) all+=("copy $p $q") ;;
+            11) all+=("delete $p") ;;
+            12) all+=("move $p $q") ;;
+            13) all+=("map inline @$((189 + 4 * (RANDOM % 2))):4") ;;
+            14) all+=("map name_$((RANDOM % 4)) @$((1 + 4 * (RANDOM % 50))):4") ;;
+            15) all+=("unmap name_$((RANDOM % 4))") ;;
+            16) all+=("text $((1 + RANDOM % 40)) LINE $RANDOM") ;;
+            17) all+=("bin job $RANDOM") ;;
+            18) all+=(grid) ;;
+            19) all+=("slice $((RANDOM % 2))") ;;
+            20) all+=(faults) ;;
+            21) all+=(histogram) ;;
+            22) all+=("get $p name_$((RANDOM % 4))") ;;
+            23) all+=("${queries[RANDOM % ${#queries[@]}]}") ;;
+            24) all+=("renumber $p $q inline $((RANDOM % 30)) $((RANDOM % 3 - 1))") ;;
+            25) all+=("renumber $p $q @$((1 + RANDOM % 237)):4 $RANDOM 7") ;;
+        esac
+    done
+}
+random_lines 3 150
+grows 'a long script' s.sgy "${all[@]}"
+random_lines 5 60
+grows 'a long script on header extensions' x.sgy "${all[@]}"
+
+# a move wants memory once the chunk of the order that it goes into is full
+{ head -c 3600 s.sgy; zeros 122000; } > many.sgy
+all=()
+for ((n = 0; n < 130; n++)); do all+=('move 500 1'); done
+grows 'many moves' many.sgy "${all[@]}" 'fold 0 0' 'stat 1'
+
+# ---- each command that may want memory did
+for word in set renumber patch resize blank copy move map bin getbin get text unmap line stanzas fields grid inlines crosslines histogram slice faults; do
+    if [ "${refused[$word]:-0}" -gt 0 ]; then tell "$word was refused for want of memory" ok; else tell "$word was refused for want of memory" never; fi
+done
+
+finish

@@ -11,8 +11,12 @@ cd "$work" || exit 1
 passed=0
 failed=0
 
-# the pictures and the page are tried beside the other tests
-{ bash "$here/pictures.sh" "$program" > pictures.told 2>&1; echo $? > pictures.status; } &
+# the pictures and the page are tried beside the other tests, and so are those that run the program some ten thousand times
+beside='pictures growth devices cuts hostile'
+alone() { bash "$here/$1.sh" "$program" > "$1.told" 2>&1; echo $? > "$1.status"; }
+alone pictures &
+{ alone growth; alone cuts; } &
+{ alone devices; alone hostile; } &
 
 # tell NAME OUTCOME: counts one test
 tell() {
@@ -266,12 +270,18 @@ expect 'the greatest limit' 0 'ok\n' '' s.sgy --script script --max-bytes 109951
 
 . "$here/reports.sh" || tell 'reports.sh' 'did not run to its end'
 
+. "$here/edits.sh" || tell 'edits.sh' 'did not run to its end'
+
 . "$here/documents.sh" || tell 'documents.sh' 'did not run to its end'
 
-. "$here/growth.sh" || tell 'growth.sh' 'did not run to its end'
+. "$here/paths.sh" || tell 'paths.sh' 'did not run to its end'
+
+. "$here/room.sh" || tell 'room.sh' 'did not run to its end'
 
 wait
-if [ "$(cat pictures.status)" = 0 ]; then tell 'pictures' ok; grep '^left out' pictures.told; else tell 'pictures' "$(cat pictures.told)"; fi
+for part in $beside; do
+    if [ "$(cat $part.status)" = 0 ]; then tell "$part" ok; grep '^left out\|passed\|accepted' "$part.told"; else tell "$part" "$(cat "$part.told")"; fi
+done
 
 printf 'segywb: %d passed, %d failed\n' "$passed" "$failed"
 [ "$failed" = 0 ]

@@ -1,5 +1,6 @@
 // From the command line to the exit status.
-ghost use Rattle.std.specs.Prelude.{◌≤◌, IfSome};
+ghost use Rattle.std.specs.Prelude.{◌≡◌, ◌≤◌, IfSome, is_some, unwrap_or, if◌then◌else◌};
+ghost use Rattle.frame_cut.specs.declared.reading.Reading.TheVariants.{Fixed, AsWritten};
 
 use crate::command_line::{Arguments, arguments};
 use crate::late_file::LateFile;
@@ -57,7 +58,8 @@ fn open_and_run<R: Files + AllocGlobal + Print + Eprint>(rt: &R, arguments: &Arg
     let late = LateFile::new(rt, arguments.out.unwrap_or(""));
     let room = if arguments.out.is_some() { ROOM } else { 0 };
     let Ok(out) = BufWriter::with_capacity(rt.alloc(), room, late) else {
-        return save_failed(rt, 0);
+        let _ = eprintln!(rt; "segywb: out of memory");
+        return 4;
     };
     let mut out = Sink::new(out);
     let end = run(
@@ -74,6 +76,11 @@ fn open_and_run<R: Files + AllocGlobal + Print + Eprint>(rt: &R, arguments: &Arg
 // How the command line asks for the run.
 fn options(arguments: &Arguments) -> Options
     requires { IfSome arguments.now.max_bytes (λ n. n ≤ 1099511627776) }
+    ensures reading { result.reading ≡ if arguments.now.fixed then Fixed else AsWritten }
+    ensures bytes { result.limits.bytes ≡ unwrap_or arguments.now.max_bytes 4294967296 }
+    ensures traces { result.limits.traces ≡ 4294967295 }
+    ensures stop { result.stop ≡ arguments.now.stop }
+    ensures save { result.save ≡ is_some arguments.now.out }
 {
     let reading = if arguments.fixed {
         Reading::Fixed

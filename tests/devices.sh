@@ -1,0 +1,121 @@
+#!/usr/bin/env bash
+# Each device of the program fails at each place: the file, the script, the saved file and the answers, by a preloaded library.
+# What is told and what is left is exact. A device fails once and works again, so that a call that is tried once more shows.
+# usage: tests/devices.sh [PROGRAM]
+. "$(dirname "$0")/sweeps.sh"
+compiled fail_device -shared -fPIC
+library=LD_PRELOAD=./fail_device.so
+EINTR=4 ENOSPC=28
+
+printf 'set 2 @189:4 7\nget 2 @189:4\n' > script
+"$program" s.sgy --script script --out whole.sgy > whole.txt
+bytes=$(wc -c < s.sgy)
+lines=$(wc -c < script)
+whole=(may whole 0 whole.txt - whole.sgy)
+on=("$program" s.sgy --script script --out o.sgy)
+
+# ---- the file: a byte a call, and call 1, 2, .. fails; the last of them would have told its end
+refused=(saves o.sgy may L01 3 '=load refused L01 read failed' - -)
+sweep 'the file fails at read' 1 $((bytes + 1)) "${refused[@]}" -- $library DEVICE=s.sgy STEP=1 FAIL_CALL=% "${on[@]}"
+sweep 'the file fails behind its end' $((bytes + 2)) $((bytes + 2)) saves o.sgy "${whole[@]}" -- $library DEVICE=s.sgy STEP=1 FAIL_CALL=% "${on[@]}"
+sweep 'a read of the file is interrupted' 1 2 "${refused[@]}" -- $library DEVICE=s.sgy FAIL_CALL=% FAULT=$EINTR "${on[@]}"
+sweep 'a read of the file is interrupted at byte' $((bytes - 5)) $bytes "${refused[@]}" -- $library DEVICE=s.sgy GIVES=% FAULT=$EINTR "${on[@]}"
+
+# ---- the script
+refused=(saves o.sgy may P01 4 '=script refused P01 read failed' - -)
+sweep 'the script fails at read' 1 $((lines + 1)) "${refused[@]}" -- $library DEVICE=script STEP=1 FAIL_CALL=% "${on[@]}"
+sweep 'the script fails behind its end' $((lines + 2)) $((lines + 2)) saves o.sgy "${whole[@]}" -- $library DEVICE=script STEP=1 FAIL_CALL=% "${on[@]}"
+sweep 'a read of the script is interrupted' 1 2 "${refused[@]}" -- $library DEVICE=script FAIL_CALL=% FAULT=$EINTR "${on[@]}"
+
+# ---- a file and a script without an end: one byte behind the limit is taken, and no more is waited for
+printf 'load refused L02 too large\n' > l02.txt
+printf 'script refused P02 too large\n' > p02.txt
+endless=("$program" /dev/zero --script script --out o.sgy --max-bytes 4332)
+once 'an endless file' saves o.sgy may L02 3 l02.txt - - -- "${endless[@]}"
+once 'an endless file of bytes one by one' saves o.sgy may L02 3 l02.txt - - -- $library DEVICE=/dev/zero STEP=1 "${endless[@]}"
+sweep 'an endless file that fails behind the limit' 4333 4334 saves o.sgy may L02 3 l02.txt - - -- $library DEVICE=/dev/zero GIVES=% "${endless[@]}"
+sweep 'an endless file that fails at the limit' 4331 4332 saves o.sgy may L01 3 '=load refused L01 read failed' - - -- $library DEVICE=/dev/zero GIVES=% "${endless[@]}"
+endless=("$program" s.sgy --script /dev/zero --out o.sgy)
+once 'an endless script' saves o.sgy may P02 4 p02.txt - - -- "${endless[@]}"
+sweep 'an endless script that fails behind the limit' 16777217 16777218 saves o.sgy may P02 4 p02.txt - - -- $library DEVICE=/dev/zero GIVES=% "${endless[@]}"
+sweep 'an endless script that fails at the limit' 16777215 16777216 saves o.sgy may P01 4 '=script refused P01 read failed' - - -- $library DEVICE=/dev/zero GIVES=% "${endless[@]}"
+mkfifo pipe
+for endless in 's.sgy --script pipe' 'pipe --script script'; do
+    cat /dev/zero > pipe 2> /dev/null &
+    case $endless in pipe*) ways=(may L02 3 l02.txt - -) ;; *) ways=(may P02 4 p02.txt - -) ;; esac
+    once "a pipe without an end: $endless" saves o.sgy "${ways[@]}" -- "$program" $endless --out o.sgy --max-bytes 100000
+    wait $!
+done
+cat s.sgy > pipe &
+once 'a file from a pipe' saves o.sgy "${whole[@]}" -- "$program" pipe --script script --out o.sgy
+wait $!
+
+# of a pipe no more is taken than one byte behind the limit: the rest is there for another
+# takes NAME BYTES WORD..: of a pipe with 16777400 bytes on standard input, which the words name as /dev/stdin
+takes() {
+    local name=$1 wanted=$2 rest
+    shift 2
+    rest=$(zeros 16777400 | { "$program" "$@" > answers 2> errors; wc -c; })
+    if [ $((16777400 - rest)) = "$wanted" ]; then tell "$name" ok; else tell "$name" "$((16777400 - rest)) bytes, not $wanted: $(< answers)"; fi
+}
+takes 'a refused file takes one byte more' 4333 /dev/stdin --script script --max-bytes 4332
+takes 'and of a large one' 100001 /dev/stdin --script script --max-bytes 100000
+takes 'and where the limit is that of a buffer' 65537 /dev/stdin --script script --max-bytes 65536
+takes 'a refused script takes one byte more' 16777217 s.sgy --script /dev/stdin
+
+# ---- the saved file: it takes a byte a call, or what it has room for, and fails once it holds 0, 1, .. bytes
+torn=(saves o.sgy may torn 4 whole.txt '=segywb: save failed after % bytes' whole.sgy:%)
+sweep 'the save takes single bytes, and fails at' 0 $((bytes - 1)) "${torn[@]}" -- $library DEVICE=o.sgy STEP=1 HOLDS=% "${on[@]}"
+sweep 'the save fails at' 0 $((bytes - 1)) "${torn[@]}" -- $library DEVICE=o.sgy HOLDS=% FAULT=$ENOSPC "${on[@]}"
+sweep 'the save has just room' $bytes $((bytes + 1)) saves o.sgy "${whole[@]}" -- $library DEVICE=o.sgy HOLDS=% "${on[@]}"
+for at in 1 2 2000 $bytes; do
+    sweep "the save takes no byte in write $at" $((at - 1)) $((at - 1)) "${torn[@]}" -- $library DEVICE=o.sgy STEP=1 NO_BYTES="$at" "${on[@]}"
+done
+# a piece that waited in the program's buffer is written again where a signal interrupted the write
+for at in 0 1 $((bytes - 1)); do
+    sweep "a write of the save is interrupted at $at" "$at" "$at" saves o.sgy "${whole[@]}" -- $library DEVICE=o.sgy HOLDS=% FAULT=$EINTR "${on[@]}"
+done
+# more than the program's buffer holds
+printf 'set 2 inline 7\n' > one
+"$program" v.sgy --script one --out whole_v.sgy > one.txt
+size=$(wc -c < v.sgy)
+torn=(saves o.sgy may torn 4 one.txt '=segywb: save failed after % bytes' whole_v.sgy:%)
+for at in 0 3190 3590 65526 $((size - 20)); do
+    sweep 'the save of a large file fails at' "$at" $((at + 19)) "${torn[@]}" -- $library DEVICE=o.sgy HOLDS=% "$program" v.sgy --script one --out o.sgy
+done
+# a piece of the buffer's size or more goes by itself: a signal that interrupts it is a failure
+sweep 'a write of a large piece is interrupted at' 65536 65536 "${torn[@]}" -- $library DEVICE=o.sgy HOLDS=% FAULT=$EINTR "$program" v.sgy --script one --out o.sgy
+sweep 'the save of a large file has just room' "$size" "$size" saves o.sgy may whole 0 one.txt - whole_v.sgy -- $library DEVICE=o.sgy HOLDS=% "$program" v.sgy --script one --out o.sgy
+
+# ---- the answers: to each line of a long script, and to a list that is longer than the program's buffers
+for _ in 1 2 3; do
+    printf '%s\n' info count 'map mine @17:4' 'set 2 mine 7' 'get 2 mine' 'set 4 inline 7' fields 'copy 1 2' grid 'patch 2 0 7 8' 'slice 1' 'move 4 1'
+    printf '%s\n' 'line 0 1' sett 'text 1 C LINE' 'line 0 1' 'unmap mine' 'get 2 mine' 'blank 2' faults histogram 'delete 2' 'delete 2' totals 'range x'
+done > long
+"$program" s.sgy --script long > long.txt
+size=$(wc -c < long.txt)
+lost=(saves o.sgy may lost 4 long.txt:% '=segywb: answers failed' -)
+sweep 'the answers take single bytes, and fail at' 0 $((size - 1)) "${lost[@]}" -- $library DEVICE=answers STEP=1 HOLDS=% "$program" s.sgy --script long --out o.sgy
+sweep 'the answers fail at' 0 $((size - 1)) "${lost[@]}" -- $library DEVICE=answers HOLDS=% "$program" s.sgy --script long --out o.sgy
+for at in 1 2 500 "$size"; do
+    sweep "the answers take no byte in write $at" $((at - 1)) $((at - 1)) "${lost[@]}" -- $library DEVICE=answers STEP=1 NO_BYTES="$at" "$program" s.sgy --script long --out o.sgy
+done
+sweep 'a write of the answers is interrupted at' 0 20 "${lost[@]}" -- $library DEVICE=answers HOLDS=% FAULT=$EINTR "$program" s.sgy --script long --out o.sgy
+{ head -c 3600 s.sgy; zeros 244000; } > blanks.sgy
+echo faults > list
+"$program" blanks.sgy --script list > list.txt
+size=$(wc -c < list.txt)
+lost=(saves o.sgy may lost 4 list.txt:% '=segywb: answers failed' -)
+for at in 0 8180 16370 $((size - 30)); do
+    sweep 'a long list fails at' "$at" $((at + 29)) "${lost[@]}" -- $library DEVICE=answers HOLDS=% "$program" blanks.sgy --script list --out o.sgy
+done
+# a refusal of the file or the script that cannot be told
+refusal='load refused L02 too large'
+printf '%s\n' "$refusal" > refusal.txt
+sweep 'the refusal of a file fails at' 0 ${#refusal} may lost 4 refusal.txt:% '=segywb: answers failed' - -- $library DEVICE=answers STEP=1 HOLDS=% "$program" s.sgy --script long --max-bytes 9
+refusal='script refused P01 read failed'
+printf '%s\n' "$refusal" > refusal.txt
+mkdir folder
+sweep 'the refusal of a script fails at' 0 ${#refusal} may lost 4 refusal.txt:% '=segywb: answers failed' - -- $library DEVICE=answers STEP=1 HOLDS=% "$program" s.sgy --script folder
+
+finish

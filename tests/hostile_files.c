@@ -1,0 +1,312 @@
+/* Makes hostile SEG-Y files and runs the program on each: it loads the file, answers queries and saves it.
+   usage: hostile_files PROGRAM SEED NUMBER FILE..
+   Each of the NUMBER variants is one of the FILEs, cut, with a tail, or with bytes changed where the frame is steered, as the
+   numbers drawn from SEED say. Whether it is refused, with which text, and the number of its traces are worked out here a second
+   time, from the manual's words. A file that is refused gives that text alone and saves nothing; of one that is accepted no query
+   is refused, and it is saved byte for byte.
+   Prints the variants that went otherwise, and how often each refusal came. */
+#include "run_program.h"
+#include <stdint.h>
+
+#define MOST_BYTES 200000
+#define MOST_FILES 20
+
+typedef unsigned char byte;
+
+/* ---- numbers drawn from the seed (xorshift) */
+static uint64_t state;
+
+static uint64_t draw(uint64_t below) {
+    state ^= state << 13;
+    state ^= state >> 7;
+    state ^= state << 17;
+    return (state >> 11) % below;
+}
+
+/* ---- what the manual says of a file: places count from 1 there, and from 0 here */
+struct volume {
+    const byte *bytes;
+    size_t length, most;
+    int little, fixed_reading;
+};
+
+static uint64_t field(const struct volume *file, size_t place, int size) {
+    uint64_t value = 0;
+    for (int at = 0; at < size; at++)
+        value = value << 8 | file->bytes[file->little ? place + size - 1 - at : place + at];
+    return value;
+}
+
+static int64_t signed_field(const struct volume *file, size_t place, int size) {
+    uint64_t value = field(file, place, size), sign = (uint64_t)1 << (8 * size - 1);
+    return (int64_t)(value ^ sign) - (int64_t)sign;
+}
+
+/* The character of a byte of text, in small letters, among those of the end of the text; `?` for each other. */
+static char character(byte b, int ebcdic) {
+    static const char letters[] = "segndtx:()", codes[] = "\xa2\x85\x87\x95\x84\xa3\xa7\x7a\x4d\x5d", capitals[] = "\xe2\xc5\xc7\xd5\xc4\xe3\xe7";
+    const char *at;
+    if (!ebcdic) {
+        if (b >= 'A' && b <= 'Z') b += 'a' - 'A';
+        return b && strchr(letters, b) ? (char)b : '?';
+    }
+    if (b && (at = strchr(codes, (char)b))) return letters[at - codes];
+    if (b && (at = strchr(capitals, (char)b))) return letters[at - capitals];
+    return '?';
+}
+
+/* Whether a block of 3200 bytes holds ((SEG: EndText)), blanks and ends of lines aside. */
+static int ends_text(const byte *block) {
+    char shown[3201];
+    int length = 0, ebcdic_blanks = 0, ascii_blanks = 0, ebcdic, at;
+    for (at = 0; at < 3200; at++) ebcdic_blanks += block[at] == 0x40, ascii_blanks += block[at] == 0x20;
+    ebcdic = ebcdic_blanks > ascii_blanks || (ebcdic_blanks == ascii_blanks && block[0] == 0xc3);
+    for (at = 0; at < 3200; at++) {
+        byte b = block[at];
+        if (b == (ebcdic ? 0x40 : 0x20) || b == 0x0d || b == (ebcdic ? 0x25 : 0x0a)) continue;
+        shown[length++] = character(b, ebcdic);
+    }
+    shown[length] = 0;
+    return strstr(shown, "((seg:endtext))") != NULL;
+}
+
+/* The number of extended textual headers, or -1 where the count is refused. */
+static int64_t blocks_of(const struct volume *file, int64_t count) {
+    int64_t whole = (int64_t)(file->length - 3600) / 3200;
+    if (count >= 0) return count <= whole ? count : -1;
+    if (count < -1) return -1;
+    for (int64_t block = 0; block < whole; block++)
+        if (ends_text(file->bytes + 3600 + 3200 * block)) return block + 1;
+    return -1;
+}
+
+static int width_of(uint64_t format) {
+    static const int widths[] = {0, 0, 4, 2, 0, 0, 0, 3, 1, 8, 4, 2, 8, 0, 0, 3, 1};
+    return format < 17 ? widths[format] : 0;
+}
+
+struct frame {
+    int fixed, width;
+    int64_t extensions;
+    uint64_t samples;
+};
+
+/* The traces between two places: their number, or the refusal of the first that is torn or names too many extensions. */
+static void judge_traces(const struct volume *file, struct frame frame, uint64_t at, uint64_t end, char *text) {
+    unsigned long trace = 0;
+    while (at < end) {
+        uint64_t left = end - at, extensions = frame.extensions, samples = 0, named;
+        trace++;
+        if (left < 240 || (extensions && left < 480)) { sprintf(text, "L14 truncated trace %lu", trace); return; }
+        if (extensions && (named = field(file, at + 240 + 156, 2))) {
+            if (named > extensions) { sprintf(text, "L13 extension count trace %lu", trace); return; }
+            extensions = named;
+        }
+        if (!frame.fixed && frame.extensions) samples = field(file, at + 240 + 136, 4);
+        if (!frame.fixed && !samples) samples = field(file, at + 114, 2);
+        if (!samples) samples = frame.samples;
+        samples = 240 * (1 + extensions) + frame.width * samples;
+        if (left < samples) { sprintf(text, "L14 truncated trace %lu", trace); return; }
+        at += samples;
+    }
+    sprintf(text, "traces %lu", trace);
+}
+
+/* The refusal of the file without `load refused`, or the number of its traces. */
+static void judge(struct volume *file, char *text) {
+    const byte *order = file->bytes + 3296;
+    uint64_t format, first;
+    int64_t blocks, count, trailer = 0;
+    struct frame frame;
+    int major, second;
+    file->little = 0;
+    if (file->length > file->most) { strcpy(text, "L02 too large"); return; }
+    if (file->length < 3600) { sprintf(text, "L03 short %zu", file->length); return; }
+    if (!memcmp(order, "\2\1\4\3", 4)) { strcpy(text, "L04 pair swapped"); return; }
+    file->little = !memcmp(order, "\4\3\2\1", 4);
+    major = file->bytes[3500];
+    second = major == 2;
+    if (major > 2 || (second && file->bytes[3501])) { sprintf(text, "L05 revision %d.%d", major, file->bytes[3501]); return; }
+    format = field(file, 3224, 2);
+    if (format == 1 || format == 5 || format == 6) { sprintf(text, "L06 float format %d", (int)format); return; }
+    if (format == 4) { strcpy(text, "L07 gain format"); return; }
+    frame.width = width_of(format);
+    if (!frame.width) { sprintf(text, "L08 unknown format %d", (int)format); return; }
+    count = major ? signed_field(file, 3504, 2) : 0;
+    blocks = blocks_of(file, count);
+    if (blocks < 0) { sprintf(text, "L09 text count %d", (int)count); return; }
+    frame.extensions = second ? signed_field(file, 3506, 4) : 0;
+    if (frame.extensions < 0 || frame.extensions > 255) { sprintf(text, "L10 extensions %d", (int)frame.extensions); return; }
+    if (second) trailer = signed_field(file, 3528, 4);
+    if (trailer < 0 || 3200 * (blocks + trailer) > (int64_t)file->length - 3600) { sprintf(text, "L11 trailer %d", (int)trailer); return; }
+    first = second ? field(file, 3520, 8) : 0;
+    if (first && first != 3600 + 3200 * (uint64_t)blocks) { sprintf(text, "L12 first trace %llu", (unsigned long long)first); return; }
+    frame.samples = second ? field(file, 3268, 4) : 0;
+    if (!frame.samples) frame.samples = field(file, 3220, 2);
+    frame.fixed = file->fixed_reading || (major && field(file, 3502, 2));
+    judge_traces(file, frame, 3600 + 3200 * blocks, file->length - 3200 * trailer, text);
+}
+
+/* ---- variants */
+static struct text bases[MOST_FILES];
+static int base_count;
+
+static void write_number(byte *bytes, int size, uint64_t value, int little) {
+    for (int at = 0; at < size; at++) bytes[little ? at : size - 1 - at] = value >> (8 * at);
+}
+
+/* A number that is of interest somewhere: small, at an end of a range, or any. */
+static uint64_t any_number(void) {
+    static const uint64_t numbers[] = {0, 1, 2, 3, 4, 5, 7, 8, 10, 16, 255, 256, 3600, 6800, 10000, 32767, 32768, 65535, 65536, 0x7fffffff, 0x80000000, 0xffffffff, -1, -2, 1ull << 63};
+    return draw(5) ? numbers[draw(sizeof numbers / sizeof *numbers)] : draw((uint64_t)1 << (1 + draw(52)));
+}
+
+/* A place where the frame is steered, and its size: of the binary header, or of the headers of one of the first traces. */
+static size_t steered(size_t length, int *size) {
+    static const struct { int place, size; } fields[] = {{3220, 2}, {3224, 2}, {3268, 4}, {3296, 4}, {3500, 1}, {3501, 1}, {3502, 2}, {3504, 2}, {3506, 4}, {3512, 8}, {3520, 8}, {3528, 4}};
+    static const struct { int place, size; } of_trace[] = {{114, 2}, {240 + 136, 4}, {240 + 156, 2}};
+    static const int starts[] = {3600, 3844, 3846, 4084, 4088, 4090, 6800, 10000, 10244};
+    size_t place;
+    int which;
+    if (draw(3)) {
+        which = draw(sizeof fields / sizeof *fields);
+        *size = fields[which].size;
+        return fields[which].place;
+    }
+    which = draw(3);
+    *size = of_trace[which].size;
+    place = starts[draw(sizeof starts / sizeof *starts)] + of_trace[which].place;
+    return place + *size <= length ? place : 3220;
+}
+
+/* One of the counts, with the last number that may be accepted or the first that may not. */
+static void change_count(byte *bytes, size_t length, int little) {
+    int64_t blocks = (int64_t)(length - 3600) / 3200;
+    switch (draw(4)) {
+        case 0: write_number(bytes + 3504, 2, draw(2) ? -draw(3) : blocks + draw(2), little); break;
+        case 1: write_number(bytes + 3506, 4, draw(3) ? 254 + draw(3) : (uint64_t)-1, little); break;
+        case 2: write_number(bytes + 3528, 4, draw(4) ? blocks - 1 + draw(3) : (uint64_t)-1, little); break;
+        case 3: write_number(bytes + 3520, 8, 3600 + 3200 * (blocks ? draw(blocks + 1) : 0) + (draw(3) == 0), little); break;
+    }
+}
+
+static void change(byte *bytes, size_t length) {
+    int size, little = draw(4) == 0;
+    size_t place;
+    if (length < 3600) return;
+    switch (draw(11)) {
+        case 0: /* any byte of the binary header */
+            bytes[3200 + draw(400)] = draw(256);
+            break;
+        case 1: /* any byte of the file */
+            bytes[draw(length)] = draw(256);
+            break;
+        case 2: /* the byte order */
+            memcpy(bytes + 3296, draw(3) ? draw(2) ? "\4\3\2\1" : "\1\2\3\4" : "\2\1\4\3", 4);
+            break;
+        case 3: /* the revision */
+            bytes[3500] = draw(4);
+            bytes[3501] = draw(4) ? 0 : draw(256);
+            break;
+        case 4: /* the text ends by itself: here, in another code, or not at all */
+            if (length < 6800) break;
+            write_number(bytes + 3504, 2, -1, 0);
+            if (draw(3) == 0) memset(bytes + 3600, draw(2) ? 0x40 : 0x20, 3200);
+            place = 3600 + 3200 * draw((length - 3600) / 3200) + draw(3200 - 20);
+            memcpy(bytes + place, draw(3) ? draw(2) ? "((SEG: EndText))" : "((seg\r\n:endtext ))" : "\x4d\x4d\xe2\xc5\xc7\x7a\x40\xc5\xd5\xc4\xe3\xc5\xe7\xe3\x5d\x5d", 16);
+            break;
+        case 5: /* the sample format */
+            write_number(bytes + 3224, 2, draw(18), draw(2));
+            break;
+        case 6: /* a count at an end of its range */
+            change_count(bytes, length, little);
+            break;
+        default:
+            place = steered(length, &size);
+            write_number(bytes + place, size, any_number(), little);
+    }
+}
+
+/* A length at which a part of some file ends, or a byte less or more; at most the length of the file. */
+static size_t near_part(size_t most) {
+    static const int parts[] = {3600, 3840, 3844, 3846, 4080, 4084, 4088, 4320, 6800, 10000, 10240, 10244};
+    size_t length = parts[draw(sizeof parts / sizeof *parts)] + draw(3) - 1;
+    return length < most ? length : most;
+}
+
+/* Makes a variant; its length. */
+static size_t vary(byte *bytes) {
+    const struct text *base = &bases[draw(base_count)];
+    size_t length = base->length, tail;
+    memcpy(bytes, base->bytes, length);
+    if (draw(3) == 0) length = draw(3) ? 3600 + draw(length - 3599) : draw(length);
+    else if (draw(6) == 0) length = near_part(length);
+    if (draw(4) == 0) {
+        tail = draw(2) ? 240 + draw(10) : draw(4000);
+        for (size_t at = 0; at < tail; at++) bytes[length + at] = draw(3) ? 0 : draw(256);
+        length += tail;
+    }
+    for (int changes = draw(4); changes > 0; changes--) change(bytes, length);
+    return length;
+}
+
+/* ---- the runs */
+static struct { char code[8]; long met; } met[20];
+
+static void count_as(const char *text) {
+    int at;
+    for (at = 0; met[at].met && strncmp(met[at].code, text, 3); at++);
+    strncpy(met[at].code, text, 3);
+    met[at].met++;
+}
+
+/* Runs one variant; whether it went as it has to. */
+static int run(char *program, long number, byte *bytes) {
+    extern char **environ;
+    struct volume file = {bytes, vary(bytes), 4294967296, 0, draw(4) == 0};
+    char text[80], wanted[100], limit[30];
+    char *words[] = {program, "variant.sgy", "--script", "queries", "--out", "saved.sgy", "--max-bytes", limit, file.fixed_reading ? "--fixed" : NULL, NULL};
+    struct ended ended;
+    struct text saved;
+    int well, is_accepted;
+    if (draw(20) == 0 && file.length > 2) file.most = file.length - 2 + draw(4);
+    sprintf(limit, "%zu", file.most);
+    judge(&file, text);
+    is_accepted = text[0] == 't';
+    sprintf(wanted, is_accepted ? "%s\n" : "load refused %s\n", text);
+    write_path("variant.sgy", bytes, file.length);
+    unlink("saved.sgy");
+    ended = run_program(words, environ);
+    saved = read_path("saved.sgy");
+    well = ended.status == (is_accepted ? 0 : 3) && !ended.errors.length
+        && ended.answers.length >= strlen(wanted) && !memcmp(ended.answers.bytes, wanted, strlen(wanted))
+        && (is_accepted || ended.answers.length == strlen(wanted))
+        && (is_accepted ? saved.bytes && saved.length == file.length && !memcmp(saved.bytes, bytes, file.length) : !saved.bytes);
+    if (!well) {
+        printf("FAILED variant %ld of %zu bytes, limit %s%s: ", number, file.length, limit, file.fixed_reading ? ", fixed" : "");
+        say_end(&ended);
+        printf(saved.bytes ? ", saved %zu bytes" : ", nothing saved", saved.length);
+        printf("; wanted %s", wanted);
+    }
+    count_as(is_accepted ? "accepted" : text);
+    free(saved.bytes);
+    forget(&ended);
+    return well;
+}
+
+int main(int count, char **words) {
+    static const char queries[] = "count\ninfo\nfaults\ntotals\nrange x\ngrid\nhistogram\nslice 0\nslice 1\nstanzas\nline 0 1\nfields\n";
+    static byte bytes[MOST_BYTES + 5000];
+    long number, failed = 0;
+    int at;
+    if (count < 5 || count - 4 > MOST_FILES) give_up("usage: hostile_files PROGRAM SEED NUMBER FILE..");
+    state = strtoull(words[2], NULL, 10) * 2 + 1;
+    for (at = 4; at < count; at++) {
+        bases[base_count] = read_path(words[at]);
+        if (!bases[base_count].bytes || bases[base_count++].length > MOST_BYTES) give_up(words[at]);
+    }
+    write_path("queries", queries, sizeof queries - 1);
+    for (number = 1; number <= atol(words[3]) && !is_late; number++) failed += !run(words[1], number, bytes);
+    for (at = 0; met[at].met; at++) printf("%s %ld\n", strcmp(met[at].code, "acc") ? met[at].code : "accepted", met[at].met);
+    return failed != 0;
+}

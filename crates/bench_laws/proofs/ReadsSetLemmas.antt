@@ -31,7 +31,8 @@ use Rattle.bench_rules.specs.State.{State}
 use Rattle.bench_rules.proofs.HeaderEditLemmas.{same_refused, same_after, no_place}
 use Rattle.bench_rules.proofs.PlaceLemmas.{stands, place_inside, sized, at_most_8}
 use Rattle.bench_rules.proofs.SetLemmas.{Accepted, accepted, is_after, whole_trace}
-use Rattle.bench_rules.proofs.SpliceLemmas.{apart, itself}
+use Rattle.bench_rules.proofs.SpliceLemmas.{itself}
+use Rattle.frame_cut.proofs.BinEditLemmas.{apart}
 
 -- ---- the number of header extensions is as it was
 

@@ -29,7 +29,7 @@ use Rattle.time_slice.specs.Slices.{row_cmp, row_of, rows_from, with_sample, sli
 use Rattle.bench_rules.proofs.PatchLemmas.{measured, with_samples, length-samples, samples_inside}
 use Rattle.bench_laws.proofs.ReadsSetLemmas.{extensions_kept}
 use Rattle.bench_rules.proofs.ResizingLemmas.{SameFront, same_extensions, same_samples}
-use Rattle.bench_rules.proofs.SpliceLemmas.{apart}
+use Rattle.frame_cut.proofs.BinEditLemmas.{apart}
 use Rattle.bench_rules.proofs.TraceStepLemmas.{width-pos}
 
 -- ---- rows

@@ -10,7 +10,6 @@ pub mod SpliceLemmas
 pub mod ResizingLemmas
 pub mod ResizeLemmas
 pub mod RenumberLemmas
-pub mod KeptLemmas
 mod CountedLemmas
 pub mod LiveLemmas
 pub mod LetterLemmas

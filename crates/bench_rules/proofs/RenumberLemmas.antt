@@ -82,15 +82,6 @@ among_none v place value k (suc n) before =
 value_behind : (first step : ℤ) (a k : ℕ) → counted first step (a + k - a) ≡ counted first step k
 value_behind first step a k = let same : a + k - a ≡ k = omega arith in ap (counted first step) same
 
--- trace a is none
-pub renumber_no_first : (s : State) (a b : ℕ) (f : Field) (first step : ℤ) → is_trace s.volume a ≡ false → first_refusal s (Renumber a b f first step) ≡ Some (refusals.NoTrace a (count_of s.volume))
-renumber_no_first s a b f first step e = rw e refl
-
--- trace b is none of those from trace a on
-pub renumber_no_last : (s : State) (a b : ℕ) (f : Field) (first step : ℤ) → is_trace s.volume a ≡ true → (leb a b && leb b (count_of s.volume)) ≡ false
-    → first_refusal s (Renumber a b f first step) ≡ Some (refusals.NoTrace b (count_of s.volume))
-renumber_no_last s a b f first step e g = rw (e, g) refl
-
 -- the field has no place
 pub renumber_no_field : (s : State) (a b : ℕ) (f : Field) (first step : ℤ) → 1 ≤ a → a ≤ b → b ≤ count_of s.volume → place_in_trace s.fields f ≡ None
     → first_refusal s (Renumber a b f first step) ≡ Some refusals.NoField

@@ -97,13 +97,6 @@ pub not_too_large : (h : Head) (t : List ℕ) (file limit new : ℕ) (m : ℤ) �
 not_too_large h t file limit new m is counts loose e within =
     by_length h t file limit new m is counts loose e ∙ ap (λ (b : Bool). let o : Option Refusal = cond b (Some refusals.TooLarge) None in o) (le-ltb limit (file - length t + new) within)
 
--- the refusal at the trace that was looked at
-pub resize_refused : (s : State) (p : ℕ) (m : ℤ) (v : Volume) (h : Head) (t : List ℕ) (file : ℕ) (r : Option Refusal) → v ≡ s.volume → is_trace v p ≡ true → h ≡ v.head → t ≡ trace_at v p → file ≡ length (bytes_of v)
-    → r ≡ count_refusal h file s.limits.bytes t m → r ≡ first_refusal s (Resize p m)
-resize_refused s p m v h t file r same there head e whole is =
-    let at : is_trace s.volume p ≡ true = ap (λ (w : Volume). is_trace w p) (sym same) ∙ there in
-    is ∙ rw (head, e, whole, same, at) refl
-
 -- ---- the trace that is made
 
 -- it is a whole trace, and the file with it is within its limit

@@ -20,7 +20,8 @@ use Rattle.trace_view.specs.Values.{samples_at}
 use Rattle.bench_rules.specs.Refused.{most_samples}
 use Rattle.bench_rules.specs.TraceEdits.{short_count, with_count, cut_or_filled, resized}
 use Rattle.bench_rules.proofs.PatchLemmas.{measured}
-use Rattle.bench_rules.proofs.SpliceLemmas.{apart, itself}
+use Rattle.bench_rules.proofs.SpliceLemmas.{itself}
+use Rattle.frame_cut.proofs.BinEditLemmas.{apart}
 
 -- the bytes of a number of samples for the main header, and for the first header extension
 abbrev short_bytes : Head → ℕ → List ℕ

@@ -6,16 +6,10 @@ use Rattle.std.proofs.Math.Seq.{take-append_seam}
 use Rattle.frame_cut.specs.Splice.{splice}
 use Rattle.frame_cut.specs.Traces.{count_of, trace_at, with_trace}
 use Rattle.frame_cut.specs.Volume.{Volume, bytes_of, start_of}
-use Rattle.frame_cut.proofs.BinEditLemmas.{slice_before, slice_behind}
 use Rattle.frame_cut.proofs.EditLemmas.{bytes_with_splice, length-bytes}
 use Rattle.bench_rules.specs.WholeTraces.{trace_start}
 
 -- ---- what a splice shows
-
--- bytes apart from it are as they were
-pub apart : (t new : List ℕ) (at k m : ℕ) → at + length new ≤ length t → (k + m ≤ at) ⊎ (at + length new ≤ k) → take m (drop k (splice t at (length new) new)) ≡ take m (drop k t)
-apart t new at k m inside (inl before) = slice_before t at (length new) new k m before (omega arith)
-apart t new at k m inside (inr behind) = slice_behind t at new k m behind inside
 
 -- at its place are the new bytes
 pub itself : (t new : List ℕ) (at : ℕ) → at + length new ≤ length t → take (length new) (drop at (splice t at (length new) new)) ≡ new

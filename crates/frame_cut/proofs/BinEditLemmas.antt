@@ -186,11 +186,16 @@ slice_behind bytes a new k m h le =
     ∙ drop-drop further (a + length new) bytes
     ∙ ap (λ (i : ℕ). drop i bytes) at)
 
--- bytes apart from it
+-- bytes apart from it, where it keeps the length
+pub apart : (t new : List ℕ) (at k m : ℕ) → at + length new ≤ length t → (k + m ≤ at) ⊎ (at + length new ≤ k) → take m (drop k (splice t at (length new) new)) ≡ take m (drop k t)
+apart t new at k m inside (inl before) = slice_before t at (length new) new k m before (omega arith)
+apart t new at k m inside (inr behind) = slice_behind t at new k m behind inside
+
+-- bytes of a part that is apart from it
 slice_apart : (bytes : List ℕ) (a : ℕ) (new : List ℕ) (low high k m : ℕ) → low ≤ k → k + m ≤ high → (a + length new ≤ low) ⊎ (high ≤ a) → a + length new ≤ length bytes
     → take m (drop k (splice bytes a (length new) new)) ≡ take m (drop k bytes)
-slice_apart bytes a new low high k m from to (inl behind) inside = slice_behind bytes a new k m (omega (arith, behind)) inside
-slice_apart bytes a new low high k m from to (inr before) inside = slice_before bytes a (length new) new k m (omega (arith, before)) (omega arith)
+slice_apart bytes a new low high k m from to (inl behind) inside = apart bytes new a k m inside (inr (omega (arith, behind)))
+slice_apart bytes a new low high k m from to (inr before) inside = apart bytes new a k m inside (inl (omega (arith, before)))
 
 -- bytes spliced into the binary header, at a place counted from 0 in it, apart from the fields that frame the file: bytes
 -- 3221-3222, 3225-3226, 3269-3272, 3297-3300, 3501-3510 and 3521-3532

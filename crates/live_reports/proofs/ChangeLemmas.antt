@@ -3,9 +3,9 @@ use Rattle.std.specs.Prelude.{◌≡◌, ◌+◌, ◌+ℤ◌, Bool, true, false,
 use Rattle.std.proofs.Common.{arith, ap}
 use Rattle.trace_record.specs.Facts.{Facts}
 use Rattle.trace_record.specs.Keys.{Counted, Key}
-use Rattle.trace_record.specs.Tally.{Tally, tally_of, plus, minus, Same, HasKeys, IsSmall}
+use Rattle.trace_record.specs.Tally.{Tally, tally_of, plus, minus, Same, IsSmall}
 use Rattle.trace_record.proofs.TallyLemmas.{Same-trans, Same-sym, plus-Same, minus-Same, minus-plus, plus_in_any_order, tally_of_one_more, tally_holds_each, IsSmall-Same}
-use Rattle.live_reports.specs.Where.{plus_where, minus_where, SmallWhere, HeldWhere, HasKeysWhere}
+use Rattle.live_reports.specs.Where.{plus_where, minus_where, SmallWhere, HeldWhere}
 
 -- two traces are counted alike
 pub record AreAlike (c : Counted) (f g : Facts) : Type 0 where
@@ -60,7 +60,3 @@ module _ (c : Counted) (front behind : List Facts) where
         by : (d : Bool) → b ≡ d → Same v (tally_of c (front ++ new ∷ behind))
         by true e = Same-trans _ _ _ (rw e at shrunk) (Same-trans _ _ _ (minus-Same c _ _ old (grown e)) (exchanged old new))
         by false e = Same-trans _ _ _ (rw e at shrunk) (Same-trans _ _ _ (rw e at grew) (Same-trans _ _ _ was (stays old new (alike e))))
-
--- a key that some list holds is held by a tally that says the same
-pub has_keys : (b : Bool) (c : Counted) (t u : Tally) (f : Facts) → Same t u → HasKeys c u f → HasKeysWhere b c t f
-has_keys b c t u f s h e k = let p = s.count k in let q = h k in omega arith

@@ -1,12 +1,13 @@
 -- What the running values have counted while new records come to stand in for others.
-use Rattle.std.specs.Prelude.{◌≡◌, ℕ, zero, suc, ◌+◌, ◌<◌, ◌≤◌, Bool, true, false, not, ◌&&◌, List, [], ◌∷◌, ◌++◌, length, take, drop, map, sum_by, slice_get, slice_set, get_or, Some, Result, Ok, Err, OnOk, refl}
+use Rattle.std.specs.Prelude.{◌≡◌, ℕ, zero, suc, ◌+◌, ◌<◌, ◌≤◌, Bool, true, false, not, ◌&&◌, List, [], ◌∷◌, ◌++◌, length, take, drop, map, sum_by, slice_get, slice_set, get_or, All, IfSome, Option, None, Some, Result, Ok, Err, OnOk, refl}
 use Rattle.std.proofs.Common.{arith, sym, ap, ap₂, ◌∙◌, subst}
 use Rattle.std.proofs.lemmas.List.{length-append, length-drop, length-set, map-append, append_assoc, append-nil, drop_more, drop_all, drop-set-lt, take_more_set, take-append-drop}
+use Rattle.std.proofs.lemmas.List.Elements.{All-get_or}
 use Rattle.std.proofs.lemmas.List.Sums.{sum_by-cons, sum_by-append}
 use Rattle.std.proofs.lemmas.Option.{get_or_from_slice_get, slice_get_within}
 use Rattle.trace_record.specs.Facts.{Facts, facts_of}
-use Rattle.trace_record.specs.Keys.{Counted}
-use Rattle.trace_record.specs.Tally.{Tally, tally_of, plus, minus, Same, IsSmall}
+use Rattle.trace_record.specs.Keys.{Counted, Key}
+use Rattle.trace_record.specs.Tally.{Tally, tally_of, plus, minus, Same, HasKeys, IsSmall}
 use Rattle.trace_record.specs.declared.record.Record.{Record}
 use Rattle.trace_record.proofs.TallyLemmas.{Same-trans, Same-sym, plus-Same, minus-Same, minus-plus, Holds-plus, tally-cons, IsSmall-Same}
 use Rattle.fault_live.specs.FaultKeys.{keys_of_faults}
@@ -16,8 +17,9 @@ use Rattle.range_stats.specs.TotalKeys.{keys_of_totals}
 use Rattle.live_reports.specs.declared.changes.Changes.{Changes}
 use Rattle.live_reports.specs.Alike.{same_cell, same_triple, same_places, same_samples}
 use Rattle.live_reports.specs.Exchanged.{with_records, same_cells, unlike, tallies_with_new, AreFewTogether}
-use Rattle.live_reports.specs.Tallies.{Tallies, tallies_of_records, plus_each, minus_each, plus_where_each, minus_where_each, SameEach, AreSmall, AreSmallWhere, HoldEach}
-use Rattle.live_reports.specs.Where.{plus_where, minus_where, SmallWhere, HeldWhere}
+use Rattle.live_reports.specs.Reports.{HasEachKey}
+use Rattle.live_reports.specs.Tallies.{Tallies, tallies_of_records, plus_each, minus_each, plus_where_each, minus_where_each, SameEach, AreSmall, AreSmallWhere, HaveKeys, HoldEach}
+use Rattle.live_reports.specs.Where.{plus_where, minus_where, SmallWhere, HeldWhere, HasKeysWhere}
 use Rattle.live_reports.proofs.AlikeLemmas.{in_grid, in_ranges, in_totals, in_faults}
 use Rattle.live_reports.proofs.ChangeLemmas.{AreAlike, held, fits, counted}
 use Rattle.live_reports.proofs.ListLemmas.{stands_at}
@@ -379,3 +381,37 @@ no_cells os new k past = ap (same_cells os) (drop_all k new past) ∙ by os
     by : (os : List Record) → same_cells os [] ≡ true
     by [] = refl
     by (o ∷ os) = refl
+
+-- ---- where each key is held
+
+-- other traces in front leave none uncounted
+counted_among : (c : Counted) (k : Key) (others rs : List Record) → (tally_of c (map facts_of rs)).count k ≤ (tally_of c (map facts_of (others ++ rs))).count k
+counted_among c k [] rs = omega arith
+counted_among c k (r ∷ others) rs =
+    let rest = counted_among c k others rs in
+    let more = (tally-cons c (facts_of r) (map facts_of (others ++ rs))).count k in
+    omega arith
+
+-- what the records are counted under, they are counted under beside new ones
+keys_among : (b : Bool) (c : Counted) (t : Tally) (others rs : List Record) (f : Facts) → Same t (tally_of c (map facts_of (others ++ rs))) → HasKeys c (tally_of c (map facts_of rs)) f → HasKeysWhere b c t f
+keys_among b c t others rs f same held e k =
+    let now = same.count k in
+    let there = held k in
+    let among = counted_among c k others rs in
+    omega arith
+
+-- a record whose keys the old records have finds them while others are exchanged
+pub keys_held : (rs new : List Record) (at k : ℕ) (r : Record) (changes : Changes) (t : Tallies) → SameEach t (tallies_with_new rs at new k) → HasEachKey rs r → HaveKeys changes t (facts_of r)
+keys_held rs new at k r changes t same held = record {
+  grid = keys_among changes.grid keys_of_grid t.grid (unlike same_cell (drop (at + k) rs) (drop k new)) rs (facts_of r) same.grid held.grid;
+  ranges = keys_among changes.ranges keys_of_ranges t.ranges (unlike same_places (drop (at + k) rs) (drop k new)) rs (facts_of r) same.ranges held.ranges;
+  totals = keys_among changes.totals keys_of_totals t.totals (unlike same_samples (drop (at + k) rs) (drop k new)) rs (facts_of r) same.totals held.totals;
+  triples = keys_among changes.triples keys_of_faults t.triples (unlike same_triple (drop (at + k) rs) (drop k new)) rs (facts_of r) same.triples held.triples;
+}
+
+-- what holds of all records holds of the one at a place, where there is one
+pub holds_there : (P : Record → Type 0) (rs : List Record) (k : ℕ) → All P rs → IfSome (slice_get rs k) P
+holds_there P rs k all = side (slice_get rs k) refl where
+  side : (o : Option Record) → slice_get rs k ≡ o → IfSome o P
+  side None e = tt
+  side (Some r) e = subst P (get_or_from_slice_get rs k r r e) (All-get_or P rs k r (slice_get_within rs k r e) all)

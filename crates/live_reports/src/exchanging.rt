@@ -1,8 +1,9 @@
 // Records that stand in for as many others, from a place on: first the new ones are counted beside
 // the old ones, since that may be refused, and then the old ones are counted no longer.
-ghost use Rattle.std.specs.Prelude.{◌≡◌, ◌+◌, ◌<◌, ◌≤◌, length, map, drop, OnOk, OnErr};
+ghost use Rattle.std.specs.Prelude.{◌≡◌, ◌+◌, ◌<◌, ◌≤◌, length, map, drop, slice_get, All, IfSome, OnOk, OnErr, IsOk};
 ghost use Rattle.trace_record.specs.Facts.{facts_of};
 ghost use Rattle.live_reports.specs.Exchanged.{with_records, tallies_with_new, AreFewTogether};
+ghost use Rattle.live_reports.specs.Reports.{HasEachKey};
 ghost use Rattle.live_reports.specs.Tallies.{tallies_of, tallies_of_records, SameEach};
 
 use crate::changes::changes_between;
@@ -25,6 +26,7 @@ pub(crate) fn add_each(
         (tallies_with_new records.now place new.now 0)) }
     ensures err { OnErr result (SameEach (tallies_of values.new)
         (tallies_of_records (map facts_of records.now))) }
+    ensures held { All (HasEachKey records.now) new.now → IsOk result }
 {
     for k in (0..new.len()).rev() {
         if let Err(error) = add_at(values, records, place, new, k) {
@@ -51,6 +53,7 @@ fn add_at(
     ensures ok { OnOk result (SameEach (tallies_of values.new)
         (tallies_with_new records.now place new.now k)) }
     ensures err { OnErr result (SameEach (tallies_of values.new) (tallies_of values.old)) }
+    ensures held { IfSome (slice_get new.now k) (HasEachKey records.now) → IsOk result }
 {
     let Some(old) = records.get(place + k) else {
         unreachable!()

@@ -1,4 +1,4 @@
-ghost use Rattle.std.specs.Prelude.{◌≡◌, ◌<◌, ◌≤◌, ◌+◌, length, drop, slice_get, slice_set, map, Some, IfOk, OnOk, OnErr, IsOk};
+ghost use Rattle.std.specs.Prelude.{◌≡◌, ◌<◌, ◌≤◌, ◌+◌, length, drop, slice_get, slice_set, map, All, Some, IfOk, OnOk, OnErr, IsOk};
 ghost use Rattle.std.specs.List.{insert, remove};
 ghost use Rattle.record_list.specs.Order.{with_moved};
 ghost use Rattle.trace_record.specs.Facts.{facts_of};
@@ -133,6 +133,7 @@ impl LiveReports {
         requires few { AreFew (with_records self.old place records.now) }
         ensures ok { OnOk result (self.new ≡ with_records self.old place records.now) }
         ensures err { OnErr result (self.new ≡ self.old) }
+        ensures held { All (HasEachKey self.old) records.now → IsOk result }
     {
         add_each(&mut self.values, &self.records, place, records)?;
         put_each(&mut self.values, &mut self.records, place, records);

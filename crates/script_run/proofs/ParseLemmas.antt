@@ -83,18 +83,3 @@ module _ (ws : List (List ℕ)) (s t at v w : List ℕ) (a b : ℕ) (x y : ℤ) 
   renumber_err fault r is h = rw (words, from, to, first, step) (field_err renumber_expected (λ f. Apply (edits.Renumber a b f x y)) refl (λ f. refl) (λ f n. n) (field_of at) fault r is h)
 
 -- ---- a text that found no memory
-
-no_memory_by : (expected : Read) (command : Command) (fault : LineFault) (r : Read) → IsErrAnd r (λ e. e ≡ fault) → fault ≡ OutOfMemory → expected ≡ Ok command → HoldsMemory command → IsRead expected r
-no_memory_by expected command fault (Ok c) is e f h = absurd is
-no_memory_by expected command fault (Err x) is e f h =
-    inr (ap (λ (k : LineFault). let r : Read = Err k in r) (is ∙ e), subst CommandTakesMemory (sym f) h)
-
-pub text_err : (rest v : List ℕ) (vs : List (List ℕ)) (ws : List (List ℕ)) (q : ℕ) (fault : LineFault) (r : Read) → ws ≡ v ∷ vs → position_of v ≡ Some q → IsErrAnd r (λ e. e ≡ fault) → fault ≡ OutOfMemory → IsRead (read_text rest ws) r
-text_err rest v vs ws q fault r words position is e =
-    rw (words, position) (no_memory_by _ (Apply (edits.SetText q (text_behind_word rest))) fault r is e refl tt)
-
-pub map_err : (ws : List (List ℕ)) (name at : List ℕ) (place : Place) (fault : LineFault) (r : Read) → ws ≡ name ∷ at ∷ [] → place_of_word at ≡ Some place → IsErrAnd r (λ e. e ≡ fault) → fault ≡ OutOfMemory → IsRead (read_map ws) r
-map_err ws name at place fault r words there is e = rw (words, there) (no_memory_by _ (Apply (edits.Map name place)) fault r is e refl tt)
-
-pub unmap_err : (ws : List (List ℕ)) (name : List ℕ) (fault : LineFault) (r : Read) → ws ≡ name ∷ [] → IsErrAnd r (λ e. e ≡ fault) → fault ≡ OutOfMemory → IsRead (read_unmap ws) r
-unmap_err ws name fault r words is e = rw words (no_memory_by _ (Apply (edits.Unmap name)) fault r is e refl tt)

@@ -64,10 +64,6 @@ first_word line s e =
     let more = prefix_len-drop_yes (λ c. not (is_gap c)) line s 0 (some_in (λ c. not (is_gap c)) line s e) (some_passes (λ c. not (is_gap c)) line s e) in
     sym (ap (λ n. kept is_gap (drop n line)) (sym at) ∙ kept-skip is_gap line) ∙ kept-first is_gap (drop s line) (omega (arith, more))
 
--- the first word has an end
-pub word_within : (text : List ℕ) → position_or_len is_gap text ≤ length text
-word_within text = prefix_len-le-length (λ x. not (is_gap x)) text
-
 -- the line's words are the word that was cut off and those of the rest
 pub next_is : (line text word rest : List ℕ) (s n : ℕ) → position (λ c. not (is_gap c)) line ≡ Some s → text ≡ drop s line
     → n ≡ position_or_len is_gap text → word ≡ take n text → rest ≡ drop n text → words_of line ≡ word ∷ words_of rest

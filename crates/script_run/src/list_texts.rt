@@ -40,7 +40,7 @@ pub(crate) fn push_list<W: Write, T: Listed>(
     for item in items {
         line.clear();
         item.push_text(&mut line, word);
-        line.push(b"\n");
+        line.push_byte(b'\n');
         out.push(writer, line.as_slice())?;
     }
     Ok(())

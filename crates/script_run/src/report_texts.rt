@@ -90,9 +90,9 @@ impl Listed for Cell {
 
     fn push_text(&self, line: &mut TextBuffer, word: &[u8]) {
         line.push(word);
-        line.push_numbered(b" ", self.inline);
-        line.push_numbered(b" ", self.crossline);
-        line.push_numbered(b" ", self.fold);
+        line.push_spaced(self.inline);
+        line.push_spaced(self.crossline);
+        line.push_spaced(self.fold);
     }
 }
 
@@ -101,8 +101,8 @@ impl Listed for Line {
 
     fn push_text(&self, line: &mut TextBuffer, word: &[u8]) {
         line.push(word);
-        line.push_numbered(b" ", self.number);
-        line.push_numbered(b" ", self.traces);
+        line.push_spaced(self.number);
+        line.push_spaced(self.traces);
     }
 }
 
@@ -111,8 +111,8 @@ impl Listed for FoldCount {
 
     fn push_text(&self, line: &mut TextBuffer, word: &[u8]) {
         line.push(word);
-        line.push_numbered(b" ", self.fold);
-        line.push_numbered(b" ", self.cells);
+        line.push_spaced(self.fold);
+        line.push_spaced(self.cells);
     }
 }
 
@@ -121,10 +121,10 @@ impl Listed for Row {
 
     fn push_text(&self, line: &mut TextBuffer, word: &[u8]) {
         line.push(word);
-        line.push_numbered(b" ", self.inline);
-        line.push_numbered(b" ", self.crossline);
-        line.push_numbered(b" ", self.position);
-        line.push_numbered(b" ", self.value);
+        line.push_spaced(self.inline);
+        line.push_spaced(self.crossline);
+        line.push_spaced(self.position);
+        line.push_spaced(self.value);
     }
 }
 

@@ -1,5 +1,5 @@
 // The text of a line that is printed, built without memory.
-ghost use Rattle.std.specs.Prelude.{◌≡◌, ◌≤◌, ◌+◌, ◌++◌, [], length};
+ghost use Rattle.std.specs.Prelude.{◌≡◌, ◌≤◌, ◌<◌, ◌+◌, ◌++◌, ◌∷◌, [], codes, length};
 
 use itoa::{Buffer, Integer};
 use std::marker::Model;
@@ -51,6 +51,15 @@ impl TextBuffer {
         self.length = end;
     }
 
+    /// Writes one byte behind what is there.
+    pub(crate) fn push_byte(&mut self, byte: u8)
+        requires { length self.old < 640 }
+        ensures { self.new ≡ self.old ++ byte ∷ [] }
+    {
+        self.bytes[self.length] = byte;
+        self.length += 1;
+    }
+
     /// Writes the number in decimal, with `-` in front where it is negative.
     pub(crate) fn push_number<I: Integer>(&mut self, number: I)
         requires { length self.old + 40 ≤ 640 }
@@ -66,6 +75,16 @@ impl TextBuffer {
         ensures short { length result.now ≤ 640 }
     {
         &self.bytes[..self.length]
+    }
+
+    /// Writes a blank and the number behind it.
+    pub(crate) fn push_spaced<I: Integer>(&mut self, number: I)
+        requires { length self.old ≤ 599 }
+        ensures text { self.new ≡ self.old ++ (codes " " ++ I.text number) }
+        ensures short { length self.new ≤ length self.old + 41 }
+    {
+        self.push_byte(b' ');
+        self.push_number(number);
     }
 
     /// Writes the text and the number behind it.

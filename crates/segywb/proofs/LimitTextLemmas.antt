@@ -7,8 +7,3 @@ use Rattle.segywb.specs.CommandLine.{ReadsLimit}
 pub no_limit : (text : Option (List ℕ)) → ((t : List ℕ) → text ≡ Some t → ⊥) → ReadsLimit text None
 no_limit None some = refl
 no_limit (Some t) some = absurd (some t refl)
-
--- the limit of a text, where there must be one
-pub limit_of : (text : Option (List ℕ)) (n : ℕ) → (text ≡ None → ⊥) → ((t : List ℕ) → text ≡ Some t → n ≡ digits_value 10 (without_leading_plus t)) → ReadsLimit text (Some n)
-limit_of None n none some = absurd (none refl)
-limit_of (Some t) n none some = ap (λ (m : ℕ). let o : Option ℕ = Some m in o) (some t refl)

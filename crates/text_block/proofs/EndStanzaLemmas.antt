@@ -29,10 +29,6 @@ squeezed-escaped code byte bytes h e = squeezed-other code byte bytes h ∙ rw e
 pub starts_with-more : (x m : ℕ) (xs : List ℕ) → m < 15 → starts_with nat_eq (x ∷ xs) (drop m end_stanza) ≡ (nat_eq (slice_index end_stanza m) x && starts_with nat_eq xs (drop (m + 1) end_stanza))
 starts_with-more x m xs l = rw (drop_more end_stanza m 0 l) refl
 
--- the text ends before the stanza
-pub starts_with-short : (m : ℕ) → m < 15 → starts_with nat_eq [] (drop m end_stanza) ≡ false
-starts_with-short m l = rw (drop_more end_stanza m 0 l) refl
-
 -- the stanza has no backslash
 pub no_backslash : (m : ℕ) → m < 15 → nat_eq (slice_index end_stanza m) 92 ≡ false
 no_backslash m l = agree_below_at (λ k. nat_eq (slice_index end_stanza k) 92) (λ _. false) 15 m refl l
@@ -43,11 +39,6 @@ starts_with-backslash m xs l = starts_with-more 92 m xs l ∙ ap (λ t. t && sta
 -- all of the stanza is found
 pub starts_with-whole : (m : ℕ) (xs : List ℕ) → m ≡ 15 → starts_with nat_eq xs (drop m end_stanza) ≡ true
 starts_with-whole m xs e = rw e refl
-
--- where m characters of the stanza are found, what the byte at i does: a space is passed over
-pub matches-space : (code : Code) (xs : List ℕ) (i m : ℕ) → i < length xs → is_space code (slice_index xs i) ≡ true →
-    starts_with nat_eq (compact_text code (drop i xs)) (drop m end_stanza) ≡ starts_with nat_eq (compact_text code (drop (i + 1) xs)) (drop m end_stanza)
-matches-space code xs i m l h = ap (λ ys. starts_with nat_eq ys (drop m end_stanza)) (ap (compact_text code) (drop_more xs i 0 l) ∙ squeezed-space code (slice_index xs i) (drop (i + 1) xs) h)
 
 -- the next character of the stanza is one more of it
 pub matches-next : (code : Code) (xs : List ℕ) (i m c : ℕ) → i < length xs → m < 15 → is_space code (slice_index xs i) ≡ false → character_of code (slice_index xs i) ≡ Some c → to_ascii_lowercase c ≡ slice_index end_stanza m →
@@ -71,10 +62,6 @@ pub matches-escaped : (code : Code) (xs : List ℕ) (i m : ℕ) → i < length x
 matches-escaped code xs i m l b h e =
     ap (λ ys. starts_with nat_eq ys (drop m end_stanza)) (ap (compact_text code) (drop_more xs i 0 l) ∙ squeezed-escaped code (slice_index xs i) (drop (i + 1) xs) h e)
     ∙ starts_with-backslash m _ b
-
--- the bytes end before the stanza
-pub matches-end : (code : Code) (xs : List ℕ) (i m : ℕ) → length xs ≤ i → m < 15 → starts_with nat_eq (compact_text code (drop i xs)) (drop m end_stanza) ≡ false
-matches-end code xs i m l b = ap (λ ys. starts_with nat_eq (compact_text code ys) (drop m end_stanza)) (drop_all i xs l) ∙ starts_with-short m b
 
 -- the stanza begins at no character other than its first
 has_part-skip : (p : ℕ) (ps xs ys : List ℕ) → list_all (λ x. not (x == p)) xs ≡ true → has_part (p ∷ ps) (xs ++ ys) ≡ has_part (p ∷ ps) ys
@@ -116,7 +103,3 @@ has_part-parenthesis code xs n i begins same l e b =
     ap (compact_text code) (drop_more xs i 0 (omega (arith, same, l))) ∙ ap (λ y. compact_text code (y ∷ drop (i + 1) xs)) e ∙ squeezed-parenthesis code (drop (i + 1) xs) in
     let whole : take (n - i) (drop i xs) ≡ drop i xs = ap (λ m. take (m - i) (drop i xs)) (sym same) ∙ take_rest xs i in
     rw (b, whole, cut) refl
-
--- it ends with the bytes
-pub has_part-end : (code : Code) (xs : List ℕ) (i : ℕ) → length xs ≤ i → has_part end_stanza (compact_text code (drop i xs)) ≡ false
-has_part-end code xs i l = ap (λ ys. has_part end_stanza (compact_text code ys)) (drop_all i xs l)

@@ -44,18 +44,3 @@ fits_of_bytes o f bytes long each =
     tested (is_signed f) (width f) (sample_value o f bytes) (in_format f (unsigned o bytes) (subst (λ (bs : List ℕ). unsigned o bs < 256 ^ width f) whole small))
 
 -- ---- in 8 bytes
-
-widened : (f : Format) (v : ℤ) → IsBetween (is_signed f) (width f) v → IsBetween (is_signed f) 8 v
-widened Signed32 v h = (omega (arith, ints, h.0, h.1), omega (arith, ints, h.0, h.1))
-widened Signed16 v h = (omega (arith, ints, h.0, h.1), omega (arith, ints, h.0, h.1))
-widened Signed24 v h = (omega (arith, ints, h.0, h.1), omega (arith, ints, h.0, h.1))
-widened Signed8 v h = (omega (arith, ints, h.0, h.1), omega (arith, ints, h.0, h.1))
-widened Signed64 v h = h
-widened Unsigned32 v h = (h.0, omega (arith, ints, h.0, h.1))
-widened Unsigned16 v h = (h.0, omega (arith, ints, h.0, h.1))
-widened Unsigned64 v h = h
-widened Unsigned24 v h = (h.0, omega (arith, ints, h.0, h.1))
-widened Unsigned8 v h = (h.0, omega (arith, ints, h.0, h.1))
-
-pub in_8_bytes : (f : Format) (v : ℤ) → IsTrue (sample_fits f v) → IsBetween (is_signed f) 8 v
-in_8_bytes f v h = widened f v (in_range (kind_of f) v h)

@@ -78,16 +78,6 @@ turn_first k many es entries e number v is read apart other =
 abbrev pub told : ℕ → ℕ → Cache → ℕ → Cache
 told k many es i = cache_after_change k many (drop (length es - i) es) ++ take (length es - i) es
 
-pub turn_none : (k many : ℕ) (es : Cache) → es ≡ told k many es 0
-turn_none k many es =
-    let all : length es - 0 ≡ length es = omega arith in
-    rw (all, drop_all (length es) es (omega arith), take_all (length es) es (omega arith)) refl
-
-pub turn_all : (k many n : ℕ) (es : Cache) → n ≡ length es → told k many es n ≡ cache_after_change k many es
-turn_all k many n es whole =
-    let none : length es - n ≡ 0 = omega arith in
-    rw none (append-nil (cache_after_change k many es))
-
 pub turn_more : (k many i : ℕ) (es now next : Cache) → i < length es → now ≡ told k many es i → ((fs : Cache) (e : ℕ × List (ℕ × ℤ)) → now ≡ fs ++ e ∷ [] → next ≡ turned k many fs e)
     → next ≡ told k many es (i + 1)
 turn_more k many i es now next more here turn =

@@ -77,7 +77,7 @@ pub(crate) fn short_at(view: &TraceView<'_>, place: Place) -> i16
     requires size { place.kind.size ≡ 2 }
     ensures { result ≡ value_at (head_of view.now) (bytes_of view.now) place }
 {
-    i16_at(view, first_byte(place))
+    i16_at(view, u64::from(place.offset()))
 }
 
 // The number at a place of two or four bytes that the trace has.
@@ -90,7 +90,7 @@ pub(crate) fn signed_at(view: &TraceView<'_>, place: Place) -> i32
     if place.kind.size == 2 {
         i32::from(short_at(view, place))
     } else {
-        i32_at(view, first_byte(place))
+        i32_at(view, u64::from(place.offset()))
     }
 }
 
@@ -105,14 +105,6 @@ pub(crate) fn has_number(view: &TraceView<'_>, place: Place) -> bool
         && place.byte > 0
         && u32::from(place.byte) + u32::from(size) < 242
         && (place.extension == 0 || place.extension <= u16::from(view.extension_count()))
-}
-
-// Where the place begins in the trace, counted from 0.
-fn first_byte(place: Place) -> u64
-    requires { 0 < place.byte }
-    ensures { result ≡ 240 * place.extension + place.byte - 1 }
-{
-    240 * u64::from(place.extension) + u64::from(place.byte) - 1
 }
 
 // Whether bytes 233-240 are a name that means a plain trace: zeros, or SEG00000 in ASCII or EBCDIC.

@@ -12,6 +12,7 @@ use crate::reads_sample::{I24, Ordered, U24};
 use crate::unsigned::unsigned_statistics;
 use crate::wide::wide_statistics;
 use byteorder::{BigEndian, LittleEndian};
+use field_map::TRACE_HEADER_BYTES;
 use num_order::Order;
 use sample_codes::Format;
 use trace_view::TraceView;
@@ -62,7 +63,7 @@ fn gathered_statistics(view: &TraceView<'_>, from: u32, number: u32) -> Option<S
     ensures range { IfSome result HasRange }
 {
     let width = view.head().format.width();
-    let samples_at = 240 * (1 + u64::from(view.extension_count()));
+    let samples_at = TRACE_HEADER_BYTES as u64 * (1 + u64::from(view.extension_count()));
     let at = samples_at + u64::from(width) * u64::from(from);
     let mut block = [0; 8 * BLOCK as usize];
     read_statistics(

@@ -12,9 +12,6 @@ use Rattle.trace_seq.proofs.ChunkIdLemmas.{size-read, size-step}
 pub front-more : (cs : List Chunk) (k : ℕ) → k < length cs → front cs (k + 1) ≡ front cs k + size_at cs k
 front-more cs k h = ap (front cs) (add-one k) ∙ size-step cs k h
 
-pub front-all : (cs : List Chunk) (k : ℕ) → length cs ≤ k → front cs k ≡ length (ids_of cs)
-front-all cs k h = ap (λ l. length (ids_of l)) (take_all k cs h)
-
 pub front-le : (cs : List Chunk) (k : ℕ) → front cs k ≤ length (ids_of cs)
 front-le cs zero = omega arith
 front-le [] (suc k) = omega arith
@@ -60,15 +57,6 @@ set-lowered cs k c d short read less = record {
   above = λ j h. omega (arith, front-set_above cs k j d short h, size-read cs k c short read, less);
 }
 
--- an id more in the last chunk, or in a chunk behind it
-pub raised-kept : (old new : List Chunk) (k : ℕ) → length new ≡ k + 1 → AreRaised old new k → AreKept old new
-raised-kept old new k last raised j h = raised.below j (omega (arith, h, last))
-
-pub push-kept : (cs new : List Chunk) (d : Chunk) → new ≡ cs ++ d ∷ [] → AreKept cs new
-push-kept cs new d is j h =
-    let within : j ≤ length cs = omega (arith, h, ap (λ (l : List Chunk). length l) is, length-append cs (d ∷ [])) in
-    ap (λ (l : List Chunk). front l j) is ∙ ap (λ l. length (ids_of l)) (take-append-le j cs (d ∷ []) within)
-
 -- ---- the numbers of the groups
 
 -- an id more in the chunk at k
@@ -91,10 +79,6 @@ fronts-lowered cs ds k fs new raised right same low high = λ g within.
       | inr above ↦ omega (arith, high g above here, right g here, raised.above (16 * g) (omega arith))
     ]
 
--- some id stands in front of each group behind that of a chunk with an id
-pub fronts-some : (cs ds : List Chunk) (k g : ℕ) (fs : List ℕ) → AreRaised ds cs k → AreFronts cs fs → k / 16 + 1 ≤ g → g < length fs → 0 < slice_index fs g
-fronts-some cs ds k g fs raised right above within = omega (arith, right g within, raised.above (16 * g) (omega arith))
-
 -- no number is more than that of all ids
 pub fronts-few : (cs : List Chunk) (g : ℕ) (fs : List ℕ) → AreFronts cs fs → g < length fs → slice_index fs g ≤ length (ids_of cs)
 fronts-few cs g fs right within = omega (arith, right g within, front-le cs (16 * g))
@@ -104,11 +88,6 @@ pub fronts-kept : (cs ds : List Chunk) (fs : List ℕ) → AreKept cs ds → 16 
 fronts-kept cs ds fs kept few right = λ g within. right g within ∙ sym (kept (16 * g) (omega arith))
 
 -- ---- a place is found
-
--- how many ids stand in front of the group that was found
-pub front-found : (cs : List Chunk) (fs : List ℕ) (number first : ℕ) → AreFronts cs fs → (0 < number → slice_index fs number ≡ first) → (0 < number → number < length fs) → (number ≡ 0 → first ≡ 0) → front cs (16 * number) ≡ first
-front-found cs fs zero first right told within start = sym (start refl)
-front-found cs fs (suc n) first right told within start = sym (right (suc n) (within (omega arith))) ∙ told (omega arith)
 
 -- a place in front of another group is in this one
 pub few-chunks : (cs : List Chunk) (fs : List ℕ) (number k offset place : ℕ) → AreFronts cs fs → length fs ≡ groups_of (length cs) → (0 < number → number < length fs) → (number + 1 < length fs → place < slice_index fs (number + 1))

@@ -1,5 +1,6 @@
 pub mod WrittenLemmas
 pub mod PlainLemmas
+pub mod CountedLemmas
 pub mod StepLemmas
 pub mod SampleStepLemmas
 pub mod PlaceLemmas

@@ -10,7 +10,7 @@ use Rattle.trace_view.specs.Runs.{FitFrom, Fit, bytes_with_runs_from, bytes_with
 use Rattle.trace_view.proofs.WrittenLemmas.{FitFrom-le}
 
 -- both tests hold
-both : (a b : Bool) → (a && b) ≡ true → (a ≡ true) × (b ≡ true)
+pub both : (a b : Bool) → (a && b) ≡ true → (a ≡ true) × (b ≡ true)
 both true b h = (refl, h)
 both false b h = cc
 

@@ -49,6 +49,11 @@ pub(crate) fn sample_count(head: &Head, bytes: &Overlaid<'_>) -> u32
     ensures { result ≡ sample_count_of head.now
         (bytes_with_runs bytes.now.base.now bytes.now.runs.now) }
 {
+    // Where all traces have one number, the trace's own is not looked for: it costs an access to
+    // memory that is seldom at hand.
+    if head.fixed {
+        return head.samples;
+    }
     let wide = if head.extensions == 0 {
         0
     } else {

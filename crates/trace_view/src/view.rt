@@ -1,8 +1,9 @@
-ghost use Rattle.std.specs.Prelude.{◌≡◌, length, take};
+ghost use Rattle.std.specs.Prelude.{◌≡◌, ◌+◌, ◌<◌, ◌^◌, length, take};
 ghost use Rattle.std.specs.Bool.{OnTrue};
 ghost use Rattle.num_order.specs.Number.{IsSize};
 ghost use Rattle.frame_cut.specs.Cuts.{IsTrace};
 ghost use Rattle.frame_cut.specs.Splice.{splice};
+ghost use Rattle.trace_view.specs.Counted.{leave_length as leave_length_of, share_no_byte as share_no_byte_of};
 ghost use Rattle.trace_view.specs.Runs.{Fit, bytes_with_runs};
 ghost use Rattle.trace_view.specs.Values.{is_in_header as is_in_header_of};
 
@@ -81,6 +82,10 @@ impl<'a> TraceView<'a> {
         ensures { result ≡ trace_length_of (head_of self.now)
             (splice (bytes_of self.now) at (length bytes.now) bytes.now) }
     {
+        let length = self.length();
+        if leave_length(self.head, at, bytes.len() as u64) {
+            return Some(length);
+        }
         frame_cut::length_by_front();
         let mut gathered = [0; 480];
         let front = &mut gathered[..front_length(self.head)];
@@ -242,6 +247,27 @@ fn lay_over(front: &mut [u8], at: usize, bytes: &[u8])
         let end = bytes.len().min(front.len() - at);
         front[at..at + end].copy_from_slice(&bytes[..end]);
     }
+}
+
+// Whether so many bytes of a trace, from a place on, are none that tells its length.
+fn leave_length(head: &Head, at: u64, size: u64) -> bool
+    requires { at + size < 2 ^ 64 }
+    ensures { result ≡ leave_length_of head.now at size }
+{
+    let wide = TRACE_HEADER_BYTES as u64 + 137 - 1;
+    let count = TRACE_HEADER_BYTES as u64 + 157 - 1;
+    share_no_byte(at, size, 115 - 1, 2)
+        && (head.extensions == 0
+            || (share_no_byte(at, size, wide, 4) && share_no_byte(at, size, count, 2)))
+}
+
+// Whether so many bytes from one place on, and so many from another, share none.
+fn share_no_byte(a: u64, n: u64, b: u64, m: u64) -> bool
+    requires first { a + n < 2 ^ 64 }
+    requires second { b + m < 2 ^ 64 }
+    ensures { result ≡ share_no_byte_of a n b m }
+{
+    a + n <= b || b + m <= a
 }
 
 // Whether it is the place of a number inside a header of 240 bytes.

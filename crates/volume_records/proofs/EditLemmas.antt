@@ -45,11 +45,3 @@ records-with_moved v fields rs a b first last e =
     let i = has_record v fields rs a first last e in
     ap (λ o. map facts_of (put_back o (remove rs (a - 1)) (b - 1))) i.is
     ∙ records-with_inserted (without v a) fields (remove rs (a - 1)) b (trace_at v a) i.held (records-without v fields rs a e) i.facts
-
--- with another line of the textual header
-pub records-with_line : (v : Volume) (fields : Pairs) (rs : List Record) (q : ℕ) (line : List ℕ) → map facts_of rs ≡ records_of v fields → map facts_of rs ≡ records_of (with_line v q line) fields
-records-with_line v fields rs q line e = e
-
--- with other bytes in the binary header
-pub records-with_header_bytes : (v : Volume) (fields : Pairs) (rs : List Record) (at : ℕ) (new : List ℕ) → map facts_of rs ≡ records_of v fields → map facts_of rs ≡ records_of (with_header_bytes v at new) fields
-records-with_header_bytes v fields rs at new e = e

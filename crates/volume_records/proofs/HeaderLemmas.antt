@@ -13,7 +13,7 @@ use Rattle.frame_cut.specs.declared.file_head.Head.{Head}
 use Rattle.frame_cut.specs.Cuts.{IsTrace}
 use Rattle.frame_cut.specs.Frames.{header_bytes, extension_count, extensions_of, sample_count, trace_length, length_with}
 use Rattle.frame_cut.specs.Splice.{splice}
-use Rattle.frame_cut.proofs.BinEditLemmas.{slice_before, slice_behind}
+use Rattle.frame_cut.proofs.BinEditLemmas.{apart}
 use Rattle.frame_cut.proofs.EditLemmas.{length-splice}
 use Rattle.trace_view.specs.Values.{samples_at, sample_bytes, samples_in, samples_of}
 use Rattle.trace_record.specs.Facts.{with_samples, with_samples_of}
@@ -50,12 +50,7 @@ measured h t is = measured-by h t (extension_count h t) refl is.exact
 
 -- ---- what a splice leaves
 
--- bytes apart from it are as they were
-apart : (t new : List ℕ) (at k m : ℕ) → at + length new ≤ length t → (k + m ≤ at) ⊎ (at + length new ≤ k) → take m (drop k (splice t at (length new) new)) ≡ take m (drop k t)
-apart t new at k m inside (inl before) = slice_before t at (length new) new k m before (omega arith)
-apart t new at k m inside (inr behind) = slice_behind t at new k m behind inside
-
--- so are all bytes behind it
+-- the bytes behind it
 drop-splice : (t new : List ℕ) (at k : ℕ) → at + length new ≤ k → k ≤ length t → drop k (splice t at (length new) new) ≡ drop k t
 drop-splice t new at k behind inside =
     let end : ℕ = at + length new in

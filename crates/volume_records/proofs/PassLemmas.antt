@@ -32,10 +32,6 @@ one_record_more v w fields n old new r same there e is grew =
     ∙ ap₂ (λ (fs : List Facts) (f : Facts). fs ++ f ∷ []) e here
     ∙ sym (first-more (record_of v.head fields) v.traces n [] there)
 
--- and all of them
-pub all_records : (v : Volume) (fields : Pairs) (n : ℕ) (rs : List Record) → n ≡ count_of v → map facts_of rs ≡ take n (records_of v fields) → map facts_of rs ≡ records_of v fields
-all_records v fields n rs whole e = e ∙ take_all n (records_of v fields) (omega (arith, length-map v.traces (record_of v.head fields), whole))
-
 -- one record more of the headers of a trace, with the samples of the record that is held at its place
 pub one_header_more : (v w : Volume) (fields : Pairs) (known : List Record) (p n q : ℕ) (old new : List Record) (r held : Record) → w ≡ v → p + n < count_of v → slice_get known (p + n) ≡ Some held → q ≡ p + n + 1
     → map facts_of old ≡ take n (drop p (headers_of v fields (map facts_of known))) → facts_of r ≡ with_samples_of (record_of w.head fields (trace_at w q)) (facts_of held) → new ≡ old ++ r ∷ []

@@ -1,6 +1,7 @@
-use Rattle.std.proofs.Common.{sym, ◌∙◌}
+use Rattle.std.proofs.Common.{sym, refl, ◌∙◌, ◌+◌}
+use Rattle.std.proofs.lemmas.Option.{slice_get_read}
 use Rattle.live_reports.specs.Tallies.{tallies_of}
-use Rattle.live_reports.proofs.ExchangeLemmas.{small_from, room_from, each_added, on_ok}
+use Rattle.live_reports.proofs.ExchangeLemmas.{keys_held, small_from, room_from, each_added, on_ok}
 use Rattle.live_reports.proofs.SmallLemmas.{AreSmall-Same}
 use Rattle.live_reports.proofs.exchanging.add_at.Goals as goal
 
@@ -21,3 +22,9 @@ returns-clause-ok c =
     c.changes_between.result c.changes_between.ensures.grid c.changes_between.ensures.ranges c.changes_between.ensures.totals c.changes_between.ensures.triples
     (tallies_of c.args.values.now) (tallies_of c.add.new.self) c.requires.counted)
     c.add.ensures.ok
+
+pub returns-clause-held : goal.returns-clause-held
+returns-clause-held c = λ held.
+    c.add.ensures.held
+    (keys_held c.args.records.now c.args.new.now c.args.place (c.args.k + 1) c.index-new-k.result c.changes_between.result (tallies_of c.args.values.now) c.requires.counted
+    (rw (slice_get_read c.args.new.now _ c.args.k c.index-new-k.result refl c.requires.there c.index-new-k.is) at held))

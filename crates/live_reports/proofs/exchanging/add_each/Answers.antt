@@ -1,6 +1,7 @@
 use Rattle.std.proofs.Common.{sym, subst, length, ◌≤◌, ◌-◌, arith}
+use Rattle.live_reports.specs.Reports.{HasEachKey}
 use Rattle.live_reports.specs.Tallies.{Tallies, tallies_of, SameEach}
-use Rattle.live_reports.proofs.ExchangeLemmas.{few_left, none_left}
+use Rattle.live_reports.proofs.ExchangeLemmas.{few_left, holds_there, none_left}
 use Rattle.live_reports.proofs.exchanging.add_each.Goals as goal
 
 pub loop-k-init : goal.loop-k-init
@@ -11,3 +12,6 @@ loop-k-init c =
 
 pub add_at-requires-clause-few : goal.add_at-requires-clause-few
 add_at-requires-clause-few c = few_left c.args.records.now c.args.new.now (c.loop-k.k - 1) c.requires.few
+
+pub returns-in-Err-clause-held : goal.returns-in-Err-clause-held
+returns-in-Err-clause-held c = λ all. c.in-Err.ensures.held (holds_there (HasEachKey c.args.records.now) c.args.new.now (c.loop-k.k - 1) all)

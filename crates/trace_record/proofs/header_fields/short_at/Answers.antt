@@ -9,4 +9,4 @@ pub returns : goal.returns
 returns c =
     let fits : SFits w16 c.i16_at.result = search rules in
     to_z-of_z w16 _ fits
-    ∙ value_is (head_of c.args.view.now) (bytes_of c.args.view.now) c.args.place 2 c.first_byte.result c.i16_at.result c.requires.signed c.requires.size c.first_byte.ensures c.i16_at.ensures
+    ∙ value_is (head_of c.args.view.now) (bytes_of c.args.view.now) c.args.place 2 c.from.result c.i16_at.result c.requires.signed c.requires.size (c.from.ensures ∙ c.offset.ensures) c.i16_at.ensures

@@ -10,4 +10,4 @@ returns-else-place-eq2 c =
     let fits : SFits w32 c.i32_at.result = search rules in
     let four : c.args.place.kind.size ≡ 4 = search rules in
     to_z-of_z w32 _ fits
-    ∙ value_is (head_of c.args.view.now) (bytes_of c.args.view.now) c.args.place 4 _ c.i32_at.result c.requires.signed four c.first_byte.ensures c.i32_at.ensures
+    ∙ value_is (head_of c.args.view.now) (bytes_of c.args.view.now) c.args.place 4 _ c.i32_at.result c.requires.signed four (c.from-else-place-eq2.ensures ∙ c.offset.ensures) c.i32_at.ensures

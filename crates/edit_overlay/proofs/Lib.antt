@@ -5,6 +5,7 @@ pub mod HeldLemmas
 pub mod LengthLemmas
 pub mod MoveLemmas
 pub mod OrderLemmas
+pub mod PassLemmas
 pub mod PieceLemmas
 pub mod SavingLemmas
 pub mod SlotLemmas

@@ -17,12 +17,8 @@ use Rattle.trace_view.specs.declared.run.Run.{Run}
 use Rattle.trace_view.specs.Runs.{Fit, bytes_with_runs}
 use Rattle.edit_overlay.specs.declared.slot.Base.{Base}
 use Rattle.edit_overlay.specs.declared.slot.Slot.{Slot}
-use Rattle.edit_overlay.specs.Slots.{base_of, base_under, bytes_in, bytes_under, IsInside, IsSlot}
+use Rattle.edit_overlay.specs.Slots.{base_of, base_under, bytes_in, bytes_under, AreHeld, IsHeldUnder, IsInside, IsSlot}
 use Rattle.edit_overlay.proofs.OrderLemmas.{place-of, held-at_place, map-alike, map-others, map-changed, map-insert, map-remove, map-at}
-
--- each id of the order has a slot with a whole trace
-abbrev pub AreHeld : List ℕ → Head → List ℕ → Slab Slot → Type 0
-AreHeld loaded h ids slots = (id : ℕ) → 0 < times id ids → IsSomeAnd (get slots id) (IsSlot loaded h)
 
 -- ---- a slot
 
@@ -46,18 +42,27 @@ fresh-slot loaded h slot none inside whole =
 
 -- ---- the slot under an id
 
+-- the slot that was found under an id is whole
+pub held-slot : (loaded : List ℕ) (h : Head) (slots : Slab Slot) (id : ℕ) (slot : Slot) → IsHeldUnder loaded h slots id → get slots id ≡ Some slot → IsSlot loaded h slot
+held-slot loaded h slots id slot held found = subst (λ (o : Option Slot). IsSomeAnd o (IsSlot loaded h)) found held
+
+pub held-missed : (loaded : List ℕ) (h : Head) (slots : Slab Slot) (id : ℕ) → IsHeldUnder loaded h slots id → get slots id ≡ None → ⊥
+held-missed loaded h slots id held none = subst (λ (o : Option Slot). IsSomeAnd o (IsSlot loaded h)) none held
+
+-- and has the trace's bytes
+pub bytes-there : (loaded : List ℕ) (slots : Slab Slot) (id : ℕ) (slot : Slot) → get slots id ≡ Some slot → bytes_under loaded slots id ≡ bytes_in loaded slot
+bytes-there loaded slots id slot found = ap (λ (o : Option Slot). option_map_or (bytes_in loaded) o []) found
+
 -- the id at a position has a slot
-pub slot-at : (loaded : List ℕ) (h : Head) (ids : List ℕ) (slots : Slab Slot) (p id : ℕ) → AreHeld loaded h ids slots → id_at ids p ≡ Some id → IsSomeAnd (get slots id) (IsSlot loaded h)
+pub slot-at : (loaded : List ℕ) (h : Head) (ids : List ℕ) (slots : Slab Slot) (p id : ℕ) → AreHeld loaded h ids slots → id_at ids p ≡ Some id → IsHeldUnder loaded h slots id
 slot-at loaded h ids slots p id held at = held id (held-at_place ids id (p - 1) (place-of ids id p at))
 
 -- the slot that was found under it is whole
 pub slot-found : (loaded : List ℕ) (h : Head) (ids : List ℕ) (slots : Slab Slot) (p id : ℕ) (slot : Slot) → AreHeld loaded h ids slots → id_at ids p ≡ Some id → get slots id ≡ Some slot → IsSlot loaded h slot
-slot-found loaded h ids slots p id slot held at found =
-    subst (λ (o : Option Slot). IsSomeAnd o (IsSlot loaded h)) found (slot-at loaded h ids slots p id held at)
+slot-found loaded h ids slots p id slot held at found = held-slot loaded h slots id slot (slot-at loaded h ids slots p id held at) found
 
 pub slot-missed : (loaded : List ℕ) (h : Head) (ids : List ℕ) (slots : Slab Slot) (p id : ℕ) → AreHeld loaded h ids slots → id_at ids p ≡ Some id → get slots id ≡ None → ⊥
-slot-missed loaded h ids slots p id held at none =
-    subst (λ (o : Option Slot). IsSomeAnd o (IsSlot loaded h)) none (slot-at loaded h ids slots p id held at)
+slot-missed loaded h ids slots p id held at none = held-missed loaded h slots id (slot-at loaded h ids slots p id held at) none
 
 is-there : (loaded : List ℕ) (h : Head) (o : Option Slot) → IsSomeAnd o (IsSlot loaded h) → IsSome o
 is-there loaded h None held = absurd held
@@ -71,7 +76,7 @@ pub trace-at : (loaded : List ℕ) (ids : List ℕ) (slots : Slab Slot) (p id : 
     → slice_index_or (map (bytes_under loaded slots) ids) (p - 1) [] ≡ bytes_in loaded slot
 trace-at loaded ids slots p id slot at found =
     map-at (bytes_under loaded slots) ids (p - 1) id [] (place-of ids id p at)
-    ∙ ap (λ (o : Option Slot). option_map_or (bytes_in loaded) o []) found
+    ∙ bytes-there loaded slots id slot found
 
 -- ---- a slot is changed
 

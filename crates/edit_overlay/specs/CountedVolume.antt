@@ -1,5 +1,5 @@
 -- What an overlay shows: a volume, what it would be with a prepared edit, and how often its traces were looked at.
-use Rattle.std.specs.Prelude.{ℕ, ◌≡◌, ◌+◌, ◌-◌, ◌≤◌, ◌^◌, nat_lt, if◌then◌else◌}
+use Rattle.std.specs.Prelude.{ℕ, ◌≡◌, ◌+◌, ◌-◌, ◌≤◌, ◌^◌, min, nat_lt, if◌then◌else◌}
 use Rattle.frame_cut.specs.Traces.{trace_at}
 use Rattle.frame_cut.specs.Volume.{Volume}
 use Rattle.trace_view.specs.declared.view.TraceView.{TraceView}
@@ -16,6 +16,10 @@ pub record CountedVolume : Type 0 where
 abbrev pub one_more : ℕ → ℕ
 one_more n = if nat_lt n (2 ^ 64 - 1) then n + 1 else n
 
+-- the count of looks after n more; it stays at `u64::MAX` once there
+abbrev pub more_looks : ℕ → ℕ → ℕ
+more_looks looks n = looks + min n (2 ^ 64 - 1 - looks)
+
 -- a count of looks is not less than it was, and so many more at most
 abbrev pub RisesAtMost : ℕ → ℕ → ℕ → Type 0
 RisesAtMost old new n = (old ≤ new) × (new ≤ old + n)
@@ -23,6 +27,10 @@ RisesAtMost old new n = (old ≤ new) × (new ≤ old + n)
 -- the same volume after one more look
 abbrev pub with_one_look : CountedVolume → CountedVolume
 with_one_look o = record o { looks = one_more o.looks }
+
+-- the same volume after n more looks
+abbrev pub with_more_looks : CountedVolume → ℕ → CountedVolume
+with_more_looks o n = record o { looks = more_looks o.looks n }
 
 -- the same number of looks at another volume, for which nothing is prepared
 abbrev pub with_volume : CountedVolume → Volume → CountedVolume

@@ -6,3 +6,5 @@ pub mod Slots
 pub mod Each
 pub mod CountedVolume
 pub mod Looks
+pub mod Shown
+pub mod Passes

@@ -48,10 +48,18 @@ base_under loaded slots id = option_map_or (λ slot. base_of loaded slot.base) (
 abbrev pub bases_of : TraceStore → List (List ℕ)
 bases_of s = map (base_under s.loaded.items s.slots) s.order.ids
 
+-- the id has a slot with a whole trace
+abbrev pub IsHeldUnder : List ℕ → Head → Slab Slot → ℕ → Type 0
+IsHeldUnder loaded h slots id = IsSomeAnd (get slots id) (IsSlot loaded h)
+
+-- each of these ids has a slot with a whole trace
+abbrev pub AreHeld : List ℕ → Head → List ℕ → Slab Slot → Type 0
+AreHeld loaded h ids slots = (id : ℕ) → 0 < times id ids → IsHeldUnder loaded h slots id
+
 -- each id of the order has a slot with a whole trace, no id stands twice, there is no slot but those of the order, and
 -- they can be counted in 32 bits
 pub record IsStore (s : TraceStore) : Type 0 where
-  pub slots : (id : ℕ) → 0 < times id s.order.ids → IsSomeAnd (get s.slots id) (IsSlot s.loaded.items s.head)
+  pub slots : AreHeld s.loaded.items s.head s.order.ids s.slots
   pub distinct : AreDistinct s.order.ids
   pub no_more : slab_len s.slots ≡ length s.order.ids
   pub few : length s.order.ids < 2 ^ 32

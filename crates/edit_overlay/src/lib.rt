@@ -23,23 +23,27 @@
 //! makes the edit; `discard` drops it. An overlay holds one such edit at a time, and any other edit
 //! drops it.
 //!
-//! `look` and `look_prepared` show a trace in the pieces in which it is held, and are counted:
-//! contracts can say how often traces were read.
+//! `look` and `look_prepared` show a trace in the pieces in which it is held, and `pass` shows all
+//! of them in order. Looks are counted: contracts can say how often traces were read.
 #![tactic(auto)]
 
 mod bytes;
 mod out_of_memory;
 mod overlay;
+mod pass;
 mod prepared;
 mod reading_in;
 mod save_fault;
 mod slot;
 mod store;
+mod views;
 mod writing_out;
 
 pub use crate::out_of_memory::OutOfMemory;
 pub use crate::overlay::Overlay;
+pub use crate::pass::Pass;
 pub use crate::save_fault::SaveFault;
+pub use crate::views::Views;
 
 #[cfg(test)]
 mod tests;

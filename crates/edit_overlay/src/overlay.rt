@@ -15,11 +15,13 @@ ghost use Rattle.edit_overlay.specs.Saving.{Saves};
 
 use crate::bytes::{array_at, overwrite};
 use crate::out_of_memory::OutOfMemory;
+use crate::pass::Pass;
 use crate::prepared::Prepared;
 use crate::reading_in::read_file;
 use crate::save_fault::SaveFault;
 use crate::slot::Base;
 use crate::store::TraceStore;
+use crate::views::Views;
 use crate::writing_out::write_volume;
 use device_io::{Sink, Source};
 use frame_cut::{Head, Limits, LoadFault, Reading, cut};
@@ -54,7 +56,9 @@ impl Model for Overlay {
 
 impl Overlay {
     ghost use Rattle.edit_overlay.specs.CountedVolume.{IsViewOf};
-    ghost use Rattle.edit_overlay.specs.Looks.{EndsLooked};
+    ghost use Rattle.edit_overlay.specs.Looks.{EndsLooked, EndsPassed};
+    ghost use Rattle.edit_overlay.specs.Passes.{volume_of};
+    ghost use Rattle.edit_overlay.specs.Shown.{shown_traces};
 
     /// Reads a whole file and cuts it. Takes memory. Refused: L01 where a read failed in this call,
     /// L02 to L15 for the first reason that the file gives, L16 where a growth was refused.
@@ -162,6 +166,23 @@ impl Overlay {
         ensures { IsViewOf self.now.volume p result }
     {
         self.store.view(p)
+    }
+
+    /// A pass over all traces as they are now, in order, and one look more for each. The looks are
+    /// counted where the pass is made, however far it goes. Takes no memory.
+    pub fn pass(&mut self) -> Pass<'_>
+        ensures* counts { sem 𝓛 (EndsPassed self.entry) }
+        ensures volume { volume_of result ≡ self.old.volume }
+    {
+        self.looks = self.looks.saturating_add(u64::from(self.count()));
+        Pass::new(self)
+    }
+
+    // All traces in order.
+    pub(crate) fn views(&self) -> Views<'_>
+        ensures { result ≡ shown_traces self.now.volume }
+    {
+        Views::new(&self.store)
     }
 
     /// Trace p, counted from 1, as it would be with the edit that is prepared, and one look more;

@@ -7,7 +7,7 @@ ghost use Rattle.frame_cut.specs.Splice.{splice};
 ghost use Rattle.trace_seq.specs.Order.{id_at};
 ghost use Rattle.trace_view.specs.Runs.{Fit, bytes_with_runs};
 ghost use Rattle.trace_view.specs.Shown.{bytes_of, head_of};
-ghost use Rattle.edit_overlay.specs.Slots.{base_of, bases_of, traces_of, IsInside, IsStore};
+ghost use Rattle.edit_overlay.specs.Slots.{base_of, bases_of, bytes_under, traces_of, IsHeldUnder, IsInside, IsStore};
 ghost use Rattle.frame_cut.specs.Parts.{put_each_at};
 ghost use Rattle.edit_overlay.specs.Each.{part_of, ArePutRuns, ArePutEach};
 ghost use Rattle.edit_overlay.specs.Ahead.{traces_moved, traces_then, traces_with, AreRunsFrom, AreRunsOf, IsReady};
@@ -88,7 +88,15 @@ impl TraceStore {
         ensures head { head_of result ≡ self.now.head }
         ensures bytes { bytes_of result ≡ slice_index_or (traces_of self.now) (p - 1) [] }
     {
-        let id = self.id(p);
+        self.view_under(self.id(p))
+    }
+
+    // The trace under an id.
+    pub fn view_under(&self, id: usize) -> TraceView<'_>
+        requires { IsHeldUnder self.now.loaded.items self.now.head self.now.slots id }
+        ensures head { head_of result ≡ self.now.head }
+        ensures bytes { bytes_of result ≡ bytes_under self.now.loaded.items self.now.slots id }
+    {
         match self.slots.get(id) {
             Some(slot) => {
                 let base = slot.base_bytes(self.loaded.as_slice());

@@ -12,6 +12,7 @@ use frame_cut::{Head, Limits, LoadFault, Reading, front_length, trace_length};
 use std::alloc::Global;
 use std::process::Abort;
 use std::test::Fail;
+use trace_view::TraceView;
 
 // Big-endian, revision 1.0, two 16-bit samples a trace, two traces of zeros but for their last
 // samples.
@@ -89,9 +90,13 @@ fn expect_trace(rt: &impl Abort, volume: &mut Overlay, p: u32, expected: &[u8]) 
 }
 
 fn shows(volume: &mut Overlay, p: u32, expected: &[u8]) -> bool {
-    let Some(view) = volume.look(p) else {
-        return false;
-    };
+    match volume.look(p) {
+        Some(view) => has_bytes(&view, expected),
+        None => false,
+    }
+}
+
+fn has_bytes(view: &TraceView<'_>, expected: &[u8]) -> bool {
     let mut room = [0u8; 300];
     if expected.len() > room.len() || view.length() != expected.len() as u64 {
         return false;
@@ -99,6 +104,17 @@ fn shows(volume: &mut Overlay, p: u32, expected: &[u8]) -> bool {
     let shown = &mut room[..expected.len()];
     view.read(0, shown);
     *shown == *expected
+}
+
+// Asserts that a pass shows traces of these bytes, at most 300 each.
+fn expect_pass(rt: &impl Abort, volume: &mut Overlay, expected: &[&[u8]]) {
+    let mut passed = 0;
+    for view in volume.pass() {
+        assert!(rt; passed < expected.len());
+        assert!(rt; has_bytes(&view, expected[passed]));
+        passed += 1;
+    }
+    assert_eq!(rt; passed, expected.len());
 }
 
 // Whether the bytes are a whole trace.
@@ -268,6 +284,37 @@ fn counts_looks(rt: HostRuntime) -> Result<(), Fail> {
         assert!(rt; volume.look(0).is_none());
         assert!(rt; volume.look(3).is_none());
         assert_eq!(rt; volume.looks(), 3);
+        Ok(())
+    })
+}
+
+// A put over the second trace and a new one in front are seen, and each pass counts its looks.
+#[test]
+fn passes_over_all_traces(rt: HostRuntime) -> Result<(), Fail> {
+    let alloc = rt.alloc();
+    let new = trace(alloc, 1, 0x22)?;
+    on_small(alloc, |file, volume| {
+        let (new, first) = (new.as_slice(), part(file, 3600, 3844));
+        expect_pass(&rt, volume, &[first, part(file, 3844, 4088)]);
+        assert_eq!(rt; volume.looks(), 2);
+        put(alloc, volume, 2, 0, part(file, 3600, 3844))?;
+        insert(alloc, volume, 1, new)?;
+        let before = volume.looks();
+        expect_pass(&rt, volume, &[new, first, first]);
+        assert_eq!(rt; volume.looks(), before.saturating_add(3));
+        Ok(())
+    })
+}
+
+// A pass counts its looks where it is made, and one that is broken off counts no fewer.
+#[test]
+fn counts_a_pass_that_is_broken_off(rt: HostRuntime) -> Result<(), Fail> {
+    on_small(rt.alloc(), |_, volume| {
+        for view in volume.pass() {
+            assert_eq!(rt; view.length(), 244);
+            break;
+        }
+        assert_eq!(rt; volume.looks(), 2);
         Ok(())
     })
 }

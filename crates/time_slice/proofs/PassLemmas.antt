@@ -1,6 +1,6 @@
 -- The pass that makes the rows, and the slice that records give.
-use Rattle.std.specs.Prelude.{◌≡◌, ℕ, ℤ, ◌+◌, ◌*◌, ◌-◌, ◌<◌, IsTrue, List, [], ◌∷◌, ◌++◌, All, map, take, slice_index_or, slice_range, Option, Some, None, IfSome, refl}
-use Rattle.std.proofs.Common.{arith, sym, ap, ◌∙◌, append_assoc, drop, drop-cons, drop-drop, add-one}
+use Rattle.std.specs.Prelude.{◌≡◌, ℕ, ℤ, ◌+◌, ◌*◌, ◌-◌, ◌<◌, IsTrue, List, [], ◌∷◌, ◌++◌, All, map, take, slice_index_or, slice_range, Option, Some, None, IfSome, refl, length}
+use Rattle.std.proofs.Common.{arith, sym, ap, ◌∙◌, append_assoc, append-nil, drop, drop-cons, drop-drop, add-one}
 use Rattle.std.proofs.lemmas.Bool.{lt-ltb}
 use Rattle.std.proofs.lemmas.List.Elements.{All-nil, All-cons, All-append, All-same}
 use Rattle.std.specs.List.{zip}
@@ -41,19 +41,24 @@ fits_more f old new p facts s grew fits all = All-same (λ r. IsTrue (sample_fit
     by (Some v) fits = All-cons (λ r. IsTrue (sample_fits f r.value)) (record { inline = facts.inline; crossline = facts.crossline; position = p; value = v }) [] fits (All-nil (λ r. IsTrue (sample_fits f r.value)))
 
 -- what is written and what is left are the whole, before and after one trace
-pub row_is_written : (v w : Volume) (k i : ℕ) (r : Record) (rs : List Record) (s : Option ℤ) (old new all : List Row) → w ≡ v → i < count_of v
-    → s ≡ sample_of w.head (trace_at w (i + 1)) k → new ≡ old ++ row_of (i + 1) (facts_of r) s
+pub row_is_written : (v : Volume) (k i : ℕ) (r : Record) (rs : List Record) (s : Option ℤ) (old new all : List Row) → i < count_of v
+    → s ≡ sample_of v.head (trace_at v (i + 1)) k → new ≡ old ++ row_of (i + 1) (facts_of r) s
     → old ++ rows_from (i + 1) (with_sample_of v.head k (r ∷ rs) (drop i v.traces)) ≡ all
     → new ++ rows_from (i + 1 + 1) (with_sample_of v.head k rs (drop (i + 1) v.traces)) ≡ all
-row_is_written v w k i r rs s old new all same there seen grew told =
+row_is_written v k i r rs s old new all there seen grew told =
     let rest = rows_from (i + 1 + 1) (with_sample_of v.head k rs (drop (i + 1) v.traces)) in
     let place : i + 1 - 1 ≡ i = omega arith in
-    let sample : s ≡ sample_of v.head (slice_index_or v.traces i []) k = seen ∙ ap (λ (u : Volume). sample_of u.head (trace_at u (i + 1)) k) same ∙ ap (λ j. sample_of v.head (slice_index_or v.traces j []) k) place in
+    let sample : s ≡ sample_of v.head (slice_index_or v.traces i []) k = seen ∙ ap (λ j. sample_of v.head (slice_index_or v.traces j []) k) place in
     let first : drop i v.traces ≡ slice_index_or v.traces i [] ∷ drop (i + 1) v.traces = drop-cons v.traces i [] there ∙ ap (λ n. slice_index_or v.traces i [] ∷ drop n v.traces) (sym (add-one i)) in
     ap (λ l. l ++ rest) (grew ∙ ap (λ o. old ++ row_of (i + 1) (facts_of r) o) sample)
     ∙ append_assoc old (row_of (i + 1) (facts_of r) (sample_of v.head (slice_index_or v.traces i []) k)) rest
     ∙ ap (λ ts. old ++ rows_from (i + 1) (with_sample_of v.head k (r ∷ rs) ts)) (sym first)
     ∙ told
+
+-- where no record is left, the whole is written
+pub all_written : (h : Head) (k i : ℕ) (rs : List Record) (ts : List (List ℕ)) (rows all : List Row) → length rs ≡ 0 → rows ++ rows_from (i + 1) (with_sample_of h k rs ts) ≡ all → rows ≡ all
+all_written h k i [] ts rows all none told = sym (append-nil rows) ∙ told
+all_written h k i (r ∷ rs) ts rows all none told = absurd (omega (arith, none))
 
 -- facts beside the samples of their own traces
 pub beside_own : (h : Head) (fields : Pairs) (k : ℕ) (traces : List (List ℕ)) → zip (map (record_of h fields) traces) (map (λ t. sample_of h t k) traces) ≡ with_sample h fields k traces

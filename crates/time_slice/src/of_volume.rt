@@ -1,10 +1,10 @@
 ghost use Rattle.std.specs.Prelude.{◌≡◌, ◌++◌, length, All, IfOk, IfSome, OnOk, IsTrue};
-ghost use Rattle.frame_cut.specs.Traces.{count_of, is_trace, trace_at};
+ghost use Rattle.frame_cut.specs.Traces.{count_of};
 ghost use Rattle.sample_codes.specs.Formats.{width, sample_value, sample_fits};
 ghost use Rattle.trace_view.specs.Shown.{head_of, bytes_of};
 ghost use Rattle.trace_view.specs.Values.{sample_of};
 ghost use Rattle.trace_record.specs.Facts.{facts_of};
-ghost use Rattle.edit_overlay.specs.CountedVolume.{RisesAtMost, with_one_look};
+ghost use Rattle.edit_overlay.specs.CountedVolume.{RisesAtMost};
 ghost use Rattle.time_slice.specs.OfRecords.{with_sample_of};
 ghost use Rattle.time_slice.specs.Slices.{row_of, rows_from, slice_rows};
 
@@ -62,9 +62,9 @@ fn rows_in_place(
     let _count = overlay.count();
     let mut rows = Vec::new(alloc);
     let mut position = 0;
-    for record in records.iter() {
+    for (record, trace) in records.iter().zip(overlay.pass()) {
         position += 1;
-        let sample = look_at_sample(overlay, position, k);
+        let sample = sample_that_fits(&trace, k);
         push_row(&mut rows, &record, position, sample)?;
     }
     Ok(rows)
@@ -89,20 +89,6 @@ pub(crate) fn push_row(
         })?;
     }
     Ok(())
-}
-
-// Sample k of the trace at a position, in one look.
-fn look_at_sample(overlay: &mut Overlay, position: u32, k: u32) -> Option<i128>
-    requires { IsTrue (is_trace overlay.old.volume position) }
-    ensures sample { result ≡ sample_of overlay.old.volume.head
-        (trace_at overlay.old.volume position) k }
-    ensures fits { IfSome result (λ v. IsTrue (sample_fits overlay.old.volume.head.format v)) }
-    ensures overlay { overlay.new ≡ with_one_look overlay.old }
-{
-    let Some(trace) = overlay.look(position) else {
-        unreachable!()
-    };
-    sample_that_fits(&trace, k)
 }
 
 // Sample k of the trace. Read by its bytes, since they tell that its format has the number.

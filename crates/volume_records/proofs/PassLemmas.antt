@@ -1,5 +1,5 @@
 -- The pass that makes the records.
-use Rattle.std.proofs.Common.{◌≡◌, ℕ, ◌+◌, ◌-◌, ◌<◌, List, [], ◌∷◌, ◌++◌, length, take, drop, get_or, Some, sym, ap, ap₂, ◌∙◌, arith}
+use Rattle.std.proofs.Common.{◌≡◌, ℕ, ◌+◌, ◌-◌, ◌<◌, ◌≤◌, List, [], ◌∷◌, ◌++◌, length, take, drop, get_or, Some, sym, ap, ap₂, ◌∙◌, arith}
 use Rattle.std.specs.Prelude.{map, slice_get}
 use Rattle.std.specs.List.{zip}
 use Rattle.std.proofs.lemmas.List.{length-map, length-drop, get_or-drop, get_or-map, map-append, take-map, take_more, take_all}
@@ -22,15 +22,19 @@ first-more f xs n d there =
     ∙ ap (λ l. l ++ f (get_or xs n d) ∷ []) (sym (take-map f n xs))
 
 -- one record more
-pub one_record_more : (v w : Volume) (fields : Pairs) (n : ℕ) (old new : List Record) (r : Record) → w ≡ v → n < count_of v → map facts_of old ≡ take n (records_of v fields) → facts_of r ≡ record_of w.head fields (trace_at w (n + 1)) → new ≡ old ++ r ∷ []
+pub one_record_more : (v : Volume) (fields : Pairs) (n : ℕ) (old new : List Record) (r : Record) → n < count_of v → map facts_of old ≡ take n (records_of v fields) → facts_of r ≡ record_of v.head fields (trace_at v (n + 1)) → new ≡ old ++ r ∷ []
     → map facts_of new ≡ take (n + 1) (records_of v fields)
-one_record_more v w fields n old new r same there e is grew =
+one_record_more v fields n old new r there e is grew =
     let place : n + 1 - 1 ≡ n = omega arith in
-    let here : facts_of r ≡ record_of v.head fields (get_or v.traces n []) = is ∙ ap (λ (u : Volume). record_of u.head fields (trace_at u (n + 1))) same ∙ ap (λ i. record_of v.head fields (get_or v.traces i [])) place in
+    let here : facts_of r ≡ record_of v.head fields (get_or v.traces n []) = is ∙ ap (λ i. record_of v.head fields (get_or v.traces i [])) place in
     ap (map facts_of) grew
     ∙ map-append facts_of old (r ∷ [])
     ∙ ap₂ (λ (fs : List Facts) (f : Facts). fs ++ f ∷ []) e here
     ∙ sym (first-more (record_of v.head fields) v.traces n [] there)
+
+-- and all of them
+pub all_records : (v : Volume) (fields : Pairs) (n : ℕ) (rs : List Record) → count_of v ≤ n → map facts_of rs ≡ take n (records_of v fields) → map facts_of rs ≡ records_of v fields
+all_records v fields n rs whole e = e ∙ take_all n (records_of v fields) (omega (arith, length-map v.traces (record_of v.head fields), whole))
 
 -- one record more of the headers of a trace, with the samples of the record that is held at its place
 pub one_header_more : (v w : Volume) (fields : Pairs) (known : List Record) (p n q : ℕ) (old new : List Record) (r held : Record) → w ≡ v → p + n < count_of v → slice_get known (p + n) ≡ Some held → q ≡ p + n + 1

@@ -1,8 +1,9 @@
-ghost use Rattle.std.specs.Prelude.{◌≡◌, IfOk, IsTrue, map};
-ghost use Rattle.frame_cut.specs.Traces.{count_of, is_trace, trace_at};
+ghost use Rattle.std.specs.Prelude.{◌≡◌, IfOk, map};
+ghost use Rattle.frame_cut.specs.Traces.{count_of};
+ghost use Rattle.trace_view.specs.Shown.{head_of, bytes_of};
 ghost use Rattle.trace_record.specs.Facts.{facts_of};
 ghost use Rattle.trace_record.specs.OfTrace.{record_of as record_of_trace};
-ghost use Rattle.edit_overlay.specs.CountedVolume.{RisesAtMost, with_one_look};
+ghost use Rattle.edit_overlay.specs.CountedVolume.{RisesAtMost};
 ghost use Rattle.volume_records.specs.OfVolume.{IsOfFile, records_of};
 
 use crate::OutOfMemory;
@@ -12,6 +13,7 @@ use live_reports::LiveReports;
 use record_list::RecordList;
 use std::alloc::Global;
 use trace_record::{Record, record_of};
+use trace_view::TraceView;
 
 /// The reports of a volume that is the cut of a file, under a map for the file: the record of each
 /// of its traces, in order, and the running values that have counted them. One pass over the
@@ -30,45 +32,21 @@ pub fn reports(
     ensures prepared { overlay.new.prepared ≡ overlay.old.prepared }
     ensures looks { RisesAtMost overlay.old.looks overlay.new.looks (count_of overlay.old.volume) }
 {
-    let count = overlay.count();
-    let records = first_records(alloc, overlay, fields, count)?;
+    // Read for the proof alone, which learns that the traces are counted in 32 bits.
+    let _count = overlay.count();
+    let mut records = RecordList::new(alloc);
+    for trace in overlay.pass() {
+        records.push(alloc, record_in_file(&trace, fields))?;
+    }
     Ok(LiveReports::from_records(alloc, records)?)
 }
 
-// The record of each trace, where there are so many.
-fn first_records(
-    alloc: Global,
-    overlay: &mut Overlay,
-    fields: &FieldMap,
-    count: u32,
-) -> Result<RecordList<Record>, OutOfMemory>
-    requires count { count ≡ count_of overlay.old.volume }
-    requires fields { fields.now.extensions ≡ overlay.old.volume.head.extensions }
-    ensures records { IfOk result (λ r. map facts_of r ≡
-        records_of overlay.old.volume fields.now.pairs) }
-    ensures volume { overlay.new.volume ≡ overlay.old.volume }
-    ensures prepared { overlay.new.prepared ≡ overlay.old.prepared }
-    ensures looks { RisesAtMost overlay.old.looks overlay.new.looks count }
-{
-    let mut records = RecordList::new(alloc);
-    for before in 0..count {
-        let record = look_at_record(overlay, fields, before + 1);
-        records.push(alloc, record)?;
-    }
-    Ok(records)
-}
-
-// The record of the trace at a position, in one look.
-fn look_at_record(overlay: &mut Overlay, fields: &FieldMap, position: u32) -> Record
-    requires trace { IsTrue (is_trace overlay.old.volume position) }
-    requires fields { fields.now.extensions ≡ overlay.old.volume.head.extensions }
-    ensures record { facts_of result ≡ record_of_trace overlay.old.volume.head fields.now.pairs
-        (trace_at overlay.old.volume position) }
-    ensures overlay { overlay.new ≡ with_one_look overlay.old }
+// The record of a trace of a file that the map is for.
+fn record_in_file(trace: &TraceView<'_>, fields: &FieldMap) -> Record
+    requires { fields.now.extensions ≡ (head_of trace.now).extensions }
+    ensures { facts_of result ≡ record_of_trace (head_of trace.now) fields.now.pairs
+        (bytes_of trace.now) }
 {
     fields.geometry_stands();
-    let Some(trace) = overlay.look(position) else {
-        unreachable!()
-    };
-    record_of(&trace, fields)
+    record_of(trace, fields)
 }

@@ -4,8 +4,8 @@ use Rattle.std.proofs.lemmas.List.{length-map}
 use Rattle.std.proofs.lemmas.List.Edits.{length-remove}
 use Rattle.trace_seq.specs.Order.{times, AreDistinct}
 use Rattle.trace_seq.proofs.TimeLemmas.{distinct-remove}
-use Rattle.edit_overlay.specs.Slots.{bytes_under}
-use Rattle.edit_overlay.proofs.SlotLemmas.{AreHeld, contains-at, absent-removed, held-removed, traces-removed}
+use Rattle.edit_overlay.specs.Slots.{bytes_under, AreHeld}
+use Rattle.edit_overlay.proofs.SlotLemmas.{contains-at, absent-removed, held-removed, traces-removed}
 use Rattle.edit_overlay.proofs.store.TraceStore.delete.Goals as goal
 
 pub remove-requires-2 : goal.remove-requires-2

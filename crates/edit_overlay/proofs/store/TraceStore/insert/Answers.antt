@@ -6,8 +6,8 @@ use Rattle.slab.specs.Slab.{SameValues}
 use Rattle.trace_seq.specs.Order.{times, AreDistinct}
 use Rattle.trace_seq.proofs.TimeLemmas.{distinct-insert}
 use Rattle.edit_overlay.specs.declared.slot.Slot.{Slot}
-use Rattle.edit_overlay.specs.Slots.{base_under, bytes_in, bytes_under}
-use Rattle.edit_overlay.proofs.SlotLemmas.{AreHeld, IsFreshSlot, fresh-slot, vacant-absent, room-made, room-counts, taken-back, held-same, bases-same, traces-same, on_err, held-inserted, traces-inserted}
+use Rattle.edit_overlay.specs.Slots.{base_under, bytes_in, bytes_under, AreHeld}
+use Rattle.edit_overlay.proofs.SlotLemmas.{IsFreshSlot, fresh-slot, vacant-absent, room-made, room-counts, taken-back, held-same, bases-same, traces-same, on_err, held-inserted, traces-inserted}
 use Rattle.edit_overlay.proofs.store.TraceStore.insert.Goals as goal
 
 pub returns-in_err-reserve-clause-err : goal.returns-in_err-reserve-clause-err

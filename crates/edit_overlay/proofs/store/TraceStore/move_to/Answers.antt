@@ -1,8 +1,8 @@
 use Rattle.std.proofs.Common.{◌-◌, ◌<◌, [], ◌∙◌, ℕ, List, length, map, sym, ap, subst, arith}
 use Rattle.std.proofs.lemmas.List.{length-map}
-use Rattle.edit_overlay.specs.Slots.{bytes_under}
+use Rattle.edit_overlay.specs.Slots.{bytes_under, AreHeld}
 use Rattle.edit_overlay.proofs.OrderLemmas.{map-moved}
-use Rattle.edit_overlay.proofs.SlotLemmas.{AreHeld, held-moved, times-moved, length-moved}
+use Rattle.edit_overlay.proofs.SlotLemmas.{held-moved, times-moved, length-moved}
 use Rattle.edit_overlay.proofs.store.TraceStore.move_to.Goals as goal
 
 pub returns-clause-store : goal.returns-clause-store

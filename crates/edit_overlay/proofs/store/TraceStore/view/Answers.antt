@@ -1,33 +1,15 @@
-use Rattle.std.proofs.Common.{◌∙◌, ℕ, List, sym, subst}
-use Rattle.edit_overlay.specs.Slots.{IsInside}
-use Rattle.edit_overlay.proofs.SlotLemmas.{slot-found, slot-missed, trace-at}
+use Rattle.std.proofs.Common.{◌-◌, [], ◌∙◌, sym}
+use Rattle.edit_overlay.specs.Slots.{bytes_under}
+use Rattle.edit_overlay.proofs.OrderLemmas.{map-at, place-of}
+use Rattle.edit_overlay.proofs.SlotLemmas.{slot-at}
 use Rattle.edit_overlay.proofs.store.TraceStore.view.Goals as goal
 
-pub base_bytes-base-requires : goal.base_bytes-base-requires
-base_bytes-base-requires c =
+pub view_under-requires : goal.view_under-requires
+view_under-requires c =
     let s = c.args.self.now in
-    let slot = slot-found s.loaded.items s.head s.order.ids s.slots c.args.p c.id-id.result c.in-Some.slot.now c.requires.store.slots c.id-id.ensures (sym c.in-Some.ensures) in
-    subst (λ (l : List ℕ). IsInside l c.in-Some.slot.now.base) (sym c.as_slice.ensures.value) slot.inside
-
-pub new-requires-clause-fit : goal.new-requires-clause-fit
-new-requires-clause-fit c =
-    let s = c.args.self.now in
-    let slot = slot-found s.loaded.items s.head s.order.ids s.slots c.args.p c.id-id.result c.in-Some.slot.now c.requires.store.slots c.id-id.ensures (sym c.in-Some.ensures) in
-    rw (c.as_slice-in-Some.ensures.value, c.base_bytes-base.ensures, c.as_slice.ensures.value) slot.fit
-
-pub new-requires-clause-whole : goal.new-requires-clause-whole
-new-requires-clause-whole c =
-    let s = c.args.self.now in
-    let slot = slot-found s.loaded.items s.head s.order.ids s.slots c.args.p c.id-id.result c.in-Some.slot.now c.requires.store.slots c.id-id.ensures (sym c.in-Some.ensures) in
-    rw (c.as_slice-in-Some.ensures.value, c.base_bytes-base.ensures, c.as_slice.ensures.value) slot.whole
-
-pub unreachable-requires : goal.unreachable-requires
-unreachable-requires c =
-    let s = c.args.self.now in
-    slot-missed s.loaded.items s.head s.order.ids s.slots c.args.p c.id-id.result c.requires.store.slots c.id-id.ensures (sym c.in-None.ensures)
+    slot-at s.loaded.items s.head s.order.ids s.slots c.args.p c.id.result c.requires.store.slots c.id.ensures
 
 pub returns-clause-bytes : goal.returns-clause-bytes
 returns-clause-bytes c =
     let s = c.args.self.now in
-    c.new.ensures.bytes
-    ∙ rw (c.as_slice-in-Some.ensures.value, c.base_bytes-base.ensures, c.as_slice.ensures.value) (sym (trace-at s.loaded.items s.order.ids s.slots c.args.p c.id-id.result c.in-Some.slot.now c.id-id.ensures (sym c.in-Some.ensures)))
+    c.view_under.ensures.bytes ∙ sym (map-at (bytes_under s.loaded.items s.slots) s.order.ids (c.args.p - 1) c.id.result [] (place-of s.order.ids c.id.result c.args.p c.id.ensures))

@@ -1,0 +1,38 @@
+use crate::overlay::Overlay;
+use crate::views::Views;
+use trace_view::TraceView;
+
+/// A pass over all traces of a volume, in order, whose looks are counted: a `for` over it shows
+/// each trace once.
+#[derive(Drop)]
+pub struct Pass<'a> {
+    overlay: &'a Overlay,
+}
+
+impl<'a> Pass<'a> {
+    ghost use Rattle.std.specs.Prelude.{◌≡◌};
+    ghost use Rattle.edit_overlay.specs.Passes.{volume_of};
+
+    // A pass over the traces of this overlay.
+    pub(crate) fn new(overlay: &'a Overlay) -> Pass<'a>
+        ensures { volume_of result ≡ overlay.now.volume }
+    {
+        Pass { overlay }
+    }
+}
+
+impl<'a> IntoIterator for Pass<'a> {
+    ghost use Rattle.std.specs.Prelude.{◌≡◌};
+    ghost use Rattle.edit_overlay.specs.Passes.{volume_of};
+    ghost use Rattle.edit_overlay.specs.Shown.{shown_traces};
+
+    type Item = TraceView<'a>;
+
+    type IntoIter = Views<'a>;
+
+    ghost into_iter_gives = { λ pass views. views ≡ shown_traces (volume_of pass) };
+
+    fn into_iter(self) -> Views<'a> {
+        self.overlay.views()
+    }
+}

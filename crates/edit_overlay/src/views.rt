@@ -1,0 +1,59 @@
+ghost use Rattle.std.specs.Prelude.{◌≡◌};
+ghost use Rattle.edit_overlay.specs.Slots.{IsStore};
+
+use crate::store::TraceStore;
+use std::marker::Model;
+use trace_seq::Ids;
+use trace_view::TraceView;
+
+/// An iterator over the traces of a volume, in order. Seen as what views of those that are left
+/// show. Takes each trace from its place, without a search, and no memory.
+#[derive(Drop)]
+pub struct Views<'a> {
+    store: &'a TraceStore,
+    ids: Ids<'a>,
+}
+
+impl<'a> Model for Views<'a> {
+    ghost use Rattle.std.specs.Prelude.{List};
+    ghost use Rattle.edit_overlay.specs.Shown.{ShownTrace, shown_under};
+    ghost use Rattle.edit_overlay.specs.Slots.{AreHeld};
+
+    ghost Value = { List ShownTrace };
+
+    ghost view = { λ p. shown_under p.store.now p.ids };
+
+    ghost invariant = { λ p. AreHeld p.store.now.loaded.items p.store.now.head p.ids
+        p.store.now.slots };
+}
+
+impl<'a> Views<'a> {
+    ghost use Rattle.edit_overlay.specs.Shown.{shown_under};
+
+    // All traces of the store.
+    pub(crate) fn new(store: &'a TraceStore) -> Views<'a>
+        requires { IsStore store.now }
+        ensures { result ≡ shown_under store.now store.now.order.ids }
+    {
+        Views {
+            store,
+            ids: store.order.ids(),
+        }
+    }
+}
+
+impl<'a> Iterator for Views<'a> {
+    ghost use Rattle.std.specs.Iterator.{YieldsFirstBy, item_count};
+    ghost use Rattle.edit_overlay.specs.Shown.{shown_by};
+
+    type Item = TraceView<'a>;
+
+    ghost next_gives = { YieldsFirstBy shown_by (λ s. s) };
+
+    ghost remaining = { item_count (λ s. s) };
+
+    fn next(&mut self) -> Option<TraceView<'a>> {
+        let id = self.ids.next()?;
+        Some(self.store.view_under(id))
+    }
+}

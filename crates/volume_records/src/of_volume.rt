@@ -9,9 +9,8 @@ use crate::OutOfMemory;
 use edit_overlay::Overlay;
 use field_map::FieldMap;
 use live_reports::LiveReports;
-use record_list::RecordList;
 use std::alloc::Global;
-use trace_record::{Record, record_of};
+use trace_record::{Record, Records, record_of};
 
 /// The reports of a volume that is the cut of a file, under a map for the file: the record of each
 /// of its traces, in order, and the running values that have counted them. One pass over the
@@ -41,7 +40,7 @@ fn first_records(
     overlay: &mut Overlay,
     fields: &FieldMap,
     count: u32,
-) -> Result<RecordList<Record>, OutOfMemory>
+) -> Result<Records, OutOfMemory>
     requires count { count ≡ count_of overlay.old.volume }
     requires fields { fields.now.extensions ≡ overlay.old.volume.head.extensions }
     ensures records { IfOk result (λ r. map facts_of r ≡
@@ -50,7 +49,7 @@ fn first_records(
     ensures prepared { overlay.new.prepared ≡ overlay.old.prepared }
     ensures looks { RisesAtMost overlay.old.looks overlay.new.looks count }
 {
-    let mut records = RecordList::new(alloc);
+    let mut records = Records::new(alloc);
     for before in 0..count {
         let record = look_at_record(overlay, fields, before + 1);
         records.push(alloc, record)?;

@@ -22,9 +22,8 @@ use crate::location::Location;
 use fault_live::{Faults, HeadFacts};
 use grid_live::Grid;
 use range_stats::{Quantity, Ranges, Totals};
-use record_list::RecordList;
 use std::alloc::Global;
-use trace_record::{Record, Statistics};
+use trace_record::{Record, Records, Statistics};
 
 /// Where the trace of this record lies. Takes no memory.
 pub fn geometry(trace: &Record) -> Answer
@@ -135,7 +134,7 @@ fn all_four(
 pub fn faults(
     alloc: Global,
     triples: &Faults,
-    records: &RecordList<Record>,
+    records: &Records,
     head: &HeadFacts,
 ) -> Result<Answer, AskFault>
     requires { length records.now < 2 ^ 32 }

@@ -11,10 +11,9 @@ ghost use Rattle.fault_live.specs.Faults.{faults_of};
 use crate::firsts::{first_place, key_of, keys_of};
 use crate::report::{push_head, push_trace, units_of_first};
 use crate::{Fault, HeadFacts, OutOfMemory};
-use record_list::RecordList;
 use std::alloc::Global;
 use std::collections::BTreeMap;
-use trace_record::{Counts, Record, Running};
+use trace_record::{Counts, Record, Records, Running};
 
 /// How often inline, crossline and offset stand together, over traces that come and go.
 #[derive(Drop)]
@@ -38,10 +37,7 @@ impl Running for Faults {
         }
     }
 
-    fn from_records(
-        alloc: Global,
-        records: &RecordList<Record>,
-    ) -> Result<Faults, trace_record::OutOfMemory> {
+    fn from_records(alloc: Global, records: &Records) -> Result<Faults, trace_record::OutOfMemory> {
         let keys = keys_of(alloc, records)?;
         Ok(Faults {
             records: records.len() as u64,
@@ -73,7 +69,7 @@ impl Faults {
     pub fn report(
         &self,
         alloc: Global,
-        records: &RecordList<Record>,
+        records: &Records,
         head: &HeadFacts,
     ) -> Result<Vec<Fault>, OutOfMemory>
         requires { length records.now < 2 ^ 32 }

@@ -4,10 +4,9 @@ ghost use Rattle.std.specs.BTreeMap.{get};
 ghost use Rattle.fault_live.specs.OfFaults.{triple_cmp};
 
 use crate::OutOfMemory;
-use record_list::RecordList;
 use std::alloc::{AllocError, Global};
 use std::collections::BTreeMap;
-use trace_record::Record;
+use trace_record::{Record, Records};
 
 // Inline, crossline and offset together.
 pub(crate) fn key_of(trace: &Record) -> (i32, i32, i32)
@@ -17,10 +16,7 @@ pub(crate) fn key_of(trace: &Record) -> (i32, i32, i32)
 }
 
 // The keys of these traces, in their order.
-pub(crate) fn keys_of(
-    alloc: Global,
-    records: &RecordList<Record>,
-) -> Result<Vec<(i32, i32, i32)>, AllocError>
+pub(crate) fn keys_of(alloc: Global, records: &Records) -> Result<Vec<(i32, i32, i32)>, AllocError>
     ensures { IfOk result (λ keys. keys.items ≡
         map (λ r. (r.inline, r.crossline, r.offset)) records.now) }
 {

@@ -8,11 +8,10 @@ use crate::checks::{
     has_the_units, push_unless,
 };
 use crate::{Fault, HeadFacts, OutOfMemory};
-use record_list::RecordList;
-use trace_record::Record;
+use trace_record::{Record, Records};
 
 // The coordinate units of the first trace.
-pub(crate) fn units_of_first(records: &RecordList<Record>) -> i16
+pub(crate) fn units_of_first(records: &Records) -> i16
     ensures { result ≡ first_units (map facts_of records.now) }
 {
     match records.get(0) {

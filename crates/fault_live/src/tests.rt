@@ -3,10 +3,9 @@
 ghost use Rattle.std.specs.Prelude.{◌<◌, ◌^◌, length};
 
 use crate::{Fault, Faults, HeadFacts};
-use record_list::RecordList;
 use std::alloc::Global;
 use std::test::Fail;
-use trace_record::{OutOfMemory, Ratio, Record, Running};
+use trace_record::{OutOfMemory, Ratio, Record, Records, Running};
 
 fn there_and_back(alloc: Global, trace: &Record) -> Result<Faults, OutOfMemory> {
     let mut faults = Faults::new(alloc);
@@ -42,7 +41,7 @@ fn counts_a_trace_and_forgets_it(rt: HostRuntime) -> Result<(), Fail> {
 fn report_of(alloc: Global, records: &[Record], head: &HeadFacts) -> Result<Vec<Fault>, Fail>
     requires { length records.now < 2 ^ 16 }
 {
-    let list = RecordList::from_slice(alloc, records)?;
+    let list = Records::from_slice(alloc, records)?;
     let faults = Faults::from_records(alloc, &list)?;
     Ok(faults.report(alloc, &list, head)?)
 }

@@ -3,9 +3,8 @@ ghost use Rattle.grid_live.specs.Fitting.{CellsFit};
 use crate::keys::{cell_keys, crossline_keys, inline_keys};
 use crate::lists::{histogram_of_cells, lines_of};
 use crate::{Cell, FoldCount, Line, OutOfMemory};
-use record_list::RecordList;
 use std::alloc::Global;
-use trace_record::{Counts, Record, Running, raise_both};
+use trace_record::{Counts, Record, Records, Running, raise_both};
 
 /// How many traces each cell, inline and crossline has, over traces that come and go. It keeps its
 /// allocator.
@@ -98,10 +97,7 @@ impl Running for Grid {
         }
     }
 
-    fn from_records(
-        alloc: Global,
-        records: &RecordList<Record>,
-    ) -> Result<Grid, trace_record::OutOfMemory> {
+    fn from_records(alloc: Global, records: &Records) -> Result<Grid, trace_record::OutOfMemory> {
         let cells = Counts::from_keys(alloc, cell_keys(alloc, records)?)?;
         let inlines = Counts::from_keys(alloc, inline_keys(alloc, records)?)?;
         let crosslines = Counts::from_keys(alloc, crossline_keys(alloc, records)?)?;

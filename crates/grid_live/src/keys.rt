@@ -2,14 +2,10 @@
 ghost use Rattle.std.specs.Prelude.{◌≡◌, IfOk, All, FitsSigned, map};
 ghost use Rattle.std.specs.Int.{w32};
 
-use record_list::RecordList;
 use std::alloc::{AllocError, Global};
-use trace_record::Record;
+use trace_record::Records;
 
-pub(crate) fn cell_keys(
-    alloc: Global,
-    records: &RecordList<Record>,
-) -> Result<Vec<(i32, i32)>, AllocError>
+pub(crate) fn cell_keys(alloc: Global, records: &Records) -> Result<Vec<(i32, i32)>, AllocError>
     ensures keys { IfOk result (λ keys. keys.items ≡
         map (λ r. (r.inline, r.crossline)) records.now) }
     ensures fit { IfOk result (λ keys. All (λ k. FitsSigned w32 k.0 ×
@@ -21,19 +17,13 @@ pub(crate) fn cell_keys(
         .collect(alloc)
 }
 
-pub(crate) fn inline_keys(
-    alloc: Global,
-    records: &RecordList<Record>,
-) -> Result<Vec<i32>, AllocError>
+pub(crate) fn inline_keys(alloc: Global, records: &Records) -> Result<Vec<i32>, AllocError>
     ensures { IfOk result (λ keys. keys.items ≡ map (λ r. r.inline) records.now) }
 {
     records.iter().map(|r| r.inline).collect(alloc)
 }
 
-pub(crate) fn crossline_keys(
-    alloc: Global,
-    records: &RecordList<Record>,
-) -> Result<Vec<i32>, AllocError>
+pub(crate) fn crossline_keys(alloc: Global, records: &Records) -> Result<Vec<i32>, AllocError>
     ensures { IfOk result (λ keys. keys.items ≡ map (λ r. r.crossline) records.now) }
 {
     records.iter().map(|r| r.crossline).collect(alloc)

@@ -8,13 +8,12 @@ ghost use Rattle.live_reports.specs.Tallies.{tallies_of, tallies_of_records, Sam
 
 use crate::changes::changes_between;
 use crate::values::Values;
-use record_list::RecordList;
-use trace_record::{OutOfMemory, Record};
+use trace_record::{OutOfMemory, Record, Records};
 
 // Counts the new records beside the others, or none of them where a growth is refused.
 pub(crate) fn add_each(
     values: &mut Values,
-    records: &RecordList<Record>,
+    records: &Records,
     place: usize,
     new: &[Record],
 ) -> Result<(), OutOfMemory>
@@ -40,7 +39,7 @@ pub(crate) fn add_each(
 // Counts new record k beside those that follow it and the others.
 fn add_at(
     values: &mut Values,
-    records: &RecordList<Record>,
+    records: &Records,
     place: usize,
     new: &[Record],
     k: usize,
@@ -63,13 +62,7 @@ fn add_at(
 }
 
 // No longer counts the new records from new record k on.
-fn remove_from(
-    values: &mut Values,
-    records: &RecordList<Record>,
-    place: usize,
-    new: &[Record],
-    k: usize,
-)
+fn remove_from(values: &mut Values, records: &Records, place: usize, new: &[Record], k: usize)
     requires place { place + length new.now ≤ length records.now }
     requires few { AreFewTogether records.now new.now }
     requires counted { SameEach (tallies_of values.old)
@@ -82,13 +75,7 @@ fn remove_from(
 }
 
 // No longer counts new record k.
-fn remove_at(
-    values: &mut Values,
-    records: &RecordList<Record>,
-    place: usize,
-    new: &[Record],
-    k: usize,
-)
+fn remove_at(values: &mut Values, records: &Records, place: usize, new: &[Record], k: usize)
     requires there { k < length new.now }
     requires place { place + length new.now ≤ length records.now }
     requires few { AreFewTogether records.now (drop k new.now) }
@@ -105,12 +92,7 @@ fn remove_at(
 }
 
 // Puts the new records, which are counted, where the others stand, and no longer counts those.
-pub(crate) fn put_each(
-    values: &mut Values,
-    records: &mut RecordList<Record>,
-    place: usize,
-    new: &[Record],
-)
+pub(crate) fn put_each(values: &mut Values, records: &mut Records, place: usize, new: &[Record])
     requires place { place + length new.now ≤ length records.old }
     requires few { AreFewTogether records.old new.now }
     requires counted { SameEach (tallies_of values.old)
@@ -125,13 +107,7 @@ pub(crate) fn put_each(
 }
 
 // Puts new record k in its place, and no longer counts the one that stood there.
-fn put_at(
-    values: &mut Values,
-    records: &mut RecordList<Record>,
-    place: usize,
-    new: &[Record],
-    k: usize,
-)
+fn put_at(values: &mut Values, records: &mut Records, place: usize, new: &[Record], k: usize)
     requires there { k < length new.now }
     requires place { place + length new.now ≤ length records.old }
     requires few { AreFewTogether records.old (drop k new.now) }

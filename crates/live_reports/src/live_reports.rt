@@ -21,16 +21,15 @@ use crate::values::Values;
 use fault_live::Faults;
 use grid_live::Grid;
 use range_stats::{Ranges, Totals};
-use record_list::RecordList;
 use std::alloc::Global;
 use std::marker::Model;
-use trace_record::Record;
+use trace_record::{Record, Records};
 
 /// The records of a volume's traces, in order, with the grid, the ranges, the totals and the
 /// triples of inline, crossline and offset that have counted them. Seen as the list of the records.
 #[derive(Drop)]
 pub struct LiveReports {
-    records: RecordList<Record>,
+    records: Records,
     values: Values,
 }
 
@@ -50,10 +49,7 @@ impl LiveReports {
     /// The reports of these records, each of the four made of all at once. Takes memory for what
     /// they hold and, while one is made, for a list of keys and one of their runs; where a growth
     /// is refused the records are dropped.
-    pub fn from_records(
-        alloc: Global,
-        records: RecordList<Record>,
-    ) -> Result<LiveReports, OutOfMemory>
+    pub fn from_records(alloc: Global, records: Records) -> Result<LiveReports, OutOfMemory>
         requires { AreFew records }
         ensures { IfOk result (λ reports. reports ≡ records) }
     {
@@ -69,7 +65,7 @@ impl LiveReports {
     }
 
     /// The records in order. Takes no memory.
-    pub fn records(&self) -> &RecordList<Record>
+    pub fn records(&self) -> &Records
         ensures records { result.now ≡ self.now }
         ensures few { AreFew self.now }
     {

@@ -5,10 +5,9 @@ ghost use Rattle.std.specs.Prelude.{◌≡◌, ◌∷◌, [], IfOk};
 use crate::LiveReports;
 use fault_live::{Fault, HeadFacts};
 use range_stats::Quantity;
-use record_list::RecordList;
 use std::alloc::Global;
 use std::test::Fail;
-use trace_record::{Ratio, Record};
+use trace_record::{Ratio, Record, Records};
 
 // A trace with two samples at this crossline of inline 10.
 fn trace_at(sequence: i32, crossline: i32, x: i32) -> Record
@@ -62,7 +61,7 @@ fn pair(alloc: Global, first: &Record, second: &Record) -> Result<LiveReports, F
     requires second { second.now.number ≡ 2 }
     ensures { IfOk result (λ reports. reports ≡ first.now ∷ second.now ∷ []) }
 {
-    let list = RecordList::from_slice(alloc, &[*first, *second])?;
+    let list = Records::from_slice(alloc, &[*first, *second])?;
     Ok(LiveReports::from_records(alloc, list)?)
 }
 

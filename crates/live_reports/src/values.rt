@@ -7,9 +7,8 @@ use crate::counting::{add_both, remove_both};
 use fault_live::Faults;
 use grid_live::Grid;
 use range_stats::{Ranges, Totals};
-use record_list::RecordList;
 use std::alloc::Global;
-use trace_record::{OutOfMemory, Record, Running};
+use trace_record::{OutOfMemory, Record, Records, Running};
 
 // The four running values.
 #[derive(Drop)]
@@ -22,10 +21,7 @@ pub(crate) struct Values {
 
 impl Values {
     // The values that counted these records, each made at once.
-    pub(crate) fn from_records(
-        alloc: Global,
-        records: &RecordList<Record>,
-    ) -> Result<Values, OutOfMemory>
+    pub(crate) fn from_records(alloc: Global, records: &Records) -> Result<Values, OutOfMemory>
         requires { AreSmall (tallies_of_records (map facts_of records.now)) }
         ensures { IfOk result (λ values. SameEach (tallies_of values)
             (tallies_of_records (map facts_of records.now))) }

@@ -7,9 +7,8 @@ ghost use Rattle.range_stats.specs.Extremes.{IsSpan, whole_count};
 use crate::Quantity;
 use crate::counted::span;
 use crate::keys::{crossline_keys, inline_keys, offset_keys, x_keys, y_keys};
-use record_list::RecordList;
 use std::alloc::Global;
-use trace_record::{Counts, OutOfMemory, Ratio, Record, Running, raise_both};
+use trace_record::{Counts, OutOfMemory, Ratio, Record, Records, Running, raise_both};
 
 /// The least and the greatest inline, crossline, offset, x and y of traces that come and go. Adding
 /// or removing a trace takes time by the logarithm of the number of traces.
@@ -42,7 +41,7 @@ impl Running for Ranges {
         }
     }
 
-    fn from_records(alloc: Global, records: &RecordList<Record>) -> Result<Ranges, OutOfMemory> {
+    fn from_records(alloc: Global, records: &Records) -> Result<Ranges, OutOfMemory> {
         let inlines = Counts::from_keys(alloc, inline_keys(alloc, records)?)?;
         let crosslines = Counts::from_keys(alloc, crossline_keys(alloc, records)?)?;
         let offsets = Counts::from_keys(alloc, offset_keys(alloc, records)?)?;

@@ -3,8 +3,7 @@ ghost use Rattle.trace_record.specs.Facts.{facts_of};
 ghost use Rattle.trace_record.specs.Tally.{tally_of, IsSmall};
 ghost use Rattle.range_stats.specs.TotalKeys.{keys_of_totals};
 
-use record_list::RecordList;
-use trace_record::Record;
+use trace_record::Records;
 
 // The number of samples of traces, and their sum.
 #[derive(Clone, Copy)]
@@ -14,7 +13,7 @@ pub(crate) struct Sums {
 }
 
 // The number of the samples of these traces, and their sum, in one pass.
-pub(crate) fn sums_of(records: &RecordList<Record>) -> Sums
+pub(crate) fn sums_of(records: &Records) -> Sums
     requires { IsSmall (tally_of keys_of_totals (map facts_of records.now)) }
     ensures number { result.number ≡ (tally_of keys_of_totals (map facts_of records.now)).number }
     ensures sum { result.sum ≡ (tally_of keys_of_totals (map facts_of records.now)).sum }

@@ -5,9 +5,8 @@ ghost use Rattle.trace_record.specs.Counts.{count_of, HasOneMoreWhere, HasSameCo
 use crate::counted::{greatest_key, least_key};
 use crate::keys::{greatest_keys, least_keys};
 use crate::sums::sums_of;
-use record_list::RecordList;
 use std::alloc::Global;
-use trace_record::{Counts, OutOfMemory, Record, Running, raise_both};
+use trace_record::{Counts, OutOfMemory, Record, Records, Running, raise_both};
 
 /// The least, the greatest, the sum and the number of the samples of traces that come and go. A
 /// trace without samples has no part in the least and the greatest. Adding or removing a trace
@@ -39,7 +38,7 @@ impl Running for Totals {
         }
     }
 
-    fn from_records(alloc: Global, records: &RecordList<Record>) -> Result<Totals, OutOfMemory> {
+    fn from_records(alloc: Global, records: &Records) -> Result<Totals, OutOfMemory> {
         let least_samples = Counts::from_keys(alloc, least_keys(alloc, records)?)?;
         let greatest_samples = Counts::from_keys(alloc, greatest_keys(alloc, records)?)?;
         let sums = sums_of(records);

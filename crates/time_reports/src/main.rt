@@ -18,10 +18,9 @@ use fault_live::{Faults, HeadFacts};
 use grid_live::Grid;
 use live_reports::LiveReports;
 use range_stats::{Quantity, Ranges, Totals};
-use record_list::RecordList;
 use std::alloc::Global;
 use std::{env, io};
-use trace_record::{Ratio, Record, Running};
+use trace_record::{Ratio, Record, Records, Running};
 
 // A record of a survey with a thousand traces on each inline, on a grid turned by 23 degrees.
 fn make(i: u32) -> Record
@@ -62,12 +61,12 @@ fn make_all(alloc: Global, count: u32) -> Result<Vec<Record>, OutOfMemory>
     Ok(records)
 }
 
-fn make_list(alloc: Global, count: u32) -> Result<RecordList<Record>, OutOfMemory>
+fn make_list(alloc: Global, count: u32) -> Result<Records, OutOfMemory>
     requires { count ≤ 2 ^ 24 }
     ensures few { IfOk result (λ list. length list ≤ 2 ^ 24) }
     ensures short { IfOk result (λ list. All (λ r. r.number ≤ 4) list) }
 {
-    let mut records = RecordList::new(alloc);
+    let mut records = Records::new(alloc);
     for i in 0..count {
         records.push(alloc, make(i))?;
     }
@@ -75,7 +74,7 @@ fn make_list(alloc: Global, count: u32) -> Result<RecordList<Record>, OutOfMemor
 }
 
 // The live reports of the records, made of all of them at once.
-fn load(alloc: Global, records: RecordList<Record>) -> Result<usize, OutOfMemory>
+fn load(alloc: Global, records: Records) -> Result<usize, OutOfMemory>
     requires few { length records ≤ 2 ^ 24 }
     requires short { All (λ r. r.number ≤ 4) records }
 {
@@ -157,7 +156,7 @@ fn count_faults(alloc: Global, records: &[Record], then: &str) -> Result<(), Out
     fill(&mut faults, records)?;
     if then == "report" {
         let head = sound_head();
-        let list = RecordList::from_slice(alloc, records)?;
+        let list = Records::from_slice(alloc, records)?;
         let _faults = faults.report(alloc, &list, &head)?;
     }
     if then == "remove" {

@@ -22,12 +22,6 @@ impl From<trace_record::OutOfMemory> for OutOfMemory {
     }
 }
 
-impl From<record_list::OutOfMemory> for OutOfMemory {
-    fn from(_error: record_list::OutOfMemory) -> OutOfMemory {
-        OutOfMemory
-    }
-}
-
 impl From<grid_live::OutOfMemory> for OutOfMemory {
     fn from(_error: grid_live::OutOfMemory) -> OutOfMemory {
         OutOfMemory

@@ -9,12 +9,11 @@ ghost use Rattle.time_slice.specs.Shown.{pair_of};
 use crate::of_volume::push_row;
 use crate::{OutOfMemory, Row};
 use num_order::{Kind, Order};
-use record_list::RecordList;
 use sample_codes::Format;
 use std::alloc::Global;
 use std::marker::Model;
 use std::mem::size_of;
-use trace_record::Record;
+use trace_record::Records;
 
 // The position of a row, and its sample as a number of 8 bytes: 12 bytes in all.
 #[derive(Clone, Copy)]
@@ -84,11 +83,7 @@ impl KeptRows {
     }
 
     // The rows of which this is kept.
-    pub(crate) fn rows(
-        &self,
-        alloc: Global,
-        records: &RecordList<Record>,
-    ) -> Result<Vec<Row>, OutOfMemory>
+    pub(crate) fn rows(&self, alloc: Global, records: &Records) -> Result<Vec<Row>, OutOfMemory>
         ensures { IfOk result (λ v. v.items ≡ rows_again (map facts_of records.now) self.now) }
     {
         let mut rows = Vec::with_capacity(alloc, self.rows.len())?;
@@ -102,7 +97,7 @@ impl KeptRows {
 // The row of which this is kept at the end of the rows.
 fn push_again(
     rows: &mut Vec<Row>,
-    records: &RecordList<Record>,
+    records: &Records,
     kept: KeptRow,
     signed: bool,
 ) -> Result<(), OutOfMemory>

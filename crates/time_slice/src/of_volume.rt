@@ -12,9 +12,8 @@ use crate::{OutOfMemory, Row};
 use edit_overlay::Overlay;
 use field_map::TRACE_HEADER_BYTES;
 use frame_cut::Head;
-use record_list::RecordList;
 use std::alloc::Global;
-use trace_record::Record;
+use trace_record::{Record, Records};
 use trace_view::TraceView;
 
 /// Slice k, counted from 0: a row for each trace that has sample k, in rising order by inline,
@@ -25,7 +24,7 @@ use trace_view::TraceView;
 pub fn rows(
     alloc: Global,
     overlay: &mut Overlay,
-    records: &RecordList<Record>,
+    records: &Records,
     k: u32,
 ) -> Result<Vec<Row>, OutOfMemory>
     requires { length records.now ≡ count_of overlay.old.volume }
@@ -46,7 +45,7 @@ pub fn rows(
 fn rows_in_place(
     alloc: Global,
     overlay: &mut Overlay,
-    records: &RecordList<Record>,
+    records: &Records,
     k: u32,
 ) -> Result<Vec<Row>, OutOfMemory>
     requires { length records.now ≡ count_of overlay.old.volume }

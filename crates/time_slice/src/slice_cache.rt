@@ -12,12 +12,11 @@ use crate::kept_rows::KeptRows;
 use crate::{OutOfMemory, Row, rows};
 use edit_overlay::Overlay;
 use lru::LruCache;
-use record_list::RecordList;
 use sample_codes::Format;
 use std::alloc::Global;
 use std::marker::Model;
 use std::num::NonZeroUsize;
-use trace_record::Record;
+use trace_record::Records;
 
 /// The slices that were asked last, of a volume under edits. Of each row only its position and its
 /// sample are kept, in 12 bytes. Contracts see the entries, the last asked first, each a number
@@ -67,7 +66,7 @@ impl SliceCache {
         &mut self,
         alloc: Global,
         overlay: &mut Overlay,
-        records: &RecordList<Record>,
+        records: &Records,
         k: u32,
     ) -> Result<Vec<Row>, OutOfMemory>
         requires count { length records.now ≡ count_of overlay.old.volume }
@@ -110,7 +109,7 @@ impl SliceCache {
     fn answer_kept(
         &mut self,
         alloc: Global,
-        records: &RecordList<Record>,
+        records: &Records,
         k: u32,
     ) -> Result<Vec<Row>, OutOfMemory>
         requires { IsTrue (keeps k self.old.entries) }

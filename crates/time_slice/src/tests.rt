@@ -8,11 +8,10 @@ ghost use Rattle.time_slice.specs.Cache.{AreRightOf};
 use crate::{Row, SliceCache, rows};
 use edit_overlay::Overlay;
 use frame_cut::{Limits, Reading};
-use record_list::RecordList;
 use std::alloc::Global;
 use std::process::Abort;
 use std::test::Fail;
-use trace_record::{Ratio, Record};
+use trace_record::{Ratio, Record, Records};
 
 // Big-endian, revision 1.0, three traces of 16-bit samples: 5 and 7, 6 alone, 4 and 258.
 fn small_file(alloc: Global) -> Result<Vec<u8>, Fail> {
@@ -95,7 +94,7 @@ fn expect_rows(
     expected: &[Row],
 ) -> Result<(), Fail> {
     let traces = [record_at(20, 5), record_at(10, 7), record_at(20, 5)];
-    let records = RecordList::from_slice(alloc, &traces)?;
+    let records = Records::from_slice(alloc, &traces)?;
     if records.len() != volume.count() as usize {
         return Err(Fail::from("not a record for each trace"));
     }
@@ -132,9 +131,9 @@ fn makes_rows(rt: HostRuntime) -> Result<(), Fail> {
 }
 
 // The records of traces at inlines 20, 10, 20 and crosslines 5, 7, 5.
-fn small_records(alloc: Global) -> Result<RecordList<Record>, Fail> {
+fn small_records(alloc: Global) -> Result<Records, Fail> {
     let traces = [record_at(20, 5), record_at(10, 7), record_at(20, 5)];
-    Ok(RecordList::from_slice(alloc, &traces)?)
+    Ok(Records::from_slice(alloc, &traces)?)
 }
 
 // Slice k of the cache, where each kept slice is right.
@@ -142,7 +141,7 @@ fn ask(
     alloc: Global,
     cache: &mut SliceCache,
     volume: &mut Overlay,
-    records: &RecordList<Record>,
+    records: &Records,
     k: u32,
 ) -> Result<Vec<Row>, Fail>
     requires { AreRightOf volume.old.volume.head records.now volume.old.volume.traces
@@ -157,12 +156,7 @@ fn ask(
 }
 
 // Slice k as `rows` gives it.
-fn fresh(
-    alloc: Global,
-    volume: &mut Overlay,
-    records: &RecordList<Record>,
-    k: u32,
-) -> Result<Vec<Row>, Fail>
+fn fresh(alloc: Global, volume: &mut Overlay, records: &Records, k: u32) -> Result<Vec<Row>, Fail>
     ensures { volume.new.volume ≡ volume.old.volume }
 {
     if records.len() != volume.count() as usize {
@@ -178,7 +172,7 @@ fn expect_looks(
     alloc: Global,
     cache: &mut SliceCache,
     volume: &mut Overlay,
-    records: &RecordList<Record>,
+    records: &Records,
     asked: &[(u32, u64)],
 ) -> Result<(), Fail>
     requires { AreRightOf volume.old.volume.head records.now volume.old.volume.traces
@@ -202,7 +196,7 @@ fn expect_kept(
     alloc: Global,
     cache: &mut SliceCache,
     volume: &mut Overlay,
-    records: &RecordList<Record>,
+    records: &Records,
     k: u32,
     expected: &[Row],
 ) -> Result<(), Fail>
@@ -219,13 +213,7 @@ fn expect_kept(
 }
 
 // Forgets, where each kept slice is right.
-fn forget(
-    cache: &mut SliceCache,
-    volume: &Overlay,
-    records: &RecordList<Record>,
-    k: u32,
-    many: usize,
-)
+fn forget(cache: &mut SliceCache, volume: &Overlay, records: &Records, k: u32, many: usize)
     requires { AreRightOf volume.now.volume.head records.now volume.now.volume.traces
         cache.old.entries }
     ensures { AreRightOf volume.now.volume.head records.now volume.now.volume.traces
@@ -301,7 +289,7 @@ fn wide_volume(alloc: Global) -> Result<Overlay, Fail> {
 fn keeps_the_greatest_sample(rt: HostRuntime) -> Result<(), Fail> {
     let alloc = rt.alloc();
     let mut volume = wide_volume(alloc)?;
-    let records = RecordList::from_slice(alloc, &[record_at(1, 2)])?;
+    let records = Records::from_slice(alloc, &[record_at(1, 2)])?;
     let mut cache = SliceCache::new(alloc, 1)?;
     let greatest = [row(1, 2, 1, 18446744073709551615)];
     expect_kept(&rt, alloc, &mut cache, &mut volume, &records, 0, &greatest)

@@ -3,8 +3,11 @@ pub mod FactsLemmas
 pub mod GeometryLemmas
 pub mod HeaderLemmas
 pub mod KeyLemmas
+pub mod ListLemmas
 pub mod LoadLemmas
 pub mod OneMoreLemmas
+pub mod PackedLemmas
+pub mod PartLemmas
 pub mod ProductLemmas
 pub mod EachMoreLemmas
 pub mod RatioLemmas

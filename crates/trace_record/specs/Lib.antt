@@ -1,6 +1,8 @@
 pub mod FractionLaws
 pub mod RatioOrder
 pub mod Coordinates
+pub mod Parts
+pub mod Packed
 pub mod Statistics
 pub mod Narrow
 pub mod Unsigned

@@ -78,7 +78,11 @@ joined n d p l m e c f q k =
     = subst (λ (b : ℕ). (q : 0 < b) (k : IsGcd (unsigned_abs n) b 1) → of_parts n d p l ≡ of_parts n b q k) f (λ q k. of_same n d p q l k) in
     subst (λ (o : ℤ). (k : IsGcd (unsigned_abs o) c 1) → of_parts n d p l ≡ of_parts o c q k) e (at_den q) k
 
+-- ratios of the same parts are identical
+pub same_parts : (x y : Ratio) → x.num ≡ y.num → x.den ≡ y.den → x ≡ y
+unfolding of_parts
+same_parts x y num den = joined x.num x.den x.positive x.lowest y.num num y.den den y.positive y.lowest
+
 -- ratios that compare equal are identical
 pub exact_ratios : CmpEqualImpliesEq ratio_cmp
-unfolding of_parts
-exact_ratios x y h = let s = same_ratio x y h in joined x.num x.den x.positive x.lowest y.num s.0 y.den s.1 y.positive y.lowest
+exact_ratios x y h = let s = same_ratio x y h in same_parts x y s.0 s.1

@@ -1,6 +1,7 @@
 -- The least, the greatest, the sum and the number of a list of samples.
 use Rattle.std.specs.Prelude.{ℤ, pos, neg_ℤ, ◌+◌, ◌*◌, ◌^◌, ◌+ℤ◌, ◌≤ℤ◌, List, [], ◌∷◌, length, Option, Some, None}
 use Rattle.std.specs.Int.{int_min, int_max}
+use Rattle.trace_record.specs.Parts.{FitsSample}
 use Rattle.trace_record.specs.declared.statistics.Statistics.{Statistics}
 
 -- the least of the numbers, and 0 of none
@@ -51,7 +52,9 @@ with_sample s v = record {
   number = s.number + 1;
 }
 
--- the sum is one that so many samples of at most 64 bits can have
+-- the least, the greatest and the sum are what so many samples of at most 64 bits can have
 pub record HasRange (s : Statistics) : Type 0 where
+  pub least : FitsSample s.least
+  pub greatest : FitsSample s.greatest
   pub low : neg_ℤ (pos (2 ^ 63 * s.number)) ≤ℤ s.sum
   pub high : s.sum ≤ℤ pos (2 ^ 64 * s.number)

@@ -17,6 +17,7 @@ struct Narrow {
 
 impl Narrow {
     ghost use Rattle.std.specs.Prelude.{◌≡◌, ◌*◌, ◌-◌, ◌+◌, ◌^◌, ◌≤ℤ◌, pos, neg_ℤ, ℕ};
+    ghost use Rattle.trace_record.specs.Parts.{FitsSample};
     ghost use Rattle.trace_record.specs.Statistics.{one_sample, with_sample};
     ghost use Rattle.trace_record.specs.Narrow.{statistics_of_narrow};
 
@@ -45,7 +46,9 @@ impl Narrow {
 
     // So many samples have these statistics.
     fn statistics(self, number: u32) -> Statistics
-        ensures { result ≡ statistics_of_narrow self number }
+        ensures value { result ≡ statistics_of_narrow self number }
+        ensures least { FitsSample result.least }
+        ensures greatest { FitsSample result.greatest }
     {
         Statistics {
             least: i128::from(self.least),

@@ -50,12 +50,14 @@ impl PartialOrd for Ratio {
 }
 
 impl Ratio {
-    ghost use Rattle.std.specs.Prelude.{◌≡◌, ◌<◌, ◌^◌, ◌*ℤ◌, pos, unsigned_abs};
+    ghost use Rattle.std.specs.Prelude.{◌≡◌, ◌<◌, ◌≤◌, ◌^◌, ◌*ℤ◌, pos, unsigned_abs};
     ghost use Rattle.trace_record.specs.Coordinates.{whole, under_scalar, num_under_scalar, den_under_scalar};
+    ghost use Rattle.trace_record.specs.Parts.{FitsCoordinate};
 
     /// A whole number. Takes no memory.
     pub fn whole(value: i32) -> Ratio
-        ensures { result ≡ whole value }
+        ensures value { result ≡ whole value }
+        ensures size { FitsCoordinate result }
     {
         Ratio {
             num: i64::from(value),
@@ -70,14 +72,17 @@ impl Ratio {
             num_under_scalar value scalar *ℤ pos
             result.den }
         ensures exact { result ≡ under_scalar value scalar }
+        ensures size { FitsCoordinate result }
     {
         Ratio::under(value, scalar)
     }
 
     // The coordinate by its value.
     fn under(value: i32, scalar: i16) -> Ratio
-        ensures { result.num *ℤ pos (den_under_scalar scalar) ≡ num_under_scalar value scalar *ℤ pos
+        ensures value { result.num *ℤ pos (den_under_scalar scalar) ≡
+            num_under_scalar value scalar *ℤ pos
             result.den }
+        ensures size { FitsCoordinate result }
     {
         if scalar > 0 {
             Ratio::reduced(i64::from(value) * i64::from(scalar), 1)
@@ -91,8 +96,10 @@ impl Ratio {
     // The fraction `num / den`.
     fn reduced(num: i64, den: u32) -> Ratio
         requires den { 0 < den }
-        requires num { unsigned_abs num < 2 ^ 63 }
-        ensures { result.num *ℤ pos den ≡ num *ℤ pos result.den }
+        requires small_den { den ≤ 2 ^ 15 }
+        requires small_num { unsigned_abs num < 2 ^ 46 }
+        ensures value { result.num *ℤ pos den ≡ num *ℤ pos result.den }
+        ensures size { FitsCoordinate result }
     {
         let size = num.unsigned_abs();
         let divisor = greatest_common_divisor(size, u64::from(den));

@@ -1,5 +1,5 @@
 // Samples read by index, of a format and in an order that are settled outside the loop.
-ghost use Rattle.std.specs.Prelude.{◌≡◌, ℕ, List, ◌+◌, ◌*◌, ◌^◌, ◌<◌, ◌≤◌, ◌≤ℤ◌, pos, neg_ℤ, take, drop, length};
+ghost use Rattle.std.specs.Prelude.{◌≡◌, ℕ, List, ◌+◌, ◌*◌, ◌^◌, ◌<◌, ◌≤◌, ◌≤ℤ◌, ◌<ℤ◌, pos, neg_ℤ, take, drop, length};
 ghost use Rattle.num_order.specs.Number.{unsigned};
 ghost use Rattle.num_order.specs.declared.order.Order.{Order};
 ghost use Rattle.num_order.specs.declared.order.Order.TheVariants.{Big, Little};
@@ -161,7 +161,7 @@ pub(crate) trait ReadsWide {
         ensures value { result ≡ sample_value O.order format
             (take (width format) (drop (width format * i) bytes.now)) }
         ensures low { neg_ℤ (pos (2 ^ 63)) ≤ℤ result }
-        ensures high { result ≤ℤ pos (2 ^ 64) };
+        ensures high { result <ℤ pos (2 ^ 64) };
 }
 
 impl ReadsWide for i64 {

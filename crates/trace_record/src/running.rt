@@ -1,7 +1,6 @@
 ghost use Rattle.std.specs.Prelude.{◌≡◌, OnOk, OnErr, IsOk, IfOk, map};
 
-use crate::{OutOfMemory, Record};
-use record_list::RecordList;
+use crate::{OutOfMemory, Record, Records};
 use std::alloc::Global;
 
 /// A value that runs with the traces of a volume, and is seen as their tally: it counts each trace
@@ -24,7 +23,7 @@ pub trait Running: Drop {
     /// The value that counted these traces, made all at once from sorted keys. Takes memory for
     /// what it holds and, while it is made, for a list of keys and one of their runs; refused for
     /// want of it alone.
-    fn from_records(alloc: Global, records: &RecordList<Record>) -> Result<Self, OutOfMemory>
+    fn from_records(alloc: Global, records: &Records) -> Result<Self, OutOfMemory>
         requires { IsSmall (tally_of counted (map facts_of records.now)) }
         ensures { IfOk result (λ value.
             Same (tally value) (tally_of counted (map facts_of records.now))) };

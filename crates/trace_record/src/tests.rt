@@ -4,7 +4,7 @@ ghost use Rattle.std.specs.Prelude.{◌≡◌, length, IfOk};
 ghost use Rattle.trace_view.specs.Runs.{Fit};
 ghost use Rattle.trace_view.specs.Shown.{head_of};
 
-use crate::{Counts, OutOfMemory, Ratio, Record, record_of, record_with_samples_of};
+use crate::{Counts, OutOfMemory, Ratio, Record, Records, record_of, record_with_samples_of};
 use field_map::{FieldMap, Place};
 use frame_cut::{Head, front_length};
 use num_order::{Kind, Order};
@@ -150,6 +150,105 @@ fn keeps_records_small(rt: HostRuntime) {
     let copy = record;
     assert_eq!(rt; copy, record);
     assert_eq!(rt; size_of::<Record>(), 112);
+}
+
+// A record put into a list, and read again.
+fn comes_back(rt: &impl Abort, alloc: Global, trace: Record) -> Result<(), Fail> {
+    let mut records = Records::from_slice(alloc, &[trace])?;
+    assert_eq!(rt; records.get(0), Some(trace));
+    assert_eq!(rt; records.iter().next(), Some(trace));
+    if records.len() == 1 {
+        assert_eq!(rt; records.remove(0), trace);
+    }
+    Ok(())
+}
+
+#[test]
+fn packs_the_least_values(rt: HostRuntime) -> Result<(), Fail> {
+    let least = Record {
+        least: -0x8000_0000_0000_0000,
+        greatest: -0x8000_0000_0000_0000,
+        sum: -0x7FFF_FFFF_8000_0000_0000_0000,
+        x: Ratio::scaled(i32::MIN, i16::MAX),
+        y: Ratio::scaled(-1, i16::MIN),
+        inline: i32::MIN,
+        crossline: i32::MIN,
+        offset: i32::MIN,
+        sequence: i32::MIN,
+        number: u32::MAX,
+        scalar: i16::MIN,
+        units: i16::MIN,
+        interval: 0,
+        samples_field: 0,
+        has_known_name: false,
+    };
+    comes_back(&rt, rt.alloc(), least)
+}
+
+#[test]
+fn packs_the_greatest_values(rt: HostRuntime) -> Result<(), Fail> {
+    let greatest = Record {
+        least: 0xFFFF_FFFF_FFFF_FFFF,
+        greatest: 0xFFFF_FFFF_FFFF_FFFF,
+        sum: 0xFFFF_FFFE_FFFF_FFFF_0000_0001,
+        x: Ratio::scaled(i32::MAX, i16::MAX),
+        y: Ratio::scaled(1, i16::MIN),
+        inline: i32::MAX,
+        crossline: i32::MAX,
+        offset: i32::MAX,
+        sequence: i32::MAX,
+        number: u32::MAX,
+        scalar: i16::MAX,
+        units: i16::MAX,
+        interval: u16::MAX,
+        samples_field: u16::MAX,
+        has_known_name: true,
+    };
+    comes_back(&rt, rt.alloc(), greatest)
+}
+
+// A record whose parts differ in sign.
+fn mixed_record(inline: i32) -> Record {
+    Record {
+        least: -1,
+        greatest: 0x7FFF_FFFF_FFFF_FFFF,
+        sum: -0x1_0000_0000_0000_0000,
+        x: Ratio::scaled(-2147483647, -32767),
+        y: Ratio::scaled(2147483647, -32768),
+        inline,
+        crossline: -1,
+        offset: 7,
+        sequence: -8,
+        number: 3,
+        scalar: -1,
+        units: 1,
+        interval: 0x8000,
+        samples_field: 0x7FFF,
+        has_known_name: true,
+    }
+}
+
+#[test]
+fn keeps_records_in_order(rt: HostRuntime) -> Result<(), Fail> {
+    let alloc = rt.alloc();
+    let mut records = Records::from_slice(alloc, &[mixed_record(4), mixed_record(9)])?;
+    assert_eq!(rt; records.len(), 2);
+    records.insert(alloc, 1, mixed_record(7))?;
+    records.push(alloc, mixed_record(-12))?;
+    assert_eq!(rt; records.get(1), Some(mixed_record(7)));
+    assert_eq!(rt; records.get(3), Some(mixed_record(-12)));
+    assert_eq!(rt; records.get(4), None);
+    records.set(0, mixed_record(5));
+    records.move_to(alloc, 0, 2)?;
+    assert_eq!(rt; records.remove(0), mixed_record(7));
+    let mut items = records.iter();
+    assert_eq!(rt; items.next(), Some(mixed_record(9)));
+    assert_eq!(rt; items.next(), Some(mixed_record(5)));
+    assert_eq!(rt; items.next(), Some(mixed_record(-12)));
+    assert_eq!(rt; items.next(), None);
+    assert!(rt; !records.is_empty());
+    assert!(rt; Records::new(alloc).is_empty());
+    Ok(())
 }
 
 // So many samples of this format a trace, and no header extensions.

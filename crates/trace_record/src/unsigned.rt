@@ -17,6 +17,7 @@ struct Unsigned {
 
 impl Unsigned {
     ghost use Rattle.std.specs.Prelude.{◌≡◌, ◌+◌, ◌^◌, ◌<◌, pos, ℕ};
+    ghost use Rattle.trace_record.specs.Parts.{FitsSample};
     ghost use Rattle.trace_record.specs.Statistics.{one_sample, with_sample};
     ghost use Rattle.trace_record.specs.Unsigned.{statistics_of_unsigned};
 
@@ -44,7 +45,9 @@ impl Unsigned {
 
     // So many samples have these statistics.
     fn statistics(self, number: u32) -> Statistics
-        ensures { result ≡ statistics_of_unsigned self number }
+        ensures value { result ≡ statistics_of_unsigned self number }
+        ensures least { FitsSample result.least }
+        ensures greatest { FitsSample result.greatest }
     {
         Statistics {
             least: i128::from(self.least),

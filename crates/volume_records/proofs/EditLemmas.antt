@@ -12,7 +12,7 @@ use Rattle.trace_record.specs.Facts.{Facts, facts_of}
 use Rattle.trace_record.specs.OfTrace.{record_of}
 use Rattle.trace_record.specs.declared.record.Record.{Record}
 use Rattle.volume_records.specs.OfVolume.{records_of}
-use Rattle.volume_records.proofs.ListLemmas.{map-insert, map-remove}
+use Rattle.trace_record.proofs.ListLemmas.{map-insert, map-remove}
 use Rattle.volume_records.proofs.RecordLemmas.{has_record}
 
 -- with another trace p

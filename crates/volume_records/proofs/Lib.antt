@@ -1,4 +1,3 @@
-pub mod ListLemmas
 pub mod SeenLemmas
 pub mod RecordLemmas
 pub mod PassLemmas

@@ -10,9 +10,8 @@ use crate::OutOfMemory;
 use edit_overlay::Overlay;
 use field_map::FieldMap;
 use live_reports::LiveReports;
-use record_list::RecordList;
 use std::alloc::Global;
-use trace_record::{Record, record_of};
+use trace_record::{Record, Records, record_of};
 use trace_view::TraceView;
 
 /// The reports of a volume that is the cut of a file, under a map for the file: the record of each
@@ -34,7 +33,7 @@ pub fn reports(
 {
     // Read for the proof alone, which learns that the traces are counted in 32 bits.
     let _count = overlay.count();
-    let mut records = RecordList::new(alloc);
+    let mut records = Records::new(alloc);
     for trace in overlay.pass() {
         records.push(alloc, record_in_file(&trace, fields))?;
     }

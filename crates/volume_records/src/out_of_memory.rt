@@ -18,8 +18,8 @@ impl<T: Drop> From<AllocFailed<T>> for OutOfMemory {
     }
 }
 
-impl From<record_list::OutOfMemory> for OutOfMemory {
-    fn from(_error: record_list::OutOfMemory) -> OutOfMemory {
+impl From<trace_record::OutOfMemory> for OutOfMemory {
+    fn from(_error: trace_record::OutOfMemory) -> OutOfMemory {
         OutOfMemory
     }
 }

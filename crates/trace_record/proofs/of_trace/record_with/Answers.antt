@@ -1,8 +1,9 @@
-use Rattle.std.proofs.Common.{rules, ◌≡◌, SFits, refl, sym, ap₂, ◌∙◌, arith}
+use Rattle.std.proofs.Common.{rules, ◌≡◌, SFits, refl, sym, subst, ap₂, ◌∙◌, arith}
 use Rattle.std.specs.Int.{w16, w32, w128}
-use Rattle.std.proofs.lemmas.Int.{ints}
+use Rattle.std.proofs.lemmas.Int.{ints, to_z-of_z}
 use Rattle.trace_view.specs.Shown.{bytes_of, head_of}
 use Rattle.trace_record.specs.Coordinates.{under_scalar}
+use Rattle.trace_record.specs.Parts.{FitsSample}
 use Rattle.trace_record.proofs.FactsLemmas.{kept, facts_with}
 use Rattle.trace_record.proofs.GeometryLemmas.{names}
 use Rattle.trace_record.proofs.HeaderLemmas.{has_header}
@@ -17,10 +18,19 @@ u16_at-requires-2 c =
 pub invariant_of-result : goal.invariant_of-result
 invariant_of-result c =
     let s = c.args.samples.now in
-    let fits : SFits w128 s.sum = search rules in
+    let least : SFits w128 s.least = search rules in
+    let greatest : SFits w128 s.greatest = search rules in
+    let sum : SFits w128 s.sum = search rules in
     let number : s.number ≡ c.args.number = c.requires.number in
     let range = c.requires.range in
-    record { sum_low = omega (arith, ints, range.low); sum_high = omega (arith, ints, range.high) }
+    record {
+      least_fits = subst FitsSample (sym (to_z-of_z w128 _ least)) range.least;
+      greatest_fits = subst FitsSample (sym (to_z-of_z w128 _ greatest)) range.greatest;
+      x_fits = c.scaled.ensures.size;
+      y_fits = c.scaled-2.ensures.size;
+      sum_low = omega (arith, ints, range.low);
+      sum_high = omega (arith, ints, range.high);
+    }
 
 pub returns : goal.returns
 returns c has =

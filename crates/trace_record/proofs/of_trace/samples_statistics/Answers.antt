@@ -13,4 +13,4 @@ returns-in-Some c =
 pub returns-in-None : goal.returns-in-None
 returns-in-None c =
     let s = says_none (samples_of (head_of c.args.view.now) (bytes_of c.args.view.now)) (sym c.in-None.is ∙ c.statistics_of.ensures.value) in
-    record { least = s.0; greatest = s.1.0; sum = s.1.1.0; number = s.1.1.1; range = record { low = omega (arith, ints); high = omega (arith, ints) } }
+    record { least = s.0; greatest = s.1.0; sum = s.1.1.0; number = s.1.1.1; range = record { least = (omega (arith, ints), omega (arith, ints)); greatest = (omega (arith, ints), omega (arith, ints)); low = omega (arith, ints); high = omega (arith, ints) } }

@@ -34,9 +34,14 @@ pub returns : goal.returns
 returns g c =
     let all : c.loop-i.i ≡ c.args.number = omega arith in
     let ended = samples_ended g.O.Ordered.order Unsigned32 c.args.number c.loop-i.i c.args.bytes.now (statistics_of_unsigned c.loop-i.unsigned c.loop-i.i) _ c.loop-i-test.false c.loop-i.invariant.rest in
-    let sum = ap (λ r. r.sum) c.statistics.ensures in
-    let number = ap (λ r. r.number) c.statistics.ensures in
+    let sum = ap (λ r. r.sum) c.statistics.ensures.value in
+    let number = ap (λ r. r.number) c.statistics.ensures.value in
     record {
-      value = ap Some (c.statistics.ensures ∙ sym (ap (statistics_of_unsigned c.loop-i.unsigned) all)) ∙ ended;
-      range = record { low = omega (arith, ints); high = omega (arith, ints) };
+      value = ap Some (c.statistics.ensures.value ∙ sym (ap (statistics_of_unsigned c.loop-i.unsigned) all)) ∙ ended;
+      range = record {
+        least = c.statistics.ensures.least;
+        greatest = c.statistics.ensures.greatest;
+        low = omega (arith, ints);
+        high = omega (arith, ints);
+      };
     }

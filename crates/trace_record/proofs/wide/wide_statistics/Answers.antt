@@ -1,9 +1,11 @@
-use Rattle.std.proofs.Common.{◌≡◌, ◌<◌, ap, ◌∙◌, rules, arith, SFits}
+use Rattle.std.proofs.Common.{◌≡◌, ◌<◌, ap, sym, subst, ◌∙◌, rules, arith, SFits}
 use Rattle.std.specs.Int.{w128}
 use Rattle.std.proofs.lemmas.Int.{ints, to_z-of_z}
 use Rattle.sample_codes.specs.Formats.{width}
 use Rattle.trace_view.specs.Values.{samples_in}
 use Rattle.trace_record.specs.Statistics.{statistics_of, one_sample, with_sample}
+use Rattle.trace_record.specs.Parts.{FitsSample}
+use Rattle.trace_record.proofs.PartLemmas.{fits_min, fits_max}
 use Rattle.trace_record.proofs.SampleLemmas.{samples_begun, sample_counted, samples_ended, sample_inside}
 use Rattle.trace_record.proofs.wide.wide_statistics.Goals as goal
 
@@ -17,7 +19,12 @@ loop-i-init g c =
     record {
       rises = omega arith;
       number = number;
-      range = record { low = omega (arith, ints, c.at.ensures.low); high = omega (arith, ints, c.at.ensures.high) };
+      range = record {
+        least = subst FitsSample (sym (ap (λ r. r.least) begun)) (c.at.ensures.low, c.at.ensures.high);
+        greatest = subst FitsSample (sym (ap (λ r. r.greatest) begun)) (c.at.ensures.low, c.at.ensures.high);
+        low = omega (arith, ints, c.at.ensures.low);
+        high = omega (arith, ints, c.at.ensures.high);
+      };
       rest = samples_begun g.O.Ordered.order g.S.ReadsWide.format c.args.number c.args.bytes.now _ c.at.result some c.at.ensures.value begun;
     }
 
@@ -33,7 +40,12 @@ loop-i-preserved g c =
     record {
       rises = omega arith;
       number = omega arith;
-      range = record { low = omega (arith, ints, c.at-in-loop-i.ensures.low); high = omega (arith, ints, c.at-in-loop-i.ensures.high) };
+      range = record {
+        least = subst FitsSample (sym (ap (λ r. r.least) added)) (fits_min _ x c.loop-i.invariant.range.least (c.at-in-loop-i.ensures.low, c.at-in-loop-i.ensures.high));
+        greatest = subst FitsSample (sym (ap (λ r. r.greatest) added)) (fits_max _ x c.loop-i.invariant.range.greatest (c.at-in-loop-i.ensures.low, c.at-in-loop-i.ensures.high));
+        low = omega (arith, ints, c.at-in-loop-i.ensures.low);
+        high = omega (arith, ints, c.at-in-loop-i.ensures.high);
+      };
       rest = sample_counted g.O.Ordered.order g.S.ReadsWide.format c.args.number i c.args.bytes.now c.loop-i.statistics c.add.new.self x all c.loop-i-test.true c.at-in-loop-i.ensures.value added c.loop-i.invariant.rest;
     }
 

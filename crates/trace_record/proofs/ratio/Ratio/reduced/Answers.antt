@@ -26,8 +26,8 @@ invariant_of-result c =
       lowest = rw (top, bottom, unsigned_abs-with_sign) least;
     }
 
-pub returns : goal.returns
-returns c =
+pub returns-clause-value : goal.returns-clause-value
+returns-clause-value c =
     let fn : SFits w64 c.args.num = search rules in
     let fr : SFits w64 c.with_sign_of.result = search rules in
     let size : c.unsigned_abs-size.result ≡ unsigned_abs c.args.num = c.unsigned_abs-size.ensures.value ∙ ap unsigned_abs (to_z-of_z w64 c.args.num fn) in

@@ -10,4 +10,4 @@ returns-clause-exact c =
     let value_fits : SFits w32 c.args.value = search rules in
     let scalar_fits : SFits w16 c.args.scalar = search rules in
     under_scalar-exact c.args.value c.args.scalar c.under.result
-    (rw (to_z-of_z w32 c.args.value value_fits, to_z-of_z w16 c.args.scalar scalar_fits) at c.under.ensures)
+    (rw (to_z-of_z w32 c.args.value value_fits, to_z-of_z w16 c.args.scalar scalar_fits) at c.under.ensures.value)

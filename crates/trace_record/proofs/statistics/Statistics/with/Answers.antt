@@ -1,10 +1,11 @@
-use Rattle.std.proofs.Common.{rules, SFits, ◌+ℤ◌, ap, Some}
+use Rattle.std.proofs.Common.{rules, SFits, ◌+ℤ◌, ap, sym, subst, Some}
 use Rattle.std.specs.Int.{w128}
-use Rattle.trace_record.proofs.AddedLemmas.{statistics_joined}
+use Rattle.trace_record.specs.Statistics.{HasRange}
+use Rattle.trace_record.proofs.AddedLemmas.{statistics_joined, joined_range, joined_fits}
 use Rattle.trace_record.proofs.statistics.Statistics.with.Goals as goal
 
-pub returns-clause-value : goal.returns-clause-value
-returns-clause-value c =
+pub returns : goal.returns
+returns c =
     let a = c.args.self in let b = c.args.other in
     let least : SFits w128 a.least = search rules in
     let greatest : SFits w128 a.greatest = search rules in
@@ -14,5 +15,9 @@ returns-clause-value c =
     let sum_other : SFits w128 b.sum = search rules in
     let low : SFits w128 c.min.result = search rules in
     let high : SFits w128 c.max.result = search rules in
-    let total : SFits w128 (a.sum +ℤ b.sum) = search rules in
-    ap Some (statistics_joined w128 a b _ _ least greatest sum least_other greatest_other sum_other low high total c.min.ensures.value c.max.ensures.value)
+    let total = joined_fits a b c.requires.range c.requires.other_range c.requires.few c.requires.few_others in
+    let joined = statistics_joined w128 a b _ _ least greatest sum least_other greatest_other sum_other low high total c.min.ensures.value c.max.ensures.value in
+    record {
+      value = ap Some joined;
+      range = subst HasRange (sym joined) (joined_range a b c.requires.range c.requires.other_range);
+    }

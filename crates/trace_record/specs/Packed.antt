@@ -1,0 +1,42 @@
+-- The record that a packed record stands for.
+use Rattle.std.specs.Prelude.{ℕ, ℤ, Bool, ◌+◌, ◌*◌, ◌^◌, refl}
+use Rattle.trace_record.specs.Parts.{signed_of, first_flag, second_flag, numerator_in, denominator_in, denominator_in-positive, fits_in_word}
+use Rattle.trace_record.specs.declared.packed_ratio.PackedRatio.{PackedRatio}
+use Rattle.trace_record.specs.declared.packed_record.PackedRecord.{PackedRecord}
+use Rattle.trace_record.specs.declared.ratio.Ratio.{Ratio}
+use Rattle.trace_record.specs.declared.record.Record.{Record}
+
+-- the fraction in a word
+abbrev pub ratio_in : PackedRatio → Ratio
+ratio_in p = record {
+  num = numerator_in p.bits;
+  den = denominator_in p.bits;
+  positive = denominator_in-positive p.bits;
+  lowest = p.lowest;
+}
+
+-- the record, its least, greatest and sum with their signs from the flags
+abbrev pub record_in : PackedRecord → Record
+record_in p = record {
+  least = signed_of (first_flag p.x.bits) (2 ^ 64) p.least;
+  greatest = signed_of (second_flag p.x.bits) (2 ^ 64) p.greatest;
+  sum = signed_of (first_flag p.y.bits) (2 ^ 96) (p.sum_high * 2 ^ 64 + p.sum);
+  x = ratio_in p.x;
+  y = ratio_in p.y;
+  inline = p.inline;
+  crossline = p.crossline;
+  offset = p.offset;
+  sequence = p.sequence;
+  number = p.number;
+  scalar = p.scalar;
+  units = p.units;
+  interval = p.interval;
+  samples_field = p.samples_field;
+  has_known_name = second_flag p.y.bits;
+  least_fits = p.least_fits;
+  greatest_fits = p.greatest_fits;
+  x_fits = fits_in_word (ratio_in p.x) p.x.bits refl refl;
+  y_fits = fits_in_word (ratio_in p.y) p.y.bits refl refl;
+  sum_low = p.sum_low;
+  sum_high = p.sum_top;
+}

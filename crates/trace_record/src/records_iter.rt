@@ -1,0 +1,47 @@
+ghost use Rattle.std.specs.Prelude.{◌≡◌, map};
+ghost use Rattle.trace_record.specs.Packed.{record_in};
+
+use crate::Record;
+use crate::packed_record::PackedRecord;
+use record_list::{Iter, RecordList};
+use std::marker::Model;
+
+/// An iterator over `Records`, in order. Seen as the list of those that are left.
+#[derive(Drop)]
+pub struct RecordsIter<'a> {
+    list: Iter<'a, PackedRecord>,
+}
+
+impl<'a> Model for RecordsIter<'a> {
+    ghost use Rattle.std.specs.Prelude.{List, map};
+    ghost use Rattle.trace_record.specs.declared.record.Record.{Record};
+    ghost use Rattle.trace_record.specs.Packed.{record_in};
+
+    ghost Value = { List Record };
+
+    ghost view = { λ s. map record_in s.list };
+}
+
+impl<'a> RecordsIter<'a> {
+    pub(crate) fn new(list: &'a RecordList<PackedRecord>) -> RecordsIter<'a>
+        ensures { result ≡ map record_in list.now }
+    {
+        RecordsIter { list: list.iter() }
+    }
+}
+
+impl<'a> Iterator for RecordsIter<'a> {
+    ghost use Rattle.std.specs.Iterator.{YieldsFirst, item_count};
+
+    type Item = Record;
+
+    ghost next_gives = { YieldsFirst (λ s. s) };
+
+    ghost remaining = { item_count (λ s. s) };
+
+    #[inline]
+    fn next(&mut self) -> Option<Record> {
+        let packed = self.list.next()?;
+        Some(packed.record())
+    }
+}

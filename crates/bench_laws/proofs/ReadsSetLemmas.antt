@@ -32,49 +32,7 @@ use Rattle.bench_rules.proofs.HeaderEditLemmas.{same_refused, same_after, no_pla
 use Rattle.bench_rules.proofs.PlaceLemmas.{stands, place_inside, sized, at_most_8}
 use Rattle.bench_rules.proofs.SetLemmas.{Accepted, accepted, is_after, whole_trace}
 use Rattle.bench_rules.proofs.SpliceLemmas.{itself}
-use Rattle.frame_cut.proofs.BinEditLemmas.{apart}
-
--- ---- the number of header extensions is as it was
-
-same_count : (h : Head) (t u : List ℕ) → header_bytes 1 157 2 u ≡ header_bytes 1 157 2 t → extension_count h u ≡ extension_count h t
-same_count h t u e = rw e refl
-
-same_samples : (h : Head) (t u : List ℕ) → header_bytes 0 115 2 u ≡ header_bytes 0 115 2 t → header_bytes 1 137 4 u ≡ header_bytes 1 137 4 t → sample_count h u ≡ sample_count h t
-same_samples h t u e f = rw (e, f) refl
-
-one_number : (a b w n len : ℕ) → 240 * (1 + a) + w * n ≡ len → 240 * (1 + b) + w * n ≡ len → a ≡ b
-one_number a b w n len e f = omega arith
-
--- two traces with one length and one number of samples have one number of extensions
-by_length : (h : Head) (o q : Option ℕ) (n len : ℕ) → option_map (λ e. length_with h e n) o ≡ Some len → option_map (λ e. length_with h e n) q ≡ Some len → unwrap_or o 0 ≡ unwrap_or q 0
-by_length h None q n len e f = absurd cc
-by_length h (Some a) None n len e f = absurd cc
-by_length h (Some a) (Some b) n len e f =
-    let first : length_with h a n ≡ len = cc in
-    let second : length_with h b n ≡ len = cc in
-    one_number a b (width h.format) n len first second
-
--- at most 8 bytes that leave the length leave the number of extensions: they do not touch both it and a number of samples
-pub extensions_kept : (h : Head) (t new : List ℕ) (at : ℕ) → IsTrace h t → length new ≤ 8 → at + length new ≤ length t → trace_length h (splice t at (length new) new) ≡ Some (length t)
-    → extensions_of h (splice t at (length new) new) ≡ extensions_of h t
-extensions_kept h t new at is few inside exact = by (leb (at + length new) 396) (leb 398 at) refl refl
-  where
-    u : List ℕ
-    u = splice t at (length new) new
-
-    touched : 388 < at → extensions_of h u ≡ extensions_of h t
-    touched low =
-        let same : sample_count h u ≡ sample_count h t =
-        same_samples h t u (apart t new at 114 2 inside (inl (omega arith))) (apart t new at 376 4 inside (inl (omega arith))) in
-        by_length h (extension_count h u) (extension_count h t) (sample_count h t) (length t)
-        (ap (λ (n : ℕ). option_map (λ e. length_with h e n) (extension_count h u)) (sym same) ∙ exact) is.exact
-
-    by : (b c : Bool) → leb (at + length new) 396 ≡ b → leb 398 at ≡ c → extensions_of h u ≡ extensions_of h t
-    by true c e f = ap (λ (o : Option ℕ). unwrap_or o 0) (same_count h t u (apart t new at 396 2 inside (inr (leb-true _ _ e))))
-    by false true e f = ap (λ (o : Option ℕ). unwrap_or o 0) (same_count h t u (apart t new at 396 2 inside (inl (leb-true _ _ f))))
-    by false false e f =
-        let over : 396 < at + length new = leb-false (at + length new) 396 e in
-        touched (omega arith)
+use Rattle.frame_cut.proofs.ExtensionLemmas.{extensions_kept}
 
 -- ---- the value at the place
 

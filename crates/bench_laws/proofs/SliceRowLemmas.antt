@@ -27,7 +27,7 @@ use Rattle.time_slice.specs.declared.row.Row.{Row}
 use Rattle.time_slice.specs.Cache.{is_from}
 use Rattle.time_slice.specs.Slices.{row_cmp, row_of, rows_from, with_sample, slice_of}
 use Rattle.bench_rules.proofs.PatchLemmas.{measured, with_samples, length-samples, samples_inside}
-use Rattle.bench_laws.proofs.ReadsSetLemmas.{extensions_kept}
+use Rattle.frame_cut.proofs.ExtensionLemmas.{extensions_kept}
 use Rattle.bench_rules.proofs.ResizingLemmas.{SameFront, same_extensions, same_samples}
 use Rattle.frame_cut.proofs.BinEditLemmas.{apart}
 use Rattle.bench_rules.proofs.TraceStepLemmas.{width-pos}

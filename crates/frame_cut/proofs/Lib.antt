@@ -5,3 +5,4 @@ pub mod HeadFrontLemmas
 pub mod BlockLemmas
 pub mod OneCutLemmas
 pub mod CutExampleLemmas
+pub mod ExtensionLemmas

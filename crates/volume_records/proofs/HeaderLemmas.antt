@@ -13,8 +13,8 @@ use Rattle.frame_cut.specs.declared.file_head.Head.{Head}
 use Rattle.frame_cut.specs.Cuts.{IsTrace}
 use Rattle.frame_cut.specs.Frames.{header_bytes, extension_count, extensions_of, sample_count, trace_length, length_with}
 use Rattle.frame_cut.specs.Splice.{splice}
-use Rattle.frame_cut.proofs.BinEditLemmas.{apart}
 use Rattle.frame_cut.proofs.EditLemmas.{length-splice}
+use Rattle.frame_cut.proofs.ExtensionLemmas.{extensions_kept}
 use Rattle.trace_view.specs.Values.{samples_at, sample_bytes, samples_in, samples_of}
 use Rattle.trace_record.specs.Facts.{with_samples, with_samples_of}
 use Rattle.trace_record.specs.OfTrace.{record_of}
@@ -63,51 +63,9 @@ drop-splice t new at k behind inside =
     ∙ drop-drop more end t
     ∙ ap (λ (i : ℕ). drop i t) same
 
--- ---- the number of header extensions
-
-same_count : (h : Head) (t u : List ℕ) → header_bytes 1 157 2 u ≡ header_bytes 1 157 2 t → extension_count h u ≡ extension_count h t
-same_count h t u e = rw e refl
-
-same_number : (h : Head) (t u : List ℕ) → header_bytes 0 115 2 u ≡ header_bytes 0 115 2 t → header_bytes 1 137 4 u ≡ header_bytes 1 137 4 t → sample_count h u ≡ sample_count h t
-same_number h t u e f = rw (e, f) refl
-
-one_number : (a b w n len : ℕ) → 240 * (1 + a) + w * n ≡ len → 240 * (1 + b) + w * n ≡ len → a ≡ b
-one_number a b w n len e f = omega arith
-
--- two traces with one length and one number of samples have one number of extensions
-by_length : (h : Head) (o q : Option ℕ) (n len : ℕ) → option_map (λ e. length_with h e n) o ≡ Some len → option_map (λ e. length_with h e n) q ≡ Some len → unwrap_or o 0 ≡ unwrap_or q 0
-by_length h None q n len e f = absurd cc
-by_length h (Some a) None n len e f = absurd cc
-by_length h (Some a) (Some b) n len e f =
-    let first : length_with h a n ≡ len = cc in
-    let second : length_with h b n ≡ len = cc in
-    one_number a b (width h.format) n len first second
-
 -- the length that the headers give after a splice
 exact-splice : (h : Head) (t new : List ℕ) (at : ℕ) → at + length new ≤ length t → IsTrace h (splice t at (length new) new) → trace_length h (splice t at (length new) new) ≡ Some (length t)
 exact-splice h t new at inside whole = whole.exact ∙ ap (λ (n : ℕ). let o : Option ℕ = Some n in o) (length-splice t at new inside)
-
--- at most 8 bytes that leave a trace whole leave the number of extensions: they do not touch both it and a number of samples
-pub extensions_kept : (h : Head) (t new : List ℕ) (at : ℕ) → IsTrace h t → length new ≤ 8 → at + length new ≤ length t → IsTrace h (splice t at (length new) new)
-    → extensions_of h (splice t at (length new) new) ≡ extensions_of h t
-extensions_kept h t new at is few inside whole = by (leb (at + length new) 396) (leb 398 at) refl refl
-  where
-    u : List ℕ
-    u = splice t at (length new) new
-
-    touched : 388 < at → extensions_of h u ≡ extensions_of h t
-    touched low =
-        let same : sample_count h u ≡ sample_count h t =
-        same_number h t u (apart t new at 114 2 inside (inl (omega arith))) (apart t new at 376 4 inside (inl (omega arith))) in
-        by_length h (extension_count h u) (extension_count h t) (sample_count h t) (length t)
-        (ap (λ (n : ℕ). option_map (λ e. length_with h e n) (extension_count h u)) (sym same) ∙ exact-splice h t new at inside whole) is.exact
-
-    by : (b c : Bool) → leb (at + length new) 396 ≡ b → leb 398 at ≡ c → extensions_of h u ≡ extensions_of h t
-    by true c e f = ap (λ (o : Option ℕ). unwrap_or o 0) (same_count h t u (apart t new at 396 2 inside (inr (leb-true _ _ e))))
-    by false true e f = ap (λ (o : Option ℕ). unwrap_or o 0) (same_count h t u (apart t new at 396 2 inside (inl (leb-true _ _ f))))
-    by false false e f =
-        let over : 396 < at + length new = leb-false (at + length new) 396 e in
-        touched (omega arith)
 
 -- ---- the samples
 
@@ -135,7 +93,7 @@ pub samples_of-header : (h : Head) (t u new : List ℕ) (at : ℕ) → IsTrace h
 samples_of-header h t u new at is whole e few front =
     let spliced : IsTrace h (splice t at (length new) new) = subst (λ (s : List ℕ). IsTrace h s) e whole in
     let inside : at + length new ≤ length t = omega (arith, front, (measured h t is).whole) in
-    ap (samples_of h) e ∙ samples_of-splice h t new at is spliced front (extensions_kept h t new at is few inside spliced)
+    ap (samples_of h) e ∙ samples_of-splice h t new at is spliced front (extensions_kept h t new at is few inside (exact-splice h t new at inside spliced))
 
 -- a trace with the samples of another: its record is that of its headers, with the samples of the other's
 pub record-same_samples : (h : Head) (fields : Pairs) (t u : List ℕ) → samples_of h u ≡ samples_of h t → with_samples_of (record_of h fields u) (record_of h fields t) ≡ record_of h fields u

@@ -15,7 +15,8 @@ use Rattle.edit_overlay.specs.declared.store.TraceStore.{TraceStore}
 use Rattle.frame_cut.specs.declared.extent.Extent.{Extent}
 use Rattle.edit_overlay.specs.declared.slot.Base.TheVariants.{Loaded}
 use Rattle.edit_overlay.specs.declared.slot.Slot.{Slot}
-use Rattle.edit_overlay.specs.Slots.{bytes_in, bytes_under, traces_of, IsSlot, IsStore}
+use Rattle.edit_overlay.specs.Slots.{bytes_in, bytes_under, IsSlot}
+use Rattle.edit_overlay.specs.Stores.{traces_of}
 use Rattle.edit_overlay.specs.declared.save_fault.SaveFault.{SaveFault}
 use Rattle.edit_overlay.specs.declared.writing_out.Waiting.{Waiting}
 use Rattle.frame_cut.specs.Volume.{bytes_of}
@@ -135,15 +136,15 @@ length-waits loaded w h l = omega (arith, h, l, length-take (w.to - w.from) (dro
 
 module _ (s : TraceStore) (passed : List ℕ) (id : ℕ) (rest : List ℕ) (ids : passed ++ id ∷ rest ≡ s.order.ids) where
   -- an id of the order has a slot
-  pub slot_here : (slot : Slot) → IsStore s → get s.slots id ≡ Some slot → IsSlot s.loaded.items s.head slot
-  slot_here slot store e =
+  pub slot_here : (slot : Slot) → get s.slots id ≡ Some slot → IsSlot s.loaded.items s.head slot
+  slot_here slot e =
       let held : 0 < times id s.order.ids = omega (arith, ap (λ (xs : List ℕ). times id xs) ids, times-append id passed (id ∷ rest), times-self id rest) in
-      subst (λ (o : Option Slot). IsSomeAnd o (IsSlot s.loaded.items s.head)) e (store.slots id held)
+      subst (λ (o : Option Slot). IsSomeAnd o (IsSlot s.loaded.items s.head)) e (s.sound.held id held)
 
-  pub no_slot : IsStore s → get s.slots id ≡ None → ⊥
-  no_slot store e =
+  pub no_slot : get s.slots id ≡ None → ⊥
+  no_slot e =
       let held : 0 < times id s.order.ids = omega (arith, ap (λ (xs : List ℕ). times id xs) ids, times-append id passed (id ∷ rest), times-self id rest) in
-      subst (λ (o : Option Slot). IsSomeAnd o (IsSlot s.loaded.items s.head)) e (store.slots id held)
+      subst (λ (o : Option Slot). IsSomeAnd o (IsSlot s.loaded.items s.head)) e (s.sound.held id held)
 
   -- its trace stands between those in front and those behind
   pub traces_here : (slot : Slot) → get s.slots id ≡ Some slot

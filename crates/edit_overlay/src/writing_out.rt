@@ -8,7 +8,8 @@ ghost use Rattle.frame_cut.specs.Volume.{bytes_of};
 ghost use Rattle.trace_view.specs.Shown.{bytes_of as bytes_of_view};
 ghost use Rattle.edit_overlay.specs.Held.{volume_with, HasEnds};
 ghost use Rattle.edit_overlay.specs.Saving.{progress, GoesOn, Saves};
-ghost use Rattle.edit_overlay.specs.Slots.{bytes_in, traces_of, IsSlot, IsStore};
+ghost use Rattle.edit_overlay.specs.Slots.{bytes_in, IsSlot};
+ghost use Rattle.edit_overlay.specs.Stores.{traces_of};
 
 use crate::save_fault::SaveFault;
 use crate::slot::{Base, Slot};
@@ -33,7 +34,6 @@ pub fn write_volume<W: Write>(
     bin: &[u8; 400],
     store: &TraceStore,
 ) -> Result<(), SaveFault>
-    requires store { IsStore store.now }
     requires ends { HasEnds store.now }
     requires small { length (bytes_of (volume_with text.now bin.now store.now)) < 2 ^ 64 }
     ensures saved { Saves (W.contents writer.old.inner) (W.contents writer.new.inner)
@@ -61,7 +61,6 @@ fn write_traces<W: Write>(
     store: &TraceStore,
     waiting: &mut Waiting,
 ) -> Result<(), SaveFault>
-    requires store { IsStore store.now }
     requires order { waiting.old.from ≤ waiting.old.to }
     requires inside { waiting.old.to ≤ length store.now.loaded.items }
     requires small { waiting.old.written + (waiting.old.to - waiting.old.from) + length

@@ -31,8 +31,8 @@ write_slot-requires-clause-small g c =
       ap (λ (x : List ℕ). length x) all,
       length-append (concat (map f i.passed) ++ t) (concat (map f c.next.new.self)),
       length-append (concat (map f i.passed)) t,
-      length-waits s.loaded.items c.args.waiting.now c.requires.order c.requires.inside,
-      length-waits s.loaded.items c.loop-id.waiting i.order i.inside,
+      length-waits s.loaded.items c.args.waiting.now c.requires.inside,
+      length-waits s.loaded.items c.loop-id.waiting i.inside,
     )
 
 pub loop-id-preserved : goal.loop-id-preserved
@@ -45,7 +45,6 @@ loop-id-preserved g c =
     let e = c.in_ok-write_slot-in-Some-get.ensures in
     record {
       failures = e.failures ∙ i.failures;
-      order = e.order;
       inside = rw c.as_slice.ensures.value at e.inside;
       passed = i.passed ++ c.in-Some.id ∷ [];
       joined = append_assoc i.passed (c.in-Some.id ∷ []) c.next.new.self ∙ ids;

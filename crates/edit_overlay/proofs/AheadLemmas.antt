@@ -13,7 +13,8 @@ use Rattle.edit_overlay.specs.declared.prepared.Prepared.TheVariants.{Runs, Move
 use Rattle.edit_overlay.specs.declared.store.TraceStore.{TraceStore}
 use Rattle.edit_overlay.specs.Ahead.{traces_ahead, traces_then, traces_with, AreRunsFrom, AreRunsOf, IsReady, IsReadyIfSome}
 use Rattle.edit_overlay.specs.Each.{part_of, ArePutEach, ArePutRuns}
-use Rattle.edit_overlay.specs.Slots.{base_under, bases_of, bytes_under, traces_of}
+use Rattle.edit_overlay.specs.Slots.{base_under, bytes_under}
+use Rattle.edit_overlay.specs.Stores.{bases_of, traces_of}
 use Rattle.edit_overlay.proofs.EachLemmas.{laid-next, so_far_all, so_far_more, ArePutSoFar}
 use Rattle.edit_overlay.proofs.LengthLemmas.{total, total-set}
 use Rattle.edit_overlay.proofs.MoveLemmas.{length-moved, total-moved, AreTraces}

@@ -3,7 +3,7 @@ use Rattle.std.proofs.Common.{◌≡◌, ℕ, ◌+◌, List, length, refl, sym, 
 use Rattle.frame_cut.specs.Volume.{Volume, bytes_of}
 use Rattle.edit_overlay.specs.Ahead.{traces_ahead}
 use Rattle.edit_overlay.specs.Held.{looked_of, volume_ahead, volume_with, IsHeld}
-use Rattle.edit_overlay.specs.Slots.{traces_of, IsStore}
+use Rattle.edit_overlay.specs.Stores.{traces_of}
 use Rattle.edit_overlay.specs.declared.store.TraceStore.{TraceStore}
 use Rattle.edit_overlay.specs.declared.overlay.Overlay.TheInside.{Inside}
 use Rattle.edit_overlay.proofs.AheadLemmas.{ahead_kept, ready_kept, IsSame}
@@ -22,12 +22,11 @@ pub record IsOver (s t : TraceStore) : Type 0 where
 other_traces : (text bin : List ℕ) (s t : TraceStore) → IsOver s t → volume_with text bin t ≡ record (volume_with text bin s) { traces = traces_of t }
 other_traces text bin s t over = rw (over.head, over.loaded) refl
 
-pub held_again : (o : Inside) (t : TraceStore) (n : ℕ) → IsHeld o → IsStore t → IsOver o.store t → n + total (traces_of o.store) ≡ o.length + total (traces_of t) → IsHeld (record o { store = t; prepared = None; length = n })
-held_again o t n held is over sum =
+pub held_again : (o : Inside) (t : TraceStore) (n : ℕ) → IsHeld o → IsOver o.store t → n + total (traces_of o.store) ≡ o.length + total (traces_of t) → IsHeld (record o { store = t; prepared = None; length = n })
+held_again o t n held over sum =
     let v : Volume = volume_with o.text o.bin o.store in
     let e : length (bytes_of (volume_with o.text o.bin t)) ≡ length (bytes_of (record v { traces = traces_of t })) = ap (λ (w : Volume). length (bytes_of w)) (other_traces o.text o.bin o.store t over) in
     record {
-      store = is;
       ends = record { front = rw over.head held.ends.front; whole = rw (over.head, over.loaded) held.ends.whole };
       text = held.text;
       bin = held.bin;
@@ -39,9 +38,8 @@ held_again o t n held is over sum =
 same_traces : (text bin : List ℕ) (s t : TraceStore) → IsOver s t → IsSame s t → volume_with text bin t ≡ volume_with text bin s
 same_traces text bin s t over same = other_traces text bin s t over ∙ ap (λ (ts : List (List ℕ)). record (volume_with text bin s) { traces = ts }) same.traces
 
-pub held_kept : (o : Inside) (t : TraceStore) → IsHeld o → IsStore t → IsOver o.store t → IsSame o.store t → IsHeld (record o { store = t })
-held_kept o t held is over same = record {
-  store = is;
+pub held_kept : (o : Inside) (t : TraceStore) → IsHeld o → IsOver o.store t → IsSame o.store t → IsHeld (record o { store = t })
+held_kept o t held over same = record {
   ends = record { front = rw over.head held.ends.front; whole = rw (over.head, over.loaded) held.ends.whole };
   text = held.text;
   bin = held.bin;

@@ -15,9 +15,10 @@ use Rattle.edit_overlay.specs.declared.store.TraceStore.{TraceStore}
 use Rattle.frame_cut.specs.declared.extent.Extent.{Extent}
 use Rattle.edit_overlay.specs.declared.slot.Base.TheVariants.{Loaded}
 use Rattle.edit_overlay.specs.declared.slot.Slot.{Slot}
-use Rattle.edit_overlay.specs.Slots.{bytes_in, bytes_under, traces_of, IsSlot, IsStore}
+use Rattle.edit_overlay.specs.Slots.{bytes_in, bytes_under, IsSlot}
+use Rattle.edit_overlay.specs.Stores.{traces_of}
 use Rattle.edit_overlay.specs.declared.save_fault.SaveFault.{SaveFault}
-use Rattle.edit_overlay.specs.declared.writing_out.Waiting.{Waiting}
+use Rattle.edit_overlay.specs.declared.waiting.Waiting.{Waiting}
 use Rattle.frame_cut.specs.Volume.{bytes_of}
 use Rattle.frame_cut.proofs.BlockLemmas.{concat-blocks_of}
 use Rattle.edit_overlay.specs.Held.{HasEnds, volume_with}
@@ -79,11 +80,11 @@ range_joined xs a b c h l =
     ∙ sym (take-add (b - a) (c - b) (drop a xs)) ∙ ap (λ (k : ℕ). take k (drop a xs)) n
 
 -- a neighbouring range waits too
-pub waits_more : (old : Option (List ℕ)) (loaded : List ℕ) (w : Waiting) (to : ℕ) → w.from ≤ w.to → w.to ≤ to → Comes old old (progress loaded w) (progress loaded (record w { to = to })) (slice_range loaded w.to to)
-waits_more old loaded w to h l start all come = record {
+pub waits_more : (old : Option (List ℕ)) (loaded : List ℕ) (w : Waiting) (to : ℕ) → w.to ≤ to → Comes old old (progress loaded w) (record { written = w.written; waits = slice_range loaded w.from to }) (slice_range loaded w.to to)
+waits_more old loaded w to l start all come = record {
   taken = come.taken;
   appended = come.appended;
-  joined = ap (λ (s : List ℕ). come.taken ++ s) (sym (range_joined loaded w.from w.to to h l)) ∙ sym (append_assoc come.taken _ _) ∙ ap (λ (s : List ℕ). s ++ slice_range loaded w.to to) come.joined;
+  joined = ap (λ (s : List ℕ). come.taken ++ s) (sym (range_joined loaded w.from w.to to w.in_order l)) ∙ sym (append_assoc come.taken _ _) ∙ ap (λ (s : List ℕ). s ++ slice_range loaded w.to to) come.joined;
   counted = come.counted;
 }
 
@@ -128,22 +129,22 @@ counted old new from to bytes f =
     let behind = f None (taken ++ from.waits) before in
     omega (arith, behind.counted, ap (λ (s : List ℕ). length s) behind.joined, length-append behind.taken to.waits, length-append (taken ++ from.waits) bytes, length-append taken from.waits, length-replicate {A = ℕ} from.written 0)
 
-pub length-waits : (loaded : List ℕ) (w : Waiting) → w.from ≤ w.to → w.to ≤ length loaded → length (slice_range loaded w.from w.to) ≡ w.to - w.from
-length-waits loaded w h l = omega (arith, h, l, length-take (w.to - w.from) (drop w.from loaded), length-drop w.from loaded)
+pub length-waits : (loaded : List ℕ) (w : Waiting) → w.to ≤ length loaded → length (slice_range loaded w.from w.to) ≡ w.to - w.from
+length-waits loaded w l = omega (arith, w.in_order, l, length-take (w.to - w.from) (drop w.from loaded), length-drop w.from loaded)
 
 -- ---- the traces of an order
 
 module _ (s : TraceStore) (passed : List ℕ) (id : ℕ) (rest : List ℕ) (ids : passed ++ id ∷ rest ≡ s.order.ids) where
   -- an id of the order has a slot
-  pub slot_here : (slot : Slot) → IsStore s → get s.slots id ≡ Some slot → IsSlot s.loaded.items s.head slot
-  slot_here slot store e =
+  pub slot_here : (slot : Slot) → get s.slots id ≡ Some slot → IsSlot s.loaded.items s.head slot
+  slot_here slot e =
       let held : 0 < times id s.order.ids = omega (arith, ap (λ (xs : List ℕ). times id xs) ids, times-append id passed (id ∷ rest), times-self id rest) in
-      subst (λ (o : Option Slot). IsSomeAnd o (IsSlot s.loaded.items s.head)) e (store.slots id held)
+      subst (λ (o : Option Slot). IsSomeAnd o (IsSlot s.loaded.items s.head)) e (s.sound.held id held)
 
-  pub no_slot : IsStore s → get s.slots id ≡ None → ⊥
-  no_slot store e =
+  pub no_slot : get s.slots id ≡ None → ⊥
+  no_slot e =
       let held : 0 < times id s.order.ids = omega (arith, ap (λ (xs : List ℕ). times id xs) ids, times-append id passed (id ∷ rest), times-self id rest) in
-      subst (λ (o : Option Slot). IsSomeAnd o (IsSlot s.loaded.items s.head)) e (store.slots id held)
+      subst (λ (o : Option Slot). IsSomeAnd o (IsSlot s.loaded.items s.head)) e (s.sound.held id held)
 
   -- its trace stands between those in front and those behind
   pub traces_here : (slot : Slot) → get s.slots id ≡ Some slot

@@ -10,7 +10,7 @@ use Rattle.edit_overlay.specs.declared.prepared.Prepared.{Prepared}
 use Rattle.edit_overlay.specs.declared.prepared.Prepared.TheVariants.{Runs, Move}
 use Rattle.edit_overlay.specs.declared.prepared.TraceMove.{TraceMove}
 use Rattle.edit_overlay.specs.declared.store.TraceStore.{TraceStore}
-use Rattle.edit_overlay.specs.Slots.{bases_of, traces_of}
+use Rattle.edit_overlay.specs.Stores.{bases_of, traces_of}
 
 -- the traces with a list of runs over the base of each of those from `place` on
 abbrev pub traces_with : (bases traces : List (List ℕ)) → ℕ → List (Vec Run Global) → List (List ℕ)

@@ -5,7 +5,7 @@ use Rattle.frame_cut.specs.Volume.{Volume, bytes_of}
 use Rattle.edit_overlay.specs.Ahead.{traces_ahead, IsReadyIfSome}
 use Rattle.edit_overlay.specs.CountedVolume.{CountedVolume}
 use Rattle.edit_overlay.specs.declared.prepared.Prepared.{Prepared}
-use Rattle.edit_overlay.specs.Slots.{traces_of, IsStore}
+use Rattle.edit_overlay.specs.Stores.{traces_of}
 use Rattle.edit_overlay.specs.declared.store.TraceStore.{TraceStore}
 use Rattle.edit_overlay.specs.declared.overlay.Overlay.TheInside.{Inside}
 
@@ -39,7 +39,6 @@ pub record HasEnds (s : TraceStore) : Type 0 where
 
 -- what holds of an overlay between two calls
 pub record IsHeld (o : Inside) : Type 0 where
-  pub store : IsStore o.store
   pub ends : HasEnds o.store
   pub text : length o.text ≡ 3200
   pub bin : length o.bin ≡ 400

@@ -3,6 +3,8 @@ pub mod Loading
 pub mod Saving
 pub mod Held
 pub mod Slots
+pub mod Stores
+pub mod OneProof
 pub mod Each
 pub mod CountedVolume
 pub mod Looks

@@ -2,7 +2,7 @@
 use Rattle.std.specs.Prelude.{ℕ, ◌≡◌, ◌<◌, List, ◌++◌, length, take, slice_range, Option, Result, MatchResult}
 use Rattle.std.specs.Io.KnownBytes.{Appends}
 use Rattle.edit_overlay.specs.declared.save_fault.SaveFault.{SaveFault}
-use Rattle.edit_overlay.specs.declared.writing_out.Waiting.{Waiting}
+use Rattle.edit_overlay.specs.declared.waiting.Waiting.{Waiting}
 
 -- the writer's bytes grow by all these, or by exactly the prefix that the fault names, which is not all
 abbrev pub Saves : {T : Type 0} → Option (List ℕ) → Option (List ℕ) → List ℕ → Result T SaveFault → Type 0

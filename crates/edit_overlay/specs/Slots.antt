@@ -10,7 +10,6 @@ use Rattle.trace_view.specs.Runs.{Fit, bytes_with_runs}
 use Rattle.edit_overlay.specs.declared.slot.Base.{Base}
 use Rattle.edit_overlay.specs.declared.slot.Base.TheVariants.{Loaded, Added}
 use Rattle.edit_overlay.specs.declared.slot.Slot.{Slot}
-use Rattle.edit_overlay.specs.declared.store.TraceStore.{TraceStore}
 
 -- the bytes under a trace's runs: a part of the loaded file, or bytes of the trace's own
 abbrev pub base_of : List ℕ → Base → List ℕ
@@ -36,17 +35,9 @@ pub record IsSlot (loaded : List ℕ) (h : Head) (slot : Slot) : Type 0 where
 abbrev pub bytes_under : List ℕ → Slab Slot → ℕ → List ℕ
 bytes_under loaded slots id = option_map_or (bytes_in loaded) (get slots id) []
 
--- the traces, in order
-abbrev pub traces_of : TraceStore → List (List ℕ)
-traces_of s = map (bytes_under s.loaded.items s.slots) s.order.ids
-
 -- the bytes under the runs of the trace under an id
 abbrev pub base_under : List ℕ → Slab Slot → ℕ → List ℕ
 base_under loaded slots id = option_map_or (λ slot. base_of loaded slot.base) (get slots id) []
-
--- the bytes under the runs of each trace, in order
-abbrev pub bases_of : TraceStore → List (List ℕ)
-bases_of s = map (base_under s.loaded.items s.slots) s.order.ids
 
 -- the id has a slot with a whole trace
 abbrev pub IsHeldUnder : List ℕ → Head → Slab Slot → ℕ → Type 0
@@ -56,10 +47,10 @@ IsHeldUnder loaded h slots id = IsSomeAnd (get slots id) (IsSlot loaded h)
 abbrev pub AreHeld : List ℕ → Head → List ℕ → Slab Slot → Type 0
 AreHeld loaded h ids slots = (id : ℕ) → 0 < times id ids → IsHeldUnder loaded h slots id
 
--- each id of the order has a slot with a whole trace, no id stands twice, there is no slot but those of the order, and
--- they can be counted in 32 bits
-pub record IsStore (s : TraceStore) : Type 0 where
-  pub slots : AreHeld s.loaded.items s.head s.order.ids s.slots
-  pub distinct : AreDistinct s.order.ids
-  pub no_more : slab_len s.slots ≡ length s.order.ids
-  pub few : length s.order.ids < 2 ^ 32
+-- each of the ids has a slot with a whole trace, no id stands twice, there is no slot but theirs, and they can be
+-- counted in 32 bits
+pub record IsStore (loaded : List ℕ) (h : Head) (ids : List ℕ) (slots : Slab Slot) : Type 0 where
+  pub held : AreHeld loaded h ids slots
+  pub distinct : AreDistinct ids
+  pub no_more : slab_len slots ≡ length ids
+  pub few : length ids < 2 ^ 32

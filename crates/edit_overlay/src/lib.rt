@@ -37,6 +37,7 @@ mod save_fault;
 mod slot;
 mod store;
 mod views;
+mod waiting;
 mod writing_out;
 
 pub use crate::out_of_memory::OutOfMemory;

@@ -7,10 +7,10 @@ ghost use Rattle.frame_cut.specs.Splice.{splice};
 ghost use Rattle.trace_seq.specs.Order.{id_at};
 ghost use Rattle.trace_view.specs.Runs.{Fit, bytes_with_runs};
 ghost use Rattle.trace_view.specs.Shown.{bytes_of, head_of};
-ghost use Rattle.edit_overlay.specs.Slots.{base_of, bases_of, bytes_under, traces_of, IsHeldUnder, IsInside, IsStore};
+ghost use Rattle.edit_overlay.specs.Slots.{base_of, bytes_under, IsHeldUnder, IsInside, IsStore};
 ghost use Rattle.frame_cut.specs.Parts.{put_each_at};
 ghost use Rattle.edit_overlay.specs.Each.{part_of, ArePutRuns, ArePutEach};
-ghost use Rattle.edit_overlay.specs.Ahead.{traces_moved, traces_then, traces_with, AreRunsFrom, AreRunsOf, IsReady};
+ghost use Rattle.edit_overlay.specs.OneProof.{IsStore-prop};
 
 use crate::out_of_memory::OutOfMemory;
 use crate::prepared::{Prepared, TraceMove, TraceRuns};
@@ -28,9 +28,14 @@ pub struct TraceStore {
     pub head: Head,
     pub order: ChunkSeq,
     pub slots: Slab<Slot>,
+    pub ghost sound: { IsStore loaded.items head order.ids slots } by { IsStore-prop loaded.items
+        head order.ids slots },
 }
 
 impl TraceStore {
+    ghost use Rattle.edit_overlay.specs.Ahead.{traces_moved, traces_then, traces_with, AreRunsFrom, AreRunsOf, IsReady};
+    ghost use Rattle.edit_overlay.specs.Stores.{bases_of, traces_of};
+
     // The store of a loaded file whose traces lie at these extents. Refused for want of memory
     // alone.
     pub fn new(
@@ -42,7 +47,6 @@ impl TraceStore {
         requires few { length extents.items < 2 ^ 32 }
         requires inside { All (λ e. e.start + e.length ≤ length loaded.items) extents.items }
         requires whole { All (λ e. IsTrace head (bytes_at loaded.items e)) extents.items }
-        ensures store { IfOk result (λ s. IsStore s) }
         ensures head { IfOk result (λ s. s.head ≡ head) }
         ensures loaded { IfOk result (λ s. s.loaded.items ≡ loaded.items) }
         ensures traces { IfOk result (λ s. traces_of s ≡ pieces loaded.items extents.items) }
@@ -82,7 +86,6 @@ impl TraceStore {
 
     // Trace p.
     pub fn view(&self, p: u32) -> TraceView<'_>
-        requires store { IsStore self.now }
         requires first { 1 ≤ p }
         requires last { p ≤ length (traces_of self.now) }
         ensures head { head_of result ≡ self.now.head }
@@ -108,7 +111,6 @@ impl TraceStore {
 
     // Trace p with these runs in place of its own.
     fn view_with<'a>(&'a self, p: u32, runs: &'a [Run]) -> TraceView<'a>
-        requires store { IsStore self.now }
         requires first { 1 ≤ p }
         requires runs { AreRunsOf self.now.head (bases_of self.now) (p - 1) runs.now }
         ensures head { head_of result ≡ self.now.head }
@@ -127,7 +129,6 @@ impl TraceStore {
 
     // Trace p as it would be with the edit that is prepared.
     pub fn view_then<'a>(&'a self, p: u32, prepared: &'a Prepared) -> TraceView<'a>
-        requires store { IsStore self.now }
         requires ready { IsReady self.now prepared.now }
         requires first { 1 ≤ p }
         requires last { p ≤ length (traces_of self.now) }
@@ -143,7 +144,6 @@ impl TraceStore {
 
     // Trace p as it would be with the prepared runs.
     fn view_laid<'a>(&'a self, p: u32, prepared: &'a TraceRuns) -> TraceView<'a>
-        requires store { IsStore self.now }
         requires runs { AreRunsFrom self.now.head (bases_of self.now) prepared.now.place
             prepared.now.lists.items }
         requires first { 1 ≤ p }
@@ -172,7 +172,6 @@ impl TraceStore {
         at: u64,
         bytes: &[u8],
     ) -> Result<Prepared, OutOfMemory>
-        requires store { IsStore self.now }
         requires first { 1 ≤ p }
         requires last { p ≤ length (traces_of self.now) }
         requires inside { at + length bytes.now ≤ length
@@ -209,7 +208,6 @@ impl TraceStore {
         size: u32,
         bytes: &[u8],
     ) -> Result<Prepared, OutOfMemory>
-        requires store { IsStore self.now }
         requires first { 1 ≤ a }
         requires some { 0 < size }
         requires exact { length bytes.now % size ≡ 0 }
@@ -233,12 +231,10 @@ impl TraceStore {
     // The move of trace a to where it is trace b, and room for it in the order. Where memory is
     // refused, nothing is changed.
     pub fn prepare_move(&mut self, alloc: Global, a: u32, b: u32) -> Result<Prepared, OutOfMemory>
-        requires store { IsStore self.old }
         requires from_first { 1 ≤ a }
         requires from_last { a ≤ length (traces_of self.old) }
         requires to_first { 1 ≤ b }
         requires to_last { b ≤ length (traces_of self.old) }
-        ensures store { IsStore self.new }
         ensures head { self.new.head ≡ self.old.head }
         ensures loaded { self.new.loaded ≡ self.old.loaded }
         ensures bases { bases_of self.new ≡ bases_of self.old }
@@ -254,9 +250,7 @@ impl TraceStore {
 
     // Makes the edit that is prepared.
     pub fn commit(&mut self, prepared: Prepared)
-        requires store { IsStore self.old }
         requires ready { IsReady self.old prepared }
-        ensures store { IsStore self.new }
         ensures head { self.new.head ≡ self.old.head }
         ensures loaded { self.new.loaded ≡ self.old.loaded }
         ensures traces { traces_of self.new ≡ traces_then self.old prepared }
@@ -269,10 +263,8 @@ impl TraceStore {
 
     // Gives the traces the prepared runs.
     fn lay(&mut self, prepared: TraceRuns)
-        requires store { IsStore self.old }
         requires runs { AreRunsFrom self.old.head (bases_of self.old) prepared.place
             prepared.lists.items }
-        ensures store { IsStore self.new }
         ensures head { self.new.head ≡ self.old.head }
         ensures loaded { self.new.loaded ≡ self.old.loaded }
         ensures traces { traces_of self.new ≡ traces_with (bases_of self.old) (traces_of self.old)
@@ -294,7 +286,6 @@ impl TraceStore {
         size: u32,
         bytes: &[u8],
     ) -> Result<Vec<Vec<Run>>, OutOfMemory>
-        requires store { IsStore self.now }
         requires first { 1 ≤ a }
         requires some { 0 < size }
         requires last { a - 1 + length bytes.now / size ≤ length (traces_of self.now) }
@@ -323,7 +314,6 @@ impl TraceStore {
         at: u64,
         bytes: &[u8],
     ) -> Result<Vec<Run>, OutOfMemory>
-        requires store { IsStore self.now }
         requires first { 1 ≤ p }
         requires last { p ≤ length (traces_of self.now) }
         requires some { 0 < length bytes.now }
@@ -341,10 +331,8 @@ impl TraceStore {
 
     // Gives trace p these runs in place of those that it has.
     fn set_runs(&mut self, p: u32, runs: Vec<Run>)
-        requires store { IsStore self.old }
         requires first { 1 ≤ p }
         requires runs { AreRunsOf self.old.head (bases_of self.old) (p - 1) runs.items }
-        ensures store { IsStore self.new }
         ensures head { self.new.head ≡ self.old.head }
         ensures loaded { self.new.loaded ≡ self.old.loaded }
         ensures bases { bases_of self.new ≡ bases_of self.old }
@@ -361,13 +349,11 @@ impl TraceStore {
     // A slot's base as a new trace in front of trace p, or behind the last. Where memory is
     // refused, nothing is changed.
     pub fn insert(&mut self, alloc: Global, p: u32, base: Base) -> Result<(), OutOfMemory>
-        requires store { IsStore self.old }
         requires first { 1 ≤ p }
         requires last { p ≤ length (traces_of self.old) + 1 }
         requires few { length (traces_of self.old) + 1 < 2 ^ 32 }
         requires inside { IsInside self.old.loaded.items base }
         requires whole { IsTrace self.old.head (base_of self.old.loaded.items base) }
-        ensures store { IsStore self.new }
         ensures head { self.new.head ≡ self.old.head }
         ensures loaded { self.new.loaded ≡ self.old.loaded }
         ensures ok { OnOk result (traces_of self.new ≡ insert (traces_of self.old) (p - 1)
@@ -393,10 +379,8 @@ impl TraceStore {
 
     // Takes trace p out, and frees its slot.
     pub fn delete(&mut self, p: u32)
-        requires store { IsStore self.old }
         requires first { 1 ≤ p }
         requires last { p ≤ length (traces_of self.old) }
-        ensures store { IsStore self.new }
         ensures head { self.new.head ≡ self.old.head }
         ensures loaded { self.new.loaded ≡ self.old.loaded }
         ensures traces { traces_of self.new ≡ remove (traces_of self.old) (p - 1) }
@@ -408,13 +392,11 @@ impl TraceStore {
 
     // Takes trace a out, and puts it in again so that it is trace b.
     fn move_to(&mut self, a: u32, b: u32)
-        requires store { IsStore self.old }
         requires from_first { 1 ≤ a }
         requires from_last { a ≤ length (traces_of self.old) }
         requires to_first { 1 ≤ b }
         requires to_last { b ≤ length (traces_of self.old) }
         requires room { 1 ≤ self.old.order.spare }
-        ensures store { IsStore self.new }
         ensures head { self.new.head ≡ self.old.head }
         ensures loaded { self.new.loaded ≡ self.old.loaded }
         ensures traces { traces_of self.new ≡ traces_moved (traces_of self.old) a b }
@@ -424,12 +406,10 @@ impl TraceStore {
 
     // Makes the base the whole of trace p, without runs.
     pub fn replace(&mut self, alloc: Global, p: u32, base: Base)
-        requires store { IsStore self.old }
         requires first { 1 ≤ p }
         requires last { p ≤ length (traces_of self.old) }
         requires inside { IsInside self.old.loaded.items base }
         requires whole { IsTrace self.old.head (base_of self.old.loaded.items base) }
-        ensures store { IsStore self.new }
         ensures head { self.new.head ≡ self.old.head }
         ensures loaded { self.new.loaded ≡ self.old.loaded }
         ensures traces { traces_of self.new ≡ slice_set (traces_of self.old) (p - 1)

@@ -1,5 +1,4 @@
 ghost use Rattle.std.specs.Prelude.{◌≡◌};
-ghost use Rattle.edit_overlay.specs.Slots.{IsStore};
 
 use crate::store::TraceStore;
 use std::marker::Model;
@@ -32,7 +31,6 @@ impl<'a> Views<'a> {
 
     // All traces of the store.
     pub(crate) fn new(store: &'a TraceStore) -> Views<'a>
-        requires { IsStore store.now }
         ensures { result ≡ shown_under store.now store.now.order.ids }
     {
         Views {

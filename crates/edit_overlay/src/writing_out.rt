@@ -8,23 +8,17 @@ ghost use Rattle.frame_cut.specs.Volume.{bytes_of};
 ghost use Rattle.trace_view.specs.Shown.{bytes_of as bytes_of_view};
 ghost use Rattle.edit_overlay.specs.Held.{volume_with, HasEnds};
 ghost use Rattle.edit_overlay.specs.Saving.{progress, GoesOn, Saves};
-ghost use Rattle.edit_overlay.specs.Slots.{bytes_in, traces_of, IsSlot, IsStore};
+ghost use Rattle.edit_overlay.specs.Slots.{bytes_in, IsSlot};
+ghost use Rattle.edit_overlay.specs.Stores.{traces_of};
 
 use crate::save_fault::SaveFault;
 use crate::slot::{Base, Slot};
 use crate::store::TraceStore;
+use crate::waiting::Waiting;
 use device_io::Sink;
 use frame_cut::Head;
 use std::io::Write;
 use trace_view::TraceView;
-
-// A range of the loaded bytes that waits to be written, and how many bytes the writer took before.
-#[derive(Drop)]
-pub struct Waiting {
-    pub from: usize,
-    pub to: usize,
-    pub written: u64,
-}
 
 // Writes the headers, then the blocks, the traces and the data trailer records of the store.
 pub fn write_volume<W: Write>(
@@ -33,7 +27,6 @@ pub fn write_volume<W: Write>(
     bin: &[u8; 400],
     store: &TraceStore,
 ) -> Result<(), SaveFault>
-    requires store { IsStore store.now }
     requires ends { HasEnds store.now }
     requires small { length (bytes_of (volume_with text.now bin.now store.now)) < 2 ^ 64 }
     ensures saved { Saves (W.contents writer.old.inner) (W.contents writer.new.inner)
@@ -61,12 +54,9 @@ fn write_traces<W: Write>(
     store: &TraceStore,
     waiting: &mut Waiting,
 ) -> Result<(), SaveFault>
-    requires store { IsStore store.now }
-    requires order { waiting.old.from ≤ waiting.old.to }
     requires inside { waiting.old.to ≤ length store.now.loaded.items }
     requires small { waiting.old.written + (waiting.old.to - waiting.old.from) + length
         (concat (traces_of store.now)) < 2 ^ 64 }
-    ensures order { waiting.new.from ≤ waiting.new.to }
     ensures inside { waiting.new.to ≤ length store.now.loaded.items }
     ensures saved { GoesOn (W.contents writer.old.inner) (W.contents writer.new.inner)
         (progress store.now.loaded.items waiting.old) (progress store.now.loaded.items waiting.new)
@@ -91,11 +81,9 @@ fn write_slot<W: Write>(
     waiting: &mut Waiting,
 ) -> Result<(), SaveFault>
     requires slot { IsSlot loaded.now head.now slot.now }
-    requires order { waiting.old.from ≤ waiting.old.to }
     requires inside { waiting.old.to ≤ length loaded.now }
     requires small { waiting.old.written + (waiting.old.to - waiting.old.from) + length
         (bytes_in loaded.now slot.now) < 2 ^ 64 }
-    ensures order { waiting.new.from ≤ waiting.new.to }
     ensures inside { waiting.new.to ≤ length loaded.now }
     ensures saved { GoesOn (W.contents writer.old.inner) (W.contents writer.new.inner)
         (progress loaded.now waiting.old) (progress loaded.now waiting.new)
@@ -122,12 +110,10 @@ fn write_range<W: Write>(
     from: usize,
     to: usize,
 ) -> Result<(), SaveFault>
-    requires order { waiting.old.from ≤ waiting.old.to }
     requires inside { waiting.old.to ≤ length loaded.now }
     requires range { from ≤ to }
     requires range_inside { to ≤ length loaded.now }
     requires small { waiting.old.written + (waiting.old.to - waiting.old.from) < 2 ^ 64 }
-    ensures order { waiting.new.from ≤ waiting.new.to }
     ensures inside { waiting.new.to ≤ length loaded.now }
     ensures saved { GoesOn (W.contents writer.old.inner) (W.contents writer.new.inner)
         (progress loaded.now waiting.old) (progress loaded.now waiting.new)
@@ -150,11 +136,9 @@ fn flush<W: Write>(
     loaded: &[u8],
     waiting: &mut Waiting,
 ) -> Result<(), SaveFault>
-    requires order { waiting.old.from ≤ waiting.old.to }
     requires inside { waiting.old.to ≤ length loaded.now }
     requires small { waiting.old.written + (waiting.old.to - waiting.old.from) < 2 ^ 64 }
     ensures to { waiting.new.to ≡ waiting.old.to }
-    ensures order { waiting.new.from ≤ waiting.new.to }
     ensures empty { OnOk result (waiting.new.from ≡ waiting.new.to) }
     ensures count { OnOk result
         (waiting.new.written ≡ waiting.old.written + (waiting.old.to - waiting.old.from)) }

@@ -6,7 +6,7 @@ use Rattle.edit_overlay.proofs.writing_out.write_range.Goals as goal
 
 pub returns-then-from-waiting-clause-saved : goal.returns-then-from-waiting-clause-saved
 returns-then-from-waiting-clause-saved g c =
-    rw (c.if-from-waiting.true) (waits_more _ c.args.loaded.now c.args.waiting.now c.args.to c.requires.order (rw c.if-from-waiting.true at c.requires.range))
+    rw (c.if-from-waiting.true) (waits_more _ c.args.loaded.now c.args.waiting.now c.args.to (rw c.if-from-waiting.true at c.requires.range))
 
 pub returns-in_err-flush-clause-saved : goal.returns-in_err-flush-clause-saved
 returns-in_err-flush-clause-saved g c =

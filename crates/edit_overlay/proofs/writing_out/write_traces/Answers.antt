@@ -2,7 +2,8 @@ use Rattle.std.proofs.Common.{◌≡◌, ◌++◌, ◌∷◌, [], ℕ, List, map
 use Rattle.std.proofs.lemmas.Result.{err_from_is_err_and}
 use Rattle.std.specs.List.{concat}
 use Rattle.edit_overlay.specs.Saving.{progress}
-use Rattle.edit_overlay.specs.Slots.{bytes_in, bytes_under, traces_of}
+use Rattle.edit_overlay.specs.Slots.{bytes_in, bytes_under}
+use Rattle.edit_overlay.specs.Stores.{traces_of}
 use Rattle.edit_overlay.proofs.SavingLemmas.{comes_on, refused_at, counted, length-waits, slot_here, no_slot, traces_here, traces_passed, same_come}
 use Rattle.edit_overlay.proofs.writing_out.write_traces.Goals as goal
 
@@ -10,7 +11,7 @@ pub write_slot-requires-clause-slot : goal.write_slot-requires-clause-slot
 write_slot-requires-clause-slot g c =
     let s = c.args.store.now in
     let i = c.loop-id.invariant in
-    rw c.as_slice.ensures.value (slot_here s i.passed c.in-Some.id c.next.new.self (ap (λ (xs : List ℕ). i.passed ++ xs) (sym c.in-Some.ensures.steps) ∙ i.joined) c.in-Some-get.slot.now c.requires.store (sym c.in-Some-get.ensures))
+    rw c.as_slice.ensures.value (slot_here s i.passed c.in-Some.id c.next.new.self (ap (λ (xs : List ℕ). i.passed ++ xs) (sym c.in-Some.ensures.steps) ∙ i.joined) c.in-Some-get.slot.now (sym c.in-Some-get.ensures))
 
 pub write_slot-requires-clause-small : goal.write_slot-requires-clause-small
 write_slot-requires-clause-small g c =
@@ -30,8 +31,8 @@ write_slot-requires-clause-small g c =
       ap (λ (x : List ℕ). length x) all,
       length-append (concat (map f i.passed) ++ t) (concat (map f c.next.new.self)),
       length-append (concat (map f i.passed)) t,
-      length-waits s.loaded.items c.args.waiting.now c.requires.order c.requires.inside,
-      length-waits s.loaded.items c.loop-id.waiting i.order i.inside,
+      length-waits s.loaded.items c.args.waiting.now c.requires.inside,
+      length-waits s.loaded.items c.loop-id.waiting i.inside,
     )
 
 pub loop-id-preserved : goal.loop-id-preserved
@@ -44,7 +45,6 @@ loop-id-preserved g c =
     let e = c.in_ok-write_slot-in-Some-get.ensures in
     record {
       failures = e.failures ∙ i.failures;
-      order = e.order;
       inside = rw c.as_slice.ensures.value at e.inside;
       passed = i.passed ++ c.in-Some.id ∷ [];
       joined = append_assoc i.passed (c.in-Some.id ∷ []) c.next.new.self ∙ ids;
@@ -67,4 +67,4 @@ pub unreachable-requires : goal.unreachable-requires
 unreachable-requires g c =
     let s = c.args.store.now in
     let i = c.loop-id.invariant in
-    no_slot s i.passed c.in-Some.id c.next.new.self (ap (λ (xs : List ℕ). i.passed ++ xs) (sym c.in-Some.ensures.steps) ∙ i.joined) c.requires.store (sym c.in-None-get.ensures)
+    no_slot s i.passed c.in-Some.id c.next.new.self (ap (λ (xs : List ℕ). i.passed ++ xs) (sym c.in-Some.ensures.steps) ∙ i.joined) (sym c.in-None-get.ensures)

@@ -9,7 +9,6 @@ use Rattle.edit_overlay.proofs.writing_out.write_traces.Given as goal
 abbrev pub invariant-loop-id : goal.invariant-loop-id
 invariant-loop-id g l = record {
   failures : l.writer.failures ≡ l.initial.writer.failures;
-  order : l.waiting.from ≤ l.waiting.to;
   inside : l.waiting.to ≤ length l.store.loaded.items;
   passed : List ℕ;
   joined : passed ++ l.id-iterator ≡ l.store.order.ids;

@@ -3,9 +3,9 @@ use Rattle.std.proofs.lemmas.Result.{err_from_is_err_and}
 use Rattle.std.specs.List.{concat}
 use Rattle.frame_cut.specs.Volume.{bytes_of}
 use Rattle.edit_overlay.specs.Held.{volume_with}
-use Rattle.edit_overlay.specs.declared.writing_out.Waiting.{Waiting}
+use Rattle.edit_overlay.specs.declared.waiting.Waiting.{Waiting}
 use Rattle.edit_overlay.specs.Saving.{Progress, progress}
-use Rattle.edit_overlay.specs.Slots.{traces_of}
+use Rattle.edit_overlay.specs.Stores.{traces_of}
 use Rattle.edit_overlay.proofs.SavingLemmas.{begin, empty_waits, on_ok, IsFront, Comes, comes_on, counted, length-waits, parts_joined, refused_save, ended_save, shorter_front, waits_first, nothing}
 use Rattle.edit_overlay.proofs.writing_out.write_volume.Goals as goal
 
@@ -64,7 +64,7 @@ write_traces-requires-clause-small g c =
     let come_1 : Comes w_0 w_1 begin (record { written = c.write_part.new.written; waits = [] }) text = c.in_ok-write_part.ensures.saved in
     let w_2 : Option (List ℕ) = g.W.Write.contents c.write_part-2.new.writer.inner in
     let come_2 : Comes w_0 w_2 begin (record { written = c.write_part-2.new.written; waits = [] }) (text ++ bin) = comes_on w_0 w_1 w_2 begin (record { written = c.write_part.new.written; waits = [] }) (record { written = c.write_part-2.new.written; waits = [] }) text bin come_1 c.in_ok-write_part-2.ensures.saved in
-    let ready : Waiting = record { from = 3600; to = s.head.traces_at; written = c.write_part-2.new.written } in
+    let ready : Waiting = record { from = 3600; to = s.head.traces_at; written = c.write_part-2.new.written; in_order = omega (arith, c.requires.ends.front) } in
     let at_3 : Progress = progress s.loaded.items ready in
     let come_3 : Comes w_0 w_2 begin at_3 ((text ++ bin) ++ B) = comes_on w_0 w_2 w_2 begin (record { written = c.write_part-2.new.written; waits = [] }) at_3 (text ++ bin) B come_2 (waits_first w_2 s.loaded.items ready) in
     let come = counted w_0 w_2 begin at_3 ((text ++ bin) ++ B) come_3 in
@@ -75,7 +75,7 @@ write_traces-requires-clause-small g c =
       ap (λ (x : List ℕ). length x) whole,
       length-append (((text ++ bin) ++ B) ++ T) Z,
       length-append ((text ++ bin) ++ B) T,
-      length-waits s.loaded.items ready (omega (arith, c.requires.ends.front)) (omega (arith, c.requires.ends.whole)),
+      length-waits s.loaded.items ready (omega (arith, c.requires.ends.whole)),
     )
 
 pub returns-in_err-write_traces-clause-saved : goal.returns-in_err-write_traces-clause-saved
@@ -95,7 +95,7 @@ returns-in_err-write_traces-clause-saved g c =
     let come_1 : Comes w_0 w_1 begin (record { written = c.write_part.new.written; waits = [] }) text = c.in_ok-write_part.ensures.saved in
     let w_2 : Option (List ℕ) = g.W.Write.contents c.write_part-2.new.writer.inner in
     let come_2 : Comes w_0 w_2 begin (record { written = c.write_part-2.new.written; waits = [] }) (text ++ bin) = comes_on w_0 w_1 w_2 begin (record { written = c.write_part.new.written; waits = [] }) (record { written = c.write_part-2.new.written; waits = [] }) text bin come_1 c.in_ok-write_part-2.ensures.saved in
-    let ready : Waiting = record { from = 3600; to = s.head.traces_at; written = c.write_part-2.new.written } in
+    let ready : Waiting = record { from = 3600; to = s.head.traces_at; written = c.write_part-2.new.written; in_order = omega (arith, c.requires.ends.front) } in
     let at_3 : Progress = progress s.loaded.items ready in
     let come_3 : Comes w_0 w_2 begin at_3 ((text ++ bin) ++ B) = comes_on w_0 w_2 w_2 begin (record { written = c.write_part-2.new.written; waits = [] }) at_3 (text ++ bin) B come_2 (waits_first w_2 s.loaded.items ready) in
     let p = err_from_is_err_and c.from_residual-in_err-write_traces.result c.from_residual-in_err-write_traces.ensures.1 in
@@ -118,7 +118,7 @@ write_range-requires-clause-small g c =
     let come_1 : Comes w_0 w_1 begin (record { written = c.write_part.new.written; waits = [] }) text = c.in_ok-write_part.ensures.saved in
     let w_2 : Option (List ℕ) = g.W.Write.contents c.write_part-2.new.writer.inner in
     let come_2 : Comes w_0 w_2 begin (record { written = c.write_part-2.new.written; waits = [] }) (text ++ bin) = comes_on w_0 w_1 w_2 begin (record { written = c.write_part.new.written; waits = [] }) (record { written = c.write_part-2.new.written; waits = [] }) text bin come_1 c.in_ok-write_part-2.ensures.saved in
-    let ready : Waiting = record { from = 3600; to = s.head.traces_at; written = c.write_part-2.new.written } in
+    let ready : Waiting = record { from = 3600; to = s.head.traces_at; written = c.write_part-2.new.written; in_order = omega (arith, c.requires.ends.front) } in
     let at_3 : Progress = progress s.loaded.items ready in
     let come_3 : Comes w_0 w_2 begin at_3 ((text ++ bin) ++ B) = comes_on w_0 w_2 w_2 begin (record { written = c.write_part-2.new.written; waits = [] }) at_3 (text ++ bin) B come_2 (waits_first w_2 s.loaded.items ready) in
     let w_3 : Option (List ℕ) = g.W.Write.contents c.write_traces.new.writer.inner in
@@ -132,7 +132,7 @@ write_range-requires-clause-small g c =
       c.requires.small,
       ap (λ (x : List ℕ). length x) whole,
       length-append (((text ++ bin) ++ B) ++ T) Z,
-      length-waits s.loaded.items c.write_traces.new.waiting e.order e.inside,
+      length-waits s.loaded.items c.write_traces.new.waiting e.inside,
     )
 
 pub returns-in_err-write_range-clause-saved : goal.returns-in_err-write_range-clause-saved
@@ -152,7 +152,7 @@ returns-in_err-write_range-clause-saved g c =
     let come_1 : Comes w_0 w_1 begin (record { written = c.write_part.new.written; waits = [] }) text = c.in_ok-write_part.ensures.saved in
     let w_2 : Option (List ℕ) = g.W.Write.contents c.write_part-2.new.writer.inner in
     let come_2 : Comes w_0 w_2 begin (record { written = c.write_part-2.new.written; waits = [] }) (text ++ bin) = comes_on w_0 w_1 w_2 begin (record { written = c.write_part.new.written; waits = [] }) (record { written = c.write_part-2.new.written; waits = [] }) text bin come_1 c.in_ok-write_part-2.ensures.saved in
-    let ready : Waiting = record { from = 3600; to = s.head.traces_at; written = c.write_part-2.new.written } in
+    let ready : Waiting = record { from = 3600; to = s.head.traces_at; written = c.write_part-2.new.written; in_order = omega (arith, c.requires.ends.front) } in
     let at_3 : Progress = progress s.loaded.items ready in
     let come_3 : Comes w_0 w_2 begin at_3 ((text ++ bin) ++ B) = comes_on w_0 w_2 w_2 begin (record { written = c.write_part-2.new.written; waits = [] }) at_3 (text ++ bin) B come_2 (waits_first w_2 s.loaded.items ready) in
     let w_3 : Option (List ℕ) = g.W.Write.contents c.write_traces.new.writer.inner in
@@ -178,7 +178,7 @@ returns-clause-saved g c =
     let come_1 : Comes w_0 w_1 begin (record { written = c.write_part.new.written; waits = [] }) text = c.in_ok-write_part.ensures.saved in
     let w_2 : Option (List ℕ) = g.W.Write.contents c.write_part-2.new.writer.inner in
     let come_2 : Comes w_0 w_2 begin (record { written = c.write_part-2.new.written; waits = [] }) (text ++ bin) = comes_on w_0 w_1 w_2 begin (record { written = c.write_part.new.written; waits = [] }) (record { written = c.write_part-2.new.written; waits = [] }) text bin come_1 c.in_ok-write_part-2.ensures.saved in
-    let ready : Waiting = record { from = 3600; to = s.head.traces_at; written = c.write_part-2.new.written } in
+    let ready : Waiting = record { from = 3600; to = s.head.traces_at; written = c.write_part-2.new.written; in_order = omega (arith, c.requires.ends.front) } in
     let at_3 : Progress = progress s.loaded.items ready in
     let come_3 : Comes w_0 w_2 begin at_3 ((text ++ bin) ++ B) = comes_on w_0 w_2 w_2 begin (record { written = c.write_part-2.new.written; waits = [] }) at_3 (text ++ bin) B come_2 (waits_first w_2 s.loaded.items ready) in
     let w_3 : Option (List ℕ) = g.W.Write.contents c.write_traces.new.writer.inner in
@@ -208,7 +208,7 @@ flush-requires-clause-small g c =
     let come_1 : Comes w_0 w_1 begin (record { written = c.write_part.new.written; waits = [] }) text = c.in_ok-write_part.ensures.saved in
     let w_2 : Option (List ℕ) = g.W.Write.contents c.write_part-2.new.writer.inner in
     let come_2 : Comes w_0 w_2 begin (record { written = c.write_part-2.new.written; waits = [] }) (text ++ bin) = comes_on w_0 w_1 w_2 begin (record { written = c.write_part.new.written; waits = [] }) (record { written = c.write_part-2.new.written; waits = [] }) text bin come_1 c.in_ok-write_part-2.ensures.saved in
-    let ready : Waiting = record { from = 3600; to = s.head.traces_at; written = c.write_part-2.new.written } in
+    let ready : Waiting = record { from = 3600; to = s.head.traces_at; written = c.write_part-2.new.written; in_order = omega (arith, c.requires.ends.front) } in
     let at_3 : Progress = progress s.loaded.items ready in
     let come_3 : Comes w_0 w_2 begin at_3 ((text ++ bin) ++ B) = comes_on w_0 w_2 w_2 begin (record { written = c.write_part-2.new.written; waits = [] }) at_3 (text ++ bin) B come_2 (waits_first w_2 s.loaded.items ready) in
     let w_3 : Option (List ℕ) = g.W.Write.contents c.write_traces.new.writer.inner in
@@ -220,4 +220,4 @@ flush-requires-clause-small g c =
     let come_5 : Comes w_0 w_4 begin at_5 ((((text ++ bin) ++ B) ++ T) ++ Z) = comes_on w_0 w_3 w_4 begin at_4 at_5 (((text ++ bin) ++ B) ++ T) Z come_4 last in
     let come = counted w_0 w_4 begin at_5 ((((text ++ bin) ++ B) ++ T) ++ Z) come_5 in
     let inside : c.write_range.new.waiting.to ≤ length s.loaded.items = rw c.as_slice-loaded.ensures.value at c.in_ok-write_range.ensures.inside in
-    omega (arith, come, c.requires.small, ap (λ (x : List ℕ). length x) whole, length-waits s.loaded.items c.write_range.new.waiting c.in_ok-write_range.ensures.order inside)
+    omega (arith, come, c.requires.small, ap (λ (x : List ℕ). length x) whole, length-waits s.loaded.items c.write_range.new.waiting inside)

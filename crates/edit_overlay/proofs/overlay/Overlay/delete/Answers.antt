@@ -1,5 +1,5 @@
 use Rattle.std.proofs.Common.{◌≡◌, ℕ, ◌<◌, ◌-◌, List, [], length, get_or, ap, arith, ◌∙◌}
-use Rattle.edit_overlay.specs.Slots.{traces_of}
+use Rattle.edit_overlay.specs.Stores.{traces_of}
 use Rattle.edit_overlay.specs.Held.{volume_with}
 use Rattle.edit_overlay.proofs.HeldLemmas.{held_again}
 use Rattle.edit_overlay.proofs.LengthLemmas.{total, total-remove, trace-within}
@@ -17,5 +17,5 @@ invariant_of-self c =
     let ts : List (List ℕ) = traces_of c.self.inside.store in
     let there : c.args.p - 1 < length ts = omega (arith, c.requires.first, c.requires.last, ap (λ o. length o.volume.traces) c.self.view_is) in
     let gone : c.length-gone.result ≡ length (get_or ts (c.args.p - 1) []) = c.length-gone.ensures ∙ ap (λ (t : List ℕ). length t) c.view.ensures.bytes in
-    held_again c.self.inside c.delete.new.self _ c.self.invariant c.delete.ensures.store (record { head = c.delete.ensures.head; loaded = c.delete.ensures.loaded })
+    held_again c.self.inside c.delete.new.self _ c.self.invariant (record { head = c.delete.ensures.head; loaded = c.delete.ensures.loaded })
     (omega (arith, gone, trace-within (volume_with c.self.inside.text c.self.inside.bin c.self.inside.store) (c.args.p - 1) there, c.self.invariant.length, ap total c.delete.ensures.traces, total-remove ts (c.args.p - 1) there))

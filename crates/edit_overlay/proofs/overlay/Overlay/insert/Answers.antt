@@ -1,5 +1,5 @@
 use Rattle.std.proofs.Common.{◌-◌, ◌∙◌, ap, arith}
-use Rattle.edit_overlay.specs.Slots.{traces_of}
+use Rattle.edit_overlay.specs.Stores.{traces_of}
 use Rattle.edit_overlay.proofs.HeldLemmas.{held_again, shown_kept}
 use Rattle.edit_overlay.proofs.SlotLemmas.{on_err}
 use Rattle.edit_overlay.proofs.LengthLemmas.{total, total-insert}
@@ -7,7 +7,7 @@ use Rattle.edit_overlay.proofs.overlay.Overlay.insert.Goals as goal
 
 pub invariant_of-self-2 : goal.invariant_of-self-2
 invariant_of-self-2 c =
-    held_again c.self.inside c.insert.new.self _ c.self.invariant c.insert.ensures.store (record { head = c.insert.ensures.head; loaded = c.insert.ensures.loaded })
+    held_again c.self.inside c.insert.new.self _ c.self.invariant (record { head = c.insert.ensures.head; loaded = c.insert.ensures.loaded })
     (omega (arith, ap total c.in_ok-insert.ensures.ok, total-insert (traces_of c.self.inside.store) (c.args.p - 1) c.args.bytes.items, c.len-added.ensures))
 
 pub returns-in_err-insert-clause-err : goal.returns-in_err-insert-clause-err

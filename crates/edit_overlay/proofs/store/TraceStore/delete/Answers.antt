@@ -11,24 +11,26 @@ use Rattle.edit_overlay.proofs.store.TraceStore.delete.Goals as goal
 pub remove-requires-2 : goal.remove-requires-2
 remove-requires-2 c =
     let s = c.args.self.now in
-    contains-at s.loaded.items s.head s.order.ids s.slots c.args.p c.id-id.result c.requires.store.slots c.id-id.ensures
+    contains-at s.loaded.items s.head s.order.ids s.slots c.args.p c.id-id.result s.sound.held c.id-id.ensures
 
-pub returns-clause-store : goal.returns-clause-store
-returns-clause-store c =
+pub invariant_of-self : goal.invariant_of-self
+invariant_of-self c =
     let s = c.args.self.now in
     let short : c.args.p - 1 < length s.order.ids = omega (arith, c.requires.first, c.requires.last, length-map s.order.ids (bytes_under s.loaded.items s.slots)) in
     let ids : c.remove.new.self.ids ≡ remove s.order.ids (c.args.p - 1) = c.remove.ensures.ids in
-    let absent : times c.id-id.result (remove s.order.ids (c.args.p - 1)) ≡ 0 = absent-removed s.order.ids c.args.p c.id-id.result c.requires.store.distinct c.id-id.ensures in
+    let absent : times c.id-id.result (remove s.order.ids (c.args.p - 1)) ≡ 0 = absent-removed s.order.ids c.args.p c.id-id.result s.sound.distinct c.id-id.ensures in
     record {
-      slots = subst (λ (xs : List ℕ). AreHeld s.loaded.items s.head xs c.remove-2.new.self) (sym ids) (held-removed s.loaded.items s.head s.order.ids s.slots c.remove-2.new.self (c.args.p - 1) c.id-id.result c.requires.store.slots c.remove-2.ensures.updates short absent);
-      distinct = subst AreDistinct (sym ids) (distinct-remove s.order.ids (c.args.p - 1) short c.requires.store.distinct);
-      no_more = rw ids (omega (arith, c.requires.store.no_more, c.remove-2.ensures.len, length-remove s.order.ids (c.args.p - 1) short));
-      few = rw ids (omega (arith, c.requires.store.few, length-remove s.order.ids (c.args.p - 1) short));
+      sound = record {
+        held = subst (λ (xs : List ℕ). AreHeld s.loaded.items s.head xs c.remove-2.new.self) (sym ids) (held-removed s.loaded.items s.head s.order.ids s.slots c.remove-2.new.self (c.args.p - 1) c.id-id.result s.sound.held c.remove-2.ensures.updates short absent);
+        distinct = subst AreDistinct (sym ids) (distinct-remove s.order.ids (c.args.p - 1) short s.sound.distinct);
+        no_more = rw ids (omega (arith, s.sound.no_more, c.remove-2.ensures.len, length-remove s.order.ids (c.args.p - 1) short));
+        few = rw ids (omega (arith, s.sound.few, length-remove s.order.ids (c.args.p - 1) short));
+      };
     }
 
 pub returns-clause-traces : goal.returns-clause-traces
 returns-clause-traces c =
     let s = c.args.self.now in
-    let absent : times c.id-id.result (remove s.order.ids (c.args.p - 1)) ≡ 0 = absent-removed s.order.ids c.args.p c.id-id.result c.requires.store.distinct c.id-id.ensures in
+    let absent : times c.id-id.result (remove s.order.ids (c.args.p - 1)) ≡ 0 = absent-removed s.order.ids c.args.p c.id-id.result s.sound.distinct c.id-id.ensures in
     ap (λ (xs : List ℕ). map (bytes_under s.loaded.items c.remove-2.new.self) xs) c.remove.ensures.ids
     ∙ traces-removed s.loaded.items s.order.ids s.slots c.remove-2.new.self (c.args.p - 1) c.id-id.result absent c.remove-2.ensures.updates

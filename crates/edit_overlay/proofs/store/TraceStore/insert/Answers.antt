@@ -18,18 +18,20 @@ returns-in_err-reserve-clause-err c =
 
 -- where the order has no room, the slot is taken out again
 
-pub returns-then-is_err-clause-store : goal.returns-then-is_err-clause-store
-returns-then-is_err-clause-store c =
+pub invariant_of-self-then-is_err : goal.invariant_of-self-then-is_err
+invariant_of-self-then-is_err c =
     let s = c.args.self.now in
     let room : SameValues s.slots c.reserve.new.self = room-made s.slots c.reserve.new.self c.reserve.new.self.capacity c.reserve.ensures.rest_kept in
     let back : SameValues c.reserve.new.self c.remove.new.self = taken-back c.reserve.new.self c.insert_reserved-id.new.self c.remove.new.self c.insert_reserved-id.result (Some (record { base = c.args.base; runs = c.new.result })) c.insert_reserved-id.ensures.was_vacant c.insert_reserved-id.ensures.updates c.remove.ensures.updates in
     let held : AreHeld s.loaded.items s.head s.order.ids c.remove.new.self =
-    held-same s.loaded.items s.head s.order.ids c.reserve.new.self c.remove.new.self (held-same s.loaded.items s.head s.order.ids s.slots c.reserve.new.self c.requires.store.slots room) back in
+    held-same s.loaded.items s.head s.order.ids c.reserve.new.self c.remove.new.self (held-same s.loaded.items s.head s.order.ids s.slots c.reserve.new.self s.sound.held room) back in
     record {
-      slots = subst (λ (xs : List ℕ). AreHeld s.loaded.items s.head xs c.remove.new.self) (sym c.reserve_one.ensures.ids) held;
-      distinct = subst AreDistinct (sym c.reserve_one.ensures.ids) c.requires.store.distinct;
-      no_more = rw c.reserve_one.ensures.ids (omega (arith, c.requires.store.no_more, c.remove.ensures.len, c.insert_reserved-id.ensures.len, room-counts s.slots c.reserve.new.self c.reserve.new.self.capacity c.reserve.ensures.rest_kept));
-      few = rw c.reserve_one.ensures.ids c.requires.store.few;
+      sound = record {
+        held = subst (λ (xs : List ℕ). AreHeld s.loaded.items s.head xs c.remove.new.self) (sym c.reserve_one.ensures.ids) held;
+        distinct = subst AreDistinct (sym c.reserve_one.ensures.ids) s.sound.distinct;
+        no_more = rw c.reserve_one.ensures.ids (omega (arith, s.sound.no_more, c.remove.ensures.len, c.insert_reserved-id.ensures.len, room-counts s.slots c.reserve.new.self c.reserve.new.self.capacity c.reserve.ensures.rest_kept));
+        few = rw c.reserve_one.ensures.ids s.sound.few;
+      };
     }
 
 pub returns-then-is_err-clause-err : goal.returns-then-is_err-clause-err
@@ -48,23 +50,25 @@ returns-then-is_err-clause-bases c =
     ap (λ (xs : List ℕ). map (base_under s.loaded.items c.remove.new.self) xs) c.reserve_one.ensures.ids
     ∙ (bases-same s.loaded.items s.order.ids c.reserve.new.self c.remove.new.self back ∙ bases-same s.loaded.items s.order.ids s.slots c.reserve.new.self room)
 
-pub returns-clause-store : goal.returns-clause-store
-returns-clause-store c =
+pub invariant_of-self-2 : goal.invariant_of-self-2
+invariant_of-self-2 c =
     let s = c.args.self.now in
     let key = c.insert_reserved-id.result in
     let new : Slot = record { base = c.args.base; runs = c.new.result } in
     let fresh : IsFreshSlot s.loaded.items s.head new = fresh-slot s.loaded.items s.head new c.new.ensures.items c.requires.inside c.requires.whole in
     let room : SameValues s.slots c.reserve.new.self = room-made s.slots c.reserve.new.self c.reserve.new.self.capacity c.reserve.ensures.rest_kept in
-    let held : AreHeld s.loaded.items s.head s.order.ids c.reserve.new.self = held-same s.loaded.items s.head s.order.ids s.slots c.reserve.new.self c.requires.store.slots room in
+    let held : AreHeld s.loaded.items s.head s.order.ids c.reserve.new.self = held-same s.loaded.items s.head s.order.ids s.slots c.reserve.new.self s.sound.held room in
     let absent : times key s.order.ids ≡ 0 = vacant-absent s.loaded.items s.head s.order.ids c.reserve.new.self key held c.insert_reserved-id.ensures.was_vacant in
     let ids : c.insert.new.self.ids ≡ insert s.order.ids (c.args.p - 1) key = c.insert.ensures.ids ∙ ap (λ (xs : List ℕ). insert xs (c.args.p - 1) key) c.reserve_one.ensures.ids in
     let within : c.args.p - 1 ≤ length s.order.ids = omega (arith, c.requires.first, c.requires.last, length-map s.order.ids (bytes_under s.loaded.items s.slots)) in
     let fewer : length s.order.ids + 1 < 4294967296 = omega (arith, c.requires.few, length-map s.order.ids (bytes_under s.loaded.items s.slots)) in
     record {
-      slots = subst (λ (xs : List ℕ). AreHeld s.loaded.items s.head xs c.insert_reserved-id.new.self) (sym ids) (held-inserted s.loaded.items s.head s.order.ids c.reserve.new.self c.insert_reserved-id.new.self (c.args.p - 1) key new held c.insert_reserved-id.ensures.updates fresh.sound);
-      distinct = subst AreDistinct (sym ids) (distinct-insert s.order.ids (c.args.p - 1) key absent c.requires.store.distinct);
-      no_more = rw ids (omega (arith, c.requires.store.no_more, c.insert_reserved-id.ensures.len, room-counts s.slots c.reserve.new.self c.reserve.new.self.capacity c.reserve.ensures.rest_kept, length-insert s.order.ids (c.args.p - 1) key within));
-      few = rw ids (omega (arith, fewer, length-insert s.order.ids (c.args.p - 1) key within));
+      sound = record {
+        held = subst (λ (xs : List ℕ). AreHeld s.loaded.items s.head xs c.insert_reserved-id.new.self) (sym ids) (held-inserted s.loaded.items s.head s.order.ids c.reserve.new.self c.insert_reserved-id.new.self (c.args.p - 1) key new held c.insert_reserved-id.ensures.updates fresh.sound);
+        distinct = subst AreDistinct (sym ids) (distinct-insert s.order.ids (c.args.p - 1) key absent s.sound.distinct);
+        no_more = rw ids (omega (arith, s.sound.no_more, c.insert_reserved-id.ensures.len, room-counts s.slots c.reserve.new.self c.reserve.new.self.capacity c.reserve.ensures.rest_kept, length-insert s.order.ids (c.args.p - 1) key within));
+        few = rw ids (omega (arith, fewer, length-insert s.order.ids (c.args.p - 1) key within));
+      };
     }
 
 pub returns-clause-ok : goal.returns-clause-ok
@@ -74,7 +78,7 @@ returns-clause-ok c =
     let new : Slot = record { base = c.args.base; runs = c.new.result } in
     let fresh : IsFreshSlot s.loaded.items s.head new = fresh-slot s.loaded.items s.head new c.new.ensures.items c.requires.inside c.requires.whole in
     let room : SameValues s.slots c.reserve.new.self = room-made s.slots c.reserve.new.self c.reserve.new.self.capacity c.reserve.ensures.rest_kept in
-    let held : AreHeld s.loaded.items s.head s.order.ids c.reserve.new.self = held-same s.loaded.items s.head s.order.ids s.slots c.reserve.new.self c.requires.store.slots room in
+    let held : AreHeld s.loaded.items s.head s.order.ids c.reserve.new.self = held-same s.loaded.items s.head s.order.ids s.slots c.reserve.new.self s.sound.held room in
     let absent : times key s.order.ids ≡ 0 = vacant-absent s.loaded.items s.head s.order.ids c.reserve.new.self key held c.insert_reserved-id.ensures.was_vacant in
     ap (λ (xs : List ℕ). map (bytes_under s.loaded.items c.insert_reserved-id.new.self) xs) (c.insert.ensures.ids ∙ ap (λ (xs : List ℕ). insert xs (c.args.p - 1) key) c.reserve_one.ensures.ids)
     ∙ (traces-inserted s.loaded.items s.order.ids c.reserve.new.self c.insert_reserved-id.new.self (c.args.p - 1) key new absent c.insert_reserved-id.ensures.updates

@@ -1,13 +1,12 @@
 use Rattle.std.proofs.Common.{◌≡◌}
 use Rattle.std.specs.Vec.Iter.{into_iter_items}
 use Rattle.edit_overlay.specs.Ahead.{traces_with, AreRunsFrom}
-use Rattle.edit_overlay.specs.Slots.{bases_of, traces_of, IsStore}
+use Rattle.edit_overlay.specs.Stores.{bases_of, traces_of}
 use Rattle.edit_overlay.proofs.store.TraceStore.lay.Given as goal
 
 -- with the runs that are left the traces are as they would be
 abbrev pub invariant-loop-runs : goal.invariant-loop-runs
 invariant-loop-runs l = record {
-  store : IsStore l.self;
   head : l.self.head ≡ l.fn.self.head;
   loaded : l.self.loaded ≡ l.fn.self.loaded;
   runs : AreRunsFrom l.self.head (bases_of l.self) l.done (into_iter_items l.runs-iterator);

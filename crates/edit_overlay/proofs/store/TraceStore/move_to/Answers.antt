@@ -5,17 +5,19 @@ use Rattle.edit_overlay.proofs.OrderLemmas.{map-moved}
 use Rattle.edit_overlay.proofs.SlotLemmas.{held-moved, times-moved, length-moved}
 use Rattle.edit_overlay.proofs.store.TraceStore.move_to.Goals as goal
 
-pub returns-clause-store : goal.returns-clause-store
-returns-clause-store c =
+pub invariant_of-self : goal.invariant_of-self
+invariant_of-self c =
     let s = c.args.self.now in
     let short : c.args.a - 1 < length s.order.ids = omega (arith, c.requires.from_first, c.requires.from_last, length-map s.order.ids (bytes_under s.loaded.items s.slots)) in
     let most : c.args.b - 1 < length s.order.ids = omega (arith, c.requires.to_first, c.requires.to_last, length-map s.order.ids (bytes_under s.loaded.items s.slots)) in
     let ids = c.move_to.ensures.ids in
     record {
-      slots = subst (λ (xs : List ℕ). AreHeld s.loaded.items s.head xs s.slots) (sym ids) (held-moved s.loaded.items s.head s.order.ids s.slots c.args.a c.args.b c.requires.store.slots short);
-      distinct = λ id. rw ids (omega (arith, c.requires.store.distinct id, times-moved id s.order.ids c.args.a c.args.b short));
-      no_more = rw ids (omega (arith, c.requires.store.no_more, length-moved s.order.ids c.args.a c.args.b short most));
-      few = rw ids (omega (arith, c.requires.store.few, length-moved s.order.ids c.args.a c.args.b short most));
+      sound = record {
+        held = subst (λ (xs : List ℕ). AreHeld s.loaded.items s.head xs s.slots) (sym ids) (held-moved s.loaded.items s.head s.order.ids s.slots c.args.a c.args.b s.sound.held short);
+        distinct = λ id. rw ids (omega (arith, s.sound.distinct id, times-moved id s.order.ids c.args.a c.args.b short));
+        no_more = rw ids (omega (arith, s.sound.no_more, length-moved s.order.ids c.args.a c.args.b short most));
+        few = rw ids (omega (arith, s.sound.few, length-moved s.order.ids c.args.a c.args.b short most));
+      };
     }
 
 pub returns-clause-traces : goal.returns-clause-traces

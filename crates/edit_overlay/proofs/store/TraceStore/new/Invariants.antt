@@ -1,6 +1,6 @@
 use Rattle.std.proofs.Common.{◌≡◌, take, length}
 use Rattle.frame_cut.specs.Layout.{pieces}
-use Rattle.edit_overlay.specs.Slots.{traces_of, IsStore}
+use Rattle.edit_overlay.specs.Stores.{traces_of}
 use Rattle.edit_overlay.proofs.store.TraceStore.new.Given as goal
 
 -- the store is that of the loaded file, and has the traces of the extents passed
@@ -8,7 +8,6 @@ abbrev pub invariant-loop-extent : goal.invariant-loop-extent
 invariant-loop-extent l = record {
   items : l.extent-items ≡ l.fn.extents.items;
   end : l.extent-index-end ≡ length l.fn.extents.items;
-  store : IsStore l.store;
   head : l.store.head ≡ l.fn.head;
   loaded : l.store.loaded ≡ l.fn.loaded;
   traces : traces_of l.store ≡ pieces l.fn.loaded.items (take l.extent-index l.fn.extents.items);

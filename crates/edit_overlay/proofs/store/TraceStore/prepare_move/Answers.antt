@@ -1,5 +1,6 @@
 use Rattle.std.proofs.Common.{◌≡◌, ℕ, List, length, map, ap, arith}
-use Rattle.edit_overlay.specs.Slots.{bytes_under, traces_of}
+use Rattle.edit_overlay.specs.Slots.{bytes_under}
+use Rattle.edit_overlay.specs.Stores.{traces_of}
 use Rattle.edit_overlay.proofs.AheadLemmas.{ready_move}
 use Rattle.edit_overlay.proofs.store.TraceStore.prepare_move.Goals as goal
 
@@ -7,7 +8,7 @@ pub returns-clause-ready : goal.returns-clause-ready
 returns-clause-ready c =
     let s = c.args.self.now in
     let count : length (map (bytes_under s.loaded.items s.slots) c.reserve_one.new.self.ids) ≡ length (traces_of s) = ap (λ (xs : List ℕ). length (map (bytes_under s.loaded.items s.slots) xs)) c.reserve_one.ensures.ids in
-    ready_move (record s { order = c.reserve_one.new.self }) c.args.a c.args.b (record {
+    ready_move _ c.args.a c.args.b (record {
       from_first = c.requires.from_first;
       from_last = omega (arith, c.requires.from_last, count);
       to_first = c.requires.to_first;

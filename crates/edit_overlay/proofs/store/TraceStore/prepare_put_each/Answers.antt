@@ -1,6 +1,6 @@
 use Rattle.std.proofs.Common.{◌≡◌, ◌-◌, ◌*◌, ◌/◌, length, arith}
 use Rattle.std.proofs.Math.Nat.{mod-eq-sub-div-mul, div-mul-le_self}
-use Rattle.edit_overlay.specs.Slots.{traces_of}
+use Rattle.edit_overlay.specs.Stores.{traces_of}
 use Rattle.edit_overlay.proofs.AheadLemmas.{ready_each, then_each}
 use Rattle.edit_overlay.proofs.LengthLemmas.{total-put_each}
 use Rattle.edit_overlay.proofs.store.TraceStore.prepare_put_each.Goals as goal

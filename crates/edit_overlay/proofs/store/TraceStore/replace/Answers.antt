@@ -2,26 +2,28 @@ use Rattle.std.proofs.Common.{◌-◌, ◌∙◌, ℕ, List, Some, length, sym, 
 use Rattle.std.specs.Prelude.{slice_set}
 use Rattle.slab.specs.Slab.{with_value, Updates}
 use Rattle.edit_overlay.specs.declared.slot.Slot.{Slot}
-use Rattle.edit_overlay.specs.Slots.{traces_of}
+use Rattle.edit_overlay.specs.Stores.{traces_of}
 use Rattle.edit_overlay.proofs.SlotLemmas.{slot-missed, write-updates, write-counts, traces-changed, held-changed, fresh-slot, IsFreshSlot}
 use Rattle.edit_overlay.proofs.store.TraceStore.replace.Goals as goal
 
 pub unreachable-requires : goal.unreachable-requires
 unreachable-requires c =
     let s = c.args.self.now in
-    slot-missed s.loaded.items s.head s.order.ids s.slots c.args.p c.id-id.result c.requires.store.slots c.id-id.ensures (sym c.in-None.ensures.value)
+    slot-missed s.loaded.items s.head s.order.ids s.slots c.args.p c.id-id.result s.sound.held c.id-id.ensures (sym c.in-None.ensures.value)
 
-pub returns-clause-store : goal.returns-clause-store
-returns-clause-store c =
+pub invariant_of-self : goal.invariant_of-self
+invariant_of-self c =
     let s = c.args.self.now in
     let new : Slot = record { base = c.args.base; runs = c.new.result } in
     let fresh : IsFreshSlot s.loaded.items s.head new = fresh-slot s.loaded.items s.head new c.new.ensures.items c.requires.inside c.requires.whole in
     let up : Updates s.slots (with_value s.slots c.id-id.result new) c.id-id.result (Some new) = write-updates s.slots c.id-id.result c.in-Some.slot.now new (sym c.in-Some.ensures.value) in
     record {
-      slots = held-changed s.loaded.items s.head s.order.ids s.slots (with_value s.slots c.id-id.result new) c.id-id.result new c.requires.store.slots up fresh.sound;
-      distinct = c.requires.store.distinct;
-      no_more = write-counts s.slots c.id-id.result c.in-Some.slot.now new (length s.order.ids) (sym c.in-Some.ensures.value) c.requires.store.no_more;
-      few = c.requires.store.few;
+      sound = record {
+        held = held-changed s.loaded.items s.head s.order.ids s.slots (with_value s.slots c.id-id.result new) c.id-id.result new s.sound.held up fresh.sound;
+        distinct = s.sound.distinct;
+        no_more = write-counts s.slots c.id-id.result c.in-Some.slot.now new (length s.order.ids) (sym c.in-Some.ensures.value) s.sound.no_more;
+        few = s.sound.few;
+      };
     }
 
 pub returns-clause-traces : goal.returns-clause-traces
@@ -30,5 +32,5 @@ returns-clause-traces c =
     let new : Slot = record { base = c.args.base; runs = c.new.result } in
     let fresh : IsFreshSlot s.loaded.items s.head new = fresh-slot s.loaded.items s.head new c.new.ensures.items c.requires.inside c.requires.whole in
     let up : Updates s.slots (with_value s.slots c.id-id.result new) c.id-id.result (Some new) = write-updates s.slots c.id-id.result c.in-Some.slot.now new (sym c.in-Some.ensures.value) in
-    traces-changed s.loaded.items s.order.ids s.slots (with_value s.slots c.id-id.result new) c.args.p c.id-id.result new c.requires.store.distinct c.id-id.ensures up
+    traces-changed s.loaded.items s.order.ids s.slots (with_value s.slots c.id-id.result new) c.args.p c.id-id.result new s.sound.distinct c.id-id.ensures up
     ∙ ap (λ (t : List ℕ). slice_set (traces_of s) (c.args.p - 1) t) fresh.shows

@@ -1,7 +1,7 @@
 use Rattle.std.proofs.Common.{◌≡◌, ◌+◌, ◌-◌, ◌≤◌, [], ◌∷◌, List, Vec, Global, length, ap, arith, length-append}
 use Rattle.std.specs.Prelude.{slice_index_or}
 use Rattle.trace_view.specs.declared.run.Run.{Run}
-use Rattle.edit_overlay.specs.Slots.{bases_of, traces_of}
+use Rattle.edit_overlay.specs.Stores.{bases_of, traces_of}
 use Rattle.edit_overlay.proofs.EachLemmas.{runs-more, runs-all}
 use Rattle.edit_overlay.proofs.store.TraceStore.runs_for_each.Goals as goal
 

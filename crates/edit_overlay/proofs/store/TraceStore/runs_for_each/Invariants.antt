@@ -1,6 +1,6 @@
 use Rattle.std.proofs.Common.{◌≡◌, ◌-◌, List, ◌++◌, length, Vec, Global}
 use Rattle.trace_view.specs.declared.run.Run.{Run}
-use Rattle.edit_overlay.specs.Slots.{bases_of, traces_of}
+use Rattle.edit_overlay.specs.Stores.{bases_of, traces_of}
 use Rattle.edit_overlay.specs.Each.{ArePutEach}
 use Rattle.edit_overlay.proofs.store.TraceStore.runs_for_each.Given as goal
 

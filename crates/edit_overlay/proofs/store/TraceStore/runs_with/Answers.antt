@@ -2,7 +2,8 @@ use Rattle.std.proofs.Common.{◌-◌, [], ℕ, List, Vec, Global, length, sym, 
 use Rattle.std.specs.Prelude.{slice_index_or}
 use Rattle.trace_view.specs.declared.run.Run.{Run}
 use Rattle.trace_view.proofs.WrittenLemmas.{length-written}
-use Rattle.edit_overlay.specs.Slots.{base_of, bases_of, traces_of, IsInside}
+use Rattle.edit_overlay.specs.Slots.{base_of, IsInside}
+use Rattle.edit_overlay.specs.Stores.{bases_of, traces_of}
 use Rattle.edit_overlay.proofs.SlotLemmas.{slot-found, slot-missed, trace-at, base-at}
 use Rattle.edit_overlay.proofs.EachLemmas.{both_ok, put-runs}
 use Rattle.edit_overlay.proofs.store.TraceStore.runs_with.Goals as goal
@@ -10,26 +11,26 @@ use Rattle.edit_overlay.proofs.store.TraceStore.runs_with.Goals as goal
 pub runs_with-requires-clause-base : goal.runs_with-requires-clause-base
 runs_with-requires-clause-base c =
     let s = c.args.self.now in
-    let slot = slot-found s.loaded.items s.head s.order.ids s.slots c.args.p c.id-id.result c.in-Some.slot.now c.requires.store.slots c.id-id.ensures (sym c.in-Some.ensures) in
+    let slot = slot-found s.loaded.items s.head s.order.ids s.slots c.args.p c.id-id.result c.in-Some.slot.now s.sound.held c.id-id.ensures (sym c.in-Some.ensures) in
     subst (λ (l : List ℕ). IsInside l c.in-Some.slot.now.base) (sym c.as_slice.ensures.value) slot.inside
 
 pub runs_with-requires-clause-fit : goal.runs_with-requires-clause-fit
 runs_with-requires-clause-fit c =
     let s = c.args.self.now in
-    let slot = slot-found s.loaded.items s.head s.order.ids s.slots c.args.p c.id-id.result c.in-Some.slot.now c.requires.store.slots c.id-id.ensures (sym c.in-Some.ensures) in
+    let slot = slot-found s.loaded.items s.head s.order.ids s.slots c.args.p c.id-id.result c.in-Some.slot.now s.sound.held c.id-id.ensures (sym c.in-Some.ensures) in
     rw c.as_slice.ensures.value slot.fit
 
 pub runs_with-requires-clause-inside : goal.runs_with-requires-clause-inside
 runs_with-requires-clause-inside c =
     let s = c.args.self.now in
-    let slot = slot-found s.loaded.items s.head s.order.ids s.slots c.args.p c.id-id.result c.in-Some.slot.now c.requires.store.slots c.id-id.ensures (sym c.in-Some.ensures) in
+    let slot = slot-found s.loaded.items s.head s.order.ids s.slots c.args.p c.id-id.result c.in-Some.slot.now s.sound.held c.id-id.ensures (sym c.in-Some.ensures) in
     let trace = trace-at s.loaded.items s.order.ids s.slots c.args.p c.id-id.result c.in-Some.slot.now c.id-id.ensures (sym c.in-Some.ensures) in
     rw c.as_slice.ensures.value (omega (arith, c.requires.inside, ap (λ (t : List ℕ). length t) trace, length-written (base_of s.loaded.items c.in-Some.slot.now.base) c.in-Some.slot.now.runs.items slot.fit))
 
 pub unreachable-requires : goal.unreachable-requires
 unreachable-requires c =
     let s = c.args.self.now in
-    slot-missed s.loaded.items s.head s.order.ids s.slots c.args.p c.id-id.result c.requires.store.slots c.id-id.ensures (sym c.in-None.ensures)
+    slot-missed s.loaded.items s.head s.order.ids s.slots c.args.p c.id-id.result s.sound.held c.id-id.ensures (sym c.in-None.ensures)
 
 pub returns : goal.returns
 returns c =

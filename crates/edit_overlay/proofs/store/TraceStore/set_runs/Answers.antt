@@ -3,30 +3,33 @@ use Rattle.std.specs.Prelude.{slice_index_or, slice_set}
 use Rattle.slab.specs.Slab.{with_value, Updates}
 use Rattle.trace_view.specs.Runs.{bytes_with_runs}
 use Rattle.edit_overlay.specs.declared.slot.Slot.{Slot}
-use Rattle.edit_overlay.specs.Slots.{bases_of, traces_of, IsSlot}
+use Rattle.edit_overlay.specs.Slots.{IsSlot}
+use Rattle.edit_overlay.specs.Stores.{bases_of, traces_of}
 use Rattle.edit_overlay.proofs.SlotLemmas.{slot-found, slot-missed, base-at, runs-slot, bases-kept, write-updates, write-counts, traces-changed, held-changed}
 use Rattle.edit_overlay.proofs.store.TraceStore.set_runs.Goals as goal
 
 pub unreachable-requires : goal.unreachable-requires
 unreachable-requires c =
     let s = c.args.self.now in
-    slot-missed s.loaded.items s.head s.order.ids s.slots c.args.p c.id-id.result c.requires.store.slots c.id-id.ensures (sym c.in-None.ensures.value)
+    slot-missed s.loaded.items s.head s.order.ids s.slots c.args.p c.id-id.result s.sound.held c.id-id.ensures (sym c.in-None.ensures.value)
 
-pub returns-clause-store : goal.returns-clause-store
-returns-clause-store c =
+pub invariant_of-self : goal.invariant_of-self
+invariant_of-self c =
     let s = c.args.self.now in
     let id = c.id-id.result in
     let old : Slot = c.in-Some.slot.now in
     let new : Slot = record { base = old.base; runs = c.args.runs } in
-    let slot = slot-found s.loaded.items s.head s.order.ids s.slots c.args.p id old c.requires.store.slots c.id-id.ensures (sym c.in-Some.ensures.value) in
+    let slot = slot-found s.loaded.items s.head s.order.ids s.slots c.args.p id old s.sound.held c.id-id.ensures (sym c.in-Some.ensures.value) in
     let base = base-at s.loaded.items s.order.ids s.slots c.args.p id old c.id-id.ensures (sym c.in-Some.ensures.value) in
     let sound : IsSlot s.loaded.items s.head new = runs-slot s.loaded.items s.head old new (slice_index_or (bases_of s) (c.args.p - 1) []) refl base slot c.requires.runs.fit c.requires.runs.whole in
     let up : Updates s.slots (with_value s.slots id new) id (Some new) = write-updates s.slots id old new (sym c.in-Some.ensures.value) in
     record {
-      slots = held-changed s.loaded.items s.head s.order.ids s.slots (with_value s.slots id new) id new c.requires.store.slots up sound;
-      distinct = c.requires.store.distinct;
-      no_more = write-counts s.slots id old new (length s.order.ids) (sym c.in-Some.ensures.value) c.requires.store.no_more;
-      few = c.requires.store.few;
+      sound = record {
+        held = held-changed s.loaded.items s.head s.order.ids s.slots (with_value s.slots id new) id new s.sound.held up sound;
+        distinct = s.sound.distinct;
+        no_more = write-counts s.slots id old new (length s.order.ids) (sym c.in-Some.ensures.value) s.sound.no_more;
+        few = s.sound.few;
+      };
     }
 
 pub returns-clause-bases : goal.returns-clause-bases
@@ -46,5 +49,5 @@ returns-clause-traces c =
     let new : Slot = record { base = old.base; runs = c.args.runs } in
     let base = base-at s.loaded.items s.order.ids s.slots c.args.p id old c.id-id.ensures (sym c.in-Some.ensures.value) in
     let up : Updates s.slots (with_value s.slots id new) id (Some new) = write-updates s.slots id old new (sym c.in-Some.ensures.value) in
-    traces-changed s.loaded.items s.order.ids s.slots (with_value s.slots id new) c.args.p id new c.requires.store.distinct c.id-id.ensures up
+    traces-changed s.loaded.items s.order.ids s.slots (with_value s.slots id new) c.args.p id new s.sound.distinct c.id-id.ensures up
     ∙ ap (λ (b : List ℕ). slice_set (traces_of s) (c.args.p - 1) (bytes_with_runs b c.args.runs.items)) (sym base)

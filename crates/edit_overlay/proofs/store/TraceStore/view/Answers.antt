@@ -7,7 +7,7 @@ use Rattle.edit_overlay.proofs.store.TraceStore.view.Goals as goal
 pub view_under-requires : goal.view_under-requires
 view_under-requires c =
     let s = c.args.self.now in
-    slot-at s.loaded.items s.head s.order.ids s.slots c.args.p c.id.result c.requires.store.slots c.id.ensures
+    slot-at s.loaded.items s.head s.order.ids s.slots c.args.p c.id.result s.sound.held c.id.ensures
 
 pub returns-clause-bytes : goal.returns-clause-bytes
 returns-clause-bytes c =

@@ -2,7 +2,7 @@ use Rattle.std.proofs.Common.{◌-◌, ◌∙◌, [], List, arith, ap, sym}
 use Rattle.std.specs.Prelude.{slice_index_or}
 use Rattle.trace_view.specs.declared.run.Run.{Run}
 use Rattle.trace_view.specs.Runs.{bytes_with_runs}
-use Rattle.edit_overlay.specs.Slots.{bases_of, traces_of}
+use Rattle.edit_overlay.specs.Stores.{bases_of, traces_of}
 use Rattle.edit_overlay.proofs.AheadLemmas.{behind, in_front, length-bases, runs-at, with-at}
 use Rattle.edit_overlay.proofs.store.TraceStore.view_laid.Goals as goal
 

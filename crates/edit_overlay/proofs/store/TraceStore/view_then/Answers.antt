@@ -3,7 +3,7 @@ use Rattle.std.specs.Prelude.{slice_index_or}
 use Rattle.edit_overlay.specs.declared.prepared.Prepared.{Prepared}
 use Rattle.edit_overlay.specs.declared.prepared.Prepared.TheVariants.{Move}
 use Rattle.edit_overlay.specs.Ahead.{traces_then, IsReady}
-use Rattle.edit_overlay.specs.Slots.{traces_of}
+use Rattle.edit_overlay.specs.Stores.{traces_of}
 use Rattle.edit_overlay.proofs.MoveLemmas.{moved-at}
 use Rattle.edit_overlay.proofs.store.TraceStore.view_then.Goals as goal
 

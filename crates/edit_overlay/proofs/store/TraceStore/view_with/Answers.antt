@@ -8,7 +8,7 @@ use Rattle.edit_overlay.proofs.store.TraceStore.view_with.Goals as goal
 pub base_bytes-base-requires : goal.base_bytes-base-requires
 base_bytes-base-requires c =
     let s = c.args.self.now in
-    let slot = slot-found s.loaded.items s.head s.order.ids s.slots c.args.p c.id-id.result c.in-Some.slot.now c.requires.store.slots c.id-id.ensures (sym c.in-Some.ensures) in
+    let slot = slot-found s.loaded.items s.head s.order.ids s.slots c.args.p c.id-id.result c.in-Some.slot.now s.sound.held c.id-id.ensures (sym c.in-Some.ensures) in
     subst (λ (l : List ℕ). IsInside l c.in-Some.slot.now.base) (sym c.as_slice.ensures.value) slot.inside
 
 pub new-requires-clause-fit : goal.new-requires-clause-fit
@@ -26,7 +26,7 @@ new-requires-clause-whole c =
 pub unreachable-requires : goal.unreachable-requires
 unreachable-requires c =
     let s = c.args.self.now in
-    slot-missed s.loaded.items s.head s.order.ids s.slots c.args.p c.id-id.result c.requires.store.slots c.id-id.ensures (sym c.in-None.ensures)
+    slot-missed s.loaded.items s.head s.order.ids s.slots c.args.p c.id-id.result s.sound.held c.id-id.ensures (sym c.in-None.ensures)
 
 pub returns-clause-bytes : goal.returns-clause-bytes
 returns-clause-bytes c =

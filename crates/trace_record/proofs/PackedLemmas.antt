@@ -4,18 +4,17 @@ use Rattle.std.proofs.Common.{arith, ap, ap₂, subst, ◌∙◌, SFits, to_z, o
 use Rattle.std.specs.Int.{w128}
 use Rattle.std.proofs.lemmas.Int.{to_z-of_z}
 use denote.Struct.Props.{props}
-use Rattle.trace_record.specs.Parts.{FitsSample, FitsCoordinate, signed_of}
+use Rattle.trace_record.specs.Parts.{HasSmallParts, HasSmallParts-prop, signed_of}
 use Rattle.trace_record.specs.Facts.{Facts, facts_of}
 use Rattle.trace_record.specs.declared.record.Record.{Record}
 
 -- what is true of the facts of every record
 abbrev pub HasRoom : Facts → Type 0
 HasRoom f =
-    FitsSample f.least × FitsSample f.greatest × FitsCoordinate f.x × FitsCoordinate f.y
-    × (neg_ℤ (pos (2 ^ 63 * f.number)) ≤ℤ f.sum) × (f.sum ≤ℤ pos (2 ^ 64 * f.number))
+    HasSmallParts f.least f.greatest f.x f.y × (neg_ℤ (pos (2 ^ 63 * f.number)) ≤ℤ f.sum) × (f.sum ≤ℤ pos (2 ^ 64 * f.number))
 
 HasRoom-prop : (f : Facts) → IsProp (HasRoom f)
-HasRoom-prop f = hlevel props
+HasRoom-prop f = hlevel (HasSmallParts-prop, props)
 
 -- a record of its facts
 of_facts : (f : Facts) → HasRoom f → Record
@@ -35,16 +34,13 @@ of_facts f h = record {
   interval = f.interval;
   samples_field = f.samples_field;
   has_known_name = f.has_known_name;
-  least_fits = h.0;
-  greatest_fits = h.1;
-  x_fits = h.2;
-  y_fits = h.3;
-  sum_low = h.4;
-  sum_high = h.5;
+  small = h.0;
+  sum_low = h.1;
+  sum_high = h.2;
 }
 
 room_of : (r : Record) → HasRoom (facts_of r)
-room_of r = (r.least_fits, r.greatest_fits, r.x_fits, r.y_fits, r.sum_low, r.sum_high)
+room_of r = (r.small, r.sum_low, r.sum_high)
 
 pub same_facts : (a b : Record) → facts_of a ≡ facts_of b → a ≡ b
 unfolding of_facts room_of

@@ -1,6 +1,6 @@
 -- The record that a packed record stands for.
 use Rattle.std.specs.Prelude.{ℕ, ℤ, Bool, ◌+◌, ◌*◌, ◌^◌, refl}
-use Rattle.trace_record.specs.Parts.{signed_of, first_flag, second_flag, numerator_in, denominator_in, denominator_in-positive, fits_in_word}
+use Rattle.trace_record.specs.Parts.{signed_of, first_flag, second_flag, numerator_in, denominator_in, denominator_in-positive, fits_in_word, small_parts}
 use Rattle.trace_record.specs.declared.packed_ratio.PackedRatio.{PackedRatio}
 use Rattle.trace_record.specs.declared.packed_record.PackedRecord.{PackedRecord}
 use Rattle.trace_record.specs.declared.ratio.Ratio.{Ratio}
@@ -33,10 +33,7 @@ record_in p = record {
   interval = p.interval;
   samples_field = p.samples_field;
   has_known_name = second_flag p.y.bits;
-  least_fits = p.least_fits;
-  greatest_fits = p.greatest_fits;
-  x_fits = fits_in_word (ratio_in p.x) p.x.bits refl refl;
-  y_fits = fits_in_word (ratio_in p.y) p.y.bits refl refl;
+  small = small_parts _ _ _ _ p.least_fits p.greatest_fits (fits_in_word (ratio_in p.x) p.x.bits refl refl) (fits_in_word (ratio_in p.y) p.y.bits refl refl);
   sum_low = p.sum_low;
   sum_high = p.sum_top;
 }

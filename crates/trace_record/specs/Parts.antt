@@ -2,6 +2,7 @@
 use Rattle.std.specs.Prelude.{ℕ, ℤ, Bool, true, false, pos, neg_ℤ, ◌==◌, ◌+◌, ◌*◌, ◌-ℤ◌, ◌^◌, ◌/◌, ◌%◌, ◌<◌, ◌≤◌, ◌≤ℤ◌, ◌<ℤ◌, ◌≡◌, suc}
 use Rattle.std.proofs.Common.{zero-lt-suc, arith, subst, sym}
 use Rattle.std.proofs.lemmas.Int.{ints}
+use denote.Struct.Props.{props}
 use Rattle.trace_record.specs.declared.ratio.Ratio.{Ratio}
 
 -- the number is a sample of at most 64 bits, with a sign or without
@@ -15,6 +16,22 @@ FitsSum v = (neg_ℤ (pos (2 ^ 96)) ≤ℤ v) × (v <ℤ pos (2 ^ 96))
 -- the fraction is no larger than the coordinate of 32 bits and the scalar of 16 bits can make it
 abbrev pub FitsCoordinate : Ratio → Type 0
 FitsCoordinate r = (neg_ℤ (pos (2 ^ 46)) ≤ℤ r.num) × (r.num <ℤ pos (2 ^ 46)) × (r.den ≤ 2 ^ 15)
+
+-- the samples and the coordinates of a record fit, under one name that a proof opens where it needs it
+unfoldable pub HasSmallParts : ℤ → ℤ → Ratio → Ratio → Type 0
+HasSmallParts least greatest x y = FitsSample least × FitsSample greatest × FitsCoordinate x × FitsCoordinate y
+
+pub HasSmallParts-prop : (least greatest : ℤ) (x y : Ratio) → IsProp (HasSmallParts least greatest x y)
+unfolding HasSmallParts
+HasSmallParts-prop least greatest x y = hlevel props
+
+pub small_parts : (least greatest : ℤ) (x y : Ratio) → FitsSample least → FitsSample greatest → FitsCoordinate x → FitsCoordinate y → HasSmallParts least greatest x y
+unfolding HasSmallParts
+small_parts least greatest x y l g p q = (l, g, p, q)
+
+pub each_fits : (least greatest : ℤ) (x y : Ratio) → HasSmallParts least greatest x y → FitsSample least × FitsSample greatest × FitsCoordinate x × FitsCoordinate y
+unfolding HasSmallParts
+each_fits least greatest x y h = h
 
 -- the number in two's complement whose low bits count to size, and whose sign stands apart
 abbrev pub signed_of : Bool → ℕ → ℕ → ℤ

@@ -17,10 +17,15 @@ pub struct Records {
 
 impl Model for Records {
     ghost use Rattle.std.specs.Prelude.{List, map};
+    ghost use Rattle.std.specs.Coded.{codes};
+    ghost use Rattle.trace_record.specs.contracts.record.Record as record_contract;
     ghost use Rattle.trace_record.specs.declared.record.Record.{Record};
-    ghost use Rattle.trace_record.specs.Packed.{record_in};
 
     ghost Value = { List Record };
+
+    ghost coded = { Prim.hlevel (codes, record_contract.the_row.coded) };
+
+    ghost use Rattle.trace_record.specs.Packed.{record_in};
 
     ghost view = { λ a. map record_in a.list };
 }

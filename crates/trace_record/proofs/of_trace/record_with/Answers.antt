@@ -3,7 +3,7 @@ use Rattle.std.specs.Int.{w16, w32, w128}
 use Rattle.std.proofs.lemmas.Int.{ints, to_z-of_z}
 use Rattle.trace_view.specs.Shown.{bytes_of, head_of}
 use Rattle.trace_record.specs.Coordinates.{under_scalar}
-use Rattle.trace_record.specs.Parts.{FitsSample}
+use Rattle.trace_record.specs.Parts.{FitsSample, small_parts}
 use Rattle.trace_record.proofs.FactsLemmas.{kept, facts_with}
 use Rattle.trace_record.proofs.GeometryLemmas.{names}
 use Rattle.trace_record.proofs.HeaderLemmas.{has_header}
@@ -24,10 +24,11 @@ invariant_of-result c =
     let number : s.number ≡ c.args.number = c.requires.number in
     let range = c.requires.range in
     record {
-      least_fits = subst FitsSample (sym (to_z-of_z w128 _ least)) range.least;
-      greatest_fits = subst FitsSample (sym (to_z-of_z w128 _ greatest)) range.greatest;
-      x_fits = c.scaled.ensures.size;
-      y_fits = c.scaled-2.ensures.size;
+      small = small_parts _ _ _ _
+        (subst FitsSample (sym (to_z-of_z w128 _ least)) range.least)
+        (subst FitsSample (sym (to_z-of_z w128 _ greatest)) range.greatest)
+        c.scaled.ensures.size
+        c.scaled-2.ensures.size;
       sum_low = omega (arith, ints, range.low);
       sum_high = omega (arith, ints, range.high);
     }

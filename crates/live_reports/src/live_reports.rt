@@ -35,10 +35,14 @@ pub struct LiveReports {
 
 impl Model for LiveReports {
     ghost use Rattle.std.specs.Prelude.{List};
+    ghost use Rattle.std.specs.Coded.{codes};
+    ghost use Rattle.trace_record.specs.contracts.record.Record as record_contract;
     ghost use Rattle.trace_record.specs.declared.record.Record.{Record};
     ghost use Rattle.live_reports.specs.Reports.{HaveCounted};
 
     ghost Value = { List Record };
+
+    ghost coded = { Prim.hlevel (codes, record_contract.the_row.coded) };
 
     ghost view = { λ s. s.records };
 

@@ -34,6 +34,7 @@ fn second_alone<R: Running>(
     Ok(running)
 }
 
+#[tactic(auto, unfolding(trace_record::specs::Parts::HasSmallParts))]
 fn first_trace() -> Record
     ensures { result.number ≡ 2 }
 {
@@ -56,6 +57,7 @@ fn first_trace() -> Record
     }
 }
 
+#[tactic(auto, unfolding(trace_record::specs::Parts::HasSmallParts))]
 fn second_trace() -> Record
     ensures { result.number ≡ 2 }
 {

@@ -1,6 +1,7 @@
 // Records made by hand, counted and some taken out again, with values worked by hand.
 ghost use Rattle.std.specs.Prelude.{ℕ, ◌≡◌, ◌≤◌, ◌^◌, All, length, map, take};
 ghost use Rattle.trace_record.specs.Facts.{facts_of};
+ghost use Rattle.trace_record.specs.Parts.{FitsCoordinate};
 ghost use Rattle.trace_record.specs.Tally.{IsSmall, tally_of};
 
 use crate::through::{drain, fill};
@@ -44,7 +45,9 @@ fn totals_of(alloc: Global, records: &[Record], left: usize) -> Result<Totals, O
 }
 
 // A trace at this inline and crossline with this x coordinate and two samples.
+#[tactic(auto, unfolding(trace_record::specs::Parts::HasSmallParts))]
 fn trace_at(inline: i32, crossline: i32, x: Ratio) -> Record
+    requires { FitsCoordinate x }
     ensures { result.number ≡ 2 }
 {
     Record {
@@ -67,6 +70,7 @@ fn trace_at(inline: i32, crossline: i32, x: Ratio) -> Record
 }
 
 // A trace with two samples.
+#[tactic(auto, unfolding(trace_record::specs::Parts::HasSmallParts))]
 fn trace_with(least: i64, greatest: u64) -> Record
     ensures { result.number ≡ 2 }
 {

@@ -129,6 +129,7 @@ fn counts_ratios(rt: HostRuntime) -> Result<(), Fail> {
 }
 
 #[test]
+#[tactic(auto, unfolding(crate::specs::Parts::HasSmallParts))]
 fn keeps_records_small(rt: HostRuntime) {
     let record = Record {
         least: -2,
@@ -164,6 +165,7 @@ fn comes_back(rt: &impl Abort, alloc: Global, trace: Record) -> Result<(), Fail>
 }
 
 #[test]
+#[tactic(auto, unfolding(crate::specs::Parts::HasSmallParts))]
 fn packs_the_least_values(rt: HostRuntime) -> Result<(), Fail> {
     let least = Record {
         least: -0x8000_0000_0000_0000,
@@ -186,6 +188,7 @@ fn packs_the_least_values(rt: HostRuntime) -> Result<(), Fail> {
 }
 
 #[test]
+#[tactic(auto, unfolding(crate::specs::Parts::HasSmallParts))]
 fn packs_the_greatest_values(rt: HostRuntime) -> Result<(), Fail> {
     let greatest = Record {
         least: 0xFFFF_FFFF_FFFF_FFFF,
@@ -208,6 +211,7 @@ fn packs_the_greatest_values(rt: HostRuntime) -> Result<(), Fail> {
 }
 
 // A record whose parts differ in sign.
+#[tactic(auto, unfolding(crate::specs::Parts::HasSmallParts))]
 fn mixed_record(inline: i32) -> Record {
     Record {
         least: -1,

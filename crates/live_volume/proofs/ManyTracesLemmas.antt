@@ -1,11 +1,13 @@
 -- A field of many traces counted up: what is known after the first values, and whether a trace has another inline or crossline then.
-use Rattle.std.proofs.Common.{◌≡◌, ℕ, ℤ, zero, suc, ◌+◌, ◌-◌, ◌<◌, ◌≤◌, Bool, true, false, ◌&&◌, ◌||◌, leb, ltb, List, [], ◌∷◌, length, take, drop, map, get_or, Option, Some, None, refl, sym, ap, ap₂, ◌∙◌, arith}
+use Rattle.std.proofs.Common.{◌≡◌, ℕ, ℤ, zero, suc, ◌+◌, ◌-◌, ◌/◌, ◌<◌, ◌≤◌, Bool, true, false, ◌&&◌, ◌||◌, leb, ltb, List, [], ◌∷◌, length, take, drop, map, get_or, Option, Some, None, refl, sym, ap, ap₂, ◌∙◌, arith}
 use Rattle.std.specs.Prelude.{is_some, not}
 use Rattle.std.specs.List.{list_any, range_with_len}
 use Rattle.std.specs.Ordering.{int_eq}
 use Rattle.std.proofs.lemmas.Bool.{le-leb, ltb-true, ltb-false}
 use Rattle.std.proofs.lemmas.List.{drop_more}
 use Rattle.field_map.specs.declared.place.Place.{Place}
+use Rattle.field_map.specs.Pairs.{Pairs}
+use Rattle.frame_cut.specs.Parts.{with_each}
 use Rattle.frame_cut.specs.Traces.{count_of, is_trace, trace_at}
 use Rattle.frame_cut.specs.Volume.{Volume}
 use Rattle.trace_record.specs.Facts.{Facts, facts_of}
@@ -13,7 +15,10 @@ use Rattle.trace_record.specs.OfTrace.{record_of}
 use Rattle.trace_record.specs.declared.record.Record.{Record}
 use Rattle.edit_overlay.specs.CountedVolume.{RisesAtMost}
 use Rattle.live_reports.specs.Alike.{same_cell}
-use Rattle.live_reports.specs.Exchanged.{same_cells}
+use Rattle.live_reports.specs.Exchanged.{same_cells, with_records}
+use Rattle.volume_records.specs.OfVolume.{AreHeaderParts, headers_of, records_of}
+use Rattle.volume_records.proofs.EachLemmas.{length-with_each, records-with_each}
+use Rattle.volume_records.proofs.RecordLemmas.{length-records}
 use Rattle.bench_rules.specs.declared.edit.Edit.TheVariants.{Renumber}
 use Rattle.bench_rules.specs.declared.field.Field.TheVariants as field
 use Rattle.bench_rules.specs.declared.refusal.Refusal.{Refusal}
@@ -150,3 +155,23 @@ cells_stay s w a n rs new low inside within e g =
     ap not (cells_of s w n (a - 1) (drop (a - 1) rs) new inside within e g)
     ∙ not_not (list_any (moves s (with_volume s w)) (range_with_len (suc (a - 1)) n))
     ∙ ap₂ (λ (k m : ℕ). list_any (moves s (with_volume s w)) (range_with_len k m)) from (sym count)
+
+-- ---- bytes laid over the headers of many traces, and the records that are then put in
+
+-- the new records are those of the changed headers, have room where the old ones stand, and make the records those of the changed volume
+pub record AreTheirRecords (v : Volume) (fields : Pairs) (a at size : ℕ) (bytes : List ℕ) (rs new : List Record) : Type 0 where
+  pub made : map facts_of new ≡ take (length bytes / size) (drop (a - 1) (headers_of (with_each v a at size bytes) fields (map facts_of rs)))
+  pub room : a - 1 + length new ≤ length rs
+  pub records : map facts_of (with_records rs (a - 1) new) ≡ records_of (with_each v a at size bytes) fields
+
+pub their_records : (v prepared : Volume) (fields : Pairs) (a count at size : ℕ) (bytes : List ℕ) (rs new : List Record) → AreHeaderParts v a at size bytes → map facts_of rs ≡ records_of v fields → prepared ≡ with_each v a at size bytes
+    → length bytes / size ≡ count → map facts_of new ≡ take count (drop (a - 1) (headers_of prepared fields (map facts_of rs))) → AreTheirRecords v fields a at size bytes rs new
+their_records v prepared fields a count at size bytes rs new parts held prep number given =
+    let w : Volume = with_each v a at size bytes in
+    let made : map facts_of new ≡ take (length bytes / size) (drop (a - 1) (headers_of w fields (map facts_of rs))) =
+    given
+    ∙ ap (λ (u : Volume). take count (drop (a - 1) (headers_of u fields (map facts_of rs)))) prep
+    ∙ ap (λ (n : ℕ). take n (drop (a - 1) (headers_of w fields (map facts_of rs)))) (sym number) in
+    let long = length-with_each v fields a at size bytes rs new parts held made in
+    let many = length-records v fields rs held in
+    record { made = made; room = omega (arith, many, long, parts.last); records = records-with_each v fields a at size bytes rs new parts held made }

@@ -1,19 +1,19 @@
-use Rattle.std.proofs.Common.{◌≡◌, ◌∙◌, ◌+◌, ◌-◌, sym, subst, refl, rules, arith}
+use Rattle.std.proofs.Common.{◌≡◌, ◌∙◌, ◌+◌, ◌-◌, None, sym, subst, refl, rules, arith}
 use Rattle.std.proofs.lemmas.Int.{to_z-of_z}
 use Rattle.std.specs.Int.{w128}
 use mir.Val.{SFits}
 use Rattle.field_map.specs.Places.{offset_of}
 use Rattle.frame_cut.specs.Parts.{with_each}
 use Rattle.frame_cut.specs.Traces.{trace_at}
-use Rattle.frame_cut.specs.Volume.{Volume}
 use Rattle.bench_rules.specs.declared.edit.Edit.TheVariants.{Renumber}
 use Rattle.bench_rules.specs.declared.field.Field.TheVariants as field
+use Rattle.bench_rules.specs.Refused.{first_refusal}
 use Rattle.bench_rules.specs.State.{State}
 use Rattle.bench_rules.specs.Steps.{IsAfter}
 use Rattle.bench_rules.specs.TraceEdits.{values_bytes}
 use Rattle.bench_rules.proofs.HeaderEditLemmas.{after_cut}
 use Rattle.bench_rules.proofs.PlaceLemmas.{stands}
-use Rattle.bench_rules.proofs.RenumberLemmas.{renumber_accepted, each_accepted, values_fit, renumber_fits, renumber_done}
+use Rattle.bench_rules.proofs.RenumberLemmas.{RenumberFits, renumber_accepted, each_accepted, values_fit, renumber_fits, renumber_done}
 use Rattle.live_volume.specs.Held.{state_of}
 use Rattle.live_volume.proofs.HeldLemmas.{on_ok}
 use Rattle.live_volume.proofs.live_volume.LiveVolume.count_up.Goals as goal
@@ -37,32 +37,43 @@ offset-requires c =
     let ok = each_accepted s c.args.a c.args.b (field.Place c.args.place) c.args.first c.args.step c.args.place 0 refl c.requires (omega (arith, r.high)) in
     (stands s.volume.head (trace_at s.volume (c.args.a + 0)) c.args.place ok.has).first
 
-pub put_each-requires-clause-count : goal.put_each-requires-clause-count
-put_each-requires-clause-count c =
+-- nothing refuses the values
+none_refused : (c : goal.After-as_slice) → first_refusal (state_of c.self.inside) (Renumber c.args.a c.args.b (field.Place c.args.place) c.args.first c.args.step) ≡ None
+none_refused c = rw (← c.self.view_is) at c.requires
+
+-- there are as many as traces
+as_many : (c : goal.After-as_slice) → c.args.b - c.args.a + 1 ≡ c.args.b + 1 - c.args.a
+as_many c =
+    let r = renumber_accepted (state_of c.self.inside) c.args.a c.args.b (field.Place c.args.place) c.args.first c.args.step (none_refused c) in
+    omega (arith, r.high)
+
+-- the bytes that are laid over the traces are theirs
+bytes_are : (c : goal.After-as_slice) → c.as_slice.result.now ≡ values_bytes (state_of c.self.inside).volume.head.order c.args.place.kind c.args.first c.args.step (c.args.b + 1 - c.args.a)
+bytes_are c =
     let first : SFits w128 c.args.first = search rules in
     let step : SFits w128 c.args.step = search rules in
-    let s : State = state_of c.self.inside in
-    let none = rw (← c.self.view_is) at c.requires in
-    let r = renumber_accepted s c.args.a c.args.b (field.Place c.args.place) c.args.first c.args.step none in
-    let at : c.from-at.result ≡ offset_of c.args.place = c.from-at.ensures ∙ c.offset.ensures in
-    let count : c.args.b - c.args.a + 1 ≡ c.args.b + 1 - c.args.a = omega (arith, r.high) in
-    let bs : c.as_slice.result.now ≡ values_bytes s.volume.head.order c.args.place.kind c.args.first c.args.step (c.args.b + 1 - c.args.a) =
-    c.as_slice.ensures.value ∙ (rw (to_z-of_z w128 c.args.first first, to_z-of_z w128 c.args.step step, c.head-order.ensures, count) at c.in_ok-bytes.ensures.ok) in
-    let f = renumber_fits s c.args.a c.args.b (field.Place c.args.place) c.args.first c.args.step c.args.place c.from-at.result c.from.result c.as_slice.result.now c.self.invariant.cut refl none at c.from.ensures bs in
-    f.count ∙ sym count
+    c.as_slice.ensures.value ∙ (rw (to_z-of_z w128 c.args.first first, to_z-of_z w128 c.args.step step, c.head-order.ensures, as_many c) at c.in_ok-bytes.ensures.ok)
+
+-- and they fit there
+fit : (c : goal.After-as_slice) → RenumberFits (state_of c.self.inside) c.args.a c.args.b c.from-at.result c.from.result c.as_slice.result.now
+fit c =
+    renumber_fits (state_of c.self.inside) c.args.a c.args.b (field.Place c.args.place) c.args.first c.args.step c.args.place c.from-at.result c.from.result c.as_slice.result.now
+    c.self.invariant.cut refl (none_refused c) (c.from-at.ensures ∙ c.offset.ensures) c.from.ensures (bytes_are c)
+
+-- the volume with them is the one behind the edit
+done : (c : goal.After-as_slice) → IsAfter (state_of c.self.inside) (Renumber c.args.a c.args.b (field.Place c.args.place) c.args.first c.args.step)
+    (record (state_of c.self.inside) { volume = with_each (state_of c.self.inside).volume c.args.a c.from-at.result c.from.result c.as_slice.result.now })
+done c =
+    renumber_done (state_of c.self.inside) c.args.a c.args.b (field.Place c.args.place) c.args.first c.args.step c.args.place c.from-at.result c.from.result c.as_slice.result.now
+    (with_each (state_of c.self.inside).volume c.args.a c.from-at.result c.from.result c.as_slice.result.now)
+    c.self.invariant.cut refl (none_refused c) (c.from-at.ensures ∙ c.offset.ensures) c.from.ensures (bytes_are c) refl
+
+pub put_each-requires-clause-count : goal.put_each-requires-clause-count
+put_each-requires-clause-count c = (fit c).count ∙ sym (as_many c)
 
 pub put_each-requires-clause-parts : goal.put_each-requires-clause-parts
 put_each-requires-clause-parts c =
-    let first : SFits w128 c.args.first = search rules in
-    let step : SFits w128 c.args.step = search rules in
-    let s : State = state_of c.self.inside in
-    let none = rw (← c.self.view_is) at c.requires in
-    let r = renumber_accepted s c.args.a c.args.b (field.Place c.args.place) c.args.first c.args.step none in
-    let at : c.from-at.result ≡ offset_of c.args.place = c.from-at.ensures ∙ c.offset.ensures in
-    let count : c.args.b - c.args.a + 1 ≡ c.args.b + 1 - c.args.a = omega (arith, r.high) in
-    let bs : c.as_slice.result.now ≡ values_bytes s.volume.head.order c.args.place.kind c.args.first c.args.step (c.args.b + 1 - c.args.a) =
-    c.as_slice.ensures.value ∙ (rw (to_z-of_z w128 c.args.first first, to_z-of_z w128 c.args.step step, c.head-order.ensures, count) at c.in_ok-bytes.ensures.ok) in
-    let f = renumber_fits s c.args.a c.args.b (field.Place c.args.place) c.args.first c.args.step c.args.place c.from-at.result c.from.result c.as_slice.result.now c.self.invariant.cut refl none at c.from.ensures bs in
+    let f = fit c in
     rw (← c.self.view_is) (record {
       some = f.some;
       small = f.small;
@@ -74,46 +85,13 @@ put_each-requires-clause-parts c =
     })
 
 pub put_each-requires-clause-inside : goal.put_each-requires-clause-inside
-put_each-requires-clause-inside c =
-    let first : SFits w128 c.args.first = search rules in
-    let step : SFits w128 c.args.step = search rules in
-    let s : State = state_of c.self.inside in
-    let none = rw (← c.self.view_is) at c.requires in
-    let r = renumber_accepted s c.args.a c.args.b (field.Place c.args.place) c.args.first c.args.step none in
-    let at : c.from-at.result ≡ offset_of c.args.place = c.from-at.ensures ∙ c.offset.ensures in
-    let count : c.args.b - c.args.a + 1 ≡ c.args.b + 1 - c.args.a = omega (arith, r.high) in
-    let bs : c.as_slice.result.now ≡ values_bytes s.volume.head.order c.args.place.kind c.args.first c.args.step (c.args.b + 1 - c.args.a) =
-    c.as_slice.ensures.value ∙ (rw (to_z-of_z w128 c.args.first first, to_z-of_z w128 c.args.step step, c.head-order.ensures, count) at c.in_ok-bytes.ensures.ok) in
-    let f = renumber_fits s c.args.a c.args.b (field.Place c.args.place) c.args.first c.args.step c.args.place c.from-at.result c.from.result c.as_slice.result.now c.self.invariant.cut refl none at c.from.ensures bs in
-    rw (← c.self.view_is) f.inside
+put_each-requires-clause-inside c = rw (← c.self.view_is) (fit c).inside
 
 pub put_each-requires-clause-cut : goal.put_each-requires-clause-cut
 put_each-requires-clause-cut c =
-    let first : SFits w128 c.args.first = search rules in
-    let step : SFits w128 c.args.step = search rules in
-    let s : State = state_of c.self.inside in
-    let none = rw (← c.self.view_is) at c.requires in
-    let r = renumber_accepted s c.args.a c.args.b (field.Place c.args.place) c.args.first c.args.step none in
-    let at : c.from-at.result ≡ offset_of c.args.place = c.from-at.ensures ∙ c.offset.ensures in
-    let count : c.args.b - c.args.a + 1 ≡ c.args.b + 1 - c.args.a = omega (arith, r.high) in
-    let bs : c.as_slice.result.now ≡ values_bytes s.volume.head.order c.args.place.kind c.args.first c.args.step (c.args.b + 1 - c.args.a) =
-    c.as_slice.ensures.value ∙ (rw (to_z-of_z w128 c.args.first first, to_z-of_z w128 c.args.step step, c.head-order.ensures, count) at c.in_ok-bytes.ensures.ok) in
-    let w : Volume = with_each s.volume c.args.a c.from-at.result c.from.result c.as_slice.result.now in
-    let done = renumber_done s c.args.a c.args.b (field.Place c.args.place) c.args.first c.args.step c.args.place c.from-at.result c.from.result c.as_slice.result.now w c.self.invariant.cut refl none at c.from.ensures bs refl in
-    rw (← c.self.view_is) (after_cut s (Renumber c.args.a c.args.b (field.Place c.args.place) c.args.first c.args.step) w done)
+    rw (← c.self.view_is) (after_cut (state_of c.self.inside) (Renumber c.args.a c.args.b (field.Place c.args.place) c.args.first c.args.step) _ (done c))
 
 pub returns-clause-ok : goal.returns-clause-ok
 returns-clause-ok c =
-    let first : SFits w128 c.args.first = search rules in
-    let step : SFits w128 c.args.step = search rules in
-    let s : State = state_of c.self.inside in
-    let none = rw (← c.self.view_is) at c.requires in
-    let r = renumber_accepted s c.args.a c.args.b (field.Place c.args.place) c.args.first c.args.step none in
-    let at : c.from-at.result ≡ offset_of c.args.place = c.from-at.ensures ∙ c.offset.ensures in
-    let count : c.args.b - c.args.a + 1 ≡ c.args.b + 1 - c.args.a = omega (arith, r.high) in
-    let bs : c.as_slice.result.now ≡ values_bytes s.volume.head.order c.args.place.kind c.args.first c.args.step (c.args.b + 1 - c.args.a) =
-    c.as_slice.ensures.value ∙ (rw (to_z-of_z w128 c.args.first first, to_z-of_z w128 c.args.step step, c.head-order.ensures, count) at c.in_ok-bytes.ensures.ok) in
-    let w : Volume = with_each s.volume c.args.a c.from-at.result c.from.result c.as_slice.result.now in
-    let done = renumber_done s c.args.a c.args.b (field.Place c.args.place) c.args.first c.args.step c.args.place c.from-at.result c.from.result c.as_slice.result.now w c.self.invariant.cut refl none at c.from.ensures bs refl in
     on_ok c.put_each.result (λ e. subst (λ (u : State). IsAfter c.args.self.now.state (Renumber c.args.a c.args.b (field.Place c.args.place) c.args.first c.args.step) u) (sym e)
-    (rw (← c.self.view_is) done)) c.put_each.ensures.ok
+    (rw (← c.self.view_is) (done c.before.before))) c.put_each.ensures.ok

@@ -1,12 +1,12 @@
 -- An overlay is sound again with another store of the same file.
-use Rattle.std.proofs.Common.{◌≡◌, ℕ, ◌+◌, List, length, refl, sym, ap, ◌∙◌, arith, Result, Ok, Err, OnOk, OnErr, None}
+use Rattle.std.proofs.Common.{◌≡◌, ℕ, ◌+◌, List, length, refl, ap, ◌∙◌, arith, Result, Ok, Err, OnOk, OnErr, None}
 use Rattle.frame_cut.specs.Volume.{Volume, bytes_of}
 use Rattle.edit_overlay.specs.Ahead.{traces_ahead}
 use Rattle.edit_overlay.specs.Held.{looked_of, volume_ahead, volume_with, IsHeld}
 use Rattle.edit_overlay.specs.Stores.{traces_of}
 use Rattle.edit_overlay.specs.declared.store.TraceStore.{TraceStore}
 use Rattle.edit_overlay.specs.declared.overlay.Overlay.TheInside.{Inside}
-use Rattle.edit_overlay.proofs.AheadLemmas.{ahead_kept, ready_kept, IsSame}
+use Rattle.edit_overlay.proofs.AheadLemmas.{ahead_kept, IsSame}
 use Rattle.edit_overlay.proofs.LengthLemmas.{total, length-with}
 
 -- what follows from success and from failure alike
@@ -37,15 +37,6 @@ held_again o t n held over sum =
 -- the same overlay, of which only the room for more grew
 same_traces : (text bin : List ℕ) (s t : TraceStore) → IsOver s t → IsSame s t → volume_with text bin t ≡ volume_with text bin s
 same_traces text bin s t over same = other_traces text bin s t over ∙ ap (λ (ts : List (List ℕ)). record (volume_with text bin s) { traces = ts }) same.traces
-
-pub held_kept : (o : Inside) (t : TraceStore) → IsHeld o → IsOver o.store t → IsSame o.store t → IsHeld (record o { store = t })
-held_kept o t held over same = record {
-  ends = record { front = rw over.head held.ends.front; whole = rw (over.head, over.loaded) held.ends.whole };
-  text = held.text;
-  bin = held.bin;
-  prepared = ready_kept o.store t o.prepared same held.prepared;
-  length = held.length ∙ ap (λ (v : Volume). length (bytes_of v)) (sym (same_traces o.text o.bin o.store t over same));
-}
 
 pub shown_kept : (o : Inside) (t : TraceStore) → IsOver o.store t → IsSame o.store t → looked_of (record o { store = t }) ≡ looked_of o
 shown_kept o t over same =

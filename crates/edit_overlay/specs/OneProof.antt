@@ -2,14 +2,14 @@
 use Rattle.std.specs.Prelude.{ℕ, List, length, Option, Some, None, IsSomeAnd}
 use Rattle.std.specs.Coded.{Coded-set, coded_ℕ, coded_option, le_prop, Π_prop, Unit-prop}
 use mathlib.Core.HLevel.{⊥_prop}
-use Rattle.slab.specs.Slab.{Slab, get, slab_len}
+use Rattle.slab.specs.Slab.{Slab, get}
 use Rattle.frame_cut.specs.declared.file_head.Head.{Head}
 use Rattle.frame_cut.specs.Cuts.{IsTrace}
 use Rattle.trace_view.specs.Runs.{FitFrom-prop}
 use Rattle.edit_overlay.specs.declared.slot.Base.{Base}
 use Rattle.edit_overlay.specs.declared.slot.Base.TheVariants.{Loaded, Added}
 use Rattle.edit_overlay.specs.declared.slot.Slot.{Slot}
-use Rattle.edit_overlay.specs.Slots.{base_of, bytes_in, IsHeldUnder, IsInside, IsSlot, IsStore}
+use Rattle.edit_overlay.specs.Slots.{base_of, bytes_in, IsInside, IsSlot, IsStore}
 
 IsInside-prop : (loaded : List ℕ) (base : Base) → IsProp (IsInside loaded base)
 IsInside-prop loaded (Loaded extent) = le_prop

@@ -1,8 +1,5 @@
-use Rattle.std.proofs.Common.{List, ℕ, Option, sym, subst, ◌≡◌, ◌∙◌, ap}
-use Rattle.slab.specs.Slab.{get}
-use Rattle.std.specs.Prelude.{IsSomeAnd}
-use Rattle.edit_overlay.specs.declared.slot.Slot.{Slot}
-use Rattle.edit_overlay.specs.Slots.{bytes_in, bytes_under, IsInside, IsSlot}
+use Rattle.std.proofs.Common.{List, ℕ, sym, subst, ◌∙◌}
+use Rattle.edit_overlay.specs.Slots.{IsInside}
 use Rattle.edit_overlay.proofs.SlotLemmas.{held-slot, held-missed, bytes-there}
 use Rattle.edit_overlay.proofs.store.TraceStore.view_under.Goals as goal
 

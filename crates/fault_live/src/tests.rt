@@ -15,7 +15,7 @@ fn there_and_back(alloc: Global, trace: &Record) -> Result<Faults, OutOfMemory> 
 }
 
 #[test]
-#[tactic(auto, unfolding(trace_record::specs::Parts::HasSmallParts))]
+#[tactic(auto, unfolding(trace_record::specs::Parts::IsPackable))]
 fn counts_a_trace_and_forgets_it(rt: HostRuntime) -> Result<(), Fail> {
     let trace = Record {
         least: -2,
@@ -47,7 +47,7 @@ fn report_of(alloc: Global, records: &[Record], head: &HeadFacts) -> Result<Vec<
     Ok(faults.report(alloc, &list, head)?)
 }
 
-#[tactic(auto, unfolding(trace_record::specs::Parts::HasSmallParts))]
+#[tactic(auto, unfolding(trace_record::specs::Parts::IsPackable))]
 fn trace_at(sequence: i32, crossline: i32, offset: i32) -> Record {
     Record {
         least: -2,

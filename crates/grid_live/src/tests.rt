@@ -14,7 +14,7 @@ fn second_alone(alloc: Global, first: &Record, second: &Record) -> Result<Grid, 
 }
 
 // A trace at this inline and crossline.
-#[tactic(auto, unfolding(trace_record::specs::Parts::HasSmallParts))]
+#[tactic(auto, unfolding(trace_record::specs::Parts::IsPackable))]
 fn trace_at(inline: i32, crossline: i32) -> Record {
     Record {
         least: -2,

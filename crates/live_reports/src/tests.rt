@@ -10,7 +10,7 @@ use std::test::Fail;
 use trace_record::{Ratio, Record, Records};
 
 // A trace with two samples at this crossline of inline 10.
-#[tactic(auto, unfolding(trace_record::specs::Parts::HasSmallParts))]
+#[tactic(auto, unfolding(trace_record::specs::Parts::IsPackable))]
 fn trace_at(sequence: i32, crossline: i32, x: i32) -> Record
     ensures { result.number ≡ 2 }
 {
@@ -34,7 +34,7 @@ fn trace_at(sequence: i32, crossline: i32, x: i32) -> Record
 }
 
 // A trace with two other samples at the first one's crossline.
-#[tactic(auto, unfolding(trace_record::specs::Parts::HasSmallParts))]
+#[tactic(auto, unfolding(trace_record::specs::Parts::IsPackable))]
 fn deep_trace() -> Record
     ensures { result.number ≡ 2 }
 {

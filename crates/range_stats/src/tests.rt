@@ -34,7 +34,7 @@ fn second_alone<R: Running>(
     Ok(running)
 }
 
-#[tactic(auto, unfolding(trace_record::specs::Parts::HasSmallParts))]
+#[tactic(auto, unfolding(trace_record::specs::Parts::IsPackable))]
 fn first_trace() -> Record
     ensures { result.number ≡ 2 }
 {
@@ -57,7 +57,7 @@ fn first_trace() -> Record
     }
 }
 
-#[tactic(auto, unfolding(trace_record::specs::Parts::HasSmallParts))]
+#[tactic(auto, unfolding(trace_record::specs::Parts::IsPackable))]
 fn second_trace() -> Record
     ensures { result.number ≡ 2 }
 {

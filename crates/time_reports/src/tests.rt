@@ -45,7 +45,7 @@ fn totals_of(alloc: Global, records: &[Record], left: usize) -> Result<Totals, O
 }
 
 // A trace at this inline and crossline with this x coordinate and two samples.
-#[tactic(auto, unfolding(trace_record::specs::Parts::HasSmallParts))]
+#[tactic(auto, unfolding(trace_record::specs::Parts::IsPackable))]
 fn trace_at(inline: i32, crossline: i32, x: Ratio) -> Record
     requires { FitsCoordinate x }
     ensures { result.number ≡ 2 }
@@ -70,7 +70,7 @@ fn trace_at(inline: i32, crossline: i32, x: Ratio) -> Record
 }
 
 // A trace with two samples.
-#[tactic(auto, unfolding(trace_record::specs::Parts::HasSmallParts))]
+#[tactic(auto, unfolding(trace_record::specs::Parts::IsPackable))]
 fn trace_with(least: i64, greatest: u64) -> Record
     ensures { result.number ≡ 2 }
 {

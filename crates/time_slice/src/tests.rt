@@ -36,7 +36,7 @@ fn volume(alloc: Global) -> Result<Overlay, Fail> {
     Ok(Overlay::from_bytes(alloc, file, Reading::AsWritten, limits)?)
 }
 
-#[tactic(auto, unfolding(trace_record::specs::Parts::HasSmallParts))]
+#[tactic(auto, unfolding(trace_record::specs::Parts::IsPackable))]
 fn record_at(inline: i32, crossline: i32) -> Record {
     Record {
         least: 0,

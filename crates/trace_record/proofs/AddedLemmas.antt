@@ -1,5 +1,5 @@
 -- One sample more, as the code computes it.
-use Rattle.std.proofs.Common.{◌≡◌, ℕ, ℤ, ◌+◌, ◌*◌, ◌^◌, ◌≤◌, ◌+ℤ◌, SFits, to_z, of_z, refl, arith, rules}
+use Rattle.std.proofs.Common.{◌≡◌, ℕ, ℤ, ◌+◌, ◌^◌, ◌≤◌, ◌+ℤ◌, SFits, to_z, of_z, refl, arith, rules}
 use Rattle.std.proofs.lemmas.Int.{ints, to_z-of_z}
 use Rattle.std.specs.Int.{Width, w128, int_min, int_max}
 use Rattle.trace_record.specs.declared.statistics.Statistics.{Statistics}

@@ -4,17 +4,17 @@ use Rattle.std.proofs.Common.{arith, ap, ap₂, subst, ◌∙◌, SFits, to_z, o
 use Rattle.std.specs.Int.{w128}
 use Rattle.std.proofs.lemmas.Int.{to_z-of_z}
 use denote.Struct.Props.{props}
-use Rattle.trace_record.specs.Parts.{HasSmallParts, HasSmallParts-prop, signed_of}
+use Rattle.trace_record.specs.Parts.{IsPackable, IsPackable-prop, signed_of}
 use Rattle.trace_record.specs.Facts.{Facts, facts_of}
 use Rattle.trace_record.specs.declared.record.Record.{Record}
 
 -- what is true of the facts of every record
 abbrev pub HasRoom : Facts → Type 0
 HasRoom f =
-    HasSmallParts f.least f.greatest f.x f.y × (neg_ℤ (pos (2 ^ 63 * f.number)) ≤ℤ f.sum) × (f.sum ≤ℤ pos (2 ^ 64 * f.number))
+    IsPackable f.least f.greatest f.x f.y × (neg_ℤ (pos (2 ^ 63 * f.number)) ≤ℤ f.sum) × (f.sum ≤ℤ pos (2 ^ 64 * f.number))
 
 HasRoom-prop : (f : Facts) → IsProp (HasRoom f)
-HasRoom-prop f = hlevel (HasSmallParts-prop, props)
+HasRoom-prop f = hlevel (IsPackable-prop, props)
 
 -- a record of its facts
 of_facts : (f : Facts) → HasRoom f → Record

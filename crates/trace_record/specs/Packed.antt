@@ -1,5 +1,5 @@
 -- The record that a packed record stands for.
-use Rattle.std.specs.Prelude.{ℕ, ℤ, Bool, ◌+◌, ◌*◌, ◌^◌, refl}
+use Rattle.std.specs.Prelude.{◌+◌, ◌*◌, ◌^◌, refl}
 use Rattle.trace_record.specs.Parts.{signed_of, first_flag, second_flag, numerator_in, denominator_in, denominator_in-positive, fits_in_word, small_parts}
 use Rattle.trace_record.specs.declared.packed_ratio.PackedRatio.{PackedRatio}
 use Rattle.trace_record.specs.declared.packed_record.PackedRecord.{PackedRecord}

@@ -1,14 +1,16 @@
 //! What the reports need of one trace, and how often its keys occur over many. `Record` is a
 //! trace's own numbers, which `record_of` takes from a view of the trace, and
-//! `record_with_samples_of` from its headers alone. `Ratio` is a coordinate under its scalar,
-//! `Statistics` the least, greatest, sum and number of samples. `Counts` counts keys; a `Running`
-//! value counts traces, seen as their tally. The calls that are named for a law do nothing: their
-//! contract is the law.
+//! `record_with_samples_of` from its headers alone; `Records` holds those of many traces in order,
+//! each in 72 bytes. `Ratio` is a coordinate under its scalar, `Statistics` the least, greatest,
+//! sum and number of samples. `Counts` counts keys; a `Running` value counts traces, seen as their
+//! tally. The calls that are named for a law do nothing: their contract is the law.
 //!
 //! `Counts::raise`, `raise_both` and `Running::add` take memory only for a key that is not held;
 //! where a growth is refused they leave all as it was. `Counts::from_keys` and
-//! `Running::from_records` count all at once, and take memory for what they make. No other call
-//! takes memory. Bytes of headers count from 1, as in the standard.
+//! `Running::from_records` count all at once, and take memory for what they make.
+//! `Records::from_slice`, `push`, `insert` and `move_to` may take memory, and leave the records as
+//! they were where it is refused. No other call takes memory. Bytes of headers count from 1, as in
+//! the standard.
 #![tactic(auto)]
 
 mod counts;

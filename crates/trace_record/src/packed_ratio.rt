@@ -1,28 +1,28 @@
-ghost use Rattle.std.specs.Prelude.{◌≡◌, ◌<◌, ◌^◌, ◌/◌, ◌%◌, unsigned_abs};
-ghost use Rattle.std.specs.Int.{IsGcd};
-ghost use Rattle.trace_record.specs.FractionLaws.{IsGcd-prop};
-ghost use Rattle.trace_record.specs.Parts.{numerator_in, denominator_in, first_flag, second_flag};
+ghost use Rattle.std.specs.Prelude.{◌≡◌, ◌<◌, ◌^◌, ◌/◌, ◌%◌};
+ghost use Rattle.trace_record.specs.Parts.{IsLowest, IsLowest-prop, first_flag, second_flag};
 
 use crate::Ratio;
 
-// What the flags in the highest bits count.
+// What the first flag counts in a word.
 const FIRST: u64 = 0x8000_0000_0000_0000;
 
+// What the second flag counts.
 const SECOND: u64 = 0x4000_0000_0000_0000;
 
-// How many denominators there are, and how many numerators.
-const DENOMINATORS: u64 = 0x8000;
-
+// How many numerators a word has room for.
 const NUMERATORS: u64 = 0x8000_0000_0000;
 
-// The numerator in the middle of all.
+// How many denominators.
+const DENOMINATORS: u64 = 0x8000;
+
+// The least numerator, without its sign.
 const MIDDLE: i64 = 0x4000_0000_0000;
 
 /// A coordinate under its scalar and two flags in 64 bits.
 #[derive(Clone, Copy)]
 pub struct PackedRatio {
     pub bits: u64,
-    pub ghost lowest: { IsGcd (unsigned_abs (numerator_in bits)) (denominator_in bits) 1 } by { IsGcd-prop (unsigned_abs (numerator_in bits)) (denominator_in bits) 1 },
+    pub ghost lowest: { IsLowest bits } by { IsLowest-prop bits },
 }
 
 impl PackedRatio {

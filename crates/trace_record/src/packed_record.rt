@@ -5,12 +5,13 @@ use crate::Record;
 use crate::packed_ratio::PackedRatio;
 use std::mem::size_of;
 
-// How many numbers the low 64 bits of a sample hold, and the low 96 bits of a sum.
+// How many numbers the low 64 bits of a sample hold.
 const SAMPLE: i128 = 0x1_0000_0000_0000_0000;
 
+// How many numbers the low 96 bits of a sum hold.
 const SUM: i128 = 0x1_0000_0000_0000_0000_0000_0000;
 
-// How many numbers the lower part of these 96 bits holds.
+// How many of them the low 64 bits hold.
 const SUM_LOW: u128 = 0x1_0000_0000_0000_0000;
 
 /// A `Record` in 72 bytes. The least, the greatest and the sum are kept without their signs, which

@@ -1,5 +1,5 @@
 ghost use Rattle.std.specs.Prelude.{◌*◌, ◌^◌, ◌≤ℤ◌, pos, neg_ℤ};
-ghost use Rattle.trace_record.specs.Parts.{HasSmallParts, HasSmallParts-prop};
+ghost use Rattle.trace_record.specs.Parts.{IsPackable, IsPackable-prop};
 
 use crate::Ratio;
 
@@ -29,8 +29,7 @@ pub struct Record {
     pub samples_field: u16,
     /// Whether bytes 233-240 are zeros or `SEG00000`.
     pub has_known_name: bool,
-    pub ghost small: { HasSmallParts least greatest x y }
-        by { HasSmallParts-prop least greatest x y },
+    pub ghost small: { IsPackable least greatest x y } by { IsPackable-prop least greatest x y },
     pub ghost sum_low: { neg_ℤ (pos (2 ^ 63 * number)) ≤ℤ sum },
     pub ghost sum_high: { sum ≤ℤ pos (2 ^ 64 * number) },
 }

@@ -129,7 +129,7 @@ fn counts_ratios(rt: HostRuntime) -> Result<(), Fail> {
 }
 
 #[test]
-#[tactic(auto, unfolding(crate::specs::Parts::HasSmallParts))]
+#[tactic(auto, unfolding(crate::specs::Parts::IsPackable))]
 fn keeps_records_small(rt: HostRuntime) {
     let record = Record {
         least: -2,
@@ -165,7 +165,7 @@ fn comes_back(rt: &impl Abort, alloc: Global, trace: Record) -> Result<(), Fail>
 }
 
 #[test]
-#[tactic(auto, unfolding(crate::specs::Parts::HasSmallParts))]
+#[tactic(auto, unfolding(crate::specs::Parts::IsPackable))]
 fn packs_the_least_values(rt: HostRuntime) -> Result<(), Fail> {
     let least = Record {
         least: -0x8000_0000_0000_0000,
@@ -188,7 +188,7 @@ fn packs_the_least_values(rt: HostRuntime) -> Result<(), Fail> {
 }
 
 #[test]
-#[tactic(auto, unfolding(crate::specs::Parts::HasSmallParts))]
+#[tactic(auto, unfolding(crate::specs::Parts::IsPackable))]
 fn packs_the_greatest_values(rt: HostRuntime) -> Result<(), Fail> {
     let greatest = Record {
         least: 0xFFFF_FFFF_FFFF_FFFF,
@@ -211,7 +211,7 @@ fn packs_the_greatest_values(rt: HostRuntime) -> Result<(), Fail> {
 }
 
 // A record whose parts differ in sign.
-#[tactic(auto, unfolding(crate::specs::Parts::HasSmallParts))]
+#[tactic(auto, unfolding(crate::specs::Parts::IsPackable))]
 fn mixed_record(inline: i32) -> Record {
     Record {
         least: -1,

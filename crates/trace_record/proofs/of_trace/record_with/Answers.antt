@@ -25,10 +25,10 @@ invariant_of-result c =
     let range = c.requires.range in
     record {
       small = small_parts _ _ _ _
-        (subst FitsSample (sym (to_z-of_z w128 _ least)) range.least)
-        (subst FitsSample (sym (to_z-of_z w128 _ greatest)) range.greatest)
-        c.scaled.ensures.size
-        c.scaled-2.ensures.size;
+          (subst FitsSample (sym (to_z-of_z w128 _ least)) range.least)
+          (subst FitsSample (sym (to_z-of_z w128 _ greatest)) range.greatest)
+          c.scaled.ensures.size
+          c.scaled-2.ensures.size;
       sum_low = omega (arith, ints, range.low);
       sum_high = omega (arith, ints, range.high);
     }

@@ -1,6 +1,5 @@
-use Rattle.std.proofs.Common.{◌≡◌, arith, rules, sym, SFits, w64}
+use Rattle.std.proofs.Common.{◌≡◌, arith, rules, SFits, w64}
 use Rattle.std.proofs.lemmas.Int.{ints}
-use Rattle.trace_record.specs.Packed.{ratio_in}
 use Rattle.trace_record.specs.Parts.{numerator_in, denominator_in}
 use Rattle.trace_record.specs.RatioOrder.{same_parts}
 use Rattle.trace_record.proofs.PartLemmas.{same_lowest}

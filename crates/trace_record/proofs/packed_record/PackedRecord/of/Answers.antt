@@ -1,7 +1,7 @@
-use Rattle.std.proofs.Common.{◌≡◌, ◌+◌, ◌*◌, ◌/◌, ◌%◌, ◌^◌, ◌<◌, ◌≤ℤ◌, pos, neg_ℤ, ℤ, Bool, rules, arith, refl, sym, ap, ap₂, subst, ◌∙◌, SFits}
+use Rattle.std.proofs.Common.{◌*◌, ◌^◌, ◌<◌, ◌≤ℤ◌, pos, neg_ℤ, ℤ, rules, arith, refl, sym, subst, SFits}
 use Rattle.std.specs.Int.{w16, w32, w128}
 use Rattle.std.proofs.lemmas.Int.{ints, to_z-of_z}
-use Rattle.trace_record.specs.Parts.{FitsSample, FitsCoordinate, each_fits, signed_of, first_flag, second_flag}
+use Rattle.trace_record.specs.Parts.{FitsSample, FitsCoordinate, each_fits}
 use Rattle.trace_record.specs.declared.record.Record.{Record}
 use Rattle.trace_record.proofs.PackedLemmas.{same_record, kept_sample, kept_sum}
 use Rattle.trace_record.proofs.packed_record.PackedRecord.of.Goals as goal

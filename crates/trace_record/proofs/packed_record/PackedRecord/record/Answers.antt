@@ -1,9 +1,8 @@
-use Rattle.std.proofs.Common.{◌≡◌, ◌+◌, ◌*◌, ◌^◌, ◌≤ℤ◌, pos, neg_ℤ, ℤ, Bool, rules, refl, sym, ap, subst, ◌∙◌, SFits}
+use Rattle.std.proofs.Common.{◌+◌, ◌*◌, ◌^◌, ◌≤ℤ◌, pos, neg_ℤ, ℤ, Bool, rules, refl, sym, ap, subst, ◌∙◌, SFits}
 use Rattle.std.specs.Int.{w16, w32, w128}
 use Rattle.std.proofs.lemmas.Int.{to_z-of_z}
 use Rattle.trace_record.specs.Packed.{record_in, ratio_in}
 use Rattle.trace_record.specs.Parts.{FitsSample, FitsCoordinate, signed_of, fits_in_word, small_parts}
-use Rattle.trace_record.specs.declared.ratio.Ratio.{Ratio}
 use Rattle.trace_record.proofs.FactsLemmas.{kept}
 use Rattle.trace_record.proofs.PackedLemmas.{same_record}
 use Rattle.trace_record.proofs.packed_record.PackedRecord.record.Goals as goal
@@ -20,10 +19,10 @@ invariant_of-result c =
     let sum = kept w128 _ r.sum sum_fits (c.sum_of.ensures ∙ ap (λ (b : Bool). signed_of b (2 ^ 96) (p.sum_high * 2 ^ 64 + p.sum)) c.first-2.ensures) in
     record {
       small = small_parts _ _ _ _
-        (subst FitsSample (sym least) p.least_fits)
-        (subst FitsSample (sym greatest) p.greatest_fits)
-        (subst FitsCoordinate (sym c.ratio.ensures) (fits_in_word (ratio_in p.x) p.x.bits refl refl))
-        (subst FitsCoordinate (sym c.ratio-2.ensures) (fits_in_word (ratio_in p.y) p.y.bits refl refl));
+          (subst FitsSample (sym least) p.least_fits)
+          (subst FitsSample (sym greatest) p.greatest_fits)
+          (subst FitsCoordinate (sym c.ratio.ensures) (fits_in_word (ratio_in p.x) p.x.bits refl refl))
+          (subst FitsCoordinate (sym c.ratio-2.ensures) (fits_in_word (ratio_in p.y) p.y.bits refl refl));
       sum_low = subst (λ (z : ℤ). neg_ℤ (pos (2 ^ 63 * p.number)) ≤ℤ z) (sym sum) p.sum_low;
       sum_high = subst (λ (z : ℤ). z ≤ℤ pos (2 ^ 64 * p.number)) (sym sum) p.sum_top;
     }

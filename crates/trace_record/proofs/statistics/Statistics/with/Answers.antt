@@ -1,4 +1,4 @@
-use Rattle.std.proofs.Common.{rules, SFits, ◌+ℤ◌, ap, sym, subst, Some}
+use Rattle.std.proofs.Common.{rules, SFits, ap, sym, subst, Some}
 use Rattle.std.specs.Int.{w128}
 use Rattle.trace_record.specs.Statistics.{HasRange}
 use Rattle.trace_record.proofs.AddedLemmas.{statistics_joined, joined_range, joined_fits}

@@ -28,7 +28,7 @@ fn count_up(rt: &impl Abort, alloc: Global, bench: &mut Bench) -> Result<(), Fai
 #[test]
 fn a_field_is_counted_up(rt: HostRuntime) -> Result<(), Fail> {
     let alloc = rt.alloc();
-    on_survey(alloc, |bench| count_up(&rt, alloc, bench))
+    on_survey(alloc, &mut |bench: &mut Bench| count_up(&rt, alloc, bench))
 }
 
 fn refuse_whole(rt: &impl Abort, alloc: Global, bench: &mut Bench) -> Result<(), Fail> {
@@ -48,7 +48,10 @@ fn refuse_whole(rt: &impl Abort, alloc: Global, bench: &mut Bench) -> Result<(),
 #[test]
 fn a_refused_count_changes_nothing(rt: HostRuntime) -> Result<(), Fail> {
     let alloc = rt.alloc();
-    on_survey(alloc, |bench| refuse_whole(&rt, alloc, bench))
+    on_survey(
+        alloc,
+        &mut |bench: &mut Bench| refuse_whole(&rt, alloc, bench),
+    )
 }
 
 fn resize_one(rt: &impl Abort, alloc: Global, bench: &mut Bench) -> Result<(), Fail> {
@@ -79,6 +82,6 @@ fn a_trace_has_another_number_of_samples(rt: HostRuntime) -> Result<(), Fail> {
         file.as_slice(),
         Reading::AsWritten,
         (4334, 3),
-        |bench| resize_one(&rt, alloc, bench),
+        &mut |bench: &mut Bench| resize_one(&rt, alloc, bench),
     )
 }

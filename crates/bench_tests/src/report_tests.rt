@@ -12,11 +12,11 @@ use trace_record::Ratio;
 
 // What the function answers of the small file: its traces on crosslines 21, 22 and 23, and with
 // samples 1 and -2, 3 and 4, -5 and 6.
-pub(crate) fn on_survey<F: FnOnce(&mut Bench) -> Result<(), Fail>>(
+pub(crate) fn on_survey(
     alloc: Global,
-    ask: F,
+    ask: &mut dyn FnMut(&mut Bench) -> Result<(), Fail>,
 ) -> Result<(), Fail>
-    requires { F.IsAlwaysCallable ask }
+    requires { IsAlwaysCallable ask.now }
 {
     let mut file = sample_file(alloc)?;
     let crosslines = [(3795, 21), (4039, 22), (4283, 23)];
@@ -86,18 +86,23 @@ fn ends(bench: &mut Bench, alloc: Global, quantity: Quantity) -> Result<(Ratio, 
     }
 }
 
+fn answer_reports(rt: &impl Abort, alloc: Global, bench: &mut Bench) -> Result<(), Fail> {
+    assert_eq!(rt; fold(bench, alloc, 10, 22), Some(1));
+    assert_eq!(rt; fold(bench, alloc, 1 << 40, -1), Some(0));
+    assert_eq!(rt; statistics(bench, alloc, 2)?, [3, 4, 7, 2]);
+    assert_eq!(rt; statistics(bench, alloc, 0)?, [-5, 6, 7, 6]);
+    let whole = |number| Ratio::scaled(number, 0);
+    assert!(rt; ends(bench, alloc, Quantity::Crossline)? == (whole(21), whole(23)));
+    Ok(())
+}
+
 #[test]
 fn answers_each_report(rt: HostRuntime) -> Result<(), Fail> {
     let alloc = rt.alloc();
-    on_survey(alloc, |bench| {
-        assert_eq!(rt; fold(bench, alloc, 10, 22), Some(1));
-        assert_eq!(rt; fold(bench, alloc, 1 << 40, -1), Some(0));
-        assert_eq!(rt; statistics(bench, alloc, 2)?, [3, 4, 7, 2]);
-        assert_eq!(rt; statistics(bench, alloc, 0)?, [-5, 6, 7, 6]);
-        let whole = |number| Ratio::scaled(number, 0);
-        assert!(rt; ends(bench, alloc, Quantity::Crossline)? == (whole(21), whole(23)));
-        Ok(())
-    })
+    on_survey(
+        alloc,
+        &mut |bench: &mut Bench| answer_reports(&rt, alloc, bench),
+    )
 }
 
 fn lists_items(rt: &impl Abort, alloc: Global, bench: &mut Bench) -> Result<(), Fail> {
@@ -120,19 +125,27 @@ fn lists_items(rt: &impl Abort, alloc: Global, bench: &mut Bench) -> Result<(), 
 #[test]
 fn answers_each_list(rt: HostRuntime) -> Result<(), Fail> {
     let alloc = rt.alloc();
-    on_survey(alloc, |bench| lists_items(&rt, alloc, bench))
+    on_survey(
+        alloc,
+        &mut |bench: &mut Bench| lists_items(&rt, alloc, bench),
+    )
+}
+
+fn ask_of_no_trace(rt: &impl Abort, alloc: Global, bench: &mut Bench) -> Result<(), Fail> {
+    for query in &[Query::Geometry(4), Query::Stat(4)] {
+        let fault = bench.ask(alloc, query).err();
+        assert!(rt; fault == Some(AskFault::NoTrace(4, 3)));
+    }
+    Ok(())
 }
 
 #[test]
 fn no_trace_has_no_report(rt: HostRuntime) -> Result<(), Fail> {
     let alloc = rt.alloc();
-    on_survey(alloc, |bench| {
-        for query in &[Query::Geometry(4), Query::Stat(4)] {
-            let fault = bench.ask(alloc, query).err();
-            assert!(rt; fault == Some(AskFault::NoTrace(4, 3)));
-        }
-        Ok(())
-    })
+    on_survey(
+        alloc,
+        &mut |bench: &mut Bench| ask_of_no_trace(&rt, alloc, bench),
+    )
 }
 
 fn edit_with_reports(rt: &impl Abort, alloc: Global, bench: &mut Bench) -> Result<(), Fail> {
@@ -161,49 +174,64 @@ fn undo_with_reports(rt: &impl Abort, alloc: Global, bench: &mut Bench) -> Resul
     Ok(())
 }
 
+fn edit_and_undo(rt: &impl Abort, alloc: Global, bench: &mut Bench) -> Result<(), Fail> {
+    edit_with_reports(rt, alloc, bench)?;
+    undo_with_reports(rt, alloc, bench)
+}
+
 #[test]
 fn reports_follow_edits(rt: HostRuntime) -> Result<(), Fail> {
     let alloc = rt.alloc();
-    on_survey(alloc, |bench| {
-        edit_with_reports(&rt, alloc, bench)?;
-        undo_with_reports(&rt, alloc, bench)
-    })
+    on_survey(
+        alloc,
+        &mut |bench: &mut Bench| edit_and_undo(&rt, alloc, bench),
+    )
 }
 
 // Inline numbers where the crosslines stand.
+fn bind_inline_anew(rt: &impl Abort, alloc: Global, bench: &mut Bench) -> Result<(), Fail> {
+    let looks = bench.looks();
+    let name = Text::new(String::from_str(alloc, "inline")?);
+    let place = Place {
+        extension: 0,
+        byte: 193,
+        kind: Kind {
+            size: 4,
+            signed: true,
+        },
+    };
+    assert!(rt; meets(bench, alloc, Edit::Map(name, place), None));
+    assert_eq!(rt; fold(bench, alloc, 22, 22), Some(1));
+    assert_eq!(rt; listed(bench, alloc, &Query::Inlines)?, 3);
+    assert!(rt; bench.looks() <= looks.saturating_add(3));
+    Ok(())
+}
+
 #[test]
 fn a_geometry_name_bound_anew_changes_the_reports(rt: HostRuntime) -> Result<(), Fail> {
     let alloc = rt.alloc();
-    on_survey(alloc, |bench| {
-        let looks = bench.looks();
-        let name = Text::new(String::from_str(alloc, "inline")?);
-        let place = Place {
-            extension: 0,
-            byte: 193,
-            kind: Kind {
-                size: 4,
-                signed: true,
-            },
-        };
-        assert!(rt; meets(bench, alloc, Edit::Map(name, place), None));
-        assert_eq!(rt; fold(bench, alloc, 22, 22), Some(1));
-        assert_eq!(rt; listed(bench, alloc, &Query::Inlines)?, 3);
-        assert!(rt; bench.looks() <= looks.saturating_add(3));
-        Ok(())
-    })
+    on_survey(
+        alloc,
+        &mut |bench: &mut Bench| bind_inline_anew(&rt, alloc, bench),
+    )
 }
 
 // A patch reads the trace again, and a set in the headers of the same trace does not lose it.
+fn patch_and_set(rt: &impl Abort, alloc: Global, bench: &mut Bench) -> Result<(), Fail> {
+    let values = bench_core::Items::new(Vec::from_slice(alloc, &[100])?);
+    assert!(rt; meets(bench, alloc, Edit::Patch(2, 1, values), None));
+    let x = Field::Name(Text::new(String::from_str(alloc, "x")?));
+    assert!(rt; meets(bench, alloc, Edit::Set(2, x, 7), None));
+    assert_eq!(rt; statistics(bench, alloc, 2)?, [3, 100, 103, 2]);
+    assert_eq!(rt; statistics(bench, alloc, 0)?, [-5, 100, 103, 6]);
+    Ok(())
+}
+
 #[test]
 fn statistics_follow_patches_and_sets(rt: HostRuntime) -> Result<(), Fail> {
     let alloc = rt.alloc();
-    on_survey(alloc, |bench| {
-        let values = bench_core::Items::new(Vec::from_slice(alloc, &[100])?);
-        assert!(rt; meets(bench, alloc, Edit::Patch(2, 1, values), None));
-        let x = Field::Name(Text::new(String::from_str(alloc, "x")?));
-        assert!(rt; meets(bench, alloc, Edit::Set(2, x, 7), None));
-        assert_eq!(rt; statistics(bench, alloc, 2)?, [3, 100, 103, 2]);
-        assert_eq!(rt; statistics(bench, alloc, 0)?, [-5, 100, 103, 6]);
-        Ok(())
-    })
+    on_survey(
+        alloc,
+        &mut |bench: &mut Bench| patch_and_set(&rt, alloc, bench),
+    )
 }

@@ -68,7 +68,7 @@ fn asks_nine(rt: &impl Abort, alloc: Global, bench: &mut Bench) -> Result<(), Fa
 #[test]
 fn eight_slices_are_kept(rt: HostRuntime) -> Result<(), Fail> {
     let alloc = rt.alloc();
-    on_survey(alloc, |bench| asks_nine(&rt, alloc, bench))
+    on_survey(alloc, &mut |bench: &mut Bench| asks_nine(&rt, alloc, bench))
 }
 
 fn edits_around(rt: &impl Abort, alloc: Global, bench: &mut Bench) -> Result<(), Fail> {
@@ -103,7 +103,10 @@ fn edits_around(rt: &impl Abort, alloc: Global, bench: &mut Bench) -> Result<(),
 #[test]
 fn kept_slices_stay_after_edits_elsewhere(rt: HostRuntime) -> Result<(), Fail> {
     let alloc = rt.alloc();
-    on_survey(alloc, |bench| edits_around(&rt, alloc, bench))
+    on_survey(
+        alloc,
+        &mut |bench: &mut Bench| edits_around(&rt, alloc, bench),
+    )
 }
 
 fn edits_of_all(rt: &impl Abort, alloc: Global, bench: &mut Bench) -> Result<(), Fail> {
@@ -139,7 +142,10 @@ fn edits_of_all(rt: &impl Abort, alloc: Global, bench: &mut Bench) -> Result<(),
 #[test]
 fn edits_of_cells_and_traces_forget_all(rt: HostRuntime) -> Result<(), Fail> {
     let alloc = rt.alloc();
-    on_survey(alloc, |bench| edits_of_all(&rt, alloc, bench))
+    on_survey(
+        alloc,
+        &mut |bench: &mut Bench| edits_of_all(&rt, alloc, bench),
+    )
 }
 
 // A row of inline 10.
@@ -168,5 +174,8 @@ fn answer_again(rt: &impl Abort, alloc: Global, bench: &mut Bench) -> Result<(),
 #[test]
 fn a_kept_slice_has_the_same_rows(rt: HostRuntime) -> Result<(), Fail> {
     let alloc = rt.alloc();
-    on_survey(alloc, |bench| answer_again(&rt, alloc, bench))
+    on_survey(
+        alloc,
+        &mut |bench: &mut Bench| answer_again(&rt, alloc, bench),
+    )
 }

@@ -1,6 +1,7 @@
 // Edits, queries and saves over a small file that is made by hand. One function owns the bench of
-// each test and lends it out: the check of a function that owns a bench takes the longer the more
-// it does, and that of a borrower stays short.
+// each test and lends it out: the check of a function that owns a bench takes long, and that of a
+// borrower stays short. What it is lent to is a `dyn`: a type parameter would have it checked anew
+// for each test.
 use bench_core::{Answer, AskFault, Bench, Edit, Field, Info, Query, Refusal, Text};
 use device_io::{Sink, Source, StepReader, StepWriter};
 use edit_overlay::SaveFault;
@@ -43,14 +44,14 @@ pub(crate) fn put_bytes(file: &mut [u8], bytes: &[(usize, u8)]) {
 }
 
 // What the function answers of this file, loaded with room for so many bytes and traces.
-pub(crate) fn on_file<T, F: FnOnce(&mut Bench) -> Result<T, Fail>>(
+pub(crate) fn on_file(
     alloc: Global,
     file: &[u8],
     reading: Reading,
     room: (u64, u32),
-    ask: F,
-) -> Result<T, Fail>
-    requires { F.IsAlwaysCallable ask }
+    ask: &mut dyn FnMut(&mut Bench) -> Result<(), Fail>,
+) -> Result<(), Fail>
+    requires { IsAlwaysCallable ask.now }
 {
     let limits = Limits::new(room.0, room.1).ok_or("limits")?;
     let mut reader = Source::new(StepReader::new(file, 1000, u64::MAX));
@@ -59,13 +60,13 @@ pub(crate) fn on_file<T, F: FnOnce(&mut Bench) -> Result<T, Fail>>(
 }
 
 // What the function answers of the small file with these bytes put into it.
-fn on_small_with<F: FnOnce(&mut Bench) -> Result<(), Fail>>(
+fn on_small_with(
     alloc: Global,
     reading: Reading,
     bytes: &[(usize, u8)],
-    ask: F,
+    ask: &mut dyn FnMut(&mut Bench) -> Result<(), Fail>,
 ) -> Result<(), Fail>
-    requires { F.IsAlwaysCallable ask }
+    requires { IsAlwaysCallable ask.now }
 {
     let mut file = sample_file(alloc)?;
     put_bytes(file.as_mut_slice(), bytes);
@@ -73,8 +74,8 @@ fn on_small_with<F: FnOnce(&mut Bench) -> Result<(), Fail>>(
 }
 
 // What the function answers of the small file as it is.
-fn on_small<F: FnOnce(&mut Bench) -> Result<(), Fail>>(alloc: Global, ask: F) -> Result<(), Fail>
-    requires { F.IsAlwaysCallable ask }
+fn on_small(alloc: Global, ask: &mut dyn FnMut(&mut Bench) -> Result<(), Fail>) -> Result<(), Fail>
+    requires { IsAlwaysCallable ask.now }
 {
     on_small_with(alloc, Reading::AsWritten, &[], ask)
 }
@@ -149,19 +150,24 @@ fn saves_with(bench: &Bench, alloc: Global, bytes: &[(usize, u8)]) -> Result<boo
     saves(bench, alloc, file.as_slice())
 }
 
+fn set_and_get(rt: &impl Abort, alloc: Global, bench: &mut Bench) -> Result<(), Fail> {
+    assert_eq!(rt; bench.count(), 3);
+    assert_eq!(rt; bench.length(), 4332);
+    assert!(rt; meets(bench, alloc, Edit::Set(2, signed(0, 189, 4), 7), None));
+    for (p, expected) in &[(2, 7), (1, 10)] {
+        assert_eq!(rt; value(bench, alloc, *p, signed(0, 189, 4))?, *expected);
+    }
+    assert!(rt; saves_with(bench, alloc, &[(4035, 7)])?);
+    Ok(())
+}
+
 #[test]
 fn sets_and_gets_a_field(rt: HostRuntime) -> Result<(), Fail> {
     let alloc = rt.alloc();
-    on_small(alloc, |bench| {
-        assert_eq!(rt; bench.count(), 3);
-        assert_eq!(rt; bench.length(), 4332);
-        assert!(rt; meets(bench, alloc, Edit::Set(2, signed(0, 189, 4), 7), None));
-        for (p, expected) in &[(2, 7), (1, 10)] {
-            assert_eq!(rt; value(bench, alloc, *p, signed(0, 189, 4))?, *expected);
-        }
-        assert!(rt; saves_with(bench, alloc, &[(4035, 7)])?);
-        Ok(())
-    })
+    on_small(
+        alloc,
+        &mut |bench: &mut Bench| set_and_get(&rt, alloc, bench),
+    )
 }
 
 fn refuse_sets(rt: &impl Abort, alloc: Global, bench: &mut Bench) {
@@ -181,18 +187,23 @@ fn refuse_sets(rt: &impl Abort, alloc: Global, bench: &mut Bench) {
     }
 }
 
+fn refuse_sets_and_gets(rt: &impl Abort, alloc: Global, bench: &mut Bench) -> Result<(), Fail> {
+    refuse_sets(rt, alloc, bench);
+    for (p, expected) in &[(4, AskFault::NoTrace(4, 3)), (3, AskFault::NoPlace)] {
+        let get = Query::Get(*p, signed(0, 0, 4));
+        assert_eq!(rt; fault(bench, alloc, get), Some(*expected));
+    }
+    assert!(rt; saves_with(bench, alloc, &[])?);
+    Ok(())
+}
+
 #[test]
 fn names_the_first_refusal(rt: HostRuntime) -> Result<(), Fail> {
     let alloc = rt.alloc();
-    on_small(alloc, |bench| {
-        refuse_sets(&rt, alloc, bench);
-        for (p, expected) in &[(4, AskFault::NoTrace(4, 3)), (3, AskFault::NoPlace)] {
-            let get = Query::Get(*p, signed(0, 0, 4));
-            assert_eq!(rt; fault(bench, alloc, get), Some(*expected));
-        }
-        assert!(rt; saves_with(bench, alloc, &[])?);
-        Ok(())
-    })
+    on_small(
+        alloc,
+        &mut |bench: &mut Bench| refuse_sets_and_gets(&rt, alloc, bench),
+    )
 }
 
 fn info(bench: &mut Bench, alloc: Global) -> Result<Info, Fail> {
@@ -202,58 +213,86 @@ fn info(bench: &mut Bench, alloc: Global) -> Result<Info, Fail> {
     }
 }
 
+fn tell_counts(rt: &impl Abort, alloc: Global, bench: &mut Bench) -> Result<(), Fail> {
+    assert!(rt; matches!(bench.ask(alloc, &Query::Count), Ok(Answer::Count(3))));
+    let info = info(bench, alloc)?;
+    let told = (info.traces, info.bytes, info.head.traces_at);
+    assert_eq!(rt; told, (3, 4332, 3600));
+    Ok(())
+}
+
 #[test]
 fn tells_counts(rt: HostRuntime) -> Result<(), Fail> {
     let alloc = rt.alloc();
     let bytes = [(3842, 0xff), (3843, 0xfe)];
-    on_small_with(alloc, Reading::AsWritten, &bytes, |bench| {
-        assert!(rt; matches!(bench.ask(alloc, &Query::Count), Ok(Answer::Count(3))));
-        let info = info(bench, alloc)?;
-        let told = (info.traces, info.bytes, info.head.traces_at);
-        assert_eq!(rt; told, (3, 4332, 3600));
-        Ok(())
-    })
+    on_small_with(
+        alloc,
+        Reading::AsWritten,
+        &bytes,
+        &mut |bench: &mut Bench| tell_counts(&rt, alloc, bench),
+    )
+}
+
+fn tell_samples(rt: &impl Abort, alloc: Global, bench: &mut Bench) -> Result<(), Fail> {
+    assert_eq!(rt; sample(bench, alloc, 1, 1)?, -2);
+    assert_eq!(rt; sample(bench, alloc, 3, 0)?, 0);
+    let cases = [
+        (1, 2, AskFault::NoSample(2, 2)),
+        (1, 9, AskFault::NoSample(9, 2)),
+        (4, 9, AskFault::NoTrace(4, 3)),
+    ];
+    for (p, k, expected) in &cases {
+        assert_eq!(rt; fault(bench, alloc, Query::Sample(*p, *k)), Some(*expected));
+    }
+    Ok(())
 }
 
 #[test]
 fn tells_samples(rt: HostRuntime) -> Result<(), Fail> {
     let alloc = rt.alloc();
     let bytes = [(3842, 0xff), (3843, 0xfe)];
-    on_small_with(alloc, Reading::AsWritten, &bytes, |bench| {
-        assert_eq!(rt; sample(bench, alloc, 1, 1)?, -2);
-        assert_eq!(rt; sample(bench, alloc, 3, 0)?, 0);
-        let cases = [
-            (1, 2, AskFault::NoSample(2, 2)),
-            (1, 9, AskFault::NoSample(9, 2)),
-            (4, 9, AskFault::NoTrace(4, 3)),
-        ];
-        for (p, k, expected) in &cases {
-            assert_eq!(rt; fault(bench, alloc, Query::Sample(*p, *k)), Some(*expected));
-        }
-        Ok(())
-    })
+    on_small_with(
+        alloc,
+        Reading::AsWritten,
+        &bytes,
+        &mut |bench: &mut Bench| tell_samples(&rt, alloc, bench),
+    )
+}
+
+fn set_around_the_length(rt: &impl Abort, alloc: Global, bench: &mut Bench) -> Result<(), Fail> {
+    let longer = Edit::Set(1, signed(0, 115, 2), 4);
+    assert!(rt; meets(bench, alloc, longer, Some(Refusal::Frame)));
+    let beside = Edit::Set(1, signed(0, 113, 4), 2);
+    assert!(rt; meets(bench, alloc, beside, None));
+    Ok(())
 }
 
 #[test]
 fn no_set_moves_the_end_of_a_trace(rt: HostRuntime) -> Result<(), Fail> {
     let alloc = rt.alloc();
-    on_small_with(alloc, Reading::AsWritten, &[(3503, 0)], |bench| {
-        let longer = Edit::Set(1, signed(0, 115, 2), 4);
-        assert!(rt; meets(bench, alloc, longer, Some(Refusal::Frame)));
-        let beside = Edit::Set(1, signed(0, 113, 4), 2);
-        assert!(rt; meets(bench, alloc, beside, None));
-        Ok(())
-    })
+    on_small_with(
+        alloc,
+        Reading::AsWritten,
+        &[(3503, 0)],
+        &mut |bench: &mut Bench| set_around_the_length(&rt, alloc, bench),
+    )
+}
+
+fn set_the_length(rt: &impl Abort, alloc: Global, bench: &mut Bench) -> Result<(), Fail> {
+    let longer = Edit::Set(1, signed(0, 115, 2), 4);
+    assert!(rt; meets(bench, alloc, longer, None));
+    Ok(())
 }
 
 #[test]
 fn a_set_under_a_fixed_length_moves_no_end(rt: HostRuntime) -> Result<(), Fail> {
     let alloc = rt.alloc();
-    on_small_with(alloc, Reading::Fixed, &[(3503, 0)], |bench| {
-        let longer = Edit::Set(1, signed(0, 115, 2), 4);
-        assert!(rt; meets(bench, alloc, longer, None));
-        Ok(())
-    })
+    on_small_with(
+        alloc,
+        Reading::Fixed,
+        &[(3503, 0)],
+        &mut |bench: &mut Bench| set_the_length(&rt, alloc, bench),
+    )
 }
 
 fn save_to_a_failing_writer(rt: &impl Abort, bench: &Bench, file: &[u8]) {
@@ -265,15 +304,20 @@ fn save_to_a_failing_writer(rt: &impl Abort, bench: &Bench, file: &[u8]) {
     assert!(rt; begins_alike(&room, file, 4000));
 }
 
+fn save_twice(rt: &impl Abort, alloc: Global, bench: &mut Bench) -> Result<(), Fail> {
+    let file = sample_file(alloc)?;
+    save_to_a_failing_writer(rt, bench, file.as_slice());
+    assert!(rt; saves(bench, alloc, file.as_slice())?);
+    Ok(())
+}
+
 #[test]
 fn names_the_bytes_that_a_failing_writer_took(rt: HostRuntime) -> Result<(), Fail> {
     let alloc = rt.alloc();
-    on_small(alloc, |bench| {
-        let file = sample_file(alloc)?;
-        save_to_a_failing_writer(&rt, bench, file.as_slice());
-        assert!(rt; saves(bench, alloc, file.as_slice())?);
-        Ok(())
-    })
+    on_small(
+        alloc,
+        &mut |bench: &mut Bench| save_twice(&rt, alloc, bench),
+    )
 }
 
 fn text(alloc: Global, text: &str) -> Result<Text, Fail> {
@@ -333,16 +377,21 @@ fn ask_for_nothing(rt: &impl Abort, alloc: Global, bench: &mut Bench) -> Result<
     Ok(())
 }
 
+fn set_by_name(rt: &impl Abort, alloc: Global, bench: &mut Bench) -> Result<(), Fail> {
+    assert_eq!(rt; set_named(bench, alloc, 2, "inline", 7)?, None);
+    assert_eq!(rt; value(bench, alloc, 2, signed(0, 189, 4))?, 7);
+    assert_eq!(rt; value_named(bench, alloc, 2, "inline_number")?, 7);
+    refuse_names(rt, alloc, bench)?;
+    ask_for_nothing(rt, alloc, bench)
+}
+
 #[test]
 fn sets_fields_by_their_names(rt: HostRuntime) -> Result<(), Fail> {
     let alloc = rt.alloc();
-    on_small(alloc, |bench| {
-        assert_eq!(rt; set_named(bench, alloc, 2, "inline", 7)?, None);
-        assert_eq!(rt; value(bench, alloc, 2, signed(0, 189, 4))?, 7);
-        assert_eq!(rt; value_named(bench, alloc, 2, "inline_number")?, 7);
-        refuse_names(&rt, alloc, bench)?;
-        ask_for_nothing(&rt, alloc, bench)
-    })
+    on_small(
+        alloc,
+        &mut |bench: &mut Bench| set_by_name(&rt, alloc, bench),
+    )
 }
 
 // The refusal of a number in the field of this name of the binary header.
@@ -391,14 +440,16 @@ fn set_bin_places(rt: &impl Abort, alloc: Global, bench: &mut Bench) {
     }
 }
 
+fn set_bin(rt: &impl Abort, alloc: Global, bench: &mut Bench) -> Result<(), Fail> {
+    set_bin_names(rt, alloc, bench)?;
+    set_bin_places(rt, alloc, bench);
+    Ok(())
+}
+
 #[test]
 fn sets_the_binary_header(rt: HostRuntime) -> Result<(), Fail> {
     let alloc = rt.alloc();
-    on_small(alloc, |bench| {
-        set_bin_names(&rt, alloc, bench)?;
-        set_bin_places(&rt, alloc, bench);
-        Ok(())
-    })
+    on_small(alloc, &mut |bench: &mut Bench| set_bin(&rt, alloc, bench))
 }
 
 // The refusal of this text as line q.
@@ -452,15 +503,20 @@ fn has_no_stanzas(bench: &mut Bench, alloc: Global) -> Result<bool, Fail> {
     }
 }
 
+fn write_and_show(rt: &impl Abort, alloc: Global, bench: &mut Bench) -> Result<(), Fail> {
+    set_lines(rt, alloc, bench)?;
+    refuse_lines(rt, alloc, bench)?;
+    assert!(rt; has_no_stanzas(bench, alloc)?);
+    Ok(())
+}
+
 #[test]
 fn writes_and_shows_lines(rt: HostRuntime) -> Result<(), Fail> {
     let alloc = rt.alloc();
-    on_small(alloc, |bench| {
-        set_lines(&rt, alloc, bench)?;
-        refuse_lines(&rt, alloc, bench)?;
-        assert!(rt; has_no_stanzas(bench, alloc)?);
-        Ok(())
-    })
+    on_small(
+        alloc,
+        &mut |bench: &mut Bench| write_and_show(&rt, alloc, bench),
+    )
 }
 
 // The refusal of a name for the place of the inline number.
@@ -500,14 +556,19 @@ fn bind_mine(rt: &impl Abort, alloc: Global, bench: &mut Bench) -> Result<(), Fa
     seven_with_mine_last(rt, fields.as_slice())
 }
 
+fn bind_and_unbind(rt: &impl Abort, alloc: Global, bench: &mut Bench) -> Result<(), Fail> {
+    bind_mine(rt, alloc, bench)?;
+    assert_eq!(rt; unbind(bench, alloc, "mine")?, None);
+    let met = unbind(bench, alloc, "mine")?;
+    assert_eq!(rt; met, Some(Refusal::Map(MapFault::Unknown)));
+    Ok(())
+}
+
 #[test]
 fn binds_names(rt: HostRuntime) -> Result<(), Fail> {
     let alloc = rt.alloc();
-    on_small(alloc, |bench| {
-        bind_mine(&rt, alloc, bench)?;
-        assert_eq!(rt; unbind(bench, alloc, "mine")?, None);
-        let met = unbind(bench, alloc, "mine")?;
-        assert_eq!(rt; met, Some(Refusal::Map(MapFault::Unknown)));
-        Ok(())
-    })
+    on_small(
+        alloc,
+        &mut |bench: &mut Bench| bind_and_unbind(&rt, alloc, bench),
+    )
 }

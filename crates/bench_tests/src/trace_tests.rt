@@ -14,8 +14,11 @@ fn numbered_file(alloc: Global) -> Result<Vec<u8>, Fail> {
 }
 
 // What the function answers of the numbered file, loaded with room for five traces.
-fn on_numbered<F: FnOnce(&mut Bench) -> Result<(), Fail>>(alloc: Global, ask: F) -> Result<(), Fail>
-    requires { F.IsAlwaysCallable ask }
+fn on_numbered(
+    alloc: Global,
+    ask: &mut dyn FnMut(&mut Bench) -> Result<(), Fail>,
+) -> Result<(), Fail>
+    requires { IsAlwaysCallable ask.now }
 {
     let file = numbered_file(alloc)?;
     on_file(
@@ -64,92 +67,130 @@ fn put_three_values(rt: &impl Abort, alloc: Global, bench: &mut Bench) -> Result
     Ok(())
 }
 
+fn put_and_show(rt: &impl Abort, alloc: Global, bench: &mut Bench) -> Result<(), Fail> {
+    put_three_values(rt, alloc, bench)?;
+    for (p, k, expected) in &[(2, 0, 0), (2, 1, -7), (3, 1, -32768)] {
+        assert!(rt; shows(bench, alloc, *p, *k, *expected));
+    }
+    Ok(())
+}
+
 #[test]
 fn puts_values_over_samples(rt: HostRuntime) -> Result<(), Fail> {
     let alloc = rt.alloc();
-    on_numbered(alloc, |bench| {
-        put_three_values(&rt, alloc, bench)?;
-        for (p, k, expected) in &[(2, 0, 0), (2, 1, -7), (3, 1, -32768)] {
-            assert!(rt; shows(bench, alloc, *p, *k, *expected));
-        }
-        Ok(())
-    })
+    on_numbered(
+        alloc,
+        &mut |bench: &mut Bench| put_and_show(&rt, alloc, bench),
+    )
+}
+
+fn put_and_save(rt: &impl Abort, alloc: Global, bench: &mut Bench) -> Result<(), Fail> {
+    put_three_values(rt, alloc, bench)?;
+    let bytes = [
+        (4086, 0xff),
+        (4087, 0xf9),
+        (4328, 0x7f),
+        (4329, 0xff),
+        (4330, 0x80),
+    ];
+    assert!(rt; saves_with(bench, alloc, &bytes)?);
+    Ok(())
 }
 
 #[test]
 fn saves_values_over_samples(rt: HostRuntime) -> Result<(), Fail> {
     let alloc = rt.alloc();
-    on_numbered(alloc, |bench| {
-        put_three_values(&rt, alloc, bench)?;
-        let bytes = [
-            (4086, 0xff),
-            (4087, 0xf9),
-            (4328, 0x7f),
-            (4329, 0xff),
-            (4330, 0x80),
-        ];
-        assert!(rt; saves_with(bench, alloc, &bytes)?);
-        Ok(())
-    })
+    on_numbered(
+        alloc,
+        &mut |bench: &mut Bench| put_and_save(&rt, alloc, bench),
+    )
+}
+
+fn put_no_values(rt: &impl Abort, alloc: Global, bench: &mut Bench) -> Result<(), Fail> {
+    assert_eq!(rt; patch(bench, alloc, 1, 0, &[])?, None);
+    assert_eq!(rt; patch(bench, alloc, 1, 2, &[])?, None);
+    assert!(rt; saves_with(bench, alloc, &[])?);
+    Ok(())
 }
 
 #[test]
 fn no_values_change_nothing(rt: HostRuntime) -> Result<(), Fail> {
     let alloc = rt.alloc();
-    on_numbered(alloc, |bench| {
-        assert_eq!(rt; patch(bench, alloc, 1, 0, &[])?, None);
-        assert_eq!(rt; patch(bench, alloc, 1, 2, &[])?, None);
-        assert!(rt; saves_with(bench, alloc, &[])?);
-        Ok(())
-    })
+    on_numbered(
+        alloc,
+        &mut |bench: &mut Bench| put_no_values(&rt, alloc, bench),
+    )
+}
+
+fn put_values_that_do_not_fit(
+    rt: &impl Abort,
+    alloc: Global,
+    bench: &mut Bench,
+) -> Result<(), Fail> {
+    let wide = [0, 32768];
+    let none = Some(Refusal::NoTrace(4, 3));
+    assert_eq!(rt; patch(bench, alloc, 4, 9, &wide)?, none);
+    let range = Some(Refusal::DoesNotFit);
+    assert_eq!(rt; patch(bench, alloc, 1, 9, &wide)?, range);
+    assert_eq!(rt; patch(bench, alloc, 1, 0, &[-32769])?, range);
+    Ok(())
 }
 
 #[test]
 fn tells_a_value_that_does_not_fit_first(rt: HostRuntime) -> Result<(), Fail> {
     let alloc = rt.alloc();
-    on_numbered(alloc, |bench| {
-        let wide = [0, 32768];
-        let none = Some(Refusal::NoTrace(4, 3));
-        assert_eq!(rt; patch(bench, alloc, 4, 9, &wide)?, none);
-        let range = Some(Refusal::DoesNotFit);
-        assert_eq!(rt; patch(bench, alloc, 1, 9, &wide)?, range);
-        assert_eq!(rt; patch(bench, alloc, 1, 0, &[-32769])?, range);
-        Ok(())
-    })
+    on_numbered(
+        alloc,
+        &mut |bench: &mut Bench| put_values_that_do_not_fit(&rt, alloc, bench),
+    )
+}
+
+fn put_behind_the_last(rt: &impl Abort, alloc: Global, bench: &mut Bench) -> Result<(), Fail> {
+    let behind = Some(Refusal::NoSample(2, 2));
+    assert_eq!(rt; patch(bench, alloc, 1, 1, &[0, 0])?, behind);
+    let behind = Some(Refusal::NoSample(3, 2));
+    assert_eq!(rt; patch(bench, alloc, 1, 3, &[])?, behind);
+    let far = Some(Refusal::NoSample(u32::MAX, 2));
+    assert_eq!(rt; patch(bench, alloc, 1, u32::MAX, &[0])?, far);
+    assert!(rt; saves_with(bench, alloc, &[])?);
+    Ok(())
 }
 
 #[test]
 fn tells_a_sample_behind_the_last(rt: HostRuntime) -> Result<(), Fail> {
     let alloc = rt.alloc();
-    on_numbered(alloc, |bench| {
-        let behind = Some(Refusal::NoSample(2, 2));
-        assert_eq!(rt; patch(bench, alloc, 1, 1, &[0, 0])?, behind);
-        let behind = Some(Refusal::NoSample(3, 2));
-        assert_eq!(rt; patch(bench, alloc, 1, 3, &[])?, behind);
-        let far = Some(Refusal::NoSample(u32::MAX, 2));
-        assert_eq!(rt; patch(bench, alloc, 1, u32::MAX, &[0])?, far);
-        assert!(rt; saves_with(bench, alloc, &[])?);
-        Ok(())
-    })
+    on_numbered(
+        alloc,
+        &mut |bench: &mut Bench| put_behind_the_last(&rt, alloc, bench),
+    )
+}
+
+fn put_blanks_in(rt: &impl Abort, alloc: Global, bench: &mut Bench) -> Result<(), Fail> {
+    assert!(rt; meets(bench, alloc, Edit::Blank(4), None));
+    assert_eq!(rt; bench.length(), 4332 + 244);
+    assert!(rt; lie_on(bench, alloc, &[1, 2, 3, 0])?);
+    assert!(rt; meets(bench, alloc, Edit::Blank(2), None));
+    assert!(rt; lie_on(bench, alloc, &[1, 0, 2, 3, 0])?);
+    assert!(rt; shows(bench, alloc, 2, 1, 0));
+    Ok(())
 }
 
 #[test]
 fn puts_a_blank_trace_in(rt: HostRuntime) -> Result<(), Fail> {
     let alloc = rt.alloc();
-    on_numbered(alloc, |bench| {
-        assert!(rt; meets(bench, alloc, Edit::Blank(4), None));
-        assert_eq!(rt; bench.length(), 4332 + 244);
-        assert!(rt; lie_on(bench, alloc, &[1, 2, 3, 0])?);
-        assert!(rt; meets(bench, alloc, Edit::Blank(2), None));
-        assert!(rt; lie_on(bench, alloc, &[1, 0, 2, 3, 0])?);
-        assert!(rt; shows(bench, alloc, 2, 1, 0));
-        Ok(())
-    })
+    on_numbered(
+        alloc,
+        &mut |bench: &mut Bench| put_blanks_in(&rt, alloc, bench),
+    )
 }
 
-// Revision 2.0, at most two header extensions a trace, two 16-bit samples, and no trace.
-fn on_extended<F: FnOnce(&mut Bench) -> Result<(), Fail>>(alloc: Global, ask: F) -> Result<(), Fail>
-    requires { F.IsAlwaysCallable ask }
+// What the function answers of a file of revision 2.0 with at most two header extensions a trace,
+// two 16-bit samples, and no trace.
+fn on_extended(
+    alloc: Global,
+    ask: &mut dyn FnMut(&mut Bench) -> Result<(), Fail>,
+) -> Result<(), Fail>
+    requires { IsAlwaysCallable ask.now }
 {
     let mut file = vec![in alloc; 0u8; 3600]?;
     let bytes = [(3221, 2), (3225, 3), (3500, 2), (3509, 2)];
@@ -163,41 +204,55 @@ fn on_extended<F: FnOnce(&mut Bench) -> Result<(), Fail>>(alloc: Global, ask: F)
     )
 }
 
+fn put_a_long_blank_in(rt: &impl Abort, alloc: Global, bench: &mut Bench) -> Result<(), Fail> {
+    assert_eq!(rt; bench.count(), 0);
+    assert!(rt; meets(bench, alloc, Edit::Blank(1), None));
+    assert_eq!(rt; bench.length(), 3600 + 240 * 3 + 4);
+    assert_eq!(rt; value(bench, alloc, 1, signed(2, 237, 4))?, 0);
+    assert!(rt; shows(bench, alloc, 1, 1, 0));
+    Ok(())
+}
+
 #[test]
 fn a_blank_trace_has_its_extensions(rt: HostRuntime) -> Result<(), Fail> {
     let alloc = rt.alloc();
-    on_extended(alloc, |bench| {
-        assert_eq!(rt; bench.count(), 0);
-        assert!(rt; meets(bench, alloc, Edit::Blank(1), None));
-        assert_eq!(rt; bench.length(), 3600 + 240 * 3 + 4);
-        assert_eq!(rt; value(bench, alloc, 1, signed(2, 237, 4))?, 0);
-        assert!(rt; shows(bench, alloc, 1, 1, 0));
-        Ok(())
-    })
+    on_extended(
+        alloc,
+        &mut |bench: &mut Bench| put_a_long_blank_in(&rt, alloc, bench),
+    )
+}
+
+fn refuse_places(rt: &impl Abort, alloc: Global, bench: &mut Bench) -> Result<(), Fail> {
+    let none = Some(Refusal::NoTrace(0, 3));
+    assert!(rt; meets(bench, alloc, Edit::Blank(0), none));
+    assert!(rt; meets(bench, alloc, Edit::Copy(1, 0), none));
+    let none = Some(Refusal::NoTrace(5, 3));
+    assert!(rt; meets(bench, alloc, Edit::Blank(5), none));
+    assert!(rt; meets(bench, alloc, Edit::Copy(3, 5), none));
+    let none = Some(Refusal::NoTrace(4, 3));
+    assert!(rt; meets(bench, alloc, Edit::Copy(4, 5), none));
+    Ok(())
 }
 
 #[test]
 fn has_no_place_two_behind_the_last(rt: HostRuntime) -> Result<(), Fail> {
     let alloc = rt.alloc();
-    on_numbered(alloc, |bench| {
-        let none = Some(Refusal::NoTrace(0, 3));
-        assert!(rt; meets(bench, alloc, Edit::Blank(0), none));
-        assert!(rt; meets(bench, alloc, Edit::Copy(1, 0), none));
-        let none = Some(Refusal::NoTrace(5, 3));
-        assert!(rt; meets(bench, alloc, Edit::Blank(5), none));
-        assert!(rt; meets(bench, alloc, Edit::Copy(3, 5), none));
-        let none = Some(Refusal::NoTrace(4, 3));
-        assert!(rt; meets(bench, alloc, Edit::Copy(4, 5), none));
-        Ok(())
-    })
+    on_numbered(
+        alloc,
+        &mut |bench: &mut Bench| refuse_places(&rt, alloc, bench),
+    )
 }
 
 // The refusal of an edit of the small file, loaded with room for so many bytes and traces.
 fn refused_within(alloc: Global, room: (u64, u32), edit: Edit) -> Result<Option<Refusal>, Fail> {
     let file = sample_file(alloc)?;
-    on_file(alloc, file.as_slice(), Reading::AsWritten, room, |bench| {
-        Ok(bench.apply(alloc, &edit).err())
-    })
+    let mut met = None;
+    let mut ask = |bench: &mut Bench| {
+        met = bench.apply(alloc, &edit).err();
+        Ok(())
+    };
+    on_file(alloc, file.as_slice(), Reading::AsWritten, room, &mut ask)?;
+    Ok(met)
 }
 
 #[test]
@@ -218,33 +273,43 @@ fn keeps_within_the_limits(rt: HostRuntime) -> Result<(), Fail> {
     Ok(())
 }
 
+fn copy_edited(rt: &impl Abort, alloc: Global, bench: &mut Bench) -> Result<(), Fail> {
+    assert!(rt; meets(bench, alloc, Edit::Set(2, signed(0, 189, 4), 7), None));
+    assert_eq!(rt; patch(bench, alloc, 2, 0, &[5, 6])?, None);
+    assert!(rt; meets(bench, alloc, Edit::Copy(2, 1), None));
+    assert!(rt; lie_on(bench, alloc, &[7, 1, 7, 3])?);
+    assert!(rt; shows(bench, alloc, 1, 1, 6));
+    assert!(rt; meets(bench, alloc, Edit::Copy(4, 5), None));
+    assert!(rt; lie_on(bench, alloc, &[7, 1, 7, 3, 3])?);
+    Ok(())
+}
+
 #[test]
 fn copies_a_trace_with_its_edits(rt: HostRuntime) -> Result<(), Fail> {
     let alloc = rt.alloc();
-    on_numbered(alloc, |bench| {
-        assert!(rt; meets(bench, alloc, Edit::Set(2, signed(0, 189, 4), 7), None));
-        assert_eq!(rt; patch(bench, alloc, 2, 0, &[5, 6])?, None);
-        assert!(rt; meets(bench, alloc, Edit::Copy(2, 1), None));
-        assert!(rt; lie_on(bench, alloc, &[7, 1, 7, 3])?);
-        assert!(rt; shows(bench, alloc, 1, 1, 6));
-        assert!(rt; meets(bench, alloc, Edit::Copy(4, 5), None));
-        assert!(rt; lie_on(bench, alloc, &[7, 1, 7, 3, 3])?);
-        Ok(())
-    })
+    on_numbered(
+        alloc,
+        &mut |bench: &mut Bench| copy_edited(&rt, alloc, bench),
+    )
+}
+
+fn edit_copies(rt: &impl Abort, alloc: Global, bench: &mut Bench) -> Result<(), Fail> {
+    assert!(rt; meets(bench, alloc, Edit::Copy(2, 1), None));
+    assert!(rt; meets(bench, alloc, Edit::Set(1, signed(0, 189, 4), 8), None));
+    assert_eq!(rt; patch(bench, alloc, 3, 1, &[9])?, None);
+    assert!(rt; lie_on(bench, alloc, &[8, 1, 2, 3])?);
+    assert!(rt; shows(bench, alloc, 1, 1, 0));
+    assert!(rt; shows(bench, alloc, 3, 1, 9));
+    Ok(())
 }
 
 #[test]
 fn later_edits_of_a_copy_leave_the_other_alone(rt: HostRuntime) -> Result<(), Fail> {
     let alloc = rt.alloc();
-    on_numbered(alloc, |bench| {
-        assert!(rt; meets(bench, alloc, Edit::Copy(2, 1), None));
-        assert!(rt; meets(bench, alloc, Edit::Set(1, signed(0, 189, 4), 8), None));
-        assert_eq!(rt; patch(bench, alloc, 3, 1, &[9])?, None);
-        assert!(rt; lie_on(bench, alloc, &[8, 1, 2, 3])?);
-        assert!(rt; shows(bench, alloc, 1, 1, 0));
-        assert!(rt; shows(bench, alloc, 3, 1, 9));
-        Ok(())
-    })
+    on_numbered(
+        alloc,
+        &mut |bench: &mut Bench| edit_copies(&rt, alloc, bench),
+    )
 }
 
 fn take_one_out(rt: &impl Abort, alloc: Global, bench: &mut Bench) -> Result<(), Fail> {
@@ -266,55 +331,75 @@ fn take_the_rest_out(rt: &impl Abort, alloc: Global, bench: &mut Bench) -> Resul
     Ok(())
 }
 
+fn take_all_out(rt: &impl Abort, alloc: Global, bench: &mut Bench) -> Result<(), Fail> {
+    take_one_out(rt, alloc, bench)?;
+    take_the_rest_out(rt, alloc, bench)
+}
+
 #[test]
 fn takes_traces_out(rt: HostRuntime) -> Result<(), Fail> {
     let alloc = rt.alloc();
-    on_numbered(alloc, |bench| {
-        take_one_out(&rt, alloc, bench)?;
-        take_the_rest_out(&rt, alloc, bench)
-    })
+    on_numbered(
+        alloc,
+        &mut |bench: &mut Bench| take_all_out(&rt, alloc, bench),
+    )
+}
+
+fn move_around(rt: &impl Abort, alloc: Global, bench: &mut Bench) -> Result<(), Fail> {
+    let cases = [(1, 3, [2, 3, 1]), (3, 2, [2, 1, 3]), (2, 2, [2, 1, 3])];
+    for (a, b, inlines) in &cases {
+        assert!(rt; meets(bench, alloc, Edit::Move(*a, *b), None));
+        assert!(rt; lie_on(bench, alloc, inlines.as_slice())?);
+    }
+    assert_eq!(rt; bench.length(), 4332);
+    Ok(())
 }
 
 #[test]
 fn moves_traces(rt: HostRuntime) -> Result<(), Fail> {
     let alloc = rt.alloc();
-    on_numbered(alloc, |bench| {
-        let cases = [(1, 3, [2, 3, 1]), (3, 2, [2, 1, 3]), (2, 2, [2, 1, 3])];
-        for (a, b, inlines) in &cases {
-            assert!(rt; meets(bench, alloc, Edit::Move(*a, *b), None));
-            assert!(rt; lie_on(bench, alloc, inlines.as_slice())?);
-        }
-        assert_eq!(rt; bench.length(), 4332);
-        Ok(())
-    })
+    on_numbered(
+        alloc,
+        &mut |bench: &mut Bench| move_around(&rt, alloc, bench),
+    )
+}
+
+fn refuse_moves(rt: &impl Abort, alloc: Global, bench: &mut Bench) -> Result<(), Fail> {
+    let none = Some(Refusal::NoTrace(0, 3));
+    assert!(rt; meets(bench, alloc, Edit::Move(0, 5), none));
+    assert!(rt; meets(bench, alloc, Edit::Move(1, 0), none));
+    let none = Some(Refusal::NoTrace(4, 3));
+    assert!(rt; meets(bench, alloc, Edit::Move(4, 5), none));
+    assert!(rt; meets(bench, alloc, Edit::Move(1, 4), none));
+    Ok(())
 }
 
 #[test]
 fn moves_no_trace_that_is_not_there(rt: HostRuntime) -> Result<(), Fail> {
     let alloc = rt.alloc();
-    on_numbered(alloc, |bench| {
-        let none = Some(Refusal::NoTrace(0, 3));
-        assert!(rt; meets(bench, alloc, Edit::Move(0, 5), none));
-        assert!(rt; meets(bench, alloc, Edit::Move(1, 0), none));
-        let none = Some(Refusal::NoTrace(4, 3));
-        assert!(rt; meets(bench, alloc, Edit::Move(4, 5), none));
-        assert!(rt; meets(bench, alloc, Edit::Move(1, 4), none));
-        Ok(())
-    })
+    on_numbered(
+        alloc,
+        &mut |bench: &mut Bench| refuse_moves(&rt, alloc, bench),
+    )
+}
+
+fn count_looks(rt: &impl Abort, alloc: Global, bench: &mut Bench) -> Result<(), Fail> {
+    let looks = bench.looks();
+    assert!(rt; looks <= 3);
+    let _count = bench.ask(alloc, &Query::Count)?;
+    assert_eq!(rt; bench.looks(), looks);
+    assert!(rt; shows(bench, alloc, 2, 1, 0));
+    let looks = bench.looks();
+    assert!(rt; meets(bench, alloc, Edit::Delete(1), None));
+    assert_eq!(rt; bench.looks(), looks);
+    Ok(())
 }
 
 #[test]
 fn counts_its_looks_at_traces(rt: HostRuntime) -> Result<(), Fail> {
     let alloc = rt.alloc();
-    on_numbered(alloc, |bench| {
-        let looks = bench.looks();
-        assert!(rt; looks <= 3);
-        let _count = bench.ask(alloc, &Query::Count)?;
-        assert_eq!(rt; bench.looks(), looks);
-        assert!(rt; shows(bench, alloc, 2, 1, 0));
-        let looks = bench.looks();
-        assert!(rt; meets(bench, alloc, Edit::Delete(1), None));
-        assert_eq!(rt; bench.looks(), looks);
-        Ok(())
-    })
+    on_numbered(
+        alloc,
+        &mut |bench: &mut Bench| count_looks(&rt, alloc, bench),
+    )
 }

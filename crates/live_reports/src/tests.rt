@@ -1,11 +1,13 @@
 // Two traces of a small survey, and a third one that is exchanged for one of them or comes beside
-// them; what is told then is worked by hand.
-ghost use Rattle.std.specs.Prelude.{◌≡◌, ◌∷◌, [], IfOk};
+// them; what is told then is worked by hand. A test makes its reports and lends them to a function
+// that looks at them: the check of a function that owns reports takes the longer the more it does.
+ghost use Rattle.std.specs.Prelude.{◌≡◌, ◌∷◌, [], length, IfOk};
 
 use crate::LiveReports;
 use fault_live::{Fault, HeadFacts};
 use range_stats::Quantity;
 use std::alloc::Global;
+use std::process::Abort;
 use std::test::Fail;
 use trace_record::{Ratio, Record, Records};
 
@@ -194,16 +196,32 @@ fn ranges_over(reports: &LiveReports, least: Ratio, greatest: Ratio) -> bool {
     }
 }
 
+fn tells_of_two(rt: &impl Abort, alloc: Global, reports: &LiveReports) -> Result<(), Fail> {
+    assert_eq!(rt; repeats_of(alloc, reports)?, 0);
+    assert!(rt; tells(reports, 1, -2, 4));
+    assert!(rt; ranges_over(reports, Ratio::whole(1000), Ratio::whole(2000)));
+    assert!(rt; stands_at(reports, 1, 2));
+    Ok(())
+}
+
 #[test]
 fn two_traces(rt: HostRuntime) -> Result<(), Fail> {
     let first = trace_at(1, 21, 100000);
     let second = trace_at(2, 22, 200000);
     let reports = pair(rt.alloc(), &first, &second)?;
-    let repeats = repeats_of(rt.alloc(), &reports)?;
-    let is_told = tells(&reports, 1, -2, 4)
-        && ranges_over(&reports, Ratio::whole(1000), Ratio::whole(2000))
-        && stands_at(&reports, 1, 2);
-    assert!(rt; is_told && repeats == 0);
+    tells_of_two(&rt, rt.alloc(), &reports)
+}
+
+fn tells_of_a_repeat(
+    rt: &impl Abort,
+    alloc: Global,
+    reports: &LiveReports,
+    greatest: Ratio,
+) -> Result<(), Fail> {
+    assert_eq!(rt; repeats_of(alloc, reports)?, 1);
+    assert!(rt; tells(reports, 2, -4, 4));
+    assert!(rt; ranges_over(reports, Ratio::scaled(5, -2), greatest));
+    assert!(rt; stands_at(reports, 0, 1) && stands_at(reports, 1, 2));
     Ok(())
 }
 
@@ -212,12 +230,7 @@ fn another_trace_stands_in(rt: HostRuntime) -> Result<(), Fail> {
     let first = trace_at(1, 21, 100000);
     let second = trace_at(2, 22, 200000);
     let reports = exchanged(rt.alloc(), &first, &second, &deep_trace())?;
-    let repeats = repeats_of(rt.alloc(), &reports)?;
-    let is_told = tells(&reports, 2, -4, 4)
-        && ranges_over(&reports, Ratio::scaled(5, -2), Ratio::whole(1000))
-        && stands_at(&reports, 1, 2);
-    assert!(rt; is_told && repeats == 1);
-    Ok(())
+    tells_of_a_repeat(&rt, rt.alloc(), &reports, Ratio::whole(1000))
 }
 
 #[test]
@@ -226,12 +239,20 @@ fn other_traces_stand_in(rt: HostRuntime) -> Result<(), Fail> {
     let second = trace_at(2, 22, 200000);
     let moved = trace_at(1, 21, 300000);
     let reports = exchanged_both(rt.alloc(), &first, &second, &moved, &deep_trace())?;
-    let repeats = repeats_of(rt.alloc(), &reports)?;
-    let is_told = tells(&reports, 2, -4, 4)
-        && ranges_over(&reports, Ratio::scaled(5, -2), Ratio::whole(3000))
-        && stands_at(&reports, 0, 1)
-        && stands_at(&reports, 1, 2);
-    assert!(rt; is_told && repeats == 1);
+    tells_of_a_repeat(&rt, rt.alloc(), &reports, Ratio::whole(3000))
+}
+
+fn tells_of_another_second(
+    rt: &impl Abort,
+    alloc: Global,
+    reports: &LiveReports,
+) -> Result<(), Fail> {
+    assert_eq!(rt; repeats_of(alloc, reports)?, 0);
+    assert!(rt; tells(reports, 1, -2, 4));
+    assert_eq!(rt; reports.grid().fold(10, 22), 0);
+    assert_eq!(rt; reports.grid().fold(10, 23), 1);
+    assert!(rt; ranges_over(reports, Ratio::whole(500), Ratio::whole(1000)));
+    assert!(rt; stands_at(reports, 0, 1) && stands_at(reports, 1, 2));
     Ok(())
 }
 
@@ -241,15 +262,17 @@ fn other_traces_stand_in_from_a_place_on(rt: HostRuntime) -> Result<(), Fail> {
     let second = trace_at(2, 22, 200000);
     let third = trace_at(2, 23, 50000);
     let reports = exchanged_behind(rt.alloc(), &first, &second, &third)?;
-    let repeats = repeats_of(rt.alloc(), &reports)?;
-    let is_told = tells(&reports, 1, -2, 4)
-        && reports.grid().fold(10, 22) == 0
-        && reports.grid().fold(10, 23) == 1
-        && ranges_over(&reports, Ratio::whole(500), Ratio::whole(1000))
-        && stands_at(&reports, 0, 1)
-        && stands_at(&reports, 1, 2);
-    assert!(rt; is_told && repeats == 0);
-    Ok(())
+    tells_of_another_second(&rt, rt.alloc(), &reports)
+}
+
+fn tells_the_cells_of_two(rt: &impl Abort, reports: &LiveReports, moved: Record, second: Record)
+    requires { length reports.now ≡ 2 }
+{
+    assert!(rt; reports.same_cells(0, &[moved, second]));
+    assert!(rt; reports.same_cells(0, &[deep_trace()]));
+    assert!(rt; reports.same_cells(2, &[]));
+    assert!(rt; !reports.same_cells(0, &[moved, deep_trace()]));
+    assert!(rt; !reports.same_cells(1, &[moved]));
 }
 
 #[test]
@@ -258,11 +281,14 @@ fn tells_the_same_cells(rt: HostRuntime) -> Result<(), Fail> {
     let second = trace_at(2, 22, 200000);
     let moved = trace_at(3, 21, 300000);
     let reports = pair(rt.alloc(), &first, &second)?;
-    assert!(rt; reports.same_cells(0, &[moved, second]));
-    assert!(rt; reports.same_cells(0, &[deep_trace()]));
-    assert!(rt; reports.same_cells(2, &[]));
-    assert!(rt; !reports.same_cells(0, &[moved, deep_trace()]));
-    assert!(rt; !reports.same_cells(1, &[moved]));
+    tells_the_cells_of_two(&rt, &reports, moved, second);
+    Ok(())
+}
+
+fn tells_of_three(rt: &impl Abort, alloc: Global, reports: &LiveReports) -> Result<(), Fail> {
+    assert_eq!(rt; repeats_of(alloc, reports)?, 1);
+    assert!(rt; tells(reports, 2, -5, 6));
+    assert!(rt; stands_at(reports, 2, 3));
     Ok(())
 }
 
@@ -271,9 +297,13 @@ fn a_trace_comes_between(rt: HostRuntime) -> Result<(), Fail> {
     let first = trace_at(1, 21, 100000);
     let second = trace_at(3, 22, 200000);
     let reports = inserted(rt.alloc(), &first, &second, &deep_trace())?;
-    let repeats = repeats_of(rt.alloc(), &reports)?;
-    let is_told = tells(&reports, 2, -5, 6) && stands_at(&reports, 2, 3);
-    assert!(rt; is_told && repeats == 1);
+    tells_of_three(&rt, rt.alloc(), &reports)
+}
+
+fn tells_of_the_second(rt: &impl Abort, alloc: Global, reports: &LiveReports) -> Result<(), Fail> {
+    assert_eq!(rt; repeats_of(alloc, reports)?, 0);
+    assert!(rt; tells(reports, 0, -1, 2));
+    assert!(rt; stands_at(reports, 0, 1));
     Ok(())
 }
 
@@ -281,8 +311,5 @@ fn a_trace_comes_between(rt: HostRuntime) -> Result<(), Fail> {
 fn a_trace_moves_and_goes(rt: HostRuntime) -> Result<(), Fail> {
     let second = trace_at(1, 22, 200000);
     let reports = second_alone(rt.alloc(), &deep_trace(), &second)?;
-    let repeats = repeats_of(rt.alloc(), &reports)?;
-    let is_told = tells(&reports, 0, -1, 2) && stands_at(&reports, 0, 1);
-    assert!(rt; is_told && repeats == 0);
-    Ok(())
+    tells_of_the_second(&rt, rt.alloc(), &reports)
 }

@@ -23,7 +23,6 @@ use std::{env, io};
 use trace_record::{Ratio, Record, Records, Running};
 
 // A record of a survey with a thousand traces on each inline, on a grid turned by 23 degrees.
-#[tactic(auto, unfolding(trace_record::specs::Parts::IsPackable))]
 fn make(i: u32) -> Record
     requires { i < 2 ^ 24 }
     ensures { result.number ≡ 2 }

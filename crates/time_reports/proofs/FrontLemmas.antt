@@ -96,5 +96,5 @@ own_samples (r ∷ rs) a =
     let rest = own_samples rs (All-tail (λ r. r.number ≤ 4) r rs a) in
     omega (arith, sum_by-cons (λ (q : Record). q.number) r rs)
 
-pub few_records : (rs : List Record) → length rs ≤ 2 ^ 24 → All (λ r. r.number ≤ 4) rs → AreFew rs
+pub few_records : (rs : List Record) → length rs ≤ 2 ^ 26 → All (λ r. r.number ≤ 4) rs → AreFew rs
 few_records rs few short = let n = own_samples rs short in record { records = omega arith; samples = omega arith }

@@ -2,16 +2,20 @@
 //! from outside. Arguments: how many records, at most 16777216; `make`, which only makes them,
 //! `add`, which adds them too, `report`, which makes every report of them too, `remove`, which adds
 //! them and takes them out again, `list`, which makes them in a list in chunks, or `load`, which
-//! then makes the live reports of all of them at once. It prints the number of records.
+//! then makes the live reports of all of them at once; or, behind which a third argument says how
+//! often, fewer times than there are records, `exchange`, `insert`, `erase` or `move`, which then
+//! changes the live reports so at random places. It prints the number of records.
 #![tactic(auto)]
 
 ghost use Rattle.std.specs.Prelude.{◌≡◌, ◌<◌, ◌≤◌, ◌^◌, All, IfOk, length};
 
+mod changing;
 mod out_of_memory;
 #[cfg(test)]
 mod tests;
 mod through;
 
+use crate::changing::change;
 use crate::out_of_memory::OutOfMemory;
 use crate::through::{drain, fill};
 use fault_live::{Faults, HeadFacts};
@@ -80,6 +84,23 @@ fn load(alloc: Global, records: Records) -> Result<usize, OutOfMemory>
 {
     let reports = LiveReports::from_records(alloc, records)?;
     Ok(reports.records().len())
+}
+
+// The live reports of so many records, changed so often at random places.
+fn change_all(alloc: Global, count: u32, word: &str, times: u32) -> Result<usize, OutOfMemory>
+    requires { count ≤ 2 ^ 24 }
+{
+    let records = make_list(alloc, count)?;
+    let mut reports = LiveReports::from_records(alloc, records)?;
+    if (times as usize) < reports.records().len() {
+        change(alloc, &mut reports, times, word)?;
+    }
+    Ok(reports.records().len())
+}
+
+// Whether the word names a kind of change.
+fn is_change(word: &str) -> bool {
+    word == "exchange" || word == "insert" || word == "erase" || word == "move"
 }
 
 // Counts the records' cells and lines; shows them, or takes them out again, where that is asked
@@ -165,9 +186,12 @@ fn count_faults(alloc: Global, records: &[Record], then: &str) -> Result<(), Out
     Ok(())
 }
 
-fn work(alloc: Global, count: u32, then: &str) -> Result<usize, OutOfMemory>
+fn work(alloc: Global, count: u32, then: &str, times: u32) -> Result<usize, OutOfMemory>
     requires { count ≤ 2 ^ 24 }
 {
+    if is_change(then) {
+        return change_all(alloc, count, then, times);
+    }
     if then == "list" || then == "load" {
         let records = make_list(alloc, count)?;
         if then == "list" {
@@ -194,8 +218,12 @@ fn main(rt: HostRuntime) -> io::Result<()> {
         .unwrap_or(0);
     let mut done = 0;
     if let Some(name) = words.next() {
+        let times = words
+            .next()
+            .and_then(|w| w.parse::<u32>().ok())
+            .unwrap_or(0);
         if count <= 1 << 24 {
-            done = work(rt.alloc(), count, name.as_str()).unwrap_or(0);
+            done = work(rt.alloc(), count, name.as_str(), times).unwrap_or(0);
         }
     }
     println!(rt; "{done}")

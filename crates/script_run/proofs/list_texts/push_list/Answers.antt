@@ -25,14 +25,14 @@ returns-in_err-push-2 g c =
     by_fault c.from_residual-in_err-push-2.result c.in_err-push-2.field-0.0 _ _ c.from_residual-in_err-push-2.ensures.1
     (lines_break _ _ _ c.as_slice.result.now head (with_line_ends (map f xs)) is_head _ _ c.in_err-push-2.field-0.0.written c.in_ok-push.ensures
     (line_breaks _ _ _ _ _ c.as_slice-in-loop-item.result.now (with_line_end (f c.item-item.result)) _ (with_line_ends (map f (drop (c.loop-item.item-index + 1) xs))) (with_line_ends (map f xs))
-    (c.as_slice-in-loop-item.ensures.bytes ∙ c.push_byte-in-loop-item.ensures ∙ ap (λ (s : List ℕ). with_line_end s) c.push_text.ensures.text) (next_line f xs c.loop-item.item-index c.item-item.result c.loop-item-test.true c.item-item.is) c.loop-item.invariant c.in_err-push-2.field-0.0.written c.in_err-push-2.ensures))
+    (c.as_slice-in-loop-item.ensures.bytes ∙ c.push_byte.ensures ∙ ap (λ (s : List ℕ). with_line_end s) c.push_text.ensures.text) (next_line f xs c.loop-item.item-index c.item-item.result c.loop-item-test.true c.item-item.is) c.loop-item.invariant c.in_err-push-2.field-0.0.written c.in_err-push-2.ensures))
 
 pub loop-item-preserved : goal.loop-item-preserved
 loop-item-preserved g c =
     let f = g.T.Listed.text c.args.word.now in
     let xs = c.args.items.now in
     line_more _ _ _ _ _ c.as_slice-in-loop-item.result.now (with_line_end (f c.item-item.result)) _ (with_line_ends (map f (drop (c.loop-item.item-index + 1) xs))) (with_line_ends (map f xs))
-    (c.as_slice-in-loop-item.ensures.bytes ∙ c.push_byte-in-loop-item.ensures ∙ ap (λ (s : List ℕ). with_line_end s) c.push_text.ensures.text) (next_line f xs c.loop-item.item-index c.item-item.result c.loop-item-test.true c.item-item.is) c.loop-item.invariant _ c.in_ok-push-2.ensures
+    (c.as_slice-in-loop-item.ensures.bytes ∙ c.push_byte.ensures ∙ ap (λ (s : List ℕ). with_line_end s) c.push_text.ensures.text) (next_line f xs c.loop-item.item-index c.item-item.result c.loop-item-test.true c.item-item.is) c.loop-item.invariant _ c.in_ok-push-2.ensures
 
 pub returns : goal.returns
 returns g c =

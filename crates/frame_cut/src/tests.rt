@@ -30,47 +30,43 @@ fn front(bytes: &[u8], length: usize) -> &[u8] {
     &bytes[..length.min(bytes.len())]
 }
 
-#[test]
-fn cuts_files(rt: HostRuntime) -> Result<(), Fail> {
-    let alloc = rt.alloc();
-    let files = [
-        (
-            plain_file(alloc)?,
-            [(3600, 244), (3844, 244), (4088, 244)],
-            3,
-        ),
-        (
-            varying_file(alloc)?,
-            [(3600, 246), (3846, 244), (4090, 131310)],
-            3,
-        ),
-        (extended_file(alloc)?, [(3600, 484), (0, 0), (0, 0)], 1),
-        (counted_file(alloc)?, [(3600, 724), (0, 0), (0, 0)], 1),
-        (trailed_file(alloc)?, [(3600, 484), (0, 0), (0, 0)], 1),
-        (little_file(alloc)?, [(3600, 246), (0, 0), (0, 0)], 1),
-        (
-            texted_file(alloc)?,
-            [(10000, 244), (10244, 244), (10488, 244)],
-            3,
-        ),
-    ];
-    for (file, places, count) in files {
-        let cut = cut(alloc, &file, Reading::AsWritten, wide(&rt))?;
-        assert_eq!(rt; cut.count(), count);
-        assert_eq!(rt; cut.head(), head(&file, Reading::AsWritten, wide(&rt))?);
-        assert_eq!(rt; cut.extents().len(), count as usize);
-        for (extent, (start, length)) in cut.extents().iter().zip(&places) {
-            assert_eq!(rt;
-                *extent,
-                Extent {
-                    start: *start,
-                    length: *length
-                }
-            );
-        }
-        assert_eq!(rt; cut.into_extents().len(), count as usize);
+// Whether the parts lie at these places, with these lengths.
+fn lie_at(extents: &[Extent], places: &[(u64, u64)]) -> bool {
+    let mut lie = extents.len() == places.len();
+    for (extent, (start, length)) in extents.iter().zip(places) {
+        lie = lie && extent.start == *start && extent.length == *length;
     }
+    lie
+}
+
+// Cuts the file into traces at these places, with these lengths.
+fn cuts_at(rt: &impl Abort, alloc: Global, file: &[u8], places: &[(u64, u64)]) -> Result<(), Fail> {
+    let cut = cut(alloc, file, Reading::AsWritten, wide(rt))?;
+    assert_eq!(rt; cut.count() as usize, places.len());
+    assert_eq!(rt; cut.head(), head(file, Reading::AsWritten, wide(rt))?);
+    assert!(rt; lie_at(cut.extents(), places));
+    assert!(rt; lie_at(&cut.into_extents(), places));
     Ok(())
+}
+
+#[test]
+fn cuts_files_with_their_own_headers_alone(rt: HostRuntime) -> Result<(), Fail> {
+    let alloc = rt.alloc();
+    let plain = [(3600, 244), (3844, 244), (4088, 244)];
+    cuts_at(&rt, alloc, &plain_file(alloc)?, &plain)?;
+    let varying = [(3600, 246), (3846, 244), (4090, 131310)];
+    cuts_at(&rt, alloc, &varying_file(alloc)?, &varying)?;
+    cuts_at(&rt, alloc, &little_file(alloc)?, &[(3600, 246)])
+}
+
+#[test]
+fn cuts_files_with_extensions_or_text_headers(rt: HostRuntime) -> Result<(), Fail> {
+    let alloc = rt.alloc();
+    cuts_at(&rt, alloc, &extended_file(alloc)?, &[(3600, 484)])?;
+    cuts_at(&rt, alloc, &counted_file(alloc)?, &[(3600, 724)])?;
+    cuts_at(&rt, alloc, &trailed_file(alloc)?, &[(3600, 484)])?;
+    let texted = [(10000, 244), (10244, 244), (10488, 244)];
+    cuts_at(&rt, alloc, &texted_file(alloc)?, &texted)
 }
 
 // The head of the file of three traces of 244 bytes.
@@ -392,9 +388,22 @@ fn tells_torn_traces_first(rt: HostRuntime) -> Result<(), Fail> {
     Ok(())
 }
 
+// A trace of one extension, and of as many samples as 32 bits hold.
+fn measures_the_longest(rt: &impl Abort, mut head: Head, front: &[u8; 480]) {
+    assert_eq!(rt; front_length(&head), 480);
+    assert!(rt; head.extensions != 0);
+    assert_eq!(rt; extension_count(&head, front), Some(1));
+    assert_eq!(rt; trace_length(&head, front), Some(480 + 2 * 4294967295));
+    head.format = Format::Unsigned64;
+    assert_eq!(rt; trace_length(&head, front), Some(480 + 8 * 4294967295));
+    head.order = Order::Little;
+    assert_eq!(rt; extension_count(&head, front), None);
+    assert_eq!(rt; trace_length(&head, front), None);
+}
+
 #[test]
 fn measures_traces(rt: HostRuntime) -> Result<(), Fail> {
-    let mut head = head(&counted_file(rt.alloc())?, Reading::AsWritten, wide(&rt))?;
+    let head = head(&counted_file(rt.alloc())?, Reading::AsWritten, wide(&rt))?;
     let mut front = [0u8; 480];
     assert_eq!(rt; front_length(&head), 480);
     assert!(rt; head.extensions != 0);
@@ -405,13 +414,7 @@ fn measures_traces(rt: HostRuntime) -> Result<(), Fail> {
     put(&mut front, 240 + 137, &[0xFF; 4]);
     assert_eq!(rt; sample_count(&head, &front), u32::MAX);
     put(&mut front, 240 + 157, &[0, 1]);
-    assert_eq!(rt; extension_count(&head, &front), Some(1));
-    assert_eq!(rt; trace_length(&head, &front), Some(480 + 2 * 4294967295));
-    head.format = Format::Unsigned64;
-    assert_eq!(rt; trace_length(&head, &front), Some(480 + 8 * 4294967295));
-    head.order = Order::Little;
-    assert_eq!(rt; extension_count(&head, &front), None);
-    assert_eq!(rt; trace_length(&head, &front), None);
+    measures_the_longest(&rt, head, &front);
     Ok(())
 }
 

@@ -24,18 +24,19 @@ use crate::store::TraceStore;
 use crate::views::Views;
 use crate::writing_out::write_volume;
 use device_io::{Sink, Source};
-use frame_cut::{Head, Limits, LoadFault, Reading, cut};
+use frame_cut::{BINARY_HEADER_BYTES, FILE_HEADER_BYTES, Head, Limits, LoadFault, Reading, cut};
 use std::alloc::Global;
 use std::io::{Read, Write};
 use std::marker::Model;
+use text_block::TEXT_BLOCK_BYTES;
 use trace_view::TraceView;
 
 /// A volume under edits: one SEG-Y file in its parts. The bytes that were loaded never change:
 /// edits lie over them.
 #[derive(Drop)]
 pub struct Overlay {
-    text: [u8; 3200],
-    bin: [u8; 400],
+    text: [u8; TEXT_BLOCK_BYTES],
+    bin: [u8; BINARY_HEADER_BYTES],
     store: TraceStore,
     prepared: Option<Prepared>,
     length: u64,
@@ -101,8 +102,8 @@ impl Overlay {
         let cut = cut(alloc, bytes.as_slice(), reading, limits)?;
         let head = cut.head();
         let extents = cut.into_extents();
-        let text = *array_at::<3200>(bytes.as_slice(), 0);
-        let bin = *array_at::<400>(bytes.as_slice(), 3200);
+        let text = *array_at::<TEXT_BLOCK_BYTES>(bytes.as_slice(), 0);
+        let bin = *array_at::<BINARY_HEADER_BYTES>(bytes.as_slice(), TEXT_BLOCK_BYTES);
         let length = bytes.len() as u64;
         let Ok(store) = TraceStore::new(alloc, bytes, head, extents) else {
             return Err(LoadFault::OutOfMemory);
@@ -220,14 +221,14 @@ impl Overlay {
     }
 
     /// The textual header (bytes 1 to 3200 of the file).
-    pub fn text(&self) -> &[u8; 3200]
+    pub fn text(&self) -> &[u8; TEXT_BLOCK_BYTES]
         ensures { result.now ≡ self.now.volume.text }
     {
         &self.text
     }
 
     /// The binary header (bytes 3201 to 3600 of the file).
-    pub fn bin(&self) -> &[u8; 400]
+    pub fn bin(&self) -> &[u8; BINARY_HEADER_BYTES]
         ensures { result.now ≡ self.now.volume.bin }
     {
         &self.bin
@@ -235,7 +236,7 @@ impl Overlay {
 
     /// Block b, where there is one: the textual header is block 0, the extended textual headers are
     /// blocks 1 and up.
-    pub fn block(&self, b: u32) -> Option<&[u8; 3200]>
+    pub fn block(&self, b: u32) -> Option<&[u8; TEXT_BLOCK_BYTES]>
         ensures { option_map (λ x. x.now) result ≡ block_of self.now.volume b }
     {
         if b == 0 {
@@ -244,12 +245,12 @@ impl Overlay {
         if b > self.store.head.blocks {
             return None;
         }
-        let at = 3600 + 3200 * (b as usize - 1);
+        let at = FILE_HEADER_BYTES + TEXT_BLOCK_BYTES * (b as usize - 1);
         Some(array_at(self.store.loaded.as_slice(), at))
     }
 
     /// Data trailer record j, counted from 1, where there is one.
-    pub fn trailer(&self, j: u32) -> Option<&[u8; 3200]>
+    pub fn trailer(&self, j: u32) -> Option<&[u8; TEXT_BLOCK_BYTES]>
         ensures { option_map (λ x. x.now) result ≡ trailer_of self.now.volume j }
     {
         if j == 0 {
@@ -258,8 +259,8 @@ impl Overlay {
         if j > self.store.head.trailer {
             return None;
         }
-        let start = self.store.loaded.len() - 3200 * self.store.head.trailer as usize;
-        let at = start + 3200 * (j as usize - 1);
+        let start = self.store.loaded.len() - TEXT_BLOCK_BYTES * self.store.head.trailer as usize;
+        let at = start + TEXT_BLOCK_BYTES * (j as usize - 1);
         Some(array_at(self.store.loaded.as_slice(), at))
     }
 
@@ -277,7 +278,7 @@ impl Overlay {
     /// Writes the bytes over those of the binary header from place `at` on, counted from 0 in it.
     /// Takes no memory.
     pub fn put_head(&mut self, at: u32, bytes: &[u8])
-        requires { at + length bytes.now ≤ 400 }
+        requires { at + length bytes.now ≤ BINARY_HEADER_BYTES }
         ensures { self.new ≡ with_volume self.old (with_header_bytes self.old.volume at bytes.now) }
     {
         overwrite(&mut self.bin, at as usize, bytes);

@@ -16,15 +16,16 @@ use crate::slot::{Base, Slot};
 use crate::store::TraceStore;
 use crate::waiting::Waiting;
 use device_io::Sink;
-use frame_cut::Head;
+use frame_cut::{BINARY_HEADER_BYTES, FILE_HEADER_BYTES, Head};
 use std::io::Write;
+use text_block::TEXT_BLOCK_BYTES;
 use trace_view::TraceView;
 
 // Writes the headers, then the blocks, the traces and the data trailer records of the store.
 pub fn write_volume<W: Write>(
     writer: &mut Sink<W>,
-    text: &[u8; 3200],
-    bin: &[u8; 400],
+    text: &[u8; TEXT_BLOCK_BYTES],
+    bin: &[u8; BINARY_HEADER_BYTES],
     store: &TraceStore,
 ) -> Result<(), SaveFault>
     requires ends { HasEnds store.now }
@@ -37,13 +38,13 @@ pub fn write_volume<W: Write>(
     write_part(writer, &mut written, text)?;
     write_part(writer, &mut written, bin)?;
     let mut waiting = Waiting {
-        from: 3600,
+        from: FILE_HEADER_BYTES,
         to: store.head.traces_at as usize,
         written,
     };
     write_traces(writer, store, &mut waiting)?;
     let loaded = store.loaded.as_slice();
-    let tail = loaded.len() - 3200 * store.head.trailer as usize;
+    let tail = loaded.len() - TEXT_BLOCK_BYTES * store.head.trailer as usize;
     write_range(writer, loaded, &mut waiting, tail, loaded.len())?;
     flush(writer, loaded, &mut waiting)
 }

@@ -109,20 +109,20 @@ impl LiveReports {
 
     /// Puts the record where another stands. A value that counts both alike counts nothing anew.
     /// Takes memory only for a key that no record has.
-    pub fn exchange(&mut self, place: usize, record: &Record) -> Result<(), OutOfMemory>
+    pub fn exchange(&mut self, place: usize, changed: &Record) -> Result<(), OutOfMemory>
         requires place { place < length self.old }
-        requires few { AreFew (slice_set self.old place record.now) }
-        ensures ok { OnOk result (self.new ≡ slice_set self.old place record.now) }
+        requires few { AreFew (slice_set self.old place changed.now) }
+        ensures ok { OnOk result (self.new ≡ slice_set self.old place changed.now) }
         ensures err { OnErr result (self.new ≡ self.old) }
-        ensures held { HasEachKey self.old record.now → IsOk result }
+        ensures held { HasEachKey self.old changed.now → IsOk result }
     {
         let Some(old) = self.records.get(place) else {
             unreachable!()
         };
-        let changes = changes_between(&old, record);
-        self.values.add(changes, record)?;
+        let changes = changes_between(&old, changed);
+        self.values.add(changes, changed)?;
         self.values.remove(changes, &old);
-        self.records.set(place, *record);
+        self.records.set(place, *changed);
         Ok(())
     }
 
@@ -159,20 +159,15 @@ impl LiveReports {
 
     /// Puts the record in front of the one at a place, or behind all where there is none. Takes
     /// memory for the record and for its keys that no record has.
-    pub fn insert(
-        &mut self,
-        alloc: Global,
-        place: usize,
-        record: &Record,
-    ) -> Result<(), OutOfMemory>
+    pub fn insert(&mut self, alloc: Global, place: usize, added: &Record) -> Result<(), OutOfMemory>
         requires place { place ≤ length self.old }
-        requires few { AreFew (insert self.old place record.now) }
-        ensures ok { OnOk result (self.new ≡ insert self.old place record.now) }
+        requires few { AreFew (insert self.old place added.now) }
+        ensures ok { OnOk result (self.new ≡ insert self.old place added.now) }
         ensures err { OnErr result (self.new ≡ self.old) }
     {
-        self.values.add(all_changes(), record)?;
-        if let Err(error) = self.records.insert(alloc, place, *record) {
-            self.values.remove(all_changes(), record);
+        self.values.add(all_changes(), added)?;
+        if let Err(error) = self.records.insert(alloc, place, *added) {
+            self.values.remove(all_changes(), added);
             return Err(OutOfMemory::from(error));
         }
         Ok(())

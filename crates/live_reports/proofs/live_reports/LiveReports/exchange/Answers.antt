@@ -12,24 +12,24 @@ pub add-requires-clause-small : goal.add-requires-clause-small
 add-requires-clause-small c = AreSmall-Same _ _ c.self.invariant.counted (small_each c.self.inside.records c.self.invariant.few)
 
 pub add-requires-clause-room : goal.add-requires-clause-room
-add-requires-clause-room c = room_for c.self.inside.records c.args.place c.in-Some.old c.args.record.now (sym c.get.ensures ∙ c.in-Some.is) c.self.inside.values c.self.invariant (rw (← c.self.view_is) at c.requires.few)
+add-requires-clause-room c = room_for c.self.inside.records c.args.place c.in-Some.old c.args.changed.now (sym c.get.ensures ∙ c.in-Some.is) c.self.inside.values c.self.invariant (rw (← c.self.view_is) at c.requires.few)
 
 pub remove-requires-clause-held : goal.remove-requires-clause-held
 remove-requires-clause-held c =
-    exchange_holds c.self.inside.records c.args.place c.in-Some.old c.args.record.now (sym c.get.ensures ∙ c.in-Some.is) c.self.inside.values c.self.invariant (rw (← c.self.view_is) at c.requires.few)
+    exchange_holds c.self.inside.records c.args.place c.in-Some.old c.args.changed.now (sym c.get.ensures ∙ c.in-Some.is) c.self.inside.values c.self.invariant (rw (← c.self.view_is) at c.requires.few)
     c.changes_between-changes.result (tallies_of c.add.new.self) c.in_ok-add.ensures.ok
 
 pub remove-requires-clause-small : goal.remove-requires-clause-small
 remove-requires-clause-small c =
-    exchange_fits c.self.inside.records c.args.place c.in-Some.old c.args.record.now (sym c.get.ensures ∙ c.in-Some.is) c.self.inside.values c.self.invariant (rw (← c.self.view_is) at c.requires.few)
+    exchange_fits c.self.inside.records c.args.place c.in-Some.old c.args.changed.now (sym c.get.ensures ∙ c.in-Some.is) c.self.inside.values c.self.invariant (rw (← c.self.view_is) at c.requires.few)
     c.changes_between-changes.result (tallies_of c.add.new.self) c.in_ok-add.ensures.ok
 
 pub invariant_of-self-2 : goal.invariant_of-self-2
 invariant_of-self-2 c =
     let old = c.in-Some.old in
-    let new = c.args.record.now in
+    let new = c.args.changed.now in
     subst (λ (l : List Record). HaveCounted c.remove.new.self l) (sym c.set.ensures)
-    (exchange_counts c.self.inside.records c.args.place c.in-Some.old c.args.record.now (sym c.get.ensures ∙ c.in-Some.is) c.self.inside.values c.self.invariant (rw (← c.self.view_is) at c.requires.few)
+    (exchange_counts c.self.inside.records c.args.place c.in-Some.old c.args.changed.now (sym c.get.ensures ∙ c.in-Some.is) c.self.inside.values c.self.invariant (rw (← c.self.view_is) at c.requires.few)
     c.changes_between-changes.result (tallies_of c.add.new.self) c.in_ok-add.ensures.ok c.remove.new.self c.remove.ensures
     (λ e. in_grid old new (sym c.changes_between-changes.ensures.grid ∙ e)) (λ e. in_ranges old new (sym c.changes_between-changes.ensures.ranges ∙ e))
     (λ e. in_totals old new (sym c.changes_between-changes.ensures.totals ∙ e)) (λ e. in_faults old new (sym c.changes_between-changes.ensures.triples ∙ e)))

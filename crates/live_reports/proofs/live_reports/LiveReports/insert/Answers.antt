@@ -11,15 +11,15 @@ add-requires-clause-small c = AreSmall-Same _ _ c.self.invariant.counted (small_
 
 pub add-requires-clause-room : goal.add-requires-clause-room
 add-requires-clause-room c =
-    room_for_insert c.self.inside.records c.args.place c.args.record.now (rw (← c.self.view_is) at c.requires.place) c.self.inside.values c.self.invariant (rw (← c.self.view_is) at c.requires.few)
+    room_for_insert c.self.inside.records c.args.place c.args.added.now (rw (← c.self.view_is) at c.requires.place) c.self.inside.values c.self.invariant (rw (← c.self.view_is) at c.requires.few)
 
 pub remove-requires-clause-small : goal.remove-requires-clause-small
 remove-requires-clause-small c =
-    insert_undone c.self.inside.records c.args.place c.args.record.now (rw (← c.self.view_is) at c.requires.place) c.self.inside.values c.self.invariant (rw (← c.self.view_is) at c.requires.few)
+    insert_undone c.self.inside.records c.args.place c.args.added.now (rw (← c.self.view_is) at c.requires.place) c.self.inside.values c.self.invariant (rw (← c.self.view_is) at c.requires.few)
     c.all_changes.result c.all_changes.ensures c.add.new.self c.in_ok-add.ensures.ok c.all_changes-in-Err.result
 
 pub invariant_of-self-in_default : goal.invariant_of-self-in_default
 invariant_of-self-in_default c =
     subst (λ (l : List Record). HaveCounted c.add.new.self l) (sym c.in_default.ensures.ok)
-    (insert_counts c.self.inside.records c.args.place c.args.record.now (rw (← c.self.view_is) at c.requires.place) c.self.inside.values c.self.invariant (rw (← c.self.view_is) at c.requires.few)
+    (insert_counts c.self.inside.records c.args.place c.args.added.now (rw (← c.self.view_is) at c.requires.place) c.self.inside.values c.self.invariant (rw (← c.self.view_is) at c.requires.few)
     c.all_changes.result c.all_changes.ensures c.add.new.self c.in_ok-add.ensures.ok)

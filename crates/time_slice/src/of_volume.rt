@@ -19,8 +19,8 @@ use trace_view::TraceView;
 /// Slice k, counted from 0: a row for each trace that has sample k, in rising order by inline,
 /// crossline and position. There are as many records as traces, and inline and crossline are those
 /// of the record at the trace's place. One pass over them, with one look at each trace, which reads
-/// the one sample by its place; then the rows are sorted where they stand. Takes memory for the
-/// rows; refused for want of it alone, and the volume stays as it is in any case.
+/// the one sample by its place; then the rows are sorted where they stand. Takes memory for a row
+/// for each trace; refused for want of it alone, and the volume stays as it is in any case.
 pub fn rows(
     alloc: Global,
     overlay: &mut Overlay,
@@ -57,9 +57,9 @@ fn rows_in_place(
     ensures prepared { overlay.new.prepared ≡ overlay.old.prepared }
     ensures looks { RisesAtMost overlay.old.looks overlay.new.looks (count_of overlay.old.volume) }
 {
-    // Read for the proof alone, which learns that the positions fit 32 bits.
-    let _count = overlay.count();
-    let mut rows = Vec::new(alloc);
+    // Room for all at once: a list that grows is copied again and again, each time to fresh memory.
+    let count = overlay.count();
+    let mut rows = Vec::with_capacity(alloc, count as usize)?;
     let mut position = 0;
     for (record, trace) in records.iter().zip(overlay.pass()) {
         position += 1;

@@ -14,6 +14,6 @@ invariant-loop-record l =
       written : l.rows.items ++ rows_from (l.position + 1) (with_sample_of v.head l.fn.k l.record-iterator.a (drop l.position v.traces)) ≡ rows_from 1 (with_sample_of v.head l.fn.k l.fn.records v.traces);
       records_left : l.position + length l.record-iterator.a ≡ count_of v;
       traces_left : l.record-iterator.b ≡ shown_each v.head (drop l.position v.traces);
-      few : l._count ≡ count_of v;
+      few : l.count ≡ count_of v;
       fits : All (λ r. IsTrue (sample_fits v.head.format r.value)) l.rows.items;
     }

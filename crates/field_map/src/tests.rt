@@ -1,7 +1,9 @@
-// Names that are bound, looked up and left out.
+// Names that are bound, looked up and left out. One function owns the map of each test and lends it
+// out: the check of a function that owns a map takes the longer the more it does.
 use crate::{FieldMap, MapFault, Place, bin_field, standard};
 use num_order::Kind;
 use std::alloc::Global;
+use std::process::Abort;
 use std::test::Fail;
 
 fn signed(extension: u16, byte: u16, size: u8) -> Place {
@@ -23,9 +25,20 @@ fn unsigned(extension: u16, byte: u16, size: u8) -> Place {
     }
 }
 
+// What the function answers of the map of a file with so many header extensions a trace.
+fn on_standard(
+    alloc: Global,
+    extensions: u8,
+    ask: &mut dyn FnMut(&mut FieldMap) -> Result<(), Fail>,
+) -> Result<(), Fail>
+    requires { IsAlwaysCallable ask.now }
+{
+    let mut fields = FieldMap::standard(alloc, extensions)?;
+    ask(&mut fields)
+}
+
 #[test]
 fn looks_up_standard_names(rt: HostRuntime) -> Result<(), Fail> {
-    let _ = rt;
     assert_eq!(rt; standard("sequence_line"), Some(signed(0, 1, 4)));
     assert_eq!(rt; standard("samples"), Some(unsigned(0, 115, 2)));
     assert_eq!(rt; standard("shotpoint_scalar"), Some(signed(0, 201, 2)));
@@ -38,10 +51,7 @@ fn looks_up_standard_names(rt: HostRuntime) -> Result<(), Fail> {
     Ok(())
 }
 
-#[test]
-fn names_the_first_refusal(rt: HostRuntime) -> Result<(), Fail> {
-    let alloc = rt.alloc();
-    let mut fields = FieldMap::standard(alloc, 0)?;
+fn refuse_each(rt: &impl Abort, alloc: Global, fields: &mut FieldMap) -> Result<(), Fail> {
     let cases = [
         ("bad-name", signed(0, 1, 4), MapFault::BadName),
         ("", signed(0, 1, 4), MapFault::BadName),
@@ -65,6 +75,16 @@ fn names_the_first_refusal(rt: HostRuntime) -> Result<(), Fail> {
     Ok(())
 }
 
+#[test]
+fn names_the_first_refusal(rt: HostRuntime) -> Result<(), Fail> {
+    let alloc = rt.alloc();
+    on_standard(
+        alloc,
+        0,
+        &mut |fields: &mut FieldMap| refuse_each(&rt, alloc, fields),
+    )
+}
+
 // Whether the names with their places are these.
 fn lists(fields: &FieldMap, expected: &[(&str, Place)]) -> bool {
     let mut at = 0;
@@ -77,10 +97,7 @@ fn lists(fields: &FieldMap, expected: &[(&str, Place)]) -> bool {
     at == expected.len()
 }
 
-#[test]
-fn binds_in_order(rt: HostRuntime) -> Result<(), Fail> {
-    let alloc = rt.alloc();
-    let mut fields = FieldMap::standard(alloc, 1)?;
+fn bind_and_list(rt: &impl Abort, alloc: Global, fields: &mut FieldMap) -> Result<(), Fail> {
     fields.bind(alloc, "mine", signed(0, 233, 8))?;
     fields.bind(alloc, "yours", unsigned(1, 5, 3))?;
     fields.bind(alloc, "mine", signed(1, 1, 1))?;
@@ -97,7 +114,7 @@ fn binds_in_order(rt: HostRuntime) -> Result<(), Fail> {
         ("mine", signed(1, 1, 1)),
         ("yours", unsigned(1, 5, 3)),
     ];
-    assert!(rt; lists(&fields, &bound));
+    assert!(rt; lists(fields, &bound));
     fields.unbind("mine")?;
     fields.bind(alloc, "mine", signed(0, 1, 2))?;
     assert_eq!(rt; fields.unbind("none").err(), Some(MapFault::Unknown));
@@ -111,14 +128,21 @@ fn binds_in_order(rt: HostRuntime) -> Result<(), Fail> {
         ("yours", unsigned(1, 5, 3)),
         ("mine", signed(0, 1, 2)),
     ];
-    assert!(rt; lists(&fields, &again));
+    assert!(rt; lists(fields, &again));
     Ok(())
 }
 
 #[test]
-fn geometry_names_stay_bound(rt: HostRuntime) -> Result<(), Fail> {
+fn binds_in_order(rt: HostRuntime) -> Result<(), Fail> {
     let alloc = rt.alloc();
-    let mut fields = FieldMap::standard(alloc, 3)?;
+    on_standard(
+        alloc,
+        1,
+        &mut |fields: &mut FieldMap| bind_and_list(&rt, alloc, fields),
+    )
+}
+
+fn unbind_geometry(rt: &impl Abort, alloc: Global, fields: &mut FieldMap) -> Result<(), Fail> {
     fields.bind(alloc, "x", signed(1, 5, 2))?;
     assert_eq!(rt;
         fields.bind(alloc, "x", signed(2, 5, 2)).err(),
@@ -133,6 +157,16 @@ fn geometry_names_stay_bound(rt: HostRuntime) -> Result<(), Fail> {
     Ok(())
 }
 
+#[test]
+fn geometry_names_stay_bound(rt: HostRuntime) -> Result<(), Fail> {
+    let alloc = rt.alloc();
+    on_standard(
+        alloc,
+        3,
+        &mut |fields: &mut FieldMap| unbind_geometry(&rt, alloc, fields),
+    )
+}
+
 fn bind_many(fields: &mut FieldMap, alloc: Global) -> Result<(), Fail> {
     for number in 1..65u8 {
         let name = format!(in alloc; "n{number}")?;
@@ -141,11 +175,8 @@ fn bind_many(fields: &mut FieldMap, alloc: Global) -> Result<(), Fail> {
     Ok(())
 }
 
-#[test]
-fn holds_64_further_names(rt: HostRuntime) -> Result<(), Fail> {
-    let alloc = rt.alloc();
-    let mut fields = FieldMap::standard(alloc, 0)?;
-    bind_many(&mut fields, alloc)?;
+fn fill(rt: &impl Abort, alloc: Global, fields: &mut FieldMap) -> Result<(), Fail> {
+    bind_many(fields, alloc)?;
     assert_eq!(rt;
         fields.bind(alloc, "n65", signed(0, 1, 4)).err(),
         Some(MapFault::Full)
@@ -162,4 +193,14 @@ fn holds_64_further_names(rt: HostRuntime) -> Result<(), Fail> {
     fields.bind(alloc, "n65", signed(0, 1, 4))?;
     assert_eq!(rt; fields.place("n65"), Some(signed(0, 1, 4)));
     Ok(())
+}
+
+#[test]
+fn holds_64_further_names(rt: HostRuntime) -> Result<(), Fail> {
+    let alloc = rt.alloc();
+    on_standard(
+        alloc,
+        0,
+        &mut |fields: &mut FieldMap| fill(&rt, alloc, fields),
+    )
 }

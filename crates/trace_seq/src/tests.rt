@@ -1,5 +1,6 @@
 // Values from outside: orders written down by hand, and two bodies that are compared over the same
-// operations.
+// operations. A test makes its orders and lends them out: the check of a function that owns one
+// takes the longer the more it does.
 use crate::{ChunkSeq, FlatSeq, TraceSeq};
 use std::alloc::Global;
 use std::process::Abort;
@@ -75,30 +76,32 @@ fn thins<S: TraceSeq>(seq: &mut S) {
     }
 }
 
-#[test]
-fn flat_row(rt: HostRuntime) -> Result<(), Fail> {
-    let mut seq = FlatSeq::new(rt.alloc());
+fn fill_and_thin_flat(rt: &impl Abort, alloc: Global, seq: &mut FlatSeq) -> Result<(), Fail> {
     assert_eq!(rt; seq.len(), 0);
-    fills_and_moves(&rt, rt.alloc(), &mut seq)?;
-    thins(&mut seq);
+    fills_and_moves(rt, alloc, seq)?;
+    thins(seq);
     assert_eq!(rt; seq.len(), 99);
-    assert_eq!(rt; get(&seq, 1), Some(1979));
-    assert_eq!(rt; get(&seq, 99), Some(19));
+    assert_eq!(rt; get(seq, 1), Some(1979));
+    assert_eq!(rt; get(seq, 99), Some(19));
     Ok(())
 }
 
 #[test]
-fn chunk_row(rt: HostRuntime) -> Result<(), Fail> {
-    let mut seq = ChunkSeq::new(rt.alloc());
+fn flat_row(rt: HostRuntime) -> Result<(), Fail> {
+    let mut seq = FlatSeq::new(rt.alloc());
+    fill_and_thin_flat(&rt, rt.alloc(), &mut seq)
+}
+
+fn fill_and_thin_chunks(rt: &impl Abort, alloc: Global, seq: &mut ChunkSeq) -> Result<(), Fail> {
     assert_eq!(rt; seq.chunks(), 0);
-    fills_and_moves(&rt, rt.alloc(), &mut seq)?;
+    fills_and_moves(rt, alloc, seq)?;
     assert!(rt; seq.chunks() <= 16);
     assert!(rt; seq.chunks() > 3);
-    thins(&mut seq);
+    thins(seq);
     assert_eq!(rt; seq.len(), 99);
     assert_eq!(rt; seq.chunks(), 1);
-    assert_eq!(rt; get(&seq, 1), Some(1979));
-    assert_eq!(rt; get(&seq, 99), Some(19));
+    assert_eq!(rt; get(seq, 1), Some(1979));
+    assert_eq!(rt; get(seq, 99), Some(19));
     for p in 0..101 {
         let mut probes = 0;
         let _ = seq.get(p, &mut probes);
@@ -118,21 +121,35 @@ fn chunk_row(rt: HostRuntime) -> Result<(), Fail> {
 }
 
 #[test]
-fn gives_ids_in_order(rt: HostRuntime) -> Result<(), Fail> {
+fn chunk_row(rt: HostRuntime) -> Result<(), Fail> {
     let mut seq = ChunkSeq::new(rt.alloc());
+    fill_and_thin_chunks(&rt, rt.alloc(), &mut seq)
+}
+
+fn give_ids(rt: &impl Abort, alloc: Global, seq: &mut ChunkSeq) -> Result<(), Fail> {
     assert_eq!(rt; seq.ids().next(), None);
-    fills_and_moves(&rt, rt.alloc(), &mut seq)?;
+    fills_and_moves(rt, alloc, seq)?;
     let mut ids = seq.ids();
     for id in (0..1999).rev() {
         assert_eq!(rt; ids.next(), Some(id));
     }
     assert_eq!(rt; ids.next(), None);
     assert_eq!(rt; ids.next(), None);
-    thins(&mut seq);
+    thins(seq);
     assert_eq!(rt; seq.ids().next(), Some(1979));
     assert_eq!(rt; seq.ids().last(), Some(19));
-    assert_eq!(rt; seq.ids().count(), 99);
+    let mut left: u32 = 0;
+    for _id in seq.ids() {
+        left = left.saturating_add(1);
+    }
+    assert_eq!(rt; left, 99);
     Ok(())
+}
+
+#[test]
+fn gives_ids_in_order(rt: HostRuntime) -> Result<(), Fail> {
+    let mut seq = ChunkSeq::new(rt.alloc());
+    give_ids(&rt, rt.alloc(), &mut seq)
 }
 
 // The next of the pseudo-random numbers.
@@ -143,37 +160,55 @@ fn next(state: &mut u64) -> u32 {
     (*state >> 33) as u32
 }
 
+// One operation on both, where it may be done: whether both did the same.
+fn step(
+    alloc: Global,
+    flat: &mut FlatSeq,
+    chunks: &mut ChunkSeq,
+    state: &mut u64,
+    kinds: u32,
+) -> Result<bool, Fail> {
+    let len = flat.len();
+    let p = next(state) % (len.saturating_add(2)).max(1);
+    let q = next(state) % (len.saturating_add(2)).max(1);
+    let id = next(state) as usize % 3000;
+    let alike = match next(state) % kinds.max(1) {
+        0 => try_move(alloc, flat, p, q)? == try_move(alloc, chunks, p, q)?,
+        1 | 2 | 3 => try_insert(alloc, flat, p, id)? == try_insert(alloc, chunks, p, id)?,
+        _ => try_remove(chunks, p) == try_remove(flat, p),
+    };
+    Ok(
+        alike
+            && chunks.len() == flat.len()
+            && get(chunks, q) == get(flat, q)
+            && place_of(chunks, id) == place_of(flat, id),
+    )
+}
+
+fn change_both(
+    rt: &impl Abort,
+    alloc: Global,
+    flat: &mut FlatSeq,
+    chunks: &mut ChunkSeq,
+) -> Result<(), Fail> {
+    let mut state = 1;
+    for turn in 0..2000 {
+        let kinds = if turn < 1200 { 4 } else { 8 };
+        assert!(rt; step(alloc, flat, chunks, &mut state, kinds)?);
+    }
+    for p in 0..3002 {
+        assert_eq!(rt; get(chunks, p), get(flat, p));
+    }
+    let mut ids = chunks.ids();
+    for p in 1..3002 {
+        assert_eq!(rt; ids.next(), get(flat, p));
+    }
+    Ok(())
+}
+
 #[test]
 fn answers_alike(rt: HostRuntime) -> Result<(), Fail> {
     let mut flat = FlatSeq::new(rt.alloc());
     let mut chunks = ChunkSeq::new(rt.alloc());
-    let mut state = 1;
-    for step in 0..2000 {
-        let len = flat.len();
-        let p = next(&mut state) % (len.saturating_add(2)).max(1);
-        let q = next(&mut state) % (len.saturating_add(2)).max(1);
-        let id = next(&mut state) as usize % 3000;
-        match next(&mut state) % (if step < 1200 { 4 } else { 8 }) {
-            0 => {
-                let moved = try_move(rt.alloc(), &mut flat, p, q)?;
-                assert_eq!(rt; try_move(rt.alloc(), &mut chunks, p, q)?, moved);
-            }
-            1 | 2 | 3 => {
-                let put = try_insert(rt.alloc(), &mut flat, p, id)?;
-                assert_eq!(rt; try_insert(rt.alloc(), &mut chunks, p, id)?, put);
-            }
-            _ => assert_eq!(rt; try_remove(&mut chunks, p), try_remove(&mut flat, p)),
-        }
-        assert_eq!(rt; chunks.len(), flat.len());
-        assert_eq!(rt; get(&chunks, q), get(&flat, q));
-        assert_eq!(rt; place_of(&chunks, id), place_of(&flat, id));
-    }
-    for p in 0..3002 {
-        assert_eq!(rt; get(&chunks, p), get(&flat, p));
-    }
-    let mut ids = chunks.ids();
-    for p in 1..3002 {
-        assert_eq!(rt; ids.next(), get(&flat, p));
-    }
-    Ok(())
+    change_both(&rt, rt.alloc(), &mut flat, &mut chunks)
 }

@@ -1,3 +1,5 @@
+// Traces that are made by hand. A test makes the bytes and the runs and lends the view of them: the
+// check of a function that owns runs takes the longer the more it does.
 ghost use Rattle.std.specs.Prelude.{◌≡◌, length, IfOk};
 ghost use Rattle.trace_view.specs.Runs.{Fit};
 ghost use Rattle.trace_view.specs.Shown.{bytes_of};
@@ -76,18 +78,7 @@ fn count(pieces: Pieces<'_>) -> u32 {
     count
 }
 
-// 240 zero bytes and two little-endian samples of 24 bits.
-#[test]
-fn reads_little_endian_samples(rt: HostRuntime) {
-    let mut head = plain_head();
-    head.order = Order::Little;
-    head.format = Format::Signed24;
-    let mut base = [0; 246];
-    base[240] = 0xFF;
-    base[241] = 0xFF;
-    base[242] = 0xFF;
-    base[245] = 0x80;
-    let view = view(&rt, &head, &base, &[]);
+fn expect_little_endian(rt: &impl Abort, view: &TraceView<'_>) {
     assert_eq!(rt; view.length(), 246);
     assert_eq!(rt; view.extension_count(), 0);
     assert_eq!(rt; view.sample_count(), 2);
@@ -108,6 +99,38 @@ fn reads_little_endian_samples(rt: HostRuntime) {
     );
 }
 
+// 240 zero bytes and two little-endian samples of 24 bits.
+#[test]
+fn reads_little_endian_samples(rt: HostRuntime) {
+    let mut head = plain_head();
+    head.order = Order::Little;
+    head.format = Format::Signed24;
+    let mut base = [0; 246];
+    base[240] = 0xFF;
+    base[241] = 0xFF;
+    base[242] = 0xFF;
+    base[245] = 0x80;
+    let view = view(&rt, &head, &base, &[]);
+    expect_little_endian(&rt, &view);
+}
+
+fn expect_runs(rt: &impl Abort, view: &TraceView<'_>) {
+    assert_eq!(rt; view.value(place(0, 189, 4, true)), Some(327_680));
+    assert_eq!(rt; view.value(place(0, 189, 2, true)), Some(5));
+    assert_eq!(rt; view.sample(0), Some(1));
+    assert_eq!(rt; view.sample(1), Some(32_766));
+    let mut samples = view.samples();
+    assert_eq!(rt; samples.next(), Some(1));
+    assert_eq!(rt; samples.next(), Some(32_766));
+    assert_eq!(rt; samples.next(), None);
+    assert_eq!(rt; count(view.pieces()), 6);
+    assert_eq!(rt; view.main().length(), 240);
+    assert_eq!(rt; count(view.main().pieces()), 4);
+    assert_eq!(rt; count(view.sample_bytes().pieces()), 3);
+    assert!(rt; view.plain_samples().is_none());
+    assert!(rt; view.plain(190, 192).is_none());
+}
+
 // An inline number over two runs, and a sample of which a run has the first byte.
 #[test]
 fn reads_across_runs(rt: HostRuntime) -> Result<(), Fail> {
@@ -123,35 +146,13 @@ fn reads_across_runs(rt: HostRuntime) -> Result<(), Fail> {
         run(alloc, 242, &[0x7F])?,
     ];
     let view = view(&rt, &head, &base, &runs);
-    assert_eq!(rt; view.value(place(0, 189, 4, true)), Some(327_680));
-    assert_eq!(rt; view.value(place(0, 189, 2, true)), Some(5));
-    assert_eq!(rt; view.sample(0), Some(1));
-    assert_eq!(rt; view.sample(1), Some(32_766));
-    let mut samples = view.samples();
-    assert_eq!(rt; samples.next(), Some(1));
-    assert_eq!(rt; samples.next(), Some(32_766));
-    assert_eq!(rt; samples.next(), None);
-    assert_eq!(rt; count(view.pieces()), 6);
-    assert_eq!(rt; view.main().length(), 240);
-    assert_eq!(rt; count(view.main().pieces()), 4);
-    assert_eq!(rt; count(view.sample_bytes().pieces()), 3);
-    assert!(rt; view.plain_samples().is_none());
-    assert!(rt; view.plain(190, 192).is_none());
+    expect_runs(&rt, &view);
     Ok(())
 }
 
-// A trace with two of at most three header extensions, and two samples behind them.
-#[test]
-fn reads_extensions(rt: HostRuntime) -> Result<(), Fail> {
-    let alloc = rt.alloc();
-    let head = counted_head();
-    let mut base = [0; 724];
-    base[115] = 2;
-    base[397] = 2;
-    base[721] = 1;
-    base[723] = 2;
-    let runs = [run(alloc, 480, &[0xFF, 0xFE])?];
-    let view = view(&rt, &head, &base, &runs);
+fn expect_extensions(rt: &impl Abort, view: &TraceView<'_>)
+    requires { length (bytes_of view.now) ≡ 724 }
+{
     assert_eq!(rt; view.extension_count(), 2);
     assert_eq!(rt; view.sample_count(), 2);
     assert_eq!(rt; view.value(place(1, 157, 2, false)), Some(2));
@@ -173,7 +174,29 @@ fn reads_extensions(rt: HostRuntime) -> Result<(), Fail> {
     assert_eq!(rt; view.changed_length(396, &[0, 3]), Some(964));
     assert_eq!(rt; view.changed_length(396, &[0, 4]), None);
     assert_eq!(rt; view.changed_length(720, &[9]), Some(724));
+}
+
+// A trace with two of at most three header extensions, and two samples behind them.
+#[test]
+fn reads_extensions(rt: HostRuntime) -> Result<(), Fail> {
+    let alloc = rt.alloc();
+    let head = counted_head();
+    let mut base = [0; 724];
+    base[115] = 2;
+    base[397] = 2;
+    base[721] = 1;
+    base[723] = 2;
+    let runs = [run(alloc, 480, &[0xFF, 0xFE])?];
+    let view = view(&rt, &head, &base, &runs);
+    expect_extensions(&rt, &view);
     Ok(())
+}
+
+fn expect_put(rt: &impl Abort, view: &TraceView<'_>) {
+    assert_eq!(rt; view.value(place(0, 189, 4, true)), Some(327_680));
+    assert_eq!(rt; view.value(place(0, 193, 1, true)), Some(10));
+    assert_eq!(rt; view.value(place(0, 1, 4, true)), Some(16_777_216));
+    assert_eq!(rt; view.sample(0), Some(1));
 }
 
 // Puts beside and over one another make one run, with the last bytes on top.
@@ -190,10 +213,7 @@ fn puts_runs(rt: HostRuntime) -> Result<(), Fail> {
     let runs = put_run(alloc, &base, &runs, 0, &[0x01])?;
     assert_eq!(rt; runs.len(), 3);
     let view = view(&rt, &head, &base, &runs);
-    assert_eq!(rt; view.value(place(0, 189, 4, true)), Some(327_680));
-    assert_eq!(rt; view.value(place(0, 193, 1, true)), Some(10));
-    assert_eq!(rt; view.value(place(0, 1, 4, true)), Some(16_777_216));
-    assert_eq!(rt; view.sample(0), Some(1));
+    expect_put(&rt, &view);
     let runs = put_run(alloc, &base, &runs, 191, &[0xFF; 50])?;
     assert_eq!(rt; runs.len(), 2);
     Ok(())

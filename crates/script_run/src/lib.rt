@@ -46,6 +46,3 @@ pub use crate::parse::parse_line;
 pub use crate::run_end::RunEnd;
 pub use crate::script_fault::ScriptFault;
 pub use crate::whole_run::run;
-
-#[cfg(test)]
-mod tests;

@@ -1,24 +1,17 @@
 // Lines and runs: what a script prints and saves, over small files that are made by hand.
-use crate::answer_texts::push_answer;
-use crate::out_buffer::OutBuffer;
-use crate::{Command, LineFault, Options, RunEnd, ScriptFault, parse_line, run};
-use bench_core::{Answer, Edit, Field, Items, Query};
-use bench_rules::Location;
-use device_io::{Sink, Source, StepReader, StepWriter, WriteFault};
+use bench_core::{Edit, Field, Query};
+use device_io::{Sink, Source, StepReader, StepWriter};
 use edit_overlay::SaveFault;
-use fault_live::Fault;
 use field_map::Place;
 use frame_cut::{Limits, LoadFault, Reading};
-use grid_live::{Cell, FoldCount, Line};
 use num_order::Kind;
 use range_stats::Quantity;
+use script_run::{Command, LineFault, Options, RunEnd, ScriptFault, parse_line, run};
 use std::alloc::Global;
 use std::test::Fail;
-use time_slice::Row;
-use trace_record::{Ratio, Statistics};
 
 // Writes the bytes at a place, counted from 1, where they fit.
-fn put(file: &mut [u8], byte: usize, bytes: &[u8]) {
+pub(crate) fn put(file: &mut [u8], byte: usize, bytes: &[u8]) {
     if byte >= 1 && byte <= file.len() && bytes.len() <= file.len() - (byte - 1) {
         file[byte - 1..byte - 1 + bytes.len()].copy_from_slice(bytes);
     }
@@ -39,7 +32,7 @@ fn put_trace(file: &mut [u8], byte: usize, sequence: u8, samples: [u8; 4]) {
 
 // A textual header of blanks in EBCDIC and three traces of two samples in format 3; big-endian,
 // revision 1.0.
-fn sample_file(alloc: Global) -> Result<Vec<u8>, Fail> {
+pub(crate) fn sample_file(alloc: Global) -> Result<Vec<u8>, Fail> {
     let mut file = vec![in alloc; 0u8; 4332]?;
     for byte in file.iter_mut().take(3200) {
         *byte = 0x40;
@@ -56,7 +49,7 @@ fn sample_file(alloc: Global) -> Result<Vec<u8>, Fail> {
     Ok(file)
 }
 
-fn options(stop: bool, save: bool) -> Result<Options, Fail> {
+pub(crate) fn options(stop: bool, save: bool) -> Result<Options, Fail> {
     Ok(Options {
         reading: Reading::AsWritten,
         limits: Limits::new(1 << 32, u32::MAX).ok_or("limits")?,
@@ -415,7 +408,7 @@ fn tells_failed_writes(rt: HostRuntime) -> Result<(), Fail> {
 }
 
 // What a script prints over a file, without a stop and without a save.
-fn prints(
+pub(crate) fn prints(
     alloc: Global,
     file: &[u8],
     script: &[u8],
@@ -485,143 +478,5 @@ fn lists_stanzas(rt: HostRuntime) -> Result<(), Fail> {
     let printed = b"traces 0\nstanzas 2\nstanza 1 Acme: Note\nstanza 2 Seg:  ENDtext\n\
           line |((Acme: Note))|\nline |((Seg:  ENDtext))|\nrefused E03 no place\n";
     assert!(rt; prints(rt.alloc(), file.as_slice(), script, 1, printed)?);
-    Ok(())
-}
-
-// Whether an answer is printed so.
-fn is_printed(alloc: Global, answer: Answer, printed: &[u8]) -> Result<bool, Fail> {
-    let mut out = OutBuffer::new();
-    let mut sink = Sink::new(Vec::new(alloc));
-    push_answer(&mut out, &mut sink, &answer)?;
-    out.flush(&mut sink)?;
-    Ok(sink.into_inner().as_slice() == printed)
-}
-
-// Scalar -32768 over x -2147483648 and y 500.
-#[test]
-fn prints_single_reports(rt: HostRuntime) -> Result<(), Fail> {
-    let alloc = rt.alloc();
-    let x = Ratio::scaled(-2147483648, -32768);
-    let y = Ratio::scaled(500, -32768);
-    let lies = Location {
-        inline: 10,
-        crossline: -21,
-        offset: 100,
-        x,
-        y,
-    };
-    let found = Statistics {
-        least: -8388608,
-        greatest: -1,
-        sum: -8388609,
-        number: 2,
-    };
-    let printed = b"geometry inline 10 crossline -21 offset 100 x -65536 y 125/8192\n";
-    assert!(rt; is_printed(alloc, Answer::Geometry(lies), printed)?);
-    let printed = b"stat least -8388608 greatest -1 sum -8388609 samples 2\n";
-    assert!(rt; is_printed(alloc, Answer::Stat(Some(found)), printed)?);
-    assert!(rt; is_printed(alloc, Answer::Totals(None), b"totals none\n")?);
-    assert!(rt; is_printed(alloc, Answer::Fold(3), b"fold 3\n")?);
-    assert!(rt;
-        is_printed(
-            alloc,
-            Answer::Range(Some((x, y))),
-            b"range -65536 125/8192\n"
-        )?
-    );
-    assert!(rt; is_printed(alloc, Answer::Range(None), b"range none\n")?);
-    Ok(())
-}
-
-#[test]
-fn prints_lists_of_reports(rt: HostRuntime) -> Result<(), Fail> {
-    let alloc = rt.alloc();
-    let cell = Cell {
-        inline: 10,
-        crossline: -21,
-        fold: 2,
-    };
-    let cells = Answer::Grid(Items::new(vec![in alloc; cell; 2]?));
-    assert!(rt; is_printed(alloc, cells, b"cells 2\ncell 10 -21 2\ncell 10 -21 2\n")?);
-    let line = Line {
-        number: -7,
-        traces: 3,
-    };
-    let lines = Answer::Inlines(Items::new(vec![in alloc; line; 1]?));
-    assert!(rt; is_printed(alloc, lines, b"inlines 1\ninline -7 3\n")?);
-    let lines = Answer::Crosslines(Items::new(vec![in alloc; line; 1]?));
-    assert!(rt; is_printed(alloc, lines, b"crosslines 1\ncrossline -7 3\n")?);
-    let count = FoldCount { fold: 2, cells: 9 };
-    let times = Answer::Histogram(Items::new(vec![in alloc; count; 1]?));
-    assert!(rt; is_printed(alloc, times, b"histogram 1\ntimes 2 9\n")?);
-    let none = Answer::Slice(Items::new(Vec::new(alloc)));
-    assert!(rt; is_printed(alloc, none, b"slice 0\n")?);
-    Ok(())
-}
-
-#[test]
-fn prints_faults(rt: HostRuntime) -> Result<(), Fail> {
-    let faults = [
-        Fault::TraceCount(4, 3),
-        Fault::TextLines(40),
-        Fault::Sequence(1, -1),
-        Fault::Samples(1, 4, 2),
-        Fault::Interval(1, 2000, 4000),
-        Fault::Scalar(1, 5),
-        Fault::Units(2, -1, 1),
-        Fault::Repeated(3, 1),
-        Fault::Name(3),
-    ];
-    let printed = b"faults 9\nF7 count 4 traces 3\nF8 lines 40\nF1 trace 1 sequence -1\n\
-          F2 trace 1 field 4 samples 2\nF3 trace 1 interval 2000 binary 4000\n\
-          F4 trace 1 scalar 5\nF5 trace 2 units -1 first 1\nF6 trace 3 first 1\n\
-          F9 trace 3 name\n";
-    let list = Answer::Faults(Items::new(Vec::from_array(rt.alloc(), faults)?));
-    assert!(rt; is_printed(rt.alloc(), list, printed)?);
-    Ok(())
-}
-
-// What a writer holds of the slice of a thousand rows `row 10 -21 1 -5` when it fails, and how much
-// the fault counts.
-fn cut_slice(alloc: Global, limit: usize) -> Result<(Vec<u8>, u64), Fail> {
-    let row = Row {
-        inline: 10,
-        crossline: -21,
-        position: 1,
-        value: -5,
-    };
-    let rows = Answer::Slice(Items::new(vec![in alloc; row; 1000]?));
-    let mut room = vec![in alloc; 0u8; 20000]?;
-    let mut out = OutBuffer::new();
-    let mut sink = Sink::new(StepWriter::new(room.as_mut_slice(), 5000, limit));
-    let told = match push_answer(&mut out, &mut sink, &rows) {
-        Ok(()) => out.flush(&mut sink),
-        Err(fault) => Err(fault),
-    };
-    let _writer = sink.into_inner();
-    Ok((
-        room,
-        told.err().map_or(0, |fault: WriteFault| fault.written),
-    ))
-}
-
-// Whether this part of the room is the text.
-fn holds(room: &[u8], from: usize, to: usize, text: &[u8]) -> bool {
-    match room.get(from..to) {
-        Some(part) => part == text,
-        None => false,
-    }
-}
-
-// 11 bytes, and 16 for each row.
-#[test]
-fn counts_all_bytes_of_a_long_reply(rt: HostRuntime) -> Result<(), Fail> {
-    let (cut, written) = cut_slice(rt.alloc(), 9000)?;
-    assert_eq!(rt; written, 9000);
-    assert!(rt; holds(cut.as_slice(), 8980, 9003, b"1 1 -5\nrow 10 -21 1 \0\0\0"));
-    let (whole, written) = cut_slice(rt.alloc(), 20000)?;
-    assert_eq!(rt; written, 0);
-    assert!(rt; holds(whole.as_slice(), 0, 15, b"slice 1000\nrow "));
-    assert!(rt; holds(whole.as_slice(), 16005, 16014, b" 1 -5\n\0\0\0"));
     Ok(())
 }

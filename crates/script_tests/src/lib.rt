@@ -1,0 +1,8 @@
+//! Tests of scripts through the public calls: what is read of a line, and what a run prints and
+//! saves. They stand in a crate of their own, since a crate with tests is proved twice.
+#![tactic(auto)]
+
+#[cfg(test)]
+mod run_tests;
+#[cfg(test)]
+mod tests;

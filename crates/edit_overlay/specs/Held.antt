@@ -1,5 +1,7 @@
 -- How an overlay holds a volume: its headers beside the loaded file, and the traces over it.
 use Rattle.std.specs.Prelude.{◌≡◌, ◌+◌, ◌-◌, ◌*◌, ◌≤◌, List, ℕ, length, drop, Option}
+use Rattle.text_block.specs.declared.block.TheConstants.{TEXT_BLOCK_BYTES}
+use Rattle.frame_cut.specs.declared.sizes.TheConstants.{BINARY_HEADER_BYTES, FILE_HEADER_BYTES}
 use Rattle.frame_cut.specs.Heads.{blocks_of}
 use Rattle.frame_cut.specs.Volume.{Volume, bytes_of}
 use Rattle.edit_overlay.specs.Ahead.{traces_ahead, IsReadyIfSome}
@@ -15,9 +17,9 @@ volume_with text bin s = record {
   head = s.head;
   text = text;
   bin = bin;
-  blocks = blocks_of s.head.blocks (drop 3600 s.loaded.items);
+  blocks = blocks_of s.head.blocks (drop FILE_HEADER_BYTES s.loaded.items);
   traces = traces_of s;
-  trailer = blocks_of s.head.trailer (drop (length s.loaded.items - 3200 * s.head.trailer) s.loaded.items);
+  trailer = blocks_of s.head.trailer (drop (length s.loaded.items - TEXT_BLOCK_BYTES * s.head.trailer) s.loaded.items);
 }
 
 -- the same as it would be with the edit that is prepared
@@ -34,13 +36,13 @@ looked_of o = record {
 
 -- the loaded file has the blocks in front of its traces, and the data trailer records behind them
 pub record HasEnds (s : TraceStore) : Type 0 where
-  pub front : s.head.traces_at ≡ 3600 + 3200 * s.head.blocks
-  pub whole : s.head.traces_at + 3200 * s.head.trailer ≤ length s.loaded.items
+  pub front : s.head.traces_at ≡ FILE_HEADER_BYTES + TEXT_BLOCK_BYTES * s.head.blocks
+  pub whole : s.head.traces_at + TEXT_BLOCK_BYTES * s.head.trailer ≤ length s.loaded.items
 
 -- what holds of an overlay between two calls
 pub record IsHeld (o : Inside) : Type 0 where
   pub ends : HasEnds o.store
-  pub text : length o.text ≡ 3200
-  pub bin : length o.bin ≡ 400
+  pub text : length o.text ≡ TEXT_BLOCK_BYTES
+  pub bin : length o.bin ≡ BINARY_HEADER_BYTES
   pub prepared : IsReadyIfSome o.store o.prepared
   pub length : o.length ≡ length (bytes_of (volume_with o.text o.bin o.store))

@@ -1,5 +1,6 @@
 pub mod EndKeyLemmas
 pub mod EndLemmas
+pub mod UnpackedLemmas
 pub mod OwnValueLemmas
 pub mod RangeLemmas
 pub mod SmallTallyLemmas

@@ -1,11 +1,13 @@
 -- The tally of records whose numbers were counted all at once.
-use Rattle.std.specs.Prelude.{◌≡◌, ℕ, ℤ, ◌+◌, Bool, true, false, ◌&&◌, cond, List, [], ◌∷◌, length, map, filter, count_by, nat_lt, refl}
+use Rattle.std.specs.Prelude.{◌≡◌, ℤ, ◌+◌, Bool, true, false, ◌&&◌, cond, List, [], ◌∷◌, length, map, filter, count_by, nat_lt, refl}
 use Rattle.std.proofs.Common.{arith, sym, ap, ◌∙◌}
 use Rattle.std.proofs.lemmas.List.{length-map}
 use Rattle.std.proofs.lemmas.List.Sums.{sum_by-cons}
 use Rattle.std.specs.Ordering.{int_cmp, int_eq, is_eq}
 use Rattle.trace_record.specs.Facts.{Facts, facts_of}
 use Rattle.range_stats.specs.RangeKeys.{ranges_has, keys_of_ranges}
+use Rattle.trace_record.specs.Counts.{count_of}
+use Rattle.trace_record.specs.declared.ratio.Ratio.{Ratio}
 use Rattle.trace_record.specs.Keys.{cell, inline, crossline, offset, coordinate_x, coordinate_y, least, greatest, triple}
 use Rattle.trace_record.specs.RatioOrder.{ratio_cmp}
 use Rattle.trace_record.specs.Rising.{Shows, times_in}
@@ -24,8 +26,8 @@ pub Same-loaded_ranges : (v : Ranges) (rs : List Record) → v.records ≡ lengt
     → Shows int_cmp (times_in int_cmp (map (λ r. r.inline) rs)) v.inlines
     → Shows int_cmp (times_in int_cmp (map (λ r. r.crossline) rs)) v.crosslines
     → Shows int_cmp (times_in int_cmp (map (λ r. r.offset) rs)) v.offsets
-    → Shows ratio_cmp (times_in ratio_cmp (map (λ r. r.x) rs)) v.coordinates_x
-    → Shows ratio_cmp (times_in ratio_cmp (map (λ r. r.y) rs)) v.coordinates_y
+    → ((q : Ratio) → count_of ratio_cmp v.coordinates_x q ≡ times_in ratio_cmp (map (λ r. r.x) rs) q)
+    → ((q : Ratio) → count_of ratio_cmp v.coordinates_y q ≡ times_in ratio_cmp (map (λ r. r.y) rs) q)
     → Same (tally_of_ranges v) (tally_of keys_of_ranges (map facts_of rs))
 Same-loaded_ranges v rs n inlines crosslines offsets xs ys = record {
   records = n ∙ sym (length-map rs facts_of);
@@ -46,11 +48,11 @@ Same-loaded_ranges v rs n inlines crosslines offsets xs ys = record {
         ∙ ap (λ ks. times_in int_cmp ks o) (map-facts (λ r. r.offset) (λ f. f.offset) (λ r. refl) rs)
         ∙ times_in-map int_cmp (λ f. f.offset) (λ f k. ranges_has f (offset k)) (λ f k. refl) (map facts_of rs) o
     | coordinate_x r ↦
-        xs.counts r
+        xs r
         ∙ ap (λ ks. times_in ratio_cmp ks r) (map-facts (λ r. r.x) (λ f. f.x) (λ r. refl) rs)
         ∙ times_in-map ratio_cmp (λ f. f.x) (λ f k. ranges_has f (coordinate_x k)) (λ f k. refl) (map facts_of rs) r
     | coordinate_y r ↦
-        ys.counts r
+        ys r
         ∙ ap (λ ks. times_in ratio_cmp ks r) (map-facts (λ r. r.y) (λ f. f.y) (λ r. refl) rs)
         ∙ times_in-map ratio_cmp (λ f. f.y) (λ f k. ranges_has f (coordinate_y k)) (λ f k. refl) (map facts_of rs) r
     | least v ↦ sym (sum_by-zero (map facts_of rs))

@@ -1,5 +1,6 @@
 pub mod TotalKeys
 pub mod RangeKeys
+pub mod Unpacked
 pub mod Ranges
 pub mod Totals
 pub mod OfTally

@@ -8,6 +8,7 @@
 //! answer.
 #![tactic(auto)]
 
+mod coordinate_counts;
 mod counted;
 mod keys;
 mod laws;

@@ -5,10 +5,11 @@ ghost use Rattle.trace_record.specs.RatioOrder.{ratio_cmp};
 ghost use Rattle.range_stats.specs.Extremes.{IsSpan, whole_count};
 
 use crate::Quantity;
+use crate::coordinate_counts::CoordinateCounts;
 use crate::counted::span;
 use crate::keys::{crossline_keys, inline_keys, offset_keys, x_keys, y_keys};
 use std::alloc::Global;
-use trace_record::{Counts, OutOfMemory, Ratio, Record, Records, Running, raise_both};
+use trace_record::{Counts, OutOfMemory, PackedRatio, Ratio, Record, Records, Running, raise_both};
 
 /// The least and the greatest inline, crossline, offset, x and y of traces that come and go. Adding
 /// or removing a trace takes time by the logarithm of the number of traces.
@@ -18,8 +19,8 @@ pub struct Ranges {
     inlines: Counts<i32>,
     crosslines: Counts<i32>,
     offsets: Counts<i32>,
-    coordinates_x: Counts<Ratio>,
-    coordinates_y: Counts<Ratio>,
+    coordinates_x: CoordinateCounts,
+    coordinates_y: CoordinateCounts,
 }
 
 impl Running for Ranges {
@@ -36,8 +37,8 @@ impl Running for Ranges {
             inlines: Counts::new(alloc),
             crosslines: Counts::new(alloc),
             offsets: Counts::new(alloc),
-            coordinates_x: Counts::new(alloc),
-            coordinates_y: Counts::new(alloc),
+            coordinates_x: CoordinateCounts::new(alloc),
+            coordinates_y: CoordinateCounts::new(alloc),
         }
     }
 
@@ -45,8 +46,8 @@ impl Running for Ranges {
         let inlines = Counts::from_keys(alloc, inline_keys(alloc, records)?)?;
         let crosslines = Counts::from_keys(alloc, crossline_keys(alloc, records)?)?;
         let offsets = Counts::from_keys(alloc, offset_keys(alloc, records)?)?;
-        let coordinates_x = Counts::from_keys(alloc, x_keys(alloc, records)?)?;
-        let coordinates_y = Counts::from_keys(alloc, y_keys(alloc, records)?)?;
+        let coordinates_x = CoordinateCounts::from_keys(alloc, x_keys(alloc, records)?)?;
+        let coordinates_y = CoordinateCounts::from_keys(alloc, y_keys(alloc, records)?)?;
         Ok(Ranges {
             records: records.len() as u64,
             inlines,
@@ -64,11 +65,10 @@ impl Running for Ranges {
             &mut self.offsets,
             trace,
         )?;
-        if let Err(error) = raise_both(
+        if let Err(error) = raise_coordinates(
             &mut self.coordinates_x,
-            trace.x,
             &mut self.coordinates_y,
-            trace.y,
+            trace,
         ) {
             lower_lines(
                 &mut self.inlines,
@@ -89,8 +89,8 @@ impl Running for Ranges {
             &mut self.offsets,
             trace,
         );
-        self.coordinates_x.lower(&trace.x);
-        self.coordinates_y.lower(&trace.y);
+        self.coordinates_x.lower(PackedRatio::x_of(trace));
+        self.coordinates_y.lower(PackedRatio::y_of(trace));
         self.records -= 1;
     }
 }
@@ -108,8 +108,8 @@ impl Ranges {
             Quantity::Inline => whole_span(&self.inlines),
             Quantity::Crossline => whole_span(&self.crosslines),
             Quantity::Offset => whole_span(&self.offsets),
-            Quantity::X => span(&self.coordinates_x),
-            Quantity::Y => span(&self.coordinates_y),
+            Quantity::X => self.coordinates_x.span(),
+            Quantity::Y => self.coordinates_y.span(),
         }
     }
 }
@@ -169,4 +169,30 @@ fn lower_lines(
     inlines.lower(&trace.inline);
     crosslines.lower(&trace.crossline);
     offsets.lower(&trace.offset);
+}
+
+// Counts the trace's x and y, or neither where a growth is refused.
+fn raise_coordinates(
+    coordinates_x: &mut CoordinateCounts,
+    coordinates_y: &mut CoordinateCounts,
+    trace: &Record,
+) -> Result<(), OutOfMemory>
+    requires room_x { count_of ratio_cmp coordinates_x.old trace.now.x + 1 < 2 ^ 64 }
+    requires room_y { count_of ratio_cmp coordinates_y.old trace.now.y + 1 < 2 ^ 64 }
+    ensures ok_x { OnOk result
+        (HasOneMore ratio_cmp coordinates_x.old coordinates_x.new trace.now.x) }
+    ensures ok_y { OnOk result
+        (HasOneMore ratio_cmp coordinates_y.old coordinates_y.new trace.now.y) }
+    ensures err_x { OnErr result (HasSameCounts ratio_cmp coordinates_x.old coordinates_x.new) }
+    ensures err_y { OnErr result (HasSameCounts ratio_cmp coordinates_y.old coordinates_y.new) }
+    ensures held { 0 < count_of ratio_cmp coordinates_x.old trace.now.x →
+        0 < count_of ratio_cmp coordinates_y.old trace.now.y → IsOk result }
+{
+    let x = PackedRatio::x_of(trace);
+    coordinates_x.raise(x)?;
+    if let Err(error) = coordinates_y.raise(PackedRatio::y_of(trace)) {
+        coordinates_x.lower(x);
+        return Err(error);
+    }
+    Ok(())
 }

@@ -11,7 +11,7 @@ use std::alloc::Global;
 pub const ROOM: usize = 256;
 
 /// How many items a chunk gets where items are put behind all others.
-pub const FILL: usize = 192;
+pub const FILL: usize = 240;
 
 /// Chunks in order, the numbers noted of them, and the number of all items.
 #[derive(Drop)]

@@ -1,5 +1,8 @@
--- The record that a packed record stands for.
+-- The fraction and the record that packed ones stand for, and the order of packed fractions.
 use Rattle.std.specs.Prelude.{◌+◌, ◌*◌, ◌^◌, refl}
+use Rattle.std.specs.Cmp.{IsTotalOrder, on_total}
+use Rattle.std.specs.declared.cmp.Ordering.{Ordering}
+use Rattle.trace_record.specs.RatioOrder.{ratio_cmp, ratio_total}
 use Rattle.trace_record.specs.Parts.{signed_of, first_flag, second_flag, numerator_in, denominator_in, denominator_in-positive, fits_in_word, small_parts}
 use Rattle.trace_record.specs.declared.packed_ratio.PackedRatio.{PackedRatio}
 use Rattle.trace_record.specs.declared.packed_record.PackedRecord.{PackedRecord}
@@ -14,6 +17,14 @@ ratio_in p = record {
   positive = denominator_in-positive p.bits;
   lowest = p.lowest;
 }
+
+-- which of two packed fractions is less, by value, whatever their flags are
+abbrev pub packed_cmp : PackedRatio → PackedRatio → Ordering
+packed_cmp p q = ratio_cmp (ratio_in p) (ratio_in q)
+
+-- it is a total order
+pub packed_total : IsTotalOrder packed_cmp
+packed_total = on_total ratio_in ratio_total
 
 -- the record, its least, greatest and sum with their signs from the flags
 abbrev pub record_in : PackedRecord → Record

@@ -1,9 +1,10 @@
 //! What the reports need of one trace, and how often its keys occur over many. `Record` is a
 //! trace's own numbers, which `record_of` takes from a view of the trace, and
 //! `record_with_samples_of` from its headers alone; `Records` holds those of many traces in order,
-//! each in 72 bytes. `Ratio` is a coordinate under its scalar, `Statistics` the least, greatest,
-//! sum and number of samples. `Counts` counts keys; a `Running` value counts traces, seen as their
-//! tally. The calls that are named for a law do nothing: their contract is the law.
+//! each in 72 bytes. `Ratio` is a coordinate under its scalar, `PackedRatio` the same in 8 bytes,
+//! `Statistics` the least, greatest, sum and number of samples. `Counts` counts keys; a `Running`
+//! value counts traces, seen as their tally. The calls that are named for a law do nothing: their
+//! contract is the law.
 //!
 //! `Counts::raise`, `raise_both` and `Running::add` take memory only for a key that is not held;
 //! where a growth is refused they leave all as it was. `Counts::from_keys` and
@@ -41,6 +42,7 @@ pub use crate::laws::{
 };
 pub use crate::of_trace::{record_of, record_with_samples_of};
 pub use crate::out_of_memory::OutOfMemory;
+pub use crate::packed_ratio::PackedRatio;
 pub use crate::ratio::Ratio;
 pub use crate::record::Record;
 pub use crate::records::Records;

@@ -1,7 +1,9 @@
 ghost use Rattle.std.specs.Prelude.{◌≡◌, ◌<◌, ◌^◌, ◌/◌, ◌%◌};
 ghost use Rattle.trace_record.specs.Parts.{IsLowest, IsLowest-prop, first_flag, second_flag};
 
-use crate::Ratio;
+use crate::{Ratio, Record};
+use std::cmp::Ordering;
+use std::mem::size_of;
 
 // What the first flag counts in a word.
 const FIRST: u64 = 0x8000_0000_0000_0000;
@@ -18,11 +20,68 @@ const DENOMINATORS: u64 = 0x8000;
 // The least numerator, without its sign.
 const MIDDLE: i64 = 0x4000_0000_0000;
 
-/// A coordinate under its scalar and two flags in 64 bits.
+/// A coordinate under its scalar and two flags in 8 bytes, where a `Ratio` takes 16; equal and
+/// ordered by the coordinate's value, whatever the flags are.
 #[derive(Clone, Copy)]
 pub struct PackedRatio {
+    /// From the highest bit on: the first flag, the second, the numerator in 47 bits, counted from
+    /// -2^46 on, and the denominator in 15 bits, counted from 1 on.
     pub bits: u64,
     pub ghost lowest: { IsLowest bits } by { IsLowest-prop bits },
+}
+
+const _: () = prove!(size_of::<PackedRatio>() == 8);
+
+impl PartialEq for PackedRatio {
+    ghost use Rattle.std.specs.Ordering.{eq_by_cmp};
+    ghost use Rattle.std.specs.Cmp.{partial_equiv_from_equiv, eq_by_cmp_equiv};
+    ghost use Rattle.trace_record.specs.Packed.{packed_cmp, packed_total};
+
+    ghost eq = { eq_by_cmp packed_cmp };
+
+    ghost laws = { partial_equiv_from_equiv (eq_by_cmp_equiv packed_total) };
+
+    fn eq(&self, other: &PackedRatio) -> bool {
+        self.cmp(other).is_eq()
+    }
+}
+
+impl Eq for PackedRatio {
+    ghost use Rattle.std.specs.Cmp.{eq_by_cmp_equiv};
+    ghost use Rattle.trace_record.specs.Packed.{packed_total};
+
+    ghost laws = { eq_by_cmp_equiv packed_total };
+}
+
+impl Ord for PackedRatio {
+    ghost use Rattle.trace_record.specs.Packed.{packed_cmp, packed_total};
+    ghost use Rattle.std.specs.Prelude.{refl};
+
+    ghost cmp = { packed_cmp };
+
+    ghost total = { packed_total };
+
+    ghost matches_partial_cmp = { λ x y. refl };
+
+    ghost matches_eq = { λ x y. refl };
+
+    fn cmp(&self, other: &PackedRatio) -> Ordering {
+        self.ratio().cmp(&other.ratio())
+    }
+}
+
+impl PartialOrd for PackedRatio {
+    ghost use Rattle.std.specs.Ordering.{as_partial_cmp};
+    ghost use Rattle.std.specs.Cmp.{partial_order_from_total};
+    ghost use Rattle.trace_record.specs.Packed.{packed_cmp, packed_total};
+
+    ghost partial_cmp = { as_partial_cmp packed_cmp };
+
+    ghost laws = { partial_order_from_total packed_total };
+
+    fn partial_cmp(&self, other: &PackedRatio) -> Option<Ordering> {
+        Some(self.cmp(other))
+    }
 }
 
 impl PackedRatio {
@@ -30,7 +89,8 @@ impl PackedRatio {
     ghost use Rattle.trace_record.specs.Parts.{FitsCoordinate, first_flag, second_flag};
     ghost use Rattle.trace_record.specs.Packed.{ratio_in};
 
-    pub fn of(ratio: Ratio, first: bool, second: bool) -> PackedRatio
+    // The coordinate and both flags.
+    pub(crate) fn of(ratio: Ratio, first: bool, second: bool) -> PackedRatio
         requires { FitsCoordinate ratio }
         ensures ratio { ratio_in result ≡ ratio }
         ensures first { first_flag result.bits ≡ first }
@@ -43,6 +103,21 @@ impl PackedRatio {
         }
     }
 
+    /// The x of a record, without flags. Takes no memory.
+    pub fn x_of(trace: &Record) -> PackedRatio
+        ensures { ratio_in result ≡ trace.now.x }
+    {
+        PackedRatio::of(trace.x, false, false)
+    }
+
+    /// The y of a record, without flags. Takes no memory.
+    pub fn y_of(trace: &Record) -> PackedRatio
+        ensures { ratio_in result ≡ trace.now.y }
+    {
+        PackedRatio::of(trace.y, false, false)
+    }
+
+    /// The coordinate. Takes no memory.
     #[inline]
     pub fn ratio(self) -> Ratio
         ensures { result ≡ ratio_in self }
@@ -55,15 +130,17 @@ impl PackedRatio {
         }
     }
 
+    // The first flag.
     #[inline]
-    pub fn first(self) -> bool
+    pub(crate) fn first(self) -> bool
         ensures { result ≡ first_flag self.bits }
     {
         self.bits / FIRST == 1
     }
 
+    // The second flag.
     #[inline]
-    pub fn second(self) -> bool
+    pub(crate) fn second(self) -> bool
         ensures { result ≡ second_flag self.bits }
     {
         self.bits / SECOND % 2 == 1

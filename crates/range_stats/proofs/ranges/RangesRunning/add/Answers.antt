@@ -24,11 +24,11 @@ returns-in_err-raise_lines-clause-held c held =
     let bad = c.in_err-raise_lines.ensures.held (omega arith) (omega arith) (omega arith) in
     cc
 
-pub raise_both-requires-clause-first : goal.raise_both-requires-clause-first
-raise_both-requires-clause-first c = let few = c.requires.count (coordinate_x c.args.trace.now.x) in omega arith
+pub raise_coordinates-requires-clause-room_x : goal.raise_coordinates-requires-clause-room_x
+raise_coordinates-requires-clause-room_x c = let few = c.requires.count (coordinate_x c.args.trace.now.x) in omega arith
 
-pub raise_both-requires-clause-second : goal.raise_both-requires-clause-second
-raise_both-requires-clause-second c = let few = c.requires.count (coordinate_y c.args.trace.now.y) in omega arith
+pub raise_coordinates-requires-clause-room_y : goal.raise_coordinates-requires-clause-room_y
+raise_coordinates-requires-clause-room_y c = let few = c.requires.count (coordinate_y c.args.trace.now.y) in omega arith
 
 pub returns-in-Err-clause-held : goal.returns-in-Err-clause-held
 returns-in-Err-clause-held c held =

@@ -23,10 +23,12 @@
 //! makes the edit; `discard` drops it. An overlay holds one such edit at a time, and any other edit
 //! drops it.
 //!
-//! `look` and `look_prepared` show a trace in the pieces in which it is held, and `pass` shows all
-//! of them in order. Looks are counted: contracts can say how often traces were read.
+//! `look` and `look_prepared` show a trace in the pieces in which it is held; `pass` and
+//! `pass_near` show all of them in order. Looks are counted: contracts can say how often traces
+//! were read.
 #![tactic(auto)]
 
+mod ahead;
 mod bytes;
 mod out_of_memory;
 mod overlay;

@@ -7,17 +7,18 @@ use trace_view::TraceView;
 #[derive(Drop)]
 pub struct Pass<'a> {
     overlay: &'a Overlay,
+    near: Option<u64>,
 }
 
 impl<'a> Pass<'a> {
     ghost use Rattle.std.specs.Prelude.{◌≡◌};
     ghost use Rattle.edit_overlay.specs.Passes.{volume_of};
 
-    // A pass over the traces of this overlay.
-    pub(crate) fn new(overlay: &'a Overlay) -> Pass<'a>
+    // A pass over the traces of this overlay, and the byte of each that is read ahead.
+    pub(crate) fn new(overlay: &'a Overlay, near: Option<u64>) -> Pass<'a>
         ensures { volume_of result ≡ overlay.now.volume }
     {
-        Pass { overlay }
+        Pass { overlay, near }
     }
 }
 
@@ -33,6 +34,9 @@ impl<'a> IntoIterator for Pass<'a> {
     ghost into_iter_gives = { λ pass views. views ≡ shown_traces (volume_of pass) };
 
     fn into_iter(self) -> Views<'a> {
-        self.overlay.views()
+        match self.near {
+            Some(at) => self.overlay.views_near(at),
+            None => self.overlay.views(),
+        }
     }
 }

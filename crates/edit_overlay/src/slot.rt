@@ -36,6 +36,15 @@ impl Slot {
         }
     }
 
+    // Where byte `at` under the runs, counted from 0, lies in the loaded file; none for a trace
+    // that has bytes of its own.
+    pub fn loaded_place(&self, at: u64) -> Option<usize> {
+        match &self.base {
+            Base::Loaded(extent) => Some(extent.start.saturating_add(at) as usize),
+            Base::Added(_) => None,
+        }
+    }
+
     // The runs with these bytes laid over the trace from place `at` on, counted from 0.
     pub fn runs_with(
         &self,

@@ -1,5 +1,6 @@
 ghost use Rattle.std.specs.Prelude.{◌≡◌};
 
+use crate::ahead::Ahead;
 use crate::store::TraceStore;
 use std::marker::Model;
 use trace_seq::Ids;
@@ -11,6 +12,7 @@ use trace_view::TraceView;
 pub struct Views<'a> {
     store: &'a TraceStore,
     ids: Ids<'a>,
+    ahead: Option<Ahead<'a>>,
 }
 
 impl<'a> Model for Views<'a> {
@@ -36,6 +38,18 @@ impl<'a> Views<'a> {
         Views {
             store,
             ids: store.order.ids(),
+            ahead: None,
+        }
+    }
+
+    // All traces of the store, where byte `at` of each, counted from 0, is read ahead.
+    pub(crate) fn near(store: &'a TraceStore, at: u64) -> Views<'a>
+        ensures { result ≡ shown_under store.now store.now.order.ids }
+    {
+        Views {
+            store,
+            ids: store.order.ids(),
+            ahead: Some(Ahead::new(store.order.ids(), at)),
         }
     }
 }
@@ -51,6 +65,9 @@ impl<'a> Iterator for Views<'a> {
     ghost remaining = { item_count (λ s. s) };
 
     fn next(&mut self) -> Option<TraceView<'a>> {
+        if let Some(ahead) = &mut self.ahead {
+            ahead.step(self.store);
+        }
         let id = self.ids.next()?;
         Some(self.store.view_under(id))
     }

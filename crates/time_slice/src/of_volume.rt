@@ -61,12 +61,20 @@ fn rows_in_place(
     let count = overlay.count();
     let mut rows = Vec::with_capacity(alloc, count as usize)?;
     let mut position = 0;
-    for (record, trace) in records.iter().zip(overlay.pass()) {
+    let near = usual_place(overlay.head(), k);
+    for (record, trace) in records.iter().zip(overlay.pass_near(near)) {
         position += 1;
         let sample = sample_that_fits(&trace, k);
         push_row(&mut rows, &record, position, sample)?;
     }
     Ok(rows)
+}
+
+// Where sample k stands in a trace that has as many header extensions as the file allows, counted
+// from 0.
+fn usual_place(head: Head, k: u32) -> u64 {
+    let headers = TRACE_HEADER_BYTES as u64 * (1 + u64::from(head.extensions));
+    headers + u64::from(head.format.width()) * u64::from(k)
 }
 
 // The row of the trace at a position at the end of the rows, where it has the sample.

@@ -34,6 +34,7 @@ mod script;
 mod script_fault;
 mod split;
 mod text_buffer;
+mod text_from_end;
 mod trace_commands;
 mod whole_run;
 mod words;

@@ -9,7 +9,7 @@ use std::io::Write;
 use std::marker::Model;
 
 // A device takes so many bytes at once, or a longer text.
-const ROOM: usize = 8192;
+const ROOM: usize = 32768;
 
 /// What waits to be written, and how many bytes were written before it. It takes no memory.
 #[derive(Drop)]
@@ -27,7 +27,7 @@ impl Model for OutBuffer {
 
     ghost view = { λ o. record { waits = take o.length o.bytes; written = o.written } };
 
-    ghost invariant = { λ o. o.length ≤ 8192 };
+    ghost invariant = { λ o. o.length ≤ 32768 };
 }
 
 impl OutBuffer {
@@ -99,7 +99,7 @@ impl OutBuffer {
 
     // Puts the text behind what waits.
     fn hold(&mut self, text: &[u8])
-        requires { length self.old.waits + length text.now ≤ 8192 }
+        requires { length self.old.waits + length text.now ≤ 32768 }
         ensures waits { self.new.waits ≡ self.old.waits ++ text.now }
         ensures written { self.new.written ≡ self.old.written }
     {

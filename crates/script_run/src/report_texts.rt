@@ -5,6 +5,7 @@ ghost use Rattle.script_run.specs.Texts.{with_line_end};
 
 use crate::list_texts::Listed;
 use crate::text_buffer::TextBuffer;
+use crate::text_from_end::TextFromEnd;
 use bench_rules::Location;
 use fault_live::Fault;
 use grid_live::{Cell, FoldCount, Line};
@@ -85,14 +86,20 @@ pub(crate) fn range_line(range: Option<(Ratio, Ratio)>) -> TextBuffer
     line
 }
 
+// A list of cells or rows may have a line for each trace: they are written with few steps.
 impl Listed for Cell {
     ghost text = { cell_text };
 
     fn push_text(&self, line: &mut TextBuffer, word: &[u8]) {
         line.push(word);
-        line.push_spaced(self.inline);
-        line.push_spaced(self.crossline);
-        line.push_spaced(self.fold);
+        let mut text = TextFromEnd::new();
+        text.put_number(i128::from(self.fold));
+        text.put_byte(b' ');
+        text.put_number(i128::from(self.crossline));
+        text.put_byte(b' ');
+        text.put_number(i128::from(self.inline));
+        text.put_byte(b' ');
+        line.push(text.as_slice());
     }
 }
 
@@ -121,10 +128,16 @@ impl Listed for Row {
 
     fn push_text(&self, line: &mut TextBuffer, word: &[u8]) {
         line.push(word);
-        line.push_spaced(self.inline);
-        line.push_spaced(self.crossline);
-        line.push_spaced(self.position);
-        line.push_spaced(self.value);
+        let mut text = TextFromEnd::new();
+        text.put_number(self.value);
+        text.put_byte(b' ');
+        text.put_number(i128::from(self.position));
+        text.put_byte(b' ');
+        text.put_number(i128::from(self.crossline));
+        text.put_byte(b' ');
+        text.put_number(i128::from(self.inline));
+        text.put_byte(b' ');
+        line.push(text.as_slice());
     }
 }
 

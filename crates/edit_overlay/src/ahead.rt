@@ -32,6 +32,7 @@ impl<'a> Ahead<'a> {
     }
 
     // The pass shows one trace more.
+    #[inline(always)]
     pub fn step(&mut self, store: &TraceStore) {
         if self.left == 0 {
             self.read(store);

@@ -64,6 +64,8 @@ impl<'a> Iterator for Views<'a> {
 
     ghost remaining = { item_count (λ s. s) };
 
+    // A view that is handed over in memory is read back before it is there, which costs 20 ns.
+    #[inline(always)]
     fn next(&mut self) -> Option<TraceView<'a>> {
         if let Some(ahead) = &mut self.ahead {
             ahead.step(self.store);

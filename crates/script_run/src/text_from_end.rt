@@ -43,6 +43,7 @@ impl TextFromEnd {
     }
 
     /// Writes one byte in front of what is there.
+    #[inline(always)]
     pub(crate) fn put_byte(&mut self, byte: u8)
         requires { length self.old < 192 }
         ensures { self.new ≡ byte ∷ self.old }
@@ -52,6 +53,8 @@ impl TextFromEnd {
     }
 
     /// Writes the number in decimal in front of what is there, with `-` where it is negative.
+    // With its calls in one function, where the text begins stays in a register.
+    #[inline(always)]
     pub(crate) fn put_number(&mut self, number: i128)
         requires { length self.old + 40 ≤ 192 }
         ensures text { self.new ≡ signed_decimal number ++ self.old }
@@ -78,6 +81,7 @@ impl TextFromEnd {
     }
 
     // Writes the digits of a wider number in front of what is there.
+    #[inline(never)]
     fn put_wide(&mut self, number: u128)
         requires { length self.old + 39 ≤ 192 }
         ensures text { self.new ≡ decimal number ++ self.old }

@@ -6,11 +6,10 @@ use Rattle.std.proofs.lemmas.Int.{ints}
 use Rattle.std.proofs.lemmas.List.{take_all}
 use Rattle.num_order.specs.declared.order.Order.{Order}
 use Rattle.num_order.specs.Number.{unsigned, with_sign, IsBetween, is_between}
-use Rattle.num_order.proofs.InRangeLemmas.{in_range}
 use Rattle.num_order.proofs.SizeLemmas.{slice-lt}
 use Rattle.sample_codes.specs.declared.format.Format.{Format}
 use Rattle.sample_codes.specs.declared.format.Format.TheVariants.{Signed32, Signed16, Signed24, Signed8, Signed64, Unsigned32, Unsigned16, Unsigned64, Unsigned24, Unsigned8}
-use Rattle.sample_codes.specs.Formats.{width, is_signed, kind_of, sample_value, sample_fits}
+use Rattle.sample_codes.specs.Formats.{width, is_signed, sample_value, sample_fits}
 
 -- ---- the number of a sample's bytes
 

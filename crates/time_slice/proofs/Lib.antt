@@ -5,3 +5,4 @@ pub mod CacheLemmas
 pub mod KeptLemmas
 pub mod FitLemmas
 pub mod TurnLemmas
+pub mod WalkLemmas

@@ -2,9 +2,9 @@
 use Rattle.std.specs.Prelude.{◌≡◌, ℕ, ℤ, ◌+◌, ◌-◌, ◌<◌, ◌++◌, nat_eq, not, Bool, true, false, cond, if◌then◌else◌, List, [], ◌∷◌, take, length, slice_get, Some, refl}
 use Rattle.std.specs.List.{AllByRecursion, IsDistinct}
 use Rattle.std.specs.Map.{keys_of, lookup_entry, remove_entry}
-use Rattle.std.proofs.Common.{ap, sym, ◌∙◌, arith, subst, drop, get_or, add-one, append_assoc, append-nil, length-append, drop-cons}
+use Rattle.std.proofs.Common.{ap, sym, ◌∙◌, arith, subst, drop, get_or, add-one, append_assoc, length-append, drop-cons}
 use Rattle.std.proofs.lemmas.Bool.{eq-eqb}
-use Rattle.std.proofs.lemmas.List.{take_all, take_more, drop_all}
+use Rattle.std.proofs.lemmas.List.{take_more}
 use Rattle.std.proofs.lemmas.Map.Keys.{IsDistinct-head, IsDistinct-tail}
 use Rattle.lru.specs.LruCache.{last_entry, promoted}
 use Rattle.time_slice.specs.Cache.{Cache, is_from, cache_after_change}

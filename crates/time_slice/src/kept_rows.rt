@@ -7,6 +7,7 @@ ghost use Rattle.time_slice.specs.Cache.{kept_of, row_again, rows_again};
 ghost use Rattle.time_slice.specs.Shown.{pair_of};
 
 use crate::of_volume::push_row;
+use crate::record_walk::RecordWalk;
 use crate::{OutOfMemory, Row};
 use num_order::{Kind, Order};
 use sample_codes::Format;
@@ -87,8 +88,9 @@ impl KeptRows {
         ensures { IfOk result (λ v. v.items ≡ rows_again (map facts_of records.now) self.now) }
     {
         let mut rows = Vec::with_capacity(alloc, self.rows.len())?;
+        let mut walk = RecordWalk::new(records);
         for kept in &self.rows {
-            push_again(&mut rows, records, *kept, self.signed)?;
+            push_again(&mut rows, &mut walk, *kept, self.signed)?;
         }
         Ok(rows)
     }
@@ -97,12 +99,13 @@ impl KeptRows {
 // The row of which this is kept at the end of the rows.
 fn push_again(
     rows: &mut Vec<Row>,
-    records: &Records,
+    records: &mut RecordWalk<'_>,
     kept: KeptRow,
     signed: bool,
 ) -> Result<(), OutOfMemory>
-    ensures { OnOk result (rows.new.items ≡ rows.old.items ++
-        row_again (map facts_of records.now) (pair_of signed kept)) }
+    ensures rows { OnOk result (rows.new.items ≡ rows.old.items ++
+        row_again (map facts_of records.old) (pair_of signed kept)) }
+    ensures records { records.new ≡ records.old }
 {
     let place = (kept.position as usize).saturating_sub(1);
     if let Some(record) = records.get(place) {

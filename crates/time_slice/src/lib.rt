@@ -10,6 +10,8 @@ mod kept_rows;
 mod laws;
 mod of_volume;
 mod out_of_memory;
+mod record_walk;
+mod records_ahead;
 mod row;
 mod slice_cache;
 

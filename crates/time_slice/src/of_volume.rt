@@ -8,6 +8,7 @@ ghost use Rattle.edit_overlay.specs.CountedVolume.{RisesAtMost};
 ghost use Rattle.time_slice.specs.OfRecords.{with_sample_of};
 ghost use Rattle.time_slice.specs.Slices.{row_of, rows_from, slice_rows};
 
+use crate::records_ahead::RecordsAhead;
 use crate::{OutOfMemory, Row};
 use edit_overlay::Overlay;
 use field_map::TRACE_HEADER_BYTES;
@@ -62,8 +63,10 @@ fn rows_in_place(
     let mut rows = Vec::with_capacity(alloc, count as usize)?;
     let mut position = 0;
     let near = usual_place(overlay.head(), k);
+    let mut ahead = RecordsAhead::new(records.iter());
     for (record, trace) in records.iter().zip(overlay.pass_near(near)) {
         position += 1;
+        ahead.step();
         let sample = sample_that_fits(&trace, k);
         push_row(&mut rows, &record, position, sample)?;
     }

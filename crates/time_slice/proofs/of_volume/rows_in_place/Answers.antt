@@ -1,4 +1,4 @@
-use Rattle.std.proofs.Common.{◌≡◌, ◌+◌, ◌++◌, ◌∙◌, ◌≤◌, [], List, length, drop, ap, subst, sym, arith, add-one, inl, inr, IfSome, IsTrue}
+use Rattle.std.proofs.Common.{◌≡◌, ◌+◌, ◌++◌, ◌∙◌, ◌≤◌, List, length, drop, ap, subst, sym, arith, add-one, inl, inr, IfSome, IsTrue}
 use Rattle.frame_cut.specs.declared.file_head.Head.{Head}
 use Rattle.frame_cut.specs.Traces.{count_of}
 use Rattle.sample_codes.specs.Formats.{sample_fits}

@@ -6,5 +6,6 @@ use Rattle.time_slice.proofs.kept_rows.KeptRows.rows.Given as goal
 
 abbrev pub invariant-loop-kept : goal.invariant-loop-kept
 invariant-loop-kept l =
-    l.rows.items ++ rows_again (map facts_of l.fn.records) (map (pair_of l.self-inside.signed) (drop l.kept-index l.self-inside.rows.items))
-    ≡ rows_again (map facts_of l.fn.records) l.fn.self
+    (l.rows.items ++ rows_again (map facts_of l.fn.records) (map (pair_of l.self-inside.signed) (drop l.kept-index l.self-inside.rows.items))
+    ≡ rows_again (map facts_of l.fn.records) l.fn.self)
+    × (l.walk ≡ l.fn.records)

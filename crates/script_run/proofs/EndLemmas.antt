@@ -1,16 +1,20 @@
 -- The ends of a run, from those of its steps.
-use Rattle.std.proofs.Common.{◌≡◌, ℕ, List, sym, subst, inl, inr}
+use Rattle.std.proofs.Common.{◌≡◌, ℕ, ◌+◌, List, [], ◌∷◌, ◌++◌, length, take, sym, subst, inl, inr}
 use Rattle.std.specs.Prelude.{IsTrue}
 use Rattle.frame_cut.specs.declared.load_fault.LoadFault.{LoadFault}
 use Rattle.bench_rules.specs.State.{State}
 use Rattle.script_run.specs.declared.options.Options.{Options}
 use Rattle.script_run.specs.declared.run_end.RunEnd.{RunEnd}
 use Rattle.script_run.specs.declared.run_end.RunEnd.TheVariants as ends
-use Rattle.script_run.specs.declared.script_fault.ScriptFault.{ScriptFault}
-use Rattle.script_run.specs.RefusalTexts.{load_refusal_line, script_refusal_line}
-use Rattle.script_run.specs.Devices.{Takes, TakesPart, count_in_64_bits}
+use Rattle.script_text.specs.declared.script_fault.ScriptFault.{ScriptFault}
+use Rattle.script_text.specs.RefusalTexts.{load_refusal_line, script_refusal_line}
+use Rattle.script_text.specs.Devices.{Takes, TakesPart, count_in_64_bits}
 use Rattle.script_run.specs.Loading.{Loads, ReadsScript}
-use Rattle.script_run.specs.Runs.{RunsWhole, StopsAt, BreaksOff}
+use Rattle.script_text.specs.Replies.{Printed}
+use Rattle.script_text.specs.Words.{script_lines}
+use Rattle.script_run.specs.FromScratch.{ScratchSteps, saved}
+use Rattle.script_run.specs.Runs.{LineStep, LineSteps, RunsWhole, StopsAt, BreaksOff}
+use Rattle.script_run.proofs.ScratchLemmas.{scratch, line_keeps}
 use Rattle.script_run.specs.Ends.{Devices, RefusesLoad, RefusesScript, RunsThrough, Stops, LosesAnswer, IsTold, Runs}
 
 pub load_end : (options : Options) (old new : Devices) (fault : LoadFault) (result : RunEnd) → RefusesLoad options old new fault
@@ -25,10 +29,23 @@ script_end options old new fault result refuses (inr (written, is, part)) = subs
 
 module _ (options : Options) (old new : Devices) (start end : State) (script : List ℕ)
     (loaded : Loads old.reader new.reader options.reading options.limits start) (read : ReadsScript old.script new.script script) where
+  -- each line is answered as by what reading the file from scratch gives
+  as_from_scratch : (lines : List (List ℕ)) (printed : List Printed) → LineSteps start lines printed end
+      → ScratchSteps LineStep options.reading options.limits (saved start) lines printed (saved end)
+  as_from_scratch lines printed steps = scratch LineStep line_keeps options.reading options.limits start end lines printed loaded.cut loaded.reading_is loaded.limits_are steps
+
   pub runs_through : (refused : ℕ) → (text : List ℕ) × RunsWhole start script options.stop text refused end × Takes old.answers new.answers text
       → RunsThrough options old new refused end
   runs_through refused (text, lines, printed) =
-      record { start = start; script = script; text = text; begins = record { loaded = loaded; read = read }; lines = lines; printed = printed }
+      record {
+        start = start;
+        script = script;
+        text = text;
+        begins = record { loaded = loaded; read = read };
+        lines = lines;
+        from_scratch = as_from_scratch (script_lines script) lines.printed lines.steps;
+        printed = printed;
+      }
 
   pub stops : (line : ℕ) → new.out ≡ old.out
       → (text : List ℕ) × StopsAt start script line text end × Takes old.answers new.answers text × IsTrue options.stop → Stops options old new line
@@ -40,6 +57,7 @@ module _ (options : Options) (old new : Devices) (start end : State) (script : L
     begins = record { loaded = loaded; read = read };
     asked = asked;
     lines = lines;
+    from_scratch = as_from_scratch (take line (script_lines script)) (lines.before ++ lines.last ∷ []) lines.steps;
     printed = printed;
     unsaved = unsaved;
   }
@@ -57,6 +75,7 @@ module _ (options : Options) (old new : Devices) (start end : State) (script : L
       text = text;
       begins = record { loaded = loaded; read = read };
       lines = lines;
+      from_scratch = as_from_scratch (take (length lines.before + 1) (script_lines script)) (lines.before ++ lines.last ∷ []) lines.steps;
       printed = printed;
       unsaved = unsaved;
     },

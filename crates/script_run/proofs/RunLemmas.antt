@@ -7,11 +7,11 @@ use Rattle.std.proofs.lemmas.List.{take_at, length-map}
 use Rattle.std.proofs.lemmas.List.Sums.{sum_by_push}
 use Rattle.std.proofs.lemmas.List.Concat.{flat_map-append}
 use Rattle.bench_rules.specs.State.{State}
-use Rattle.script_run.specs.Words.{is_line_feed, parts_by_line_feed, script_lines, without_return}
-use Rattle.script_run.specs.Replies.{Printed}
-use Rattle.script_run.specs.Devices.{Device, Takes, TakesPart, count_in_64_bits}
-use Rattle.script_run.specs.Runs.{LineStep, LineSteps, printed_text, refusals, StopsAt, BreaksOff}
-use Rattle.script_run.proofs.OutLemmas.{takes_more, takes_part_more}
+use Rattle.script_text.specs.Words.{is_line_feed, parts_by_line_feed, script_lines, without_return}
+use Rattle.script_text.specs.Replies.{Printed}
+use Rattle.script_text.specs.Devices.{Device, Takes, TakesPart, count_in_64_bits}
+use Rattle.script_run.specs.Runs.{LineStep, LineSteps, StepsBy, printed_text, refusals, StopsAt, BreaksOff}
+use Rattle.script_text.proofs.OutLemmas.{takes_more, takes_part_more}
 
 -- ---- a script has no more lines than bytes
 
@@ -31,23 +31,24 @@ lines-le script = let parts = parts-le script in omega (arith, length-map (parts
 
 -- ---- one line more
 
-steps_more : (old mid new : State) (lines : List (List ℕ)) (line : List ℕ) (ps : List Printed) (p : Printed)
-    → LineSteps old lines ps mid → LineStep mid line p new → LineSteps old (lines ++ line ∷ []) (ps ++ p ∷ []) new
-steps_more old mid new [] line [] p h step = (new, subst (λ s. LineStep s line p new) h step, refl)
-steps_more old mid new [] line (q ∷ qs) p h step = absurd h
-steps_more old mid new (l ∷ ls) line [] p h step = absurd h
-steps_more old mid new (l ∷ ls) line (q ∷ qs) p (s, first, rest) step = (s, first, steps_more s mid new ls line qs p rest step)
+module _ (Step : State → List ℕ → Printed → State → Type 0) where
+  pub steps_more : (old mid new : State) (lines : List (List ℕ)) (line : List ℕ) (ps : List Printed) (p : Printed)
+      → StepsBy Step old lines ps mid → Step mid line p new → StepsBy Step old (lines ++ line ∷ []) (ps ++ p ∷ []) new
+  steps_more old mid new [] line [] p h step = (new, subst (λ s. Step s line p new) h step, refl)
+  steps_more old mid new [] line (q ∷ qs) p h step = absurd h
+  steps_more old mid new (l ∷ ls) line [] p h step = absurd h
+  steps_more old mid new (l ∷ ls) line (q ∷ qs) p (s, first, rest) step = (s, first, steps_more s mid new ls line qs p rest step)
 
-steps-length : (old new : State) (lines : List (List ℕ)) (ps : List Printed) → LineSteps old lines ps new → length lines ≡ length ps
-steps-length old new [] [] h = refl
-steps-length old new [] (p ∷ ps) h = absurd h
-steps-length old new (l ∷ ls) [] h = absurd h
-steps-length old new (l ∷ ls) (p ∷ ps) (s, first, rest) = ap suc (steps-length s new ls ps rest)
+  pub steps-length : (old new : State) (lines : List (List ℕ)) (ps : List Printed) → StepsBy Step old lines ps new → length lines ≡ length ps
+  steps-length old new [] [] h = refl
+  steps-length old new [] (p ∷ ps) h = absurd h
+  steps-length old new (l ∷ ls) [] h = absurd h
+  steps-length old new (l ∷ ls) (p ∷ ps) (s, first, rest) = ap suc (steps-length s new ls ps rest)
 
-text_more : (ps : List Printed) (p : Printed) → printed_text (ps ++ p ∷ []) ≡ printed_text ps ++ p.text
+pub text_more : (ps : List Printed) (p : Printed) → printed_text (ps ++ p ∷ []) ≡ printed_text ps ++ p.text
 text_more ps p = flat_map-append (λ q. q.text) ps (p ∷ []) ∙ ap (λ t. printed_text ps ++ t) (append-nil p.text)
 
-refusals_more : (ps : List Printed) (p : Printed) → refusals (ps ++ p ∷ []) ≡ refusals ps + cond p.is_refusal 1 0
+pub refusals_more : (ps : List Printed) (p : Printed) → refusals (ps ++ p ∷ []) ≡ refusals ps + cond p.is_refusal 1 0
 refusals_more ps p = sum_by_push (λ q. cond q.is_refusal 1 0) ps p
 
 -- ---- where a run stands
@@ -80,7 +81,7 @@ none_yet start all stop before same = record {
 module _ (start : State) (all rest : List (List ℕ)) (line : List ℕ) (stop : Bool) (number refused written : ℕ) (before mid : Device) (now next : State) (p : Printed)
     (so_far : SoFar start all (line ∷ rest) stop number refused written before mid now) (step : LineStep now line p next) where
   through : LineSteps start (so_far.done ++ line ∷ []) (so_far.printed ++ p ∷ []) next
-  through = steps_more start now next so_far.done line so_far.printed p so_far.steps step
+  through = steps_more LineStep start now next so_far.done line so_far.printed p so_far.steps step
 
   whole_is : all ≡ (so_far.done ++ line ∷ []) ++ rest
   whole_is = so_far.lines ∙ sym (append_assoc so_far.done (line ∷ []) rest)
@@ -88,7 +89,7 @@ module _ (start : State) (all rest : List (List ℕ)) (line : List ℕ) (stop : 
   first_are : (n : ℕ) → n ≡ length so_far.printed + 1 → take n all ≡ so_far.done ++ line ∷ []
   first_are n n_is =
       let long : length (so_far.done ++ line ∷ []) ≡ n =
-      omega (arith, length-append so_far.done (line ∷ []), steps-length start now so_far.done so_far.printed so_far.steps) in
+      omega (arith, length-append so_far.done (line ∷ []), steps-length LineStep start now so_far.done so_far.printed so_far.steps) in
       ap (take n) whole_is ∙ take_at (so_far.done ++ line ∷ []) rest n long
 
   -- a line whose reply is written

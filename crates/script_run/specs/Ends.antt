@@ -1,16 +1,18 @@
 -- How a run ends, and what the readers and writers told.
-use Rattle.std.specs.Prelude.{◌≡◌, ◌⊎◌, ℕ, Bool, true, false, IsTrue, List}
+use Rattle.std.specs.Prelude.{◌≡◌, ◌⊎◌, ℕ, ◌+◌, Bool, true, false, IsTrue, List, [], ◌∷◌, ◌++◌, length, take}
 use Rattle.frame_cut.specs.declared.load_fault.LoadFault.{LoadFault}
 use Rattle.frame_cut.specs.Volume.{bytes_of}
 use Rattle.bench_rules.specs.State.{State}
 use Rattle.script_run.specs.declared.options.Options.{Options}
 use Rattle.script_run.specs.declared.run_end.RunEnd.{RunEnd}
 use Rattle.script_run.specs.declared.run_end.RunEnd.TheVariants as ends
-use Rattle.script_run.specs.declared.script_fault.ScriptFault.{ScriptFault}
-use Rattle.script_run.specs.Devices.{Device, Takes, TakesPart, count_in_64_bits}
+use Rattle.script_text.specs.declared.script_fault.ScriptFault.{ScriptFault}
+use Rattle.script_text.specs.Devices.{Device, Takes, TakesPart, count_in_64_bits}
 use Rattle.script_run.specs.Loading.{Loads, IsLoadRefused, ReadsScript, IsScriptRefused}
-use Rattle.script_run.specs.RefusalTexts.{load_refusal_line, script_refusal_line}
-use Rattle.script_run.specs.Runs.{RunsWhole, StopsAt, BreaksOff}
+use Rattle.script_text.specs.RefusalTexts.{load_refusal_line, script_refusal_line}
+use Rattle.script_text.specs.Words.{script_lines}
+use Rattle.script_run.specs.FromScratch.{ScratchSteps, saved}
+use Rattle.script_run.specs.Runs.{LineStep, RunsWhole, StopsAt, BreaksOff}
 
 -- the readers of the volume and of the script, the writers of the answers and of the saved volume
 pub record Devices : Type 0 where
@@ -48,6 +50,7 @@ pub record RunsThrough (options : Options) (old new : Devices) (refused : ℕ) (
   pub text : List ℕ
   pub begins : Begins options old new start script
   pub lines : RunsWhole start script options.stop text refused end
+  pub from_scratch : ScratchSteps LineStep options.reading options.limits (saved start) (script_lines script) lines.printed (saved end)
   pub printed : Takes old.answers new.answers text
 
 -- the lines are run up to the first that is refused; nothing is saved
@@ -59,6 +62,7 @@ pub record Stops (options : Options) (old new : Devices) (line : ℕ) : Type 0 w
   pub begins : Begins options old new start script
   pub asked : IsTrue options.stop
   pub lines : StopsAt start script line text end
+  pub from_scratch : ScratchSteps LineStep options.reading options.limits (saved start) (take line (script_lines script)) (lines.before ++ lines.last ∷ []) (saved end)
   pub printed : Takes old.answers new.answers text
   pub unsaved : new.out ≡ old.out
 
@@ -71,6 +75,7 @@ pub record LosesAnswer (options : Options) (old new : Devices) (taken : ℕ) : T
   pub text : List ℕ
   pub begins : Begins options old new start script
   pub lines : BreaksOff start script options.stop taken text end
+  pub from_scratch : ScratchSteps LineStep options.reading options.limits (saved start) (take (length lines.before + 1) (script_lines script)) (lines.before ++ lines.last ∷ []) (saved end)
   pub printed : TakesPart old.answers new.answers text taken
   pub unsaved : new.out ≡ old.out
 

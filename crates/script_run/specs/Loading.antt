@@ -10,9 +10,9 @@ use Rattle.frame_cut.specs.Cuts.{IsCut}
 use Rattle.frame_cut.specs.Volume.{bytes_of}
 use Rattle.edit_overlay.specs.Loading.{IsLoadFault, FailuresAfterRefusal}
 use Rattle.bench_rules.specs.State.{State}
-use Rattle.script_run.specs.declared.script_fault.ScriptFault.{ScriptFault}
-use Rattle.script_run.specs.declared.script_fault.ScriptFault.TheVariants.{ReadFailed, TooLarge, OutOfMemory}
-use Rattle.script_run.specs.Devices.{Device}
+use Rattle.script_text.specs.declared.script_fault.ScriptFault.{ScriptFault}
+use Rattle.script_text.specs.declared.script_fault.ScriptFault.TheVariants.{ReadFailed, TooLarge, OutOfMemory}
+use Rattle.script_text.specs.Devices.{Device}
 
 -- the reader gives a whole file, which is cut under the reading and limits, with the six geometry names bound
 pub record Loads (old new : Device) (reading : Reading) (limits : Limits) (state : State) : Type 0 where

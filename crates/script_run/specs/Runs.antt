@@ -4,12 +4,12 @@ use Rattle.bench_rules.specs.declared.refusal.Refusal.{Refusal}
 use Rattle.bench_rules.specs.State.{State}
 use Rattle.bench_rules.specs.Steps.{Step}
 use Rattle.bench_rules.specs.Answer.{Reply, IsReply}
-use Rattle.script_run.specs.declared.command.Command.{Command}
-use Rattle.script_run.specs.declared.command.Command.TheVariants.{Apply, Ask}
-use Rattle.script_run.specs.declared.line_fault.LineFault.{LineFault}
-use Rattle.script_run.specs.Words.{script_lines}
-use Rattle.script_run.specs.Commands.{IsParsed}
-use Rattle.script_run.specs.Replies.{Printed, nothing, fault_reply, edit_reply, query_reply}
+use Rattle.script_text.specs.declared.command.Command.{Command}
+use Rattle.script_text.specs.declared.command.Command.TheVariants.{Apply, Ask}
+use Rattle.script_text.specs.declared.line_fault.LineFault.{LineFault}
+use Rattle.script_text.specs.Words.{script_lines}
+use Rattle.script_text.specs.Commands.{IsParsed}
+use Rattle.script_text.specs.Replies.{Printed, nothing, fault_reply, edit_reply, query_reply}
 
 -- a command with what it prints: an edit is one step, a query changes nothing
 abbrev pub CommandStep : State → Command → Printed → State → Type 0
@@ -29,13 +29,17 @@ abbrev pub LineStep : State → List ℕ → Printed → State → Type 0
 LineStep old line printed new =
     (read : Result (Option Command) LineFault) × IsParsed line read × ReadStep old read printed new
 
+module _ {S : Type 0} where
+  -- lines one after another, each by such a step, with what each prints
+  abbrev pub StepsBy : (S → List ℕ → Printed → S → Type 0) → S → List (List ℕ) → List Printed → S → Type 0
+  StepsBy step old [] [] new = new ≡ old
+  StepsBy step old [] (p ∷ ps) new = ⊥
+  StepsBy step old (line ∷ lines) [] new = ⊥
+  StepsBy step old (line ∷ lines) (p ∷ ps) new = (mid : S) × step old line p mid × StepsBy step mid lines ps new
+
 -- the lines one after another, with what each prints
 abbrev pub LineSteps : State → List (List ℕ) → List Printed → State → Type 0
-LineSteps old [] [] new = new ≡ old
-LineSteps old [] (p ∷ ps) new = ⊥
-LineSteps old (line ∷ lines) [] new = ⊥
-LineSteps old (line ∷ lines) (p ∷ ps) new =
-    (mid : State) × LineStep old line p mid × LineSteps mid lines ps new
+LineSteps old lines printed new = StepsBy LineStep old lines printed new
 
 -- all that the lines print
 abbrev pub printed_text : List Printed → List ℕ

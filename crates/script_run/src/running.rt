@@ -1,19 +1,17 @@
 // Runs the lines of a script over a volume.
-ghost use Rattle.std.specs.Prelude.{◌≡◌, ◌≤◌, ℕ, length, MatchResult};
-ghost use Rattle.script_run.specs.Devices.{device_of, Takes, TakesPart, count_in_64_bits};
-ghost use Rattle.script_run.specs.Held.{printed_of};
+ghost use Rattle.std.specs.Prelude.{◌≡◌, ◌≤◌, ◌++◌, ℕ, length, MatchResult};
+ghost use Rattle.script_text.specs.Devices.{device_of};
+ghost use Rattle.script_run.specs.Telling.{IsWritten};
+ghost use Rattle.script_text.specs.Held.{printed_of};
 ghost use Rattle.script_run.specs.LineRuns.{RunsLines};
-ghost use Rattle.script_run.specs.Replies.{Printed};
+ghost use Rattle.script_text.specs.Replies.{Printed};
 ghost use Rattle.script_run.specs.Runs.{LineStep, CommandStep};
 
-use crate::command::Command;
-use crate::lines::Lines;
 use crate::lines_end::LinesEnd;
-use crate::out_buffer::OutBuffer;
-use crate::parse::parse_line;
-use crate::reply::{Reply, is_refusal, push_reply};
+use crate::told::{Told, write_reply};
 use bench_core::Bench;
 use device_io::{Sink, WriteFault};
+use script_text::{Command, Lines, OutBuffer, Reply, parse_line};
 use std::alloc::Global;
 use std::io::Write;
 
@@ -58,13 +56,6 @@ pub(crate) fn run_lines<A: Write>(
     LinesEnd::Whole { refused }
 }
 
-// What was written for a line.
-#[derive(Clone, Copy)]
-struct Told {
-    length: u64,
-    is_refusal: bool,
-}
-
 // Runs one line and writes its reply.
 fn answer_line<A: Write>(
     alloc: Global,
@@ -76,24 +67,14 @@ fn answer_line<A: Write>(
     ensures { let old = device_of A.contents answers.old in
         let new = device_of A.contents answers.new in
         (printed : Printed) × LineStep bench.old.state line.now printed bench.new.state
-        × MatchResult result (λ told. Takes old new printed.text
-        × (told.length ≡ count_in_64_bits (length printed.text))
-        × (told.is_refusal ≡ printed.is_refusal))
-        (λ fault. (taken : ℕ) × (fault.written ≡ count_in_64_bits taken)
-        × TakesPart old new printed.text taken) }
+        × IsWritten old new printed result }
 {
     let reply = run_line(alloc, bench, line);
-    out.begin();
-    push_reply(out, answers, &reply)?;
-    out.flush(answers)?;
-    Ok(Told {
-        length: out.written(),
-        is_refusal: is_refusal(&reply),
-    })
+    write_reply(out, answers, &reply, b"")
 }
 
-// Runs one line.
-fn run_line(alloc: Global, bench: &mut Bench, line: &[u8]) -> Reply
+/// Runs one line.
+pub(crate) fn run_line(alloc: Global, bench: &mut Bench, line: &[u8]) -> Reply
     ensures { LineStep bench.old.state line.now (printed_of result) bench.new.state }
 {
     match parse_line(alloc, line) {

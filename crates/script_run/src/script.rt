@@ -1,10 +1,10 @@
 // Reads a whole script.
 ghost use Rattle.std.specs.Prelude.{IfErr, IfOk};
-ghost use Rattle.script_run.specs.Devices.{device_of};
+ghost use Rattle.script_text.specs.Devices.{device_of};
 ghost use Rattle.script_run.specs.Loading.{ReadsScript, IsScriptRefused};
 
-use crate::script_fault::ScriptFault;
 use device_io::{ReadFault, Source};
+use script_text::ScriptFault;
 use std::alloc::Global;
 use std::io::Read;
 

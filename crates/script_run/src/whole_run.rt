@@ -1,22 +1,20 @@
 // Runs a script over a volume.
 ghost use Rattle.std.specs.Prelude.{IfOk, IfErr, MatchResult};
 ghost use Rattle.frame_cut.specs.Volume.{bytes_of};
-ghost use Rattle.script_run.specs.Devices.{Device, device_of, Takes, TakesPart};
+ghost use Rattle.script_text.specs.Devices.{Device, device_of, Takes, TakesPart};
 ghost use Rattle.script_run.specs.Loading.{Loads, IsLoadRefused};
 ghost use Rattle.script_run.specs.Ends.{devices, IsTold, Runs};
 
 use crate::lines_end::LinesEnd;
 use crate::options::Options;
-use crate::refusal_texts::{load_fault_line, script_fault_line};
 use crate::run_end::RunEnd;
 use crate::running::run_lines;
 use crate::script::read_script;
-use crate::text_buffer::TextBuffer;
-use crate::write_text::write_text;
 use bench_core::Bench;
 use device_io::{Sink, Source};
 use edit_overlay::SaveFault;
 use frame_cut::LoadFault;
+use script_text::{TextBuffer, load_fault_line, script_fault_line, write_text};
 use std::alloc::Global;
 use std::io::{Read, Write};
 
@@ -86,7 +84,7 @@ fn run_loaded<S: Read, A: Write, O: Write>(
     }
 }
 
-fn load<R: Read>(
+pub(crate) fn load<R: Read>(
     alloc: Global,
     reader: &mut Source<R>,
     options: Options,
@@ -101,7 +99,7 @@ fn load<R: Read>(
     Bench::load(alloc, reader, options.reading, options.limits)
 }
 
-fn save<O: Write>(bench: &Bench, out: &mut Sink<O>) -> Result<(), SaveFault>
+pub(crate) fn save<O: Write>(bench: &Bench, out: &mut Sink<O>) -> Result<(), SaveFault>
     ensures { let old = device_of O.contents out.old in
         let new = device_of O.contents out.new in
         MatchResult result (λ _. Takes old new (bytes_of bench.now.state.volume))
@@ -111,7 +109,7 @@ fn save<O: Write>(bench: &Bench, out: &mut Sink<O>) -> Result<(), SaveFault>
 }
 
 // Writes the line of a refusal that ends the run.
-fn tell<A: Write>(answers: &mut Sink<A>, line: &TextBuffer, end: RunEnd) -> RunEnd
+pub(crate) fn tell<A: Write>(answers: &mut Sink<A>, line: &TextBuffer, end: RunEnd) -> RunEnd
     ensures { IsTold (device_of A.contents answers.old)
         (device_of A.contents answers.new) line.now end result }
 {

@@ -6,7 +6,8 @@ use field_map::Place;
 use frame_cut::{Limits, LoadFault, Reading};
 use num_order::Kind;
 use range_stats::Quantity;
-use script_run::{Command, LineFault, Options, RunEnd, ScriptFault, parse_line, run};
+use script_run::{Options, RunEnd, run};
+use script_text::{Command, LineFault, ScriptFault, parse_line};
 use std::alloc::Global;
 use std::test::Fail;
 

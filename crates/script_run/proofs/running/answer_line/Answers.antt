@@ -1,5 +1,5 @@
-use Rattle.script_run.specs.Held.{printed_of}
-use Rattle.script_run.proofs.OutLemmas.{by_fault, told_whole, told_first, told_last}
+use Rattle.script_text.specs.Held.{printed_of}
+use Rattle.script_text.proofs.OutLemmas.{by_fault, told_whole, told_first, told_last}
 use Rattle.script_run.proofs.running.answer_line.Goals as goal
 
 pub returns : goal.returns

@@ -1,0 +1,92 @@
+-- No answer of a session has an empty line.
+use Rattle.std.proofs.Common.{◌≡◌, ◌⊎◌, ◌&&◌, ℕ, List, [], ◌∷◌, ◌++◌, Bool, true, false, not, Option, Some, None, Result, Ok, Err, cond, refl, sym, ap, subst, ◌∙◌, inl, inr}
+use Rattle.std.specs.Prelude.{option_map}
+use Rattle.field_map.specs.declared.map_fault.MapFault.{MapFault}
+use Rattle.field_map.specs.declared.map_fault.MapFault.TheVariants.{BadName}
+use Rattle.field_map.specs.declared.place.Place.{Place}
+use Rattle.field_map.specs.Pairs.{Pairs}
+use Rattle.field_map.specs.Binding.{is_name, bind_fault, geometry_at_load}
+use Rattle.bench_rules.specs.declared.edit.Edit.{Edit}
+use Rattle.bench_rules.specs.declared.edit.Edit.TheVariants as edits
+use Rattle.bench_rules.specs.declared.refusal.Refusal.{Refusal}
+use Rattle.bench_rules.specs.declared.refusal.Refusal.TheVariants as refusals
+use Rattle.bench_rules.specs.After.{fields_after}
+use Rattle.bench_rules.specs.Refused.{first_refusal}
+use Rattle.bench_rules.specs.State.{State}
+use Rattle.bench_rules.specs.Steps.{IsAfter, Step, StepUnless}
+use Rattle.script_text.specs.declared.command.Command.{Command}
+use Rattle.script_text.specs.declared.command.Command.TheVariants.{Apply, Ask}
+use Rattle.script_text.specs.declared.line_fault.LineFault.{LineFault}
+use Rattle.script_text.specs.declared.line_fault.LineFault.TheVariants.{TooLarge, OutOfMemory}
+use Rattle.script_text.specs.Replies.{Printed, fault_reply, edit_reply}
+use Rattle.script_text.specs.Texts.{IsFullLines}
+use Rattle.script_text.specs.Words.{without_return}
+use Rattle.script_text.proofs.PlainLemmas.{HasPlainNames, plain_name, plain_bound, plain_unbound, nothing_full, fault_full, edit_full, query_full}
+use Rattle.script_run.specs.Runs.{ReadStep, CommandStep, LineStep}
+use Rattle.script_run.specs.Sessions.{AnswerStep, SessionStep, SessionSteps, IsAnswer, AreAnswers}
+
+-- ---- what an edit leaves of the names
+
+-- no reason, so no fault behind it
+no_fault : (o : Option MapFault) → option_map (λ fault. refusals.Map fault) o ≡ None → o ≡ None
+no_fault None e = refl
+no_fault (Some fault) e = cc
+
+name_is : (b : Bool) (rest : Option MapFault) → cond (not b) (Some BadName) rest ≡ None → b ≡ true
+name_is true rest e = refl
+name_is false rest e = cc
+
+fields_plain : (s : State) (edit : Edit) → first_refusal s edit ≡ None → HasPlainNames s.fields → HasPlainNames (fields_after s.fields edit)
+fields_plain s (edits.Map name place) e h =
+    let none : bind_fault s.volume.head.extensions s.fields name place ≡ None = no_fault (bind_fault s.volume.head.extensions s.fields name place) e in
+    plain_bound s.fields name place (plain_name name (name_is (is_name name) _ none)) h
+fields_plain s (edits.Unmap name) e h = plain_unbound s.fields name h
+fields_plain s (edits.Set p field x) e h = h
+fields_plain s (edits.SetBin field x) e h = h
+fields_plain s (edits.SetText q text) e h = h
+fields_plain s (edits.Patch p k values) e h = h
+fields_plain s (edits.Blank p) e h = h
+fields_plain s (edits.Copy q p) e h = h
+fields_plain s (edits.Delete p) e h = h
+fields_plain s (edits.Move a b) e h = h
+fields_plain s (edits.Resize p m) e h = h
+fields_plain s (edits.Renumber a b field first step) e h = h
+
+same_plain : (old new : State) → new ≡ old → HasPlainNames old.fields → HasPlainNames new.fields
+same_plain old new e h = subst (λ (s : State). HasPlainNames s.fields) (sym e) h
+
+step_plain : {T : Type 0} (o : Option Refusal) (old new : State) (edit : Edit) (reply : Result T Refusal) → first_refusal old edit ≡ o → HasPlainNames old.fields → StepUnless o old edit reply new → HasPlainNames new.fields
+step_plain (Some r) old new edit (Ok x) e h step = absurd step
+step_plain (Some r) old new edit (Err s) e h step = same_plain old new step.1 h
+step_plain None old new edit (Ok x) e h step = subst (λ (f : Pairs). HasPlainNames f) (sym step.fields) (fields_plain old edit e h)
+step_plain None old new edit (Err s) e h step = same_plain old new step.2 h
+
+-- ---- what is printed
+
+full_by : (p q : Printed) → p ≡ q → IsFullLines q.text → IsFullLines p.text
+full_by p q e full = subst (λ (r : Printed). IsFullLines r.text) (sym e) full
+
+read_full : (old new : State) (read : Result (Option Command) LineFault) (p : Printed) → HasPlainNames old.fields → ReadStep old read p new → IsFullLines p.text × HasPlainNames new.fields
+read_full old new (Ok None) p h step = (full_by p _ step.0 nothing_full, same_plain old new step.1 h)
+read_full old new (Ok (Some (Apply edit))) p h step =
+    (full_by p (edit_reply step.0) step.2 (edit_full step.0), step_plain (first_refusal old edit) old new edit step.0 refl h step.1)
+read_full old new (Ok (Some (Ask query))) p h step = (full_by p _ step.2 (query_full old query step.0 h step.1), same_plain old new step.3 h)
+read_full old new (Err fault) p h step = (full_by p (fault_reply fault) step.0 (fault_full fault), same_plain old new step.1 h)
+
+answer_full : (old new : State) (line : List ℕ) (p : Printed) → HasPlainNames old.fields → AnswerStep old line p new → IsFullLines p.text × HasPlainNames new.fields
+answer_full old new line p h (inl step) = (full_by p (fault_reply TooLarge) step.1 (fault_full TooLarge), same_plain old new step.2 h)
+answer_full old new line p h (inr (within, inl step)) = read_full old new step.0 p h step.2
+answer_full old new line p h (inr (within, inr step)) = (full_by p (fault_reply OutOfMemory) step.0 (fault_full OutOfMemory), same_plain old new step.1 h)
+
+-- each answer of a session is lines none of which is empty, with an empty line behind them
+pub session_full : (old new : State) (lines : List (List ℕ)) (ps : List Printed) → HasPlainNames old.fields → SessionSteps old lines ps new → AreAnswers ps
+session_full old new [] [] h steps = tt
+session_full old new [] (p ∷ ps) h steps = absurd steps
+session_full old new (l ∷ ls) [] h steps = absurd steps
+session_full old new (l ∷ ls) (p ∷ ps) h (mid, (answer, step, is), rest) =
+    let full = answer_full old mid l answer h step in
+    (record { answer = answer.text; full = full.0; is = ap (λ (q : Printed). q.text) is }, session_full mid new ls ps full.1 rest)
+
+-- the names of a volume that was just loaded
+pub plain_at_load : (s : State) → s.fields ≡ geometry_at_load → HasPlainNames s.fields
+plain_at_load s e = subst (λ (f : Pairs). HasPlainNames f) (sym e) refl

@@ -1,0 +1,104 @@
+-- The ends of a session, from those of its lines.
+use Rattle.std.proofs.Common.{◌≡◌, ◌⊎◌, ℕ, ◌+◌, ◌<◌, List, [], ◌∷◌, ◌++◌, length, Bool, sym, subst, inl, inr, arith, refl}
+use Rattle.std.specs.Prelude.{IsTrue}
+use Rattle.frame_cut.specs.declared.load_fault.LoadFault.{LoadFault}
+use Rattle.bench_rules.specs.State.{State}
+use Rattle.script_text.specs.declared.script_fault.ScriptFault.{ScriptFault}
+use Rattle.script_text.specs.Devices.{Device, Takes, TakesPart, count_in_64_bits}
+use Rattle.script_text.specs.RefusalTexts.{load_refusal_line, script_refusal_line}
+use Rattle.script_text.specs.Replies.{Printed}
+use Rattle.script_text.proofs.OutLemmas.{takes_more, takes_part_more}
+use Rattle.script_run.specs.declared.options.Options.{Options}
+use Rattle.script_run.specs.declared.run_end.RunEnd.{RunEnd}
+use Rattle.script_run.specs.declared.run_end.RunEnd.TheVariants as ends
+use Rattle.script_run.specs.declared.session_lines.SessionLines.TheVariants as line_ends
+use Rattle.script_run.specs.Loading.{Loads}
+use Rattle.script_run.specs.Runs.{printed_text, refusals}
+use Rattle.script_run.specs.Ends.{Devices, RefusesLoad, IsTold}
+use Rattle.script_run.proofs.ScratchLemmas.{scratch, session_keeps}
+use Rattle.script_run.proofs.FullAnswerLemmas.{session_full, plain_at_load}
+use Rattle.script_run.specs.Sessions.{SessionStep, AnswersLines, SessionThrough, SessionStops, SessionLosesAnswer, SessionLosesScript, Session}
+use Rattle.script_run.specs.SessionLineRuns.{Answered, AnswersTo}
+
+pub load_end : (options : Options) (old new : Devices) (fault : LoadFault) (result : RunEnd) → RefusesLoad options old new fault
+    → IsTold old.answers new.answers (load_refusal_line fault) (ends.Load fault) result → Session options old new result
+load_end options old new fault result refuses (inl told) = subst (λ r. Session options old new r) (sym told.0) (refuses, told.1)
+load_end options old new fault result refuses (inr (written, is, part)) = subst (λ r. Session options old new r) (sym is) (inl (fault, refuses, part))
+
+module _ (options : Options) (old new : Devices) (start end : State)
+    (loaded : Loads old.reader new.reader options.reading options.limits start) where
+  lines_of : (printed : List Printed) (done : Answered start end old.script printed) → AnswersLines options old new done.lines printed end
+  lines_of printed done = record {
+    start = start;
+    loaded = loaded;
+    given = done.given;
+    steps = done.steps;
+    from_scratch = scratch SessionStep session_keeps options.reading options.limits start end done.lines printed loaded.cut loaded.reading_is loaded.limits_are done.steps;
+    full = session_full start end done.lines printed (plain_at_load start loaded.fields) done.steps;
+  }
+
+  -- no more lines are read, and the line of the refusal is written behind the answers, or a part of it
+  pub loses_script : (middle : Device) (fault : ScriptFault) (written : ℕ) (result : RunEnd) → new.out ≡ old.out → AnswersTo start end options.stop old.script new.script old.answers middle (line_ends.Script fault written)
+      → ((result ≡ ends.Script fault) × Takes middle new.answers (script_refusal_line fault))
+        ⊎ ((more : ℕ) × (told : ℕ) × (result ≡ ends.Answers told) × (told ≡ count_in_64_bits (written + more)) × TakesPart middle new.answers (script_refusal_line fault) more)
+      → Session options old new result
+  loses_script middle fault written result unsaved (printed, done, reason, goes_on, written_is, taken) (inl (is, told)) =
+      subst (λ r. Session options old new r) (sym is) (
+        printed,
+        record { lines = done.lines; end = end; answers = lines_of printed done; goes_on = goes_on; reason = reason; unsaved = unsaved },
+        takes_more old.answers middle new.answers (printed_text printed) (script_refusal_line fault) taken told,
+      )
+  loses_script middle fault written result unsaved (printed, done, reason, goes_on, written_is, taken) (inr (more, told, is, told_is, part)) =
+      subst (λ r. Session options old new r) (sym is) (inr (inl (
+        fault,
+        printed,
+        length (printed_text printed) + more,
+        omega (arith, told_is, written_is),
+        record { lines = done.lines; end = end; answers = lines_of printed done; goes_on = goes_on; reason = reason; unsaved = unsaved },
+        takes_part_more old.answers middle new.answers (printed_text printed) (script_refusal_line fault) more taken part,
+      )))
+
+  pub goes_through : (refused : ℕ) → AnswersTo start end options.stop old.script new.script old.answers new.answers (line_ends.Whole refused) → SessionThrough options old new refused end
+  goes_through refused (printed, done, all, same, refused_is, goes_on, taken) = record {
+    lines = done.lines;
+    printed = printed;
+    answers = lines_of printed done;
+    all = all;
+    failures = same;
+    refused_is = refused_is;
+    goes_on = goes_on;
+    taken = taken;
+  }
+
+  pub stops : (line : ℕ) → new.out ≡ old.out → AnswersTo start end options.stop old.script new.script old.answers new.answers (line_ends.Stopped line) → SessionStops options old new line
+  stops line unsaved (before, last, done, line_is, none_before, refused_last, asked, taken) = record {
+    lines = done.lines;
+    before = before;
+    last = last;
+    end = end;
+    answers = lines_of (before ++ last ∷ []) done;
+    asked = asked;
+    line_is = line_is;
+    none_before = none_before;
+    refused_last = refused_last;
+    taken = taken;
+    unsaved = unsaved;
+  }
+
+  pub loses_answer : (written : ℕ) → new.out ≡ old.out → AnswersTo start end options.stop old.script new.script old.answers new.answers (line_ends.Answers written)
+      → (taken : ℕ) × (written ≡ count_in_64_bits taken) × SessionLosesAnswer options old new taken
+  loses_answer written unsaved (before, last, taken, done, told, goes_on, taken_before, part) = (
+    taken,
+    told,
+    record {
+      lines = done.lines;
+      before = before;
+      last = last;
+      end = end;
+      answers = lines_of (before ++ last ∷ []) done;
+      goes_on = goes_on;
+      taken_before = taken_before;
+      part = part;
+      unsaved = unsaved;
+    },
+  )

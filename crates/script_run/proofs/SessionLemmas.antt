@@ -1,0 +1,146 @@
+-- How a session goes on by one line.
+use Rattle.std.proofs.Common.{◌≡◌, ◌⊎◌, ℕ, ◌+◌, List, [], ◌∷◌, ◌++◌, length, take, Bool, Option, Some, None, cond, refl, ap, ap₂, sym, subst, ◌∙◌, arith, append-nil, length-append}
+use Rattle.std.specs.Prelude.{IsTrue}
+use Rattle.std.specs.Io.KnownBytes.{Appends, IsAtEnd}
+use Rattle.std.proofs.lemmas.List.{take_at}
+use Rattle.bench_rules.specs.State.{State}
+use Rattle.device_io.specs.Failures.{one_more as one_more_failure}
+use Rattle.script_text.specs.Words.{parts_by_line_feed}
+use Rattle.script_text.specs.Replies.{Printed}
+use Rattle.script_text.specs.Devices.{Device, Takes, TakesPart, count_in_64_bits}
+use Rattle.script_text.proofs.OutLemmas.{takes_more, takes_part_more}
+use Rattle.script_run.specs.Runs.{printed_text, refusals}
+use Rattle.script_run.specs.Input.{TakesLine, TakesLines}
+use Rattle.script_run.specs.Sessions.{SessionStep, SessionSteps, FirstLines, AllLines}
+use Rattle.script_run.specs.SessionLineRuns.{Answered}
+use Rattle.script_run.proofs.RunLemmas.{steps_more, text_more, refusals_more}
+use Rattle.script_run.proofs.InputLemmas.{line_more}
+
+-- ---- the lines that were taken are those of the reader
+
+first_lines : (old left : Option (List ℕ)) (lines : List (List ℕ)) → TakesLines old left lines → FirstLines old lines
+first_lines None left lines t = tt
+first_lines (Some xs) None lines t = absurd t
+first_lines (Some xs) (Some ys) lines t = ap (take (length lines)) t ∙ take_at lines (parts_by_line_feed ys) (length lines) refl
+
+all_lines : (old left : Option (List ℕ)) (lines : List (List ℕ)) → TakesLines old left lines → IsAtEnd left → AllLines old lines
+all_lines None left lines t end = tt
+all_lines (Some xs) None lines t end = absurd t
+all_lines (Some xs) (Some ys) lines t end = t ∙ ap (λ s. lines ++ parts_by_line_feed s) end ∙ append-nil lines
+
+-- ---- where a session stands
+
+-- the lines before what is left are answered
+pub record SessionSoFar (start : State) (old left : Option (List ℕ)) (stop : Bool) (number refused written : ℕ) (before after : Device) (now : State) : Type 0 where
+  pub lines : List (List ℕ)
+  pub printed : List Printed
+  pub given : TakesLines old left lines
+  pub steps : SessionSteps start lines printed now
+  pub number_is : number ≡ length printed
+  pub refused_is : refused ≡ refusals printed
+  pub written_is : written ≡ count_in_64_bits (length (printed_text printed))
+  pub goes_on : IsTrue stop → refused ≡ 0
+  pub taken : Takes before after (printed_text printed)
+
+pub none_yet : (start : State) (old left : Option (List ℕ)) (stop : Bool) (before : Device) → TakesLines old left [] → Appends before.bytes before.bytes [] → SessionSoFar start old left stop 0 0 0 before before start
+none_yet start old left stop before given same = record {
+  lines = [];
+  printed = [];
+  given = given;
+  steps = refl;
+  number_is = refl;
+  refused_is = refl;
+  written_is = refl;
+  goes_on = λ _. refl;
+  taken = record { bytes = same; failures = refl };
+}
+
+module _ (start : State) (old left : Option (List ℕ)) (stop : Bool) (number refused written : ℕ) (before mid : Device) (now : State)
+    (so_far : SessionSoFar start old left stop number refused written before mid now) where
+  answered : (script : Device) → script.bytes ≡ old → Answered start now script so_far.printed
+  answered script is = record { lines = so_far.lines; given = rw is (first_lines old left so_far.lines so_far.given); steps = so_far.steps }
+
+  -- no line is left
+  pub whole : (script script_now : Device) → script.bytes ≡ old → IsAtEnd left → script_now.failures ≡ script.failures
+      → (printed : List Printed) × (done : Answered start now script printed) × AllLines script.bytes done.lines
+      × (script_now.failures ≡ script.failures) × (refused ≡ refusals printed) × (IsTrue stop → refused ≡ 0) × Takes before mid (printed_text printed)
+  whole script script_now is end same = (
+    so_far.printed,
+    answered script is,
+    rw is (all_lines old left so_far.lines so_far.given end),
+    same,
+    so_far.refused_is,
+    so_far.goes_on,
+    so_far.taken,
+  )
+
+  -- no more lines are read
+  pub broken : (script : Device) (Reason : Type 0) → script.bytes ≡ old → Reason
+      → (printed : List Printed) × Answered start now script printed × Reason × (IsTrue stop → refusals printed ≡ 0)
+      × (written ≡ count_in_64_bits (length (printed_text printed))) × Takes before mid (printed_text printed)
+  broken script Reason is reason = (
+    so_far.printed,
+    answered script is,
+    reason,
+    λ s. sym so_far.refused_is ∙ so_far.goes_on s,
+    so_far.written_is,
+    so_far.taken,
+  )
+
+module _ (start : State) (old left rest : Option (List ℕ)) (line : List ℕ) (stop : Bool) (number refused written : ℕ) (before mid : Device) (now next : State) (p : Printed)
+    (so_far : SessionSoFar start old left stop number refused written before mid now) (given : TakesLine left rest line) (step : SessionStep now line p next) where
+  through : SessionSteps start (so_far.lines ++ line ∷ []) (so_far.printed ++ p ∷ []) next
+  through = steps_more SessionStep start now next so_far.lines line so_far.printed p so_far.steps step
+
+  lines_given : TakesLines old rest (so_far.lines ++ line ∷ [])
+  lines_given = line_more old left rest so_far.lines line so_far.given given
+
+  answered_more : (script : Device) → script.bytes ≡ old → Answered start next script (so_far.printed ++ p ∷ [])
+  answered_more script is = record { lines = so_far.lines ++ line ∷ []; given = rw is (first_lines old rest (so_far.lines ++ line ∷ []) lines_given); steps = through }
+
+  -- a line whose answer is written
+  pub one_more : (after : Device) (more told : ℕ) → Takes mid after p.text → more ≡ refused + cond p.is_refusal 1 0 → told ≡ count_in_64_bits (written + length p.text) → (IsTrue stop → p.is_refusal ≡ false)
+      → SessionSoFar start old rest stop (number + 1) more told before after next
+  one_more after more told taken more_is told_is not_refused = record {
+    lines = so_far.lines ++ line ∷ [];
+    printed = so_far.printed ++ p ∷ [];
+    given = lines_given;
+    steps = through;
+    number_is = omega (arith, so_far.number_is, length-append so_far.printed (p ∷ []));
+    refused_is = more_is ∙ ap (λ n. n + cond p.is_refusal 1 0) so_far.refused_is ∙ sym (refusals_more so_far.printed p);
+    written_is = omega (arith, told_is, so_far.written_is, ap length (text_more so_far.printed p), length-append (printed_text so_far.printed) p.text);
+    goes_on = λ s. let none : refused ≡ 0 = so_far.goes_on s in more_is ∙ ap₂ (λ n b. n + cond b 1 0) none (not_refused s);
+    taken = rw (text_more so_far.printed p) (takes_more before mid after (printed_text so_far.printed) p.text so_far.taken taken);
+  }
+
+  -- a line whose answer is not written whole
+  pub breaks_off : (script : Device) (after : Device) (k told : ℕ) → script.bytes ≡ old → TakesPart mid after p.text k → told ≡ count_in_64_bits (written + k)
+      → (first : List Printed) × (last : Printed) × (taken : ℕ) × Answered start next script (first ++ last ∷ [])
+      × (told ≡ count_in_64_bits taken) × (IsTrue stop → refusals first ≡ 0) × (length (printed_text first) ≤ taken)
+      × TakesPart before after (printed_text (first ++ last ∷ [])) taken
+  breaks_off script after k told is part told_is = (
+    so_far.printed,
+    p,
+    length (printed_text so_far.printed) + k,
+    answered_more script is,
+    omega (arith, told_is, so_far.written_is),
+    λ s. sym so_far.refused_is ∙ so_far.goes_on s,
+    omega arith,
+    rw (text_more so_far.printed p) (takes_part_more before mid after (printed_text so_far.printed) p.text k so_far.taken part),
+  )
+
+  -- a refused line at which the session stops
+  pub stops : (script : Device) (after : Device) → script.bytes ≡ old → Takes mid after p.text → IsTrue p.is_refusal → IsTrue stop
+      → (first : List Printed) × (last : Printed) × Answered start next script (first ++ last ∷ [])
+      × (number + 1 ≡ length first + 1) × (refusals first ≡ 0) × IsTrue last.is_refusal × IsTrue stop
+      × Takes before after (printed_text (first ++ last ∷ []))
+  stops script after is taken refused_is stop_is = (
+    so_far.printed,
+    p,
+    answered_more script is,
+    omega (arith, so_far.number_is),
+    sym so_far.refused_is ∙ so_far.goes_on stop_is,
+    refused_is,
+    stop_is,
+    rw (text_more so_far.printed p) (takes_more before mid after (printed_text so_far.printed) p.text so_far.taken taken),
+  )

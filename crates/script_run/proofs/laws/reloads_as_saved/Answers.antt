@@ -1,0 +1,5 @@
+use Rattle.script_run.proofs.ScratchLemmas as lemmas
+use Rattle.script_run.proofs.laws.reloads_as_saved.Goals as goal
+
+pub returns : goal.returns
+returns c = lemmas.reloads_as_saved

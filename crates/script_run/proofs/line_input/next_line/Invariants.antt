@@ -1,0 +1,8 @@
+use Rattle.std.proofs.Common.{◌≡◌, ℕ}
+use Rattle.script_run.specs.Input.{left_of, TakesFront}
+use Rattle.script_run.proofs.line_input.next_line.Given as goal
+
+abbrev pub invariant-parts : goal.invariant-parts
+invariant-parts g l =
+    TakesFront (left_of l.initial.ahead (g.S.Read.remaining l.initial.source.inner)) (left_of l.ahead (g.S.Read.remaining l.source.inner)) l.line
+    × (l.source.failures ≡ l.initial.source.failures)

@@ -1,0 +1,52 @@
+-- What holds of lines whatever they are.
+use Rattle.std.specs.Prelude.{◌≡◌, ◌≢◌, ℕ, ◌≤◌, ⊤, List, [], ◌∷◌, length, map, Result}
+use Rattle.frame_cut.specs.Cuts.{IsCut}
+use Rattle.frame_cut.specs.Volume.{bytes_of}
+use Rattle.bench_rules.specs.declared.edit.Edit.{Edit}
+use Rattle.bench_rules.specs.declared.query.Query.{Query}
+use Rattle.bench_rules.specs.declared.refusal.Refusal.{Refusal}
+use Rattle.bench_rules.specs.Answer.{answer}
+use Rattle.bench_rules.specs.State.{State}
+use Rattle.bench_rules.specs.Steps.{Steps}
+use Rattle.script_text.specs.declared.line_fault.LineFault.TheVariants.{OutOfMemory}
+use Rattle.script_text.specs.Replies.{Printed, fault_reply}
+use Rattle.script_text.specs.Words.{without_return}
+use Rattle.script_run.specs.FromScratch.{ScratchSteps, saved}
+use Rattle.script_run.specs.Runs.{LineStep, LineSteps}
+use Rattle.script_run.specs.Sessions.{SessionSteps, with_empty_line}
+
+-- the parts that are held are the cut of their own bytes
+abbrev pub IsRead : State → Type 0
+IsRead s = IsCut (bytes_of s.volume) s.reading s.limits s.volume
+
+-- what lines do to a volume is what their edits do, one after another, each with its reply
+abbrev pub LinesAreEdits : Type 0
+LinesAreEdits = (old new : State) (lines : List (List ℕ)) (printed : List Printed) → LineSteps old lines printed new
+    → (edits : List Edit) × (replies : List (Result (Unit {0}) Refusal)) × Steps old edits replies new
+
+-- each line of a script prints what a load of the bytes that a save before it writes answers, and leaves the bytes that it then saves
+abbrev pub LinesFromScratch : Type 0
+LinesFromScratch = (old new : State) (lines : List (List ℕ)) (printed : List Printed) → IsRead old → LineSteps old lines printed new
+    → ScratchSteps LineStep old.reading old.limits (saved old) lines printed (saved new)
+
+-- a load of the bytes that are saved behind the lines holds the volume that was saved, and so every query has the answer that it had
+abbrev pub ReloadsAsSaved : Type 0
+ReloadsAsSaved = (old new again : State) (lines : List (List ℕ)) (printed : List Printed) → IsRead old → LineSteps old lines printed new
+    → IsRead again → bytes_of again.volume ≡ bytes_of new.volume → again.reading ≡ old.reading → again.limits ≡ old.limits
+    → (again.volume ≡ new.volume) × ((query : Query) → answer (record again { fields = new.fields }) query ≡ answer new query)
+
+-- this is none of what is printed
+abbrev pub NoneIs : Printed → List Printed → Type 0
+NoneIs p [] = ⊤
+NoneIs p (q ∷ qs) = (q ≢ p) × NoneIs p qs
+
+-- no line is longer than a script's may be
+abbrev pub AllWithin : List (List ℕ) → Type 0
+AllWithin [] = ⊤
+AllWithin (line ∷ lines) = (length line ≤ 16777216) × AllWithin lines
+
+-- a session of lines of which none is too long, and none answered E11, is the run of the same lines, with an empty line behind each answer
+abbrev pub SessionIsRun : Type 0
+SessionIsRun = (old new : State) (lines : List (List ℕ)) (printed : List Printed) → SessionSteps old lines printed new
+    → AllWithin lines → NoneIs (with_empty_line (fault_reply OutOfMemory)) printed
+    → (answers : List Printed) × LineSteps old (map without_return lines) answers new × (printed ≡ map with_empty_line answers)

@@ -1,0 +1,21 @@
+-- What comes next from the reader of a session.
+use Rattle.std.specs.Prelude.{◌≡◌, ℕ, ⊤, List, Option}
+use Rattle.std.specs.Io.KnownBytes.{IsAtEnd}
+use Rattle.device_io.specs.Failures.{one_more}
+use Rattle.script_run.specs.declared.next.Next.{Next}
+use Rattle.script_run.specs.declared.next.Next.TheVariants.{Line, End, Failed, Endless}
+use Rattle.script_run.specs.Input.{TakesLine, Held, Holds}
+
+-- the first line of what was left is taken and held; or nothing was left, and nothing is
+abbrev pub IsNext : Option (List ℕ) → Option (List ℕ) → Held → Next → Type 0
+IsNext old new held Line = (line : List ℕ) × TakesLine old new line × Holds held line
+IsNext old new held End = IsAtEnd old × IsAtEnd new
+IsNext old new held Failed = ⊤
+IsNext old new held Endless = ⊤
+
+-- the failures rise by one exactly where a read failed
+abbrev pub FailuresAfterNext : Next → ℕ → ℕ → Type 0
+FailuresAfterNext Line old new = new ≡ old
+FailuresAfterNext End old new = new ≡ old
+FailuresAfterNext Failed old new = new ≡ one_more old
+FailuresAfterNext Endless old new = new ≡ old

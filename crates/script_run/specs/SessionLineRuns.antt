@@ -1,0 +1,39 @@
+-- How the lines of a session end.
+use Rattle.std.specs.Prelude.{◌≡◌, ◌⊎◌, ℕ, ◌+◌, ◌≤◌, Bool, IsTrue, List, [], ◌∷◌, ◌++◌, length}
+use Rattle.bench_rules.specs.State.{State}
+use Rattle.device_io.specs.Failures.{one_more}
+use Rattle.script_text.specs.declared.script_fault.ScriptFault.{ScriptFault}
+use Rattle.script_text.specs.declared.script_fault.ScriptFault.TheVariants as script_faults
+use Rattle.script_text.specs.Devices.{Device, Takes, TakesPart, count_in_64_bits}
+use Rattle.script_text.specs.Replies.{Printed}
+use Rattle.script_run.specs.declared.session_lines.SessionLines.{SessionLines}
+use Rattle.script_run.specs.declared.session_lines.SessionLines.TheVariants.{Whole, Stopped, Answers, Script}
+use Rattle.script_run.specs.Runs.{printed_text, refusals}
+use Rattle.script_run.specs.Sessions.{SessionSteps, FirstLines, AllLines}
+
+-- the first lines of a reader are answered, from one state to another
+pub record Answered (start end : State) (before : Device) (printed : List Printed) : Type 0 where
+  pub lines : List (List ℕ)
+  pub given : FirstLines before.bytes lines
+  pub steps : SessionSteps start lines printed end
+
+-- the lines of a reader are answered, and the writer of the answers takes what is printed
+abbrev pub AnswersTo : State → State → Bool → Device → Device → Device → Device → SessionLines → Type 0
+AnswersTo start end stop script script_now answers answers_now (Whole refused) =
+    (printed : List Printed) × (done : Answered start end script printed) × AllLines script.bytes done.lines
+    × (script_now.failures ≡ script.failures) × (refused ≡ refusals printed) × (IsTrue stop → refused ≡ 0)
+    × Takes answers answers_now (printed_text printed)
+AnswersTo start end stop script script_now answers answers_now (Stopped line) =
+    (before : List Printed) × (last : Printed) × Answered start end script (before ++ last ∷ [])
+    × (line ≡ length before + 1) × (refusals before ≡ 0) × IsTrue last.is_refusal × IsTrue stop
+    × Takes answers answers_now (printed_text (before ++ last ∷ []))
+AnswersTo start end stop script script_now answers answers_now (Answers written) =
+    (before : List Printed) × (last : Printed) × (taken : ℕ) × Answered start end script (before ++ last ∷ [])
+    × (written ≡ count_in_64_bits taken) × (IsTrue stop → refusals before ≡ 0) × (length (printed_text before) ≤ taken)
+    × TakesPart answers answers_now (printed_text (before ++ last ∷ [])) taken
+AnswersTo start end stop script script_now answers answers_now (Script fault written) =
+    (printed : List Printed) × Answered start end script printed
+    × (((fault ≡ script_faults.ReadFailed) × (script_now.failures ≡ one_more script.failures)) ⊎ ((fault ≡ script_faults.TooLarge) × (script_now.failures ≡ script.failures)))
+    × (IsTrue stop → refusals printed ≡ 0)
+    × (written ≡ count_in_64_bits (length (printed_text printed)))
+    × Takes answers answers_now (printed_text printed)

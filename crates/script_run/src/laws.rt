@@ -1,0 +1,26 @@
+// What holds of lines, as contracts of calls that do nothing.
+ghost use Rattle.script_run.specs.Laws.{LinesAreEdits, LinesFromScratch, ReloadsAsSaved, SessionIsRun};
+
+/// What the lines of a script do to a volume is what their edits do, one after another.
+pub fn lines_are_edits()
+    ensures { LinesAreEdits }
+{}
+
+/// The headline, over lines. Each line prints what a load of the bytes that a save before it writes
+/// answers, under the reading and limits of the first load and the field map in force, and leaves
+/// the bytes that a save behind it writes.
+pub fn lines_from_scratch()
+    ensures { LinesFromScratch }
+{}
+
+/// A load of the bytes that are saved behind the lines holds the volume that was saved; so, under
+/// the same field map, every query has the answer that it had before the save.
+pub fn reloads_as_saved()
+    ensures { ReloadsAsSaved }
+{}
+
+/// A session answers as a run of the same lines does, with an empty line behind each answer, where
+/// no line is longer than a script's may be and memory was never refused.
+pub fn session_is_run()
+    ensures { SessionIsRun }
+{}

@@ -1,0 +1,165 @@
+-- The texts of answers, of refusals and of faults are lines none of which is empty.
+use Rattle.std.proofs.Common.{◌≡◌, ℕ, ℤ, ◌==◌, ◌-◌, length, List, [], ◌∷◌, ◌++◌, map, take, Bool, true, false, Option, Some, None, Result, Ok, Err, cond, refl}
+use Rattle.std.specs.Prelude.{codes, decimal}
+use Rattle.std.specs.Fmt.{signed_decimal}
+use Rattle.std.specs.List.{list_all, suffix_len}
+use Rattle.std.specs.Str.{byte}
+use Rattle.num_order.specs.declared.order.Order.{Order}
+use Rattle.num_order.specs.declared.order.Order.TheVariants.{Big, Little}
+use Rattle.text_block.specs.declared.code.Code.{Code}
+use Rattle.text_block.specs.declared.code.Code.TheVariants.{Ebcdic, Ascii}
+use Rattle.text_block.specs.Lines.{without_blanks}
+use Rattle.field_map.specs.declared.place.Place.{Place}
+use Rattle.sample_codes.specs.Formats.{code_of}
+use Rattle.trace_record.specs.declared.ratio.Ratio.{Ratio}
+use Rattle.trace_record.specs.declared.statistics.Statistics.{Statistics}
+use Rattle.grid_live.specs.declared.cell.Cell.{Cell}
+use Rattle.grid_live.specs.declared.line.Line.{Line}
+use Rattle.grid_live.specs.declared.fold_count.FoldCount.{FoldCount}
+use Rattle.fault_live.specs.declared.fault.Fault.{Fault}
+use Rattle.fault_live.specs.declared.fault.Fault.TheVariants as faults
+use Rattle.time_slice.specs.declared.row.Row.{Row}
+use Rattle.bench_rules.specs.declared.info.Info.{Info}
+use Rattle.bench_rules.specs.declared.location.Location.{Location}
+use Rattle.bench_rules.specs.declared.answer.Answer.{Answer}
+use Rattle.bench_rules.specs.declared.answer.Answer.TheVariants as answers
+use Rattle.script_text.specs.Texts.{with_blanks, list_lines, place_text, extension_text, sign_letter, is_plain, is_full_line, IsFullLines}
+use Rattle.script_text.specs.ReportTexts.{fraction_text, location_text, statistics_text, range_text, cell_text, numbered_text, fold_count_text, row_text, of_trace_text, fault_text}
+use Rattle.script_text.specs.AnswerTexts.{order_text, yes_or_no, info_text, code_text, stanza_text, field_text, answer_text}
+use Rattle.script_text.specs.FullLines.{HasPlainTexts, AnswersAreFullLines}
+use Rattle.script_text.proofs.FullLineLemmas.{plain_both, plain_decimal, plain_signed, plain_first, plain_joined, Plain, no_word, word, full_joined, words_line, one_line, lines_behind, each_full, some_full}
+
+-- ---- the parts of lines
+
+plain_fraction : (r : Ratio) → is_plain (fraction_text r) ≡ true
+plain_fraction r =
+    elim (r.den == 1) as (λ v. is_plain (cond v (signed_decimal r.num) (signed_decimal r.num ++ codes "/" ++ decimal r.den)) ≡ true) [
+      | true ↦ plain_signed r.num
+      | false ↦ plain_joined (signed_decimal r.num) (plain_signed r.num) (word (codes "/") refl (word (decimal r.den) (plain_decimal r.den) no_word))
+    ]
+
+plain_order : (order : Order) → is_plain (order_text order) ≡ true
+plain_order Big = refl
+plain_order Little = refl
+
+plain_yes : (b : Bool) → is_plain (yes_or_no b) ≡ true
+plain_yes true = refl
+plain_yes false = refl
+
+plain_code : (code : Code) → is_plain (code_text code) ≡ true
+plain_code Ebcdic = refl
+plain_code Ascii = refl
+
+plain_place : (place : Place) → is_plain (place_text place) ≡ true
+plain_place place =
+    plain_joined (codes "@") refl
+    (word (extension_text place.extension) (plain_extension place.extension) (word (decimal place.byte) (plain_decimal place.byte)
+    (word (codes ":") refl (word (decimal place.kind.size) (plain_decimal place.kind.size) (word (sign_letter place.kind.signed) (plain_letter place.kind.signed) no_word)))))
+  where
+    plain_extension : (n : ℕ) → is_plain (extension_text n) ≡ true
+    plain_extension n =
+        elim (n == 0) as (λ v. is_plain (cond v [] (decimal n ++ codes ".")) ≡ true)
+        [ true ↦ refl | false ↦ plain_both (decimal n) (codes ".") (plain_decimal n) refl ]
+
+    plain_letter : (b : Bool) → is_plain (sign_letter b) ≡ true
+    plain_letter true = refl
+    plain_letter false = refl
+
+full_info : (i : Info) → is_full_line (info_text i) ≡ true
+full_info i =
+    full_joined (codes "info order ") refl
+    (word (order_text i.head.order) (plain_order i.head.order)
+    (word (codes " revision ") refl (word (decimal i.head.major) (plain_decimal i.head.major)
+    (word (codes ".") refl (word (decimal i.head.minor) (plain_decimal i.head.minor)
+    (word (codes " format ") refl (word (decimal (code_of i.head.format)) (plain_decimal (code_of i.head.format))
+    (word (codes " samples ") refl (word (decimal i.head.samples) (plain_decimal i.head.samples)
+    (word (codes " fixed ") refl (word (yes_or_no i.head.fixed) (plain_yes i.head.fixed)
+    (word (codes " extensions ") refl (word (decimal i.head.extensions) (plain_decimal i.head.extensions)
+    (word (codes " blocks ") refl (word (decimal i.head.blocks) (plain_decimal i.head.blocks)
+    (word (codes " trailer ") refl (word (decimal i.head.trailer) (plain_decimal i.head.trailer)
+    (word (codes " traces ") refl (word (decimal i.traces) (plain_decimal i.traces)
+    (word (codes " bytes ") refl (word (decimal i.bytes) (plain_decimal i.bytes) no_word)))))))))))))))))))))
+
+-- ---- lines
+
+full_location : (g : Location) → is_full_line (location_text g) ≡ true
+full_location g = words_line (codes "geometry inline") refl (word (signed_decimal g.inline) (plain_signed g.inline)
+    (word (codes "crossline") refl (word (signed_decimal g.crossline) (plain_signed g.crossline)
+    (word (codes "offset") refl (word (signed_decimal g.offset) (plain_signed g.offset)
+    (word (codes "x") refl (word (fraction_text g.x) (plain_fraction g.x)
+    (word (codes "y") refl (word (fraction_text g.y) (plain_fraction g.y) no_word)))))))))
+
+full_statistics : (head : List ℕ) → is_full_line head ≡ true → (s : Option Statistics) → is_full_line (statistics_text head s) ≡ true
+full_statistics head e None = words_line head e (word (codes "none") refl no_word)
+full_statistics head e (Some s) = words_line head e
+    (word (codes "least") refl (word (signed_decimal s.least) (plain_signed s.least)
+    (word (codes "greatest") refl (word (signed_decimal s.greatest) (plain_signed s.greatest)
+    (word (codes "sum") refl (word (signed_decimal s.sum) (plain_signed s.sum)
+    (word (codes "samples") refl (word (decimal s.number) (plain_decimal s.number) no_word))))))))
+
+full_range : (range : Option (Ratio × Ratio)) → is_full_line (range_text range) ≡ true
+full_range None = refl
+full_range (Some r) = words_line (codes "range") refl (word (fraction_text r.0) (plain_fraction r.0) (word (fraction_text r.1) (plain_fraction r.1) no_word))
+
+full_cell : (c : Cell) → is_full_line (cell_text (codes "cell") c) ≡ true
+full_cell c = words_line (codes "cell") refl (word (signed_decimal c.inline) (plain_signed c.inline)
+    (word (signed_decimal c.crossline) (plain_signed c.crossline) (word (decimal c.fold) (plain_decimal c.fold) no_word)))
+
+full_numbered : (head : List ℕ) → is_full_line head ≡ true → (l : Line) → is_full_line (numbered_text head l) ≡ true
+full_numbered head e l = words_line head e (word (signed_decimal l.number) (plain_signed l.number) (word (decimal l.traces) (plain_decimal l.traces) no_word))
+
+full_fold_count : (t : FoldCount) → is_full_line (fold_count_text (codes "times") t) ≡ true
+full_fold_count t = words_line (codes "times") refl (word (decimal t.fold) (plain_decimal t.fold) (word (decimal t.cells) (plain_decimal t.cells) no_word))
+
+full_row : (r : Row) → is_full_line (row_text (codes "row") r) ≡ true
+full_row r = words_line (codes "row") refl (word (signed_decimal r.inline) (plain_signed r.inline) (word (signed_decimal r.crossline) (plain_signed r.crossline)
+    (word (decimal r.position) (plain_decimal r.position) (word (signed_decimal r.value) (plain_signed r.value) no_word))))
+
+full_of_trace : (head : List ℕ) → is_full_line head ≡ true → (p : ℕ) (rest : List (List ℕ)) → Plain rest → is_full_line (of_trace_text head p rest) ≡ true
+full_of_trace head e p rest plain = words_line head e (word (codes "trace") refl (word (decimal p) (plain_decimal p) plain))
+
+full_fault : (f : Fault) → is_full_line (fault_text f) ≡ true
+full_fault (faults.Sequence p v) = full_of_trace (codes "F1") refl p _ (word (codes "sequence") refl (word (signed_decimal v) (plain_signed v) no_word))
+full_fault (faults.Samples p v n) = full_of_trace (codes "F2") refl p _ (word (codes "field") refl (word (decimal v) (plain_decimal v) (word (codes "samples") refl (word (decimal n) (plain_decimal n) no_word))))
+full_fault (faults.Interval p v w) = full_of_trace (codes "F3") refl p _ (word (codes "interval") refl (word (decimal v) (plain_decimal v) (word (codes "binary") refl (word (decimal w) (plain_decimal w) no_word))))
+full_fault (faults.Scalar p v) = full_of_trace (codes "F4") refl p _ (word (codes "scalar") refl (word (signed_decimal v) (plain_signed v) no_word))
+full_fault (faults.Units p v w) = full_of_trace (codes "F5") refl p _ (word (codes "units") refl (word (signed_decimal v) (plain_signed v) (word (codes "first") refl (word (signed_decimal w) (plain_signed w) no_word))))
+full_fault (faults.Repeated p q) = full_of_trace (codes "F6") refl p _ (word (codes "first") refl (word (decimal q) (plain_decimal q) no_word))
+full_fault (faults.TraceCount v n) = words_line (codes "F7") refl (word (codes "count") refl (word (decimal v) (plain_decimal v) (word (codes "traces") refl (word (decimal n) (plain_decimal n) no_word))))
+full_fault (faults.TextLines n) = words_line (codes "F8") refl (word (codes "lines") refl (word (decimal n) (plain_decimal n) no_word))
+full_fault (faults.Name p) = full_of_trace (codes "F9") refl p _ (word (codes "name") refl no_word)
+
+full_stanza : (s : ℕ × List ℕ) → is_plain s.1 ≡ true → is_full_line (stanza_text s) ≡ true
+full_stanza s e = full_joined (codes "stanza ") refl (word (decimal s.0) (plain_decimal s.0) (word (codes " ") refl (word s.1 e no_word)))
+
+full_field : (f : List ℕ × Place) → is_plain f.0 ≡ true → is_full_line (field_text f) ≡ true
+full_field f e = full_joined (codes "field ") refl (word f.0 e (word (codes " ") refl (word (place_text f.1) (plain_place f.1) no_word)))
+
+-- ---- lists
+
+counted : (head : List ℕ) (n : ℕ) → is_full_line head ≡ true → is_full_line (head ++ codes " " ++ decimal n) ≡ true
+counted head n e = full_joined head e (word (codes " ") refl (word (decimal n) (plain_decimal n) no_word))
+
+a_list : (head : List ℕ) (lines : List (List ℕ)) → is_full_line head ≡ true → list_all is_full_line lines ≡ true → IsFullLines (list_lines head lines)
+a_list head lines e f = lines_behind head lines (counted head (length lines) e) f
+
+pub answers_are_full_lines : AnswersAreFullLines
+answers_are_full_lines (answers.Count n) h = one_line (with_blanks (codes "traces" ∷ decimal n ∷ [])) (words_line (codes "traces") refl (word (decimal n) (plain_decimal n) no_word))
+answers_are_full_lines (answers.Info info) h = one_line (info_text info) (full_info info)
+answers_are_full_lines (answers.Value v) h = one_line (with_blanks (codes "value" ∷ signed_decimal v ∷ [])) (words_line (codes "value") refl (word (signed_decimal v) (plain_signed v) no_word))
+answers_are_full_lines (answers.Line text) h =
+    one_line (codes "line |" ++ without_blanks text ++ codes "|") (full_joined (codes "line |") refl (word (without_blanks text) (plain_first (length text - suffix_len (λ c. c == byte " ") text) text h) (word (codes "|") refl no_word)))
+answers_are_full_lines (answers.Code code) h = one_line (codes "code " ++ code_text code) (full_joined (codes "code ") refl (word (code_text code) (plain_code code) no_word))
+answers_are_full_lines (answers.Stanzas stanzas) h = a_list (codes "stanzas") (map stanza_text stanzas) refl (some_full stanza_text (λ s. is_plain s.1) full_stanza stanzas h)
+answers_are_full_lines (answers.Fields fields) h = a_list (codes "fields") (map field_text fields) refl (some_full field_text (λ f. is_plain f.0) full_field fields h)
+answers_are_full_lines (answers.Geometry location) h = one_line (location_text location) (full_location location)
+answers_are_full_lines (answers.Stat statistics) h = one_line (statistics_text (codes "stat") statistics) (full_statistics (codes "stat") refl statistics)
+answers_are_full_lines (answers.Fold n) h = one_line (with_blanks (codes "fold" ∷ decimal n ∷ [])) (words_line (codes "fold") refl (word (decimal n) (plain_decimal n) no_word))
+answers_are_full_lines (answers.Grid cells) h = a_list (codes "cells") (map (cell_text (codes "cell")) cells) refl (each_full (cell_text (codes "cell")) full_cell cells)
+answers_are_full_lines (answers.Inlines lines) h = a_list (codes "inlines") (map (numbered_text (codes "inline")) lines) refl (each_full (numbered_text (codes "inline")) (full_numbered (codes "inline") refl) lines)
+answers_are_full_lines (answers.Crosslines lines) h = a_list (codes "crosslines") (map (numbered_text (codes "crossline")) lines) refl (each_full (numbered_text (codes "crossline")) (full_numbered (codes "crossline") refl) lines)
+answers_are_full_lines (answers.Histogram times) h = a_list (codes "histogram") (map (fold_count_text (codes "times")) times) refl (each_full (fold_count_text (codes "times")) full_fold_count times)
+answers_are_full_lines (answers.Range range) h = one_line (range_text range) (full_range range)
+answers_are_full_lines (answers.Totals statistics) h = one_line (statistics_text (codes "totals") statistics) (full_statistics (codes "totals") refl statistics)
+answers_are_full_lines (answers.Slice rows) h = a_list (codes "slice") (map (row_text (codes "row")) rows) refl (each_full (row_text (codes "row")) full_row rows)
+answers_are_full_lines (answers.Faults faults) h = a_list (codes "faults") (map fault_text faults) refl (each_full fault_text full_fault faults)

@@ -1,0 +1,11 @@
+-- What is printed for a reply that is held.
+use Rattle.script_text.specs.Replies.{Printed, nothing, fault_reply, edit_reply, query_reply}
+use Rattle.script_text.specs.declared.reply.Reply.{Reply}
+use Rattle.script_text.specs.declared.reply.Reply.TheVariants.{Silent, Fault, Edited, Asked}
+
+-- what a reply prints
+abbrev pub printed_of : Reply → Printed
+printed_of Silent = nothing
+printed_of (Fault fault) = fault_reply fault
+printed_of (Edited reply) = edit_reply reply
+printed_of (Asked reply) = query_reply reply

@@ -1,0 +1,17 @@
+pub mod Words
+pub mod Numbers
+pub mod Readers
+pub mod ReportCommands
+pub mod Commands
+pub mod Texts
+pub mod RefusalTexts
+pub mod AnswerTexts
+pub mod Replies
+pub mod Held
+pub mod Devices
+pub mod Printing
+pub mod Examples
+pub mod ReportTexts
+pub mod LineExamples
+pub mod ReportExamples
+pub mod FullLines

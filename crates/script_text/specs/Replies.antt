@@ -1,0 +1,35 @@
+-- What a line of a script prints.
+use Rattle.std.specs.Prelude.{ℕ, Bool, true, false, List, [], Result, Ok, Err}
+use Rattle.bench_rules.specs.declared.refusal.Refusal.{Refusal}
+use Rattle.bench_rules.specs.declared.answer.Answer.{Answer}
+use Rattle.bench_rules.specs.declared.ask_fault.AskFault.{AskFault}
+use Rattle.script_text.specs.declared.line_fault.LineFault.{LineFault}
+use Rattle.script_text.specs.AnswerTexts.{answer_text}
+use Rattle.script_text.specs.RefusalTexts.{accepted_line, refused_line, refusal_text, ask_fault_text, line_fault_text}
+
+-- what a line prints, and whether that is a refusal
+pub record Printed : Type 0 where
+  pub text : List ℕ
+  pub is_refusal : Bool
+
+-- what a note or a blank line prints: nothing
+abbrev pub nothing : Printed
+nothing = record { text = []; is_refusal = false }
+
+-- what a refused line prints
+abbrev pub refusal : List ℕ → Printed
+refusal text = record { text = refused_line text; is_refusal = true }
+
+-- the reply to a line that is no command
+abbrev pub fault_reply : LineFault → Printed
+fault_reply fault = refusal (line_fault_text fault)
+
+-- the reply to an edit
+abbrev pub edit_reply : {T : Type 0} → Result T Refusal → Printed
+edit_reply (Ok done) = record { text = accepted_line; is_refusal = false }
+edit_reply (Err fault) = refusal (refusal_text fault)
+
+-- the reply to a query
+abbrev pub query_reply : Result Answer AskFault → Printed
+query_reply (Ok answer) = record { text = answer_text answer; is_refusal = false }
+query_reply (Err fault) = refusal (ask_fault_text fault)

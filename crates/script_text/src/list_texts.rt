@@ -1,0 +1,59 @@
+// The lines that are printed for a list: its word and their number, and then one for each item.
+ghost use Rattle.std.specs.Prelude.{◌≡◌, ◌≤◌, ◌++◌, ℕ, List, [], length, map, codes, decimal};
+ghost use Rattle.script_text.specs.Devices.{device_of};
+ghost use Rattle.script_text.specs.Printing.{Pushes};
+ghost use Rattle.script_text.specs.Texts.{list_lines, with_line_end};
+
+use crate::out_buffer::OutBuffer;
+use crate::text_buffer::TextBuffer;
+use device_io::{Sink, WriteFault};
+use std::io::Write;
+
+/// What has a short line in a list, behind a word that the list gives to each line.
+pub(crate) trait Listed {
+    ghost text: { List ℕ → Self → List ℕ };
+
+    /// Writes the line without its end.
+    fn push_text(&self, line: &mut TextBuffer, word: &[u8])
+        requires empty { line.old ≡ [] }
+        requires word { length word.now ≤ 20 }
+        ensures text { line.new ≡ text word.now self.now }
+        ensures short { length line.new ≤ 639 };
+}
+
+/// Pushes the lines of a list. Takes no memory.
+pub(crate) fn push_list<W: Write, T: Listed>(
+    out: &mut OutBuffer,
+    writer: &mut Sink<W>,
+    list: &[u8],
+    word: &[u8],
+    items: &[T],
+) -> Result<(), WriteFault>
+    requires list { length list.now ≤ 20 }
+    requires word { length word.now ≤ 20 }
+    ensures { Pushes (device_of W.contents writer.old) (device_of W.contents writer.new)
+        out.old out.new (list_lines list.now (map (T.text word.now) items.now)) result }
+{
+    let mut line = TextBuffer::new();
+    push_head(&mut line, list, items.len() as u64);
+    out.push(writer, line.as_slice())?;
+    for item in items {
+        line.clear();
+        item.push_text(&mut line, word);
+        line.push_byte(b'\n');
+        out.push(writer, line.as_slice())?;
+    }
+    Ok(())
+}
+
+/// Writes the line that a list begins with: its word and how many lines follow.
+pub(crate) fn push_head(line: &mut TextBuffer, word: &[u8], count: u64)
+    requires empty { line.old ≡ [] }
+    requires word { length word.now ≤ 20 }
+    ensures { line.new ≡ with_line_end (word.now ++ codes " " ++ decimal count) }
+{
+    line.push(word);
+    line.push(b" ");
+    line.push_number(count);
+    line.push(b"\n");
+}

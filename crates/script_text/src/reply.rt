@@ -1,0 +1,56 @@
+// What is printed for a line of a script.
+ghost use Rattle.std.specs.Prelude.{◌≡◌};
+ghost use Rattle.script_text.specs.Devices.{device_of};
+ghost use Rattle.script_text.specs.Printing.{Pushes, nothing_out};
+ghost use Rattle.script_text.specs.Held.{printed_of};
+
+use crate::answer_texts::push_answer;
+use crate::line_fault::LineFault;
+use crate::out_buffer::OutBuffer;
+use crate::refusal_texts::{ask_fault_line, line_fault_line, refusal_line};
+use bench_rules::{Answer, AskFault, Refusal};
+use device_io::{Sink, WriteFault};
+use std::io::Write;
+
+/// What a line gives, of which its text is made.
+#[derive(Drop)]
+pub enum Reply {
+    /// A note or a blank line.
+    Silent,
+    /// The line is no command.
+    Fault(LineFault),
+    /// The line is an edit.
+    Edited(Result<(), Refusal>),
+    /// The line is a query.
+    Asked(Result<Answer, AskFault>),
+}
+
+/// Whether a reply is a refusal.
+pub fn is_refusal(reply: &Reply) -> bool
+    ensures { result ≡ (printed_of reply.now).is_refusal }
+{
+    match reply {
+        Reply::Silent | Reply::Edited(Ok(())) | Reply::Asked(Ok(_)) => false,
+        Reply::Fault(_) | Reply::Edited(Err(_)) | Reply::Asked(Err(_)) => true,
+    }
+}
+
+/// Pushes the text of a reply, the first one since the buffer began. Takes no memory.
+pub fn push_reply<W: Write>(
+    out: &mut OutBuffer,
+    writer: &mut Sink<W>,
+    reply: &Reply,
+) -> Result<(), WriteFault>
+    requires { out.old ≡ nothing_out }
+    ensures { Pushes (device_of W.contents writer.old) (device_of W.contents writer.new)
+        out.old out.new (printed_of reply.now).text result }
+{
+    match reply {
+        Reply::Silent => Ok(()),
+        Reply::Fault(fault) => out.push(writer, line_fault_line(*fault).as_slice()),
+        Reply::Edited(Ok(())) => out.push(writer, b"ok\n"),
+        Reply::Edited(Err(refusal)) => out.push(writer, refusal_line(*refusal).as_slice()),
+        Reply::Asked(Ok(answer)) => push_answer(out, writer, answer),
+        Reply::Asked(Err(fault)) => out.push(writer, ask_fault_line(*fault).as_slice()),
+    }
+}

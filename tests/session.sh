@@ -1,0 +1,150 @@
+#!/usr/bin/env bash
+# A session of the built program: each line of standard input is answered before the next is read, with an empty line behind each answer.
+# usage: tests/session.sh [PROGRAM]
+set -u
+here=$(cd "$(dirname "$0")" && pwd)
+program=$(realpath "${1:-$here/../crates/segywb/out/segywb}")
+. "$here/files.sh"
+work=$(mktemp -d)
+trap 'rm -rf "$work"' EXIT
+cd "$work" || exit 1
+passed=0
+failed=0
+
+tell() {
+    if [ "$2" = ok ]; then passed=$((passed + 1)); else failed=$((failed + 1)); printf 'FAILED %s: %s\n' "$1" "$2"; fi
+}
+
+# expect NAME STATUS ANSWERS ERRORS WORD..: a session on the file `lines`, with printf's escapes in the texts
+expect() {
+    local name=$1 status=$2 answers=$3 errors=$4 outcome=ok got
+    shift 4
+    "$program" "$@" < lines > answers 2> errors
+    got=$?
+    [ "$got" = "$status" ] || outcome="status $got, not $status"
+    printf "$answers" | cmp -s - answers || outcome="answers: $(head -c 300 answers)"
+    printf "$errors" | cmp -s - errors || outcome="standard error: $(head -c 300 errors)"
+    tell "$name" "$outcome"
+}
+
+# as_a_run NAME FILE WORD..: the session on `lines` answers what runs of the lines as a script answer, line by line, and saves the same
+as_a_run() {
+    local name=$1 file=$2 count i
+    shift 2
+    count=$(grep -c '' lines)
+    : > wanted
+    : > before
+    for ((i = 1; i <= count; i++)); do
+        head -n "$i" lines > script
+        "$program" "$file" --script script "$@" > now 2> /dev/null
+        tail -c "+$(($(wc -c < before) + 1))" now >> wanted
+        echo >> wanted
+        mv now before
+    done
+    rm -f by_run.sgy by_session.sgy
+    "$program" "$file" --script lines --out by_run.sgy "$@" > /dev/null 2>&1
+    local run=$?
+    "$program" "$file" --session --out by_session.sgy "$@" < lines > answers 2>&1
+    local got=$?
+    if [ "$run" != "$got" ]; then tell "$name" "status $got, a run's is $run"
+    elif ! cmp -s wanted answers; then tell "$name" "answers: $(head -c 300 answers)"
+    elif ! cmp -s by_run.sgy by_session.sgy; then tell "$name" 'another file is saved'
+    else tell "$name" ok; fi
+}
+
+survey s.sgy
+extended x.sgy
+
+# ---- answers, and the empty lines behind them
+printf 'count\n\n# a note\nset 2 @189:4 7\nget 2 @189:4\n' > lines
+expect 'an empty line behind each answer' 0 'traces 3\n\n\n\nok\n\nvalue 7\n\n' '' s.sgy --session
+: > lines
+expect 'no line' 0 '' '' s.sgy --session
+printf 'count' > lines
+expect 'a last line without a line feed' 0 'traces 3\n\n' '' s.sgy --session
+printf 'count\r\nnothing\r\n' > lines
+expect 'carriage returns, and a line that is no command' 1 'traces 3\n\nrefused S01 unknown word\n\n' '' s.sgy --session
+printf 'count\0\n\377\ncount\n' > lines
+expect 'a NUL, and bytes that are no text' 1 'refused S01 unknown word\n\nrefused S04 not text\n\ntraces 3\n\n' '' s.sgy --session
+printf 'count\n' > lines
+head -c 3000 s.sgy > short.sgy
+expect 'a refused file has its line alone' 3 'load refused L03 short 3000\n' '' short.sgy --session
+
+# ---- as a run of the same lines
+printf 'count\nset 1 inline 77\nset 9 inline 1\ninlines\nfaults\ngrid\n# note\n\nmap far @1:4\nfields\ninfo\nhistogram\nslice 0\nslice 1\nslice 1\nline 0 1\ntext 1 C 1 NOTE\nline 0 1\n' > lines
+as_a_run 'reports and edits' s.sgy
+printf 'delete 1\nblank 1\ncopy 2 4\nmove 1 3\npatch 1 0 5 6\nrenumber 1 3 inline 100 5\ninlines\nget 1 inline\nsample 1 1\nbogus\ntotals\nrange x\n' > lines
+as_a_run 'traces' s.sgy
+as_a_run 'under --fixed' s.sgy --fixed
+
+# ---- the answer is there before the next line is read
+mkfifo in out
+"$program" s.sgy --session < in > out &
+session=$!
+exec 7> in 8< out
+outcome=ok
+for turn in 1 2 3; do
+    printf 'set 1 inline %s\nget 1 inline\n' "$turn" >&7
+    for wanted in ok '' "value $turn" ''; do
+        read -r -t 20 told <&8 || outcome="no answer in turn $turn"
+        [ "$told" = "$wanted" ] || outcome="turn $turn: $told"
+    done
+done
+printf 'coun' >&7
+printf 't\n' >&7
+read -r -t 20 told <&8
+[ "$told" = 'traces 3' ] || outcome="a line in two writes: $told"
+exec 7>&-
+wait "$session" || outcome="status $?"
+exec 8<&-
+tell 'answers one line at a time' "$outcome"
+
+# ---- --stop
+printf 'set 1 inline 5\nbogus\nset 2 inline 6\n' > lines
+rm -f o.sgy
+expect 'stops at a refused line' 1 'ok\n\nrefused S01 unknown word\n\n' '' s.sgy --session --stop --out o.sgy
+if [ -e o.sgy ]; then tell 'and saves nothing' 'o.sgy was made'; else tell 'and saves nothing' ok; fi
+
+# ---- long lines
+{ printf '# '; head -c 16777214 /dev/zero | tr '\0' x; printf '\ncount\n'; } > lines
+expect 'a note of 16777216 bytes' 0 '\ntraces 3\n\n' '' s.sgy --session
+{ printf '# '; head -c 16777215 /dev/zero | tr '\0' x; printf '\ncount\n'; } > lines
+expect 'one byte more, whatever it holds' 1 'refused S05 too large\n\ntraces 3\n\n' '' s.sgy --session
+{ head -c 50000000 /dev/zero; printf '\ncount'; } > lines
+expect 'the rest of a long line is passed over' 1 'refused S05 too large\n\ntraces 3\n\n' '' s.sgy --session
+{ for _ in $(seq 3); do head -c 9000000 /dev/zero | tr '\0' ' '; printf 'count\n'; done; } > lines
+expect 'no limit on the sum of the lines' 0 'traces 3\n\ntraces 3\n\ntraces 3\n\n' '' s.sgy --session
+# lines whose ends fall on and around the ends of reads of 65536 bytes
+{ for n in 65533 65534 65535 65536 65537 131071 131072; do head -c "$((n - 1))" /dev/zero | tr '\0' ' '; printf '#\ncount\n'; done; } > lines
+expect 'lines about as long as a read' 0 "$(for _ in $(seq 7); do printf '\\ntraces 3\\n\\n'; done)" '' s.sgy --session
+seq 1 20000 | sed 's/.*/count/' > lines
+"$program" s.sgy --session < lines > answers
+if [ "$(sort answers | uniq -c | tr -s ' ' | tr '\n' ';')" = ' 20000 ; 20000 traces 3;' ]; then tell '20000 lines at once' ok; else tell '20000 lines at once' "$(head -c 200 answers)"; fi
+
+# ---- devices
+printf 'set 1 inline 5\n' > lines
+"$program" s.sgy --session --out o2.sgy < "$work" > answers 2> errors
+got=$?
+if [ "$got" = 4 ] && [ "$(cat answers)" = 'script refused P01 read failed' ] && [ ! -e o2.sgy ]; then tell 'standard input that cannot be read' ok
+else tell 'standard input that cannot be read' "status $got: $(head -c 200 answers errors)"; fi
+if [ -e /dev/full ]; then
+    "$program" s.sgy --session --out o2.sgy < lines > /dev/full 2> errors
+    got=$?
+    if [ "$got" = 4 ] && [ "$(cat errors)" = 'segywb: answers failed' ] && [ ! -e o2.sgy ]; then tell 'answers that fail' ok; else tell 'answers that fail' "status $got: $(cat errors)"; fi
+fi
+
+# ---- the command line
+for words in '' '--session --script lines' '--script' '--session --session'; do
+    "$program" s.sgy $words < lines > answers 2> errors
+    got=$?
+    if [ "$got" = 2 ] && [ ! -s answers ] && [ -s errors ]; then tell "refused: s.sgy $words" ok; else tell "refused: s.sgy $words" "status $got: $(head -c 200 answers errors)"; fi
+done
+
+# ---- saves
+printf 'set 2 @189:4 7\n' > lines
+cp s.sgy own.sgy
+expect 'saves over its own file' 0 'ok\n\n' '' own.sgy --session --out own.sgy
+if [ "$(cmp -l s.sgy own.sgy | tr -s ' ' | sed 's/^ //')" = '4036 12 7' ]; then tell 'and changes one byte' ok; else tell 'and changes one byte' "$(cmp -l s.sgy own.sgy | head -3)"; fi
+
+printf '%d passed, %d failed\n' "$passed" "$failed"
+[ "$failed" = 0 ]

@@ -22,6 +22,10 @@ script_rule = record (new_rule (codes "script")) { long = Some (codes "script");
 abbrev pub out_rule : Rule
 out_rule = record (new_rule (codes "out")) { long = Some (codes "out"); value_names = 1 }
 
+-- the flag `--in-place`
+abbrev pub in_place_rule : Rule
+in_place_rule = record (new_rule (codes "in-place")) { long = Some (codes "in-place"); action = Some SetTrue }
+
 -- the flag `--fixed`
 abbrev pub fixed_rule : Rule
 fixed_rule = record (new_rule (codes "fixed")) { long = Some (codes "fixed"); action = Some SetTrue }
@@ -38,9 +42,9 @@ stop_rule = record (new_rule (codes "stop")) { long = Some (codes "stop"); actio
 abbrev pub titled : App
 titled = on_top (λ s. record s { has_version = true }) (new_app (codes "segywb"))
 
--- `segywb FILE --script S [--out O] [--fixed] [--max-bytes N] [--stop]`
+-- `segywb FILE --script S [--out O] [--in-place] [--fixed] [--max-bytes N] [--stop]`
 unfoldable pub segywb : App
-segywb = with_rule (with_rule (with_rule (with_rule (with_rule (with_rule titled file_rule) script_rule) out_rule) fixed_rule) limit_rule) stop_rule
+segywb = with_rule (with_rule (with_rule (with_rule (with_rule (with_rule (with_rule titled file_rule) script_rule) out_rule) in_place_rule) fixed_rule) limit_rule) stop_rule
 
 -- what clap matches for the words
 abbrev pub matched : List (List ℕ) → List Row

@@ -17,16 +17,18 @@ const GREATEST_LIMIT: u64 = 1099511627776;
 
 const ABOUT: &str =
     "Repairs SEG-Y files: runs a script of edits and queries over FILE, prints one answer for \
-     each\nline on standard output, and saves the edited file where --out says.";
+     each\nline on standard output, and saves the edited file where --out says. A save that fails leaves\nOUT as it was.";
 
 const AFTER: &str = "Exit status:\n\
      \x20 0  no line was refused\n\
      \x20 1  some line was refused\n\
      \x20 2  the command line is not accepted, or --help or --version was asked for\n\
      \x20 3  FILE cannot be opened, or is refused\n\
-     \x20 4  SCRIPT cannot be opened or read, or the answers or the save failed\n\n\
+     \x20 4  SCRIPT cannot be opened or read, or the answers or the save failed, or FILE was\n\
+     \x20    changed by another program before the save\n\n\
      Examples:\n\
      \x20 segywb line.sgy --script fix.txt --out fixed.sgy\n\
+     \x20 segywb line.sgy --script fix.txt --stop --out line.sgy\n\
      \x20 echo info | segywb line.sgy --script /dev/stdin\n\n\
      The script language: man 5 segywb-script, or docs/MANUAL.md.";
 
@@ -47,6 +49,7 @@ fn command<'a>(alloc: Global) -> Result<Command<'a>, AllocError>
         .arg(args::file(alloc))?
         .arg(args::script(alloc))?
         .arg(args::out(alloc))?
+        .arg(args::in_place(alloc))?
         .arg(args::fixed(alloc))?
         .arg(args::limit(alloc))?
         .arg(args::stop(alloc))?;
@@ -75,6 +78,8 @@ fn read_matches<'a>(matches: &ArgMatches<'a>) -> Option<Arguments<'a>>
         a.script.now) }
     ensures out { IfSome result (λ a. first_value (found_of matches.now) (codes "out") ≡ option_map
         (λ s. s.now) a.out) }
+    ensures in_place { IfSome result
+        (λ a. ReadsFlag (one_text (found_of matches.now) (codes "in-place")) a.in_place) }
     ensures limit { IfSome result
         (λ a. ReadsLimit (one_text (found_of matches.now) (codes "max-bytes")) a.max_bytes) }
     ensures range { IfSome result (λ a. IfSome a.max_bytes (λ n. (1 ≤ n) × (n ≤ 1099511627776))) }
@@ -86,6 +91,7 @@ fn read_matches<'a>(matches: &ArgMatches<'a>) -> Option<Arguments<'a>>
     let file = matches.get_str("FILE")?;
     let script = matches.get_str("script")?;
     let out = matches.get_str("out");
+    let in_place = matches.get_flag("in-place");
     let max_bytes = max_bytes(matches)?;
     let fixed = matches.get_flag("fixed");
     let stop = matches.get_flag("stop");
@@ -93,6 +99,7 @@ fn read_matches<'a>(matches: &ArgMatches<'a>) -> Option<Arguments<'a>>
         file,
         script,
         out,
+        in_place,
         max_bytes,
         fixed,
         stop,
@@ -100,7 +107,7 @@ fn read_matches<'a>(matches: &ArgMatches<'a>) -> Option<Arguments<'a>>
 }
 
 /// What the words of a command line say, the program's name first: `FILE --script S [--out O]
-/// [--fixed] [--max-bytes N] [--stop]`, N from 1 to 1099511627776. Refused with clap's text where
+/// [--in-place] [--fixed] [--max-bytes N] [--stop]`, N from 1 to 1099511627776. Refused with clap's text where
 /// they are not accepted, `--help` too, or where a growth was refused. Takes memory.
 pub fn arguments<'a>(alloc: Global, words: &'a [String]) -> Result<Arguments<'a>, Error>
     ensures file { IfOk result (λ a. first_of (codes "FILE") (matched (map string_bytes words.now))
@@ -110,6 +117,8 @@ pub fn arguments<'a>(alloc: Global, words: &'a [String]) -> Result<Arguments<'a>
         a.script.now) }
     ensures out { IfOk result (λ a. first_of (codes "out") (matched (map string_bytes words.now))
         ≡ option_map (λ s. s.now) a.out) }
+    ensures in_place { IfOk result
+        (λ a. ReadsFlag (one_of (codes "in-place") (matched (map string_bytes words.now))) a.in_place) }
     ensures limit { IfOk result
         (λ a. ReadsLimit (one_of (codes "max-bytes") (matched (map string_bytes words.now)))
         a.max_bytes) }

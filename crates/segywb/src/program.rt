@@ -3,11 +3,16 @@ ghost use Rattle.std.specs.Prelude.{◌≡◌, ◌≤◌, IfSome, is_some, unwra
 ghost use Rattle.frame_cut.specs.declared.reading.Reading.TheVariants.{Fixed, AsWritten};
 
 use crate::command_line::{Arguments, arguments};
-use crate::late_file::LateFile;
+use crate::finish::{finish, refused_out};
+use crate::target::Target;
+use crate::where_to::{misuse, target_of};
 use device_io::{Sink, Source};
 use frame_cut::{Limits, Reading};
-use script_run::{Options, RunEnd, run};
-use std::io::{BufWriter, Write};
+use safe_save::{Original, Save};
+use script_run::{Options, run};
+use std::fs::OpenFile;
+use std::io::BufWriter;
+use std::os::fd::{AsFd, IntoRawFd};
 use std::rt::{Env, Files};
 use std::{env, fs, io};
 
@@ -19,7 +24,10 @@ const DEFAULT_LIMIT: u64 = 4294967296;
 const ROOM: usize = 65536;
 
 // Reads the command line and runs the script.
-pub fn status_of<R: Files + Env + AllocGlobal + Print + Eprint>(rt: &R) -> u8 {
+pub fn status_of<R: Files + Env + AllocGlobal + Print + Eprint>(rt: &R) -> u8
+where
+    R::File: AsFd + IntoRawFd,
+{
     let Ok(words) = words(rt) else {
         let _ = eprintln!(rt; "segywb: cannot read the command line");
         return 2;
@@ -42,22 +50,51 @@ fn words<R: Env + AllocGlobal>(rt: &R) -> io::Result<Vec<String>> {
     Ok(words)
 }
 
-// Opens the file, then the script, and runs it.
+// Opens the file, then the script, then the folder of the save, and runs the script.
 fn open_and_run<R: Files + AllocGlobal + Print + Eprint>(rt: &R, arguments: &Arguments) -> u8
+where
+    R::File: AsFd + IntoRawFd,
     requires { IfSome arguments.now.max_bytes (λ n. n ≤ 1099511627776) }
 {
     let (file, script) = (arguments.file, arguments.script);
+    if let Some(text) = misuse(rt, arguments) {
+        let _ = eprintln!(rt; "segywb: {text}");
+        return 2;
+    }
     let Ok(volume) = fs::open(rt, file) else {
         let _ = eprintln!(rt; "segywb: cannot open {file}");
         return 3;
+    };
+    let original = match volume.metadata() {
+        Ok(about) => Original::new(file, &about),
+        Err(_) => None,
     };
     let Ok(lines) = fs::open(rt, script) else {
         let _ = eprintln!(rt; "segywb: cannot open {script}");
         return 4;
     };
-    let late = LateFile::new(rt, arguments.out.unwrap_or(""));
+    match target_of(rt, arguments, original) {
+        Ok(target) => run_to(rt, arguments, original, volume, lines, target),
+        Err(refusal) => refused_out(rt, arguments.out.unwrap_or(""), &refusal),
+    }
+}
+
+// Runs the script over the file, and saves to the target.
+fn run_to<'a, R: Files + AllocGlobal + Print + Eprint>(
+    rt: &'a R,
+    arguments: &Arguments<'a>,
+    original: Option<Original<'a>>,
+    volume: R::File,
+    lines: R::File,
+    target: Target<'a, R>,
+) -> u8
+where
+    R::File: AsFd + IntoRawFd,
+    requires { IfSome arguments.now.max_bytes (λ n. n ≤ 1099511627776) }
+{
+    let mode = target.mode();
     let room = if arguments.out.is_some() { ROOM } else { 0 };
-    let Ok(out) = BufWriter::with_capacity(rt.alloc(), room, late) else {
+    let Ok(out) = BufWriter::with_capacity(rt.alloc(), room, Save::new(target)) else {
         let _ = eprintln!(rt; "segywb: out of memory");
         return 4;
     };
@@ -70,7 +107,7 @@ fn open_and_run<R: Files + AllocGlobal + Print + Eprint>(rt: &R, arguments: &Arg
         &mut out,
         options(arguments),
     );
-    finish(rt, end, out.into_inner())
+    finish(rt, arguments, original, end, out.into_inner(), mode)
 }
 
 // How the command line asks for the run.
@@ -97,35 +134,4 @@ fn options(arguments: &Arguments) -> Options
         stop: arguments.stop,
         save: arguments.out.is_some(),
     }
-}
-
-// The exit status of a run, with what is said on standard error, once the bytes that wait for the
-// file are written too.
-fn finish<R: Files + Eprint>(rt: &R, end: RunEnd, mut out: BufWriter<LateFile<'_, R>>) -> u8 {
-    match end {
-        RunEnd::Done { refused } => match out.flush() {
-            Ok(()) => u8::from(refused > 0),
-            Err(_) => save_failed(rt, taken(out)),
-        },
-        RunEnd::Stopped { .. } => 1,
-        RunEnd::Load(_) => 3,
-        RunEnd::Script(_) => 4,
-        RunEnd::Answers { .. } => {
-            let _ = eprintln!(rt; "segywb: answers failed");
-            4
-        }
-        RunEnd::Save(_) => save_failed(rt, taken(out)),
-    }
-}
-
-// How many bytes the file took; those that wait are dropped.
-fn taken<R: Files>(out: BufWriter<LateFile<'_, R>>) -> u64 {
-    let (late, _waiting) = out.into_parts();
-    late.taken()
-}
-
-// A save that failed when the file had taken so many bytes.
-fn save_failed<R: Eprint>(rt: &R, written: u64) -> u8 {
-    let _ = eprintln!(rt; "segywb: save failed after {written} bytes");
-    4
 }

@@ -1,7 +1,7 @@
 // The arguments of the command line, one by one.
 ghost use Rattle.std.specs.Prelude.{◌≡◌, false};
 ghost use Rattle.clap.specs.Words.{rule_of};
-ghost use Rattle.segywb.specs.CommandLine.{file_rule, script_rule, out_rule, fixed_rule, limit_rule, stop_rule};
+ghost use Rattle.segywb.specs.CommandLine.{file_rule, script_rule, out_rule, in_place_rule, fixed_rule, limit_rule, stop_rule};
 
 use clap::builder::ValueParser;
 use clap::{Arg, ArgAction};
@@ -37,7 +37,18 @@ pub fn out<'a>(alloc: Global) -> Arg<'a>
     Arg::new(alloc, "out")
         .long("out")
         .value_name("OUT")
-        .help("save the edited file to OUT; without it nothing is saved")
+        .help("save the edited file to OUT, which may be FILE; without it nothing is saved")
+}
+
+// `--in-place`: the save goes to the file OUT itself.
+pub fn in_place<'a>(alloc: Global) -> Arg<'a>
+    ensures rule { rule_of result ≡ in_place_rule }
+    ensures local { result.global ≡ false }
+{
+    Arg::new(alloc, "in-place")
+        .long("in-place")
+        .action(ArgAction::SetTrue)
+        .help("write over OUT itself; a save that fails then leaves a part of the file")
 }
 
 // `--fixed`: each trace has the binary header's number of samples, whatever bytes 3503-3504 say.

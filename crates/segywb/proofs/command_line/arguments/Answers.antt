@@ -19,6 +19,12 @@ returns-in-Some-clause-out c =
     let rows = rows_are _ _ c.in_ok-matches.matches c.in_ok-command.ensures c.in_ok-matches.ensures.ok.2 in
     ap (first_of (codes "out")) (sym rows) ∙ first_of-rows_of (found_of c.in_ok-matches.matches) (codes "out") ∙ c.in-Some.ensures.out
 
+pub returns-in-Some-clause-in_place : goal.returns-in-Some-clause-in_place
+returns-in-Some-clause-in_place c =
+    let rows = rows_are _ _ c.in_ok-matches.matches c.in_ok-command.ensures c.in_ok-matches.ensures.ok.2 in
+    let same = sym (ap (one_of (codes "in-place")) (sym rows) ∙ one_of-rows_of (found_of c.in_ok-matches.matches) (codes "in-place")) in
+    subst (λ (o : Option (List ℕ)). ReadsFlag o c.in-Some.read.in_place) same c.in-Some.ensures.in_place
+
 pub returns-in-Some-clause-fixed : goal.returns-in-Some-clause-fixed
 returns-in-Some-clause-fixed c =
     let rows = rows_are _ _ c.in_ok-matches.matches c.in_ok-command.ensures c.in_ok-matches.ensures.ok.2 in

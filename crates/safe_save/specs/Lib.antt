@@ -1,0 +1,4 @@
+pub mod Disk
+pub mod Saving
+pub mod Fake
+pub mod Examples

@@ -1,0 +1,84 @@
+// A save through a buffer.
+ghost use Rattle.std.specs.Prelude.{◌≡◌, [], OnOk, IfErr, IfSome, IsErr, option_map};
+ghost use Rattle.std.specs.Io.Buffered.{writer_contents};
+ghost use Rattle.safe_save.specs.Saving.{Over, Stored, beside_bytes, IsStored, IsNotStored, IsNeverElse, NeverTouched, IsGone};
+
+use crate::folder::Folder;
+use crate::save::Save;
+use crate::save_error::{Fault, SaveError, Step};
+use device_io::Sink;
+use std::io::{BufWriter, Error, ErrorKind, Write};
+
+/// Ends a save: writes what waits in the buffer, and lets OUT be the new file. The folder comes back.
+pub fn end_save<F: Folder + Drop>(
+    mut writer: BufWriter<Save<F>>,
+    mode: Option<u32>,
+) -> (F, Result<(), SaveError>)
+    // At `Ok` OUT is the bytes that the writer held, all of them, and is found so after each crash.
+    ensures saved { OnOk result.1 (Stored (writer_contents (option_map beside_bytes) writer)
+        (F.disk result.0) (IsStored mode)) }
+
+    ensures refused { IfErr result.1 (λ e. Stored (writer_contents (option_map beside_bytes) writer)
+        (F.disk result.0) (IsNotStored e mode)) }
+
+    // A crash at any moment since the folder was taken leaves the old file or those bytes.
+    ensures any_moment { Stored (writer_contents (option_map beside_bytes) writer) (F.disk result.0)
+        (IsNeverElse mode) }
+{
+    let flushed = writer.flush();
+    let (save, _waiting) = writer.into_parts();
+    match flushed {
+        Ok(()) => save.finish(mode),
+        Err(_) => give_up(save),
+    }
+}
+
+/// Ends a save in which a write failed: the new file is taken away. The folder comes back.
+pub fn give_up<F: Folder>(save: Save<F>) -> (F, Result<(), SaveError>)
+    ensures not_saved { IsErr result.1 }
+    ensures refused { IfErr result.1 (λ e. Over (IsGone e) save (F.disk result.0)) }
+    ensures any_moment { Over NeverTouched save (F.disk result.0) }
+{
+    let (step, error) = match save.failure() {
+        Some(failure) => failure,
+        None => (Step::Write, Error::from(ErrorKind::WriteZero)),
+    };
+    let taken = save.taken();
+    let (folder, removed) = save.discard();
+    let fault = Fault {
+        step,
+        error,
+        taken,
+        left: removed.is_err(),
+    };
+    (folder, Err(SaveError::NotSaved(fault)))
+}
+
+/// Saves these bytes, through a writer that took none yet.
+pub fn save_all<F: Folder + Drop>(
+    writer: BufWriter<Save<F>>,
+    bytes: &[u8],
+    mode: Option<u32>,
+) -> (F, Result<(), SaveError>)
+    requires { IfSome (writer_contents (option_map beside_bytes) writer) (λ held. held ≡ []) }
+    ensures saved { OnOk result.1 (Stored
+        (option_map (λ _. bytes.now) (writer_contents (option_map beside_bytes) writer))
+        (F.disk result.0) (IsStored mode)) }
+    ensures refused { IfErr result.1 (λ e. Stored
+        (option_map (λ _. bytes.now) (writer_contents (option_map beside_bytes) writer))
+        (F.disk result.0) (IsNotStored e mode)) }
+    ensures any_moment { Stored
+        (option_map (λ _. bytes.now) (writer_contents (option_map beside_bytes) writer))
+        (F.disk result.0) (IsNeverElse mode) }
+{
+    let mut sink = Sink::new(writer);
+    let written = sink.write_all(bytes);
+    let writer = sink.into_inner();
+    match written {
+        Ok(()) => end_save(writer, mode),
+        Err(_) => {
+            let (save, _waiting) = writer.into_parts();
+            give_up(save)
+        }
+    }
+}

@@ -1,0 +1,46 @@
+-- How a run ends for the one who called the program.
+use Rattle.std.specs.Prelude.{◌≡◌, ℕ, nat_lt, if◌then◌else◌}
+use Rattle.script_run.specs.declared.run_end.RunEnd.{RunEnd}
+use Rattle.script_run.specs.declared.run_end.RunEnd.TheVariants.{Done, Stopped, Load, Script, Answers, Save}
+use Rattle.segywb.specs.declared.ending.SaveEnd.{SaveEnd}
+use Rattle.segywb.specs.declared.ending.SaveEnd.TheVariants as s
+use Rattle.segywb.specs.declared.ending.Message.{Message}
+use Rattle.segywb.specs.declared.ending.Message.TheVariants as t
+
+-- the status where all lines were run and what was to be saved is saved: whether any was refused
+abbrev pub status_of_lines : ℕ → ℕ
+status_of_lines refused = if nat_lt 0 refused then 1 else 0
+
+-- the exit status
+abbrev pub exit_status : RunEnd → SaveEnd → ℕ
+exit_status (Done refused) s.NotBegun = status_of_lines refused
+exit_status (Done refused) s.Saved = status_of_lines refused
+exit_status (Done refused) s.Failed = 4
+exit_status (Done refused) s.Unsettled = 4
+exit_status (Done refused) s.Stale = 4
+exit_status (Stopped line) save = 1
+exit_status (Load fault) save = 3
+exit_status (Script fault) save = 4
+exit_status (Answers written) save = 4
+exit_status (Save fault) save = 4
+
+-- what standard error says of a save
+abbrev pub told_of_save : SaveEnd → Message
+told_of_save s.NotBegun = t.Nothing
+told_of_save s.Saved = t.Nothing
+told_of_save s.Failed = t.SaveFailed
+told_of_save s.Unsettled = t.SaveUnsettled
+told_of_save s.Stale = t.FileChanged
+
+-- what standard error says
+abbrev pub told : RunEnd → SaveEnd → Message
+told (Done refused) save = told_of_save save
+told (Stopped line) save = t.Nothing
+told (Load fault) save = t.Nothing
+told (Script fault) save = t.Nothing
+told (Answers written) save = t.AnswersFailed
+told (Save fault) save = told_of_save save
+
+-- the exit status is that of some end of the save
+abbrev pub IsExitStatus : RunEnd → ℕ → Type 0
+IsExitStatus end status = (save : SaveEnd) × (status ≡ exit_status end save)

@@ -1,0 +1,68 @@
+// How a run ends for the one who called the program: the exit status, and what standard error says.
+ghost use Rattle.std.specs.Prelude.{◌≡◌};
+ghost use Rattle.segywb.specs.Ending.{exit_status, told, told_of_save};
+
+use script_run::RunEnd;
+
+/// How the save ended.
+#[derive(Clone, Copy, Debug, PartialEq, Eq)]
+pub enum SaveEnd {
+    /// None was begun.
+    NotBegun,
+    Saved,
+    /// OUT is as it was.
+    Failed,
+    /// OUT is the new file, but a power cut may undo it.
+    Unsettled,
+    /// FILE was changed by another program, and OUT is as it was.
+    Stale,
+}
+
+/// What standard error says.
+#[derive(Clone, Copy, Debug, PartialEq, Eq)]
+pub enum Message {
+    Nothing,
+    AnswersFailed,
+    SaveFailed,
+    SaveUnsettled,
+    FileChanged,
+}
+
+/// The exit status.
+pub fn exit_status(end: RunEnd, save: SaveEnd) -> u8
+    ensures { result ≡ exit_status end save }
+{
+    match end {
+        RunEnd::Done { refused } => match save {
+            SaveEnd::NotBegun | SaveEnd::Saved => u8::from(refused > 0),
+            SaveEnd::Failed | SaveEnd::Unsettled | SaveEnd::Stale => 4,
+        },
+        RunEnd::Stopped { .. } => 1,
+        RunEnd::Load(_) => 3,
+        RunEnd::Script(_) => 4,
+        RunEnd::Answers { .. } => 4,
+        RunEnd::Save(_) => 4,
+    }
+}
+
+/// What standard error says.
+pub fn told(end: RunEnd, save: SaveEnd) -> Message
+    ensures { result ≡ told end save }
+{
+    match end {
+        RunEnd::Done { .. } | RunEnd::Save(_) => told_of_save(save),
+        RunEnd::Stopped { .. } | RunEnd::Load(_) | RunEnd::Script(_) => Message::Nothing,
+        RunEnd::Answers { .. } => Message::AnswersFailed,
+    }
+}
+
+fn told_of_save(save: SaveEnd) -> Message
+    ensures { result ≡ told_of_save save }
+{
+    match save {
+        SaveEnd::NotBegun | SaveEnd::Saved => Message::Nothing,
+        SaveEnd::Failed => Message::SaveFailed,
+        SaveEnd::Unsettled => Message::SaveUnsettled,
+        SaveEnd::Stale => Message::FileChanged,
+    }
+}

@@ -1,0 +1,147 @@
+// The end of a run: the save, the exit status, and what standard error says.
+ghost use Rattle.segywb.specs.Ending.{IsExitStatus};
+
+use crate::command_line::Arguments;
+use crate::ending::{SaveEnd, Message, exit_status, told};
+use crate::target::Target;
+use crate::where_to::OutRefusal;
+use safe_save::{Fault, Original, Save, SaveError, Step, end_save, give_up};
+use script_run::RunEnd;
+use std::io::BufWriter;
+use std::os::fd::{AsFd, IntoRawFd};
+use std::rt::Files;
+
+/// Ends the save of a run, tells what there is to tell, and gives the exit status.
+pub fn finish<'a, R: Files + AllocGlobal + Eprint>(
+    rt: &'a R,
+    arguments: &Arguments<'a>,
+    original: Option<Original<'a>>,
+    end: RunEnd,
+    writer: BufWriter<Save<Target<'a, R>>>,
+    mode: Option<u32>,
+) -> u8
+where
+    R::File: AsFd + IntoRawFd,
+    ensures { IsExitStatus end result }
+{
+    let (save, error) = end_of_save(end, writer, mode, arguments.out.is_some());
+    let (file, out) = (arguments.file, arguments.out.unwrap_or(""));
+    match told(end, save) {
+        Message::Nothing => {}
+        Message::AnswersFailed => {
+            let _ = eprintln!(rt; "segywb: answers failed");
+        }
+        Message::SaveFailed => {
+            if let Some(SaveError::NotSaved(fault)) = &error {
+                save_failed(rt, out, fault, !arguments.in_place);
+            }
+        }
+        Message::SaveUnsettled => {
+            if let Some(SaveError::NotSettled(error)) = &error {
+                let _ = eprintln!(rt; "segywb: saved, but a power cut may undo it");
+                let _ = eprintln!(rt; "segywb: {out}: its folder did not reach the disk ({error}); run sync");
+            }
+        }
+        Message::FileChanged => {
+            changed(rt, file, "nothing is saved; look at it, and run the script again");
+        }
+    }
+    if save == SaveEnd::NotBegun && original.is_some_and(|original| original.is_changed(rt)) {
+        changed(rt, file, "the answers may be those of a file that never was");
+    }
+    exit_status(end, save)
+}
+
+// Ends the save, or gives it up.
+fn end_of_save<'a, R: Files + AllocGlobal>(
+    end: RunEnd,
+    writer: BufWriter<Save<Target<'a, R>>>,
+    mode: Option<u32>,
+    is_asked: bool,
+) -> (SaveEnd, Option<SaveError>)
+where
+    R::File: AsFd + IntoRawFd,
+{
+    let (target, result) = match end {
+        RunEnd::Done { .. } if is_asked => end_save(writer, mode),
+        RunEnd::Save(_) => {
+            let (save, _waiting) = writer.into_parts();
+            give_up(save)
+        }
+        _ => {
+            let (save, _waiting) = writer.into_parts();
+            let _ = save.discard();
+            return (SaveEnd::NotBegun, None);
+        }
+    };
+    match result {
+        Ok(()) => (SaveEnd::Saved, None),
+        Err(_) if target.is_stale() => (SaveEnd::Stale, None),
+        Err(SaveError::NotSaved(fault)) => (SaveEnd::Failed, Some(SaveError::NotSaved(fault))),
+        Err(SaveError::NotSettled(error)) => {
+            (SaveEnd::Unsettled, Some(SaveError::NotSettled(error)))
+        }
+    }
+}
+
+/// Tells of an OUT that nothing can be saved to, before anything was read. The exit status.
+pub fn refused_out<R: Eprint>(rt: &R, out: &str, refusal: &OutRefusal) -> u8 {
+    let _ = eprintln!(rt; "segywb: save failed after 0 bytes");
+    match refusal {
+        OutRefusal::NoPlace(error) => {
+            let _ = eprintln!(rt; "segywb: {out}: {error}; save elsewhere");
+        }
+        OutRefusal::NoFileBeside(error) => {
+            let _ = eprintln!(rt; "segywb: {out}: cannot make a file beside it ({error}); save elsewhere, or over it with --in-place");
+        }
+    }
+    4
+}
+
+// Tells of a save that failed, and what to do.
+fn save_failed<R: Eprint>(rt: &R, out: &str, fault: &Fault, is_beside: bool) {
+    let (taken, error) = (fault.taken, &fault.error);
+    let what = if is_beside {
+        step_beside(fault.step)
+    } else {
+        step_in_place(fault.step)
+    };
+    let then = if is_beside {
+        "it is as it was; save elsewhere, or over it with --in-place"
+    } else {
+        "it may hold a part of the file; save elsewhere"
+    };
+    let left = if fault.left {
+        "; a file beside it, whose name begins with a dot, may be left, and can be deleted"
+    } else {
+        ""
+    };
+    let _ = eprintln!(rt; "segywb: save failed after {taken} bytes");
+    let _ = eprintln!(rt; "segywb: {out}: {what} ({error}): {then}{left}");
+}
+
+// What failed of a save beside OUT.
+fn step_beside(step: Step) -> &'static str {
+    match step {
+        Step::Create => "cannot make a file beside it",
+        Step::Write => "cannot write the file beside it",
+        Step::SetMode => "cannot give the file beside it its mode",
+        Step::Sync => "the file beside it did not reach the disk",
+        Step::Rename => "cannot put the file beside it in its place",
+    }
+}
+
+// What failed of a save over OUT itself.
+fn step_in_place(step: Step) -> &'static str {
+    match step {
+        Step::Create => "cannot open it",
+        Step::Write | Step::SetMode => "cannot write it",
+        Step::Sync | Step::Rename => "it did not reach the disk",
+    }
+}
+
+// Tells that FILE was changed, and what that means.
+fn changed<R: Eprint>(rt: &R, file: &str, then: &str) {
+    let _ = eprintln!(rt; "segywb: FILE was changed by another program");
+    let _ = eprintln!(rt; "segywb: {file}: {then}");
+}

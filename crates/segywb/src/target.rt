@@ -1,0 +1,92 @@
+// Where a save goes: beside OUT first, and then over it; or to OUT itself.
+ghost use Rattle.std.specs.Prelude.{None};
+
+use crate::in_place::InPlace;
+use safe_save::{FileFolder, Folder};
+use std::io::Result;
+use std::os::fd::{AsFd, IntoRawFd};
+use std::rt::Files;
+
+/// The two ways of a save, so that a run has one writer.
+#[derive(Drop)]
+pub enum Target<'a, R: Files> {
+    Beside(FileFolder<'a, R>),
+    InPlace(InPlace<'a, R>),
+}
+
+impl<'a, R: Files + AllocGlobal> Target<'a, R>
+where
+    R::File: AsFd + IntoRawFd,
+{
+    /// The permissions that the saved file is to get, where it is a new one.
+    pub fn mode(&self) -> Option<u32> {
+        match self {
+            Target::Beside(folder) => folder.mode(),
+            Target::InPlace(_) => None,
+        }
+    }
+
+    /// Whether the save was refused because FILE had changed.
+    pub fn is_stale(&self) -> bool {
+        match self {
+            Target::Beside(folder) => folder.is_stale(),
+            Target::InPlace(place) => place.is_stale(),
+        }
+    }
+}
+
+impl<R: Files + AllocGlobal> Folder for Target<'_, R>
+where
+    R::File: AsFd + IntoRawFd,
+{
+    ghost disk = { λ _. None };
+
+    fn create(&mut self) -> Result<()> {
+        match self {
+            Target::Beside(folder) => folder.create(),
+            Target::InPlace(place) => place.create(),
+        }
+    }
+
+    fn write(&mut self, bytes: &[u8]) -> Result<usize> {
+        match self {
+            Target::Beside(folder) => folder.write(bytes),
+            Target::InPlace(place) => place.write(bytes),
+        }
+    }
+
+    fn set_mode(&mut self, mode: u32) -> Result<()> {
+        match self {
+            Target::Beside(folder) => folder.set_mode(mode),
+            Target::InPlace(_) => Ok(()),
+        }
+    }
+
+    fn sync(&mut self) -> Result<()> {
+        match self {
+            Target::Beside(folder) => folder.sync(),
+            Target::InPlace(place) => place.sync(),
+        }
+    }
+
+    fn rename(&mut self) -> Result<()> {
+        match self {
+            Target::Beside(folder) => folder.rename(),
+            Target::InPlace(_) => Ok(()),
+        }
+    }
+
+    fn remove(&mut self) -> Result<()> {
+        match self {
+            Target::Beside(folder) => folder.remove(),
+            Target::InPlace(_) => Ok(()),
+        }
+    }
+
+    fn sync_folder(&mut self) -> Result<()> {
+        match self {
+            Target::Beside(folder) => folder.sync_folder(),
+            Target::InPlace(_) => Ok(()),
+        }
+    }
+}

@@ -1,0 +1,97 @@
+/* Preloaded by the tests: one call of a save fails. By these variables:
+     FAIL_CALL  the name of the call: open, write, fsync, fchown, fchmod, close, rename, unlink, stat, fstat, readlink
+     FAIL_NTH   the call with this number fails, counted from 1
+     FAIL_ALL   if set, all later ones fail too
+     FAULT      the errno of the failure, by default that of a broken device (EIO)
+     DONE       a file that is made once the call has failed
+   Of `open` those calls alone count that are to a folder or to a file that is not there yet, of `write` and `close` those of the
+   file that was made last: the others are not the save's. */
+#define _GNU_SOURCE
+#include <dlfcn.h>
+#include <errno.h>
+#include <fcntl.h>
+#include <stdarg.h>
+#include <stdlib.h>
+#include <string.h>
+#include <sys/stat.h>
+#include <sys/syscall.h>
+#include <unistd.h>
+
+static const char *call, *done;
+static long nth, all, fault, calls;
+static int made = -1;
+
+static long number(const char *variable, long otherwise) {
+    const char *word = getenv(variable);
+    return word ? strtol(word, NULL, 10) : otherwise;
+}
+
+__attribute__((constructor)) static void begin(void) {
+    call = getenv("FAIL_CALL");
+    nth = number("FAIL_NTH", 0);
+    all = number("FAIL_ALL", 0);
+    fault = number("FAULT", EIO);
+    done = getenv("DONE");
+}
+
+/* Whether this call fails; the errno is then set. */
+static int fails(const char *name) {
+    if (!call || strcmp(call, name)) return 0;
+    calls++;
+    if (calls != nth && !(all && calls > nth)) return 0;
+    if (done) syscall(SYS_close, syscall(SYS_openat, AT_FDCWD, done, O_WRONLY | O_CREAT, 0666));
+    errno = fault;
+    return 1;
+}
+
+/* The library's own function of this name. */
+#define NEXT(type, name) static type next; if (!next) next = (type)dlsym(RTLD_NEXT, name)
+
+int open(const char *path, int flags, ...) {
+    va_list rest;
+    int mode, file;
+    struct stat about;
+    va_start(rest, flags);
+    mode = flags & O_CREAT ? va_arg(rest, int) : 0;
+    va_end(rest);
+    if (flags & O_CREAT ? 1 : syscall(SYS_newfstatat, AT_FDCWD, path, &about, 0) == 0 && S_ISDIR(about.st_mode))
+        if (fails("open")) return -1;
+    file = syscall(SYS_openat, AT_FDCWD, path, flags, mode);
+    if (file >= 0 && flags & O_CREAT) made = file;
+    return file;
+}
+
+ssize_t write(int file, const void *bytes, size_t count) {
+    if (file == made && fails("write")) return -1;
+    return syscall(SYS_write, file, bytes, count);
+}
+
+ssize_t __write(int file, const void *bytes, size_t count) { return write(file, bytes, count); }
+
+int close(int file) {
+    int is_made = file == made;
+    if (is_made) made = -1;
+    syscall(SYS_close, file);
+    return is_made && fails("close") ? -1 : 0;
+}
+
+int fsync(int file) { return fails("fsync") ? -1 : syscall(SYS_fsync, file); }
+int fchown(int file, uid_t owner, gid_t group) { return fails("fchown") ? -1 : syscall(SYS_fchown, file, owner, group); }
+int fchmod(int file, mode_t mode) { return fails("fchmod") ? -1 : syscall(SYS_fchmod, file, mode); }
+int unlink(const char *path) { return fails("unlink") ? -1 : syscall(SYS_unlink, path); }
+
+int rename(const char *from, const char *to) { return fails("rename") ? -1 : syscall(SYS_rename, from, to); }
+
+ssize_t readlink(const char *path, char *into, size_t size) {
+    return fails("readlink") ? -1 : syscall(SYS_readlink, path, into, size);
+}
+
+int stat(const char *path, struct stat *about) {
+    NEXT(int (*)(const char *, struct stat *), "stat");
+    return fails("stat") ? -1 : next(path, about);
+}
+
+int fstat(int file, struct stat *about) {
+    NEXT(int (*)(int, struct stat *), "fstat");
+    return fails("fstat") ? -1 : next(file, about);
+}

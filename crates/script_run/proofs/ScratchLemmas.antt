@@ -75,8 +75,7 @@ module _ (Step : State → List ℕ → Printed → State → Type 0) (keeps : K
   scratch old new (x ∷ xs) [] cut r l h = absurd h
   scratch old new (x ∷ xs) (p ∷ ps) cut r l (mid, first, rest) =
       let read : IsRead old = rw (r, l) cut in
-      let alike = keeps old mid x p read first in
-      (
+      let alike = keeps old mid x p read first in (
         saved mid,
         record { volume = old.volume; cut = cut; end = mid; step = rw (← r, ← l) first; new_is = refl },
         scratch mid new xs ps (rw (← r, ← l) alike.cut) (alike.reading ∙ r) (alike.limits ∙ l) rest,
@@ -91,8 +90,7 @@ pub reloads_as_saved : ReloadsAsSaved
 reloads_as_saved old new again lines ps cut steps read same r l =
     let some = lines_are_edits old new lines ps steps in
     let alike = steps_stay_cut old new some.0 some.1 cut some.2 in
-    let here : IsCut (bytes_of new.volume) old.reading old.limits again.volume = rw (← same, ← r, ← l) read in
-    (
+    let here : IsCut (bytes_of new.volume) old.reading old.limits again.volume = rw (← same, ← r, ← l) read in (
       at_most_one_cut (bytes_of new.volume) old.reading old.limits again.volume new.volume here alike.cut,
       λ query. ap (λ (x : Reading). let s : State = record again { fields = new.fields; reading = x } in answer s query) r
           ∙ ap (λ (x : Limits). let s : State = record again { fields = new.fields; reading = old.reading; limits = x } in answer s query) l

@@ -40,7 +40,7 @@ module _ (options : Options) (old new : Devices) (start end : State)
   -- no more lines are read, and the line of the refusal is written behind the answers, or a part of it
   pub loses_script : (middle : Device) (fault : ScriptFault) (written : ℕ) (result : RunEnd) → new.out ≡ old.out → AnswersTo start end options.stop old.script new.script old.answers middle (line_ends.Script fault written)
       → ((result ≡ ends.Script fault) × Takes middle new.answers (script_refusal_line fault))
-        ⊎ ((more : ℕ) × (told : ℕ) × (result ≡ ends.Answers told) × (told ≡ count_in_64_bits (written + more)) × TakesPart middle new.answers (script_refusal_line fault) more)
+      ⊎ ((more : ℕ) × (told : ℕ) × (result ≡ ends.Answers told) × (told ≡ count_in_64_bits (written + more)) × TakesPart middle new.answers (script_refusal_line fault) more)
       → Session options old new result
   loses_script middle fault written result unsaved (printed, done, reason, goes_on, written_is, taken) (inl (is, told)) =
       subst (λ r. Session options old new r) (sym is) (

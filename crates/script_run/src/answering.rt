@@ -5,13 +5,14 @@ ghost use Rattle.script_text.specs.Held.{printed_of};
 ghost use Rattle.script_text.specs.Replies.{Printed};
 ghost use Rattle.script_run.specs.Input.{Holds, Held};
 ghost use Rattle.script_run.specs.Sessions.{AnswerStep, SessionStep};
+ghost use Rattle.script_run.specs.declared.session_lines.SessionLines.TheVariants.{Script};
 ghost use Rattle.script_run.specs.SessionLineRuns.{AnswersTo};
 ghost use Rattle.script_run.specs.Telling.{IsWritten};
 
 use crate::held_line::HeldLine;
+use crate::line_input::next_line;
 use crate::line_read::LineRead;
 use crate::next::Next;
-use crate::line_input::next_line;
 use crate::read_ahead::ReadAhead;
 use crate::running::run_line;
 use crate::session_lines::SessionLines;

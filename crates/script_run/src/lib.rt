@@ -14,19 +14,18 @@ mod line_input;
 mod line_read;
 mod lines_end;
 mod next;
-
 mod options;
 mod read_ahead;
 mod run_end;
 mod running;
 mod script;
-mod session;
 mod session_lines;
 mod told;
 mod whole_run;
+mod whole_session;
 
 pub use crate::laws::{lines_are_edits, lines_from_scratch, reloads_as_saved, session_is_run};
 pub use crate::options::Options;
 pub use crate::run_end::RunEnd;
-pub use crate::session::session;
 pub use crate::whole_run::run;
+pub use crate::whole_session::session;

@@ -54,6 +54,16 @@ module _ (ws : List (List ℕ)) (v at w : List ℕ) (p : ℕ) (x : ℤ) (words :
   pub set_err : (fault : LineFault) (r : Read) → IsErrAnd r (λ e. e ≡ fault) → IsFieldRead (field_of at) (Err fault) → IsRead (read_set ws) r
   set_err fault r is h = rw (words, position, number) (field_err set_expected (λ f. Apply (edits.Set p f x)) refl (λ f. refl) (λ f n. n) (field_of at) fault r is h)
 
+-- the number of a `set` is none, whatever its field is
+pub set_no_number : (ws : List (List ℕ)) (v at w : List ℕ) (p : ℕ) → ws ≡ v ∷ at ∷ w ∷ [] → position_of v ≡ Some p → number_of w ≡ None → (r : Read) → IsErrAnd r (λ e. e ≡ Number)
+    → IsRead (read_set ws) r
+set_no_number ws v at w p words position none r is = rw (words, position, none) (by (field_of at) r is)
+  where
+    by : (o : Option Field) (r : Read) → IsErrAnd r (λ e. e ≡ Number) → IsRead (ok_or (option_and_then (λ (f : Field). None) o) Number) r
+    by o (Ok command) is = absurd is
+    by None (Err e) is = inl (ap (λ (k : LineFault). let r : Read = Err k in r) is)
+    by (Some f) (Err e) is = inl (ap (λ (k : LineFault). let r : Read = Err k in r) is)
+
 module _ (ws : List (List ℕ)) (at w : List ℕ) (x : ℤ) (words : ws ≡ at ∷ w ∷ []) (number : number_of w ≡ Some x) where
   abbrev bin_expected : Option Field → Read
   bin_expected o = ok_or (option_and_then (λ f. Some (Apply (edits.SetBin f x))) o) Number

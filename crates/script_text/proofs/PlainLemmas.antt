@@ -49,7 +49,7 @@ use Rattle.script_text.specs.FullLines.{HasPlainTexts}
 use Rattle.script_text.specs.RefusalTexts.{line_fault_text, no_trace, no_sample, text_fault_text, map_fault_text, refusal_text, ask_fault_text, refused_line}
 use Rattle.script_text.specs.Replies.{nothing, fault_reply, edit_reply, query_reply}
 use Rattle.script_text.proofs.AnswerLineLemmas.{answers_are_full_lines}
-use Rattle.script_text.proofs.FullLineLemmas.{plain_both, plain_decimal, plain_first, no_word, word, plain_words, full_line, one_line}
+use Rattle.script_text.proofs.FullLineLemmas.{plain_both, plain_decimal, plain_first, no_word, word, plain_words, full_joined, one_line}
 
 -- ---- names
 
@@ -178,7 +178,7 @@ plain_stanzas_from number (b ∷ bs) =
 -- ---- answers
 
 -- an answer has plain texts, or there is none
-PlainReply : Result Answer AskFault → Type 0
+abbrev PlainReply : Result Answer AskFault → Type 0
 PlainReply (Ok answer) = HasPlainTexts answer
 PlainReply (Err fault) = ⊤
 
@@ -231,7 +231,7 @@ plain_answer s queries.Faults h = tt
 -- ---- what is printed
 
 refused_full : (text : List ℕ) → is_plain text ≡ true → IsFullLines (refused_line text)
-refused_full text e = one_line (codes "refused " ++ text) (full_line _ _ (plain_both (codes "refused ") text refl e))
+refused_full text e = one_line (codes "refused " ++ text) (full_joined (codes "refused ") refl (word text e no_word))
 
 plain_line_fault : (fault : LineFault) → is_plain (line_fault_text fault) ≡ true
 plain_line_fault line_faults.Unknown = refl

@@ -16,7 +16,7 @@ file_rule = record (new_rule (codes "FILE")) { required = true }
 
 -- the argument `--script S`
 abbrev pub script_rule : Rule
-script_rule = record (new_rule (codes "script")) { long = Some (codes "script"); required = true; value_names = 1 }
+script_rule = record (new_rule (codes "script")) { long = Some (codes "script"); value_names = 1 }
 
 -- the argument `--out O`
 abbrev pub out_rule : Rule
@@ -38,13 +38,17 @@ limit_rule = record (new_rule (codes "max-bytes")) { long = Some (codes "max-byt
 abbrev pub stop_rule : Rule
 stop_rule = record (new_rule (codes "stop")) { long = Some (codes "stop"); action = Some SetTrue }
 
+-- the flag `--session`
+abbrev pub session_rule : Rule
+session_rule = record (new_rule (codes "session")) { long = Some (codes "session"); action = Some SetTrue }
+
 -- the program's name with a version, for which there is the flag `--version`
 abbrev pub titled : App
 titled = on_top (λ s. record s { has_version = true }) (new_app (codes "segywb"))
 
--- `segywb FILE --script S [--out O] [--in-place] [--fixed] [--max-bytes N] [--stop]`
+-- `segywb FILE [--script S] [--session] [--out O] [--in-place] [--fixed] [--max-bytes N] [--stop]`
 unfoldable pub segywb : App
-segywb = with_rule (with_rule (with_rule (with_rule (with_rule (with_rule (with_rule titled file_rule) script_rule) out_rule) in_place_rule) fixed_rule) limit_rule) stop_rule
+segywb = with_rule (with_rule (with_rule (with_rule (with_rule (with_rule (with_rule (with_rule titled file_rule) script_rule) out_rule) in_place_rule) fixed_rule) limit_rule) stop_rule) session_rule
 
 -- what clap matches for the words
 abbrev pub matched : List (List ℕ) → List Row

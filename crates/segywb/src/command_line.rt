@@ -29,7 +29,7 @@ const AFTER: &str = "Exit status:\n\
      Examples:\n\
      \x20 segywb line.sgy --script fix.txt --out fixed.sgy\n\
      \x20 segywb line.sgy --script fix.txt --stop --out line.sgy\n\
-     \x20 echo info | segywb line.sgy --script /dev/stdin\n\n\
+     \x20 echo info | segywb line.sgy --session\n\n\
      The script language: man 5 segywb-script, or docs/MANUAL.md.";
 
 // The program's name, with its version and what `--help` says above and below the arguments.
@@ -52,7 +52,8 @@ fn command<'a>(alloc: Global) -> Result<Command<'a>, AllocError>
         .arg(args::in_place(alloc))?
         .arg(args::fixed(alloc))?
         .arg(args::limit(alloc))?
-        .arg(args::stop(alloc))?;
+        .arg(args::stop(alloc))?
+        .arg(args::session(alloc))?;
     Ok(command)
 }
 
@@ -74,8 +75,9 @@ fn max_bytes(matches: &ArgMatches) -> Option<Option<u64>>
 fn read_matches<'a>(matches: &ArgMatches<'a>) -> Option<Arguments<'a>>
     ensures file { IfSome result (λ a. first_value (found_of matches.now) (codes "FILE") ≡ Some
         a.file.now) }
-    ensures script { IfSome result (λ a. first_value (found_of matches.now) (codes "script") ≡ Some
-        a.script.now) }
+    ensures script { IfSome result
+        (λ a. first_value (found_of matches.now) (codes "script") ≡ option_map (λ s. s.now)
+        a.script) }
     ensures out { IfSome result (λ a. first_value (found_of matches.now) (codes "out") ≡ option_map
         (λ s. s.now) a.out) }
     ensures in_place { IfSome result
@@ -87,14 +89,17 @@ fn read_matches<'a>(matches: &ArgMatches<'a>) -> Option<Arguments<'a>>
         a.fixed) }
     ensures stop { IfSome result (λ a. ReadsFlag (one_text (found_of matches.now) (codes "stop"))
         a.stop) }
+    ensures session { IfSome result
+        (λ a. ReadsFlag (one_text (found_of matches.now) (codes "session")) a.session) }
 {
     let file = matches.get_str("FILE")?;
-    let script = matches.get_str("script")?;
+    let script = matches.get_str("script");
     let out = matches.get_str("out");
     let in_place = matches.get_flag("in-place");
     let max_bytes = max_bytes(matches)?;
     let fixed = matches.get_flag("fixed");
     let stop = matches.get_flag("stop");
+    let session = matches.get_flag("session");
     Some(Arguments {
         file,
         script,
@@ -103,6 +108,7 @@ fn read_matches<'a>(matches: &ArgMatches<'a>) -> Option<Arguments<'a>>
         max_bytes,
         fixed,
         stop,
+        session,
     })
 }
 
@@ -113,8 +119,8 @@ pub fn arguments<'a>(alloc: Global, words: &'a [String]) -> Result<Arguments<'a>
     ensures file { IfOk result (λ a. first_of (codes "FILE") (matched (map string_bytes words.now))
         ≡ Some a.file.now) }
     ensures script { IfOk result
-        (λ a. first_of (codes "script") (matched (map string_bytes words.now)) ≡ Some
-        a.script.now) }
+        (λ a. first_of (codes "script") (matched (map string_bytes words.now))
+        ≡ option_map (λ s. s.now) a.script) }
     ensures out { IfOk result (λ a. first_of (codes "out") (matched (map string_bytes words.now))
         ≡ option_map (λ s. s.now) a.out) }
     ensures in_place { IfOk result
@@ -127,11 +133,14 @@ pub fn arguments<'a>(alloc: Global, words: &'a [String]) -> Result<Arguments<'a>
         (λ a. ReadsFlag (one_of (codes "fixed") (matched (map string_bytes words.now))) a.fixed) }
     ensures stop { IfOk result
         (λ a. ReadsFlag (one_of (codes "stop") (matched (map string_bytes words.now))) a.stop) }
+    ensures session { IfOk result
+        (λ a. ReadsFlag (one_of (codes "session") (matched (map string_bytes words.now)))
+        a.session) }
 {
     let mut command = command(alloc)?;
     let matches = command.try_get_matches_from_mut(words)?;
     match read_matches(&matches) {
         Some(read) => Ok(read),
-        None => Err(command.error(ErrorKind::MissingRequiredArgument, "FILE, --script")?),
+        None => Err(command.error(ErrorKind::MissingRequiredArgument, "FILE")?),
     }
 }

@@ -9,7 +9,7 @@ use crate::where_to::{misuse, target_of};
 use device_io::{Sink, Source};
 use frame_cut::{Limits, Reading};
 use safe_save::{Original, Save};
-use script_run::{Options, run};
+use script_run::{Options, run, session};
 use std::fs::OpenFile;
 use std::io::BufWriter;
 use std::os::fd::{AsFd, IntoRawFd};
@@ -24,7 +24,7 @@ const DEFAULT_LIMIT: u64 = 4294967296;
 const ROOM: usize = 65536;
 
 // Reads the command line and runs the script.
-pub fn status_of<R: Files + Env + AllocGlobal + Print + Eprint>(rt: &R) -> u8
+pub fn status_of<R: Files + Env + AllocGlobal + Print + Eprint + Input>(rt: &R) -> u8
 where
     R::File: AsFd + IntoRawFd,
 {
@@ -50,13 +50,16 @@ fn words<R: Env + AllocGlobal>(rt: &R) -> io::Result<Vec<String>> {
     Ok(words)
 }
 
-// Opens the file, then the script, then the folder of the save, and runs the script.
-fn open_and_run<R: Files + AllocGlobal + Print + Eprint>(rt: &R, arguments: &Arguments) -> u8
+// Opens the file, then the script, then the folder of the save, and runs the script or the session.
+fn open_and_run<R: Files + AllocGlobal + Print + Eprint + Input>(
+    rt: &R,
+    arguments: &Arguments,
+) -> u8
 where
     R::File: AsFd + IntoRawFd,
     requires { IfSome arguments.now.max_bytes (λ n. n ≤ 1099511627776) }
 {
-    let (file, script) = (arguments.file, arguments.script);
+    let file = arguments.file;
     if let Some(text) = misuse(rt, arguments) {
         let _ = eprintln!(rt; "segywb: {text}");
         return 2;
@@ -69,9 +72,9 @@ where
         Ok(about) => Original::new(file, &about),
         Err(_) => None,
     };
-    let Ok(lines) = fs::open(rt, script) else {
-        let _ = eprintln!(rt; "segywb: cannot open {script}");
-        return 4;
+    let lines = match script_of(rt, arguments) {
+        Ok(lines) => lines,
+        Err(status) => return status,
     };
     match target_of(rt, arguments, original) {
         Ok(target) => run_to(rt, arguments, original, volume, lines, target),
@@ -79,13 +82,30 @@ where
     }
 }
 
-// Runs the script over the file, and saves to the target.
-fn run_to<'a, R: Files + AllocGlobal + Print + Eprint>(
+// The open script, `None` of a session; where it cannot be opened, the exit status.
+fn script_of<R: Files + Eprint>(
+    rt: &R,
+    arguments: &Arguments,
+) -> std::result::Result<Option<R::File>, u8> {
+    let Some(script) = arguments.script else {
+        return Ok(None);
+    };
+    match fs::open(rt, script) {
+        Ok(lines) => Ok(Some(lines)),
+        Err(_) => {
+            let _ = eprintln!(rt; "segywb: cannot open {script}");
+            Err(4)
+        }
+    }
+}
+
+// Runs the script over the file, or a session where there is none, and saves to the target.
+fn run_to<'a, R: Files + AllocGlobal + Print + Eprint + Input>(
     rt: &'a R,
     arguments: &Arguments<'a>,
     original: Option<Original<'a>>,
     volume: R::File,
-    lines: R::File,
+    lines: Option<R::File>,
     target: Target<'a, R>,
 ) -> u8
 where
@@ -99,14 +119,27 @@ where
         return 4;
     };
     let mut out = Sink::new(out);
-    let end = run(
-        rt.alloc(),
-        &mut Source::new(volume),
-        &mut Source::new(lines),
-        &mut Sink::new(io::writer(rt)),
-        &mut out,
-        options(arguments),
-    );
+    let volume = &mut Source::new(volume);
+    let answers = &mut Sink::new(io::writer(rt));
+    let options = options(arguments);
+    let end = match lines {
+        Some(lines) => run(
+            rt.alloc(),
+            volume,
+            &mut Source::new(lines),
+            answers,
+            &mut out,
+            options,
+        ),
+        None => session(
+            rt.alloc(),
+            volume,
+            &mut Source::new(rt.reader()),
+            answers,
+            &mut out,
+            options,
+        ),
+    };
     finish(rt, arguments, original, end, out.into_inner(), mode)
 }
 

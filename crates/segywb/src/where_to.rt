@@ -21,6 +21,11 @@ pub enum OutRefusal {
 
 /// Why the words of the command line do not go together: nothing is read then, and nothing written.
 pub fn misuse<R: Files>(rt: &R, arguments: &Arguments) -> Option<&'static str> {
+    match arguments.script {
+        None if !arguments.session => return Some("--script or --session is needed; see --help"),
+        Some(_) if arguments.session => return Some("--script and --session exclude each other"),
+        _ => {}
+    }
     let Some(out) = arguments.out else {
         return if arguments.in_place {
             Some("--in-place needs --out")
@@ -32,7 +37,9 @@ pub fn misuse<R: Files>(rt: &R, arguments: &Arguments) -> Option<&'static str> {
         Ok(there) if there.is_file() => there,
         _ => return None,
     };
-    if leads_to(rt, arguments.script, &there) {
+    if let Some(script) = arguments.script
+        && leads_to(rt, script, &there)
+    {
         return Some("--out names SCRIPT itself");
     }
     if leads_to(rt, "/dev/stdout", &there) {

@@ -1,7 +1,7 @@
 // The arguments of the command line, one by one.
 ghost use Rattle.std.specs.Prelude.{◌≡◌, false};
 ghost use Rattle.clap.specs.Words.{rule_of};
-ghost use Rattle.segywb.specs.CommandLine.{file_rule, script_rule, out_rule, in_place_rule, fixed_rule, limit_rule, stop_rule};
+ghost use Rattle.segywb.specs.CommandLine.{file_rule, script_rule, out_rule, in_place_rule, fixed_rule, limit_rule, stop_rule, session_rule};
 
 use clap::builder::ValueParser;
 use clap::{Arg, ArgAction};
@@ -24,7 +24,6 @@ pub fn script<'a>(alloc: Global) -> Arg<'a>
 {
     Arg::new(alloc, "script")
         .long("script")
-        .required(true)
         .value_name("SCRIPT")
         .help("edits and queries, one a line; /dev/stdin is standard input")
 }
@@ -34,10 +33,9 @@ pub fn out<'a>(alloc: Global) -> Arg<'a>
     ensures rule { rule_of result ≡ out_rule }
     ensures local { result.global ≡ false }
 {
-    Arg::new(alloc, "out")
-        .long("out")
-        .value_name("OUT")
-        .help("save the edited file to OUT, which may be FILE; without it nothing is saved")
+    Arg::new(alloc, "out").long("out").value_name("OUT").help(
+        "save the edited file to OUT, which may be FILE; without it nothing is saved",
+    )
 }
 
 // `--in-place`: the save goes to the file OUT itself.
@@ -83,4 +81,15 @@ pub fn stop<'a>(alloc: Global) -> Arg<'a>
         .long("stop")
         .action(ArgAction::SetTrue)
         .help("end the run at the first refused line, and save nothing")
+}
+
+// `--session`: the lines of standard input are answered one by one.
+pub fn session<'a>(alloc: Global) -> Arg<'a>
+    ensures rule { rule_of result ≡ session_rule }
+    ensures local { result.global ≡ false }
+{
+    Arg::new(alloc, "session")
+        .long("session")
+        .action(ArgAction::SetTrue)
+        .help("in place of a script, answer the lines of standard input one by one")
 }

@@ -4,7 +4,7 @@ pub struct Arguments<'a> {
     /// The path of the file to load.
     pub file: &'a str,
     /// The path of the script.
-    pub script: &'a str,
+    pub script: Option<&'a str>,
     /// The path of the file to save to.
     pub out: Option<&'a str>,
     /// Whether the save goes to the file itself, and not beside it.
@@ -15,4 +15,6 @@ pub struct Arguments<'a> {
     pub fixed: bool,
     /// Whether the first refused line ends the run.
     pub stop: bool,
+    /// Whether the lines of standard input are answered one by one, in place of a script.
+    pub session: bool,
 }

@@ -21,8 +21,7 @@ returns-then-take_part-clause-next g c =
 
 pub parts-preserved : goal.parts-preserved
 parts-preserved g c =
-    let t = subst (λ (b : Bool). IsPartTaken c.has_more.new.ahead c.take_part.new.self c.parts.line c.take_part.new.line b) c.if-take_part.false c.take_part.ensures in
-    (
+    let t = subst (λ (b : Bool). IsPartTaken c.has_more.new.ahead c.take_part.new.self c.parts.line c.take_part.new.line b) c.if-take_part.false c.take_part.ensures in (
       goes_on _ _ _ _ t.0 _ _ (c.in-Ok-true.ensures.kept _ _ c.parts.invariant.0) t.1 t.2,
       c.in-Ok-true.ensures.failures ∙ c.parts.invariant.1,
     )

@@ -42,3 +42,9 @@ returns-in-Some-clause-limit c =
     let rows = rows_are _ _ c.in_ok-matches.matches c.in_ok-command.ensures c.in_ok-matches.ensures.ok.2 in
     let same = sym (ap (one_of (codes "max-bytes")) (sym rows) ∙ one_of-rows_of (found_of c.in_ok-matches.matches) (codes "max-bytes")) in
     subst (λ (o : Option (List ℕ)). ReadsLimit o c.in-Some.read.max_bytes) same c.in-Some.ensures.limit
+
+pub returns-in-Some-clause-session : goal.returns-in-Some-clause-session
+returns-in-Some-clause-session c =
+    let rows = rows_are _ _ c.in_ok-matches.matches c.in_ok-command.ensures c.in_ok-matches.ensures.ok.2 in
+    let same = sym (ap (one_of (codes "session")) (sym rows) ∙ one_of-rows_of (found_of c.in_ok-matches.matches) (codes "session")) in
+    subst (λ (o : Option (List ℕ)). ReadsFlag o c.in-Some.read.session) same c.in-Some.ensures.session

@@ -12,8 +12,7 @@ invariant_of-self c = (
 
 pub returns-in-Some : goal.returns-in-Some
 returns-in-Some c =
-    let next : List ℕ = slice_range c.self.inside.room (c.self.inside.from + (length c.in-Some.part.now + 1)) c.self.inside.to in
-    (
+    let next : List ℕ = slice_range c.self.inside.room (c.self.inside.from + (length c.in-Some.part.now + 1)) c.self.inside.to in (
       c.in-Some.part.now,
       subst (λ (whole : List ℕ). IsFront whole c.in-Some.part.now next true) c.self.view_is (
         c.in-Some.ensures.some,

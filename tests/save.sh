@@ -72,6 +72,7 @@ for how in '' FAIL_ALL=1 FAULT=28; do
     turns fchmod 1 $how
     turns close 2 $how
     turns rename 1 $how
+    turns realpath 1 $how
     turns stat 1 $how
     turns fstat 1 $how
 done

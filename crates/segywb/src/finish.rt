@@ -2,7 +2,7 @@
 ghost use Rattle.segywb.specs.Ending.{IsExitStatus};
 
 use crate::command_line::Arguments;
-use crate::ending::{SaveEnd, Message, exit_status, told};
+use crate::ending::{Message, SaveEnd, exit_status, told};
 use crate::target::Target;
 use crate::where_to::OutRefusal;
 use safe_save::{Fault, Original, Save, SaveError, Step, end_save, give_up};
@@ -39,15 +39,25 @@ where
         Message::SaveUnsettled => {
             if let Some(SaveError::NotSettled(error)) = &error {
                 let _ = eprintln!(rt; "segywb: saved, but a power cut may undo it");
-                let _ = eprintln!(rt; "segywb: {out}: its folder did not reach the disk ({error}); run sync");
+                let _ = eprintln!(rt;
+                    "segywb: {out}: its folder did not reach the disk ({error}); run sync"
+                );
             }
         }
         Message::FileChanged => {
-            changed(rt, file, "nothing is saved; look at it, and run the script again");
+            changed(
+                rt,
+                file,
+                "nothing is saved; look at it, and run the script again",
+            );
         }
     }
     if save == SaveEnd::NotBegun && original.is_some_and(|original| original.is_changed(rt)) {
-        changed(rt, file, "the answers may be those of a file that never was");
+        changed(
+            rt,
+            file,
+            "the answers may be those of a file that never was",
+        );
     }
     exit_status(end, save)
 }
@@ -92,7 +102,9 @@ pub fn refused_out<R: Eprint>(rt: &R, out: &str, refusal: &OutRefusal) -> u8 {
             let _ = eprintln!(rt; "segywb: {out}: {error}; save elsewhere");
         }
         OutRefusal::NoFileBeside(error) => {
-            let _ = eprintln!(rt; "segywb: {out}: cannot make a file beside it ({error}); save elsewhere, or over it with --in-place");
+            let _ = eprintln!(rt;
+                "segywb: {out}: cannot make a file beside it ({error}); save elsewhere, or over it with --in-place"
+            );
         }
     }
     4
@@ -109,7 +121,7 @@ fn save_failed<R: Eprint>(rt: &R, out: &str, fault: &Fault, is_beside: bool) {
     let then = if is_beside {
         "it is as it was; save elsewhere, or over it with --in-place"
     } else {
-        "it may hold a part of the file; save elsewhere"
+        "it took a part of the file; save elsewhere"
     };
     let left = if fault.left {
         "; a file beside it, whose name begins with a dot, may be left, and can be deleted"

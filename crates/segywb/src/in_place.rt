@@ -82,7 +82,11 @@ where
         match self.file.take() {
             Some(file) => {
                 let file = file.into_inner();
-                let synced = if self.is_file { file.sync_all() } else { Ok(()) };
+                let synced = if self.is_file {
+                    file.sync_all()
+                } else {
+                    Ok(())
+                };
                 let closed = close(file);
                 synced?;
                 closed

@@ -34,10 +34,9 @@ pub fn out<'a>(alloc: Global) -> Arg<'a>
     ensures rule { rule_of result ≡ out_rule }
     ensures local { result.global ≡ false }
 {
-    Arg::new(alloc, "out")
-        .long("out")
-        .value_name("OUT")
-        .help("save the edited file to OUT, which may be FILE; without it nothing is saved")
+    Arg::new(alloc, "out").long("out").value_name("OUT").help(
+        "save the edited file to OUT, which may be FILE; without it nothing is saved",
+    )
 }
 
 // `--in-place`: the save goes to the file OUT itself.

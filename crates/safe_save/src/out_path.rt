@@ -54,6 +54,11 @@ pub fn resolve<R: Files + AllocGlobal>(
     Ok((folder, name, old))
 }
 
+// What is read as a link is none, or is not there.
+fn is_no_link(error: &Error) -> bool {
+    matches!(error.kind(), ErrorKind::InvalidInput | ErrorKind::NotFound)
+}
+
 // Follows links to a file that is not there, one by one.
 fn follow<R: Files + AllocGlobal>(rt: &R, path: String) -> Result<(String, String)> {
     let alloc = rt.alloc();
@@ -66,13 +71,14 @@ fn follow<R: Files + AllocGlobal>(rt: &R, path: String) -> Result<(String, Strin
         };
         match fs::read_link(rt, path.as_str()) {
             Ok(target) => path = folder.join(alloc, target)?.into_string(),
-            Err(_) => {
+            Err(error) if is_no_link(&error) => {
                 let Some(name) = here.file_name() else {
                     return Err(Error::from_raw_os_error(IS_A_DIRECTORY));
                 };
                 let name = String::from_str(alloc, name)?;
                 return Ok((fs::canonicalize(rt, folder)?.into_string(), name));
             }
+            Err(error) => return Err(error),
         }
     }
     Err(Error::from_raw_os_error(TOO_MANY_LINKS))

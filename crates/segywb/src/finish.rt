@@ -102,9 +102,8 @@ pub fn refused_out<R: Eprint>(rt: &R, out: &str, refusal: &OutRefusal) -> u8 {
             let _ = eprintln!(rt; "segywb: {out}: {error}; save elsewhere");
         }
         OutRefusal::NoFileBeside(error) => {
-            let _ = eprintln!(rt;
-                "segywb: {out}: cannot make a file beside it ({error}); save elsewhere, or over it with --in-place"
-            );
+            let then = "save elsewhere, or over it with --in-place";
+            let _ = eprintln!(rt; "segywb: {out}: cannot make a file beside it ({error}); {then}");
         }
     }
     4

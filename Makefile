@@ -78,6 +78,7 @@ uninstall:
 bench: build
 	cd crates/time_records && { rt run > out.log 2>&1 || true; }
 	bash benchmarks/run $(BUILT) crates/time_records/out/time_records
+	bash benchmarks/save $(BUILT)
 	bash benchmarks/live $(BUILT)
 	bash benchmarks/slices $(BUILT)
 	bash benchmarks/renumber $(BUILT)

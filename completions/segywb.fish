@@ -1,6 +1,7 @@
 # Completion of segywb's command line for fish.
 complete -c segywb -l script -r -F -d 'edits and queries, one a line'
 complete -c segywb -l out -r -F -d 'save the edited file here'
+complete -c segywb -l in-place -d 'write over that file itself'
 complete -c segywb -l fixed -d "read each trace with the binary header's number of samples"
 complete -c segywb -l max-bytes -x -d 'refuse files above so many bytes'
 complete -c segywb -l stop -d 'end the run at the first refused line, and save nothing'

@@ -63,29 +63,47 @@ takes 'and of a large one' 100001 /dev/stdin --script script --max-bytes 100000
 takes 'and where the limit is that of a buffer' 65537 /dev/stdin --script script --max-bytes 65536
 takes 'a refused script takes one byte more' 16777217 s.sgy --script /dev/stdin
 
-# ---- the saved file: it takes a byte a call, or what it has room for, and fails once it holds 0, 1, .. bytes
-torn=(saves o.sgy may torn 4 whole.txt '=segywb: save failed after % bytes' whole.sgy:%)
-sweep 'the save takes single bytes, and fails at' 0 $((bytes - 1)) "${torn[@]}" -- $library DEVICE=o.sgy STEP=1 HOLDS=% "${on[@]}"
-sweep 'the save fails at' 0 $((bytes - 1)) "${torn[@]}" -- $library DEVICE=o.sgy HOLDS=% FAULT=$ENOSPC "${on[@]}"
-sweep 'the save has just room' $bytes $((bytes + 1)) saves o.sgy "${whole[@]}" -- $library DEVICE=o.sgy HOLDS=% "${on[@]}"
-for at in 1 2 2000 $bytes; do
-    sweep "the save takes no byte in write $at" $((at - 1)) $((at - 1)) "${torn[@]}" -- $library DEVICE=o.sgy STEP=1 NO_BYTES="$at" "${on[@]}"
-done
-# a piece that waited in the program's buffer is written again where a signal interrupted the write
-for at in 0 1 $((bytes - 1)); do
-    sweep "a write of the save is interrupted at $at" "$at" "$at" saves o.sgy "${whole[@]}" -- $library DEVICE=o.sgy HOLDS=% FAULT=$EINTR "${on[@]}"
-done
-# more than the program's buffer holds
+# ---- the saved file: it takes a byte a call, or what it has room for, and fails once it holds 0, 1, .. bytes. OUT is left alone, or
+# in place it holds what it took
+EIO=5
+declare -A reason=([$EIO]='Input/output error (os error 5)' [$ENOSPC]='No space left on device (os error 28)' [0]='write zero')
+# failing WAY FAULT ANSWERS BYTES: the ways in which a save may then end, in the array `torn`
+failing() {
+    if [ "$1" = saved ]; then
+        torn=(saves o.sgy may torn 4 "$3" "=segywb: save failed after % bytes"$'\n'"segywb: o.sgy: cannot write the file beside it (${reason[$2]}): it is as it was; save elsewhere, or over it with --in-place" -)
+        in_place=()
+    else
+        torn=(saves o.sgy may torn 4 "$3" "=segywb: save failed after % bytes"$'\n'"segywb: o.sgy: cannot write it (${reason[$2]}): it took a part of the file; save elsewhere" "$4:%")
+        in_place=(--in-place)
+    fi
+}
 printf 'set 2 inline 7\n' > one
 "$program" v.sgy --script one --out whole_v.sgy > one.txt
 size=$(wc -c < v.sgy)
-torn=(saves o.sgy may torn 4 one.txt '=segywb: save failed after % bytes' whole_v.sgy:%)
-for at in 0 3190 3590 65526 $((size - 20)); do
-    sweep 'the save of a large file fails at' "$at" $((at + 19)) "${torn[@]}" -- $library DEVICE=o.sgy HOLDS=% "$program" v.sgy --script one --out o.sgy
+for way in saved o.sgy; do
+    failing $way $EIO whole.txt whole.sgy
+    sweep "the save ($way) takes single bytes, and fails at" 0 $((bytes - 1)) "${torn[@]}" -- $library DEVICE=$way STEP=1 HOLDS=% "${on[@]}" "${in_place[@]}"
+    failing $way $ENOSPC whole.txt whole.sgy
+    sweep "the save ($way) fails at" 0 $((bytes - 1)) "${torn[@]}" -- $library DEVICE=$way HOLDS=% FAULT=$ENOSPC "${on[@]}" "${in_place[@]}"
+    sweep "the save ($way) has just room" $bytes $((bytes + 1)) saves o.sgy "${whole[@]}" -- $library DEVICE=$way HOLDS=% "${on[@]}" "${in_place[@]}"
+    failing $way 0 whole.txt whole.sgy
+    for at in 1 2 2000 $bytes; do
+        sweep "the save ($way) takes no byte in write $at" $((at - 1)) $((at - 1)) "${torn[@]}" -- $library DEVICE=$way STEP=1 NO_BYTES="$at" "${on[@]}" "${in_place[@]}"
+    done
+    # a write that a signal interrupts is made again
+    for at in 0 1 $((bytes - 1)); do
+        sweep "a write of the save ($way) is interrupted at $at" "$at" "$at" saves o.sgy "${whole[@]}" -- $library DEVICE=$way HOLDS=% FAULT=$EINTR "${on[@]}" "${in_place[@]}"
+    done
+    # more than the program's buffer holds
+    failing $way $EIO one.txt whole_v.sgy
+    for at in 0 3190 3590 65526 $((size - 20)); do
+        sweep "the save ($way) of a large file fails at" "$at" $((at + 19)) "${torn[@]}" -- $library DEVICE=$way HOLDS=% "$program" v.sgy --script one --out o.sgy "${in_place[@]}"
+    done
+    sweep "a write of a large piece ($way) is interrupted at" 65536 65536 saves o.sgy may whole 0 one.txt - whole_v.sgy -- $library DEVICE=$way HOLDS=% FAULT=$EINTR "$program" v.sgy --script one --out o.sgy "${in_place[@]}"
+    sweep "the save ($way) of a large file has just room" "$size" "$size" saves o.sgy may whole 0 one.txt - whole_v.sgy -- $library DEVICE=$way HOLDS=% "$program" v.sgy --script one --out o.sgy "${in_place[@]}"
 done
-# a piece of the buffer's size or more goes by itself: a signal that interrupts it is a failure
-sweep 'a write of a large piece is interrupted at' 65536 65536 "${torn[@]}" -- $library DEVICE=o.sgy HOLDS=% FAULT=$EINTR "$program" v.sgy --script one --out o.sgy
-sweep 'the save of a large file has just room' "$size" "$size" saves o.sgy may whole 0 one.txt - whole_v.sgy -- $library DEVICE=o.sgy HOLDS=% "$program" v.sgy --script one --out o.sgy
+is_left=$(find . -name '.*segywb-*')
+[ -z "$is_left" ] && tell 'no new file is left' ok || tell 'no new file is left' "$is_left"
 
 # ---- the answers: to each line of a long script, and to a list that is longer than the program's buffers
 for _ in 1 2 3; do

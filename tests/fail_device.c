@@ -1,5 +1,6 @@
 /* Preloaded by the tests: one device of the program fails as it is told to. By these variables:
-     DEVICE      the path by which the program opens it, or `answers` for standard output
+     DEVICE      the path by which the program opens it, `answers` for standard output, or `saved` for the new file that
+                 the program makes beside OUT
      STEP        so many bytes at most in each read or write
      FAIL_CALL   the read or write with this number fails, counted from 1
      HOLDS       a write takes no more once the device holds so many bytes: the first that could take none fails
@@ -59,7 +60,7 @@ int open(const char *path, int flags, ...) {
     mode = flags & O_CREAT ? va_arg(rest, int) : 0;
     va_end(rest);
     file = syscall(SYS_openat, AT_FDCWD, path, flags, mode);
-    if (file >= 0 && name && !strcmp(name, path)) device = file;
+    if (file >= 0 && name && (!strcmp(name, path) || (!strcmp(name, "saved") && flags & O_CREAT && strstr(path, ".segywb-")))) device = file;
     return file;
 }
 

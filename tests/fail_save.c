@@ -1,5 +1,5 @@
 /* Preloaded by the tests: one call of a save fails. By these variables:
-     FAIL_CALL  the name of the call: open, write, fsync, fchown, fchmod, close, rename, unlink, stat, fstat, readlink
+     FAIL_CALL  the name of the call: open, write, fsync, fchown, fchmod, close, rename, unlink, stat, fstat, realpath
      FAIL_NTH   the call with this number fails, counted from 1
      FAIL_ALL   if set, all later ones fail too
      FAULT      the errno of the failure, by default that of a broken device (EIO)
@@ -44,9 +44,6 @@ static int fails(const char *name) {
     return 1;
 }
 
-/* The library's own function of this name. */
-#define NEXT(type, name) static type next; if (!next) next = (type)dlsym(RTLD_NEXT, name)
-
 int open(const char *path, int flags, ...) {
     va_list rest;
     int mode, file;
@@ -82,16 +79,12 @@ int unlink(const char *path) { return fails("unlink") ? -1 : syscall(SYS_unlink,
 
 int rename(const char *from, const char *to) { return fails("rename") ? -1 : syscall(SYS_rename, from, to); }
 
-ssize_t readlink(const char *path, char *into, size_t size) {
-    return fails("readlink") ? -1 : syscall(SYS_readlink, path, into, size);
+int statx(int folder, const char *path, int flags, unsigned int mask, struct statx *about) {
+    return fails(*path ? "stat" : "fstat") ? -1 : syscall(SYS_statx, folder, path, flags, mask, about);
 }
 
-int stat(const char *path, struct stat *about) {
-    NEXT(int (*)(const char *, struct stat *), "stat");
-    return fails("stat") ? -1 : next(path, about);
-}
-
-int fstat(int file, struct stat *about) {
-    NEXT(int (*)(int, struct stat *), "fstat");
-    return fails("fstat") ? -1 : next(file, about);
+char *realpath(const char *path, char *into) {
+    static char *(*next)(const char *, char *);
+    if (!next) next = (char *(*)(const char *, char *))dlsym(RTLD_NEXT, "realpath");
+    return fails("realpath") ? NULL : next(path, into);
 }

@@ -11,6 +11,8 @@ library=LD_PRELOAD=./refuse_growth.so
 printf 'load refused L16 out of memory\n' > l16.txt
 printf 'script refused P03 out of memory\n' > p03.txt
 early=(may words 2 - '=segywb: cannot read the command line' - may words 2 - '=error: out of memory' -
+    may out 4 - $'=segywb: save failed after 0 bytes\nsegywb: o.sgy: out of memory; save elsewhere' -
+    may beside 4 - $'=segywb: save failed after 0 bytes\nsegywb: o.sgy: cannot make a file beside it (out of memory); save elsewhere, or over it with --in-place' -
     may room 4 - '=segywb: out of memory' - may L16 3 l16.txt - - may P03 4 p03.txt - -)
 # how often each command was answered E11, and how often the last line of a script
 declare -A refused=()
@@ -26,12 +28,15 @@ may_want() {
 
 # ways FILE LINE..: how a run of these lines may end, in the array `ways`
 ways() {
-    local file=$1 at=0 k status
+    local file=$1 at=0 k status then
     shift
     printf '%s\n' "$@" > script
     "$program" "$file" --script script --out whole.sgy > whole.txt
     status=$?
     ways=("${early[@]}" may whole $status whole.txt - whole.sgy)
+    then='it is as it was; save elsewhere, or over it with --in-place'
+    ways+=(may create 4 whole.txt $'=segywb: save failed after 0 bytes\nsegywb: o.sgy: cannot make a file beside it (out of memory): '"$then" -)
+    [ ! -e whole.sgy ] || ways+=(may rename 4 whole.txt "=segywb: save failed after $(wc -c < whole.sgy) bytes"$'\nsegywb: o.sgy: cannot put the file beside it in its place (out of memory): '"$then" -)
     # behind each line stands one that no line of the script is: so the answers to each line are known
     printf '%s\n=\n' "$@" > marked
     "$program" "$file" --script marked > marked.txt

@@ -72,6 +72,7 @@ for how in '' FAIL_ALL=1 FAULT=28; do
     turns fchmod 1 $how
     turns close 2 $how
     turns rename 1 $how
+    turns realpath 1 $how
     turns stat 1 $how
     turns fstat 1 $how
 done
@@ -290,11 +291,8 @@ echo 'set 2 inline 7' > one
 "$program" v.sgy --script one --out whole_v.sgy > answers
 for blocks in 0 1 64 131; do
     cp s.sgy $out
-    (ulimit -f $blocks; exec "$program" v.sgy --script one --out $out) > told 2> said
-    got=$?
-    mv said errors
-    # below a limit of 0 nothing can be written to `errors` either
-    [ $blocks != 0 ] || { [ $got = 4 ] && cmp -s s.sgy $out && [ -z "$(left)" ] && tell 'a limit of 0' ok || tell 'a limit of 0' "status $got"; continue; }
+    # answers and errors go through pipes, which have no limit
+    { { (ulimit -f $blocks; exec "$program" v.sgy --script one --out $out) | cat > answers; exit "${PIPESTATUS[0]}"; } 2>&1 >&3 | cat > errors; got=${PIPESTATUS[0]}; } 3>&1
     ends "a limit of $blocks KiB" 4 "$(failed_after $((1024 * blocks)))" s.sgy
 done
 cp s.sgy $out
@@ -320,27 +318,27 @@ if [ "$(id -u)" != 0 ]; then nobody() { "$@"; }
 elif command -v setpriv > found; then nobody() { setpriv --reuid=65534 --regid=65534 --clear-groups "$@"; }
 else nobody() { return 77; }
 fi
-mkdir kept
-cp s.sgy kept/o.sgy
+mkdir locked
+cp s.sgy locked/o.sgy
 cp "$named" runs
 chmod 755 . runs
-chmod 666 kept/o.sgy
-chmod 555 kept
+chmod 666 locked/o.sgy
+chmod 555 locked
 if nobody ./runs s.sgy --script script > answers 2> errors; then
-    nobody ./runs torn.sgy --script script --out kept/o.sgy > answers 2> errors
+    nobody ./runs torn.sgy --script script --out locked/o.sgy > answers 2> errors
     got=$?
-    [ $got = 4 ] && [ ! -s answers ] && [ "$(head -n 1 errors)" = "$(failed_after 0)" ] && grep -q 'Permission denied.*--in-place' errors && cmp -s s.sgy kept/o.sgy && tell 'a folder that may not be written' ok || tell 'a folder that may not be written' "status $got: $(cat errors)"
-    nobody ./runs s.sgy --script script --out kept/o.sgy --in-place > answers 2> errors
+    [ $got = 4 ] && [ ! -s answers ] && [ "$(head -n 1 errors)" = "$(failed_after 0)" ] && grep -q 'Permission denied.*--in-place' errors && cmp -s s.sgy locked/o.sgy && tell 'a folder that may not be written' ok || tell 'a folder that may not be written' "status $got: $(cat errors)"
+    nobody ./runs s.sgy --script script --out locked/o.sgy --in-place > answers 2> errors
     got=$?
-    [ $got = 0 ] && cmp -s whole.sgy kept/o.sgy && tell 'and in place' ok || tell 'and in place' "status $got: $(cat errors)"
-    chmod 444 kept/o.sgy
-    nobody ./runs torn.sgy --script script --out kept/o.sgy --in-place > answers 2> errors
+    [ $got = 0 ] && cmp -s whole.sgy locked/o.sgy && tell 'and in place' ok || tell 'and in place' "status $got: $(cat errors)"
+    chmod 444 locked/o.sgy
+    nobody ./runs torn.sgy --script script --out locked/o.sgy --in-place > answers 2> errors
     got=$?
     [ $got = 4 ] && [ ! -s answers ] && [ "$(head -n 1 errors)" = "$(failed_after 0)" ] && tell 'and a file that may not be written' ok || tell 'and a file that may not be written' "status $got: $(cat errors)"
 else
     echo 'left out: a folder that may not be written'
 fi
-chmod 755 kept
+chmod 755 locked
 
 # ---- FILE is changed while the script is waited for
 # changing NAME STATUS COMMAND..: runs the program with a script from a pipe, and the command before the script comes

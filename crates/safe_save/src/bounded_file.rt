@@ -12,9 +12,9 @@ const TRIES: u32 = 1000;
 // Linux's number of "File too large".
 const TOO_LARGE: i32 = 27;
 
-/// A file that is being written, of at most `limit` bytes: a write behind the system's own limit would
-/// end the process by a signal. A write that a signal interrupts is made again. A clause sees it as
-/// the file inside.
+/// A file that is being written, of at most `limit` bytes: a write behind the system's own limit
+/// would end the process by a signal. A write that a signal interrupts is made again. A clause sees
+/// it as the file inside.
 #[derive(Drop)]
 pub struct BoundedFile<W> {
     inner: W,

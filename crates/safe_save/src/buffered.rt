@@ -9,7 +9,8 @@ use crate::save_error::{Fault, SaveError, Step};
 use device_io::Sink;
 use std::io::{BufWriter, Error, ErrorKind, Write};
 
-/// Ends a save: writes what waits in the buffer, and lets OUT be the new file. The folder comes back.
+/// Ends a save: writes what waits in the buffer, and lets OUT be the new file. The folder comes
+/// back.
 pub fn end_save<F: Folder + Drop>(
     mut writer: BufWriter<Save<F>>,
     mode: Option<u32>,

@@ -44,9 +44,9 @@ where
 {
     ghost use Rattle.std.specs.Prelude.{◌≡◌, IfOk, None};
 
-    /// The folder of what OUT leads to, links followed. It is refused where that is no regular file,
-    /// and where no file can be made in the folder: one is made, and taken away again. `original` is
-    /// not to change until OUT is renamed.
+    /// The folder of what OUT leads to, links followed. It is refused where that is no regular
+    /// file, and where no file can be made in the folder: one is made, and taken away again.
+    /// `original` is not to change until OUT is renamed.
     pub fn open(rt: &'a R, out: &str, original: Option<Original<'a>>) -> Result<FileFolder<'a, R>> {
         let (folder, name, old) = resolve(rt, out)?;
         let itself = fs::open(rt, folder.as_str())?;
@@ -68,7 +68,8 @@ where
     }
 
     /// The permissions that the new file is to get: those of the file that is there, or else of the
-    /// original. Bits that lend a user's or a group's rights are left out, as they may get another owner.
+    /// original. Bits that lend a user's or a group's rights are left out, as they may get another
+    /// owner.
     pub fn mode(&self) -> Option<u32> {
         match (&self.old, &self.original) {
             (Some(old), _) => Some(old.mode() & 0o777),

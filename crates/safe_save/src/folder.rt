@@ -5,8 +5,8 @@ ghost use Rattle.safe_save.specs.Disk.{Disk, created, grown, with_mode, synced_a
 
 use std::io::Result;
 
-/// One folder, with the name OUT in it and a new name beside it. The file under the new name is open
-/// from `create` until `sync` or `remove`.
+/// One folder, with the name OUT in it and a new name beside it. The file under the new name is
+/// open from `create` until `sync` or `remove`.
 pub trait Folder {
     /// What OUT and the new name lead to, where it is known, and what a crash leaves.
     ghost disk: { Self → Option Disk };

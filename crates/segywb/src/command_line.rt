@@ -17,7 +17,8 @@ const GREATEST_LIMIT: u64 = 1099511627776;
 
 const ABOUT: &str =
     "Repairs SEG-Y files: runs a script of edits and queries over FILE, prints one answer for \
-     each\nline on standard output, and saves the edited file where --out says. A save that fails leaves\nOUT as it was.";
+     each\nline on standard output, and saves the edited file where --out says. A save that fails \
+     leaves\nOUT as it was.";
 
 const AFTER: &str = "Exit status:\n\
      \x20 0  no line was refused\n\
@@ -113,8 +114,8 @@ fn read_matches<'a>(matches: &ArgMatches<'a>) -> Option<Arguments<'a>>
 }
 
 /// What the words of a command line say, the program's name first: `FILE --script S [--out O]
-/// [--in-place] [--fixed] [--max-bytes N] [--stop]`, N from 1 to 1099511627776. Refused with clap's text where
-/// they are not accepted, `--help` too, or where a growth was refused. Takes memory.
+/// [--in-place] [--fixed] [--max-bytes N] [--stop]`, N from 1 to 1099511627776. Refused with clap's
+/// text where they are not accepted, `--help` too, or where a growth was refused. Takes memory.
 pub fn arguments<'a>(alloc: Global, words: &'a [String]) -> Result<Arguments<'a>, Error>
     ensures file { IfOk result (λ a. first_of (codes "FILE") (matched (map string_bytes words.now))
         ≡ Some a.file.now) }
@@ -124,7 +125,8 @@ pub fn arguments<'a>(alloc: Global, words: &'a [String]) -> Result<Arguments<'a>
     ensures out { IfOk result (λ a. first_of (codes "out") (matched (map string_bytes words.now))
         ≡ option_map (λ s. s.now) a.out) }
     ensures in_place { IfOk result
-        (λ a. ReadsFlag (one_of (codes "in-place") (matched (map string_bytes words.now))) a.in_place) }
+        (λ a. ReadsFlag (one_of (codes "in-place") (matched (map string_bytes words.now)))
+        a.in_place) }
     ensures limit { IfOk result
         (λ a. ReadsLimit (one_of (codes "max-bytes") (matched (map string_bytes words.now)))
         a.max_bytes) }

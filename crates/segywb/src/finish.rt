@@ -102,9 +102,8 @@ pub fn refused_out<R: Eprint>(rt: &R, out: &str, refusal: &OutRefusal) -> u8 {
             let _ = eprintln!(rt; "segywb: {out}: {error}; save elsewhere");
         }
         OutRefusal::NoFileBeside(error) => {
-            let _ = eprintln!(rt;
-                "segywb: {out}: cannot make a file beside it ({error}); save elsewhere, or over it with --in-place"
-            );
+            let then = "save elsewhere, or over it with --in-place";
+            let _ = eprintln!(rt; "segywb: {out}: cannot make a file beside it ({error}); {then}");
         }
     }
     4
@@ -121,7 +120,7 @@ fn save_failed<R: Eprint>(rt: &R, out: &str, fault: &Fault, is_beside: bool) {
     let then = if is_beside {
         "it is as it was; save elsewhere, or over it with --in-place"
     } else {
-        "it may hold a part of the file; save elsewhere"
+        "it took a part of the file; save elsewhere"
     };
     let left = if fault.left {
         "; a file beside it, whose name begins with a dot, may be left, and can be deleted"

@@ -77,7 +77,8 @@ where
         put(&mut self.file, bytes)
     }
 
-    /// After it, the file's bytes outlive a power cut. It is closed, and where that fails it is told.
+    /// After it, the file's bytes outlive a power cut. It is closed, and where that fails it is
+    /// told.
     pub fn sync(&mut self) -> Result<()> {
         match self.file.take() {
             Some(file) => {

@@ -1,5 +1,6 @@
 # Completion of segywb's command line for fish.
 complete -c segywb -l script -r -F -d 'edits and queries, one a line'
+complete -c segywb -l session -d 'answer the lines of standard input one by one'
 complete -c segywb -l out -r -F -d 'save the edited file here'
 complete -c segywb -l in-place -d 'write over that file itself'
 complete -c segywb -l fixed -d "read each trace with the binary header's number of samples"

@@ -28,7 +28,7 @@ def pandas() -> Any:
 def parse(data: bytes, count: int, unsigned: bool = False) -> Any:
     """So many whole numbers between blanks and line feeds."""
     np = numpy()
-    if np is None:
+    if np is None or not data.strip():
         found: Any = _plain(data)
     else:
         with warnings.catch_warnings():
@@ -39,7 +39,7 @@ def parse(data: bytes, count: int, unsigned: bool = False) -> Any:
                 found = []
     if len(found) != count:
         raise unexpected(data[:200].decode("utf-8", "replace"))
-    return found
+    return found if np is None or count else np.empty(0, dtype=np.uint64 if unsigned else np.int64)
 
 
 def _plain(data: bytes) -> List[int]:

@@ -12,30 +12,25 @@ from typing import Iterable, Iterator, List, Optional, Sequence, Tuple
 from .answers import Answer, unexpected
 from .errors import Closed, FileChanged, LoadRefused, OptionRefused, ProgramEnded, Refused, SaveFailed
 from .history import History, Step
-from .lines import decode, encode, payload, silent
+from .lines import decode, payload, silent
 from .session import Answers, Batch, Session
 from .stream import split
 
-BATCH_LINES = 1 << 16
+BATCH_LINES = 1 << 14
 
 
 def batches(lines: Sequence[bytes]) -> Iterator[Batch]:
     """Lines as batches of a size that is sent at once."""
-    for some in cut(lines):
+    for at in range(0, len(lines), BATCH_LINES):
+        some = lines[at:at + BATCH_LINES]
         yield payload(some), len(some)
 
 
-def cut(lines: Sequence[bytes]) -> Iterator[Sequence[bytes]]:
-    """The same lines in pieces of that size."""
-    for at in range(0, len(lines), BATCH_LINES):
-        yield lines[at:at + BATCH_LINES]
-
-
-def _refusal(answers: bytes, lines: Sequence[bytes]) -> Exception:
+def _refusal(answers: bytes, sent: bytes) -> Exception:
     """The first answer that is not ``ok``, as an exception."""
     at, answer = next((at, one) for at, one in enumerate(split(answers)) if one != b"ok")
     text = decode(answer)
-    return Refused(text, decode(lines[at])) if text.startswith("refused ") else unexpected(text)
+    return Refused(text, decode(sent.split(b"\n")[at])) if text.startswith("refused ") else unexpected(text)
 
 
 class Engine:
@@ -116,22 +111,29 @@ class Engine:
 
     def edit(self, line: bytes) -> None:
         """One edit, which becomes a step."""
-        self.edit_whole([line])
+        self.edit_whole([(line + b"\n", 1)])
 
-    def edit_whole(self, lines: Sequence[bytes]) -> None:
-        """Edits as one step: all of them, or none where one is refused."""
+    def edit_whole(self, some: Iterable[Batch]) -> None:
+        """Batches of edits as one step: all of them, or none where one is refused."""
+        sent: List[Batch] = []
+        refusal: Optional[Exception] = None
+
+        def sending() -> Iterator[Batch]:
+            for batch in some:
+                sent.append(batch)
+                yield batch
+
         with self._lock:
-            refusal: Optional[Exception] = None
-            with closing(self.session().stream(batches(lines))) as told:
-                for answers, some in zip(told, cut(lines)):
-                    if answers != b"ok\n\n" * len(some):
-                        refusal = _refusal(answers, some)
-                        if len(lines) > 1 or not isinstance(refusal, Refused):
+            with closing(self.session().stream(sending())) as told:
+                for at, answers in enumerate(told):
+                    if answers != b"ok\n\n" * sent[at][1]:
+                        refusal = _refusal(answers, sent[at][0])
+                        if at > 0 or sent[at][1] > 1 or not isinstance(refusal, Refused):
                             break  # this ends the session: lines before and behind were accepted
             if refusal is not None:
                 raise refusal
-            if lines:
-                self.history.add(Step(payload(lines), len(lines)))
+            if sent:
+                self.history.add(Step(b"".join(lines for lines, _ in sent), sum(size for _, size in sent)))
 
     def run(self, lines: Sequence[bytes]) -> List[Answer]:
         """The answers to the lines of a script. Each accepted edit is a step; lines without an answer have none."""
@@ -187,7 +189,7 @@ class Engine:
             for _ in range(steps):
                 kept = self.history.undone[:-1]
                 step = self.history.undone[-1]
-                self.edit_whole(step.sent.split(b"\n")[:-1])
+                self.edit_whole([step])
                 self.history.done[-1] = step
                 self.history.undone = kept
                 again += step.lines
@@ -233,10 +235,10 @@ class Engine:
 def _give(session: Session, history: History) -> None:
     """Gives a session edits that were accepted before."""
     step = history.sent()
-    answers = b"".join(session.stream([step]))
-    if answers != b"ok\n\n" * step.count:
+    answers = b"".join(session.stream([(step.sent, step.size)]))
+    if answers != b"ok\n\n" * step.size:
         session.kill()
-        raise _refusal(answers, [encode(line) for line in history.lines])
+        raise _refusal(answers, step.sent)
 
 
 def _is_file(path: str) -> bool:

@@ -11,7 +11,7 @@ class Step(NamedTuple):
     """Lines that were accepted as one, as they are sent, and their number."""
 
     sent: bytes
-    count: int
+    size: int
 
     @property
     def lines(self) -> List[str]:
@@ -38,7 +38,7 @@ class History:
 
     def sent(self) -> Step:
         """All steps as one."""
-        return Step(b"".join(step.sent for step in self.done), sum(step.count for step in self.done))
+        return Step(b"".join(step.sent for step in self.done), sum(step.size for step in self.done))
 
     def without(self, steps: int) -> "History":
         """The history with the last steps taken back."""

@@ -49,7 +49,11 @@ def numbers(values: Any) -> List[int]:
     kind = getattr(getattr(values, "dtype", None), "kind", None)
     if kind is not None and kind in "iu":
         return list(values.tolist())
-    return [int(number(value)) for value in values]
+    values = list(values)
+    try:
+        return list(map(operator.index, values))
+    except TypeError:
+        return [int(number(value)) for value in values]  # which tells the one that is none
 
 
 def encode(line: str) -> bytes:
@@ -68,7 +72,11 @@ def payload(lines: Iterable[bytes]) -> bytes:
 
 
 def silent(line: bytes) -> bool:
-    """Whether the line gets no answer: it has no words, or is a comment."""
+    """Whether the line gets no answer: it has no words, or is a comment. (Of a comment that is not UTF-8 the program says so.)"""
+    try:
+        line.decode("utf-8")
+    except UnicodeDecodeError:
+        return False
     if line.endswith(b"\r"):
         line = line[:-1]
     start = line.lstrip(b" \t")

@@ -14,6 +14,10 @@ def _axes(axes: Any) -> Any:
     return importlib.import_module("matplotlib.pyplot").subplots()[1]
 
 
+def _numpy() -> Any:
+    return importlib.import_module("numpy")
+
+
 def _image(axes: Any, found: Any, values: Any, **words: Any) -> Any:
     """A map, inlines upwards. Rows and columns are the inlines and crosslines that occur; their numbers stand at the axes."""
     image = axes.imshow(values, origin="lower", aspect="auto", interpolation="nearest", **words)
@@ -27,8 +31,7 @@ def _image(axes: Any, found: Any, values: Any, **words: Any) -> Any:
 
 def fold(volume: Volume, axes: Any = None) -> Any:
     """The fold map. Cells without traces are left out."""
-    import numpy as np
-
+    np = _numpy()
     axes = _axes(axes)
     found = volume.grid
     folds = found.array
@@ -40,8 +43,7 @@ def fold(volume: Volume, axes: Any = None) -> Any:
 
 def slice(volume: Volume, sample: int, clip: Optional[float] = None, axes: Any = None) -> Any:
     """A slice. The colours end at ``clip`` to both sides, else at the 98th percentile of the samples without their signs."""
-    import numpy as np
-
+    np = _numpy()
     axes = _axes(axes)
     found = volume.slice(sample)
     values = found.array.astype("f8")

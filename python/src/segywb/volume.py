@@ -17,6 +17,8 @@ from .lines import Field, encode, field, number
 from .selection import positions, runs
 from .session import Batch
 
+GET_LINES = 1 << 16
+
 Path = Union[str, "os.PathLike[str]"]
 
 
@@ -118,7 +120,13 @@ class Volume:
         if len(what) != len(where):
             raise ValueError(f"{len(where)} traces and {len(what)} values")
         word = field(name)
-        self._engine.edit_whole([encode(f"set {one} {word} {value}") for one, value in zip(where, what)])
+
+        def batches() -> Iterator[Batch]:
+            for at in range(0, len(where), BATCH_LINES):
+                some = list(zip(where[at:at + BATCH_LINES], what[at:at + BATCH_LINES]))
+                yield encode("".join([f"set {one} {word} {value}\n" for one, value in some])), len(some)
+
+        self._engine.edit_whole(batches())
 
     def renumber(self, first_trace: int, last_trace: int, name: Field, first: int, step: int = 0) -> None:
         """Writes ``first``, ``first + step``, .. into the traces from ``first_trace`` to ``last_trace``, all or none."""
@@ -205,7 +213,7 @@ class Volume:
 
     def _by_get(self, words: Sequence[str], where: Sequence[int], unsigned: bool) -> List[Any]:
         """Field by field within pieces of the traces: what is read of a piece is still near when the next field of it is asked."""
-        cuts = [where[at:at + BATCH_LINES] for at in range(0, len(where), BATCH_LINES)]
+        cuts = [where[at:at + GET_LINES] for at in range(0, len(where), GET_LINES)]
 
         def batches() -> Iterator[Batch]:
             for some in cuts:

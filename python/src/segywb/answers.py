@@ -2,8 +2,9 @@
 
 from __future__ import annotations
 
+import functools
 from fractions import Fraction
-from typing import Dict, List, NamedTuple, Optional, Tuple, Union
+from typing import Any, Callable, Dict, List, NamedTuple, Optional, Tuple, TypeVar, cast
 
 from .errors import ProgramEnded, Refused
 
@@ -98,6 +99,22 @@ def unexpected(answer: str) -> ProgramEnded:
     return ProgramEnded(f"the program wrote what is not expected: {answer[:200]!r}")
 
 
+Reader = TypeVar("Reader", bound=Callable[..., Any])
+
+
+def strict(read: Reader) -> Reader:
+    """Whatever goes wrong in reading an answer is an answer that is not expected."""
+
+    @functools.wraps(read)
+    def checked(told: Any, *more: Any) -> Any:
+        try:
+            return read(told, *more)
+        except (ValueError, IndexError, TypeError, ZeroDivisionError):
+            raise unexpected(told if isinstance(told, str) else "\n".join(told)) from None
+
+    return cast(Reader, checked)
+
+
 def words(line: str, first: str) -> List[str]:
     """The words of an answer behind its first one."""
     got = line.split(" ")
@@ -114,6 +131,62 @@ def rows(lines: List[str], head: str, row: str) -> List[List[str]]:
     return [words(line, row) if row else line.split(" ") for line in lines[1:]]
 
 
+@strict
+def number(line: str, first: str) -> int:
+    """
+    >>> number("value 7", "value")
+    7
+    """
+    return int(name(line, first))
+
+
+@strict
+def name(line: str, first: str) -> str:
+    """
+    >>> name("code ascii", "code")
+    'ascii'
+    """
+    (got,) = words(line, first)
+    return got
+
+
+@strict
+def counts(lines: List[str], head: str, row: str) -> Dict[int, int]:
+    """
+    >>> counts(["inlines 1", "inline 101 8"], "inlines", "inline")
+    {101: 8}
+    """
+    return {int(one): int(count) for one, count in rows(lines, head, row)}
+
+
+@strict
+def fields(lines: List[str]) -> Dict[str, str]:
+    """
+    >>> fields(["fields 1", "field inline @189:4"])
+    {'inline': '@189:4'}
+    """
+    return {one: place for one, place in rows(lines, "fields", "field")}
+
+
+@strict
+def stanzas(lines: List[str]) -> List[Stanza]:
+    """
+    >>> stanzas(["stanzas 1", "stanza 1 SEG: EndText"])
+    [Stanza(block=1, name='SEG: EndText')]
+    """
+    return [Stanza(int(got[0]), " ".join(got[1:])) for got in rows(lines, "stanzas", "stanza")]
+
+
+@strict
+def faults(lines: List[str]) -> List[Fault]:
+    """
+    >>> [one.code for one in faults(["faults 2", "F8 lines 1", "F4 trace 1 scalar 7"])]
+    ['F8', 'F4']
+    """
+    rows(lines, "faults", "")
+    return [fault(line) for line in lines[1:]]
+
+
 def pairs(got: List[str], names: Tuple[str, ...]) -> List[str]:
     """The values in a list of names and values."""
     if tuple(got[0::2]) != names or len(got) != 2 * len(names):
@@ -121,6 +194,7 @@ def pairs(got: List[str], names: Tuple[str, ...]) -> List[str]:
     return got[1::2]
 
 
+@strict
 def info(line: str) -> Info:
     """
     >>> info("info order big revision 1.0 format 3 samples 2 fixed yes extensions 0 blocks 0 trailer 0 traces 3 bytes 4332").traces
@@ -130,6 +204,7 @@ def info(line: str) -> Info:
     return Info(got[0], got[1], int(got[2]), int(got[3]), got[4] == "yes", *map(int, got[5:]))
 
 
+@strict
 def geometry(line: str) -> Geometry:
     """
     >>> geometry("geometry inline 1 crossline 2 offset 0 x 90005/2 y 680000").x
@@ -139,6 +214,7 @@ def geometry(line: str) -> Geometry:
     return Geometry(int(got[0]), int(got[1]), int(got[2]), Fraction(got[3]), Fraction(got[4]))
 
 
+@strict
 def statistics(line: str, first: str) -> Optional[Statistics]:
     """
     >>> statistics("stat none", "stat")
@@ -147,6 +223,7 @@ def statistics(line: str, first: str) -> Optional[Statistics]:
     return None if got == ["none"] else Statistics(*map(int, pairs(got, Statistics._fields)))
 
 
+@strict
 def span(line: str) -> Optional[Tuple[Fraction, Fraction]]:
     """
     >>> span("range 45000 900003/2")
@@ -160,6 +237,7 @@ def span(line: str) -> Optional[Tuple[Fraction, Fraction]]:
     return Fraction(got[0]), Fraction(got[1])
 
 
+@strict
 def fault(line: str) -> Fault:
     """
     >>> fault("F6 trace 3 first 2")
@@ -171,6 +249,7 @@ def fault(line: str) -> Fault:
     return Fault(got[0], trace, int(got[4]) if got[0] == "F6" else None, line)
 
 
+@strict
 def text(line: str) -> str:
     """
     >>> text("line |C 1 A|B|")
@@ -179,8 +258,3 @@ def text(line: str) -> str:
     if not (line.startswith("line |") and line.endswith("|") and len(line) > 6):
         raise unexpected(line)
     return line[6:-1]
-
-
-def whole(value: Fraction) -> Union[int, Fraction]:
-    """A whole number where the fraction is one."""
-    return value.numerator if value.denominator == 1 else value

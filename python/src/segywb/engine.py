@@ -68,10 +68,13 @@ class Engine:
         _give(session, history)
         return session
 
-    def session(self) -> Session:
-        """The session, a new one where the last has ended or belongs to another process."""
+    def _open(self) -> None:
         if self._closed:
             raise Closed("the volume is closed")
+
+    def session(self) -> Session:
+        """The session, a new one where the last has ended or belongs to another process."""
+        self._open()
         if self._session is None or not self._session.ours:
             self._session = None
             self._session = self._start(self.history)
@@ -170,6 +173,7 @@ class Engine:
     def undo(self, steps: int) -> List[str]:
         """Takes the last steps back, by a new session with the others."""
         with self._lock:
+            self._open()
             if not 0 <= steps <= len(self.history.done):
                 raise ValueError(f"there are {len(self.history.done)} steps to take back, not {steps}")
             taken = [line for step in self.history.done[len(self.history.done) - steps:] for line in step.lines]
@@ -183,6 +187,7 @@ class Engine:
     def redo(self, steps: int) -> List[str]:
         """Does again the steps that were taken back last."""
         with self._lock:
+            self._open()
             if not 0 <= steps <= len(self.history.undone):
                 raise ValueError(f"there are {len(self.history.undone)} steps to do again, not {steps}")
             again: List[str] = []
@@ -201,8 +206,7 @@ class Engine:
         """Writes the edited file, by a session of its own over the file that was opened."""
         out = os.path.abspath(path)
         with self._lock:
-            if self._closed:
-                raise Closed("the volume is closed")
+            self._open()
             if _is_file(out) and not replace:
                 raise FileExistsError(f"{out} is there: save(.., replace=True) writes over it")
             own = _same(out, self.path)

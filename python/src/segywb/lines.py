@@ -8,6 +8,7 @@ from typing import Any, Iterable, List, Union
 from .fields import BinField, TraceField, binary_place, trace_place
 
 Field = Union[str, int]
+LONGEST = 16777216
 
 
 def number(value: Any) -> str:
@@ -72,7 +73,9 @@ def payload(lines: Iterable[bytes]) -> bytes:
 
 
 def silent(line: bytes) -> bool:
-    """Whether the line gets no answer: it has no words, or is a comment. (Of a comment that is not UTF-8 the program says so.)"""
+    """Whether the line gets no answer: it has no words, or is a comment. Of one that is not UTF-8 or too long the program says so."""
+    if len(line) > LONGEST:
+        return False
     try:
         line.decode("utf-8")
     except UnicodeDecodeError:

@@ -74,11 +74,10 @@ class Volume:
         return told[0]
 
     def _value(self, *words: str) -> int:
-        got = answers.words(self._one(*words), "value")
-        return int(got[0])
+        return answers.number(self._one(*words), "value")
 
     def __len__(self) -> int:
-        return int(answers.words(self._one("count"), "traces")[0])
+        return answers.number(self._one("count"), "traces")
 
     def __bool__(self) -> bool:
         return True
@@ -142,7 +141,7 @@ class Volume:
 
     def fields(self) -> Dict[str, str]:
         """The bound names and their places."""
-        return {name: place for name, place in answers.rows(self._ask("fields"), "fields", "field")}
+        return answers.fields(self._ask("fields"))
 
     def headers(self, *names: Field, traces: Any = None, frame: bool = False) -> Any:
         """The numbers of these fields of many traces as a structured array (without numpy: a list of tuples).
@@ -262,13 +261,11 @@ class Volume:
 
     def code(self, block: int = 0) -> str:
         """``ebcdic`` or ``ascii``."""
-        return answers.words(self._one("code", number(block)), "code")[0]
+        return answers.name(self._one("code", number(block)), "code")
 
     def stanzas(self) -> List[Stanza]:
         """The stanzas of the extended textual headers."""
-        told = self._ask("stanzas")
-        answers.words(told[0], "stanzas")
-        return [Stanza(int(line.split(" ", 2)[1]), line.split(" ", 2)[2]) for line in told[1:]]
+        return answers.stanzas(self._ask("stanzas"))
 
     # ---- samples
 
@@ -351,7 +348,7 @@ class Volume:
 
     def fold(self, inline: int, crossline: int) -> int:
         """How many traces have this inline and this crossline."""
-        return int(answers.words(self._one("fold", number(inline), number(crossline)), "fold")[0])
+        return answers.number(self._one("fold", number(inline), number(crossline)), "fold")
 
     @property
     def grid(self) -> Grid:
@@ -378,12 +375,10 @@ class Volume:
 
     def faults(self) -> List[Fault]:
         """What is wrong with the headers: the faults of the file, then those of the traces."""
-        told = self._ask("faults")
-        answers.rows(told[:1] if told[0] == "faults 0" else told, "faults", "")
-        return [answers.fault(line) for line in told[1:]]
+        return answers.faults(self._ask("faults"))
 
     def _counts(self, line: str, head: str, row: str) -> Dict[int, int]:
-        return {int(name): int(count) for name, count in answers.rows(self._ask(line), head, row)}
+        return answers.counts(self._ask(line), head, row)
 
     def _list(self, line: str, head: str, row: str, names: Sequence[str], types: Sequence[str]) -> Any:
         with closing(self._engine.stream([(encode(line + "\n"), 1)])) as stream:
@@ -391,7 +386,7 @@ class Volume:
         if told.startswith(b"refused "):
             raise _first_refusal(told, [encode(line)])
         first, _, rest = told.partition(b"\n")
-        count = int(answers.words(lines.decode(first), head)[0])
+        count = answers.number(lines.decode(first), head)
         numbers = rest.replace(encode(row) + b" ", b"")
         if types[-1] == "u8":
             plain = numbers.split()

@@ -116,6 +116,11 @@ def test_documents(document, tmp_path, monkeypatch):
             exec(compile("\n" * (line - 1) + code, document, "exec"), names)
             examples += 1
     assert examples > 0
+    if document == "docs/PYTHON.md":
+        assert names["faults_of"](Path("wrong_line.sgy")) == ("wrong_line.sgy", 12, 4)
+        assert names["faults_of"](Path("positions.csv")) == ("positions.csv", None, "L03")
+        with segywb.open("positioned.sgy") as volume:
+            assert volume.headers("x")["x"].tolist() == [45000010] * 4 + [45000020] * 4 + volume.headers("x")["x"].tolist()[8:]
 
 
 def test_lines_of_the_sources():

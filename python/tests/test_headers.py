@@ -57,6 +57,23 @@ def test_a_frame_goes_back(opened):
     assert volume.positions(frame=True).loc[3, "inline"] == 1010
 
 
+@pytest.mark.parametrize("scalar", [0, 1, -1, 100, -100, 7, -7, 32767, -32768])
+def test_positions_under_the_scalar(opened, scalar):
+    volume = opened("cube")
+    volume.set_many("scalar", slice(2, None), scalar)
+    volume.set(3, "x", -(2**31))
+    volume.set(4, "y", 2**31 - 1)
+    assert volume.positions().tolist() == [tuple(map(float, volume.geometry(p))) for p in range(1, 13)]
+
+
+def test_positions_in_an_extension(opened, tmp_path):
+    volume = opened(files.extended(tmp_path / "made.sgy"))
+    volume.set(2, "@1.9:4", -77)
+    volume.map("x", "@1.9:4")
+    assert volume.positions().tolist() == [tuple(map(float, volume.geometry(p))) for p in (1, 2)]
+    assert volume.positions()["x"].tolist() == [0.0, -77.0]
+
+
 def test_pieces(opened, monkeypatch):
     whole = opened("cube").headers("inline", "x", "y").tolist()
     monkeypatch.setattr("segywb.volume.GET_LINES", 5)

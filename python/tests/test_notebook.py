@@ -5,7 +5,6 @@ import json
 import shutil
 
 import matplotlib
-import pytest
 from conftest import TOP
 
 import segywb
@@ -21,32 +20,23 @@ def run_cell(code, names):
     return eval(compile(ast.Expression(last.value), NOTEBOOK.name, "eval"), names) if last else None
 
 
-@pytest.fixture
-def cells(tmp_path, monkeypatch):
-    """The values of the cells, and the names that they leave."""
+def test_notebook(tmp_path, monkeypatch, capsys):
     matplotlib.use("Agg")
     for path in (TOP / "examples").glob("*.sgy"):
         shutil.copy(path, tmp_path)
     monkeypatch.chdir(tmp_path)
-    book = json.loads(NOTEBOOK.read_text())
-    names = {}
-    values, shown = [], []
-    for cell in book["cells"]:
+    names, values, shown = {}, [], []
+    for cell in json.loads(NOTEBOOK.read_text())["cells"]:
         if cell["cell_type"] == "code":
             assert cell["outputs"] == [] and cell["execution_count"] is None
-            value = run_cell("".join(cell["source"]), names)
-            values.append(value)
-            shown.append(value._repr_html_() if hasattr(value, "_repr_html_") else repr(value))
-    return values, shown, names
-
-
-def test_notebook(cells, capsys, tmp_path):
-    values, shown, names = cells
+            values.append(run_cell("".join(cell["source"]), names))
+            shown.append(values[-1]._repr_html_() if hasattr(values[-1], "_repr_html_") else "")
     assert "<svg" in shown[0] and "F6: 4" in shown[0]
     assert values[1][0] == {101: 8, 103: 4} and [p for p, _ in values[1][1]] == [5, 6, 7, 8]
     assert list(values[2].columns) == ["inline", "crossline", "offset", "x", "y"]
     assert values[4] == ([], [f"set {p} inline 102" for p in (5, 6, 7, 8)])
-    assert capsys.readouterr().out == "E01 no trace 99 of 12: set 99 inline 102\n{101: 8, 103: 4}\n{101: 4, 102: 4, 103: 4}\n"
+    told = "E01 no trace 99 of 12: set 99 inline 102\n{101: 8, 103: 4}\n{101: 4, 102: 4, 103: 4}\n"
+    assert capsys.readouterr().out == told
     assert len(names["figure"].axes) == 4
     with segywb.open(tmp_path / "mended.sgy") as volume:
         assert volume.inlines() == {101: 4, 102: 4, 103: 4} and volume.faults() == []

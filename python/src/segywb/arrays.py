@@ -49,6 +49,21 @@ def _plain(data: bytes) -> List[int]:
         return []
 
 
+def scaled(columns: Sequence[Any]) -> List[Any]:
+    """The columns but the last, which is the scalar: the last two of them under it. A positive one multiplies, a negative one divides."""
+    *others, x, y, scalar = columns
+    np = numpy()
+    if np is None:
+        return [*others, *([_under(one, by) for one, by in zip(column, scalar)] for column in (x, y))]
+    by = np.asarray(scalar, dtype=np.float64)
+    times, over = np.where(by > 0, by, 1.0), np.where(by < 0, -by, 1.0)
+    return [*others, *(np.asarray(column, dtype=np.float64) * times / over for column in (x, y))]
+
+
+def _under(number: int, scalar: int) -> float:
+    return number / -scalar if scalar < 0 else float(number * (scalar or 1))
+
+
 def type_of(kind: Optional[Tuple[int, bool]]) -> str:
     """The numpy type that holds the numbers of a place."""
     if kind is None:

@@ -49,6 +49,11 @@ class Volume:
         self._engine.session()
 
     @property
+    def pid(self) -> int:
+        """The number of the program's process."""
+        return self._engine.session().pid
+
+    @property
     def closed(self) -> bool:
         """Whether the volume is closed."""
         return self._engine.closed
@@ -320,14 +325,8 @@ class Volume:
         """Where many traces lie: inline, crossline, offset, and x and y under the scalar as floats; ``traces`` as for ``headers``."""
         where = positions(traces, len(self) if isinstance(traces, slice) or traces is None else 0)
         names = ("inline", "crossline", "offset", "x", "y")
-        parts: List[List[Any]] = []
-        for told, _, sent in self._many([(encode(f"geometry {one}"), 1) for one in where], BATCH_LINES):
-            if b"refused" in told:
-                raise _first_refusal(told, sent)
-            words = told.split()
-            parts.append([arrays.parse(b" ".join(words[at::11]), len(sent)) for at in (2, 4, 6)]
-                         + [[_decimal(word) for word in words[at::11]] for at in (8, 10)])
-        made = arrays.table(names, ["i4", "i4", "i4", "f8", "f8"], [_join([part[at] for part in parts]) for at in range(5)])
+        columns = arrays.scaled(self._columns([*names, "scalar"], where, [False] * 6))
+        made = arrays.table(names, ["i4", "i4", "i4", "f8", "f8"], columns)
         if not frame:
             return made
         pandas = arrays.pandas()
@@ -452,10 +451,6 @@ def _join(parts: List[Any]) -> Any:
     if np is not None:
         return np.concatenate(parts) if parts else np.empty(0, dtype=np.int64)
     return [number for part in parts for number in part]
-
-
-def _decimal(word: bytes) -> float:
-    return float(word) if b"/" not in word else float(Fraction(word.decode()))
 
 
 def _first_refusal(told: bytes, sent: Iterable[bytes]) -> Exception:

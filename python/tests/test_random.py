@@ -47,7 +47,7 @@ def do(volume, edit):
     return True
 
 
-@settings(max_examples=60, deadline=None, suppress_health_check=list(HealthCheck))
+@settings(max_examples=60, deadline=None, database=None, suppress_health_check=list(HealthCheck))
 @given(st.sampled_from([files.cube, files.varying]), st.lists(EDITS, min_size=1, max_size=8))
 def test_random_edits(tmp_path_factory, make, edits):
     room = tmp_path_factory.mktemp("random")
@@ -65,7 +65,7 @@ def test_random_edits(tmp_path_factory, make, edits):
         assert (room / "python.sgy").read_bytes() == (room / "run.sgy").read_bytes()
 
 
-@settings(max_examples=40, deadline=None, suppress_health_check=list(HealthCheck))
+@settings(max_examples=40, deadline=None, database=None, suppress_health_check=list(HealthCheck))
 @given(st.lists(st.one_of(st.binary(max_size=12), st.sampled_from([b"set 1 inline 7", b"get 1 inline", b" # x", b"", b"\t", b"inlines\r", b"\r"])), max_size=10))
 def test_random_bytes(tmp_path_factory, lines):
     """Any bytes as a script answer as in a run."""

@@ -18,6 +18,9 @@ PIPE_BYTES = 1 << 20
 READ_BYTES = 1 << 20
 DEATH_SECONDS = 10.0
 LOOK_SECONDS = 1.0
+FEW_BYTES = 1 << 15
+MANY_ANSWERS = 512
+NAP_SECONDS = 0.0003
 
 Batch = Tuple[bytes, int]
 Answers = Generator[bytes, None, None]
@@ -130,6 +133,8 @@ class Session:
         if not data:
             raise self._ended("the program ended", splitter.left)
         splitter.feed(data)
+        if len(data) < FEW_BYTES and splitter.lacking > MANY_ANSWERS:
+            time.sleep(NAP_SECONDS)  # many small answers are read together
 
     def _look(self, splitter: Splitter) -> None:
         """Where nothing comes for a while: a long command is waited for, a dead program is not."""

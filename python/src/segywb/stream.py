@@ -57,12 +57,18 @@ class Splitter:
         self._wanted: List[int] = []
         self._parts: List[bytes] = []
         self._counts: List[int] = []
+        self._have = 0
         self._last = b"\n"
 
     @property
     def waiting(self) -> int:
         """How many batches have no answers yet."""
         return len(self._wanted)
+
+    @property
+    def lacking(self) -> int:
+        """How many answers to the oldest batch have not come."""
+        return self._wanted[0] - self._have if self._wanted else 0
 
     @property
     def left(self) -> bytes:
@@ -75,24 +81,30 @@ class Splitter:
 
     def feed(self, data: bytes) -> None:
         """What has come."""
-        self._parts.append(data)
-        self._counts.append(empty_lines(data, self._last))
+        self._add(data, empty_lines(data, self._last))
         self._last = data[-1:]
+
+    def _add(self, part: bytes, count: int) -> None:
+        self._parts.append(part)
+        self._counts.append(count)
+        self._have += count
 
     def next(self) -> Optional[bytes]:
         """The answers to the oldest batch, once they are whole."""
-        if not self._wanted or sum(self._counts) < self._wanted[0]:
+        if not self._wanted or self._have < self._wanted[0]:
             return None
         count = self._wanted.pop(0)
+        parts, counts = self._parts, self._counts
+        self._parts, self._counts, self._have = [], [], 0
         whole = 0
-        while count > self._counts[whole]:
-            count -= self._counts[whole]
+        while count > counts[whole]:
+            count -= counts[whole]
             whole += 1
-        before = self._parts[whole - 1][-1:] if whole else b"\n"
-        last = self._parts[whole]
-        end = end_of(last, before, count)
-        answers = b"".join(self._parts[:whole]) + last[:end]
-        rest = [last[end:]] if end < len(last) else []
-        self._counts = [empty_lines(part, b"\n") for part in rest] + self._counts[whole + 1:]
-        self._parts = rest + self._parts[whole + 1:]
-        return answers
+        before = parts[whole - 1][-1:] if whole else b"\n"
+        end = end_of(parts[whole], before, count)
+        rest = parts[whole][end:]
+        if rest:
+            self._add(rest, counts[whole] - count)
+        for part, number in zip(parts[whole + 1:], counts[whole + 1:]):
+            self._add(part, number)
+        return b"".join([*parts[:whole], parts[whole][:end]])

@@ -1,6 +1,7 @@
 """Edits, taken back and done again, and saved: compared with a run of the program."""
 
 import os
+from pathlib import Path
 
 import files
 import numpy as np
@@ -176,7 +177,7 @@ def test_save_beside(opened, tmp_path):
 def test_save_without_edits(opened, tmp_path):
     volume = opened("cube")
     volume.save(tmp_path / "o.sgy")
-    assert (tmp_path / "o.sgy").read_bytes() == open(volume.path, "rb").read()
+    assert (tmp_path / "o.sgy").read_bytes() == Path(volume.path).read_bytes()
 
 
 def test_save_over_the_file_itself(opened):

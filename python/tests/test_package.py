@@ -29,8 +29,10 @@ def installed(tmp_path_factory):
     """The package installed into a folder of its own, without a network."""
     room = tmp_path_factory.mktemp("install")
     for name in ("python", "dist"):
-        shutil.copytree(TOP / name, room / name, ignore=shutil.ignore_patterns("build", "*.egg-info", "__pycache__", "tests"))
-    words = [sys.executable, "-m", "pip", "install", "-q", "--no-build-isolation", "--no-deps", "--no-index", "--target", str(room / "into"), "./python"]
+        shutil.copytree(TOP / name, room / name, ignore=shutil.ignore_patterns("__pycache__", "tests"))
+    for path in TOP.glob("LICENSE*"):
+        shutil.copy(path, room)
+    words = [sys.executable, "-m", "pip", "install", "-q", "--no-index", "--disable-pip-version-check", "--target", str(room / "into"), "./python"]
     done = subprocess.run(words, cwd=room, capture_output=True, text=True, check=False)
     assert done.returncode == 0, done.stderr
     return room / "into"
@@ -42,15 +44,21 @@ def test_install(installed):
     assert os.access(program, os.X_OK)
     assert (installed / "segywb" / "py.typed").exists()
     assert "Tag: py3-none-linux_x86_64" in next(installed.glob("*.dist-info/WHEEL")).read_text()
+    assert {path.name for path in installed.glob("*.dist-info/*")} >= {"METADATA", "RECORD", "WHEEL", "LICENSE"}
+    assert sorted(path.name for path in (installed / "segywb").iterdir() if path.suffix == ".py") == sorted(f"{name}.py" for name in [*MODULES, "__init__"])
     script = "import segywb, segywb.program; print(segywb.__file__); print(segywb.program.find())"
     clean = {"PATH": "/nowhere", "PYTHONPATH": str(installed)}
     told = subprocess.run([sys.executable, "-c", script], env=clean, cwd="/", capture_output=True, text=True, check=True).stdout
     assert told == f"{installed}/segywb/__init__.py\n{program}\n"
+    script = "from importlib import metadata as m; print(m.version('segywb'), m.requires('segywb'))"
+    told = subprocess.run([sys.executable, "-c", script], env=clean, cwd="/", capture_output=True, text=True, check=True).stdout
+    wanted = ['numpy; extra == "numbers"', 'pandas; extra == "numbers"', 'matplotlib; extra == "pictures"']
+    assert told == f"{segywb.__version__} {wanted}\n"
 
 
 def test_install_without_the_program(tmp_path):
-    shutil.copytree(PACKAGE, tmp_path / "python", ignore=shutil.ignore_patterns("build", "*.egg-info", "__pycache__", "tests"))
-    words = [sys.executable, "-m", "pip", "install", "-q", "--no-build-isolation", "--no-deps", "--no-index", "--target", str(tmp_path / "into"), "./python"]
+    shutil.copytree(PACKAGE, tmp_path / "python", ignore=shutil.ignore_patterns("__pycache__", "tests"))
+    words = [sys.executable, "-m", "pip", "install", "-q", "--no-index", "--disable-pip-version-check", "--target", str(tmp_path / "into"), "./python"]
     done = subprocess.run(words, cwd=tmp_path, capture_output=True, text=True, check=False)
     assert done.returncode != 0 and "there is no program" in done.stdout + done.stderr
 

@@ -74,6 +74,7 @@ def test_faults(opened):
     volume = opened("wrong_line")
     faults = volume.faults()
     assert [(fault.code, fault.trace, fault.first) for fault in faults] == [("F6", p, p - 4) for p in (5, 6, 7, 8)]
+    assert volume.fault_counts() == {"F6": 4}
     assert faults[0].meaning == segywb.answers.MEANINGS["F6"]
     volume.set_text(2, "no letter in front")
     volume.set(1, "coordinate_units", 2)

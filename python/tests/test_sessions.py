@@ -112,8 +112,8 @@ def test_odd_answers(fake, opened, odd):
 @pytest.mark.parametrize("call", [
     lambda v: v.headers("inline"), lambda v: v.info, lambda v: v.grid, lambda v: v.slice(1), lambda v: v.faults(), lambda v: v.totals,
     lambda v: v.stat(1), lambda v: v.geometry(1), lambda v: v.range("x"), lambda v: v.text, lambda v: v.inlines(), lambda v: v.positions(),
-    lambda v: v.samples(1), lambda v: v.get(1, "inline"), lambda v: v.fold(1, 1), lambda v: v.code(), lambda v: v.fields(), lambda v: v.stanzas(),
-], ids=range(18))
+    lambda v: v.samples(1), lambda v: v.get(1, "inline"), lambda v: v.fold(1, 1), lambda v: v.code(), lambda v: v.fields(), lambda v: v.stanzas(), lambda v: v.fault_counts(),
+], ids=range(19))
 def test_answers_that_are_not_expected(fake, opened, answer, call):
     fake(ECHO.replace("'ok\\n\\n'", f"'{answer}\\n\\n'"))
     died(lambda: call(opened("survey")))

@@ -3,6 +3,7 @@
 from __future__ import annotations
 
 import functools
+from collections import Counter
 from fractions import Fraction
 from typing import Any, Callable, Dict, List, NamedTuple, Optional, Tuple, TypeVar, cast
 
@@ -124,11 +125,9 @@ def words(line: str, first: str) -> List[str]:
 
 
 def rows(lines: List[str], head: str, row: str) -> List[List[str]]:
-    """The words of each line of a list, behind the line that counts them. ``row`` is the first word of each, or nothing."""
-    count = words(lines[0], head)
-    if len(count) != 1 or count[0] != str(len(lines) - 1):
-        raise unexpected(lines[0])
-    return [words(line, row) if row else line.split(" ") for line in lines[1:]]
+    """The words of each line of a list, behind the line that counts them. ``row`` is the first word of each."""
+    counted(lines, head)
+    return [words(line, row) for line in lines[1:]]
 
 
 @strict
@@ -183,8 +182,24 @@ def faults(lines: List[str]) -> List[Fault]:
     >>> [one.code for one in faults(["faults 2", "F8 lines 1", "F4 trace 1 scalar 7"])]
     ['F8', 'F4']
     """
-    rows(lines, "faults", "")
-    return [fault(line) for line in lines[1:]]
+    counted(lines, "faults")
+    return [_fault(line) for line in lines[1:]]
+
+
+@strict
+def fault_counts(lines: List[str]) -> Dict[str, int]:
+    """
+    >>> fault_counts(["faults 2", "F8 lines 1", "F4 trace 1 scalar 7"])
+    {'F4': 1, 'F8': 1}
+    """
+    counted(lines, "faults")
+    return dict(sorted(Counter(line.partition(" ")[0] for line in lines[1:]).items()))
+
+
+def counted(lines: List[str], head: str) -> None:
+    """The first line of a list counts the others."""
+    if words(lines[0], head) != [str(len(lines) - 1)]:
+        raise unexpected(lines[0])
 
 
 def pairs(got: List[str], names: Tuple[str, ...]) -> List[str]:
@@ -237,16 +252,14 @@ def span(line: str) -> Optional[Tuple[Fraction, Fraction]]:
     return Fraction(got[0]), Fraction(got[1])
 
 
-@strict
-def fault(line: str) -> Fault:
+def _fault(line: str) -> Fault:
     """
-    >>> fault("F6 trace 3 first 2")
+    >>> _fault("F6 trace 3 first 2")
     Fault(code='F6', trace=3, first=2, text='F6 trace 3 first 2')
-    >>> fault("F8 lines 1").trace
+    >>> _fault("F8 lines 1").trace
     """
     got = line.split(" ")
-    trace = int(got[2]) if got[1] == "trace" else None
-    return Fault(got[0], trace, int(got[4]) if got[0] == "F6" else None, line)
+    return Fault(got[0], int(got[2]) if got[1] == "trace" else None, int(got[4]) if got[0] == "F6" else None, line)
 
 
 @strict

@@ -27,16 +27,13 @@ def page(volume: "Volume") -> str:
 
 def _table(volume: "Volume") -> str:
     told = volume.info
-    faults: Dict[str, int] = {}
-    for fault in volume.faults():
-        faults[fault.code] = faults.get(fault.code, 0) + 1
     rows = [
         ("file", volume.path),
         ("traces", str(told.traces)),
         ("samples, format", f"{told.samples}, {told.format}"),
         ("order, revision", f"{told.order}, {told.revision}"),
         *((which, _span(volume, which)) for which in ("inline", "crossline", "x", "y")),
-        ("faults", ", ".join(f"{code}: {count}" for code, count in sorted(faults.items())) or "none"),
+        ("faults", ", ".join(f"{code}: {count}" for code, count in volume.fault_counts().items()) or "none"),
         ("edits", str(len(volume.edits))),
     ]
     body = "".join(f"<tr><th style='text-align:left'>{escape(name)}</th><td>{escape(text)}</td></tr>" for name, text in rows)

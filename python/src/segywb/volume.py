@@ -376,6 +376,10 @@ class Volume:
         """What is wrong with the headers: the faults of the file, then those of the traces."""
         return answers.faults(self._ask("faults"))
 
+    def fault_counts(self) -> Dict[str, int]:
+        """How many faults there are of each code."""
+        return answers.fault_counts(self._ask("faults"))
+
     def _counts(self, line: str, head: str, row: str) -> Dict[int, int]:
         return answers.counts(self._ask(line), head, row)
 

@@ -8,7 +8,7 @@ SEGYWB=$(realpath "${1:-$here/../dist/segywb-x86_64-linux}") || exit 1
 export SEGYWB PYTHONDONTWRITEBYTECODE=1
 [ $# = 0 ] || shift
 python=/usr/bin/python3
-needed='python3-pytest python3-hypothesis python3-numpy python3-pandas python3-matplotlib python3-pip mypy'
+needed='python3-pytest python3-hypothesis python3-numpy python3-pandas python3-matplotlib python3-segyio python3-pip mypy'
 
 missing() { for package in $needed; do dpkg-query -W -f '${Status}' "$package" 2> /dev/null | grep -q '^install ok installed' || printf '%s ' "$package"; done; }
 
@@ -22,6 +22,4 @@ if [ -n "$lacking" ]; then
     [ -z "${CI:-}" ] || exit 1
     exit 0
 fi
-# the names of segyio are compared where it is there
-[ "$(id -u)" != 0 ] || $python -c 'import segyio' 2> /dev/null || DEBIAN_FRONTEND=noninteractive apt-get install -y --no-install-recommends python3-segyio > /dev/null 2>&1
 exec $python -X dev -W error::ResourceWarning -m pytest -q "$here/../python/tests" "$@"

@@ -172,6 +172,24 @@ def test_an_interrupt(fake, opened):
     assert len(volume) == 3 and volume.edits == ["set 1 inline 7"]
 
 
+@pytest.mark.parametrize("call", [
+    lambda v: v.set(1, "inline", 8), lambda v: v.set_many("inline", [1, 2], 8), lambda v: v.run("set 1 inline 8"), lambda v: v.run("set 1 inline 8", stop=True),
+], ids=["set", "set_many", "run", "run stop"])
+def test_an_interrupt_behind_the_answer(opened, monkeypatch, call):
+    """The program has accepted the edit, and the interrupt comes before it is noted: it was never made."""
+    volume = opened("cube")
+    volume.set(1, "inline", 7)
+
+    def interrupted(history, step):
+        raise KeyboardInterrupt
+
+    with monkeypatch.context() as patched:
+        patched.setattr("segywb.history.History.add", interrupted)
+        with pytest.raises(KeyboardInterrupt):
+            call(volume)
+    assert volume.get(1, "inline") == 7 and volume.get(2, "inline") == 101 and volume.edits == ["set 1 inline 7"]
+
+
 def test_threads(opened):
     """Calls from several threads stand one behind another."""
     volume = opened("cube")

@@ -6,7 +6,7 @@ import os
 import stat
 import threading
 import warnings
-from contextlib import closing
+from contextlib import closing, contextmanager
 from typing import Iterable, Iterator, List, Optional, Sequence, Tuple
 
 from .answers import Answer, unexpected
@@ -99,6 +99,18 @@ class Engine:
 
     # ---- lines
 
+    @contextmanager
+    def _step(self) -> Iterator[None]:
+        """What the session has accepted is what the history holds: after an interruption between the two the session is ended."""
+        with self._lock:
+            try:
+                yield
+            except Refused:
+                raise
+            except BaseException:
+                self.forget()
+                raise
+
     def stream(self, some: Iterable[Batch]) -> Answers:
         """The answers to batches of queries, batch by batch, as they stand. To be closed where it is not read to its end."""
         with self._lock, closing(self.session().stream(some)) as answers:
@@ -126,7 +138,7 @@ class Engine:
                 sent.append(batch)
                 yield batch
 
-        with self._lock:
+        with self._step():
             with closing(self.session().stream(sending())) as told:
                 for at, answers in enumerate(told):
                     if answers != b"ok\n\n" * sent[at][1]:
@@ -140,7 +152,7 @@ class Engine:
 
     def run(self, lines: Sequence[bytes]) -> List[Answer]:
         """The answers to the lines of a script. Each accepted edit is a step; lines without an answer have none."""
-        with self._lock:
+        with self._step():
             told = self._answers(lines)
             for answer in told:
                 if answer.accepted:
@@ -149,7 +161,7 @@ class Engine:
 
     def run_whole(self, lines: Sequence[bytes]) -> List[Answer]:
         """The same, as one step: where a line is refused, nothing has changed."""
-        with self._lock:
+        with self._step():
             told = self._answers(lines)
             accepted = [lines[answer.number - 1] for answer in told if answer.accepted]
             refusal = next((answer.refused for answer in told if answer.refused), None)

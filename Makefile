@@ -86,6 +86,7 @@ bench: build
 	bash benchmarks/live $(BUILT)
 	bash benchmarks/slices $(BUILT)
 	bash benchmarks/renumber $(BUILT)
+	bash benchmarks/python $(BUILT)
 	cd crates/time_orders && { rt run > out.log 2>&1 || true; }
 	bash benchmarks/orders crates/time_orders/out/time_orders
 	cd crates/time_reports && { rt run > out.log 2>&1 || true; }

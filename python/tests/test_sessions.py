@@ -172,6 +172,17 @@ def test_an_interrupt(fake, opened):
     assert len(volume) == 3 and volume.edits == ["set 1 inline 7"]
 
 
+def test_a_call_that_is_ended_from_another_thread(fake, opened):
+    fake(ECHO.replace("    sys.stdout", "    if line == 'get 9 inline\\n': time.sleep(600)\n    sys.stdout"))
+    volume = opened("survey")
+    volume.set(1, "inline", 7)
+    timer = threading.Timer(0.5, volume.interrupt)
+    timer.start()
+    assert died(lambda: volume.get(9, "inline")).status == -9
+    timer.join()
+    assert len(volume) == 3 and volume.edits == ["set 1 inline 7"] and volume.pid > 0
+
+
 @pytest.mark.parametrize("call", [
     lambda v: v.set(1, "inline", 8), lambda v: v.set_many("inline", [1, 2], 8), lambda v: v.run("set 1 inline 8"), lambda v: v.run("set 1 inline 8", stop=True),
 ], ids=["set", "set_many", "run", "run stop"])

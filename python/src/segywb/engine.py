@@ -87,6 +87,12 @@ class Engine:
                 self._session.kill()
                 self._session = None
 
+    def interrupt(self) -> None:
+        """Ends the program while another thread waits for it. That thread gets an exception."""
+        session = self._session
+        if session is not None:
+            session.interrupt()
+
     def close(self) -> None:
         """Ends the session for good."""
         self.forget()

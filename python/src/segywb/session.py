@@ -166,6 +166,11 @@ class Session:
         self._release()
         return status, left, told
 
+    def interrupt(self) -> None:
+        """Ends the program; whoever waits for its answers is told so."""
+        if self.ours:
+            self._process.kill()
+
     def kill(self) -> None:
         """Ends the program at once; nothing is saved."""
         self.alive = False

@@ -48,6 +48,10 @@ class Volume:
         self._engine.forget()
         self._engine.session()
 
+    def interrupt(self) -> None:
+        """Ends a call that takes too long, from another thread: it becomes a ``ProgramEnded``, and the accepted edits are kept."""
+        self._engine.interrupt()
+
     @property
     def pid(self) -> int:
         """The number of the program's process."""

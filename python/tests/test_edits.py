@@ -268,3 +268,16 @@ def test_closed(opened, tmp_path):
         with pytest.raises(segywb.Closed):
             call()
     assert volume.edits == ["set 1 inline 7"] and "closed" in repr(volume) and "closed" in volume._repr_html_()
+
+
+def test_an_undo_whose_session_ends_changes_nothing(opened, monkeypatch):
+    volume = opened("cube")
+    volume.set(1, "inline", 7)
+    volume.set(1, "inline", 8)
+    with monkeypatch.context() as patched:
+        patched.setenv("SEGYWB", "/bin/false")
+        with pytest.raises(segywb.ProgramEnded) as ended:
+            volume.undo()
+        assert ended.value.status == 1
+    assert volume.edits == ["set 1 inline 7", "set 1 inline 8"] and volume.get(1, "inline") == 8
+    assert volume.undo() == ["set 1 inline 8"] and volume.get(1, "inline") == 7

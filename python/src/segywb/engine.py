@@ -63,9 +63,13 @@ class Engine:
         """A new session over the file, with these edits."""
         self._unchanged()
         session = Session(self.path, self.options)
-        session.exchange(b"count\n", 1)
-        self._unchanged()
-        _give(session, history)
+        try:
+            session.exchange(b"count\n", 1)
+            self._unchanged()
+            _give(session, history)
+        except BaseException:
+            session.kill()
+            raise
         return session
 
     def _open(self) -> None:
@@ -197,9 +201,11 @@ class Engine:
             taken = [line for step in self.history.done[len(self.history.done) - steps:] for line in step.lines]
             if steps:
                 earlier = self.history.without(steps)
-                session = self._start(earlier)
-                self.forget()
-                self._session, self.history = session, earlier
+                self._unchanged()
+                with self._step():
+                    self.forget()  # first, so that the file stands in memory once
+                    self._session = self._start(earlier)
+                    self.history = earlier
             return taken
 
     def redo(self, steps: int) -> List[str]:
@@ -259,7 +265,6 @@ def _give(session: Session, history: History) -> None:
     step = history.sent()
     answers = b"".join(session.stream([(step.sent, step.size)]))
     if answers != b"ok\n\n" * step.size:
-        session.kill()
         raise _refusal(answers, step.sent)
 
 

@@ -220,6 +220,48 @@ def test_save_that_fails(opened, tmp_path, out):
     assert volume.edits == ["set 1 inline 7"] and volume.get(1, "inline") == 7
 
 
+SAVES = """
+if "--out" in sys.argv:
+    open(sys.argv[sys.argv.index("--out") + 1], "w").write(" ".join(sys.argv[3:]))
+    sys.stderr.write(TOLD)
+for line in sys.stdin:
+    print("traces 12" if line == "count\\n" else "ok", end="\\n\\n", flush=True)
+sys.exit(STATUS if "--out" in sys.argv else 0)
+"""
+
+
+def saves(told, status):
+    """A program that tells of its save so."""
+    return f"TOLD, STATUS = {told!r}, {status}\n" + SAVES
+
+
+def test_save_that_is_not_settled(fake, opened):
+    """The file is saved, and only a power cut may undo it: a warning, and the file is the one of the volume."""
+    fake(saves("segywb: saved, but a power cut may undo it\nsegywb: o.sgy: run sync\n", 4))
+    volume = opened("cube")
+    volume.set(1, "inline", 7)
+    with pytest.warns(UserWarning, match="run sync"):
+        volume.save(volume.path, replace=True)
+    assert volume.edits == []
+    volume.set(1, "inline", 8)
+    assert volume.undo() == ["set 1 inline 8"]
+
+
+def test_save_that_finds_another_file(fake, opened, tmp_path):
+    fake(saves("segywb: FILE was changed by another program\nsegywb: cube.sgy: nothing was saved\n", 4))
+    volume = opened("cube")
+    volume.set(1, "inline", 7)
+    with pytest.raises(segywb.FileChanged, match="nothing was saved"):
+        volume.save(tmp_path / "o.sgy")
+    assert volume.edits == ["set 1 inline 7"]
+
+
+def test_save_in_place(fake, opened, tmp_path):
+    fake(saves("", 0))
+    opened("cube", fixed=True).save(tmp_path / "o.sgy", in_place=True)
+    assert (tmp_path / "o.sgy").read_text() == f"--fixed --out {tmp_path / 'o.sgy'} --in-place --stop"
+
+
 def test_save_of_a_file_that_was_changed(opened, tmp_path):
     volume = opened("cube")
     volume.set(1, "inline", 7)

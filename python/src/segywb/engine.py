@@ -17,6 +17,8 @@ from .session import Answers, Batch, Session
 from .stream import split
 
 BATCH_LINES = 1 << 14
+CHANGED = "segywb: FILE was changed by another program"
+UNSETTLED = "segywb: saved, but a power cut may undo it"
 
 
 def batches(lines: Sequence[bytes]) -> Iterator[Batch]:
@@ -226,7 +228,7 @@ class Engine:
 
     # ---- the save
 
-    def save(self, path: str, replace: bool) -> None:
+    def save(self, path: str, replace: bool, in_place: bool) -> None:
         """Writes the edited file, by a session of its own over the file that was opened."""
         out = os.path.abspath(path)
         with self._lock:
@@ -235,17 +237,19 @@ class Engine:
                 raise FileExistsError(f"{out} is there: save(.., replace=True) writes over it")
             own = _same(out, self.path)
             self._unchanged()
-            status, told = self._write(out)
-            if status != 0:
-                raise SaveFailed(f"nothing was saved as {out}" if status != 4 else "the save failed", status, told)
+            status, told = self._write(["--out", out, *(["--in-place"] if in_place else [])])
+            if CHANGED in told:
+                raise FileChanged(told.strip())
+            if status != 0 and UNSETTLED not in told:
+                raise SaveFailed(f"the save of {out} failed", status, told)
             if told:
                 warnings.warn(told.strip(), stacklevel=3)
             if own:
                 self._stamp = self._look()
                 self.history = self.history.names()
 
-    def _write(self, out: str) -> Tuple[int, str]:
-        session = Session(self.path, [*self.options, "--out", out, "--stop"])
+    def _write(self, words: List[str]) -> Tuple[int, str]:
+        session = Session(self.path, [*self.options, *words, "--stop"])
         try:
             _give(session, self.history)
             status, left, told = session.finish()

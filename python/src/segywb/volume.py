@@ -431,12 +431,12 @@ class Volume:
         """Does again the steps that ``undo`` took back last, and gives their lines. A new edit leaves nothing to do again."""
         return self._engine.redo(n)
 
-    def save(self, path: Path, replace: bool = False) -> None:
-        """Writes the edited file. A file that is there is written over with ``replace`` alone.
+    def save(self, path: Path, replace: bool = False, in_place: bool = False) -> None:
+        """Writes the edited file. A file that is there is written over with ``replace`` alone; ``in_place`` is the program's option.
 
         Where ``path`` is the file itself, it is the file of this volume from then on: ``edits`` begins anew, with the names that ``map`` bound.
         """
-        self._engine.save(os.fspath(path), replace)
+        self._engine.save(os.fspath(path), replace, in_place)
 
     # ---- shown
 

@@ -2,12 +2,13 @@
 #   make demo       the first job on a sample file, with the shipped program
 #   make install    the program, its tools for pictures, its man pages and completions, under PREFIX (and DESTDIR); make uninstall takes them away
 #   make quick      the end-to-end tests, in a minute or two
+#   make python     the tests of the Python package
 # With the Rattle kit (the command rt on the PATH):
 #   make build      proves and builds the program from the sources
 #   make test       the whole gate: every proof from nothing, the must-fail edits, then the end-to-end runs
 #   make bench      the speed, as ratios to cp and md5sum
 #   make dist       the program that was built becomes the shipped one
-# demo, install and quick take the shipped program, or the one that PROGRAM=.. names.
+# demo, install, quick and python take the shipped program, or the one that PROGRAM=.. names.
 SHIPPED = dist/segywb-x86_64-linux
 BUILT = crates/segywb/out/segywb
 PROGRAM ?= $(SHIPPED)
@@ -15,7 +16,7 @@ PREFIX ?= /usr/local
 DESTDIR ?=
 INTO = $(DESTDIR)$(PREFIX)
 
-.PHONY: help demo quick install uninstall build test dist bench pages program
+.PHONY: help demo quick python install uninstall build test dist bench pages program
 
 help:
 	@sed -n '/^#/s/^# *//p; /^SHIPPED/q' Makefile
@@ -28,6 +29,9 @@ demo: program
 
 quick: program
 	bash tests/run.sh $(PROGRAM)
+
+python: program
+	bash tests/python.sh $(PROGRAM)
 
 build:
 	tools/build
@@ -42,6 +46,7 @@ test:
 	cd dist && sha256sum -c SHA256SUMS
 	@cmp $(BUILT) $(SHIPPED) || { echo 'The sources do not give the shipped program: see make dist.'; exit 1; }
 	bash tests/run.sh $(BUILT)
+	bash tests/python.sh $(BUILT)
 
 # Once for each delivery, after make build.
 dist:
@@ -82,6 +87,7 @@ bench: build
 	bash benchmarks/live $(BUILT)
 	bash benchmarks/slices $(BUILT)
 	bash benchmarks/renumber $(BUILT)
+	bash benchmarks/python $(BUILT)
 	cd crates/time_orders && { rt run > out.log 2>&1 || true; }
 	bash benchmarks/orders crates/time_orders/out/time_orders
 	cd crates/time_reports && { rt run > out.log 2>&1 || true; }

@@ -26,7 +26,7 @@ done
 # ---- the example files, the man pages and the rows of the definitions are what their sources give
 mkdir made
 runs_well 'examples are made' bash "$top/examples/make" made
-runs_well 'the example files' diff -r -x make made "$top/examples"
+runs_well 'the example files' diff -r -x make -x "*.ipynb" made "$top/examples"
 rm -rf made
 runs_well 'man pages are made' bash "$top/tools/manpages" made
 runs_well 'the man pages are those of the manual' diff -r made "$top/man"

@@ -1,0 +1,39 @@
+"""segywb in Python: SEG-Y files are asked and repaired by a session of the program ``segywb``."""
+
+from __future__ import annotations
+
+from typing import Optional
+
+from . import tools
+from .answers import Answer, Fault, Geometry, Info, Stanza, Statistics
+from .errors import (
+    Closed,
+    Error,
+    FileChanged,
+    LoadRefused,
+    OptionRefused,
+    ProgramEnded,
+    ProgramNotFound,
+    Refused,
+    SaveFailed,
+)
+from .fields import BinField, TraceField
+from .grids import Grid, Slice
+from .volume import Path, Volume
+
+__version__ = "0.1.0"
+
+__all__ = [
+    "Answer", "BinField", "Closed", "Error", "Fault", "FileChanged", "Geometry", "Grid", "Info", "LoadRefused", "OptionRefused",
+    "ProgramEnded", "ProgramNotFound", "Refused", "SaveFailed", "Slice", "Stanza", "Statistics", "TraceField", "Volume", "open",
+    "tools",
+]
+
+
+def open(path: Path, fixed: bool = False, opaque_samples: bool = False, max_bytes: Optional[int] = None) -> Volume:
+    """Opens a SEG-Y file.
+
+    ``fixed``: each trace has the binary header's number of samples. ``opaque_samples``: read files whose samples have no values here
+    (floats). ``max_bytes``: the largest file that is read, and the largest that edits may make.
+    """
+    return Volume(path, fixed=fixed, opaque_samples=opaque_samples, max_bytes=max_bytes)

@@ -1,0 +1,273 @@
+"""What the answers of the program mean: from lines of text to values."""
+
+from __future__ import annotations
+
+import functools
+from collections import Counter
+from fractions import Fraction
+from typing import Any, Callable, Dict, List, NamedTuple, Optional, Tuple, TypeVar, cast
+
+from .errors import ProgramEnded, Refused
+
+MEANINGS: Dict[str, str] = {
+    "F1": "number in the file (bytes 5-8) is not the position",
+    "F2": "number of samples (bytes 115-116) is not that of the trace",
+    "F3": "interval (bytes 117-118) is not that of the binary header",
+    "F4": "coordinate scalar (bytes 71-72) is unusual",
+    "F5": "coordinate units (bytes 89-90) are not those of trace 1",
+    "F6": "inline, crossline and offset are those of an earlier trace",
+    "F7": "number of traces in the binary header is wrong",
+    "F8": "lines of the textual header that do not begin with C",
+    "F9": "trace name (bytes 233-240) is unknown",
+}
+
+
+class Info(NamedTuple):
+    """What the file is."""
+
+    order: str
+    revision: str
+    format: int
+    samples: int
+    fixed: bool
+    extensions: int
+    blocks: int
+    trailer: int
+    traces: int
+    bytes: int
+
+
+class Geometry(NamedTuple):
+    """Where a trace lies. x and y are told under the coordinate scalar."""
+
+    inline: int
+    crossline: int
+    offset: int
+    x: Fraction
+    y: Fraction
+
+
+class Statistics(NamedTuple):
+    """The samples of a trace, or of all traces."""
+
+    least: int
+    greatest: int
+    sum: int
+    samples: int
+
+
+class Stanza(NamedTuple):
+    """A stanza of the extended textual headers, and the block where it begins."""
+
+    block: int
+    name: str
+
+
+class Fault(NamedTuple):
+    """A fault: its code, its trace (or ``None``), the earlier trace of a trace that stands twice (F6), and the whole text."""
+
+    code: str
+    trace: Optional[int]
+    first: Optional[int]
+    text: str
+
+    @property
+    def meaning(self) -> str:
+        """What the code means, in words."""
+        return MEANINGS.get(self.code, self.code)
+
+
+class Answer(NamedTuple):
+    """A line of a script, its number from 1, and what it answered."""
+
+    number: int
+    line: str
+    text: str
+
+    @property
+    def refused(self) -> Optional[Refused]:
+        """The refusal, or ``None``."""
+        return Refused(self.text, self.line) if self.text.startswith("refused ") else None
+
+    @property
+    def accepted(self) -> bool:
+        """Whether the line was an edit, and accepted."""
+        return self.text == "ok"
+
+
+def unexpected(answer: str) -> ProgramEnded:
+    """An answer that no program of this version gives."""
+    return ProgramEnded(f"the program wrote what is not expected: {answer[:200]!r}")
+
+
+Reader = TypeVar("Reader", bound=Callable[..., Any])
+
+
+def strict(read: Reader) -> Reader:
+    """Whatever goes wrong in reading an answer is an answer that is not expected."""
+
+    @functools.wraps(read)
+    def checked(told: Any, *more: Any) -> Any:
+        try:
+            return read(told, *more)
+        except (ValueError, IndexError, TypeError, ZeroDivisionError):
+            raise unexpected(told if isinstance(told, str) else "\n".join(told)) from None
+
+    return cast(Reader, checked)
+
+
+def words(line: str, first: str) -> List[str]:
+    """The words of an answer behind its first one."""
+    got = line.split(" ")
+    if got[0] != first:
+        raise unexpected(line)
+    return got[1:]
+
+
+def rows(lines: List[str], head: str, row: str) -> List[List[str]]:
+    """The words of each line of a list, behind the line that counts them. ``row`` is the first word of each."""
+    counted(lines, head)
+    return [words(line, row) for line in lines[1:]]
+
+
+@strict
+def number(line: str, first: str) -> int:
+    """
+    >>> number("value 7", "value")
+    7
+    """
+    return int(name(line, first))
+
+
+@strict
+def name(line: str, first: str) -> str:
+    """
+    >>> name("code ascii", "code")
+    'ascii'
+    """
+    (got,) = words(line, first)
+    return got
+
+
+@strict
+def counts(lines: List[str], head: str, row: str) -> Dict[int, int]:
+    """
+    >>> counts(["inlines 1", "inline 101 8"], "inlines", "inline")
+    {101: 8}
+    """
+    return {int(one): int(count) for one, count in rows(lines, head, row)}
+
+
+@strict
+def fields(lines: List[str]) -> Dict[str, str]:
+    """
+    >>> fields(["fields 1", "field inline @189:4"])
+    {'inline': '@189:4'}
+    """
+    return {one: place for one, place in rows(lines, "fields", "field")}
+
+
+@strict
+def stanzas(lines: List[str]) -> List[Stanza]:
+    """
+    >>> stanzas(["stanzas 1", "stanza 1 SEG: EndText"])
+    [Stanza(block=1, name='SEG: EndText')]
+    """
+    return [Stanza(int(got[0]), " ".join(got[1:])) for got in rows(lines, "stanzas", "stanza")]
+
+
+@strict
+def faults(lines: List[str]) -> List[Fault]:
+    """
+    >>> [one.code for one in faults(["faults 2", "F8 lines 1", "F4 trace 1 scalar 7"])]
+    ['F8', 'F4']
+    """
+    counted(lines, "faults")
+    return [_fault(line) for line in lines[1:]]
+
+
+@strict
+def fault_counts(lines: List[str]) -> Dict[str, int]:
+    """
+    >>> fault_counts(["faults 2", "F8 lines 1", "F4 trace 1 scalar 7"])
+    {'F4': 1, 'F8': 1}
+    """
+    counted(lines, "faults")
+    return dict(sorted(Counter(line.partition(" ")[0] for line in lines[1:]).items()))
+
+
+def counted(lines: List[str], head: str) -> None:
+    """The first line of a list counts the others."""
+    if words(lines[0], head) != [str(len(lines) - 1)]:
+        raise unexpected(lines[0])
+
+
+def pairs(got: List[str], names: Tuple[str, ...]) -> List[str]:
+    """The values in a list of names and values."""
+    if tuple(got[0::2]) != names or len(got) != 2 * len(names):
+        raise unexpected(" ".join(got))
+    return got[1::2]
+
+
+@strict
+def info(line: str) -> Info:
+    """
+    >>> info("info order big revision 1.0 format 3 samples 2 fixed yes extensions 0 blocks 0 trailer 0 traces 3 bytes 4332").traces
+    3
+    """
+    got = pairs(words(line, "info"), Info._fields)
+    return Info(got[0], got[1], int(got[2]), int(got[3]), got[4] == "yes", *map(int, got[5:]))
+
+
+@strict
+def geometry(line: str) -> Geometry:
+    """
+    >>> geometry("geometry inline 1 crossline 2 offset 0 x 90005/2 y 680000").x
+    Fraction(90005, 2)
+    """
+    got = pairs(words(line, "geometry"), Geometry._fields)
+    return Geometry(int(got[0]), int(got[1]), int(got[2]), Fraction(got[3]), Fraction(got[4]))
+
+
+@strict
+def statistics(line: str, first: str) -> Optional[Statistics]:
+    """
+    >>> statistics("stat none", "stat")
+    """
+    got = words(line, first)
+    return None if got == ["none"] else Statistics(*map(int, pairs(got, Statistics._fields)))
+
+
+@strict
+def span(line: str) -> Optional[Tuple[Fraction, Fraction]]:
+    """
+    >>> span("range 45000 900003/2")
+    (Fraction(45000, 1), Fraction(900003, 2))
+    """
+    got = words(line, "range")
+    if got == ["none"]:
+        return None
+    if len(got) != 2:
+        raise unexpected(line)
+    return Fraction(got[0]), Fraction(got[1])
+
+
+def _fault(line: str) -> Fault:
+    """
+    >>> _fault("F6 trace 3 first 2")
+    Fault(code='F6', trace=3, first=2, text='F6 trace 3 first 2')
+    >>> _fault("F8 lines 1").trace
+    """
+    got = line.split(" ")
+    return Fault(got[0], int(got[2]) if got[1] == "trace" else None, int(got[4]) if got[0] == "F6" else None, line)
+
+
+@strict
+def text(line: str) -> str:
+    """
+    >>> text("line |C 1 A|B|")
+    'C 1 A|B'
+    """
+    if not (line.startswith("line |") and line.endswith("|") and len(line) > 6):
+        raise unexpected(line)
+    return line[6:-1]

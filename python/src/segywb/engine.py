@@ -1,0 +1,287 @@
+"""A file, the accepted edits, and the session that holds both: what a ``Volume`` stands on."""
+
+from __future__ import annotations
+
+import os
+import stat
+import threading
+import warnings
+from contextlib import closing, contextmanager
+from typing import Iterable, Iterator, List, Optional, Sequence, Tuple
+
+from .answers import Answer, unexpected
+from .errors import Closed, FileChanged, LoadRefused, OptionRefused, ProgramEnded, Refused, SaveFailed
+from .history import History, Step
+from .lines import decode, payload, silent
+from .session import Answers, Batch, Session
+from .stream import split
+
+BATCH_LINES = 1 << 14
+CHANGED = "segywb: FILE was changed by another program"
+UNSETTLED = "segywb: saved, but a power cut may undo it"
+
+
+def batches(lines: Sequence[bytes]) -> Iterator[Batch]:
+    """Lines as batches of a size that is sent at once."""
+    for at in range(0, len(lines), BATCH_LINES):
+        some = lines[at:at + BATCH_LINES]
+        yield payload(some), len(some)
+
+
+def _refusal(answers: bytes, sent: bytes) -> Exception:
+    """The first answer that is not ``ok``, as an exception."""
+    at, answer = next((at, one) for at, one in enumerate(split(answers)) if one != b"ok")
+    text = decode(answer)
+    return Refused(text, decode(sent.split(b"\n")[at])) if text.startswith("refused ") else unexpected(text)
+
+
+class Engine:
+    """A file under edits. After a failure the next call starts a new session and gives it the accepted edits."""
+
+    def __init__(self, path: str, options: Sequence[str]) -> None:
+        self.path = os.path.abspath(path)
+        self.options = list(options)
+        self.history = History()
+        self._lock = threading.RLock()
+        self._closed = False
+        self._stamp = self._look()
+        self._session: Optional[Session] = self._start(self.history)
+
+    # ---- sessions
+
+    def _look(self) -> Tuple[int, ...]:
+        found = os.stat(self.path)
+        return found.st_dev, found.st_ino, found.st_size, found.st_mtime_ns
+
+    def _unchanged(self) -> None:
+        try:
+            same = self._look() == self._stamp
+        except OSError:
+            same = False
+        if not same:
+            raise FileChanged(f"{self.path} is no longer the file that was opened; Volume.edits has the accepted edits")
+
+    def _start(self, history: History) -> Session:
+        """A new session over the file, with these edits."""
+        self._unchanged()
+        session = Session(self.path, self.options)
+        try:
+            session.exchange(b"count\n", 1)
+            self._unchanged()
+            _give(session, history)
+        except BaseException:
+            session.kill()
+            raise
+        return session
+
+    def _open(self) -> None:
+        if self._closed:
+            raise Closed("the volume is closed")
+
+    def session(self) -> Session:
+        """The session, a new one where the last has ended or belongs to another process."""
+        self._open()
+        if self._session is None or not self._session.ours:
+            self._session = None
+            self._session = self._start(self.history)
+        return self._session
+
+    def forget(self) -> None:
+        """Ends the session; the next call starts a new one with the accepted edits."""
+        with self._lock:
+            if self._session is not None:
+                self._session.kill()
+                self._session = None
+
+    def interrupt(self) -> None:
+        """Ends the program while another thread waits for it. That thread gets an exception."""
+        session = self._session
+        if session is not None:
+            session.interrupt()
+
+    def close(self) -> None:
+        """Ends the session for good."""
+        self.forget()
+        self._closed = True
+
+    @property
+    def closed(self) -> bool:
+        """Whether ``close`` was called."""
+        return self._closed
+
+    # ---- lines
+
+    @contextmanager
+    def _step(self) -> Iterator[None]:
+        """What the session has accepted is what the history holds: after an interruption between the two the session is ended."""
+        with self._lock:
+            try:
+                yield
+            except Refused:
+                raise
+            except BaseException:
+                self.forget()
+                raise
+
+    def stream(self, some: Iterable[Batch]) -> Answers:
+        """The answers to batches of queries, batch by batch, as they stand. To be closed where it is not read to its end."""
+        with self._lock, closing(self.session().stream(some)) as answers:
+            yield from answers
+
+    def ask(self, line: bytes) -> List[str]:
+        """The lines of the answer to one query."""
+        with self._lock:
+            answer = decode(self.session().exchange(line + b"\n", 1)[0])
+        if answer.startswith("refused "):
+            raise Refused(answer, decode(line))
+        return answer.split("\n")
+
+    def edit(self, line: bytes) -> None:
+        """One edit, which becomes a step."""
+        self.edit_whole([(line + b"\n", 1)])
+
+    def edit_whole(self, some: Iterable[Batch]) -> None:
+        """Batches of edits as one step: all of them, or none where one is refused."""
+        sent: List[Batch] = []
+        refusal: Optional[Exception] = None
+
+        def sending() -> Iterator[Batch]:
+            for batch in some:
+                sent.append(batch)
+                yield batch
+
+        with self._step():
+            with closing(self.session().stream(sending())) as told:
+                for at, answers in enumerate(told):
+                    if answers != b"ok\n\n" * sent[at][1]:
+                        refusal = _refusal(answers, sent[at][0])
+                        if at > 0 or sent[at][1] > 1 or not isinstance(refusal, Refused):
+                            break  # this ends the session: lines before and behind were accepted
+            if refusal is not None:
+                raise refusal
+            if sent:
+                self.history.add(Step(b"".join(lines for lines, _ in sent), sum(size for _, size in sent)))
+
+    def run(self, lines: Sequence[bytes]) -> List[Answer]:
+        """The answers to the lines of a script. Each accepted edit is a step; lines without an answer have none."""
+        with self._step():
+            told = self._answers(lines)
+            for answer in told:
+                if answer.accepted:
+                    self.history.add(Step(payload([lines[answer.number - 1]]), 1))
+        return told
+
+    def run_whole(self, lines: Sequence[bytes]) -> List[Answer]:
+        """The same, as one step: where a line is refused, nothing has changed."""
+        with self._step():
+            told = self._answers(lines)
+            accepted = [lines[answer.number - 1] for answer in told if answer.accepted]
+            refusal = next((answer.refused for answer in told if answer.refused), None)
+            if refusal is not None:
+                if accepted:
+                    self.forget()
+                raise refusal
+            if accepted:
+                self.history.add(Step(payload(accepted), len(accepted)))
+        return told
+
+    def _answers(self, lines: Sequence[bytes]) -> List[Answer]:
+        asked = [(at + 1, line) for at, line in enumerate(lines) if not silent(line)]
+        told: List[bytes] = []
+        for answers in self.session().stream(batches([line for _, line in asked])):
+            told += split(answers)
+        return [Answer(number, decode(line), decode(answer)) for (number, line), answer in zip(asked, told)]
+
+    # ---- back and forth
+
+    def undo(self, steps: int) -> List[str]:
+        """Takes the last steps back, by a new session with the others."""
+        with self._lock:
+            self._open()
+            if not 0 <= steps <= len(self.history.done):
+                raise ValueError(f"there are {len(self.history.done)} steps to take back, not {steps}")
+            taken = [line for step in self.history.done[len(self.history.done) - steps:] for line in step.lines]
+            if steps:
+                earlier = self.history.without(steps)
+                self._unchanged()
+                with self._step():
+                    self.forget()  # first, so that the file stands in memory once
+                    self._session = self._start(earlier)
+                    self.history = earlier
+            return taken
+
+    def redo(self, steps: int) -> List[str]:
+        """Does again the steps that were taken back last."""
+        with self._lock:
+            self._open()
+            if not 0 <= steps <= len(self.history.undone):
+                raise ValueError(f"there are {len(self.history.undone)} steps to do again, not {steps}")
+            again: List[str] = []
+            for _ in range(steps):
+                kept = self.history.undone[:-1]
+                step = self.history.undone[-1]
+                self.edit_whole([step])
+                self.history.done[-1] = step
+                self.history.undone = kept
+                again += step.lines
+            return again
+
+    # ---- the save
+
+    def save(self, path: str, replace: bool, in_place: bool) -> None:
+        """Writes the edited file, by a session of its own over the file that was opened."""
+        out = os.path.abspath(path)
+        with self._lock:
+            self._open()
+            if _is_file(out) and not replace:
+                raise FileExistsError(f"{out} is there: save(.., replace=True) writes over it")
+            own = _same(out, self.path)
+            self._unchanged()
+            status, told = self._write(["--out", out, *(["--in-place"] if in_place else [])])
+            if CHANGED in told:
+                raise FileChanged(told.strip())
+            if status != 0 and UNSETTLED not in told:
+                raise SaveFailed(f"the save of {out} failed", status, told)
+            if told:
+                warnings.warn(told.strip(), stacklevel=3)
+            if own:
+                self._stamp = self._look()
+                self.history = self.history.names()
+
+    def _write(self, words: List[str]) -> Tuple[int, str]:
+        session = Session(self.path, [*self.options, *words, "--stop"])
+        try:
+            _give(session, self.history)
+            status, left, told = session.finish()
+        except (LoadRefused, OptionRefused):
+            raise
+        except (ProgramEnded, Refused) as error:
+            raise SaveFailed(str(error), getattr(error, "status", None), getattr(error, "stderr", "")) from error
+        finally:
+            session.kill()
+        if left.strip():
+            told = (decode(left) + told).strip()
+        return status, told
+
+
+def _give(session: Session, history: History) -> None:
+    """Gives a session edits that were accepted before."""
+    step = history.sent()
+    answers = b"".join(session.stream([(step.sent, step.size)]))
+    if answers != b"ok\n\n" * step.size:
+        raise _refusal(answers, step.sent)
+
+
+def _is_file(path: str) -> bool:
+    try:
+        return stat.S_ISREG(os.stat(path).st_mode)
+    except OSError:
+        return False
+
+
+def _same(one: str, other: str) -> bool:
+    try:
+        return os.path.samefile(one, other)
+    except OSError:
+        return False
+

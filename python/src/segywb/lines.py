@@ -1,0 +1,102 @@
+"""Lines of the script language, made from the arguments of a call."""
+
+from __future__ import annotations
+
+import operator
+from typing import Any, Iterable, List, Union
+
+from .fields import BinField, TraceField, binary_place, trace_place
+
+Field = Union[str, int]
+LONGEST = 16777216
+
+
+def number(value: Any) -> str:
+    """A whole number as a word. A float is refused, also one without a fraction."""
+    try:
+        return str(operator.index(value))
+    except TypeError:
+        raise TypeError(f"a whole number is wanted, not {value!r}") from None
+
+
+def word(text: str) -> str:
+    """A text that becomes a part of a line: it must not end the line."""
+    if "\n" in text:
+        raise ValueError("an argument must not hold a line feed")
+    if text.endswith("\r"):
+        raise ValueError("an argument must not end with a carriage return: the program drops it")
+    return text
+
+
+def field(name: Field) -> str:
+    """The word for a field of a trace header: a name, a place, a ``TraceField`` or the number of its first byte."""
+    return word(name) if isinstance(name, str) else trace_place(TraceField(operator.index(name)))
+
+
+def binary_field(name: Field) -> str:
+    """The word for a field of the binary header: a name, a place, a ``BinField`` or the number of its first byte."""
+    return word(name) if isinstance(name, str) else binary_place(BinField(operator.index(name)))
+
+
+def single(value: Any) -> bool:
+    """Whether this is one number, and no list of them."""
+    return isinstance(value, int) or getattr(value, "ndim", None) == 0
+
+
+def numbers(values: Any) -> List[int]:
+    """Whole numbers from a list, an array or a column of a table."""
+    array = getattr(values, "to_numpy", None)
+    values = array() if callable(array) else values
+    kind = getattr(getattr(values, "dtype", None), "kind", None)
+    if kind is not None and kind in "iu":
+        return list(values.tolist())
+    values = list(values)
+    try:
+        return list(map(operator.index, values))
+    except TypeError:
+        return [int(number(value)) for value in values]  # which tells the one that is none
+
+
+def encode(line: str) -> bytes:
+    """The bytes of a line: UTF-8; bytes that were none come back as they were (surrogateescape)."""
+    return line.encode("utf-8", "surrogateescape")
+
+
+def decode(answer: bytes) -> str:
+    """The text of an answer or of a line."""
+    return answer.decode("utf-8", "surrogateescape")
+
+
+def payload(lines: Iterable[bytes]) -> bytes:
+    """Lines as they are sent."""
+    return b"".join(line + b"\n" for line in lines)
+
+
+def silent(line: bytes) -> bool:
+    """Whether the line gets no answer: it has no words, or is a comment. Of one that is not UTF-8 or too long the program says so."""
+    if len(line) > LONGEST:
+        return False
+    try:
+        line.decode("utf-8")
+    except UnicodeDecodeError:
+        return False
+    if line.endswith(b"\r"):
+        line = line[:-1]
+    start = line.lstrip(b" \t")
+    return not start or start.startswith(b"#")
+
+
+def of_script(script: Any) -> List[bytes]:
+    """The lines of a script: a text, bytes, or lines of either."""
+    if isinstance(script, str):
+        script = encode(script)
+    if isinstance(script, (bytes, bytearray)):
+        lines = bytes(script).split(b"\n")
+        if lines[-1] == b"":
+            lines.pop()
+        return lines
+    lines = [encode(line) if isinstance(line, str) else bytes(line) for line in script]
+    for line in lines:
+        if b"\n" in line:
+            raise ValueError("a line of a script must not hold a line feed")
+    return lines

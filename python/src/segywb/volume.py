@@ -1,0 +1,468 @@
+"""A SEG-Y file under edits."""
+
+from __future__ import annotations
+
+import os
+from contextlib import closing
+from fractions import Fraction
+from typing import Any, Dict, Iterable, Iterator, List, Optional, Sequence, Tuple, Union
+
+from . import answers, arrays, lines
+from .answers import Answer, Fault, Geometry, Info, Stanza, Statistics
+from .engine import BATCH_LINES, Engine
+from .errors import ProgramEnded, Refused
+from .fields import TRACE_NAMES, kind
+from .grids import Grid, Slice
+from .lines import Field, encode, field, number
+from .selection import positions, runs
+from .session import Batch
+
+GET_LINES = 1 << 16
+
+Path = Union[str, "os.PathLike[str]"]
+
+
+class Volume:
+    """A SEG-Y file under edits, made by ``segywb.open``.
+
+    Traces count from 1, samples of a trace from 0, as in the program. A line that the program refuses is a ``segywb.Refused``, and then
+    nothing has changed.
+    """
+
+    def __init__(self, path: Path, fixed: bool = False, opaque_samples: bool = False, max_bytes: Optional[int] = None) -> None:
+        options = ["--fixed"] if fixed else []
+        options += ["--opaque-samples"] if opaque_samples else []
+        options += ["--max-bytes", number(max_bytes)] if max_bytes is not None else []
+        self.path = os.fspath(path)
+        self._engine = Engine(self.path, options)
+        self._table: Optional[bool] = None
+
+    # ---- opening and closing
+
+    def close(self) -> None:
+        """Ends the program. Nothing is saved."""
+        self._engine.close()
+
+    def restart(self) -> None:
+        """Ends the session; a new one is started and given the accepted edits. Calls do this by themselves where a program ended."""
+        self._engine.forget()
+        self._engine.session()
+
+    def interrupt(self) -> None:
+        """Ends a call that takes too long, from another thread: it becomes a ``ProgramEnded``, and the accepted edits are kept."""
+        self._engine.interrupt()
+
+    @property
+    def pid(self) -> int:
+        """The number of the program's process."""
+        return self._engine.session().pid
+
+    @property
+    def closed(self) -> bool:
+        """Whether the volume is closed."""
+        return self._engine.closed
+
+    def __enter__(self) -> "Volume":
+        return self
+
+    def __exit__(self, *why: object) -> None:
+        self.close()
+
+    def __reduce__(self) -> Any:
+        raise TypeError("a volume cannot be sent to another process: open the file there")
+
+    # ---- asking
+
+    def _ask(self, *words: str) -> List[str]:
+        return self._engine.ask(encode(" ".join(words)))
+
+    def _one(self, *words: str) -> str:
+        told = self._ask(*words)
+        if len(told) != 1:
+            raise answers.unexpected(told[0])
+        return told[0]
+
+    def _value(self, *words: str) -> int:
+        return answers.number(self._one(*words), "value")
+
+    def __len__(self) -> int:
+        return answers.number(self._one("count"), "traces")
+
+    def __bool__(self) -> bool:
+        return True
+
+    def count(self) -> int:
+        """The number of traces, as ``len``."""
+        return len(self)
+
+    @property
+    def info(self) -> Info:
+        """What the file is."""
+        return answers.info(self._one("info"))
+
+    def run(self, script: Any, stop: bool = False) -> List[Answer]:
+        """Runs a script (a text, or lines) and gives its answers; a refused line is among them, and the run goes on.
+
+        With ``stop`` the script is done whole or not at all: its first refused line is an exception, and nothing has changed.
+        """
+        run = self._engine.run_whole if stop else self._engine.run
+        return run(lines.of_script(script))
+
+    # ---- headers of traces
+
+    def get(self, trace: int, name: Field) -> int:
+        """The number in a header of a trace, as it stands."""
+        return self._value("get", number(trace), field(name))
+
+    def set(self, trace: int, name: Field, value: int) -> None:
+        """Writes a number into a header of a trace."""
+        self._edit("set", number(trace), field(name), number(value))
+
+    def set_many(self, name: Field, traces: Any, values: Any) -> None:
+        """Writes the values into a field of the traces: all of them, or none where one is refused.
+
+        ``traces`` is a slice, a range, or positions; ``values`` has a number for each of them, or is one number for all.
+        """
+        where = positions(traces, len(self) if isinstance(traces, slice) or traces is None else 0)
+        what = [int(number(values))] * len(where) if lines.single(values) else lines.numbers(values)
+        if len(what) != len(where):
+            raise ValueError(f"{len(where)} traces and {len(what)} values")
+        word = field(name)
+
+        def batches() -> Iterator[Batch]:
+            for at in range(0, len(where), BATCH_LINES):
+                some = list(zip(where[at:at + BATCH_LINES], what[at:at + BATCH_LINES]))
+                yield encode("".join([f"set {one} {word} {value}\n" for one, value in some])), len(some)
+
+        self._engine.edit_whole(batches())
+
+    def renumber(self, first_trace: int, last_trace: int, name: Field, first: int, step: int = 0) -> None:
+        """Writes ``first``, ``first + step``, .. into the traces from ``first_trace`` to ``last_trace``, all or none."""
+        self._edit("renumber", number(first_trace), number(last_trace), field(name), number(first), number(step))
+
+    def map(self, name: str, place: Field) -> None:
+        """Binds a name to a place of trace headers. The file is not changed."""
+        self._edit("map", lines.word(name), field(place))
+
+    def unmap(self, name: str) -> None:
+        """Leaves out a name that ``map`` bound."""
+        self._edit("unmap", lines.word(name))
+
+    def fields(self) -> Dict[str, str]:
+        """The bound names and their places."""
+        return answers.fields(self._ask("fields"))
+
+    def headers(self, *names: Field, traces: Any = None, frame: bool = False) -> Any:
+        """The numbers of these fields of many traces as a structured array (without numpy: a list of tuples).
+
+        Without names: the six that are always bound. ``traces`` is a slice of positions from 1 (its end left out, as ever in Python),
+        a range, or positions. With ``frame`` the answer is a pandas DataFrame, whose index is the position.
+        """
+        words = [field(name) for name in names] or ["inline", "crossline", "offset", "x", "y", "scalar"]
+        if len(set(words)) < len(words):
+            raise ValueError("a field stands twice")
+        where = positions(traces, len(self) if isinstance(traces, slice) or traces is None else 0)
+        kinds = self._kinds(words)
+        columns = self._columns(words, where, [one == (8, True) for one in kinds])
+        made = arrays.table(words, [arrays.type_of(one) for one in kinds], columns)
+        if not frame:
+            return made
+        pandas = arrays.pandas()
+        return pandas.DataFrame(made, columns=words, index=pandas.Index(where, name="trace"))
+
+    def dataframe(self, *names: Field, traces: Any = None) -> Any:
+        """``headers`` as a pandas DataFrame."""
+        return self.headers(*names, traces=traces, frame=True)
+
+    def _kinds(self, words: Sequence[str]) -> List[Optional[Tuple[int, bool]]]:
+        places = {**TRACE_NAMES, **self.fields()}
+        return [kind(places.get(word, word)) for word in words]
+
+    def _columns(self, words: Sequence[str], where: Sequence[int], wide: Sequence[bool]) -> List[Any]:
+        """A column for each field; ``wide`` ones are unsigned numbers of 8 bytes."""
+        if not where:
+            return [[] for _ in words]
+        if self._table is None:
+            self._table = self._knows("table 1 1 inline")
+        found: Dict[str, Any] = {}
+        for unsigned in (False, True):
+            some = [word for word, one in zip(words, wide) if one == unsigned]
+            for at in range(0, len(some), 64):
+                part = some[at:at + 64]
+                read = self._by_table if self._table else self._by_get
+                found.update(zip(part, read(part, where, unsigned)))
+        return [found[word] for word in words]
+
+    def _knows(self, line: str) -> bool:
+        try:
+            self._ask(line)
+        except Refused as refusal:
+            return refusal.code not in ("S01", "S02")
+        return True
+
+    def _by_table(self, words: Sequence[str], where: Sequence[int], unsigned: bool) -> List[Any]:
+        pieces = [(first, last, encode(f"table {first} {last} {' '.join(words)}")) for first, last in runs(where, BATCH_LINES)]
+        parts = []
+        for told, count, sent in self._many([(line, last - first + 1) for first, last, line in pieces], 256):
+            if b"refused" in told:
+                raise _first_refusal(told, sent)
+            rows = b"\n".join(one.partition(b"\n")[2] for one in told.split(b"\n\n"))
+            numbers = arrays.parse(rows, count * (len(words) + 1), unsigned)
+            parts.append([numbers[at + 1::len(words) + 1] for at in range(len(words))])
+        return [_join([part[at] for part in parts]) for at in range(len(words))]
+
+    def _many(self, sent: Sequence[Tuple[bytes, int]], at_once: int) -> Iterator[Tuple[bytes, int, List[bytes]]]:
+        """The answers to lines, so many at once, with what their numbers sum up to and the lines."""
+        cuts = [sent[at:at + at_once] for at in range(0, len(sent), at_once)]
+        batches = ((lines.payload(line for line, _ in some), len(some)) for some in cuts)
+        with closing(self._engine.stream(batches)) as told:
+            for answer, some in zip(told, cuts):
+                yield answer, sum(count for _, count in some), [line for line, _ in some]
+
+    def _by_get(self, words: Sequence[str], where: Sequence[int], unsigned: bool) -> List[Any]:
+        """Field by field within pieces of the traces: what is read of a piece is still near when the next field of it is asked."""
+        cuts = [where[at:at + GET_LINES] for at in range(0, len(where), GET_LINES)]
+
+        def batches() -> Iterator[Batch]:
+            for some in cuts:
+                texts = list(map(str, some))
+                for word in words:
+                    yield encode("get " + f" {word}\nget ".join(texts) + f" {word}\n"), len(some)
+
+        parts: Dict[str, List[Any]] = {word: [] for word in words}
+        with closing(self._engine.stream(batches())) as told:
+            for answer, (word, some) in zip(told, ((word, some) for some in cuts for word in words)):
+                if b"refused" in answer:
+                    raise _first_refusal(answer, [encode(f"get {one} {word}") for one in some])
+                parts[word].append(arrays.parse(answer.replace(b"value ", b""), len(some), unsigned))
+        return [_join(parts[word]) for word in words]
+
+    # ---- the binary header and texts
+
+    def getbin(self, name: Field) -> int:
+        """The number in the binary header."""
+        return self._value("getbin", lines.binary_field(name))
+
+    def set_bin(self, name: Field, value: int) -> None:
+        """Writes a number into the binary header."""
+        self._edit("bin", lines.binary_field(name), number(value))
+
+    @property
+    def text(self) -> List[str]:
+        """The 40 lines of the textual header, then those of the extended ones."""
+        return [line for block in range(self.info.blocks + 1) for line in self.text_block(block)]
+
+    def text_block(self, block: int = 0) -> List[str]:
+        """The 40 lines of a block: 0 is the textual header, 1 and up are the extended ones."""
+        with closing(self._engine.stream([(encode("".join(f"line {number(block)} {at}\n" for at in range(1, 41))), 40)])) as stream:
+            told = b"".join(stream)
+        if told.startswith(b"refused "):
+            raise _first_refusal(told, [encode(f"line {block} 1")])
+        return [answers.text(lines.decode(one)) for one in told.split(b"\n\n")[:-1]]
+
+    def line(self, block: int, at: int) -> str:
+        """Line ``at`` (1 to 40) of a block."""
+        return answers.text(self._one("line", number(block), number(at)))
+
+    def set_text(self, at: int, text: str = "") -> None:
+        """Writes line ``at`` of the textual header."""
+        self._edit("text", number(at), *([lines.word(text)] if text else []))
+
+    def code(self, block: int = 0) -> str:
+        """``ebcdic`` or ``ascii``."""
+        return answers.name(self._one("code", number(block)), "code")
+
+    def stanzas(self) -> List[Stanza]:
+        """The stanzas of the extended textual headers."""
+        return answers.stanzas(self._ask("stanzas"))
+
+    # ---- samples
+
+    def sample(self, trace: int, sample: int) -> int:
+        """A sample of a trace."""
+        return self._value("sample", number(trace), number(sample))
+
+    def samples(self, trace: int) -> Any:
+        """All samples of a trace, as an array."""
+        told = self.stat(trace)
+        count = told.samples if told else 0
+        unsigned = self.info.format == 12
+        first = f"sample {number(trace)} "
+        sent = ((encode("".join(f"{first}{k}\n" for k in range(at, min(at + BATCH_LINES, count)))), min(BATCH_LINES, count - at))
+                for at in range(0, count, BATCH_LINES))
+        with closing(self._engine.stream(sent)) as stream:
+            return arrays.parse(b"".join(stream).replace(b"value ", b""), count, unsigned)
+
+    def patch(self, trace: int, sample: int, values: Any) -> None:
+        """Writes the numbers over the samples from ``sample`` on, all or none."""
+        self._edit("patch", number(trace), number(sample), *map(str, lines.numbers([values] if lines.single(values) else values)))
+
+    def resize(self, trace: int, samples: int) -> None:
+        """Gives a trace that number of samples."""
+        self._edit("resize", number(trace), number(samples))
+
+    # ---- whole traces
+
+    def blank(self, before: int) -> None:
+        """Puts a trace of zeros in front of a trace, or behind the last."""
+        self._edit("blank", number(before))
+
+    def copy(self, trace: int, before: int) -> None:
+        """Puts a copy of a trace in front of another, or behind the last."""
+        self._edit("copy", number(trace), number(before))
+
+    def delete(self, trace: int) -> None:
+        """Takes a trace out."""
+        self._edit("delete", number(trace))
+
+    def move(self, trace: int, to: int) -> None:
+        """Takes a trace out and puts it in again, so that its position is ``to``."""
+        self._edit("move", number(trace), number(to))
+
+    # ---- reports
+
+    def geometry(self, trace: int) -> Geometry:
+        """Where a trace lies."""
+        return answers.geometry(self._one("geometry", number(trace)))
+
+    def positions(self, traces: Any = None, frame: bool = False) -> Any:
+        """Where many traces lie: inline, crossline, offset, and x and y under the scalar as floats; ``traces`` as for ``headers``."""
+        where = positions(traces, len(self) if isinstance(traces, slice) or traces is None else 0)
+        names = ("inline", "crossline", "offset", "x", "y")
+        columns = arrays.scaled(self._columns([*names, "scalar"], where, [False] * 6))
+        made = arrays.table(names, ["i4", "i4", "i4", "f8", "f8"], columns)
+        if not frame:
+            return made
+        pandas = arrays.pandas()
+        return pandas.DataFrame(made, columns=list(names), index=pandas.Index(where, name="trace"))
+
+    def stat(self, trace: int) -> Optional[Statistics]:
+        """The samples of a trace; ``None`` where it has none."""
+        return answers.statistics(self._one("stat", number(trace)), "stat")
+
+    @property
+    def totals(self) -> Optional[Statistics]:
+        """The samples of all traces; ``None`` where there are none."""
+        return answers.statistics(self._one("totals"), "totals")
+
+    def range(self, which: str) -> Optional[Tuple[Fraction, Fraction]]:
+        """The least and the greatest ``inline``, ``crossline``, ``offset``, ``x`` or ``y``, as fractions; ``None`` without traces."""
+        return answers.span(self._one("range", lines.word(which)))
+
+    def fold(self, inline: int, crossline: int) -> int:
+        """How many traces have this inline and this crossline."""
+        return answers.number(self._one("fold", number(inline), number(crossline)), "fold")
+
+    @property
+    def grid(self) -> Grid:
+        """The number of traces of each inline and crossline."""
+        return Grid(self._list("grid", "cells", "cell", Grid.columns, ["i8", "i8", "i8"]))
+
+    def inlines(self) -> Dict[int, int]:
+        """The inlines that have traces, rising, with the number of their traces."""
+        return self._counts("inlines", "inlines", "inline")
+
+    def crosslines(self) -> Dict[int, int]:
+        """The crosslines that have traces, rising, with the number of their traces."""
+        return self._counts("crosslines", "crosslines", "crossline")
+
+    def histogram(self) -> Dict[int, int]:
+        """For each fold that occurs, rising: how many cells of the grid have it."""
+        return self._counts("histogram", "histogram", "times")
+
+    def slice(self, sample: int) -> Slice:
+        """A sample of each trace that has it."""
+        value = "u8" if self.info.format == 12 else "i8"
+        line = "slice " + number(sample)
+        return Slice(sample, self._list(line, "slice", "row", Slice.columns, ["i8", "i8", "i8", value]))
+
+    def faults(self) -> List[Fault]:
+        """What is wrong with the headers: the faults of the file, then those of the traces."""
+        return answers.faults(self._ask("faults"))
+
+    def fault_counts(self) -> Dict[str, int]:
+        """How many faults there are of each code."""
+        return answers.fault_counts(self._ask("faults"))
+
+    def _counts(self, line: str, head: str, row: str) -> Dict[int, int]:
+        return answers.counts(self._ask(line), head, row)
+
+    def _list(self, line: str, head: str, row: str, names: Sequence[str], types: Sequence[str]) -> Any:
+        with closing(self._engine.stream([(encode(line + "\n"), 1)])) as stream:
+            told = b"".join(stream)
+        if told.startswith(b"refused "):
+            raise _first_refusal(told, [encode(line)])
+        first, _, rest = told.partition(b"\n")
+        count = answers.number(lines.decode(first), head)
+        numbers = rest.replace(encode(row) + b" ", b"")
+        if types[-1] == "u8":
+            plain = numbers.split()
+            columns: List[Any] = [arrays.parse(b" ".join(plain[at::len(names)]), count, at == len(names) - 1) for at in range(len(names))]
+        else:
+            flat = arrays.parse(numbers, count * len(names))
+            columns = [flat[at::len(names)] for at in range(len(names))]
+        return arrays.table(names, types, columns)
+
+    # ---- edits
+
+    def _edit(self, *words: str) -> None:
+        self._engine.edit(encode(" ".join(words)))
+
+    @property
+    def edits(self) -> List[str]:
+        """The accepted edits, as lines of a script: ``segywb FILE --script`` with them gives the same file."""
+        return self._engine.history.lines
+
+    @property
+    def undoable(self) -> int:
+        """How many steps can be taken back: a line is a step, and so are all lines of ``set_many`` and ``run(.., stop=True)``."""
+        return len(self._engine.history.done)
+
+    @property
+    def redoable(self) -> int:
+        """How many steps can be done again."""
+        return len(self._engine.history.undone)
+
+    def undo(self, n: int = 1) -> List[str]:
+        """Takes the last steps back, and gives their lines."""
+        return self._engine.undo(n)
+
+    def redo(self, n: int = 1) -> List[str]:
+        """Does again the steps that ``undo`` took back last, and gives their lines. A new edit leaves nothing to do again."""
+        return self._engine.redo(n)
+
+    def save(self, path: Path, replace: bool = False, in_place: bool = False) -> None:
+        """Writes the edited file. A file that is there is written over with ``replace`` alone; ``in_place`` is the program's option.
+
+        Where ``path`` is the file itself, it is the file of this volume from then on: ``edits`` begins anew, with the names that ``map`` bound.
+        """
+        self._engine.save(os.fspath(path), replace, in_place)
+
+    # ---- shown
+
+    def __repr__(self) -> str:
+        if self.closed:
+            return f"<segywb.Volume {self.path!r}, closed>"
+        try:
+            return f"<segywb.Volume {self.path!r}, {len(self)} traces, {len(self.edits)} edits>"
+        except ProgramEnded as error:
+            return f"<segywb.Volume {self.path!r}, {error}>"
+
+    def _repr_html_(self) -> str:
+        from .html import page
+
+        return page(self)
+
+
+def _join(parts: List[Any]) -> Any:
+    np = arrays.numpy()
+    if np is not None:
+        return np.concatenate(parts) if parts else np.empty(0, dtype=np.int64)
+    return [number for part in parts for number in part]
+
+
+def _first_refusal(told: bytes, sent: Iterable[bytes]) -> Exception:
+    for answer, line in zip(told.split(b"\n\n"), sent):
+        if answer.startswith(b"refused "):
+            return Refused(lines.decode(answer), lines.decode(line))
+    return answers.unexpected(lines.decode(told))

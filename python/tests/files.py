@@ -1,0 +1,81 @@
+"""Small SEG-Y files, byte by byte, without the package that is tested."""
+
+import struct
+
+
+def header(code="C", blanks=0x40):
+    """A textual header in EBCDIC."""
+    return (bytes([0xC3]) + bytes([blanks]) * 79) * 40
+
+
+def binary(samples=2, form=3, fixed=1, major=1, minor=0, blocks=0, extensions=0, interval=4000, **places):
+    """The binary header; further places are given as ``at3513=(8, number)``."""
+    made = bytearray(400)
+    made[16:18] = struct.pack(">H", interval)
+    made[20:22] = struct.pack(">H", samples)
+    made[24:26] = struct.pack(">H", form)
+    made[300], made[301] = major, minor
+    made[302:304] = struct.pack(">h", fixed)
+    made[304:306] = struct.pack(">h", blocks)
+    made[306:310] = struct.pack(">i", extensions)
+    for place, (size, number) in places.items():
+        at = int(place[2:]) - 3201
+        made[at:at + size] = number.to_bytes(size, "big", signed=number < 0)
+    return bytes(made)
+
+
+def trace(position, inline, crossline, samples, size=2, signed=True, told=None):
+    """A trace; ``told`` is the number of samples that its header tells."""
+    made = bytearray(240)
+    made[4:8] = struct.pack(">i", position)
+    made[114:116] = struct.pack(">H", len(samples) if told is None else told)
+    made[116:118] = struct.pack(">H", 4000)
+    made[188:192] = struct.pack(">i", inline)
+    made[192:196] = struct.pack(">i", crossline)
+    return bytes(made) + b"".join(one.to_bytes(size, "big", signed=signed) for one in samples)
+
+
+def write(path, *parts):
+    """The parts as a file."""
+    path.write_bytes(b"".join(parts))
+    return path
+
+
+def cube(path, inlines=3, crosslines=4, samples=3):
+    """A sound cube."""
+    traces = [
+        trace(1 + i * crosslines + x, 1 + i, 1 + x, [10 * i + x + k for k in range(samples)])
+        for i in range(inlines)
+        for x in range(crosslines)
+    ]
+    return write(path, header(), binary(samples=samples), *traces)
+
+
+def varying(path):
+    """Traces of 1, 2 and 3 samples of 8 unsigned bytes."""
+    traces = [trace(n, n, 1, [2**64 - k - 1 for k in range(n)], size=8, signed=False) for n in (1, 2, 3)]
+    return write(path, header(), binary(samples=2, form=12, fixed=0), *traces)
+
+
+def stanzas(path):
+    """Two extended textual headers with stanzas, and two traces."""
+    ext = "((OGP:P1/90))".ljust(80).encode("cp037") + " ".ljust(79 * 40 + 40 - 80).encode("cp037")
+    ext = ext.ljust(3200, b"\x40")
+    end = "((SEG: EndText))".ljust(3200).encode("cp037")
+    return write(path, header(), binary(blocks=2), ext, end, trace(1, 1, 1, [1, 2]), trace(2, 1, 2, [3, 4]))
+
+
+def extended(path):
+    """Revision 2.0 with a header extension for each trace."""
+    made = []
+    for n in (1, 2):
+        whole = trace(n, n, n, [1, 2])
+        extension = bytearray(240)
+        extension[156:158] = struct.pack(">H", 1)
+        made.append(whole[:240] + bytes(extension) + whole[240:])
+    return write(path, header(), binary(major=2, fixed=0, extensions=1), *made)
+
+
+def empty(path):
+    """No traces."""
+    return write(path, header(), binary())

@@ -1,0 +1,75 @@
+"""What Python shows of a volume, written as the program would answer it."""
+
+from segywb.fields import BINARY_NAMES, TRACE_NAMES
+
+
+def numbers(told, first):
+    """Statistics as the program tells them."""
+    if told is None:
+        return f"{first} none"
+    return f"{first} least {told.least} greatest {told.greatest} sum {told.sum} samples {told.samples}"
+
+
+def listed(head, rows):
+    """A list with its count."""
+    rows = list(rows)
+    return "\n".join([f"{head} {len(rows)}", *rows])
+
+
+def whole_file(v):
+    """Questions about the file, each with the answer by what Python shows."""
+    i = v.info
+    yield "info", (
+        f"info order {i.order} revision {i.revision} format {i.format} samples {i.samples} fixed {'yes' if i.fixed else 'no'} "
+        f"extensions {i.extensions} blocks {i.blocks} trailer {i.trailer} traces {i.traces} bytes {i.bytes}"
+    )
+    yield "count", f"traces {len(v)}"
+    yield "fields", listed("fields", (f"field {name} {place}" for name, place in v.fields().items()))
+    text = v.text
+    for block in range(i.blocks + 1):
+        yield f"code {block}", f"code {v.code(block)}"
+        for at in range(1, 41):
+            yield f"line {block} {at}", f"line |{text[40 * block + at - 1]}|"
+    yield "stanzas", listed("stanzas", (f"stanza {one.block} {one.name}" for one in v.stanzas()))
+    for name in BINARY_NAMES:
+        yield f"getbin {name}", f"value {v.getbin(name)}"
+
+
+def reports(v):
+    """Reports, each with the answer by what Python shows."""
+    yield "totals", numbers(v.totals, "totals")
+    for which in ("inline", "crossline", "offset", "x", "y"):
+        found = v.range(which)
+        yield f"range {which}", "range none" if found is None else f"range {found[0]} {found[1]}"
+    yield "grid", listed("cells", (f"cell {i} {x} {fold}" for i, x, fold in v.grid.rows))
+    yield "inlines", listed("inlines", (f"inline {i} {n}" for i, n in v.inlines().items()))
+    yield "crosslines", listed("crosslines", (f"crossline {x} {n}" for x, n in v.crosslines().items()))
+    yield "histogram", listed("histogram", (f"times {fold} {n}" for fold, n in v.histogram().items()))
+    for k in (0, 1, 7):
+        yield f"slice {k}", listed("slice", (f"row {i} {x} {p} {value}" for i, x, p, value in v.slice(k).rows))
+    yield "faults", listed("faults", (fault.text for fault in v.faults()))
+    for i, x, fold in list(v.grid.rows)[:5]:
+        yield f"fold {i} {x}", f"fold {v.fold(i, x)}"
+
+
+def traces(v):
+    """Each trace: where it lies, its samples and its headers."""
+    count = len(v)
+    names = [name for name in [*TRACE_NAMES, *v.fields()] if v.info.extensions or not name.startswith("ext_")]
+    headers = v.headers(*names)
+    where = v.positions()
+    for p in range(1, count + 1):
+        g = v.geometry(p)
+        yield f"geometry {p}", f"geometry inline {g.inline} crossline {g.crossline} offset {g.offset} x {g.x} y {g.y}"
+        assert tuple(where[p - 1])[:3] == (g.inline, g.crossline, g.offset)
+        assert tuple(where[p - 1])[3:] == (float(g.x), float(g.y))
+        yield f"stat {p}", numbers(v.stat(p), "stat")
+        for name, value in zip(names, headers[p - 1]):
+            yield f"get {p} {name}", f"value {value}"
+        for k, value in enumerate(v.samples(p)):
+            yield f"sample {p} {k}", f"value {value}"
+
+
+def everything(v):
+    """All of it."""
+    return [*whole_file(v), *reports(v), *traces(v)]

@@ -1,0 +1,194 @@
+"""Headers of many traces, as arrays, as tables and without numpy; by `get` and by `table`."""
+
+import subprocess
+import sys
+
+import files
+import numpy as np
+import pandas as pd
+import pytest
+from conftest import HERE
+
+import segywb
+from segywb import TraceField
+
+SELECTIONS = [
+    (None, range(1, 13)), (slice(None), range(1, 13)), (slice(1, 5), [1, 2, 3, 4]), (slice(5, None), range(5, 13)), (slice(None, 3), [1, 2]),
+    (slice(-3, None), [10, 11, 12]), (slice(None, -10), [1, 2]), (slice(2, 9, 3), [2, 5, 8]), (slice(None, None, -1), range(12, 0, -1)),
+    (slice(40, 50), []), (range(3, 6), [3, 4, 5]), (range(9, 1, -4), [9, 5]), ([7, 7, 1], [7, 7, 1]), (4, [4]), (np.array([2, 12]), [2, 12]),
+    (np.arange(12) % 5 == 0, [1, 6, 11]), ([], []),
+]
+
+
+@pytest.mark.parametrize("case", SELECTIONS, ids=lambda case: str(case[0]))
+def test_selections(opened, case):
+    traces, where = case
+    volume = opened("cube")
+    got = volume.headers("inline", "crossline", traces=traces)
+    assert got.tolist() == [(volume.get(p, "inline"), volume.get(p, "crossline")) for p in where]
+    frame = volume.headers("inline", "crossline", traces=traces, frame=True)
+    assert list(frame.index) == list(where) and frame.index.name == "trace" and list(frame.columns) == ["inline", "crossline"]
+    assert list(frame.itertuples(index=False, name=None)) == got.tolist()
+    assert volume.positions(traces).tolist() == [tuple(map(float, volume.geometry(p))) for p in where]
+
+
+def test_columns_and_types(opened):
+    volume = opened("cube")
+    volume.map("wide", "@233:8u")
+    volume.map("three", "@1:3")
+    volume.set(2, "wide", 2**64 - 1)
+    volume.set(3, "@225:8", -(2**63))
+    got = volume.headers("inline", "scalar", "samples", "wide", "@225:8", "three", TraceField.CDP, 189)
+    assert got.dtype.names == ("inline", "scalar", "samples", "wide", "@225:8", "three", "@21:4", "@189:4")
+    assert [got.dtype[name].str[1:] for name in got.dtype.names] == ["i4", "i2", "u2", "u8", "i8", "i4", "i4", "i4"]
+    assert int(got["wide"][1]) == 2**64 - 1 and int(got["@225:8"][2]) == -(2**63)
+    assert got.tolist() == [tuple(volume.get(p, name) for name in got.dtype.names) for p in range(1, 13)]
+    assert volume.headers().dtype.names == ("inline", "crossline", "offset", "x", "y", "scalar")
+
+
+def test_a_frame_goes_back(opened):
+    """A column that was computed in pandas is written."""
+    volume = opened("cube")
+    frame = volume.dataframe("inline", "crossline", traces=slice(3, 8))
+    frame["inline"] = frame["inline"] * 10
+    volume.set_many("inline", frame.index, frame["inline"])
+    assert isinstance(frame, pd.DataFrame)
+    assert volume.headers("inline", traces=slice(2, 9))["inline"].tolist() == [101, 1010, 1010, 1020, 1020, 1020, 102]
+    assert volume.positions(frame=True).loc[3, "inline"] == 1010
+
+
+@pytest.mark.parametrize("scalar", [0, 1, -1, 100, -100, 7, -7, 32767, -32768])
+def test_positions_under_the_scalar(opened, scalar):
+    volume = opened("cube")
+    volume.set_many("scalar", slice(2, None), scalar)
+    volume.set(3, "x", -(2**31))
+    volume.set(4, "y", 2**31 - 1)
+    assert volume.positions().tolist() == [tuple(map(float, volume.geometry(p))) for p in range(1, 13)]
+
+
+def test_positions_in_an_extension(opened, tmp_path):
+    volume = opened(files.extended(tmp_path / "made.sgy"))
+    volume.set(2, "@1.9:4", -77)
+    volume.map("x", "@1.9:4")
+    assert volume.positions().tolist() == [tuple(map(float, volume.geometry(p))) for p in (1, 2)]
+    assert volume.positions()["x"].tolist() == [0.0, -77.0]
+
+
+def test_pieces(opened, monkeypatch):
+    whole = opened("cube").headers("inline", "x", "y").tolist()
+    monkeypatch.setattr("segywb.volume.GET_LINES", 5)
+    monkeypatch.setattr("segywb.volume.BATCH_LINES", 5)
+    volume = opened("cube")
+    assert volume.headers("inline", "x", "y").tolist() == whole
+    assert len(volume.positions()) == 12
+
+
+TABLE = """
+FIELDS = ["inline", "crossline", "offset", "x", "y", "scalar"]
+for line in sys.stdin:
+    word, *more = line.split()
+    told = "traces 12"
+    if word == "fields":
+        told = "\\n".join(["fields 6"] + ["field %s @1:8u" % name if name == "y" else "field %s @1:4" % name for name in FIELDS])
+    if word == "table":
+        first, last = int(more[0]), int(more[1])
+        assert 0 < len(more) - 2 <= 64
+        told = "\\n".join(["table %d" % (last - first + 1)] + [" ".join([str(p)] + [str(p * (len(name) + 2 ** 60 * (name == "y"))) for name in more[2:]]) for p in range(first, last + 1)])
+        if last > 12:
+            told = "refused E01 no trace %d of 12" % last
+    print(told, end="\\n\\n", flush=True)
+"""
+
+
+@pytest.mark.parametrize("piece", [3, 100])
+@pytest.mark.parametrize("case", SELECTIONS, ids=lambda case: str(case[0]))
+def test_by_table(fake, opened, monkeypatch, case, piece):
+    """Where the program knows `table`, no `get` is sent."""
+    fake(TABLE)
+    monkeypatch.setattr("segywb.volume.BATCH_LINES", piece)
+    volume = opened("cube")
+    got = volume.headers("inline", "y", "x", traces=case[0])
+    assert got.tolist() == [(6 * p, p * (1 + 2**60), p) for p in case[1]]
+    with pytest.raises(segywb.Refused) as refusal:
+        volume.headers("inline", traces=[1, 2, 13])
+    assert refusal.value.line.startswith("table ")
+
+
+def test_table_of_many_fields(fake, opened):
+    fake(TABLE)
+    names = ["f" * n for n in range(1, 131)]
+    assert opened("cube").headers(*names, traces=2).tolist() == [tuple(2 * n for n in range(1, 131))]
+
+
+BARE = f"""
+import sys
+sys.path[:0] = [{str(HERE.parent / 'src')!r}, {str(HERE)!r}]
+for name in ("numpy", "pandas", "matplotlib"):
+    sys.modules[name] = None
+import segywb, retell
+from conftest_run import run
+volume = segywb.open(sys.argv[1])
+volume.set_many("inline", slice(2, 4), [7, 8])
+pairs = retell.everything(volume)
+assert run(sys.argv[1], [*volume.edits, *(question for question, _ in pairs)])[0] == "".join(line + "\\n" for line in ["ok", "ok"] + [answer for _, answer in pairs])
+assert volume.headers("inline", traces=slice(1, 4)) == [(101,), (7,), (8,)]
+assert volume.headers("inline", traces=[]) == []
+assert volume.grid.array[0][:2] == [0, 1], volume.grid.array
+assert volume.slice(1).array[0][:2] == [None, 42], volume.slice(1).array
+assert volume.slice(1).traces[0][:2] == [0, 2]
+assert volume._repr_html_().startswith("<div")
+assert segywb.tools.metadata(volume)[0] == [7, 8, 101, 102, 103]
+try:
+    volume.dataframe()
+except ImportError as error:
+    assert "pandas" in str(error)
+else:
+    raise SystemExit("a table without pandas")
+print("done")
+"""
+
+
+def test_without_numpy(example, tmp_path):
+    """The standard library alone is enough."""
+    source = (HERE / "conftest.py").read_text()
+    head = "import os, subprocess\nfrom segywb import program\n"
+    (tmp_path / "conftest_run.py").write_text(head + source[source.index("def run("):])
+    done = subprocess.run([sys.executable, "-c", f"import sys; sys.path.insert(0, {str(tmp_path)!r})\n" + BARE, example("cube")], capture_output=True, text=True, check=False)
+    assert (done.stdout, done.stderr) == ("done\n", "")
+
+
+def test_maps(opened):
+    volume = opened("twice")
+    grid = volume.grid
+    assert grid.shape == (3, 4) and len(grid) == 12 and grid.inlines == [101, 102, 103] and grid.crosslines == [201, 202, 203, 204]
+    assert grid.array.tolist() == [[volume.fold(i, x) for x in grid.crosslines] for i in grid.inlines]
+    assert np.asarray(grid).sum() == len(volume) == 13
+    assert "3 inlines, 4 crosslines" in repr(grid)
+    cut = volume.slice(1)
+    assert (cut.shape, len(cut), cut.sample) == ((3, 4), 13, 1)
+    first = {}
+    for inline, crossline, trace, value in cut.rows.tolist():
+        first.setdefault((inline, crossline), (trace, value))
+    for up, inline in enumerate(cut.inlines):
+        for right, crossline in enumerate(cut.crosslines):
+            assert (int(cut.traces[up, right]), int(cut.array[up, right])) == first[inline, crossline]
+    assert np.array_equal(np.asarray(cut), cut.array.data) and "Slice 1" in repr(cut)
+    volume.delete(1)
+    volume.set(1, "inline", 500)
+    assert bool(volume.slice(1).array.mask[0, 0]) and volume.grid.array[0, 0] == 0
+    assert np.asarray(volume.slice(1), dtype=float)[0, 0] == 0.0
+
+
+def test_a_map_of_too_many_cells(opened, monkeypatch):
+    monkeypatch.setattr("segywb.grids.MOST_CELLS", 10)
+    volume = opened("cube")
+    with pytest.raises(ValueError):
+        volume.grid.array
+    assert len(volume.slice(1).rows) == 12
+
+
+def test_wide_samples(opened, tmp_path):
+    volume = opened(files.varying(tmp_path / "varying.sgy"))
+    assert volume.slice(1).rows["value"].tolist() == [2**64 - 2, 2**64 - 2]
+    assert volume.samples(3).tolist() == [2**64 - 1, 2**64 - 2, 2**64 - 3]
+    assert int(volume.slice(2).array[0, 0]) == 2**64 - 3

@@ -25,41 +25,36 @@ where
     ensures { IsExitStatus end result }
 {
     let (save, error) = end_of_save(end, writer, mode, arguments.out.is_some());
-    let (file, out) = (arguments.file, arguments.out.unwrap_or(""));
-    match told(end, save) {
-        Message::Nothing => {}
-        Message::AnswersFailed => {
-            let _ = eprintln!(rt; "segywb: answers failed");
-        }
-        Message::SaveFailed => {
-            if let Some(SaveError::NotSaved(fault)) = &error {
-                save_failed(rt, out, fault, !arguments.in_place);
-            }
-        }
-        Message::SaveUnsettled => {
-            if let Some(SaveError::NotSettled(error)) = &error {
-                let _ = eprintln!(rt; "segywb: saved, but a power cut may undo it");
-                let _ = eprintln!(rt;
-                    "segywb: {out}: its folder did not reach the disk ({error}); run sync"
-                );
-            }
-        }
-        Message::FileChanged => {
-            changed(
-                rt,
-                file,
-                "nothing is saved; look at it, and run the script again",
-            );
-        }
-    }
+    tell(rt, arguments, told(end, save), error);
     if save == SaveEnd::NotBegun && original.is_some_and(|original| original.is_changed(rt)) {
-        changed(
-            rt,
-            file,
-            "the answers may be those of a file that never was",
-        );
+        let then = "the answers may be those of a file that never was";
+        changed(rt, arguments.file, then);
     }
     exit_status(end, save)
+}
+
+// Writes on standard error what there is to tell; of a save that failed also why.
+fn tell<R: Eprint>(rt: &R, arguments: &Arguments, message: Message, error: Option<SaveError>) {
+    let out = arguments.out.unwrap_or("");
+    match (message, error) {
+        (Message::AnswersFailed, _) => {
+            let _ = eprintln!(rt; "segywb: answers failed");
+        }
+        (Message::SaveFailed, Some(SaveError::NotSaved(fault))) => {
+            save_failed(rt, out, &fault, !arguments.in_place);
+        }
+        (Message::SaveUnsettled, Some(SaveError::NotSettled(error))) => {
+            let _ = eprintln!(rt; "segywb: saved, but a power cut may undo it");
+            let _ = eprintln!(rt;
+                "segywb: {out}: its folder did not reach the disk ({error}); run sync"
+            );
+        }
+        (Message::FileChanged, _) => {
+            let then = "nothing is saved; look at it, and run the script again";
+            changed(rt, arguments.file, then);
+        }
+        _ => {}
+    }
 }
 
 // Ends the save, or gives it up.

@@ -3,6 +3,7 @@ use Rattle.std.proofs.Common.{◌≡◌, ℕ, ◌+◌, List, [], ◌∷◌, ◌+
 use Rattle.std.specs.Prelude.{IsTrue}
 use Rattle.frame_cut.specs.declared.load_fault.LoadFault.{LoadFault}
 use Rattle.bench_rules.specs.State.{State}
+use Rattle.bench_laws.specs.EditLaws.{StepsStayCut}
 use Rattle.script_run.specs.declared.options.Options.{Options}
 use Rattle.script_run.specs.declared.run_end.RunEnd.{RunEnd}
 use Rattle.script_run.specs.declared.run_end.RunEnd.TheVariants as ends
@@ -27,12 +28,12 @@ pub script_end : (options : Options) (old new : Devices) (fault : ScriptFault) (
 script_end options old new fault result refuses (inl told) = subst (λ r. Runs options old new r) (sym told.0) (refuses, told.1)
 script_end options old new fault result refuses (inr (written, is, part)) = subst (λ r. Runs options old new r) (sym is) (inr (inl (fault, refuses, part)))
 
-module _ (options : Options) (old new : Devices) (start end : State) (script : List ℕ)
+module _ (stay : StepsStayCut) (options : Options) (old new : Devices) (start end : State) (script : List ℕ)
     (loaded : Loads old.reader new.reader options.reading options.limits start) (read : ReadsScript old.script new.script script) where
   -- each line is answered as by what reading the file from scratch gives
   as_from_scratch : (lines : List (List ℕ)) (printed : List Printed) → LineSteps start lines printed end
       → ScratchSteps LineStep options.reading options.limits (saved start) lines printed (saved end)
-  as_from_scratch lines printed steps = scratch LineStep line_keeps options.reading options.limits start end lines printed loaded.cut loaded.reading_is loaded.limits_are steps
+  as_from_scratch lines printed steps = scratch LineStep (line_keeps stay) options.reading options.limits start end lines printed loaded.cut loaded.reading_is loaded.limits_are steps
 
   pub runs_through : (refused : ℕ) → (text : List ℕ) × RunsWhole start script options.stop text refused end × Takes old.answers new.answers text
       → RunsThrough options old new refused end

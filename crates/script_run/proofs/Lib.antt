@@ -1,4 +1,5 @@
 pub mod RunLemmas
+pub mod TellLemmas
 pub mod ScratchLemmas
 pub mod EndLemmas
 pub mod InputLemmas

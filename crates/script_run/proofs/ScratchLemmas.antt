@@ -11,8 +11,7 @@ use Rattle.bench_rules.specs.declared.refusal.Refusal.{Refusal}
 use Rattle.bench_rules.specs.Answer.{answer}
 use Rattle.bench_rules.specs.State.{State}
 use Rattle.bench_rules.specs.Steps.{Steps}
-use Rattle.bench_laws.specs.EditLaws.{IsReadAlike}
-use Rattle.bench_laws.proofs.StepAgainLemmas.{steps_stay_cut, answers_from_scratch}
+use Rattle.bench_laws.specs.EditLaws.{IsReadAlike, StepsStayCut, AnswersFromScratch}
 use Rattle.script_text.specs.declared.command.Command.{Command}
 use Rattle.script_text.specs.declared.command.Command.TheVariants.{Apply, Ask}
 use Rattle.script_text.specs.declared.line_fault.LineFault.{LineFault}
@@ -55,17 +54,17 @@ lines_are_edits old new (l ∷ ls) (p ∷ ps) (mid, first, rest) =
 -- ---- a line leaves a file that is read again
 
 -- a step that leaves the parts the cut of their own bytes
-Keeps : (State → List ℕ → Printed → State → Type 0) → Type 0
+abbrev pub Keeps : (State → List ℕ → Printed → State → Type 0) → Type 0
 Keeps Step = (old new : State) (line : List ℕ) (p : Printed) → IsRead old → Step old line p new → IsReadAlike old new
 
-pub line_keeps : Keeps LineStep
-line_keeps old new line p cut step =
-    let some = line_edits old new line p step in steps_stay_cut old new some.0 some.1 cut some.2
+pub line_keeps : StepsStayCut → Keeps LineStep
+line_keeps stay old new line p cut step =
+    let some = line_edits old new line p step in stay old new some.0 some.1 cut some.2
 
-pub session_keeps : Keeps SessionStep
-session_keeps old new line p cut (a, inl step, is) = steps_stay_cut old new [] [] cut step.2
-session_keeps old new line p cut (a, inr (within, inl step), is) = line_keeps old new _ a cut step
-session_keeps old new line p cut (a, inr (within, inr step), is) = steps_stay_cut old new [] [] cut step.1
+pub session_keeps : StepsStayCut → Keeps SessionStep
+session_keeps stay old new line p cut (a, inl step, is) = stay old new [] [] cut step.2
+session_keeps stay old new line p cut (a, inr (within, inl step), is) = line_keeps stay old new _ a cut step
+session_keeps stay old new line p cut (a, inr (within, inr step), is) = stay old new [] [] cut step.1
 
 module _ (Step : State → List ℕ → Printed → State → Type 0) (keeps : Keeps Step) (reading : Reading) (limits : Limits) where
   pub scratch : (old new : State) (lines : List (List ℕ)) (ps : List Printed) → IsCut (bytes_of old.volume) reading limits old.volume → old.reading ≡ reading → old.limits ≡ limits
@@ -81,18 +80,18 @@ module _ (Step : State → List ℕ → Printed → State → Type 0) (keeps : K
         scratch mid new xs ps (rw (← r, ← l) alike.cut) (alike.reading ∙ r) (alike.limits ∙ l) rest,
       )
 
-pub lines_from_scratch : LinesFromScratch
-lines_from_scratch old new lines ps cut steps = scratch LineStep line_keeps old.reading old.limits old new lines ps cut refl refl steps
+pub lines_from_scratch : StepsStayCut → LinesFromScratch
+lines_from_scratch stay old new lines ps cut steps = scratch LineStep (line_keeps stay) old.reading old.limits old new lines ps cut refl refl steps
 
 -- ---- a load of what was saved
 
-pub reloads_as_saved : ReloadsAsSaved
-reloads_as_saved old new again lines ps cut steps read same r l =
+pub reloads_as_saved : StepsStayCut → AnswersFromScratch → ReloadsAsSaved
+reloads_as_saved stay scratch_answers old new again lines ps cut steps read same r l =
     let some = lines_are_edits old new lines ps steps in
-    let alike = steps_stay_cut old new some.0 some.1 cut some.2 in
+    let alike = stay old new some.0 some.1 cut some.2 in
     let here : IsCut (bytes_of new.volume) old.reading old.limits again.volume = rw (← same, ← r, ← l) read in (
       at_most_one_cut (bytes_of new.volume) old.reading old.limits again.volume new.volume here alike.cut,
       λ query. ap (λ (x : Reading). let s : State = record again { fields = new.fields; reading = x } in answer s query) r
           ∙ ap (λ (x : Limits). let s : State = record again { fields = new.fields; reading = old.reading; limits = x } in answer s query) l
-          ∙ sym (answers_from_scratch old new some.0 some.1 again.volume query cut some.2 here),
+          ∙ sym (scratch_answers old new some.0 some.1 again.volume query cut some.2 here),
     )

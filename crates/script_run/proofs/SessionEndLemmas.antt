@@ -1,8 +1,9 @@
 -- The ends of a session, from those of its lines.
-use Rattle.std.proofs.Common.{◌≡◌, ◌⊎◌, ℕ, ◌+◌, ◌<◌, List, [], ◌∷◌, ◌++◌, length, Bool, sym, subst, inl, inr, arith, refl}
+use Rattle.std.proofs.Common.{◌≡◌, ◌⊎◌, ℕ, ◌+◌, ◌<◌, List, [], ◌∷◌, ◌++◌, length, Bool, sym, subst, inl, inr, arith, refl, ◌∙◌}
 use Rattle.std.specs.Prelude.{IsTrue}
 use Rattle.frame_cut.specs.declared.load_fault.LoadFault.{LoadFault}
 use Rattle.bench_rules.specs.State.{State}
+use Rattle.bench_laws.specs.EditLaws.{StepsStayCut}
 use Rattle.script_text.specs.declared.script_fault.ScriptFault.{ScriptFault}
 use Rattle.script_text.specs.Devices.{Device, Takes, TakesPart, count_in_64_bits}
 use Rattle.script_text.specs.RefusalTexts.{load_refusal_line, script_refusal_line}
@@ -25,7 +26,7 @@ pub load_end : (options : Options) (old new : Devices) (fault : LoadFault) (resu
 load_end options old new fault result refuses (inl told) = subst (λ r. Session options old new r) (sym told.0) (refuses, told.1)
 load_end options old new fault result refuses (inr (written, is, part)) = subst (λ r. Session options old new r) (sym is) (inl (fault, refuses, part))
 
-module _ (options : Options) (old new : Devices) (start end : State)
+module _ (stay : StepsStayCut) (options : Options) (old new : Devices) (start end : State)
     (loaded : Loads old.reader new.reader options.reading options.limits start) where
   lines_of : (printed : List Printed) (done : Answered start end old.script printed) → AnswersLines options old new done.lines printed end
   lines_of printed done = record {
@@ -33,7 +34,7 @@ module _ (options : Options) (old new : Devices) (start end : State)
     loaded = loaded;
     given = done.given;
     steps = done.steps;
-    from_scratch = scratch SessionStep session_keeps options.reading options.limits start end done.lines printed loaded.cut loaded.reading_is loaded.limits_are done.steps;
+    from_scratch = scratch SessionStep (session_keeps stay) options.reading options.limits start end done.lines printed loaded.cut loaded.reading_is loaded.limits_are done.steps;
     full = session_full start end done.lines printed (plain_at_load start loaded.fields) done.steps;
   }
 
@@ -57,6 +58,26 @@ module _ (options : Options) (old new : Devices) (start end : State)
         record { lines = done.lines; end = end; answers = lines_of printed done; goes_on = goes_on; reason = reason; unsaved = unsaved },
         takes_part_more old.answers middle new.answers (printed_text printed) (script_refusal_line fault) more taken part,
       )))
+
+  -- the line of the refusal was written whole
+  pub tells_script : (middle : Device) (fault : ScriptFault) (written : ℕ) (told : RunEnd) → new.out ≡ old.out → AnswersTo start end options.stop old.script new.script old.answers middle (line_ends.Script fault written)
+      → IsTold middle new.answers (script_refusal_line fault) (ends.Script fault) told → ((more : ℕ) → told ≡ ends.Answers more → ⊥) → Session options old new told
+  tells_script middle fault written told unsaved lines (inl whole) none = loses_script middle fault written told unsaved lines (inl whole)
+  tells_script middle fault written told unsaved lines (inr (more, is, part)) none = absurd (none more is)
+
+  -- .. or a part of it
+  pub tells_part : (middle : Device) (fault : ScriptFault) (written more sum : ℕ) (told : RunEnd) → new.out ≡ old.out → AnswersTo start end options.stop old.script new.script old.answers middle (line_ends.Script fault written)
+      → IsTold middle new.answers (script_refusal_line fault) (ends.Script fault) told → told ≡ ends.Answers more → sum ≡ count_in_64_bits (written + more) → Session options old new (ends.Answers sum)
+  tells_part middle fault written more sum told unsaved lines (inl whole) is sum_is = absurd (neither fault more (sym whole.0 ∙ is))
+    where
+      neither : (fault : ScriptFault) (more : ℕ) → ends.Script fault ≡ ends.Answers more → ⊥
+      neither fault more e = cc
+  tells_part middle fault written more sum told unsaved lines (inr (some, told_is, part)) is sum_is =
+      let same : some ≡ more = one (sym told_is ∙ is) in
+      loses_script middle fault written (ends.Answers sum) unsaved lines (inr (more, sum, refl, sum_is, subst (λ (k : ℕ). TakesPart middle new.answers (script_refusal_line fault) k) same part))
+    where
+      one : {a b : ℕ} → ends.Answers a ≡ ends.Answers b → a ≡ b
+      one e = cc
 
   pub goes_through : (refused : ℕ) → AnswersTo start end options.stop old.script new.script old.answers new.answers (line_ends.Whole refused) → SessionThrough options old new refused end
   goes_through refused (printed, done, all, same, refused_is, goes_on, taken) = record {

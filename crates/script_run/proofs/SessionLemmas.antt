@@ -1,5 +1,5 @@
 -- How a session goes on by one line.
-use Rattle.std.proofs.Common.{◌≡◌, ◌⊎◌, ℕ, ◌+◌, List, [], ◌∷◌, ◌++◌, length, take, Bool, Option, Some, None, cond, refl, ap, ap₂, sym, subst, ◌∙◌, arith, append-nil, length-append}
+use Rattle.std.proofs.Common.{◌≡◌, ◌⊎◌, ℕ, ◌+◌, List, [], ◌∷◌, ◌++◌, length, take, Bool, Option, Some, None, cond, true, false, ◌≤◌, refl, ap, ap₂, sym, subst, ◌∙◌, arith, append-nil, length-append}
 use Rattle.std.specs.Prelude.{IsTrue}
 use Rattle.std.specs.Io.KnownBytes.{Appends, IsAtEnd}
 use Rattle.std.proofs.lemmas.List.{take_at}
@@ -28,6 +28,18 @@ all_lines None left lines t end = tt
 all_lines (Some xs) None lines t end = absurd t
 all_lines (Some xs) (Some ys) lines t end = t ∙ ap (λ s. lines ++ parts_by_line_feed s) end ∙ append-nil lines
 
+-- one refusal more, or none
+pub one_refused : (b : Bool) (r m : ℕ) → b ≡ true → m ≡ r + 1 → m ≡ r + cond b 1 0
+one_refused true r m e f = f
+one_refused false r m e f = cc
+
+pub none_refused : (b : Bool) (r m : ℕ) → b ≡ false → m ≡ r → m ≡ r + cond b 1 0
+none_refused true r m e f = cc
+none_refused false r m e f = omega (arith, f)
+
+pub not_both : (b : Bool) → IsTrue b → b ≡ false → ⊥
+not_both b t f = cc
+
 -- ---- where a session stands
 
 -- the lines before what is left are answered
@@ -55,19 +67,19 @@ none_yet start old left stop before given same = record {
   taken = record { bytes = same; failures = refl };
 }
 
-module _ (start : State) (old left : Option (List ℕ)) (stop : Bool) (number refused written : ℕ) (before mid : Device) (now : State)
-    (so_far : SessionSoFar start old left stop number refused written before mid now) where
-  answered : (script : Device) → script.bytes ≡ old → Answered start now script so_far.printed
-  answered script is = record { lines = so_far.lines; given = rw is (first_lines old left so_far.lines so_far.given); steps = so_far.steps }
+module _ (start : State) (script : Device) (left : Option (List ℕ)) (stop : Bool) (number refused written : ℕ) (before mid : Device) (now : State)
+    (so_far : SessionSoFar start script.bytes left stop number refused written before mid now) where
+  abbrev answered : Answered start now script so_far.printed
+  answered = record { lines = so_far.lines; given = first_lines script.bytes left so_far.lines so_far.given; steps = so_far.steps }
 
   -- no line is left
-  pub whole : (script script_now : Device) → script.bytes ≡ old → IsAtEnd left → script_now.failures ≡ script.failures
+  pub whole : (script_now : Device) → IsAtEnd left → script_now.failures ≡ script.failures
       → (printed : List Printed) × (done : Answered start now script printed) × AllLines script.bytes done.lines
       × (script_now.failures ≡ script.failures) × (refused ≡ refusals printed) × (IsTrue stop → refused ≡ 0) × Takes before mid (printed_text printed)
-  whole script script_now is end same = (
+  whole script_now end same = (
     so_far.printed,
-    answered script is,
-    rw is (all_lines old left so_far.lines so_far.given end),
+    answered,
+    all_lines script.bytes left so_far.lines so_far.given end,
     same,
     so_far.refused_is,
     so_far.goes_on,
@@ -75,32 +87,32 @@ module _ (start : State) (old left : Option (List ℕ)) (stop : Bool) (number re
   )
 
   -- no more lines are read
-  pub broken : (script : Device) (Reason : Type 0) → script.bytes ≡ old → Reason
+  pub broken : (Reason : Type 0) → Reason
       → (printed : List Printed) × Answered start now script printed × Reason × (IsTrue stop → refusals printed ≡ 0)
       × (written ≡ count_in_64_bits (length (printed_text printed))) × Takes before mid (printed_text printed)
-  broken script Reason is reason = (
+  broken Reason reason = (
     so_far.printed,
-    answered script is,
+    answered,
     reason,
     λ s. sym so_far.refused_is ∙ so_far.goes_on s,
     so_far.written_is,
     so_far.taken,
   )
 
-module _ (start : State) (old left rest : Option (List ℕ)) (line : List ℕ) (stop : Bool) (number refused written : ℕ) (before mid : Device) (now next : State) (p : Printed)
-    (so_far : SessionSoFar start old left stop number refused written before mid now) (given : TakesLine left rest line) (step : SessionStep now line p next) where
+module _ (start : State) (script : Device) (left rest : Option (List ℕ)) (line : List ℕ) (stop : Bool) (number refused written : ℕ) (before mid : Device) (now next : State) (p : Printed)
+    (so_far : SessionSoFar start script.bytes left stop number refused written before mid now) (given : TakesLine left rest line) (step : SessionStep now line p next) where
   through : SessionSteps start (so_far.lines ++ line ∷ []) (so_far.printed ++ p ∷ []) next
   through = steps_more SessionStep start now next so_far.lines line so_far.printed p so_far.steps step
 
-  lines_given : TakesLines old rest (so_far.lines ++ line ∷ [])
-  lines_given = line_more old left rest so_far.lines line so_far.given given
+  lines_given : TakesLines script.bytes rest (so_far.lines ++ line ∷ [])
+  lines_given = line_more script.bytes left rest so_far.lines line so_far.given given
 
-  answered_more : (script : Device) → script.bytes ≡ old → Answered start next script (so_far.printed ++ p ∷ [])
-  answered_more script is = record { lines = so_far.lines ++ line ∷ []; given = rw is (first_lines old rest (so_far.lines ++ line ∷ []) lines_given); steps = through }
+  answered_more : Answered start next script (so_far.printed ++ p ∷ [])
+  answered_more = record { lines = so_far.lines ++ line ∷ []; given = (first_lines script.bytes rest (so_far.lines ++ line ∷ []) lines_given); steps = through }
 
   -- a line whose answer is written
   pub one_more : (after : Device) (more told : ℕ) → Takes mid after p.text → more ≡ refused + cond p.is_refusal 1 0 → told ≡ count_in_64_bits (written + length p.text) → (IsTrue stop → p.is_refusal ≡ false)
-      → SessionSoFar start old rest stop (number + 1) more told before after next
+      → SessionSoFar start script.bytes rest stop (number + 1) more told before after next
   one_more after more told taken more_is told_is not_refused = record {
     lines = so_far.lines ++ line ∷ [];
     printed = so_far.printed ++ p ∷ [];
@@ -114,15 +126,15 @@ module _ (start : State) (old left rest : Option (List ℕ)) (line : List ℕ) (
   }
 
   -- a line whose answer is not written whole
-  pub breaks_off : (script : Device) (after : Device) (k told : ℕ) → script.bytes ≡ old → TakesPart mid after p.text k → told ≡ count_in_64_bits (written + k)
+  pub breaks_off : (after : Device) (k told : ℕ) → TakesPart mid after p.text k → told ≡ count_in_64_bits (written + k)
       → (first : List Printed) × (last : Printed) × (taken : ℕ) × Answered start next script (first ++ last ∷ [])
       × (told ≡ count_in_64_bits taken) × (IsTrue stop → refusals first ≡ 0) × (length (printed_text first) ≤ taken)
       × TakesPart before after (printed_text (first ++ last ∷ [])) taken
-  breaks_off script after k told is part told_is = (
+  breaks_off after k told part told_is = (
     so_far.printed,
     p,
     length (printed_text so_far.printed) + k,
-    answered_more script is,
+    answered_more,
     omega (arith, told_is, so_far.written_is),
     λ s. sym so_far.refused_is ∙ so_far.goes_on s,
     omega arith,
@@ -130,14 +142,14 @@ module _ (start : State) (old left rest : Option (List ℕ)) (line : List ℕ) (
   )
 
   -- a refused line at which the session stops
-  pub stops : (script : Device) (after : Device) → script.bytes ≡ old → Takes mid after p.text → IsTrue p.is_refusal → IsTrue stop
+  pub stops : (after : Device) → Takes mid after p.text → IsTrue p.is_refusal → IsTrue stop
       → (first : List Printed) × (last : Printed) × Answered start next script (first ++ last ∷ [])
       × (number + 1 ≡ length first + 1) × (refusals first ≡ 0) × IsTrue last.is_refusal × IsTrue stop
       × Takes before after (printed_text (first ++ last ∷ []))
-  stops script after is taken refused_is stop_is = (
+  stops after taken refused_is stop_is = (
     so_far.printed,
     p,
-    answered_more script is,
+    answered_more,
     omega (arith, so_far.number_is),
     sym so_far.refused_is ∙ so_far.goes_on stop_is,
     refused_is,

@@ -1,6 +1,8 @@
 // What holds of lines, as contracts of calls that do nothing.
 ghost use Rattle.script_run.specs.Laws.{LinesAreEdits, LinesFromScratch, ReloadsAsSaved, SessionIsRun};
 
+use bench_laws::{answers_from_scratch, steps_stay_cut};
+
 /// What the lines of a script do to a volume is what their edits do, one after another.
 pub fn lines_are_edits()
     ensures { LinesAreEdits }
@@ -11,13 +13,18 @@ pub fn lines_are_edits()
 /// the bytes that a save behind it writes.
 pub fn lines_from_scratch()
     ensures { LinesFromScratch }
-{}
+{
+    steps_stay_cut();
+}
 
 /// A load of the bytes that are saved behind the lines holds the volume that was saved; so, under
 /// the same field map, every query has the answer that it had before the save.
 pub fn reloads_as_saved()
     ensures { ReloadsAsSaved }
-{}
+{
+    steps_stay_cut();
+    answers_from_scratch();
+}
 
 /// A session answers as a run of the same lines does, with an empty line behind each answer, where
 /// no line is longer than a script's may be and memory was never refused.

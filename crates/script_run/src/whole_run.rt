@@ -11,6 +11,7 @@ use crate::run_end::RunEnd;
 use crate::running::run_lines;
 use crate::script::read_script;
 use bench_core::Bench;
+use bench_laws::steps_stay_cut;
 use device_io::{Sink, Source};
 use edit_overlay::SaveFault;
 use frame_cut::LoadFault;
@@ -69,6 +70,8 @@ fn run_loaded<S: Read, A: Write, O: Write>(
         (device_of A.contents answers.new) (device_of O.contents out.new))
         result }
 {
+    // The law by which each line is answered as from scratch, for the proof.
+    steps_stay_cut();
     let lines = match read_script(alloc, script) {
         Ok(lines) => lines,
         Err(fault) => return tell(answers, &script_fault_line(fault), RunEnd::Script(fault)),

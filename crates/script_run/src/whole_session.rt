@@ -11,6 +11,7 @@ use crate::run_end::RunEnd;
 use crate::session_lines::SessionLines;
 use crate::whole_run::{load, save, tell};
 use bench_core::Bench;
+use bench_laws::steps_stay_cut;
 use device_io::{Sink, Source};
 use script_text::{load_fault_line, script_fault_line};
 use std::alloc::Global;
@@ -68,6 +69,8 @@ fn session_loaded<S: Read, A: Write, O: Write>(
         (device_of A.contents answers.new) (device_of O.contents out.new))
         result }
 {
+    // The law by which each line is answered as from scratch, for the proof.
+    steps_stay_cut();
     match answer_lines(alloc, bench, script, answers, options.stop) {
         SessionLines::Stopped { line } => RunEnd::Stopped { line },
         SessionLines::Answers { written } => RunEnd::Answers { written },

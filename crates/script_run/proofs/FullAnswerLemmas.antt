@@ -1,9 +1,8 @@
 -- No answer of a session has an empty line.
-use Rattle.std.proofs.Common.{◌≡◌, ◌⊎◌, ◌&&◌, ℕ, List, [], ◌∷◌, ◌++◌, Bool, true, false, not, Option, Some, None, Result, Ok, Err, cond, refl, sym, ap, subst, ◌∙◌, inl, inr}
+use Rattle.std.proofs.Common.{◌≡◌, ℕ, List, [], ◌∷◌, Bool, true, false, not, Option, Some, None, Result, Ok, Err, cond, refl, sym, ap, subst, inl, inr}
 use Rattle.std.specs.Prelude.{option_map}
 use Rattle.field_map.specs.declared.map_fault.MapFault.{MapFault}
 use Rattle.field_map.specs.declared.map_fault.MapFault.TheVariants.{BadName}
-use Rattle.field_map.specs.declared.place.Place.{Place}
 use Rattle.field_map.specs.Pairs.{Pairs}
 use Rattle.field_map.specs.Binding.{is_name, bind_fault, geometry_at_load}
 use Rattle.bench_rules.specs.declared.edit.Edit.{Edit}
@@ -13,17 +12,16 @@ use Rattle.bench_rules.specs.declared.refusal.Refusal.TheVariants as refusals
 use Rattle.bench_rules.specs.After.{fields_after}
 use Rattle.bench_rules.specs.Refused.{first_refusal}
 use Rattle.bench_rules.specs.State.{State}
-use Rattle.bench_rules.specs.Steps.{IsAfter, Step, StepUnless}
+use Rattle.bench_rules.specs.Steps.{StepUnless}
 use Rattle.script_text.specs.declared.command.Command.{Command}
 use Rattle.script_text.specs.declared.command.Command.TheVariants.{Apply, Ask}
 use Rattle.script_text.specs.declared.line_fault.LineFault.{LineFault}
 use Rattle.script_text.specs.declared.line_fault.LineFault.TheVariants.{TooLarge, OutOfMemory}
 use Rattle.script_text.specs.Replies.{Printed, fault_reply, edit_reply}
 use Rattle.script_text.specs.Texts.{IsFullLines}
-use Rattle.script_text.specs.Words.{without_return}
 use Rattle.script_text.proofs.PlainLemmas.{HasPlainNames, plain_name, plain_bound, plain_unbound, nothing_full, fault_full, edit_full, query_full}
-use Rattle.script_run.specs.Runs.{ReadStep, CommandStep, LineStep}
-use Rattle.script_run.specs.Sessions.{AnswerStep, SessionStep, SessionSteps, IsAnswer, AreAnswers}
+use Rattle.script_run.specs.Runs.{ReadStep}
+use Rattle.script_run.specs.Sessions.{AnswerStep, SessionSteps, AreAnswers}
 
 -- ---- what an edit leaves of the names
 

@@ -1,11 +1,10 @@
 -- How lines are taken from a reader, part by part.
-use Rattle.std.proofs.Common.{◌≡◌, ◌≢◌, ◌<◌, ◌≤◌, ◌-◌, ℕ, suc, zero, nat_eq, min, take, drop, cond, not, ◌+◌, ◌^◌, ◌||◌, length, List, [], ◌∷◌, ◌++◌, Bool, true, false, Option, Some, None, arith, refl, ◌∙◌, ap, sym, subst, append_assoc, append-nil}
+use Rattle.std.proofs.Common.{◌≡◌, ◌≢◌, ◌<◌, ◌≤◌, ◌-◌, ℕ, suc, nat_eq, take, drop, cond, not, ◌+◌, ◌||◌, length, List, [], ◌∷◌, ◌++◌, true, false, Option, Some, None, arith, refl, ◌∙◌, ap, sym, subst, append_assoc, append-nil}
 use Rattle.std.specs.Prelude.{slice_range}
 use Rattle.std.specs.List.{list_any, before_first, after_first, position_or_len}
 use Rattle.std.proofs.lemmas.List.{drop-take, drop-drop, length-take}
 use Rattle.std.proofs.lemmas.Bool.{eq-eqb}
 use Rattle.std.specs.Io.KnownBytes.{Consumes, IsAtEnd}
-use Rattle.script_text.specs.Devices.{count_in_64_bits}
 use Rattle.script_text.specs.Words.{is_line_feed, parts_by_line_feed}
 use Rattle.script_text.proofs.PartLemmas.{cut_in_part, part_in_front}
 use Rattle.script_text.proofs.ScriptLemmas.{last_part}

@@ -1,12 +1,11 @@
 -- Lines are answered as by what reading the file from scratch gives.
-use Rattle.std.proofs.Common.{◌≡◌, ◌⊎◌, ℕ, List, [], ◌∷◌, ◌++◌, map, Option, Some, None, Result, Ok, Err, refl, sym, ap, subst, ◌∙◌, inl, inr}
+use Rattle.std.proofs.Common.{◌≡◌, ℕ, List, [], ◌∷◌, ◌++◌, Option, Some, None, Result, Ok, Err, refl, sym, ap, subst, ◌∙◌, inl, inr}
 use Rattle.frame_cut.specs.declared.limits.Limits.{Limits}
 use Rattle.frame_cut.specs.declared.reading.Reading.{Reading}
 use Rattle.frame_cut.specs.Cuts.{IsCut}
-use Rattle.frame_cut.specs.Volume.{Volume, bytes_of}
+use Rattle.frame_cut.specs.Volume.{bytes_of}
 use Rattle.frame_cut.proofs.OneCutLemmas.{at_most_one_cut}
 use Rattle.bench_rules.specs.declared.edit.Edit.{Edit}
-use Rattle.bench_rules.specs.declared.query.Query.{Query}
 use Rattle.bench_rules.specs.declared.refusal.Refusal.{Refusal}
 use Rattle.bench_rules.specs.Answer.{answer}
 use Rattle.bench_rules.specs.State.{State}
@@ -16,9 +15,9 @@ use Rattle.script_text.specs.declared.command.Command.{Command}
 use Rattle.script_text.specs.declared.command.Command.TheVariants.{Apply, Ask}
 use Rattle.script_text.specs.declared.line_fault.LineFault.{LineFault}
 use Rattle.script_text.specs.Replies.{Printed}
-use Rattle.script_run.specs.FromScratch.{Saved, saved, loaded_again, ScratchStep, ScratchSteps}
+use Rattle.script_run.specs.FromScratch.{saved, ScratchSteps}
 use Rattle.script_run.specs.Laws.{IsRead, LinesAreEdits, LinesFromScratch, ReloadsAsSaved}
-use Rattle.script_run.specs.Runs.{ReadStep, LineStep, LineSteps, StepsBy}
+use Rattle.script_run.specs.Runs.{ReadStep, LineStep, StepsBy}
 use Rattle.script_run.specs.Sessions.{SessionStep}
 
 -- ---- lines as edits

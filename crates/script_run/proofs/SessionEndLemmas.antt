@@ -1,6 +1,5 @@
 -- The ends of a session, from those of its lines.
-use Rattle.std.proofs.Common.{◌≡◌, ◌⊎◌, ℕ, ◌+◌, ◌<◌, List, [], ◌∷◌, ◌++◌, length, Bool, sym, subst, inl, inr, arith, refl, ◌∙◌}
-use Rattle.std.specs.Prelude.{IsTrue}
+use Rattle.std.proofs.Common.{◌≡◌, ◌⊎◌, ℕ, ◌+◌, List, [], ◌∷◌, ◌++◌, length, sym, subst, inl, inr, arith, refl, ◌∙◌}
 use Rattle.frame_cut.specs.declared.load_fault.LoadFault.{LoadFault}
 use Rattle.bench_rules.specs.State.{State}
 use Rattle.bench_laws.specs.EditLaws.{StepsStayCut}
@@ -14,11 +13,11 @@ use Rattle.script_run.specs.declared.run_end.RunEnd.{RunEnd}
 use Rattle.script_run.specs.declared.run_end.RunEnd.TheVariants as ends
 use Rattle.script_run.specs.declared.session_lines.SessionLines.TheVariants as line_ends
 use Rattle.script_run.specs.Loading.{Loads}
-use Rattle.script_run.specs.Runs.{printed_text, refusals}
+use Rattle.script_run.specs.Runs.{printed_text}
 use Rattle.script_run.specs.Ends.{Devices, RefusesLoad, IsTold}
 use Rattle.script_run.proofs.ScratchLemmas.{scratch, session_keeps}
 use Rattle.script_run.proofs.FullAnswerLemmas.{session_full, plain_at_load}
-use Rattle.script_run.specs.Sessions.{SessionStep, AnswersLines, SessionThrough, SessionStops, SessionLosesAnswer, SessionLosesScript, Session}
+use Rattle.script_run.specs.Sessions.{SessionStep, AnswersLines, SessionThrough, SessionStops, SessionLosesAnswer, Session}
 use Rattle.script_run.specs.SessionLineRuns.{Answered, AnswersTo}
 
 pub load_end : (options : Options) (old new : Devices) (fault : LoadFault) (result : RunEnd) → RefusesLoad options old new fault

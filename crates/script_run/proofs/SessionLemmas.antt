@@ -1,10 +1,9 @@
 -- How a session goes on by one line.
-use Rattle.std.proofs.Common.{◌≡◌, ◌⊎◌, ℕ, ◌+◌, List, [], ◌∷◌, ◌++◌, length, take, Bool, Option, Some, None, cond, true, false, ◌≤◌, refl, ap, ap₂, sym, subst, ◌∙◌, arith, append-nil, length-append}
+use Rattle.std.proofs.Common.{◌≡◌, ℕ, ◌+◌, List, [], ◌∷◌, ◌++◌, length, take, Bool, Option, Some, None, cond, true, false, ◌≤◌, refl, ap, ap₂, sym, ◌∙◌, arith, append-nil, length-append}
 use Rattle.std.specs.Prelude.{IsTrue}
 use Rattle.std.specs.Io.KnownBytes.{Appends, IsAtEnd}
 use Rattle.std.proofs.lemmas.List.{take_at}
 use Rattle.bench_rules.specs.State.{State}
-use Rattle.device_io.specs.Failures.{one_more as one_more_failure}
 use Rattle.script_text.specs.Words.{parts_by_line_feed}
 use Rattle.script_text.specs.Replies.{Printed}
 use Rattle.script_text.specs.Devices.{Device, Takes, TakesPart, count_in_64_bits}

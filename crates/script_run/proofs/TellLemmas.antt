@@ -1,5 +1,5 @@
 -- How the text of a reply is written, with more behind it.
-use Rattle.std.proofs.Common.{◌≡◌, ℕ, List, [], ◌++◌, ap, append-nil, refl}
+use Rattle.std.proofs.Common.{◌≡◌, ℕ, List, [], ◌++◌, ap, append-nil}
 use Rattle.script_text.specs.Devices.{Device, TakesPart, count_in_64_bits}
 use Rattle.script_text.specs.Printing.{Outgoing, nothing_out, GoesOut, BreaksOut}
 use Rattle.script_text.specs.Replies.{Printed}

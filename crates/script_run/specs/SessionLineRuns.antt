@@ -2,7 +2,6 @@
 use Rattle.std.specs.Prelude.{◌≡◌, ◌⊎◌, ℕ, ◌+◌, ◌≤◌, Bool, IsTrue, List, [], ◌∷◌, ◌++◌, length}
 use Rattle.bench_rules.specs.State.{State}
 use Rattle.device_io.specs.Failures.{one_more}
-use Rattle.script_text.specs.declared.script_fault.ScriptFault.{ScriptFault}
 use Rattle.script_text.specs.declared.script_fault.ScriptFault.TheVariants as script_faults
 use Rattle.script_text.specs.Devices.{Device, Takes, TakesPart, count_in_64_bits}
 use Rattle.script_text.specs.Replies.{Printed}

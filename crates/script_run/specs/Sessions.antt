@@ -7,7 +7,7 @@ use Rattle.device_io.specs.Failures.{one_more}
 use Rattle.script_text.specs.declared.line_fault.LineFault.TheVariants.{TooLarge, OutOfMemory}
 use Rattle.script_text.specs.declared.script_fault.ScriptFault.{ScriptFault}
 use Rattle.script_text.specs.declared.script_fault.ScriptFault.TheVariants as script_faults
-use Rattle.script_text.specs.Devices.{Device, Takes, TakesPart, count_in_64_bits}
+use Rattle.script_text.specs.Devices.{Takes, TakesPart, count_in_64_bits}
 use Rattle.script_text.specs.RefusalTexts.{load_refusal_line, script_refusal_line}
 use Rattle.script_text.specs.Replies.{Printed, fault_reply}
 use Rattle.script_text.specs.Texts.{IsFullLines}

@@ -1,4 +1,4 @@
-use Rattle.std.proofs.Common.{◌≡◌, ◌∙◌, ◌+◌, sym, refl, arith}
+use Rattle.std.proofs.Common.{◌∙◌, sym, refl, arith}
 use Rattle.script_text.specs.Devices.{device_of}
 use Rattle.script_text.proofs.OutLemmas.{stays}
 use Rattle.script_run.proofs.InputLemmas.{none_taken}

@@ -1,4 +1,4 @@
-use Rattle.std.proofs.Common.{◌≡◌, ◌≤◌, ℕ}
+use Rattle.std.proofs.Common.{◌≡◌, ◌≤◌}
 use Rattle.script_text.specs.Devices.{device_of}
 use Rattle.script_run.specs.Input.{left_of}
 use Rattle.script_run.proofs.SessionLemmas.{SessionSoFar}

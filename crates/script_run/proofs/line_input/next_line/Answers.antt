@@ -1,4 +1,4 @@
-use Rattle.std.proofs.Common.{◌≡◌, ◌∙◌, ◌==◌, ℕ, Bool, true, false, length, sym, subst}
+use Rattle.std.proofs.Common.{◌∙◌, Bool, length, sym, subst}
 use Rattle.std.proofs.lemmas.Bool.{eqb-true}
 use Rattle.script_run.specs.Input.{WaitsOrEnds, IsPartTaken}
 use Rattle.script_run.proofs.InputLemmas.{at_end, last, ends, goes_on}

@@ -1,4 +1,4 @@
-use Rattle.std.proofs.Common.{◌≡◌, ℕ}
+use Rattle.std.proofs.Common.{◌≡◌}
 use Rattle.script_run.specs.Input.{left_of, TakesFront}
 use Rattle.script_run.proofs.line_input.next_line.Given as goal
 

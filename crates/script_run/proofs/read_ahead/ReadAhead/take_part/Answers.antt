@@ -1,4 +1,4 @@
-use Rattle.std.proofs.Common.{◌≡◌, ◌+◌, ℕ, List, length, true, subst, rules}
+use Rattle.std.proofs.Common.{◌+◌, ℕ, List, length, true, subst, rules}
 use Rattle.std.specs.Prelude.{slice_range}
 use Rattle.script_run.specs.Input.{IsFront}
 use Rattle.script_run.proofs.InputLemmas.{within_slice, rest_of_slice}

@@ -18,11 +18,11 @@ exit_status (Done refused) s.Saved = status_of_lines refused
 exit_status (Done refused) s.Failed = 4
 exit_status (Done refused) s.Unsettled = 4
 exit_status (Done refused) s.Stale = 4
-exit_status (Stopped line) save = 1
-exit_status (Load fault) save = 3
-exit_status (Script fault) save = 4
-exit_status (Answers written) save = 4
-exit_status (Save fault) save = 4
+exit_status (Stopped line) ended = 1
+exit_status (Load fault) ended = 3
+exit_status (Script fault) ended = 4
+exit_status (Answers written) ended = 4
+exit_status (Save fault) ended = 4
 
 -- what standard error says of a save
 abbrev pub told_of_save : SaveEnd → Message
@@ -34,13 +34,13 @@ told_of_save s.Stale = t.FileChanged
 
 -- what standard error says
 abbrev pub told : RunEnd → SaveEnd → Message
-told (Done refused) save = told_of_save save
-told (Stopped line) save = t.Nothing
-told (Load fault) save = t.Nothing
-told (Script fault) save = t.Nothing
-told (Answers written) save = t.AnswersFailed
-told (Save fault) save = told_of_save save
+told (Done refused) ended = told_of_save ended
+told (Stopped line) ended = t.Nothing
+told (Load fault) ended = t.Nothing
+told (Script fault) ended = t.Nothing
+told (Answers written) ended = t.AnswersFailed
+told (Save fault) ended = told_of_save ended
 
 -- the exit status is that of some end of the save
 abbrev pub IsExitStatus : RunEnd → ℕ → Type 0
-IsExitStatus end status = (save : SaveEnd) × (status ≡ exit_status end save)
+IsExitStatus end status = (ended : SaveEnd) × (status ≡ exit_status end ended)

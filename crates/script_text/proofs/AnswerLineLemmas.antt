@@ -1,5 +1,5 @@
 -- The texts of answers, of refusals and of faults are lines none of which is empty.
-use Rattle.std.proofs.Common.{◌≡◌, ℕ, ℤ, ◌==◌, ◌-◌, length, List, [], ◌∷◌, ◌++◌, map, take, Bool, true, false, Option, Some, None, Result, Ok, Err, cond, refl}
+use Rattle.std.proofs.Common.{◌≡◌, ℕ, ◌==◌, ◌-◌, length, List, [], ◌∷◌, ◌++◌, map, Bool, true, false, Option, Some, None, cond, refl}
 use Rattle.std.specs.Prelude.{codes, decimal}
 use Rattle.std.specs.Fmt.{signed_decimal}
 use Rattle.std.specs.List.{list_all, suffix_len}
@@ -21,12 +21,11 @@ use Rattle.fault_live.specs.declared.fault.Fault.TheVariants as faults
 use Rattle.time_slice.specs.declared.row.Row.{Row}
 use Rattle.bench_rules.specs.declared.info.Info.{Info}
 use Rattle.bench_rules.specs.declared.location.Location.{Location}
-use Rattle.bench_rules.specs.declared.answer.Answer.{Answer}
 use Rattle.bench_rules.specs.declared.answer.Answer.TheVariants as answers
 use Rattle.script_text.specs.Texts.{with_blanks, list_lines, place_text, extension_text, sign_letter, is_plain, is_full_line, IsFullLines}
 use Rattle.script_text.specs.ReportTexts.{fraction_text, location_text, statistics_text, range_text, cell_text, numbered_text, fold_count_text, row_text, of_trace_text, fault_text}
-use Rattle.script_text.specs.AnswerTexts.{order_text, yes_or_no, info_text, code_text, stanza_text, field_text, answer_text}
-use Rattle.script_text.specs.FullLines.{HasPlainTexts, AnswersAreFullLines}
+use Rattle.script_text.specs.AnswerTexts.{order_text, yes_or_no, info_text, code_text, stanza_text, field_text}
+use Rattle.script_text.specs.FullLines.{AnswersAreFullLines}
 use Rattle.script_text.proofs.FullLineLemmas.{plain_both, plain_decimal, plain_signed, plain_first, plain_joined, Plain, no_word, word, full_joined, words_line, one_line, lines_behind, each_full, some_full}
 
 -- ---- the parts of lines

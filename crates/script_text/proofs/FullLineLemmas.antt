@@ -1,13 +1,13 @@
 -- Texts that are lines none of which is empty.
-use Rattle.std.proofs.Common.{◌≡◌, ℕ, ℤ, pos, negsuc, ◌+◌, ◌==◌, ◌&&◌, ◌%◌, ◌/◌, suc, zero, length, List, [], ◌∷◌, ◌++◌, map, take, Bool, true, false, not, nat_lt, nat_eq, Option, Some, None, cond, arith, refl, ◌∙◌, ap, sym, append-nil, length-append}
+use Rattle.std.proofs.Common.{◌≡◌, ℕ, ℤ, pos, negsuc, ◌+◌, ◌==◌, ◌&&◌, ◌%◌, ◌/◌, suc, zero, length, List, [], ◌∷◌, ◌++◌, map, take, Bool, true, false, not, nat_lt, cond, arith, refl, ◌∙◌, ap, sym, append-nil}
 use Rattle.std.specs.Prelude.{codes, decimal}
 use Rattle.std.specs.Fmt.{signed_decimal, digits, digits_onto, digit_glyph}
-use Rattle.std.specs.List.{list_all, join_with_byte}
+use Rattle.std.specs.List.{list_all}
 use Rattle.std.specs.Str.{byte}
 use Rattle.std.proofs.lemmas.Bool.{ne_eqb, lt-ltb}
 use Rattle.std.proofs.lemmas.List.Folds.{list_all-append}
 use Rattle.script_text.specs.Words.{is_line_feed}
-use Rattle.script_text.specs.Texts.{with_blanks, with_line_end, with_line_ends, list_lines, is_plain, is_full_line, IsFullLines}
+use Rattle.script_text.specs.Texts.{with_blanks, with_line_end, list_lines, is_plain, is_full_line, IsFullLines}
 
 and_both : (a b : Bool) → a ≡ true → b ≡ true → (a && b) ≡ true
 and_both a b e f = cc

@@ -4,15 +4,13 @@ use Rattle.std.specs.Result.{IsErrAnd}
 use Rattle.bench_rules.specs.declared.field.Field.{Field}
 use Rattle.bench_rules.specs.declared.edit.Edit.TheVariants as edits
 use Rattle.bench_rules.specs.declared.query.Query.TheVariants as queries
-use Rattle.field_map.specs.declared.place.Place.{Place}
 use Rattle.script_text.specs.declared.command.Command.{Command}
 use Rattle.script_text.specs.declared.command.Command.TheVariants.{Apply, Ask}
 use Rattle.script_text.specs.declared.line_fault.LineFault.{LineFault}
 use Rattle.script_text.specs.declared.line_fault.LineFault.TheVariants.{Number, OutOfMemory}
 use Rattle.script_text.specs.Readers.{field_of}
-use Rattle.script_text.specs.Commands.{read_set, read_get, read_bin, read_getbin, read_text, read_map, read_unmap, read_renumber, IsFieldRead, IsName, HoldsMemory, CommandTakesMemory, IsRead}
-use Rattle.script_text.specs.Numbers.{position_of, number_of, place_of_word}
-use Rattle.script_text.specs.Words.{text_behind_word}
+use Rattle.script_text.specs.Commands.{read_set, read_get, read_bin, read_getbin, read_renumber, IsFieldRead, IsName, HoldsMemory, CommandTakesMemory, IsRead}
+use Rattle.script_text.specs.Numbers.{position_of, number_of}
 
 -- a command of a field: S03 where the word is none
 module _ (expected : Option Field → Result Command LineFault) (make : Field → Command) (none : expected None ≡ Err Number) (some : (f : Field) → expected (Some f) ≡ Ok (make f)) where

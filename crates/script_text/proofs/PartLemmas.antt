@@ -1,5 +1,5 @@
 -- Lines of bytes that come in parts.
-use Rattle.std.proofs.Common.{◌≡◌, ℕ, ◌+◌, suc, length, List, [], ◌∷◌, ◌++◌, true, false, take, drop, arith, refl, ◌∙◌, ap, ap₂, sym, ◌||◌}
+use Rattle.std.proofs.Common.{◌≡◌, ℕ, List, [], ◌∷◌, ◌++◌, true, false, refl, ◌∙◌, ap, ap₂, sym, ◌||◌}
 use Rattle.std.specs.List.{list_any, before_first, after_first, onto_first}
 use Rattle.script_text.specs.Words.{is_line_feed, parts_by_line_feed}
 use Rattle.script_text.proofs.ScriptLemmas.{cut_at}

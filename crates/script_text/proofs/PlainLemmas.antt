@@ -1,5 +1,5 @@
 -- No answer has an empty line: names and texts have no line feed.
-use Rattle.std.proofs.Common.{◌≡◌, ◌⊎◌, ◌&&◌, ◌==◌, ◌||◌, ◌+◌, ◌-◌, ◌*◌, ℕ, suc, zero, length, List, [], ◌∷◌, ◌++◌, map, take, drop, flat_map, Bool, true, false, not, nat_lt, nat_le, bytes_eq, Option, Some, None, Result, Ok, Err, cond, refl, sym, ap, subst, ◌∙◌, arith, inl, inr}
+use Rattle.std.proofs.Common.{◌≡◌, ◌&&◌, ◌==◌, ◌+◌, ℕ, suc, zero, length, List, [], ◌∷◌, ◌++◌, map, drop, Bool, true, false, not, nat_lt, nat_le, bytes_eq, Option, Some, None, Result, Ok, Err, cond, refl, sym, ap, subst, ◌∙◌, arith, inl, inr}
 use Rattle.std.specs.Prelude.{⊤, codes, find, option_map, decimal, max, ◌/◌, ◌%◌}
 use Rattle.std.specs.List.{list_all, cons_option, prefix_len}
 use Rattle.std.specs.Char.{digit_char}
@@ -9,7 +9,7 @@ use Rattle.num_order.specs.Number.{num}
 use Rattle.std.specs.Map.{set_value, remove_entry}
 use Rattle.text_block.specs.declared.code.Code.{Code}
 use Rattle.text_block.specs.declared.code.Code.TheVariants.{Ebcdic, Ascii}
-use Rattle.text_block.specs.Characters.{characters, character_of, escape_of, shown_as, shown_byte, shown_bytes}
+use Rattle.text_block.specs.Characters.{characters, escape_of, shown_as, shown_byte, shown_bytes}
 use Rattle.text_block.specs.Blocks.{code_of}
 use Rattle.text_block.specs.Lines.{shown_line, line_bytes}
 use Rattle.text_block.specs.declared.text_fault.TextFault.{TextFault}

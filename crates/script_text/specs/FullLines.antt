@@ -1,5 +1,5 @@
 -- The texts of answers are lines, none of which is empty.
-use Rattle.std.specs.Prelude.{◌≡◌, ℕ, Bool, true, List, ⊤}
+use Rattle.std.specs.Prelude.{◌≡◌, true, ⊤}
 use Rattle.std.specs.List.{list_all}
 use Rattle.bench_rules.specs.declared.answer.Answer.{Answer}
 use Rattle.bench_rules.specs.declared.answer.Answer.TheVariants as answers

@@ -5,4 +5,6 @@
 #[cfg(test)]
 mod run_tests;
 #[cfg(test)]
+mod session_tests;
+#[cfg(test)]
 mod tests;

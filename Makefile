@@ -33,12 +33,12 @@ build:
 	tools/build
 
 test:
-	@echo 'The whole gate: every proof from nothing. It takes two hours and more.'
+	@echo 'The whole gate: each proof, must-fail edit, test and run. docs/TIMES.md says how long it takes.'
 	@test -x $(SHIPPED) || { echo 'There is no shipped program $(SHIPPED): make build, then make dist.'; exit 1; }
 	bash tests/lines.sh
 	rm -f $(BUILT)
 	rt ci
-	test -x $(BUILT) || tools/build
+	@test -x $(BUILT) || { echo 'rt ci left no program of these sources.'; exit 1; }
 	cd dist && sha256sum -c SHA256SUMS
 	@cmp $(BUILT) $(SHIPPED) || { echo 'The sources do not give the shipped program: see make dist.'; exit 1; }
 	bash tests/run.sh $(BUILT)

@@ -10,6 +10,7 @@
 # demo, install and quick take the shipped program, or the one that PROGRAM=.. names.
 SHIPPED = dist/segywb-x86_64-linux
 BUILT = crates/segywb/out/segywb
+TIMINGS = crates/timings/out/timings
 PROGRAM ?= $(SHIPPED)
 PREFIX ?= /usr/local
 DESTDIR ?=
@@ -76,12 +77,10 @@ uninstall:
 # Speed: the program as ratios to cp and md5sum of the same file in the same run, the reports on two surveys, the order of traces
 # at three sizes, and the running reports over a million records.
 bench: build
-	cd crates/time_records && { rt run > out.log 2>&1 || true; }
-	bash benchmarks/run $(BUILT) crates/time_records/out/time_records
+	cd crates/timings && { rt run > out.log 2>&1 || true; }
+	bash benchmarks/run $(BUILT) $(TIMINGS)
 	bash benchmarks/live $(BUILT)
 	bash benchmarks/slices $(BUILT)
 	bash benchmarks/renumber $(BUILT)
-	cd crates/time_orders && { rt run > out.log 2>&1 || true; }
-	bash benchmarks/orders crates/time_orders/out/time_orders
-	cd crates/time_reports && { rt run > out.log 2>&1 || true; }
-	bash benchmarks/reports crates/time_reports/out/time_reports
+	bash benchmarks/orders $(TIMINGS)
+	bash benchmarks/reports $(TIMINGS)

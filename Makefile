@@ -11,6 +11,7 @@
 # demo, install, quick and python take the shipped program, or the one that PROGRAM=.. names.
 SHIPPED = dist/segywb-x86_64-linux
 BUILT = crates/segywb/out/segywb
+TIMINGS = crates/timings/out/timings
 PROGRAM ?= $(SHIPPED)
 PREFIX ?= /usr/local
 DESTDIR ?=
@@ -37,12 +38,12 @@ build:
 	tools/build
 
 test:
-	@echo 'The whole gate: every proof from nothing. It takes two hours and more.'
+	@echo 'The whole gate: each proof, must-fail edit, test and run. docs/TIMES.md says how long it takes.'
 	@test -x $(SHIPPED) || { echo 'There is no shipped program $(SHIPPED): make build, then make dist.'; exit 1; }
 	bash tests/lines.sh
 	rm -f $(BUILT)
 	rt ci
-	test -x $(BUILT) || tools/build
+	@test -x $(BUILT) || { echo 'rt ci left no program of these sources.'; exit 1; }
 	cd dist && sha256sum -c SHA256SUMS
 	@cmp $(BUILT) $(SHIPPED) || { echo 'The sources do not give the shipped program: see make dist.'; exit 1; }
 	bash tests/run.sh $(BUILT)
@@ -81,14 +82,12 @@ uninstall:
 # Speed: the program as ratios to cp and md5sum of the same file in the same run, the reports on two surveys, the order of traces
 # at three sizes, and the running reports over a million records.
 bench: build
-	cd crates/time_records && { rt run > out.log 2>&1 || true; }
-	bash benchmarks/run $(BUILT) crates/time_records/out/time_records
+	cd crates/timings && { rt run > out.log 2>&1 || true; }
+	bash benchmarks/run $(BUILT) $(TIMINGS)
 	bash benchmarks/save $(BUILT)
 	bash benchmarks/live $(BUILT)
 	bash benchmarks/slices $(BUILT)
 	bash benchmarks/renumber $(BUILT)
 	bash benchmarks/python $(BUILT)
-	cd crates/time_orders && { rt run > out.log 2>&1 || true; }
-	bash benchmarks/orders crates/time_orders/out/time_orders
-	cd crates/time_reports && { rt run > out.log 2>&1 || true; }
-	bash benchmarks/reports crates/time_reports/out/time_reports
+	bash benchmarks/orders $(TIMINGS)
+	bash benchmarks/reports $(TIMINGS)

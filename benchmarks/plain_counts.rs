@@ -1,4 +1,4 @@
-// The same updates as crates/time_reports does, on plain ordered maps: for each record eleven keys are counted, and counted
+// The same updates as crates/timings does, on plain ordered maps: for each record eleven keys are counted, and counted
 // down again. Arguments as there: how many records; `make`, `add` or `remove`; `load` counts as `add` does; or `exchange`, `insert`,
 // `erase` or `move` and how often, which then changes the records at random places, in a list of chunks.
 use std::collections::BTreeMap;
@@ -129,12 +129,12 @@ impl List {
     }
 }
 
-// The generator of crates/time_reports.
+// The generator of crates/timings.
 fn next(number: u64) -> u64 {
     number.wrapping_mul(6364136223846793005).wrapping_add(1442695040888963407)
 }
 
-// One change of the records and of what is counted of them, as in crates/time_reports.
+// One change of the records and of what is counted of them, as in crates/timings.
 fn change(list: &mut List, count: usize, all: &mut All, name: &str, number: u64) {
     let place_of = |number: u64| (number / 0x8000_0000) as usize % count;
     let place = place_of(number);

@@ -47,6 +47,3 @@ pub use crate::overlay::Overlay;
 pub use crate::pass::Pass;
 pub use crate::save_fault::SaveFault;
 pub use crate::views::Views;
-
-#[cfg(test)]
-mod tests;

@@ -43,8 +43,3 @@ pub use crate::limits::Limits;
 pub use crate::load_fault::LoadFault;
 pub use crate::reading::Reading;
 pub use crate::sizes::{BINARY_HEADER_BYTES, FILE_HEADER_BYTES};
-
-#[cfg(test)]
-mod test_files;
-#[cfg(test)]
-mod tests;

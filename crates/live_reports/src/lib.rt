@@ -17,6 +17,3 @@ mod values;
 
 pub use crate::live_reports::LiveReports;
 pub use crate::out_of_memory::OutOfMemory;
-
-#[cfg(test)]
-mod tests;

@@ -23,6 +23,3 @@ pub use crate::of_volume::rows;
 pub use crate::out_of_memory::OutOfMemory;
 pub use crate::row::Row;
 pub use crate::slice_cache::SliceCache;
-
-#[cfg(test)]
-mod tests;

@@ -49,6 +49,3 @@ pub use crate::records::Records;
 pub use crate::records_iter::RecordsIter;
 pub use crate::running::Running;
 pub use crate::statistics::Statistics;
-
-#[cfg(test)]
-mod tests;

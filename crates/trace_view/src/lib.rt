@@ -31,6 +31,3 @@ pub use crate::put::put_run;
 pub use crate::run::Run;
 pub use crate::samples::Samples;
 pub use crate::view::TraceView;
-
-#[cfg(test)]
-mod tests;

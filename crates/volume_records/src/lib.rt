@@ -18,6 +18,3 @@ pub use crate::of_trace::{prepared_headers, prepared_record, record_of_bytes};
 pub use crate::of_traces::prepared_records;
 pub use crate::of_volume::reports;
 pub use crate::out_of_memory::OutOfMemory;
-
-#[cfg(test)]
-mod tests;

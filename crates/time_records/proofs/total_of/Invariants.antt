@@ -1,6 +1,0 @@
-use Rattle.std.proofs.Common.{◌≡◌}
-use Rattle.time_records.proofs.total_of.Given as goal
-
--- a look leaves the file as it is
-abbrev pub invariant-loop-before : goal.invariant-loop-before
-invariant-loop-before l = l.overlay.volume ≡ l.initial.overlay.volume

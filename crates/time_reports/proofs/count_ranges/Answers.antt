@@ -1,8 +1,0 @@
-use Rattle.time_reports.proofs.FrontLemmas.{small_ranges}
-use Rattle.time_reports.proofs.count_ranges.Goals as goal
-
-pub fill-requires-clause-small : goal.fill-requires-clause-small
-fill-requires-clause-small c = small_ranges c.args.records.now c.requires
-
-pub drain-requires-clause-small : goal.drain-requires-clause-small
-drain-requires-clause-small c = small_ranges c.args.records.now c.requires

@@ -1,5 +1,0 @@
-use Rattle.time_slice.specs.Cache.{AreRightOf}
-use Rattle.time_slice.proofs.tests.expect_looks.Given as goal
-
-abbrev pub invariant-loop-k : goal.invariant-loop-k
-invariant-loop-k g l = AreRightOf l.volume.volume.head l.fn.records l.volume.volume.traces l.cache.entries

@@ -1,0 +1,29 @@
+use Rattle.std.proofs.Common.{arith, refl, ◌≡◌, ◌∙◌, ◌+◌, ◌≤◌, ap, length, ℕ, ◌<◌, List, [], take, drop, length-take, length-drop}
+use Rattle.std.specs.Prelude.{slice_index_or}
+use Rattle.std.proofs.lemmas.Bool.{leb-true}
+use Rattle.frame_cut.specs.Cuts.{IsTrace}
+use Rattle.frame_cut.specs.Splice.{splice}
+use Rattle.frame_cut.specs.Traces.{count_of}
+use Rattle.edit_overlay.specs.CountedVolume.{CountedVolume}
+use Rattle.edit_overlay.specs.Each.{part_of}
+use Rattle.volume_records.proofs.EachLemmas.{length-put_each}
+use Rattle.volume_tests.proofs.TwoLemmas.{two}
+use Rattle.volume_tests.proofs.made_tests.prepared_two.Goals as goal
+
+pub prepare_put_each-requires-clause-whole : goal.prepare_put_each-requires-clause-whole
+prepare_put_each-requires-clause-whole c =
+    let v = c.may_put-2.new.volume.volume in
+    let bytes : List ℕ = c.args.bytes.now in
+    let P : ℕ → Type 0 = λ i. IsTrace v.head (splice (slice_index_or v.traces (1 + i) []) c.args.at 2 (part_of bytes 2 i)) in
+    let front : length (take 2 bytes) ≡ 2 = omega (arith, length-take 2 bytes, c.told-bytes) in
+    let back : length (take 2 (drop 2 bytes)) ≡ 2 = omega (arith, length-take 2 (drop 2 bytes), length-drop 2 bytes, c.told-bytes) in
+    let first : P 0 = rw (c.may_put-2.ensures.volume, c.may_put.ensures.volume) (rw front at (c.if-not-may_put.ensures.whole refl)) in
+    let second : P 1 = rw c.may_put-2.ensures.volume (rw back at (c.if-not-may_put-2.ensures.whole refl)) in
+    λ k h. two P first second k (omega (arith, h, c.told-bytes))
+
+pub prepared_records-requires-clause-last : goal.prepared_records-requires-clause-last
+prepared_records-requires-clause-last c =
+    let v = c.may_put-2.new.volume.volume in
+    let there : 3 ≤ count_of v = rw c.may_put-2.ensures.volume (leb-true 3 _ (c.if-not-may_put-2.ensures.there refl)) in
+    let many : count_of c.prepare_put_each.new.self.prepared ≡ count_of v = ap (λ (o : CountedVolume). count_of o.prepared) c.in_ok-prepare_put_each.ensures.ok ∙ length-put_each v.traces 1 c.args.at 2 c.args.bytes.now in
+    omega (arith, there, many)

@@ -1,0 +1,389 @@
+// Files that are cut, and files that are refused, with values worked by hand. That each length of
+// such a file is cut or refused as it should is tried on the built program too.
+use crate::files::{
+    counted_file, extended_file, little_file, plain_file, put, texted_file, trailed_file,
+    varying_file,
+};
+use crate::heads::plain_head;
+use frame_cut::{
+    Extent, Head, Limits, LoadFault, Reading, cut, extension_count, front_length, head,
+    sample_count, trace_length,
+};
+use num_order::Order;
+use sample_codes::Format;
+use std::alloc::Global;
+use std::process::Abort;
+use std::test::Fail;
+
+// Limits that no file here meets.
+fn wide(rt: &impl Abort) -> Limits {
+    Limits::new(1 << 32, u32::MAX).expect(rt, "below 2^40")
+}
+
+// The number of traces of the file, or why it is refused.
+fn traces(alloc: Global, bytes: &[u8], limits: Limits) -> Result<u32, LoadFault> {
+    match cut(alloc, bytes, Reading::AsWritten, limits) {
+        Ok(cut) => Ok(cut.count()),
+        Err(fault) => Err(fault),
+    }
+}
+
+// The first bytes of a file.
+fn front(bytes: &[u8], length: usize) -> &[u8] {
+    &bytes[..length.min(bytes.len())]
+}
+
+// Whether the parts lie at these places, with these lengths.
+fn lie_at(extents: &[Extent], places: &[(u64, u64)]) -> bool {
+    let mut lie = extents.len() == places.len();
+    for (extent, (start, length)) in extents.iter().zip(places) {
+        lie = lie && extent.start == *start && extent.length == *length;
+    }
+    lie
+}
+
+// Cuts the file into traces at these places, with these lengths.
+fn cuts_at(rt: &impl Abort, alloc: Global, file: &[u8], places: &[(u64, u64)]) -> Result<(), Fail> {
+    let cut = cut(alloc, file, Reading::AsWritten, wide(rt))?;
+    assert_eq!(rt; cut.count() as usize, places.len());
+    assert_eq!(rt; cut.head(), head(file, Reading::AsWritten, wide(rt))?);
+    assert!(rt; lie_at(cut.extents(), places));
+    assert!(rt; lie_at(&cut.into_extents(), places));
+    Ok(())
+}
+
+#[test]
+fn cuts_files_with_their_own_headers_alone(rt: HostRuntime) -> Result<(), Fail> {
+    let alloc = rt.alloc();
+    let plain = [(3600, 244), (3844, 244), (4088, 244)];
+    cuts_at(&rt, alloc, &plain_file(alloc)?, &plain)?;
+    let varying = [(3600, 246), (3846, 244), (4090, 131310)];
+    cuts_at(&rt, alloc, &varying_file(alloc)?, &varying)?;
+    cuts_at(&rt, alloc, &little_file(alloc)?, &[(3600, 246)])
+}
+
+#[test]
+fn cuts_files_with_extensions_or_text_headers(rt: HostRuntime) -> Result<(), Fail> {
+    let alloc = rt.alloc();
+    cuts_at(&rt, alloc, &extended_file(alloc)?, &[(3600, 484)])?;
+    cuts_at(&rt, alloc, &counted_file(alloc)?, &[(3600, 724)])?;
+    cuts_at(&rt, alloc, &trailed_file(alloc)?, &[(3600, 484)])?;
+    let texted = [(10000, 244), (10244, 244), (10488, 244)];
+    cuts_at(&rt, alloc, &texted_file(alloc)?, &texted)
+}
+
+#[test]
+fn reads_heads(rt: HostRuntime) -> Result<(), Fail> {
+    let alloc = rt.alloc();
+    let mut v = plain_head();
+    v.fixed = false;
+    let mut k = plain_head();
+    k.blocks = 2;
+    k.traces_at = 10000;
+    let mut t = plain_head();
+    t.order = Order::Little;
+    t.major = 2;
+    t.format = Format::Signed24;
+    let mut counted = texted_file(alloc)?;
+    put(&mut counted, 3505, &[0, 2]);
+    let heads = [
+        (plain_file(alloc)?, plain_head()),
+        (varying_file(alloc)?, v),
+        (texted_file(alloc)?, k),
+        (counted, k),
+        (little_file(alloc)?, t),
+    ];
+    for (file, expected) in heads {
+        assert_eq!(rt; head(&file, Reading::AsWritten, wide(&rt))?, expected);
+    }
+    Ok(())
+}
+
+#[test]
+fn reads_heads_with_trace_header_extensions(rt: HostRuntime) -> Result<(), Fail> {
+    let alloc = rt.alloc();
+    let mut x = plain_head();
+    x.major = 2;
+    x.extensions = 1;
+    let mut y = x;
+    y.fixed = false;
+    y.extensions = 3;
+    let mut z = x;
+    z.trailer = 2;
+    for (file, expected) in [
+        (extended_file(alloc)?, x),
+        (counted_file(alloc)?, y),
+        (trailed_file(alloc)?, z),
+    ] {
+        assert_eq!(rt; head(&file, Reading::AsWritten, wide(&rt))?, expected);
+        let mut fixed = expected;
+        fixed.fixed = true;
+        assert_eq!(rt; head(&file, Reading::Fixed, wide(&rt))?, fixed, "as fixed");
+    }
+    Ok(())
+}
+
+// In revision 0 bytes 3503 to 3532 do not count, and the wide number of samples neither.
+#[test]
+fn reads_heads_of_revision_0(rt: HostRuntime) -> Result<(), Fail> {
+    let alloc = rt.alloc();
+    let mut expected = plain_head();
+    expected.major = 0;
+    expected.minor = 7;
+    expected.fixed = false;
+    for mut file in [
+        plain_file(alloc)?,
+        extended_file(alloc)?,
+        trailed_file(alloc)?,
+        texted_file(alloc)?,
+    ] {
+        put(&mut file, 3269, &[0, 0, 0, 9]);
+        put(&mut file, 3501, &[0, 7]);
+        assert_eq!(rt; head(&file, Reading::AsWritten, wide(&rt))?, expected);
+    }
+    Ok(())
+}
+
+#[test]
+fn refuses_by_the_head(rt: HostRuntime) -> Result<(), Fail> {
+    let alloc = rt.alloc();
+    let changes: [(usize, &[u8], LoadFault); 14] = [
+        (3297, &[2, 1, 4, 3], LoadFault::PairSwapped),
+        (3501, &[2, 1], LoadFault::Revision(2, 1)),
+        (3501, &[3], LoadFault::Revision(3, 0)),
+        (3225, &[0, 1], LoadFault::FloatFormat(1)),
+        (3225, &[0, 5], LoadFault::FloatFormat(5)),
+        (3225, &[0, 6], LoadFault::FloatFormat(6)),
+        (3225, &[0, 4], LoadFault::GainFormat),
+        (3225, &[0, 0], LoadFault::UnknownFormat(0)),
+        (3225, &[1, 3], LoadFault::UnknownFormat(259)),
+        (3505, &[0, 1], LoadFault::TextCount(1)),
+        (3505, &[0x7F, 0xFF], LoadFault::TextCount(32767)),
+        (3505, &[0xFF, 0xFE], LoadFault::TextCount(-2)),
+        (3505, &[0xFF, 0xFF], LoadFault::TextCount(-1)),
+        (3221, &[0xFF, 0xFF], LoadFault::Truncated(1)),
+    ];
+    for (byte, new, fault) in changes {
+        let mut file = plain_file(alloc)?;
+        put(&mut file, byte, new);
+        assert_eq!(rt; traces(alloc, &file, wide(&rt)), Err(fault), "at {byte}");
+    }
+    Ok(())
+}
+
+#[test]
+fn refuses_hostile_counts(rt: HostRuntime) -> Result<(), Fail> {
+    let alloc = rt.alloc();
+    let changes: [(usize, &[u8], LoadFault); 10] = [
+        (3269, &[0xFF; 4], LoadFault::Truncated(1)),
+        (3507, &[0xFF; 4], LoadFault::Extensions(-1)),
+        (3507, &[0, 0, 1, 0], LoadFault::Extensions(256)),
+        (3507, &[0, 0, 0, 255], LoadFault::Truncated(1)),
+        (3529, &[0xFF; 4], LoadFault::Trailer(-1)),
+        (3529, &[0, 0, 0, 1], LoadFault::Trailer(1)),
+        (
+            3529,
+            &[0x7F, 0xFF, 0xFF, 0xFF],
+            LoadFault::Trailer(i32::MAX),
+        ),
+        (3521, &[0xFF; 8], LoadFault::FirstTrace(u64::MAX)),
+        (3527, &[0x0E, 0x11], LoadFault::FirstTrace(3601)),
+        (3997, &[0xFF, 0xFF], LoadFault::ExtensionCount(1)),
+    ];
+    for (byte, new, fault) in changes {
+        let mut file = extended_file(alloc)?;
+        put(&mut file, byte, new);
+        assert_eq!(rt; traces(alloc, &file, wide(&rt)), Err(fault), "at {byte}");
+    }
+    let mut file = counted_file(alloc)?;
+    put(&mut file, 3997, &[0, 4]);
+    assert_eq!(rt;
+        traces(alloc, &file, wide(&rt)),
+        Err(LoadFault::ExtensionCount(1))
+    );
+    Ok(())
+}
+
+// The place of the first trace may be named, the number of traces decides nothing, and in a file of
+// traces of one length a trace's own number of samples does not count.
+#[test]
+fn passes_over_other_counts(rt: HostRuntime) -> Result<(), Fail> {
+    let alloc = rt.alloc();
+    let changes: [(usize, &[u8]); 3] = [
+        (3527, &[0x0E, 0x10]),
+        (3513, &[0xFF; 8]),
+        (3715, &[0xFF, 0xFF]),
+    ];
+    for (byte, new) in changes {
+        let mut file = extended_file(alloc)?;
+        put(&mut file, byte, new);
+        assert_eq!(rt; traces(alloc, &file, wide(&rt)), Ok(1), "at {byte}");
+    }
+    let mut file = varying_file(alloc)?;
+    put(&mut file, 3846 + 115, &[0xFF, 0xFF]);
+    assert_eq!(rt; traces(alloc, &file, wide(&rt)), Ok(3));
+    Ok(())
+}
+
+#[test]
+fn cuts_traces_of_one_length_at_every_length(rt: HostRuntime) -> Result<(), Fail> {
+    let alloc = rt.alloc();
+    let s = plain_file(alloc)?;
+    for length in 0..4333 {
+        let expected = match length {
+            0..3600 => Err(LoadFault::Short(length as u64)),
+            3600 => Ok(0),
+            3601..3844 => Err(LoadFault::Truncated(1)),
+            3844 => Ok(1),
+            3845..4088 => Err(LoadFault::Truncated(2)),
+            4088 => Ok(2),
+            4332 => Ok(3),
+            _ => Err(LoadFault::Truncated(3)),
+        };
+        assert_eq!(rt;
+            traces(alloc, front(&s, length), wide(&rt)),
+            expected,
+            "at {length}"
+        );
+    }
+    let x = extended_file(alloc)?;
+    for length in 3600..4084 {
+        let expected = if length == 3600 {
+            Ok(0)
+        } else {
+            Err(LoadFault::Truncated(1))
+        };
+        assert_eq!(rt;
+            traces(alloc, front(&x, length), wide(&rt)),
+            expected,
+            "at {length}"
+        );
+    }
+    Ok(())
+}
+
+#[test]
+fn keeps_the_trailer_records_apart(rt: HostRuntime) -> Result<(), Fail> {
+    let alloc = rt.alloc();
+    let z = trailed_file(alloc)?;
+    for (length, expected) in [
+        (10484, Ok(1)),
+        (10483, Err(LoadFault::Truncated(1))),
+        (10000, Ok(0)),
+        (9999, Err(LoadFault::Trailer(2))),
+        (3600, Err(LoadFault::Trailer(2))),
+    ] {
+        assert_eq!(rt;
+            traces(alloc, front(&z, length), wide(&rt)),
+            expected,
+            "at {length}"
+        );
+    }
+    Ok(())
+}
+
+#[test]
+fn keeps_the_limits(rt: HostRuntime) -> Result<(), Fail> {
+    let alloc = rt.alloc();
+    assert!(rt; Limits::new((1 << 40) + 1, 0).is_none());
+    let largest = Limits::new(1 << 40, 7).expect(&rt, "2^40");
+    assert_eq!(rt; (largest.bytes(), largest.traces()), (1 << 40, 7));
+    let s = plain_file(alloc)?;
+    for (bytes, count, expected) in [
+        (4332, 3, Ok(3)),
+        (4331, 3, Err(LoadFault::TooLarge)),
+        (0, 0, Err(LoadFault::TooLarge)),
+        (4332, 2, Err(LoadFault::TooManyTraces)),
+        (4332, 0, Err(LoadFault::TooManyTraces)),
+    ] {
+        let limits = Limits::new(bytes, count).expect(&rt, "below 2^40");
+        assert_eq!(rt;
+            traces(alloc, &s, limits),
+            expected,
+            "{bytes} bytes, {count} traces"
+        );
+    }
+    Ok(())
+}
+
+#[test]
+fn tells_torn_traces_first(rt: HostRuntime) -> Result<(), Fail> {
+    let alloc = rt.alloc();
+    let s = plain_file(alloc)?;
+    let limits = Limits::new(4332, 2).expect(&rt, "below 2^40");
+    assert_eq!(rt;
+        traces(alloc, front(&s, 4331), limits),
+        Err(LoadFault::Truncated(3))
+    );
+    let mut x = extended_file(alloc)?;
+    put(&mut x, 3600 + 240 + 157, &[0, 2]);
+    assert_eq!(rt;
+        traces(alloc, front(&x, 4079), wide(&rt)),
+        Err(LoadFault::Truncated(1))
+    );
+    assert_eq!(rt;
+        traces(alloc, front(&x, 4080), wide(&rt)),
+        Err(LoadFault::ExtensionCount(1))
+    );
+    Ok(())
+}
+
+// A trace of one extension, and of as many samples as 32 bits hold.
+fn measures_the_longest(rt: &impl Abort, mut head: Head, front: &[u8; 480]) {
+    assert_eq!(rt; front_length(&head), 480);
+    assert!(rt; head.extensions != 0);
+    assert_eq!(rt; extension_count(&head, front), Some(1));
+    assert_eq!(rt; trace_length(&head, front), Some(480 + 2 * 4294967295));
+    head.format = Format::Unsigned64;
+    assert_eq!(rt; trace_length(&head, front), Some(480 + 8 * 4294967295));
+    head.order = Order::Little;
+    assert_eq!(rt; extension_count(&head, front), None);
+    assert_eq!(rt; trace_length(&head, front), None);
+}
+
+#[test]
+fn measures_traces(rt: HostRuntime) -> Result<(), Fail> {
+    let head = head(&counted_file(rt.alloc())?, Reading::AsWritten, wide(&rt))?;
+    let mut front = [0u8; 480];
+    assert_eq!(rt; front_length(&head), 480);
+    assert!(rt; head.extensions != 0);
+    assert_eq!(rt; extension_count(&head, &front), Some(3));
+    assert_eq!(rt; sample_count(&head, &front), 2);
+    put(&mut front, 115, &[1, 0]);
+    assert_eq!(rt; sample_count(&head, &front), 256);
+    put(&mut front, 240 + 137, &[0xFF; 4]);
+    assert_eq!(rt; sample_count(&head, &front), u32::MAX);
+    put(&mut front, 240 + 157, &[0, 1]);
+    measures_the_longest(&rt, head, &front);
+    Ok(())
+}
+
+#[test]
+fn names_faults(rt: HostRuntime) -> Result<(), Fail> {
+    let faults = [
+        (LoadFault::ReadFailed, "L01 read failed"),
+        (LoadFault::TooLarge, "L02 too large"),
+        (LoadFault::Short(3599), "L03 short 3599"),
+        (LoadFault::PairSwapped, "L04 pair swapped"),
+        (LoadFault::Revision(2, 1), "L05 revision 2.1"),
+        (LoadFault::FloatFormat(5), "L06 float format 5"),
+        (LoadFault::GainFormat, "L07 gain format"),
+        (LoadFault::UnknownFormat(13), "L08 unknown format 13"),
+        (LoadFault::TextCount(-2), "L09 text count -2"),
+        (LoadFault::Extensions(-1), "L10 extensions -1"),
+        (LoadFault::Trailer(2147483647), "L11 trailer 2147483647"),
+        (
+            LoadFault::FirstTrace(u64::MAX),
+            "L12 first trace 18446744073709551615",
+        ),
+        (LoadFault::ExtensionCount(1), "L13 extension count trace 1"),
+        (LoadFault::Truncated(3), "L14 truncated trace 3"),
+        (LoadFault::TooManyTraces, "L15 too many traces"),
+        (LoadFault::OutOfMemory, "L16 out of memory"),
+    ];
+    for (fault, text) in faults {
+        let printed = format!(in rt.alloc(); "{fault}")?;
+        assert_eq!(rt; printed.as_str(), text);
+    }
+    Ok(())
+}

@@ -1,0 +1,579 @@
+// Loads, edits and saves over a small file. One function owns the overlay of each test and lends it
+// out: the check of a function that owns an overlay takes the longer the more it does, and that of
+// a borrower stays short. What it is lent to is a `dyn`: a type parameter would have it checked
+// anew for each test. A save that fails is tested through the bench.
+use crate::files::two_traces;
+use crate::puts::{is_trace, may_put, put};
+use device_io::{Sink, Source, StepReader};
+use edit_overlay::Overlay;
+use frame_cut::{Limits, LoadFault, Reading};
+use std::alloc::Global;
+use std::process::Abort;
+use std::test::Fail;
+use trace_view::TraceView;
+
+// A trace of so many samples as its header says (bytes 115-116), each of them the same.
+fn trace(alloc: Global, samples: u8, sample: u8) -> Result<Vec<u8>, Fail> {
+    let mut trace = vec![in alloc; 0u8; 240]?;
+    trace.as_mut_slice()[115] = samples;
+    trace.resize(240 + 2 * samples as usize, sample)?;
+    Ok(trace)
+}
+
+// The bytes from..to, where there are as many.
+fn part(bytes: &[u8], from: usize, to: usize) -> &[u8] {
+    if from <= to && to <= bytes.len() {
+        &bytes[from..to]
+    } else {
+        &[]
+    }
+}
+
+fn limits() -> Result<Limits, Fail> {
+    Ok(Limits::new(4088, 2).ok_or("limits")?)
+}
+
+fn volume(alloc: Global) -> Result<Overlay, Fail> {
+    let file = two_traces(alloc)?;
+    Ok(Overlay::from_bytes(alloc, file, Reading::AsWritten, limits()?)?)
+}
+
+// What the function answers of the small file and of an overlay over it.
+fn on_small(
+    alloc: Global,
+    ask: &mut dyn FnMut(&[u8], &mut Overlay) -> Result<(), Fail>,
+) -> Result<(), Fail>
+    requires { IsAlwaysCallable ask.now }
+{
+    let file = two_traces(alloc)?;
+    let mut volume = volume(alloc)?;
+    ask(file.as_slice(), &mut volume)
+}
+
+// Asserts that a save writes these parts, one behind the other.
+fn expect_saved(
+    rt: &impl Abort,
+    alloc: Global,
+    volume: &Overlay,
+    parts: &[&[u8]],
+) -> Result<(), Fail> {
+    let mut expected = Vec::new(alloc);
+    for part in parts {
+        expected.extend_from_slice(part)?;
+    }
+    let mut writer = Sink::new(Vec::new(alloc));
+    volume.write_to(&mut writer)?;
+    let file = writer.into_inner();
+    assert_eq!(rt; file.len(), volume.length() as usize);
+    assert!(rt; file.as_slice() == expected.as_slice());
+    Ok(())
+}
+
+// Asserts that trace p has these bytes, at most 300.
+fn expect_trace(rt: &impl Abort, volume: &mut Overlay, p: u32, expected: &[u8]) {
+    assert!(rt; shows(volume, p, expected));
+}
+
+fn shows(volume: &mut Overlay, p: u32, expected: &[u8]) -> bool {
+    match volume.look(p) {
+        Some(view) => has_bytes(&view, expected),
+        None => false,
+    }
+}
+
+fn has_bytes(view: &TraceView<'_>, expected: &[u8]) -> bool {
+    let mut room = [0u8; 300];
+    if expected.len() > room.len() || view.length() != expected.len() as u64 {
+        return false;
+    }
+    let shown = &mut room[..expected.len()];
+    view.read(0, shown);
+    *shown == *expected
+}
+
+// Asserts that a pass shows traces of these bytes, at most 300 each.
+fn expect_pass(rt: &impl Abort, volume: &mut Overlay, expected: &[&[u8]]) {
+    let mut passed = 0;
+    for view in volume.pass() {
+        assert!(rt; passed < expected.len());
+        assert!(rt; has_bytes(&view, expected[passed]));
+        passed += 1;
+    }
+    assert_eq!(rt; passed, expected.len());
+}
+
+// Lays two of the bytes over each of the first two traces.
+fn put_over_two(alloc: Global, volume: &mut Overlay, at: u64, bytes: &[u8; 4]) -> Result<(), Fail> {
+    if !may_put(volume, 1, at, &bytes[..2]) {
+        return Err(Fail::from("no place for the bytes"));
+    }
+    if !may_put(volume, 2, at, &bytes[2..]) {
+        return Err(Fail::from("no place for the bytes"));
+    }
+    volume.put_each(alloc, 1, at, 2, bytes)?;
+    Ok(())
+}
+
+fn prepare(alloc: Global, volume: &mut Overlay, p: u32, at: u64, bytes: &[u8]) -> Result<(), Fail> {
+    if !may_put(volume, p, at, bytes) {
+        return Err(Fail::from("no place for the bytes"));
+    }
+    volume.prepare_put(alloc, p, at, bytes)?;
+    Ok(())
+}
+
+// Prepares two of the bytes over each of the first two traces.
+fn prepare_over_two(
+    alloc: Global,
+    volume: &mut Overlay,
+    at: u64,
+    bytes: &[u8; 4],
+) -> Result<(), Fail> {
+    if !may_put(volume, 1, at, &bytes[..2]) {
+        return Err(Fail::from("no place for the bytes"));
+    }
+    if !may_put(volume, 2, at, &bytes[2..]) {
+        return Err(Fail::from("no place for the bytes"));
+    }
+    volume.prepare_put_each(alloc, 1, at, 2, bytes)?;
+    Ok(())
+}
+
+// Whether trace p, of 244 bytes, ends so as it would be.
+fn ends_ahead(volume: &mut Overlay, p: u32, end: &[u8]) -> bool {
+    let Some(view) = volume.look_prepared(p) else {
+        return false;
+    };
+    if view.length() != 244 {
+        return false;
+    }
+    let mut room = [0u8; 244];
+    view.read(0, &mut room);
+    *part(&room, 240, 244) == *end
+}
+
+fn prepare_move(alloc: Global, volume: &mut Overlay, a: u32, b: u32) -> Result<(), Fail> {
+    let count = volume.count();
+    if a == 0 || a > count || b == 0 || b > count {
+        return Err(Fail::from("no such trace"));
+    }
+    volume.prepare_move(alloc, a, b)?;
+    Ok(())
+}
+
+fn insert(alloc: Global, volume: &mut Overlay, p: u32, bytes: &[u8]) -> Result<(), Fail> {
+    if volume.count() > 10_000 || volume.length() > 10_000_000 || bytes.len() > 10_000 {
+        return Err(Fail::from("too much"));
+    }
+    if p == 0 || p > volume.count() + 1 {
+        return Err(Fail::from("no such position"));
+    }
+    if !is_trace(&volume.head(), bytes) {
+        return Err(Fail::from("no trace"));
+    }
+    volume.insert(alloc, p, Vec::from_slice(alloc, bytes)?)?;
+    Ok(())
+}
+
+fn replace(alloc: Global, volume: &mut Overlay, p: u32, bytes: &[u8]) -> Result<(), Fail> {
+    if volume.length() > 10_000_000 || bytes.len() > 10_000 {
+        return Err(Fail::from("too much"));
+    }
+    if p == 0 || p > volume.count() {
+        return Err(Fail::from("no such trace"));
+    }
+    if !is_trace(&volume.head(), bytes) {
+        return Err(Fail::from("no trace"));
+    }
+    volume.replace(alloc, p, Vec::from_slice(alloc, bytes)?);
+    Ok(())
+}
+
+fn delete(volume: &mut Overlay, p: u32) -> Result<(), Fail> {
+    if p == 0 || p > volume.count() {
+        return Err(Fail::from("no such trace"));
+    }
+    volume.delete(p);
+    Ok(())
+}
+
+fn move_to(alloc: Global, volume: &mut Overlay, a: u32, b: u32) -> Result<(), Fail> {
+    let count = volume.count();
+    if a == 0 || a > count || b == 0 || b > count {
+        return Err(Fail::from("no such trace"));
+    }
+    volume.move_to(alloc, a, b)?;
+    Ok(())
+}
+
+#[test]
+fn cuts_bytes_in_memory(rt: HostRuntime) -> Result<(), Fail> {
+    let alloc = rt.alloc();
+    on_small(
+        alloc,
+        &mut |file: &[u8], volume: &mut Overlay| {
+            assert_eq!(rt; volume.count(), 2);
+            assert_eq!(rt; volume.length(), 4088);
+            assert_eq!(rt; volume.head().samples, 2);
+            assert!(rt; volume.block(1).is_none());
+            assert!(rt; volume.trailer(1).is_none());
+            expect_trace(&rt, volume, 1, part(file, 3600, 3844));
+            expect_trace(&rt, volume, 2, part(file, 3844, 4088));
+            expect_saved(&rt, alloc, volume, &[file])
+        },
+    )
+}
+
+#[test]
+fn counts_looks(rt: HostRuntime) -> Result<(), Fail> {
+    on_small(
+        rt.alloc(),
+        &mut |_: &[u8], volume: &mut Overlay| {
+            assert_eq!(rt; volume.looks(), 0);
+            assert!(rt; volume.look(1).is_some());
+            assert!(rt; volume.look(2).is_some());
+            assert!(rt; volume.look(2).is_some());
+            assert!(rt; volume.look(0).is_none());
+            assert!(rt; volume.look(3).is_none());
+            assert_eq!(rt; volume.looks(), 3);
+            Ok(())
+        },
+    )
+}
+
+// A put over the second trace and a new one in front are seen, and each pass counts its looks.
+#[test]
+fn passes_over_all_traces(rt: HostRuntime) -> Result<(), Fail> {
+    let alloc = rt.alloc();
+    let new = trace(alloc, 1, 0x22)?;
+    on_small(
+        alloc,
+        &mut |file: &[u8], volume: &mut Overlay| {
+            let (new, first) = (new.as_slice(), part(file, 3600, 3844));
+            expect_pass(&rt, volume, &[first, part(file, 3844, 4088)]);
+            assert_eq!(rt; volume.looks(), 2);
+            put(alloc, volume, 2, 0, part(file, 3600, 3844))?;
+            insert(alloc, volume, 1, new)?;
+            let before = volume.looks();
+            expect_pass(&rt, volume, &[new, first, first]);
+            assert_eq!(rt; volume.looks(), before.saturating_add(3));
+            Ok(())
+        },
+    )
+}
+
+// A pass counts its looks where it is made, and one that is broken off counts no fewer.
+#[test]
+fn counts_a_pass_that_is_broken_off(rt: HostRuntime) -> Result<(), Fail> {
+    on_small(
+        rt.alloc(),
+        &mut |_: &[u8], volume: &mut Overlay| {
+            for view in volume.pass() {
+                assert_eq!(rt; view.length(), 244);
+                break;
+            }
+            assert_eq!(rt; volume.looks(), 2);
+            Ok(())
+        },
+    )
+}
+
+fn expect_as_loaded(
+    rt: &impl Abort,
+    alloc: Global,
+    loaded: &Overlay,
+    file: &[u8],
+) -> Result<(), Fail> {
+    assert_eq!(rt; loaded.count(), 2);
+    assert_eq!(rt; loaded.looks(), 0);
+    expect_saved(rt, alloc, loaded, &[file])
+}
+
+fn load_in_steps(rt: &impl Abort, alloc: Global, file: &[u8]) -> Result<(), Fail> {
+    let mut reader = Source::new(StepReader::new(file, 1, u64::MAX));
+    let loaded = Overlay::load(alloc, &mut reader, Reading::AsWritten, limits()?)?;
+    assert_eq!(rt; reader.failures(), 0);
+    expect_as_loaded(rt, alloc, &loaded, file)
+}
+
+#[test]
+fn loads_in_steps(rt: HostRuntime) -> Result<(), Fail> {
+    let alloc = rt.alloc();
+    let file = two_traces(alloc)?;
+    load_in_steps(&rt, alloc, file.as_slice())
+}
+
+// The fault of a load, if it met one.
+fn load_fault(
+    alloc: Global,
+    reader: &mut Source<StepReader<'_>>,
+    limits: Limits,
+) -> Option<LoadFault> {
+    Overlay::load(alloc, reader, Reading::AsWritten, limits).err()
+}
+
+fn refuse_to_load(rt: &impl Abort, alloc: Global, file: &[u8]) -> Result<(), Fail> {
+    let mut reader = Source::new(StepReader::new(file, 1000, 3));
+    let refused = load_fault(alloc, &mut reader, limits()?);
+    assert_eq!(rt; refused, Some(LoadFault::ReadFailed));
+    assert_eq!(rt; reader.failures(), 1);
+
+    let small = Limits::new(4087, 2).ok_or("limits")?;
+    let mut reader = Source::new(StepReader::new(file, 1000, u64::MAX));
+    let refused = load_fault(alloc, &mut reader, small);
+    assert_eq!(rt; refused, Some(LoadFault::TooLarge));
+    Ok(())
+}
+
+#[test]
+fn refuses_what_cannot_be_read(rt: HostRuntime) -> Result<(), Fail> {
+    let alloc = rt.alloc();
+    let file = two_traces(alloc)?;
+    refuse_to_load(&rt, alloc, file.as_slice())
+}
+
+// A put over an older one, and one beside it.
+#[test]
+fn puts_and_saves(rt: HostRuntime) -> Result<(), Fail> {
+    let alloc = rt.alloc();
+    on_small(
+        alloc,
+        &mut |file: &[u8], volume: &mut Overlay| {
+            put(alloc, volume, 2, 240, &[1, 2])?;
+            put(alloc, volume, 2, 241, &[3])?;
+            put(alloc, volume, 2, 242, &[4, 5])?;
+            let front = part(file, 0, 4084);
+            expect_saved(&rt, alloc, volume, &[front, &[1, 3, 4, 5]])
+        },
+    )
+}
+
+#[test]
+fn puts_text_and_head(rt: HostRuntime) -> Result<(), Fail> {
+    let alloc = rt.alloc();
+    on_small(
+        alloc,
+        &mut |file: &[u8], volume: &mut Overlay| {
+            volume.put_text(40, &[0xC3; 80]);
+            volume.put_head(398, &[6, 7]);
+            let text = part(file, 0, 3120);
+            let head = part(file, 3200, 3598);
+            let traces = part(file, 3600, 4088);
+            expect_saved(
+                &rt,
+                alloc,
+                volume,
+                &[text, &[0xC3; 80], head, &[6, 7], traces],
+            )
+        },
+    )
+}
+
+#[test]
+fn puts_over_two_traces(rt: HostRuntime) -> Result<(), Fail> {
+    let alloc = rt.alloc();
+    on_small(
+        alloc,
+        &mut |file: &[u8], volume: &mut Overlay| {
+            put(alloc, volume, 2, 241, &[3])?;
+            put_over_two(alloc, volume, 240, &[1, 2, 5, 6])?;
+            let front = part(file, 0, 3840);
+            let middle = part(file, 3842, 4084);
+            let back = part(file, 4086, 4088);
+            expect_saved(&rt, alloc, volume, &[front, &[1, 2], middle, &[5, 6], back])
+        },
+    )
+}
+
+fn prepare_and_discard(
+    rt: &impl Abort,
+    alloc: Global,
+    file: &[u8],
+    volume: &mut Overlay,
+) -> Result<(), Fail> {
+    let first = part(file, 3600, 3844);
+    prepare_over_two(alloc, volume, 240, &[1, 2, 5, 6])?;
+    expect_trace(rt, volume, 1, first);
+    assert!(rt; volume.looks() == 3);
+    assert!(rt; ends_ahead(volume, 1, &[1, 2, 0, 0]));
+    assert!(rt; ends_ahead(volume, 2, &[5, 6, 0, 9]));
+    assert!(rt; volume.looks() == 5);
+    volume.discard();
+    assert!(rt; ends_ahead(volume, 1, &[0, 7, 0, 0]));
+    expect_saved(rt, alloc, volume, &[file])
+}
+
+fn prepare_and_commit(
+    rt: &impl Abort,
+    alloc: Global,
+    file: &[u8],
+    volume: &mut Overlay,
+) -> Result<(), Fail> {
+    prepare(alloc, volume, 2, 240, &[3, 4])?;
+    assert!(rt; ends_ahead(volume, 1, &[0, 7, 0, 0]));
+    assert!(rt; ends_ahead(volume, 2, &[3, 4, 0, 9]));
+    expect_saved(rt, alloc, volume, &[file])?;
+    volume.commit();
+    volume.commit();
+    expect_saved(rt, alloc, volume, &[part(file, 0, 4084), &[3, 4, 0, 9]])
+}
+
+// The traces stay as they are, and are shown as they would be, until the edit is made.
+#[test]
+fn prepares_and_commits(rt: HostRuntime) -> Result<(), Fail> {
+    let alloc = rt.alloc();
+    on_small(
+        alloc,
+        &mut |file: &[u8], volume: &mut Overlay| {
+            prepare_and_discard(&rt, alloc, file, volume)?;
+            prepare_and_commit(&rt, alloc, file, volume)
+        },
+    )
+}
+
+fn move_and_discard(
+    rt: &impl Abort,
+    alloc: Global,
+    file: &[u8],
+    last: &[u8],
+    volume: &mut Overlay,
+) -> Result<(), Fail> {
+    prepare_move(alloc, volume, 3, 1)?;
+    assert!(rt; ends_ahead(volume, 1, &[0x11; 4]));
+    assert!(rt; ends_ahead(volume, 2, &[0, 7, 0, 0]));
+    assert!(rt; ends_ahead(volume, 3, &[0, 0, 0, 9]));
+    volume.discard();
+    assert!(rt; ends_ahead(volume, 1, &[0, 7, 0, 0]));
+    expect_saved(rt, alloc, volume, &[file, last])
+}
+
+fn move_and_commit(
+    rt: &impl Abort,
+    alloc: Global,
+    file: &[u8],
+    last: &[u8],
+    volume: &mut Overlay,
+) -> Result<(), Fail> {
+    prepare_move(alloc, volume, 1, 2)?;
+    assert!(rt; ends_ahead(volume, 1, &[0, 0, 0, 9]));
+    assert!(rt; ends_ahead(volume, 2, &[0, 7, 0, 0]));
+    assert!(rt; ends_ahead(volume, 3, &[0x11; 4]));
+    expect_saved(rt, alloc, volume, &[file, last])?;
+    volume.commit();
+    volume.commit();
+    let headers = part(file, 0, 3600);
+    let first = part(file, 3600, 3844);
+    let second = part(file, 3844, 4088);
+    expect_saved(rt, alloc, volume, &[headers, second, first, last])
+}
+
+// The traces stay where they are, and are shown where they would be, until the move is made.
+#[test]
+fn prepares_and_commits_a_move(rt: HostRuntime) -> Result<(), Fail> {
+    let alloc = rt.alloc();
+    let last = trace(alloc, 2, 0x11)?;
+    on_small(
+        alloc,
+        &mut |file: &[u8], volume: &mut Overlay| {
+            insert(alloc, volume, 3, last.as_slice())?;
+            move_and_discard(&rt, alloc, file, last.as_slice(), volume)?;
+            move_and_commit(&rt, alloc, file, last.as_slice(), volume)
+        },
+    )
+}
+
+// In front of the first, and behind the last.
+#[test]
+fn inserts_and_deletes(rt: HostRuntime) -> Result<(), Fail> {
+    let alloc = rt.alloc();
+    let first = trace(alloc, 3, 0x11)?;
+    let last = trace(alloc, 1, 0x22)?;
+    on_small(
+        alloc,
+        &mut |file: &[u8], volume: &mut Overlay| {
+            let (first, last) = (first.as_slice(), last.as_slice());
+            insert(alloc, volume, 1, first)?;
+            insert(alloc, volume, 4, last)?;
+            let headers = part(file, 0, 3600);
+            let traces = part(file, 3600, 4088);
+            expect_saved(&rt, alloc, volume, &[headers, first, traces, last])?;
+            delete(volume, 2)?;
+            let traces = part(file, 3844, 4088);
+            expect_saved(&rt, alloc, volume, &[headers, first, traces, last])
+        },
+    )
+}
+
+// To the front, and to the back.
+#[test]
+fn moves_traces(rt: HostRuntime) -> Result<(), Fail> {
+    let alloc = rt.alloc();
+    let new = trace(alloc, 3, 0x11)?;
+    on_small(
+        alloc,
+        &mut |file: &[u8], volume: &mut Overlay| {
+            let new = new.as_slice();
+            insert(alloc, volume, 3, new)?;
+            let headers = part(file, 0, 3600);
+            let first = part(file, 3600, 3844);
+            let second = part(file, 3844, 4088);
+            move_to(alloc, volume, 3, 1)?;
+            expect_saved(&rt, alloc, volume, &[headers, new, first, second])?;
+            move_to(alloc, volume, 2, 3)?;
+            expect_saved(&rt, alloc, volume, &[headers, new, second, first])
+        },
+    )
+}
+
+// By a longer one; what was put over it before is gone.
+#[test]
+fn replaces_a_trace(rt: HostRuntime) -> Result<(), Fail> {
+    let alloc = rt.alloc();
+    let longer = trace(alloc, 5, 0x33)?;
+    on_small(
+        alloc,
+        &mut |file: &[u8], volume: &mut Overlay| {
+            let longer = longer.as_slice();
+            put(alloc, volume, 1, 0, &[8])?;
+            replace(alloc, volume, 1, longer)?;
+            expect_trace(&rt, volume, 1, longer);
+            put(alloc, volume, 1, 249, &[9])?;
+            let headers = part(file, 0, 3600);
+            let changed = part(longer, 0, 249);
+            let second = part(file, 3844, 4088);
+            expect_saved(&rt, alloc, volume, &[headers, changed, &[9], second])
+        },
+    )
+}
+
+// Inserts the trace so often in front of the first.
+fn insert_many(alloc: Global, volume: &mut Overlay, times: u32, new: &[u8]) -> Result<(), Fail> {
+    for _ in 0..times {
+        insert(alloc, volume, 1, new)?;
+    }
+    Ok(())
+}
+
+// Deletes the first trace so often.
+fn delete_many(volume: &mut Overlay, times: u32) -> Result<(), Fail> {
+    for _ in 0..times {
+        delete(volume, 1)?;
+    }
+    Ok(())
+}
+
+#[test]
+fn is_as_loaded_after_many_inserts_and_deletes(rt: HostRuntime) -> Result<(), Fail> {
+    let alloc = rt.alloc();
+    let new = trace(alloc, 2, 0x44)?;
+    on_small(
+        alloc,
+        &mut |file: &[u8], volume: &mut Overlay| {
+            insert_many(alloc, volume, 1200, new.as_slice())?;
+            assert_eq!(rt; volume.count(), 1202);
+            expect_trace(&rt, volume, 1201, part(file, 3600, 3844));
+            delete_many(volume, 1200)?;
+            expect_saved(&rt, alloc, volume, &[file])
+        },
+    )
+}

@@ -1,0 +1,154 @@
+// Small files that are made by hand. Bytes count from 1, and those that are not named are zero.
+use std::alloc::{AllocError, Global};
+
+// So many zero bytes behind a textual header of 40 EBCDIC lines, each a C and blanks.
+fn file_of(alloc: Global, length: usize) -> Result<Vec<u8>, AllocError> {
+    let mut bytes = vec![in alloc; 0u8; length]?;
+    for (at, byte) in bytes.iter_mut().take(3200).enumerate() {
+        *byte = if at % 80 == 0 { 0xC3 } else { 0x40 };
+    }
+    Ok(bytes)
+}
+
+// Writes over the bytes from this one on.
+pub(crate) fn put(bytes: &mut [u8], byte: usize, new: &[u8]) {
+    for (old, new) in bytes.iter_mut().skip(byte.saturating_sub(1)).zip(new) {
+        *old = *new;
+    }
+}
+
+// Revision 1.0, 16-bit samples, two a trace, three traces of 244 bytes.
+pub(crate) fn plain_file(alloc: Global) -> Result<Vec<u8>, AllocError> {
+    let mut bytes = file_of(alloc, 4332)?;
+    put(&mut bytes, 3217, &[0x0F, 0xA0]);
+    put(&mut bytes, 3221, &[0, 2]);
+    put(&mut bytes, 3225, &[0, 3]);
+    put(&mut bytes, 3501, &[1]);
+    put(&mut bytes, 3503, &[0, 1]);
+    for trace in [3600, 3844, 4088] {
+        put(&mut bytes, trace + 115, &[0, 2]);
+        put(&mut bytes, trace + 241, &[0, 1, 0xFF, 0xFE]);
+    }
+    Ok(bytes)
+}
+
+// The same headers without the fixed length flag, and three traces of 3, 2 (the binary header's
+// number) and 65535 samples.
+pub(crate) fn varying_file(alloc: Global) -> Result<Vec<u8>, AllocError> {
+    let mut bytes = file_of(alloc, 135400)?;
+    put(&mut bytes, 3221, &[0, 2]);
+    put(&mut bytes, 3225, &[0, 3]);
+    put(&mut bytes, 3501, &[1]);
+    put(&mut bytes, 3600 + 115, &[0, 3]);
+    put(&mut bytes, 4090 + 115, &[0xFF, 0xFF]);
+    Ok(bytes)
+}
+
+// Revision 2.0, one trace with one header extension and two samples.
+pub(crate) fn extended_file(alloc: Global) -> Result<Vec<u8>, AllocError> {
+    file_2(alloc, 4084)
+}
+
+fn file_2(alloc: Global, length: usize) -> Result<Vec<u8>, AllocError> {
+    let mut bytes = file_of(alloc, length)?;
+    put(&mut bytes, 3221, &[0, 2]);
+    put(&mut bytes, 3225, &[0, 3]);
+    put(&mut bytes, 3297, &[1, 2, 3, 4]);
+    put(&mut bytes, 3501, &[2]);
+    put(&mut bytes, 3503, &[0, 1]);
+    put(&mut bytes, 3507, &[0, 0, 0, 1]);
+    put(&mut bytes, 3608, &[1]);
+    Ok(bytes)
+}
+
+// Revision 2.0, up to three header extensions a trace, of which the only trace has two, and its own
+// number of samples.
+pub(crate) fn counted_file(alloc: Global) -> Result<Vec<u8>, AllocError> {
+    let mut bytes = file_2(alloc, 4324)?;
+    put(&mut bytes, 3503, &[0, 0]);
+    put(&mut bytes, 3507, &[0, 0, 0, 3]);
+    put(&mut bytes, 3600 + 115, &[0, 2]);
+    put(&mut bytes, 3600 + 240 + 157, &[0, 2]);
+    Ok(bytes)
+}
+
+// Revision 2.0, one trace with one header extension, two data trailer records.
+pub(crate) fn trailed_file(alloc: Global) -> Result<Vec<u8>, AllocError> {
+    let mut bytes = file_2(alloc, 10484)?;
+    put(&mut bytes, 3529, &[0, 0, 0, 2]);
+    put(&mut bytes, 4085, b"((Acme: Tail))");
+    Ok(bytes)
+}
+
+// Little-endian, revision 2.0, 24-bit samples, one trace of two.
+pub(crate) fn little_file(alloc: Global) -> Result<Vec<u8>, AllocError> {
+    let mut bytes = file_of(alloc, 3846)?;
+    put(&mut bytes, 3221, &[2, 0]);
+    put(&mut bytes, 3225, &[7, 0]);
+    put(&mut bytes, 3297, &[4, 3, 2, 1]);
+    put(&mut bytes, 3501, &[2]);
+    put(&mut bytes, 3503, &[1, 0]);
+    put(&mut bytes, 3841, &[0xFF, 0xFF, 0xFF, 0, 0, 0x80]);
+    Ok(bytes)
+}
+
+// The headers and traces of the first, with two extended textual headers between them that end by
+// themselves.
+pub(crate) fn texted_file(alloc: Global) -> Result<Vec<u8>, AllocError> {
+    let mut bytes = file_of(alloc, 10732)?;
+    put(&mut bytes, 3221, &[0, 2]);
+    put(&mut bytes, 3225, &[0, 3]);
+    put(&mut bytes, 3501, &[1]);
+    put(&mut bytes, 3503, &[0, 1]);
+    put(&mut bytes, 3505, &[0xFF, 0xFF]);
+    for byte in bytes.iter_mut().skip(3600).take(6400) {
+        *byte = b' ';
+    }
+    put(&mut bytes, 3601, b"((Acme: Note))");
+    put(&mut bytes, 6801, b"((Seg:  ENDtext))");
+    Ok(bytes)
+}
+
+// Revision 1.0, two 16-bit samples a trace, two traces of zeros but for their samples 7 and 9.
+pub(crate) fn two_traces(alloc: Global) -> Result<Vec<u8>, AllocError> {
+    let mut bytes = vec![in alloc; 0u8; 4088]?;
+    let file = bytes.as_mut_slice();
+    file[3221] = 2;
+    file[3225] = 3;
+    file[3500] = 1;
+    file[3841] = 7;
+    file[4087] = 9;
+    Ok(bytes)
+}
+
+// Revision 1.0, three traces of 16-bit samples at inlines 10, 20 and 30: 5 and 7, 6 alone, 4 and
+// 258.
+pub(crate) fn three_traces(alloc: Global) -> Result<Vec<u8>, AllocError> {
+    let mut bytes = vec![in alloc; 0u8; 4330]?;
+    let file = bytes.as_mut_slice();
+    file[3221] = 2;
+    file[3225] = 3;
+    file[3500] = 1;
+    file[3791] = 10;
+    file[3841] = 5;
+    file[3843] = 7;
+    file[3959] = 1;
+    file[4035] = 20;
+    file[4085] = 6;
+    file[4277] = 30;
+    file[4327] = 4;
+    file[4328] = 1;
+    file[4329] = 2;
+    Ok(bytes)
+}
+
+// Revision 1.0, one trace with one sample of 64 bits without a sign: 2^64 - 1.
+pub(crate) fn wide_trace(alloc: Global) -> Result<Vec<u8>, AllocError> {
+    let mut bytes = vec![in alloc; 0u8; 3848]?;
+    let file = bytes.as_mut_slice();
+    file[3221] = 1;
+    file[3225] = 12;
+    file[3500] = 1;
+    file[3840..].fill(255);
+    Ok(bytes)
+}

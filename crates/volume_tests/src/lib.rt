@@ -1,0 +1,29 @@
+//! Tests of one volume through the public calls of its crates: how a file is cut, one trace, the
+//! records of traces, the volume under edits, its reports and slices; over small files that are
+//! made by hand. They stand in a crate of their own, since a crate with tests is proved twice.
+#![tactic(auto)]
+
+#[cfg(test)]
+mod cut_tests;
+#[cfg(test)]
+mod edit_tests;
+#[cfg(test)]
+mod files;
+#[cfg(test)]
+mod heads;
+#[cfg(test)]
+mod key_tests;
+#[cfg(test)]
+mod live_tests;
+#[cfg(test)]
+mod made_tests;
+#[cfg(test)]
+mod puts;
+#[cfg(test)]
+mod record_tests;
+#[cfg(test)]
+mod slice_tests;
+#[cfg(test)]
+mod view_tests;
+#[cfg(test)]
+mod views;

@@ -1,0 +1,181 @@
+// Traces that are made by hand. A test makes the bytes and the runs and lends the view of them: the
+// check of a function that owns runs takes the longer the more it does.
+ghost use Rattle.std.specs.Prelude.{◌≡◌, length};
+ghost use Rattle.trace_view.specs.Shown.{bytes_of};
+
+use crate::heads::{plain_head, run};
+use crate::views::view;
+use field_map::Place;
+use frame_cut::Head;
+use num_order::{Kind, Order};
+use sample_codes::Format;
+use std::process::Abort;
+use std::test::Fail;
+use trace_view::{Pieces, TraceView, put_run};
+
+// Up to three header extensions a trace, and each its own number of samples.
+fn counted_head() -> Head {
+    let mut head = plain_head();
+    head.major = 2;
+    head.fixed = false;
+    head.extensions = 3;
+    head
+}
+
+fn place(extension: u16, byte: u16, size: u8, signed: bool) -> Place {
+    Place {
+        extension,
+        byte,
+        kind: Kind { size, signed },
+    }
+}
+
+// How many pieces there are.
+fn count(pieces: Pieces<'_>) -> u32 {
+    let mut count: u32 = 0;
+    for _piece in pieces {
+        count = count.saturating_add(1);
+    }
+    count
+}
+
+fn expect_little_endian(rt: &impl Abort, view: &TraceView<'_>) {
+    assert_eq!(rt; view.length(), 246);
+    assert_eq!(rt; view.extension_count(), 0);
+    assert_eq!(rt; view.sample_count(), 2);
+    assert_eq!(rt; view.sample(0), Some(-1));
+    assert_eq!(rt; view.sample(1), Some(-8_388_608));
+    assert_eq!(rt; view.sample(2), None);
+    let mut samples = view.samples();
+    assert_eq!(rt; samples.next(), Some(-1));
+    assert_eq!(rt; samples.next(), Some(-8_388_608));
+    assert_eq!(rt; samples.next(), None);
+    assert_eq!(rt; view.value(place(0, 240, 1, true)), Some(0));
+    assert_eq!(rt; view.value(place(0, 240, 2, true)), None);
+    assert_eq!(rt; view.value(place(0, 1, 5, true)), None);
+    assert_eq!(rt; view.value(place(1, 1, 4, true)), None);
+    assert_eq!(rt;
+        view.plain(240, 246),
+        Some(&[0xFF, 0xFF, 0xFF, 0, 0, 0x80][..])
+    );
+}
+
+// 240 zero bytes and two little-endian samples of 24 bits.
+#[test]
+fn reads_little_endian_samples(rt: HostRuntime) {
+    let mut head = plain_head();
+    head.order = Order::Little;
+    head.format = Format::Signed24;
+    let mut base = [0; 246];
+    base[240] = 0xFF;
+    base[241] = 0xFF;
+    base[242] = 0xFF;
+    base[245] = 0x80;
+    let view = view(&rt, &head, &base, &[]);
+    expect_little_endian(&rt, &view);
+}
+
+fn expect_runs(rt: &impl Abort, view: &TraceView<'_>) {
+    assert_eq!(rt; view.value(place(0, 189, 4, true)), Some(327_680));
+    assert_eq!(rt; view.value(place(0, 189, 2, true)), Some(5));
+    assert_eq!(rt; view.sample(0), Some(1));
+    assert_eq!(rt; view.sample(1), Some(32_766));
+    let mut samples = view.samples();
+    assert_eq!(rt; samples.next(), Some(1));
+    assert_eq!(rt; samples.next(), Some(32_766));
+    assert_eq!(rt; samples.next(), None);
+    assert_eq!(rt; count(view.pieces()), 6);
+    assert_eq!(rt; view.main().length(), 240);
+    assert_eq!(rt; count(view.main().pieces()), 4);
+    assert_eq!(rt; count(view.sample_bytes().pieces()), 3);
+    assert!(rt; view.plain_samples().is_none());
+    assert!(rt; view.plain(190, 192).is_none());
+}
+
+// An inline number over two runs, and a sample of which a run has the first byte.
+#[test]
+fn reads_across_runs(rt: HostRuntime) -> Result<(), Fail> {
+    let alloc = rt.alloc();
+    let head = plain_head();
+    let mut base = [0; 244];
+    base[241] = 1;
+    base[242] = 0xFF;
+    base[243] = 0xFE;
+    let runs = [
+        run(alloc, 188, &[0x00, 0x05])?,
+        run(alloc, 190, &[0x00, 0x00, 0x00])?,
+        run(alloc, 242, &[0x7F])?,
+    ];
+    let view = view(&rt, &head, &base, &runs);
+    expect_runs(&rt, &view);
+    Ok(())
+}
+
+fn expect_extensions(rt: &impl Abort, view: &TraceView<'_>)
+    requires { length (bytes_of view.now) ≡ 724 }
+{
+    assert_eq!(rt; view.extension_count(), 2);
+    assert_eq!(rt; view.sample_count(), 2);
+    assert_eq!(rt; view.value(place(1, 157, 2, false)), Some(2));
+    assert_eq!(rt; view.value(place(2, 1, 2, true)), Some(-2));
+    assert_eq!(rt; view.value(place(2, 1, 2, false)), Some(65_534));
+    assert_eq!(rt; view.value(place(3, 1, 2, true)), None);
+    assert!(rt; view.extension(0).is_none());
+    assert!(rt; view.extension(3).is_none());
+    let extension = view.extension(2).expect(&rt, "the trace has two");
+    assert_eq!(rt; extension.length(), 240);
+    let mut pieces = extension.pieces();
+    assert_eq!(rt; pieces.next(), Some(&[0xFF, 0xFE][..]));
+    assert_eq!(rt; view.plain_samples(), Some(&[0, 1, 0, 2][..]));
+    assert_eq!(rt; view.sample(1), Some(2));
+    let mut bytes = [0; 3];
+    view.read(479, &mut bytes);
+    assert_eq!(rt; bytes, [0, 0xFF, 0xFE]);
+    assert_eq!(rt; view.changed_length(114, &[0, 3]), Some(726));
+    assert_eq!(rt; view.changed_length(396, &[0, 3]), Some(964));
+    assert_eq!(rt; view.changed_length(396, &[0, 4]), None);
+    assert_eq!(rt; view.changed_length(720, &[9]), Some(724));
+}
+
+// A trace with two of at most three header extensions, and two samples behind them.
+#[test]
+fn reads_extensions(rt: HostRuntime) -> Result<(), Fail> {
+    let alloc = rt.alloc();
+    let head = counted_head();
+    let mut base = [0; 724];
+    base[115] = 2;
+    base[397] = 2;
+    base[721] = 1;
+    base[723] = 2;
+    let runs = [run(alloc, 480, &[0xFF, 0xFE])?];
+    let view = view(&rt, &head, &base, &runs);
+    expect_extensions(&rt, &view);
+    Ok(())
+}
+
+fn expect_put(rt: &impl Abort, view: &TraceView<'_>) {
+    assert_eq!(rt; view.value(place(0, 189, 4, true)), Some(327_680));
+    assert_eq!(rt; view.value(place(0, 193, 1, true)), Some(10));
+    assert_eq!(rt; view.value(place(0, 1, 4, true)), Some(16_777_216));
+    assert_eq!(rt; view.sample(0), Some(1));
+}
+
+// Puts beside and over one another make one run, with the last bytes on top.
+#[test]
+fn puts_runs(rt: HostRuntime) -> Result<(), Fail> {
+    let alloc = rt.alloc();
+    let head = plain_head();
+    let base = [0; 244];
+    let runs = put_run(alloc, &base, &[], 190, &[0x00, 0x00, 0x0A])?;
+    let runs = put_run(alloc, &base, &runs, 188, &[0x00, 0x05])?;
+    assert_eq!(rt; runs.len(), 1);
+    let runs = put_run(alloc, &base, &runs, 240, &[0x00, 0x01])?;
+    assert_eq!(rt; runs.len(), 2);
+    let runs = put_run(alloc, &base, &runs, 0, &[0x01])?;
+    assert_eq!(rt; runs.len(), 3);
+    let view = view(&rt, &head, &base, &runs);
+    expect_put(&rt, &view);
+    let runs = put_run(alloc, &base, &runs, 191, &[0xFF; 50])?;
+    assert_eq!(rt; runs.len(), 2);
+    Ok(())
+}

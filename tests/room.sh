@@ -65,6 +65,12 @@ for count in 0 1 2 3 4 5 255 256 257 512 65536; do
     if [ "$count" = 0 ]; then differs 'a run without a refusal saves' s.sgy o.sgy ''; else is_absent 'a stopped run saves nothing' o.sgy; fi
 done
 printf 'x\n' > script
-expect 'a refused line and a save that fails' 4 'refused S01 unknown word\n' 'segywb: save failed after 0 bytes\n' s.sgy --script script --out none/o.sgy
-expect 'a save that fails with --stop, before it is begun' 1 'refused S01 unknown word\n' '' s.sgy --script script --stop --out none/o.sgy
+none='segywb: save failed after 0 bytes\nsegywb: none/o.sgy: No such file or directory (os error 2); save elsewhere\n'
+expect 'a save that cannot be, before any line is run' 4 '' "$none" s.sgy --script script --out none/o.sgy
+expect 'and with --stop' 4 '' "$none" s.sgy --script script --stop --out none/o.sgy
+if [ -e /dev/full ]; then
+    full='segywb: save failed after 0 bytes\nsegywb: /dev/full: cannot write it (No space left on device (os error 28)): it took a part of the file; save elsewhere\n'
+    expect 'a refused line and a save that fails' 4 'refused S01 unknown word\n' "$full" s.sgy --script script --out /dev/full
+    expect 'a save that fails with --stop, before it is begun' 1 'refused S01 unknown word\n' '' s.sgy --script script --stop --out /dev/full
+fi
 rm -f huge.sgy limit.sgy even.sgy above.sgy large.sgy wanted.sgy o.sgy

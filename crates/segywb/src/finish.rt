@@ -24,8 +24,8 @@ where
     R::File: AsFd + IntoRawFd,
     ensures { IsExitStatus end result }
 {
-    let (save, error) = end_of_save(end, writer, mode, arguments.out.is_some());
-    tell(rt, arguments, told(end, save), error);
+    let (save, error, is_beside) = end_of_save(end, writer, mode, arguments.out.is_some());
+    tell(rt, arguments, told(end, save), error, is_beside);
     if save == SaveEnd::NotBegun && original.is_some_and(|original| original.is_changed(rt)) {
         let then = "the answers may be those of a file that never was";
         changed(rt, arguments.file, then);
@@ -34,14 +34,20 @@ where
 }
 
 // Writes on standard error what there is to tell; of a save that failed also why.
-fn tell<R: Eprint>(rt: &R, arguments: &Arguments, message: Message, error: Option<SaveError>) {
+fn tell<R: Eprint>(
+    rt: &R,
+    arguments: &Arguments,
+    message: Message,
+    error: Option<SaveError>,
+    is_beside: bool,
+) {
     let out = arguments.out.unwrap_or("");
     match (message, error) {
         (Message::AnswersFailed, _) => {
             let _ = eprintln!(rt; "segywb: answers failed");
         }
         (Message::SaveFailed, Some(SaveError::NotSaved(fault))) => {
-            save_failed(rt, out, &fault, !arguments.in_place);
+            save_failed(rt, out, &fault, is_beside);
         }
         (Message::SaveUnsettled, Some(SaveError::NotSettled(error))) => {
             let _ = eprintln!(rt; "segywb: saved, but a power cut may undo it");
@@ -57,13 +63,13 @@ fn tell<R: Eprint>(rt: &R, arguments: &Arguments, message: Message, error: Optio
     }
 }
 
-// Ends the save, or gives it up.
+// Ends the save, or gives it up; also whether it went beside OUT.
 fn end_of_save<'a, R: Files + AllocGlobal>(
     end: RunEnd,
     writer: BufWriter<Save<Target<'a, R>>>,
     mode: Option<u32>,
     is_asked: bool,
-) -> (SaveEnd, Option<SaveError>)
+) -> (SaveEnd, Option<SaveError>, bool)
 where
     R::File: AsFd + IntoRawFd,
 {
@@ -76,15 +82,22 @@ where
         _ => {
             let (save, _waiting) = writer.into_parts();
             let _ = save.discard();
-            return (SaveEnd::NotBegun, None);
+            return (SaveEnd::NotBegun, None, false);
         }
     };
+    let is_beside = target.is_beside();
     match result {
-        Ok(()) => (SaveEnd::Saved, None),
-        Err(_) if target.is_stale() => (SaveEnd::Stale, None),
-        Err(SaveError::NotSaved(fault)) => (SaveEnd::Failed, Some(SaveError::NotSaved(fault))),
+        Ok(()) => (SaveEnd::Saved, None, is_beside),
+        Err(_) if target.is_stale() => (SaveEnd::Stale, None, is_beside),
+        Err(SaveError::NotSaved(fault)) => {
+            (SaveEnd::Failed, Some(SaveError::NotSaved(fault)), is_beside)
+        }
         Err(SaveError::NotSettled(error)) => {
-            (SaveEnd::Unsettled, Some(SaveError::NotSettled(error)))
+            (
+                SaveEnd::Unsettled,
+                Some(SaveError::NotSettled(error)),
+                is_beside,
+            )
         }
     }
 }

@@ -26,6 +26,11 @@ where
         }
     }
 
+    /// Whether the save goes beside OUT first.
+    pub fn is_beside(&self) -> bool {
+        matches!(self, Target::Beside(_))
+    }
+
     /// Whether the save was refused because FILE had changed.
     pub fn is_stale(&self) -> bool {
         match self {

@@ -106,6 +106,60 @@ fn saves_values_over_samples(rt: HostRuntime) -> Result<(), Fail> {
     )
 }
 
+// One trace of 4000 samples of zero in format 3.
+fn long_file(alloc: Global) -> Result<Vec<u8>, Fail> {
+    let mut file = vec![in alloc; 0u8; 11840]?;
+    let bytes = [(3220, 0x0f), (3221, 0xa0), (3225, 3), (3500, 1), (3503, 1)];
+    put_bytes(file.as_mut_slice(), &bytes);
+    Ok(file)
+}
+
+// The same with samples of 258 (bytes 1 and 2), so many from sample k on.
+fn long_file_with(alloc: Global, k: u16, count: u16) -> Result<Vec<u8>, Fail> {
+    let mut file = long_file(alloc)?;
+    for n in 0..usize::from(count) {
+        let at = 3840 + 2 * (usize::from(k) + n);
+        put_bytes(file.as_mut_slice(), &[(at, 1), (at + 1, 2)]);
+    }
+    Ok(file)
+}
+
+// Puts so many values over the samples from sample k on, and asserts what is saved then.
+fn put_many(
+    rt: &impl Abort,
+    alloc: Global,
+    bench: &mut Bench,
+    k: u16,
+    count: u16,
+) -> Result<(), Fail> {
+    let values = vec![in alloc; 258i128; usize::from(count)]?;
+    assert_eq!(rt;
+        patch(bench, alloc, 1, u32::from(k), values.as_slice())?,
+        None
+    );
+    let expected = long_file_with(alloc, k, count)?;
+    assert!(rt; saves(bench, alloc, expected.as_slice())?);
+    Ok(())
+}
+
+// 65 values in the midst of a trace, and 4000, which are all of its samples: where there is memory,
+// neither is refused for want of it.
+#[test]
+fn puts_many_values_over_samples(rt: HostRuntime) -> Result<(), Fail> {
+    let alloc = rt.alloc();
+    for (k, count) in &[(10, 65), (0, 4000)] {
+        let file = long_file(alloc)?;
+        on_file(
+            alloc,
+            file.as_slice(),
+            Reading::AsWritten,
+            (1 << 20, 5),
+            &mut |bench: &mut Bench| put_many(&rt, alloc, bench, *k, *count),
+        )?;
+    }
+    Ok(())
+}
+
 fn put_no_values(rt: &impl Abort, alloc: Global, bench: &mut Bench) -> Result<(), Fail> {
     assert_eq!(rt; patch(bench, alloc, 1, 0, &[])?, None);
     assert_eq!(rt; patch(bench, alloc, 1, 2, &[])?, None);

@@ -1,20 +1,20 @@
 //! Does one thing many times, so that it can be timed from outside. The first argument says what.
 //!
-//! `orders`: operations on an order of traces. Then `flat` or `chunk`; the number of ids; how often;
-//! `fill`, `walk`, `get`, `place`, `insert`, `remove` or `move`. It prints a sum of the answers,
-//! which is the same each time.
+//! `orders`: operations on an order of traces. Then `flat` or `chunk`; the number of ids; how
+//! often; `fill`, `walk`, `get`, `place`, `insert`, `remove` or `move`. It prints a sum of the
+//! answers, which is the same each time.
 //!
 //! `records`: the record of each trace of a SEG-Y file. Then the file; `load`, which only loads it,
 //! or `records`, which makes the record of each trace too. It prints the number of traces, and of
 //! their samples, their least, greatest and sum where records were made.
 //!
-//! `reports`: made records in the running reports. Then how many records, at most 16777216; `make`,
-//! which only makes them, `add`, which adds them too, `report`, which makes every report of them
-//! too, `remove`, which adds them and takes them out again, `list`, which makes them in a list in
-//! chunks, or `load`, which then makes the live reports of all of them at once; or, behind which one
-//! more argument says how often, fewer times than there are records, `exchange`, `insert`, `erase`
-//! or `move`, which then changes the live reports so at random places. It prints the number of
-//! records.
+//! `reports`: made records in the running reports. Then how many records, at most 16777216;
+//! `make`, which only makes them, `add`, which adds them too, `report`, which makes every report of
+//! them too, `remove`, which adds them and takes them out again, `list`, which makes them in a list
+//! in chunks, or `load`, which then makes the live reports of all of them at once; or, behind which
+//! one more argument says how often, fewer times than there are records, `exchange`, `insert`,
+//! `erase` or `move`, which then changes the live reports so at random places. It prints the number
+//! of records.
 #![tactic(auto)]
 
 mod changing;

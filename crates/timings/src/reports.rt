@@ -171,8 +171,8 @@ fn count_faults(alloc: Global, records: &[Record], then: &str) -> Result<(), Out
     Ok(())
 }
 
-// The number of records, once what the word says was done to them: `make`, `add`, `report`, `remove`,
-// `list`, `load`, or a kind of change, done so often.
+// The number of records, once what the word says was done to them: `make`, `add`, `report`,
+// `remove`, `list`, `load`, or a kind of change, done so often.
 pub(crate) fn count_after(
     alloc: Global,
     count: u32,

@@ -9,7 +9,7 @@ use std::alloc::Global;
 use std::fs;
 use std::fs::{Metadata, OpenFile, OpenOptions, Permissions};
 use std::io::{Error, ErrorKind, Result, Write};
-use std::os::fd::{AsFd, IntoRawFd};
+use std::os::fd::AsFd;
 use std::os::unix::fs::{MetadataExt, OpenOptionsExt, PermissionsExt, fchown};
 use std::rt::Files;
 
@@ -18,9 +18,6 @@ const NAMES: u32 = 1000;
 
 // How many bytes of OUT's name the new file's name takes, so that it fits 255.
 const NAME_ROOM: usize = 230;
-
-// Linux's number of the limit on the size of files.
-const FILE_SIZE: i32 = 1;
 
 /// The folder of a file of the system.
 #[derive(Drop)]
@@ -40,7 +37,7 @@ pub struct FileFolder<'a, R: Files> {
 
 impl<'a, R: Files + AllocGlobal> FileFolder<'a, R>
 where
-    R::File: AsFd + IntoRawFd,
+    R::File: AsFd,
 {
     ghost use Rattle.std.specs.Prelude.{◌≡◌, IfOk, None};
 
@@ -118,26 +115,20 @@ where
     }
 }
 
-/// The system's limit on the size of a file that this process writes.
-pub fn size_limit() -> u64 {
-    let mut limit = libc::types::rlimit {
-        rlim_cur: u64::MAX,
-        rlim_max: u64::MAX,
+/// The system's limit on the size of a file that this process writes, where the system tells it.
+pub fn size_limit<R: Files + AllocGlobal>(rt: &R) -> u64 {
+    let Ok(text) = fs::read_to_string(rt, "/proc/self/limits") else {
+        return u64::MAX;
     };
-    if libc::getrlimit(FILE_SIZE, &mut limit) == 0 {
-        limit.rlim_cur
-    } else {
-        u64::MAX
+    for line in text.as_str().lines() {
+        if let Some(rest) = line.strip_prefix("Max file size") {
+            let Some(word) = rest.split_whitespace().next() else {
+                return u64::MAX;
+            };
+            return word.parse().unwrap_or(u64::MAX);
+        }
     }
-}
-
-/// Closes a file, and tells where that fails: std drops the error.
-pub fn close<F: IntoRawFd>(file: F) -> Result<()> {
-    if libc::close(file.into_raw_fd()) == 0 {
-        Ok(())
-    } else {
-        Err(Error::from_raw_os_error(os::errno()))
-    }
+    u64::MAX
 }
 
 // No file of the save is open.
@@ -147,7 +138,7 @@ fn no_file() -> Error {
 
 impl<R: Files + AllocGlobal> Folder for FileFolder<'_, R>
 where
-    R::File: AsFd + IntoRawFd,
+    R::File: AsFd,
 {
     ghost disk = { λ _. None };
 
@@ -160,7 +151,7 @@ where
             how.write(true).create_new(true).mode(mode);
             match how.open(self.rt, path.as_str()) {
                 Ok(file) => {
-                    self.file = Some(BoundedFile::new(file, size_limit()));
+                    self.file = Some(BoundedFile::new(file, size_limit(self.rt)));
                     self.beside = Some(path);
                     return Ok(());
                 }
@@ -188,13 +179,8 @@ where
 
     fn sync(&mut self) -> Result<()> {
         match self.file.take() {
-            Some(file) => {
-                let file = file.into_inner();
-                let synced = file.sync_all();
-                let closed = close(file);
-                synced?;
-                closed
-            }
+            // It is closed behind its sync, which has told what a close could tell of its bytes.
+            Some(file) => file.into_inner().sync_all(),
             None => Err(no_file()),
         }
     }

@@ -22,7 +22,7 @@ mod save_error;
 pub use crate::bounded_file::BoundedFile;
 pub use crate::buffered::{end_save, give_up, save_all};
 pub use crate::fake_folder::{FakeFile, FakeFolder};
-pub use crate::file_folder::{FileFolder, close, size_limit};
+pub use crate::file_folder::{FileFolder, size_limit};
 pub use crate::folder::Folder;
 pub use crate::original::Original;
 pub use crate::out_path::resolve;

@@ -8,7 +8,7 @@ use crate::where_to::OutRefusal;
 use safe_save::{Fault, Original, Save, SaveError, Step, end_save, give_up};
 use script_run::RunEnd;
 use std::io::BufWriter;
-use std::os::fd::{AsFd, IntoRawFd};
+use std::os::fd::AsFd;
 use std::rt::Files;
 
 /// Ends the save of a run, tells what there is to tell, and gives the exit status.
@@ -21,7 +21,7 @@ pub fn finish<'a, R: Files + AllocGlobal + Eprint>(
     mode: Option<u32>,
 ) -> u8
 where
-    R::File: AsFd + IntoRawFd,
+    R::File: AsFd,
     ensures { IsExitStatus end result }
 {
     let (save, error, is_beside) = end_of_save(end, writer, mode, arguments.out.is_some());
@@ -71,7 +71,7 @@ fn end_of_save<'a, R: Files + AllocGlobal>(
     is_asked: bool,
 ) -> (SaveEnd, Option<SaveError>, bool)
 where
-    R::File: AsFd + IntoRawFd,
+    R::File: AsFd,
 {
     let (target, result) = match end {
         RunEnd::Done { .. } if is_asked => end_save(writer, mode),

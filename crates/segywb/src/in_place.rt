@@ -3,10 +3,9 @@ ghost use Rattle.std.specs.Prelude.{◌≡◌, None, option_map};
 ghost use Rattle.std.specs.Io.{WritesAtMost};
 ghost use Rattle.segywb.specs.Passing.{PassesOn};
 
-use safe_save::{BoundedFile, Original, close, size_limit};
+use safe_save::{BoundedFile, Original, size_limit};
 use std::fs::{OpenFile, OpenOptions};
 use std::io::{Error, ErrorKind, Result, Write};
-use std::os::fd::IntoRawFd;
 use std::os::unix::fs::OpenOptionsExt;
 use std::rt::Files;
 
@@ -26,10 +25,7 @@ pub struct InPlace<'a, R: Files> {
     is_stale: bool,
 }
 
-impl<'a, R: Files> InPlace<'a, R>
-where
-    R::File: IntoRawFd,
-{
+impl<'a, R: Files + AllocGlobal> InPlace<'a, R> {
     /// A save to this path. `original` is not to change until it is opened.
     pub fn new(
         rt: &'a R,
@@ -65,7 +61,11 @@ where
         let mut how = OpenOptions::new();
         how.write(true).create(true).truncate(true).mode(mode);
         let file = how.open(self.rt, self.path)?;
-        let limit = if self.is_file { size_limit() } else { u64::MAX };
+        let limit = if self.is_file {
+            size_limit(self.rt)
+        } else {
+            u64::MAX
+        };
         self.file = Some(BoundedFile::new(file, limit));
         Ok(())
     }
@@ -77,22 +77,12 @@ where
         put(&mut self.file, bytes)
     }
 
-    /// After it, the file's bytes outlive a power cut. It is closed, and where that fails it is
-    /// told.
+    /// After it, the file's bytes outlive a power cut. It is closed; what a close could tell of its
+    /// bytes, the sync has told.
     pub fn sync(&mut self) -> Result<()> {
         match self.file.take() {
-            Some(file) => {
-                let file = file.into_inner();
-                let synced = if self.is_file {
-                    file.sync_all()
-                } else {
-                    Ok(())
-                };
-                let closed = close(file);
-                synced?;
-                closed
-            }
-            None => Ok(()),
+            Some(file) if self.is_file => file.into_inner().sync_all(),
+            _ => Ok(()),
         }
     }
 }

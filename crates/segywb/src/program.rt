@@ -12,7 +12,7 @@ use safe_save::{Original, Save};
 use script_run::{Options, run, session};
 use std::fs::OpenFile;
 use std::io::BufWriter;
-use std::os::fd::{AsFd, IntoRawFd};
+use std::os::fd::AsFd;
 use std::rt::{Env, Files};
 use std::{env, fs, io};
 
@@ -26,7 +26,7 @@ const ROOM: usize = 65536;
 // Reads the command line and runs the script.
 pub fn status_of<R: Files + Env + AllocGlobal + Print + Eprint + Input>(rt: &R) -> u8
 where
-    R::File: AsFd + IntoRawFd,
+    R::File: AsFd,
 {
     let Ok(words) = words(rt) else {
         let _ = eprintln!(rt; "segywb: cannot read the command line");
@@ -56,7 +56,7 @@ fn open_and_run<R: Files + AllocGlobal + Print + Eprint + Input>(
     arguments: &Arguments,
 ) -> u8
 where
-    R::File: AsFd + IntoRawFd,
+    R::File: AsFd,
     requires { IfSome arguments.now.max_bytes (λ n. n ≤ 1099511627776) }
 {
     let file = arguments.file;
@@ -109,7 +109,7 @@ fn run_to<'a, R: Files + AllocGlobal + Print + Eprint + Input>(
     target: Target<'a, R>,
 ) -> u8
 where
-    R::File: AsFd + IntoRawFd,
+    R::File: AsFd,
     requires { IfSome arguments.now.max_bytes (λ n. n ≤ 1099511627776) }
 {
     let mode = target.mode();

@@ -4,7 +4,7 @@ ghost use Rattle.std.specs.Prelude.{None};
 use crate::in_place::InPlace;
 use safe_save::{FileFolder, Folder};
 use std::io::Result;
-use std::os::fd::{AsFd, IntoRawFd};
+use std::os::fd::AsFd;
 use std::rt::Files;
 
 /// The two ways of a save, so that a run has one writer.
@@ -16,7 +16,7 @@ pub enum Target<'a, R: Files> {
 
 impl<'a, R: Files + AllocGlobal> Target<'a, R>
 where
-    R::File: AsFd + IntoRawFd,
+    R::File: AsFd,
 {
     /// The permissions that the saved file is to get, where it is a new one.
     pub fn mode(&self) -> Option<u32> {
@@ -42,7 +42,7 @@ where
 
 impl<R: Files + AllocGlobal> Folder for Target<'_, R>
 where
-    R::File: AsFd + IntoRawFd,
+    R::File: AsFd,
 {
     ghost disk = { λ _. None };
 

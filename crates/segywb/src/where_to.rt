@@ -6,7 +6,7 @@ use safe_save::{FileFolder, Original, resolve};
 use std::fs;
 use std::fs::{Metadata, OpenOptions};
 use std::io::Error;
-use std::os::fd::{AsFd, IntoRawFd};
+use std::os::fd::AsFd;
 use std::os::unix::fs::MetadataExt;
 use std::rt::Files;
 
@@ -64,7 +64,7 @@ pub fn target_of<'a, R: Files + AllocGlobal>(
     original: Option<Original<'a>>,
 ) -> Result<Target<'a, R>, OutRefusal>
 where
-    R::File: AsFd + IntoRawFd,
+    R::File: AsFd,
 {
     let Some(out) = arguments.out else {
         let nowhere = InPlace::new(rt, "", None, false);
@@ -97,7 +97,7 @@ fn in_place<'a, R: Files + AllocGlobal>(
     original: Option<Original<'a>>,
 ) -> Result<Target<'a, R>, OutRefusal>
 where
-    R::File: AsFd + IntoRawFd,
+    R::File: AsFd,
 {
     if fs::metadata(rt, out).is_ok() {
         let mut how = OpenOptions::new();

@@ -191,10 +191,11 @@ class Session:
 
     def _ended(self, why: str, left: bytes) -> Exception:
         """What has happened, as an exception. The program is gone when this returns."""
-        status = self._status(0.0 if why.endswith("asked") else DEATH_SECONDS)
+        text = left.decode("utf-8", "replace").strip()
+        leaves = text.startswith("load refused ") or not why.endswith("asked")  # a refused file ends the program
+        status = self._status(DEATH_SECONDS if leaves else 0.0)
         told = self._told()
         self.kill()
-        text = left.decode("utf-8", "replace").strip()
         if text.startswith("load refused "):
             return LoadRefused(text, self.path, status)
         if status == 2:

@@ -133,6 +133,44 @@ if [ -e /dev/full ]; then
     if [ "$got" = 4 ] && [ "$(cat errors)" = 'segywb: answers failed' ] && [ ! -e o2.sgy ]; then tell 'answers that fail' ok; else tell 'answers that fail' "status $got: $(cat errors)"; fi
 fi
 
+# ---- each growth of memory is refused in turn: a line is E11 and changes nothing, and all others are answered and saved as without it
+if command -v cc > /dev/null && cc -O1 -shared -fPIC -o refuse_growth.so "$here/refuse_growth.c" -ldl 2> /dev/null; then
+    script=('set 1 inline 5' "# $(head -c 150000 /dev/zero | tr '\0' x)" 'patch 1 0 7' "map mine @9:4$(head -c 70000 /dev/zero | tr '\0' ' ')" 'get 1 inline' 'text 1 C 1 NOTE' 'copy 1 2' count)
+    printf '%s\n' "${script[@]}" > lines
+    env LD_PRELOAD=./refuse_growth.so REFUSE_COUNT=asked "$program" s.sgy --session --out o.sgy < lines > answers 2> errors
+    outcome=ok
+    refused=0
+    for ((n = 1; n <= $(< asked); n++)); do
+        rm -f o.sgy
+        env LD_PRELOAD=./refuse_growth.so REFUSE=$n "$program" s.sgy --session --out o.sgy < lines > answers 2> errors
+        got=$?
+        case $got in
+            2 | 4) [ ! -e o.sgy ] || outcome="growth $n: status $got, and a file" ; continue ;;
+            3) [ "$(cat answers)" = 'load refused L16 out of memory' ] || outcome="growth $n: $(head -c 100 answers)" ; continue ;;
+        esac
+        : > fewer
+        : > wanted
+        {
+            for line in "${script[@]}"; do
+                # a note has no answer, but E11 where no memory holds it
+                IFS= read -r told
+                if [ -n "$told" ]; then
+                    IFS= read -r empty
+                    [ -z "$empty" ] || outcome="growth $n: $empty"
+                fi
+                if [ "$told" = 'refused E11 out of memory' ]; then refused=$((refused + 1)); continue; fi
+                printf '%s\n' "$line" >> fewer
+                [ -z "$told" ] || printf '%s\n' "$told" >> wanted
+            done
+        } < answers
+        "$program" s.sgy --script fewer --out fewer.sgy > told 2> /dev/null
+        cmp -s told wanted || outcome="growth $n: another answer"
+        cmp -s fewer.sgy o.sgy || outcome="growth $n: another file"
+    done
+    [ "$refused" -ge 3 ] || outcome="only $refused lines refused"
+    tell 'each growth refused in turn' "$outcome"
+fi
+
 # ---- the command line
 for words in '' '--session --script lines' '--script' '--session --session'; do
     "$program" s.sgy $words < lines > answers 2> errors
@@ -146,5 +184,5 @@ cp s.sgy own.sgy
 expect 'saves over its own file' 0 'ok\n\n' '' own.sgy --session --out own.sgy
 if [ "$(cmp -l s.sgy own.sgy | tr -s ' ' | sed 's/^ //')" = '4036 12 7' ]; then tell 'and changes one byte' ok; else tell 'and changes one byte' "$(cmp -l s.sgy own.sgy | head -3)"; fi
 
-printf '%d passed, %d failed\n' "$passed" "$failed"
+printf 'session: %d passed, %d failed\n' "$passed" "$failed"
 [ "$failed" = 0 ]

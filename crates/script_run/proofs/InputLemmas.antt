@@ -1,6 +1,6 @@
 -- How lines are taken from a reader, part by part.
-use Rattle.std.proofs.Common.{◌≡◌, ◌≢◌, ◌<◌, ◌≤◌, ◌-◌, ℕ, suc, nat_eq, take, drop, cond, not, ◌+◌, ◌||◌, length, List, [], ◌∷◌, ◌++◌, true, false, Option, Some, None, arith, refl, ◌∙◌, ap, sym, subst, append_assoc, append-nil}
-use Rattle.std.specs.Prelude.{slice_range}
+use Rattle.std.proofs.Common.{◌≡◌, ◌≢◌, ◌<◌, ◌≤◌, ◌-◌, ℕ, suc, nat_eq, take, drop, cond, not, ◌+◌, ◌||◌, length, List, [], ◌∷◌, ◌++◌, true, false, Option, Some, None, arith, refl, ◌∙◌, ap, sym, subst, append_assoc, append-nil, length-append}
+use Rattle.std.specs.Prelude.{slice_range, IfSome}
 use Rattle.std.specs.List.{list_any, before_first, after_first, position_or_len}
 use Rattle.std.proofs.lemmas.List.{drop-take, drop-drop, length-take}
 use Rattle.std.proofs.lemmas.Bool.{eq-eqb}
@@ -8,7 +8,7 @@ use Rattle.std.specs.Io.KnownBytes.{Consumes, IsAtEnd}
 use Rattle.script_text.specs.Words.{is_line_feed, parts_by_line_feed}
 use Rattle.script_text.proofs.PartLemmas.{cut_in_part, part_in_front}
 use Rattle.script_text.proofs.ScriptLemmas.{last_part}
-use Rattle.script_run.specs.Input.{left_of, TakesLine, TakesLines, TakesFront, Held, Holds, nothing_held, IsFront}
+use Rattle.script_run.specs.Input.{left_of, TakesLine, TakesLines, TakesFront, KeepsTaken, Held, Holds, nothing_held, IsFront}
 
 -- ---- a slice
 
@@ -56,29 +56,22 @@ still_left (Some xs) None next part bytes c d = absurd c
 still_left (Some xs) (Some ys) None part bytes c d = absurd d
 still_left (Some xs) (Some ys) (Some zs) part bytes c d = c ∙ ap (λ s. part ++ s) d
 
-pub filled : (old rest next : Option (List ℕ)) (ahead bytes : List ℕ) (held : Held) → ahead ≡ [] → TakesFront old (left_of ahead rest) held → Consumes rest next bytes → TakesFront old (left_of bytes next) held
-filled old rest next ahead bytes held empty p d =
-    let c : Consumes old (left_of [] rest) p.part = subst (λ a. Consumes old (left_of a rest) p.part) empty p.taken in
-    record { part = p.part; taken = still_left old rest next p.part bytes c d; none = p.none; holds = p.holds }
+pub filled : (rest next : Option (List ℕ)) (ahead bytes : List ℕ) → ahead ≡ [] → Consumes rest next bytes → KeepsTaken (left_of ahead rest) (left_of bytes next)
+filled rest next ahead bytes empty d first part c = still_left first rest next part bytes (subst (λ (a : List ℕ). Consumes first (left_of a rest) part) empty c) d
 
--- nothing waits at the end
-pub end_left : (rest : Option (List ℕ)) (ahead : List ℕ) → ahead ≡ [] → IsAtEnd rest → IsAtEnd (left_of ahead rest)
-end_left None ahead e f = tt
-end_left (Some ys) ahead e f = rw e f
-
-part_more : (old rest : Option (List ℕ)) (part ahead : List ℕ) → Consumes old (left_of ahead rest) part → Consumes old (left_of [] rest) (part ++ ahead)
+pub part_more : (old rest : Option (List ℕ)) (part ahead : List ℕ) → Consumes old (left_of ahead rest) part → Consumes old (left_of [] rest) (part ++ ahead)
 part_more None rest part ahead c = tt
 part_more (Some xs) None part ahead c = absurd c
 part_more (Some xs) (Some ys) part ahead c = c ∙ sym (append_assoc part ahead ys)
 
-none_in_both : (xs ys : List ℕ) → list_any is_line_feed xs ≡ false → list_any is_line_feed ys ≡ false → list_any is_line_feed (xs ++ ys) ≡ false
+pub none_in_both : (xs ys : List ℕ) → list_any is_line_feed xs ≡ false → list_any is_line_feed ys ≡ false → list_any is_line_feed (xs ++ ys) ≡ false
 none_in_both [] ys f g = g
 none_in_both (b ∷ bs) ys f g =
     elim (is_line_feed b) as (λ v. (v || list_any is_line_feed bs) ≡ false → (v || list_any is_line_feed (bs ++ ys)) ≡ false)
     [ true ↦ λ e. cc | false ↦ λ e. none_in_both bs ys e g ] f
 
 -- all that is read ahead is put onto the line
-pub goes_on : (old rest : Option (List ℕ)) (ahead next front : List ℕ) (from to : Held) → TakesFront old (left_of ahead rest) from → IsFront ahead front next false
+abbrev pub goes_on : (old rest : Option (List ℕ)) (ahead next front : List ℕ) (from to : Held) → TakesFront old (left_of ahead rest) from → IsFront ahead front next false
     → ((line : List ℕ) → Holds from line → Holds to (line ++ front)) → TakesFront old (left_of next rest) to
 goes_on old rest ahead next front from to p (none, front_is, next_is) add = record {
   part = p.part ++ ahead;
@@ -94,6 +87,16 @@ takes_cut (Some xs) None part ahead c none some = absurd c
 takes_cut (Some xs) (Some ys) part ahead c none some =
     ap parts_by_line_feed c
     ∙ part_in_front part (ahead ++ ys) (after_first is_line_feed ahead ++ ys) (before_first is_line_feed ahead) none (cut_in_part ahead ys some)
+
+-- the same bytes are taken, as far as more were read ahead
+abbrev pub kept_front : (old rest next : Option (List ℕ)) (held : Held) (p : TakesFront old rest held) → KeepsTaken rest next → TakesFront old next held
+kept_front old rest next held p keeps = record { part = p.part; taken = keeps old p.part p.taken; none = p.none; holds = p.holds }
+
+-- as many bytes were left as were taken
+pub as_many : (old now : Option (List ℕ)) (part : List ℕ) (n : ℕ) → Consumes old now part → n ≤ length part → IfSome old (λ bytes. n ≤ length bytes)
+as_many None now part n c h = tt
+as_many (Some xs) None part n c h = absurd c
+as_many (Some xs) (Some ys) part n c h = omega (arith, ap length c, length-append part ys, h)
 
 -- the line ends in what is read ahead
 pub ends : (old rest : Option (List ℕ)) (ahead next front : List ℕ) (from to : Held) → TakesFront old (left_of ahead rest) from → IsFront ahead front next true

@@ -1,18 +1,20 @@
 -- How a session goes on by one line.
-use Rattle.std.proofs.Common.{◌≡◌, ℕ, ◌+◌, List, [], ◌∷◌, ◌++◌, length, take, Bool, Option, Some, None, cond, true, false, ◌≤◌, refl, ap, ap₂, sym, ◌∙◌, arith, append-nil, length-append}
+use Rattle.std.proofs.Common.{◌≡◌, ℕ, ◌+◌, List, [], ◌∷◌, ◌++◌, length, take, Bool, Option, Some, None, cond, true, false, ◌≤◌, refl, ap, ap₂, sym, ◌∙◌, arith, append-nil, length-append, ◌-◌, ◌^◌, inl, inr}
 use Rattle.std.specs.Prelude.{IsTrue}
 use Rattle.std.specs.Io.KnownBytes.{Appends, IsAtEnd}
 use Rattle.std.proofs.lemmas.List.{take_at}
 use Rattle.bench_rules.specs.State.{State}
+use Rattle.script_text.specs.declared.script_fault.ScriptFault.{ScriptFault}
 use Rattle.script_text.specs.Words.{parts_by_line_feed}
+use Rattle.script_run.specs.declared.session_lines.SessionLines.TheVariants.{Script}
 use Rattle.script_text.specs.Replies.{Printed}
 use Rattle.script_text.specs.Devices.{Device, Takes, TakesPart, count_in_64_bits}
 use Rattle.script_text.proofs.OutLemmas.{takes_more, takes_part_more}
 use Rattle.script_run.specs.Runs.{printed_text, refusals}
-use Rattle.script_run.specs.Input.{TakesLine, TakesLines}
-use Rattle.script_run.specs.Sessions.{SessionStep, SessionSteps, FirstLines, AllLines}
-use Rattle.script_run.specs.SessionLineRuns.{Answered}
-use Rattle.script_run.proofs.RunLemmas.{steps_more, text_more, refusals_more}
+use Rattle.script_run.specs.Input.{TakesLine, TakesLines, IsEndless, HasTooMany}
+use Rattle.script_run.specs.Sessions.{SessionStep, SessionSteps, FirstLines, AllLines, IsBroken}
+use Rattle.script_run.specs.SessionLineRuns.{Answered, AnswersTo}
+use Rattle.script_run.proofs.RunLemmas.{steps_more, steps-length, text_more, refusals_more}
 use Rattle.script_run.proofs.InputLemmas.{line_more}
 
 -- ---- the lines that were taken are those of the reader
@@ -86,10 +88,8 @@ module _ (start : State) (script : Device) (left : Option (List ℕ)) (stop : Bo
   )
 
   -- no more lines are read
-  pub broken : (Reason : Type 0) → Reason
-      → (printed : List Printed) × Answered start now script printed × Reason × (IsTrue stop → refusals printed ≡ 0)
-      × (written ≡ count_in_64_bits (length (printed_text printed))) × Takes before mid (printed_text printed)
-  broken Reason reason = (
+  pub broken : (fault : ScriptFault) (script_now : Device) → IsBroken fault script script_now so_far.lines → AnswersTo start now stop script script_now before mid (Script fault written)
+  broken fault script_now reason = (
     so_far.printed,
     answered,
     reason,
@@ -97,6 +97,14 @@ module _ (start : State) (script : Device) (left : Option (List ℕ)) (stop : Bo
     so_far.written_is,
     so_far.taken,
   )
+
+  -- more is left than can be counted
+  pub endless : IsEndless left → HasTooMany script.bytes so_far.lines
+  endless end = inr (left, so_far.given, end)
+
+  -- more lines were answered than can be counted
+  pub too_many : 2 ^ 64 - 1 ≤ number → HasTooMany script.bytes so_far.lines
+  too_many h = inl (omega (arith, h, so_far.number_is, steps-length SessionStep start now so_far.lines so_far.printed so_far.steps))
 
 module _ (start : State) (script : Device) (left rest : Option (List ℕ)) (line : List ℕ) (stop : Bool) (number refused written : ℕ) (before mid : Device) (now next : State) (p : Printed)
     (so_far : SessionSoFar start script.bytes left stop number refused written before mid now) (given : TakesLine left rest line) (step : SessionStep now line p next) where

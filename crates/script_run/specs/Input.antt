@@ -1,5 +1,5 @@
 -- How lines are taken from a reader, of which some bytes are read ahead.
-use Rattle.std.specs.Prelude.{◌≡◌, ℕ, ◌<◌, ◌≤◌, Bool, true, false, ⊤, List, [], ◌∷◌, ◌++◌, length, Option, Some, None}
+use Rattle.std.specs.Prelude.{◌≡◌, ◌⊎◌, ℕ, ◌<◌, ◌≤◌, ◌-◌, ◌^◌, IfSome, Bool, true, false, ⊤, List, [], ◌∷◌, ◌++◌, length, Option, Some, None}
 use Rattle.std.specs.List.{list_any, before_first, after_first}
 use Rattle.std.specs.Io.KnownBytes.{prepend_known, Consumes, IsAtEnd}
 use Rattle.script_text.specs.Devices.{count_in_64_bits}
@@ -62,10 +62,18 @@ pub record TakesFront (old now : Option (List ℕ)) (held : Held) : Type 0 where
   pub holds : Holds held part
 
 -- whatever was taken up to here still is
-abbrev pub KeepsFront : Option (List ℕ) → Option (List ℕ) → Type 0
-KeepsFront old new = (first : Option (List ℕ)) (held : Held) → TakesFront first old held → TakesFront first new held
+abbrev pub KeepsTaken : Option (List ℕ) → Option (List ℕ) → Type 0
+KeepsTaken old new = (first : Option (List ℕ)) (part : List ℕ) → Consumes first old part → Consumes first new part
 
--- more bytes wait, or nothing is left
+-- bytes wait, or nothing is left
 abbrev pub WaitsOrEnds : Bool → List ℕ → Option (List ℕ) → Type 0
-WaitsOrEnds true ahead bytes = ⊤
+WaitsOrEnds true ahead bytes = 0 < length ahead
 WaitsOrEnds false ahead bytes = (ahead ≡ []) × IsAtEnd bytes
+
+-- known bytes that are more than a 64-bit number counts, or as many
+abbrev pub IsEndless : Option (List ℕ) → Type 0
+IsEndless known = IfSome known (λ bytes. 2 ^ 64 - 1 ≤ length bytes)
+
+-- so many lines were taken, or behind the lines that were taken so many bytes are left
+abbrev pub HasTooMany : Option (List ℕ) → List (List ℕ) → Type 0
+HasTooMany known lines = (2 ^ 64 - 1 ≤ length lines) ⊎ ((rest : Option (List ℕ)) × TakesLines known rest lines × IsEndless rest)

@@ -4,14 +4,14 @@ use Rattle.std.specs.Io.KnownBytes.{IsAtEnd}
 use Rattle.device_io.specs.Failures.{one_more}
 use Rattle.script_run.specs.declared.next.Next.{Next}
 use Rattle.script_run.specs.declared.next.Next.TheVariants.{Line, End, Failed, Endless}
-use Rattle.script_run.specs.Input.{TakesLine, Held, Holds}
+use Rattle.script_run.specs.Input.{TakesLine, Held, Holds, IsEndless}
 
--- the first line of what was left is taken and held; or nothing was left, and nothing is
+-- the first line of what was left is taken and held; or nothing was left, and nothing is; or more was left than can be counted
 abbrev pub IsNext : Option (List ℕ) → Option (List ℕ) → Held → Next → Type 0
 IsNext old new held Line = (line : List ℕ) × TakesLine old new line × Holds held line
 IsNext old new held End = IsAtEnd old × IsAtEnd new
 IsNext old new held Failed = ⊤
-IsNext old new held Endless = ⊤
+IsNext old new held Endless = IsEndless old
 
 -- the failures rise by one exactly where a read failed
 abbrev pub FailuresAfterNext : Next → ℕ → ℕ → Type 0

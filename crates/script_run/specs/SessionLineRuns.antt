@@ -1,14 +1,12 @@
 -- How the lines of a session end.
-use Rattle.std.specs.Prelude.{◌≡◌, ◌⊎◌, ℕ, ◌+◌, ◌≤◌, Bool, IsTrue, List, [], ◌∷◌, ◌++◌, length}
+use Rattle.std.specs.Prelude.{◌≡◌, ℕ, ◌+◌, ◌≤◌, Bool, IsTrue, List, [], ◌∷◌, ◌++◌, length}
 use Rattle.bench_rules.specs.State.{State}
-use Rattle.device_io.specs.Failures.{one_more}
-use Rattle.script_text.specs.declared.script_fault.ScriptFault.TheVariants as script_faults
 use Rattle.script_text.specs.Devices.{Device, Takes, TakesPart, count_in_64_bits}
 use Rattle.script_text.specs.Replies.{Printed}
 use Rattle.script_run.specs.declared.session_lines.SessionLines.{SessionLines}
 use Rattle.script_run.specs.declared.session_lines.SessionLines.TheVariants.{Whole, Stopped, Answers, Script}
 use Rattle.script_run.specs.Runs.{printed_text, refusals}
-use Rattle.script_run.specs.Sessions.{SessionSteps, FirstLines, AllLines}
+use Rattle.script_run.specs.Sessions.{SessionSteps, FirstLines, AllLines, IsBroken}
 
 -- the first lines of a reader are answered, from one state to another
 pub record Answered (start end : State) (before : Device) (printed : List Printed) : Type 0 where
@@ -31,8 +29,8 @@ AnswersTo start end stop script script_now answers answers_now (Answers written)
     × (written ≡ count_in_64_bits taken) × (IsTrue stop → refusals before ≡ 0) × (length (printed_text before) ≤ taken)
     × TakesPart answers answers_now (printed_text (before ++ last ∷ [])) taken
 AnswersTo start end stop script script_now answers answers_now (Script fault written) =
-    (printed : List Printed) × Answered start end script printed
-    × (((fault ≡ script_faults.ReadFailed) × (script_now.failures ≡ one_more script.failures)) ⊎ ((fault ≡ script_faults.TooLarge) × (script_now.failures ≡ script.failures)))
+    (printed : List Printed) × (done : Answered start end script printed)
+    × IsBroken fault script script_now done.lines
     × (IsTrue stop → refusals printed ≡ 0)
     × (written ≡ count_in_64_bits (length (printed_text printed)))
     × Takes answers answers_now (printed_text printed)

@@ -7,7 +7,7 @@ use Rattle.device_io.specs.Failures.{one_more}
 use Rattle.script_text.specs.declared.line_fault.LineFault.TheVariants.{TooLarge, OutOfMemory}
 use Rattle.script_text.specs.declared.script_fault.ScriptFault.{ScriptFault}
 use Rattle.script_text.specs.declared.script_fault.ScriptFault.TheVariants as script_faults
-use Rattle.script_text.specs.Devices.{Takes, TakesPart, count_in_64_bits}
+use Rattle.script_text.specs.Devices.{Device, Takes, TakesPart, count_in_64_bits}
 use Rattle.script_text.specs.RefusalTexts.{load_refusal_line, script_refusal_line}
 use Rattle.script_text.specs.Replies.{Printed, fault_reply}
 use Rattle.script_text.specs.Texts.{IsFullLines}
@@ -16,6 +16,7 @@ use Rattle.script_run.specs.declared.options.Options.{Options}
 use Rattle.script_run.specs.declared.run_end.RunEnd.{RunEnd}
 use Rattle.script_run.specs.declared.run_end.RunEnd.TheVariants as ends
 use Rattle.script_run.specs.Loading.{Loads}
+use Rattle.script_run.specs.Input.{HasTooMany}
 use Rattle.script_run.specs.Telling.{followed_by}
 use Rattle.script_run.specs.Runs.{LineStep, StepsBy, printed_text, refusals}
 use Rattle.script_run.specs.FromScratch.{ScratchSteps, saved}
@@ -111,14 +112,19 @@ pub record SessionLosesAnswer (options : Options) (old new : Devices) (taken : �
   pub part : TakesPart old.answers new.answers (printed_text (before ++ last ∷ [])) taken
   pub unsaved : new.out ≡ old.out
 
--- some lines are answered, and then no more are read: P01 where a read failed, P02 behind the last line that can be counted; nothing is saved
+-- why no more lines are read: P01 where a read failed, P02 where there are more lines, or more bytes of a line, than a 64-bit number counts
+abbrev pub IsBroken : ScriptFault → Device → Device → List (List ℕ) → Type 0
+IsBroken fault old new lines =
+    ((fault ≡ script_faults.ReadFailed) × (new.failures ≡ one_more old.failures))
+    ⊎ ((fault ≡ script_faults.TooLarge) × HasTooMany old.bytes lines × (new.failures ≡ old.failures))
+
+-- some lines are answered, and then no more are read; nothing is saved
 pub record SessionLosesScript (options : Options) (old new : Devices) (fault : ScriptFault) (printed : List Printed) : Type 0 where
   pub lines : List (List ℕ)
   pub end : State
   pub answers : AnswersLines options old new lines printed end
   pub goes_on : IsTrue options.stop → refusals printed ≡ 0
-  pub reason : ((fault ≡ script_faults.ReadFailed) × (new.script.failures ≡ one_more old.script.failures))
-      ⊎ ((fault ≡ script_faults.TooLarge) × (new.script.failures ≡ old.script.failures))
+  pub reason : IsBroken fault old.script new.script lines
   pub unsaved : new.out ≡ old.out
 
 -- the readers and writers from before a session to its end

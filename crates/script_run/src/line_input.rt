@@ -1,7 +1,7 @@
 // The next line of a reader.
 ghost use Rattle.std.specs.Prelude.{OnOk, IfOk};
 ghost use Rattle.device_io.specs.Failures.{CountsFailure};
-ghost use Rattle.script_run.specs.Input.{left_of, KeepsFront, WaitsOrEnds};
+ghost use Rattle.script_run.specs.Input.{left_of, KeepsTaken, WaitsOrEnds};
 ghost use Rattle.script_run.specs.NextLine.{IsNext, FailuresAfterNext};
 
 use crate::held_line::HeldLine;
@@ -38,7 +38,7 @@ pub(crate) fn next_line<S: Read>(
 
 // Whether a byte is left: one that waits, or one that one read gives.
 fn has_more<S: Read>(ahead: &mut ReadAhead, source: &mut Source<S>) -> Result<bool, Failed>
-    ensures kept { OnOk result (KeepsFront (left_of ahead.old (S.remaining source.old.inner))
+    ensures kept { OnOk result (KeepsTaken (left_of ahead.old (S.remaining source.old.inner))
         (left_of ahead.new (S.remaining source.new.inner))) }
     ensures more { IfOk result
         (λ some. WaitsOrEnds some ahead.new (S.remaining source.new.inner)) }

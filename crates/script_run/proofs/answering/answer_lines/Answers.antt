@@ -1,8 +1,10 @@
-use Rattle.std.proofs.Common.{◌∙◌, sym, refl, arith}
+use Rattle.std.proofs.Common.{inl, inr, ◌∙◌, sym, refl, ap, arith}
+use Rattle.device_io.specs.Failures.{one_more as one_more_failure}
+use Rattle.script_text.specs.declared.script_fault.ScriptFault.TheVariants.{ReadFailed, TooLarge}
 use Rattle.script_text.specs.Devices.{device_of}
 use Rattle.script_text.proofs.OutLemmas.{stays}
 use Rattle.script_run.proofs.InputLemmas.{none_taken}
-use Rattle.script_run.proofs.SessionLemmas.{none_yet, whole, stops, breaks_off, one_more, one_refused, none_refused, not_both}
+use Rattle.script_run.proofs.SessionLemmas.{none_yet, whole, broken, endless, too_many, stops, breaks_off, one_more, one_refused, none_refused, not_both}
 use Rattle.script_run.proofs.answering.answer_lines.Goals as goal
 use Rattle.script_run.proofs.answering.answer_lines.Goals.{then-told+else-stop, else-told}
 
@@ -50,3 +52,18 @@ lines-preserved g c = elim c.if-told.branch [
     omega (arith, c.lines.invariant.2, w.refused-is),
   )
 ]
+
+pub returns-in-Failed : goal.returns-in-Failed
+returns-in-Failed g c =
+    rw c.broken.ensures (broken _ (device_of g.S.Read.remaining c.args.script.now) _ _ _ _ _ _ _ _ c.lines.invariant.0 ReadFailed (device_of g.S.Read.remaining c.next_line.new.source)
+    (inl (refl, c.in-Failed.ensures.failures ∙ ap one_more_failure c.lines.invariant.1)))
+
+pub returns-in-Endless : goal.returns-in-Endless
+returns-in-Endless g c =
+    rw c.broken-in-Endless.ensures (broken _ (device_of g.S.Read.remaining c.args.script.now) _ _ _ _ _ _ _ _ c.lines.invariant.0 TooLarge (device_of g.S.Read.remaining c.next_line.new.source)
+    (inr (refl, endless _ (device_of g.S.Read.remaining c.args.script.now) _ _ _ _ _ _ _ _ c.lines.invariant.0 c.in-Endless.ensures.next, c.in-Endless.ensures.failures ∙ c.lines.invariant.1)))
+
+pub returns : goal.returns
+returns g c =
+    rw c.broken-2.ensures (broken _ (device_of g.S.Read.remaining c.args.script.now) _ _ _ _ _ _ _ _ c.lines.invariant.0 TooLarge (device_of g.S.Read.remaining c.lines.script)
+    (inr (refl, too_many _ (device_of g.S.Read.remaining c.args.script.now) _ _ _ _ _ _ _ _ c.lines.invariant.0 (omega (arith, c.lines.auto.number-end)), c.lines.invariant.1)))

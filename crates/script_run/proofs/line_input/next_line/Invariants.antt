@@ -1,8 +1,9 @@
-use Rattle.std.proofs.Common.{◌≡◌}
+use Rattle.std.proofs.Common.{◌≡◌, ◌≤◌, length}
 use Rattle.script_run.specs.Input.{left_of, TakesFront}
 use Rattle.script_run.proofs.line_input.next_line.Given as goal
 
 abbrev pub invariant-parts : goal.invariant-parts
 invariant-parts g l =
-    TakesFront (left_of l.initial.ahead (g.S.Read.remaining l.initial.source.inner)) (left_of l.ahead (g.S.Read.remaining l.source.inner)) l.line
+    (front : TakesFront (left_of l.initial.ahead (g.S.Read.remaining l.initial.source.inner)) (left_of l.ahead (g.S.Read.remaining l.source.inner)) l.line)
+    × (l.counter ≤ length front.part)
     × (l.source.failures ≡ l.initial.source.failures)

@@ -203,8 +203,18 @@ def positions(desk: Desk, window: Window, whole: bool) -> Dict[str, Any]:
     axes = [held(one, whole) for one in every]
     outside = int(np.count_nonzero((shown[0][0] < axes[0][0]) | (shown[0][0] > axes[0][1]) | (shown[0][1] < axes[1][0]) | (shown[0][1] > axes[1][1])))
     drawn = [points(one, axes, window.pixels) for one in shown]
-    return {"version": desk.version, "x": axes[0], "y": axes[1], "outside": outside, "traces": len(now.mirror),
+    rows = shifted(desk.before, now)
+    marks = {"x": shown[0][0][rows[:maps.MOST_MARKS]].tolist(), "y": shown[0][1][rows[:maps.MOST_MARKS]].tolist()}
+    return {"version": desk.version, "x": axes[0], "y": axes[1], "outside": outside, "traces": len(now.mirror), "changed": len(rows), "marks": marks,
             "now": drawn[0], "was": drawn[1] if window.compare else None}
+
+
+def shifted(before: Optional[Shot], now: Shot) -> Any:
+    """The rows of the traces that lie elsewhere than before the last step, where the order of the traces is the same."""
+    known = before is not None and "x" in before.mirror.columns and np.array_equal(before.mirror.origin, now.mirror.origin)
+    if before is None or not known:
+        return np.empty(0, dtype=np.int64)
+    return np.flatnonzero(np.logical_or(*(one != other for one, other in zip(scaled(before), scaled(now)))))
 
 
 def scaled(shot: Shot) -> Tuple[Any, Any]:

@@ -57,12 +57,14 @@ export function answered(entry, answer) {
   return answer;
 }
 
+const capital = (text) => text.charAt(0).toUpperCase() + text.slice(1);
+
 // What the manual says of a refusal.
 function why(text) {
   const [, code, part] = /^refused (\S+) ?(\S*)/.exec(text) || [];
   const rows = store.words ? store.words.refusals.filter((one) => one.code === code) : [];
   const found = rows.length > 1 ? rows.find((one) => one.text.startsWith(part)) : rows[0];
-  return found ? [make("span", { class: "why" }, `${found.when}. ${found.do}.`)] : [];
+  return found ? [make("span", { class: "why" }, `${capital(found.when)}. ${capital(found.do)}.`)] : [];
 }
 
 // ---- words

@@ -4,6 +4,7 @@ import { tell, whenPhase, words } from "./api.js";
 import * as command from "./command.js";
 import { at, fill, make, many } from "./dom.js";
 import * as maps from "./maps.js";
+import * as offers from "./offers.js";
 import * as save from "./save.js";
 import * as side from "./side.js";
 import { done, part, refresh, store } from "./store.js";
@@ -103,6 +104,7 @@ async function start() {
   maps.start();
   part(bar);
   table.start();
+  offers.start();
   side.start();
   command.start();
   at("undo").addEventListener("click", () => back("undo"));

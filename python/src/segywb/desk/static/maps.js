@@ -19,10 +19,9 @@ const KINDS = [["fold", "Fold map"], ["positions", "Positions"], ["slice", "Slic
 const isMap = () => kind === "fold" || kind === "slice";
 
 function query() {
-  const room = now.getBoundingClientRect();
-  const figures = store.compare && at("was-figure").hidden ? 2 : 1;
-  const wide = Math.round(room.width / figures) - 170;
-  return { wide: Math.max(wide, 60), tall: Math.round(room.height) - 80, compare: store.compare ? 1 : 0, all: at("whole").checked ? 1 : 0, sample: at("sample-number").value || 0 };
+  at("was-figure").hidden = !store.compare;
+  at("now-caption").hidden = !store.compare;
+  return { wide: Math.max(now.clientWidth - 150, 60), tall: now.clientHeight - 80, compare: store.compare ? 1 : 0, all: at("whole").checked ? 1 : 0, sample: at("sample-number").value || 0 };
 }
 
 export async function show() {
@@ -41,15 +40,13 @@ export async function show() {
 }
 
 async function drawAll(got) {
-  at("was-figure").hidden = !store.compare;
-  at("now-caption").hidden = !store.compare;
   if (got.refused) {
     await plots.draw(now, { data: [], layout: { paper_bgcolor: "rgba(0,0,0,0)", plot_bgcolor: "rgba(0,0,0,0)", xaxis: { visible: false }, yaxis: { visible: false } } });
     fill(at("caption"), `The program answers: ${got.refused}`);
     return;
   }
-  await plots.draw(now, picture(got, got.now, got.marks || []));
-  if (store.compare && got.was) await plots.draw(was, picture(got, got.was, got.marks || []));
+  await plots.draw(now, picture(got, got.now, got.marks || []), store.compare);
+  if (store.compare && got.was) await plots.draw(was, picture(got, got.was, got.marks || []), true);
   fill(at("caption"), caption(got));
   document.body.dataset.mapVersion = String(got.version);
   document.body.dataset.mapKind = kind;
@@ -70,6 +67,7 @@ function caption(got) {
     return `${said}${got.now.kind === "pixels" ? "Many traces: a pixel shows the first one in it. " : ""}${got.changed ? `${many(got.changed, "trace")} moved by the last step, ringed. ` : ""}x and y are under the scalar of each trace.`;
   }
   const said = [];
+  if (store.compare) said.push(kind === "fold" ? "Colours: fold." : "Colours: samples.");
   if (kind === "fold") said.push(`Usual fold ${got.usual}; grey: no traces.`);
   if (kind === "slice") said.push(`${many(got.rows, "trace")} with this sample; grey: none.`);
   if (got.changed) said.push(`${many(got.changed, "cell")} changed ${store.compare ? "since the file was loaded" : "by the last step"}, outlined.`);
@@ -83,7 +81,7 @@ function choose(key) {
   kind = key;
   at("slice-tools").hidden = kind !== "slice";
   at("whole-tools").hidden = kind !== "slice" && kind !== "positions";
-  at("whole-text").textContent = kind === "slice" ? "colours to the greatest sample" : "axes to the farthest trace";
+  at("whole-text").textContent = kind === "slice" ? "all colours" : "axes to the farthest trace";
   at("whole").checked = false;
   at("box").hidden = !isMap();
   place = null;
@@ -230,7 +228,13 @@ function listen() {
   watch.observe(was, { childList: true });
 }
 
+let resizing = null;
+
 export function start() {
+  window.addEventListener("resize", () => {
+    clearTimeout(resizing);
+    resizing = setTimeout(() => { if (view) show(); }, 150);
+  });
   tabs(at("map-tabs"), KINDS, kind, choose);
   at("box").hidden = false;
   at("box").addEventListener("submit", (event) => {

@@ -1,7 +1,8 @@
 // What can be done to the traces of a rectangle, with the lines shown before they are run.
 
 import { at, fill, make, many } from "./dom.js";
-import { store } from "./store.js";
+import { ask } from "./api.js";
+import { part, store } from "./store.js";
 import { runScript } from "./command.js";
 import { goTo } from "./table.js";
 
@@ -9,6 +10,8 @@ const MOST_SHOWN = 200;
 let runs = [];
 let count = 0;
 let version = 0;
+let shownBox = null;
+let preview = () => {};
 
 // The lines of a repair of these runs of traces.
 export function linesOf(what, field, value, step) {
@@ -30,6 +33,8 @@ export function offer(box, got) {
   runs = got.runs;
   count = got.count;
   version = got.version;
+  shownBox = box;
+  preview = () => {};
   const room = at("offers");
   room.hidden = false;
   if (!count || !got.all) {
@@ -45,7 +50,7 @@ export function offer(box, got) {
   const fields = make("datalist", { id: "offer-fields" }, ...[...new Set([...Object.keys(store.bound), ...names()])].map((name) => make("option", { value: name })));
   const parts = make("span", {}, field, make("label", {}, " from ", value), make("label", {}, " step ", step));
   const form = make("form", { class: "bar", on: { submit: (event) => { event.preventDefault(); apply(); } } },
-    make("strong", {}, many(count, "trace")), `in ${many(runs.length, "run")}:`, what, parts, fields, run,
+    make("strong", { id: "offer-count" }, many(count, "trace")), what, parts, fields, run,
     make("button", { type: "button", on: { click: () => goTo(runs[0][0]) } }, "Show in the table"), close());
   const made = () => {
     try {
@@ -54,12 +59,13 @@ export function offer(box, got) {
       return null;
     }
   };
-  const preview = () => {
+  preview = () => {
     parts.hidden = what.value === "delete";
     step.parentElement.hidden = what.value !== "renumber";
     const lines = made();
     run.disabled = !lines;
     run.textContent = lines ? `Run ${many(lines.length, "line")}` : "Run";
+    fill(at("offer-count"), many(count, "trace"));
     fill(shown, lines ? lines.slice(0, MOST_SHOWN).join("\n") + (lines.length > MOST_SHOWN ? `\n.. and ${(lines.length - MOST_SHOWN).toLocaleString("en")} more` : "") : "The numbers must be whole.");
   };
   const apply = async () => {
@@ -82,6 +88,19 @@ export function offer(box, got) {
   for (const one of [what, field, value, step]) one.addEventListener("input", preview);
   fill(room, form, shown);
   preview();
+}
+
+// After a step the same rectangle may hold other traces.
+export function start() {
+  part(async () => {
+    if (at("offers").hidden || version === store.version) return;
+    const got = await ask("select", shownBox);
+    if (!got.count || !at("offer-run")) offer(shownBox, got);
+    else {
+      ({ runs, count, version } = got);
+      preview();
+    }
+  });
 }
 
 function close() {

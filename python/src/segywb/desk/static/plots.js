@@ -5,7 +5,7 @@
 const css = (name) => getComputedStyle(document.documentElement).getPropertyValue(name).trim();
 const SLICES = [[0, "#2166ac"], [0.25, "#92c5de"], [0.5, "#f7f7f7"], [0.75, "#f4a582"], [1, "#b2182b"]];
 const CONFIG = {
-  displaylogo: false, responsive: true, scrollZoom: true, doubleClick: "reset",
+  displaylogo: false, scrollZoom: true, doubleClick: "reset",
   modeBarButtonsToRemove: ["lasso2d", "toImage", "autoScale2d", "hoverClosestCartesian", "hoverCompareCartesian", "toggleSpikelines"],
 };
 
@@ -62,7 +62,7 @@ export function outlines(marks) {
     x.push(first - 0.5, last + 0.5, last + 0.5, first - 0.5, first - 0.5, null);
     y.push(row - 0.5, row - 0.5, row + 0.5, row + 0.5, row - 0.5, null);
   }
-  return { type: "scatter", mode: "lines", x, y, line: { color: css("--mark"), width: 2.5 }, hoverinfo: "skip", name: "changed" };
+  return [[css("--halo"), 5.5], [css("--mark"), 2.5]].map(([color, width]) => ({ type: "scatter", mode: "lines", x, y, line: { color, width }, hoverinfo: "skip" }));
 }
 
 function cells(z, view, look) {
@@ -76,7 +76,7 @@ const foldLook = (view) => ({
 const sliceLook = (view) => ({ zmin: -view.end, zmax: view.end, colorscale: SLICES, colorbar: bar("sample (as in the file, no unit)") });
 
 export const map = (kind, z, view, marks) => ({
-  data: [cells(z, view, kind === "fold" ? foldLook(view) : sliceLook(view)), outlines(marks)],
+  data: [cells(z, view, kind === "fold" ? foldLook(view) : sliceLook(view)), ...outlines(marks)],
   layout: layout(slots("crossline (number)", view.right), slots("inline (number)", view.down), { uirevision: `${kind} ${view.right.first.length} ${view.down.first.length}` }),
 });
 
@@ -84,7 +84,7 @@ export function places(drawn, view, unit) {
   const look = { colorscale: "Viridis", colorbar: bar("trace (position in the file)") };
   const data = drawn.kind === "points"
     ? { type: "scatter", mode: "markers", x: drawn.x, y: drawn.y, customdata: drawn.trace, hovertemplate: "trace %{customdata}<br>x %{x}<br>y %{y}<extra></extra>",
-        marker: { size: 6, color: drawn.trace, ...look } }
+        marker: { size: 7, color: drawn.trace, line: { width: 0.8, color: css("--quiet") }, ...look } }
     : { type: "heatmap", z: drawn.z, x0: drawn.x0, y0: drawn.y0, dx: drawn.dx, dy: drawn.dy, hovertemplate: "first trace %{z}<br>x %{x}<br>y %{y}<extra></extra>", ...look };
   const marks = { type: "scatter", mode: "markers", x: view.marks.x, y: view.marks.y, hoverinfo: "skip", marker: { size: 11, symbol: "circle-open", color: css("--mark"), line: { width: 2 } } };
   return {
@@ -107,7 +107,14 @@ export function bars(times, end) {
   };
 }
 
-export const draw = (room, picture) => Plotly.react(room, picture.data, picture.layout, CONFIG);
+// A picture as large as its room. Beside another one the colour bar has no title: there the caption tells it.
+export function draw(room, picture, beside = false) {
+  for (const one of picture.data) {
+    const look = one.colorbar || (one.marker && one.marker.colorbar);
+    if (look && beside) look.title = { text: "" };
+  }
+  return Plotly.react(room, picture.data, { ...picture.layout, width: room.clientWidth, height: room.clientHeight }, CONFIG);
+}
 
 // A zoom of one plot is that of the other.
 export function together(one, other) {

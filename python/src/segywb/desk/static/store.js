@@ -21,6 +21,7 @@ export async function refresh() {
         if (again) break;
         await does().catch((error) => console.warn(error.message));
       }
+      if (!again) document.body.dataset.whole = String(store.version);
     }
   } finally {
     running = false;

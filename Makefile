@@ -3,12 +3,13 @@
 #   make install    the program, its tools for pictures, its man pages and completions, under PREFIX (and DESTDIR); make uninstall takes them away
 #   make quick      the end-to-end tests, in a minute or two
 #   make python     the tests of the Python package
+#   make desk       the tests of the desk, in a browser
 # With the Rattle kit (the command rt on the PATH):
 #   make build      proves and builds the program from the sources
 #   make test       the whole gate: every proof from nothing, the must-fail edits, then the end-to-end runs
 #   make bench      the speed, as ratios to cp and md5sum
 #   make dist       the program that was built becomes the shipped one
-# demo, install, quick and python take the shipped program, or the one that PROGRAM=.. names.
+# demo, install, quick, python and desk take the shipped program, or the one that PROGRAM=.. names.
 SHIPPED = dist/segywb-x86_64-linux
 BUILT = crates/segywb/out/segywb
 PROGRAM ?= $(SHIPPED)
@@ -16,7 +17,7 @@ PREFIX ?= /usr/local
 DESTDIR ?=
 INTO = $(DESTDIR)$(PREFIX)
 
-.PHONY: help demo quick python install uninstall build test dist bench pages program
+.PHONY: help demo quick python desk install uninstall build test dist bench pages program
 
 help:
 	@sed -n '/^#/s/^# *//p; /^SHIPPED/q' Makefile
@@ -33,6 +34,9 @@ quick: program
 python: program
 	bash tests/python.sh $(PROGRAM)
 
+desk: program
+	bash tests/desk.sh $(PROGRAM)
+
 build:
 	tools/build
 
@@ -47,6 +51,7 @@ test:
 	@cmp $(BUILT) $(SHIPPED) || { echo 'The sources do not give the shipped program: see make dist.'; exit 1; }
 	bash tests/run.sh $(BUILT)
 	bash tests/python.sh $(BUILT)
+	bash tests/desk.sh $(BUILT)
 
 # Once for each delivery, after make build.
 dist:
@@ -54,10 +59,11 @@ dist:
 	install -D -m 755 $(BUILT) $(SHIPPED)
 	cd dist && sha256sum segywb-x86_64-linux > SHA256SUMS
 
-# What is made from other files: the man pages from docs/MANUAL.md, the rows of docs/DEFINITIONS.md from the comments.
+# What is made from other files: the man pages and the words of the desk from docs/MANUAL.md, the rows of docs/DEFINITIONS.md from the comments.
 pages:
 	tools/manpages man
 	tools/definitions
+	tools/desk-words docs/MANUAL.md > python/src/segywb/desk/manual.txt
 
 install: program
 	install -D -m 755 $(PROGRAM) $(INTO)/bin/segywb
@@ -87,6 +93,7 @@ bench: build
 	bash benchmarks/slices $(BUILT)
 	bash benchmarks/renumber $(BUILT)
 	bash benchmarks/python $(BUILT)
+	bash benchmarks/desk $(BUILT)
 	cd crates/time_orders && { rt run > out.log 2>&1 || true; }
 	bash benchmarks/orders crates/time_orders/out/time_orders
 	cd crates/time_reports && { rt run > out.log 2>&1 || true; }

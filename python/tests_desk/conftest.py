@@ -30,9 +30,9 @@ WORDS = ("--headless=new", "--no-sandbox", "--disable-gpu", "--disable-dev-shm-u
 class Started:
     """A desk that runs as a process of its own."""
 
-    def __init__(self, path, *words, env=None):
+    def __init__(self, path, *words, env=None, show=False):
         self.path = Path(path)
-        command = [sys.executable, "-m", "segywb.desk", str(path), "--no-browser", *words]
+        command = [sys.executable, "-m", "segywb.desk", str(path), *([] if show else ["--no-browser"]), *words]
         self.process = subprocess.Popen(
             command, env={**os.environ, "PYTHONPATH": str(SOURCES), **(env or {})}, stdout=subprocess.PIPE, stderr=subprocess.PIPE, text=True
         )

@@ -10,7 +10,7 @@ import sys
 import webbrowser
 from typing import Any, List, Optional
 
-GOODBYE_SECONDS = 2.0
+GOODBYE_SECONDS = 10.0
 
 
 def words(arguments: Optional[List[str]]) -> Any:
@@ -73,7 +73,8 @@ async def serve(told: Any) -> int:
     try:
         if server.failed is not None:
             print(f"segywb-desk: {server.failed.answer}", file=sys.stderr)
-            await asyncio.sleep(GOODBYE_SECONDS)
+            if not told.no_browser:
+                await server.goodbye(GOODBYE_SECONDS)
             return 3
         await ended.wait()
         return 0

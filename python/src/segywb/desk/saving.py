@@ -39,7 +39,7 @@ def save(desk: Desk, path: str, replace: bool) -> Dict[str, Any]:
                 "changed": changed, "at": stamp(after)}
     if own:
         desk.settled()
-    return told
+    return {**told, "version": desk.version}
 
 
 def same(one: str, other: str) -> bool:

@@ -71,6 +71,7 @@ class Server:
         self._slices = views.Slices()
         self._runner: Optional[web.AppRunner] = None
         self._stopped = False
+        self._heard = False
 
     # ---- routes
 
@@ -222,6 +223,7 @@ class Server:
                 if now != last or since > ALIVE_SECONDS:
                     await response.write(f"data: {now}\n\n".encode())
                     last, since = now, 0.0
+                    self._heard = self._heard or self.status["phase"] == "refused"
                 await asyncio.sleep(LOOK_SECONDS)
                 since += LOOK_SECONDS
         except (ConnectionError, asyncio.CancelledError):
@@ -253,6 +255,14 @@ class Server:
             self.status = {"phase": "refused", "why": clean(refusal.answer)}
         except (Error, OSError) as error:
             self._end(str(error))
+
+    async def goodbye(self, seconds: float) -> None:
+        """Waits until a page was told that the file is refused, or so long."""
+        for _ in range(int(seconds / LOOK_SECONDS)):
+            if self._heard:
+                await asyncio.sleep(1.0)
+                return
+            await asyncio.sleep(LOOK_SECONDS)
 
     async def stop(self) -> None:
         """Ends all of it."""

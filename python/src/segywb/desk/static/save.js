@@ -1,7 +1,7 @@
 // The save, with its question before a file is replaced.
 
 import { at, fill, make, many } from "./dom.js";
-import { done, seen, store } from "./store.js";
+import { done, store } from "./store.js";
 
 const box = at("save-box");
 let path = null;
@@ -40,6 +40,5 @@ function told(said, answer, save) {
     const size = answer.before === answer.bytes ? `${answer.bytes.toLocaleString("en")} bytes` : `${answer.bytes.toLocaleString("en")} bytes, where the file had ${answer.before.toLocaleString("en")}`;
     const changed = answer.changed === null ? "" : `; ${answer.changed === 0 ? "no byte" : many(answer.changed, "byte")} changed`;
     fill(said, make("p", { id: "saved" }, `Saved as ${answer.path}: ${size}${changed}.`), ...answer.said.map((one) => make("p", {}, one)));
-    if (answer.own) seen(store.version + 1);
   }
 }

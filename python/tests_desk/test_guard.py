@@ -2,6 +2,7 @@
 
 import http.client
 import json
+import os
 import re
 import socket
 import struct
@@ -12,7 +13,7 @@ from pathlib import Path
 
 import files
 import pytest
-from conftest import SOURCES, Started, wait_for
+from conftest import SOURCES, Started, run, wait_for
 
 HOSTILE = [
     "<script>window.taken = 1</script>", "<img src=x onerror='window.taken = 1'>", "<b>bold</b>&amp;", "\"><svg onload=window.taken=1>", "C 5 </script>",
@@ -69,14 +70,14 @@ def test_the_host_and_the_origin(started):
 def test_edits_come_from_the_page_alone(started):
     desk = ready(started("cube"))
     own, kind = f"http://127.0.0.1:{desk.port}", "application/json"
-    run = f"/{desk.token}/do/run"
+    address = f"/{desk.token}/do/run"
     line = {"line": "delete 1"}
-    assert asked(desk, run, "POST", line, Content_Type=kind)[0] == 403
-    assert asked(desk, run, "POST", line, Content_Type="text/plain", Origin=own)[0] == 403
-    assert asked(desk, run, "POST", line, Content_Type=kind, Origin="http://evil.example")[0] == 403
-    assert asked(desk, run, "GET", Content_Type=kind, Origin=own)[0] == 405
+    assert asked(desk, address, "POST", line, Content_Type=kind)[0] == 403
+    assert asked(desk, address, "POST", line, Content_Type="text/plain", Origin=own)[0] == 403
+    assert asked(desk, address, "POST", line, Content_Type=kind, Origin="http://evil.example")[0] == 403
+    assert asked(desk, address, "GET", Content_Type=kind, Origin=own)[0] == 405
     assert json.loads(asked(desk)[1])["edits"] == 0
-    assert asked(desk, run, "POST", line, Content_Type=kind, Origin=own)[0] == 200
+    assert asked(desk, address, "POST", line, Content_Type=kind, Origin=own)[0] == 200
     assert json.loads(asked(desk)[1])["edits"] == 1
 
 
@@ -160,8 +161,6 @@ def desk_of(*words):
 
 
 def environment():
-    import os
-
     return {name: os.environ[name] for name in ("SEGYWB",) if name in os.environ}
 
 
@@ -197,17 +196,14 @@ def test_a_refused_file(opened, started, browser, tmp_path):
 
 
 def test_floats(opened, tmp_path):
-    """A file of floats is shown where the program reads it without values for its samples, else its refusal is."""
+    """A file of floats is shown where the program reads it without values for its samples; a program of before refuses it."""
     samples = struct.pack(">2f", 1.5, -2.5)
     traces = [files.trace(n, 1, n, [0, 0], size=4)[:240] + samples for n in (1, 2, 3)]
     path = files.write(tmp_path / "float.sgy", files.header(), files.binary(form=5), *traces)
-    probe = Started(path)
-    assert wait_for(lambda: asked(probe)[0] != 503 or "loading" not in asked(probe)[1])
-    status, told, _ = asked(probe)
-    _, said = probe.end()
-    if status == 503:
-        assert "L06 float format 5" in told and "L06 float format 5" in said
-        pytest.skip("the program does not read floats")
+    if run(path, "count\n", "--opaque-samples")[1] == 2:
+        done = desk_of(str(path), "--no-browser")
+        assert done.returncode == 3 and "load refused L06 float format 5" in done.stderr
+        return
     page = opened(path)
     assert page.map() == [[1, 1, 1]] and "no values here" in page.text("summary")
     page.map_tab("slice")

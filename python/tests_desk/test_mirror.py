@@ -117,7 +117,7 @@ def test_no_traces(tmp_path):
 
 def test_a_mirror_that_is_wrong_is_read_again(desk, monkeypatch):
     for wrong in (77, 2):
-        monkeypatch.setattr(mirror, "followed", lambda last, volume, lines: last._replace(columns={**last.columns, "inline": last.columns["inline"] * 0 + wrong}))
+        monkeypatch.setattr(mirror, "followed", lambda last, volume, lines: mirror.Mirror({**last.columns, "inline": last.columns["inline"] * 0 + wrong}, last.origin))
         desk.run("set 9 crossline 4")
         sound(desk)
 

@@ -2,7 +2,8 @@
 
 from __future__ import annotations
 
-from typing import Any, Callable, Dict, List, NamedTuple, Optional, Sequence, Tuple
+from dataclasses import dataclass
+from typing import Any, Callable, Dict, List, Optional, Sequence, Tuple
 
 import numpy as np
 
@@ -22,7 +23,8 @@ def silent(done: int, of: int) -> None:
     """Tells nobody how far the reading is."""
 
 
-class Mirror(NamedTuple):
+@dataclass(frozen=True)
+class Mirror:
     """Columns by their names, a row for each trace, and the position that each trace had in the file (0: it is new)."""
 
     columns: Dict[str, Any]

@@ -71,7 +71,7 @@ class Page:
 
     def shown(self, version):
         """Waits until the map and the numbers are those of a version."""
-        self.wait(lambda: min(int(self.data(one)) for one in ("mapVersion", "version", "whole")) >= version)
+        self.wait(lambda: min(int(self.data(one) or 0) for one in ("mapVersion", "version", "whole")) >= version)
 
     def run(self, line):
         """Types a line and gives its answer. Where it is accepted, everything is brought up to date first."""
@@ -110,19 +110,31 @@ class Page:
         self.tab(name)
         self.wait(lambda: self.data("mapKind") == name)
 
-    def drag(self, cells):
-        """Draws a rectangle on the map from one cell to another, each a row and a column."""
+    def drag(self, cells, room=(12, 8)):
+        """Draws a rectangle on the map from one cell to another, each a row and a column; so many pixels around their middles."""
         place = "const gd = document.getElementById('plot-now'); const {xaxis: x, yaxis: y} = gd._fullLayout; const room = gd.getBoundingClientRect();"
         at = [self.js(f"{place} return [room.left + x._offset + x.d2p(arguments[1]), room.top + y._offset + y.d2p(arguments[0])]", *cell) for cell in cells]
         (x0, y0), (x1, y1) = [(round(x), round(y)) for x, y in at]
         chain = ActionChains(self.browser)
-        chain.w3c_actions.pointer_action.move_to_location(x0 - 12, y0 + 8)
+        chain.w3c_actions.pointer_action.move_to_location(x0 - room[0], y0 + room[1])
         chain.w3c_actions.pointer_action.pointer_down()
         chain.w3c_actions.pointer_action.move_to_location((x0 + x1) // 2, (y0 + y1) // 2)
-        chain.w3c_actions.pointer_action.move_to_location(x1 + 12, y1 - 8)
+        chain.w3c_actions.pointer_action.move_to_location(x1 + room[0], y1 - room[1])
         chain.w3c_actions.pointer_action.pointer_up()
         chain.perform()
         self.wait(lambda: self.find("offers").is_displayed())
+
+    def hovered(self, row, column, text):
+        """Waits until the pointer over a cell tells this; it is moved now and then."""
+
+        def told():
+            self.hover(row, column)
+            until = time.monotonic() + 2
+            while time.monotonic() < until and self.text("tip") != text:
+                time.sleep(0.05)
+            return self.text("tip") == text and self.find("tip").is_displayed()
+
+        self.wait(told)
 
     def hover(self, row, column):
         place = "const gd = document.getElementById('plot-now'); const {xaxis: x, yaxis: y} = gd._fullLayout; const room = gd.getBoundingClientRect();"

@@ -1,9 +1,12 @@
 """The desk in a real browser: what one sees, and what one does."""
 
+import math
 import os
+import struct
 
+import files
 import pytest
-from conftest import run, wait_for
+from conftest import run
 from selenium.webdriver import ActionChains
 from selenium.webdriver.common.by import By
 from selenium.webdriver.common.keys import Keys
@@ -21,8 +24,7 @@ def test_what_one_sees(opened):
     page.wait(lambda: "4 faults" in page.text("panel"))
     assert "inline, crossline and offset are those of trace Q, an earlier one" in page.text("panel")
     assert page.rows()[4] == ["5", "101", "201", "0", "45000000", "680002500", "-100"]
-    page.hover(0, 1)
-    page.wait(lambda: page.text("tip") == "inline 101, crossline 202: fold 2, 2 traces 2, 6")
+    page.hovered(0, 1, "inline 101, crossline 202: fold 2, 2 traces 2, 6")
     page.tab("numbers")
     page.wait(lambda: "450000 to 450075" in page.text("panel"))
     assert "-103" in page.text("panel") and "in m" in page.text("panel")
@@ -232,21 +234,59 @@ def test_keyboard_on_the_map(opened):
     assert page.wait(lambda: page.all("tr.here"))[0].get_attribute("data-trace") == "1"
 
 
+def survey(path):
+    """A cube whose traces of inline 112 say 111, with a trace that lacks."""
+    inlines, crosslines, made = range(101, 125), range(201, 241), []
+    for inline in inlines:
+        for crossline in crosslines:
+            if (inline, crossline) != (118, 209):
+                samples = [round(300 * math.cos((inline * 2 + crossline) / 9 - k / 3) * math.exp(-((k - 12) / 6) ** 2)) for k in range(25)]
+                trace = bytearray(files.trace(len(made) + 1, 111 if inline == 112 else inline, crossline, samples))
+                trace[70:72] = struct.pack(">h", -100)
+                trace[180:188] = struct.pack(">2i", 45000000 + 2500 * (crossline - 201) - 900 * (inline - 101), 680000000 + 2500 * (inline - 101) + 900 * (crossline - 201))
+                trace[88:90] = struct.pack(">h", 1)
+                made.append(bytes(trace))
+    text = "".join(f"C{at:2d} {'EXAMPLE SURVEY' if at == 1 else ''}".ljust(80) for at in range(1, 41)).encode("cp037")
+    return files.write(path, text, files.binary(samples=25, at3255=(2, 1)), *made)
+
+
 @pytest.mark.parametrize("scheme", ["light", "dark"])
 def test_width_and_pictures(opened, scheme, tmp_path):
     """Nothing is wider than a laptop's screen. SEGYWB_PICTURES names the folder where pictures of the page are put."""
     folder = os.environ.get("SEGYWB_PICTURES") or str(tmp_path)
-    page = opened("wrong_line")
+    page = opened(survey(tmp_path / "survey.sgy"))
     page.browser.execute_cdp_cmd("Emulation.setEmulatedMedia", {"features": [{"name": "prefers-color-scheme", "value": scheme}]})
-    page.run("set 99 inline 7")
-    page.run("renumber 5 8 inline 102 0")
-    page.click("compare")
-    page.wait(lambda: page.js("return Boolean(document.getElementById('plot-was').data)") and "was 101" in page.find("table-room").text)
-    page.js("document.getElementById('line').blur()")
-    assert page.js("return document.documentElement.scrollWidth") <= 1280
-    page.browser.execute_cdp_cmd("Emulation.setDeviceMetricsOverride", {"width": 1280, "height": 1010, "deviceScaleFactor": 1, "mobile": False})
-    wait_for(lambda: page.js("return window.innerHeight") == 1010)
+    page.browser.execute_cdp_cmd("Emulation.setDeviceMetricsOverride", {"width": 1280, "height": 960, "deviceScaleFactor": 1, "mobile": False})
     back = page.js("return getComputedStyle(document.body).color")
     assert (back == "rgb(27, 31, 36)") == (scheme == "light")
-    assert page.browser.save_screenshot(f"{folder}/desk-{scheme}.png")
+
+    def picture(name):
+        page.js("document.activeElement.blur()")
+        assert page.js("return document.documentElement.scrollWidth") <= 1280
+        assert page.browser.save_screenshot(f"{folder}/desk-{name}{'' if scheme == 'light' else '-dark'}.png")
+
+    page.drag([(10, 4), (10, 30)], (4, 3))
+    assert page.text("offer-count") == "54 traces"
+    page.hovered(17, 20, "inline 118, crossline 221: fold 1, trace 700")
+    picture("select")
+    page.run("set 9999 inline 7")
+    page.run("renumber 441 480 inline 112 0")
+    page.one("#offers button:last-of-type").click()
+    page.click("compare")
+    page.wait(lambda: page.js("return Boolean(document.getElementById('plot-was').data)") and page.data("whole"))
+    page.find("first").clear()
+    page.find("first").send_keys("438", Keys.TAB)
+    page.wait(lambda: "was 111" in page.find("table-room").text)
+    assert page.marks() == 2
+    picture("compare")
+    page.map_tab("slice")
+    page.js("const one = document.getElementById('sample-number'); one.value = 12; one.dispatchEvent(new Event('change'))")
+    page.tab("numbers")
+    page.wait(lambda: page.map()[0][0] not in (None, 0) and "cells with traces" in page.text("panel"))
+    picture("slice")
+    page.click("compare")
+    page.map_tab("positions")
+    page.tab("edits")
+    page.wait(lambda: page.text("steps") == "renumber 441 480 inline 112 0")
+    picture("positions")
     page.browser.execute_cdp_cmd("Emulation.clearDeviceMetricsOverride", {})

@@ -131,9 +131,15 @@ function take(index) {
   complete();
 }
 
+// The first sentences of a paragraph.
+function brief(text) {
+  const [first, ...rest] = text.split(/(?<=\.) (?=[A-Z])/);
+  return [first, ...rest].reduce((said, one) => (`${said} ${one}`.length > 150 ? said : `${said} ${one}`));
+}
+
 function usage(word) {
   const found = store.words && store.words.commands.find((one) => one.word === word);
-  if (found) fill(at("usage"), make("code", {}, found.usage), found.told);
+  if (found) fill(at("usage"), make("code", {}, found.usage), brief(found.told));
   else if (!word) fill(at("usage"), "Type a command: Tab takes a word, the arrows go through the earlier lines.");
   else fill(at("usage"), "No command begins with this word yet.");
 }

@@ -68,7 +68,6 @@ async function bar() {
   const { file, traces, edits, undoable, redoable, opaque, samples } = store.state;
   const cut = file.lastIndexOf("/") + 1;
   at("name").textContent = file.slice(cut);
-  at("folder").textContent = file.slice(0, cut);
   at("file").title = file;
   document.title = `${file.slice(cut)} – segywb desk`;
   at("summary").textContent = `${many(traces, "trace")} of ${many(samples, "sample")}, ${many(edits, "edit")}${opaque ? "; floats: the samples have no values here" : ""}`;

@@ -43,7 +43,7 @@ function slots(title, numbers) {
 
 function layout(x, y, more = {}) {
   return {
-    xaxis: x, yaxis: y, margin: { l: 62, r: 12, t: 26, b: 48 }, paper_bgcolor: css("--panel"), plot_bgcolor: css("--empty"),
+    xaxis: x, yaxis: y, margin: { l: 62, r: 12, t: 26, b: 40 }, paper_bgcolor: css("--panel"), plot_bgcolor: css("--empty"),
     font: { color: css("--text"), size: 12, family: "system-ui, DejaVu Sans, sans-serif" }, dragmode: "select", selectdirection: "any",
     modebar: { bgcolor: "rgba(0,0,0,0)", color: css("--quiet"), activecolor: css("--strong") }, hovermode: "closest", showlegend: false, ...more,
   };
@@ -62,7 +62,7 @@ export function outlines(marks) {
     x.push(first - 0.5, last + 0.5, last + 0.5, first - 0.5, first - 0.5, null);
     y.push(row - 0.5, row - 0.5, row + 0.5, row + 0.5, row - 0.5, null);
   }
-  return [[css("--halo"), 5.5], [css("--mark"), 2.5]].map(([color, width]) => ({ type: "scatter", mode: "lines", x, y, line: { color, width }, hoverinfo: "skip" }));
+  return [[css("--halo"), 4], [css("--mark"), 2]].map(([color, width]) => ({ type: "scatter", mode: "lines", x, y, line: { color, width }, hoverinfo: "skip" }));
 }
 
 function cells(z, view, look) {

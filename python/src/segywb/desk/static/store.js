@@ -12,6 +12,7 @@ export const part = (does) => parts.push(does);
 
 export async function refresh() {
   again = true;
+  delete document.body.dataset.whole;
   if (running) return;
   running = true;
   try {

@@ -18,7 +18,7 @@ export async function show() {
   if (found.error) return found;
   got = found;
   first = found.first;
-  at("first").value = found.first;
+  if (document.activeElement !== at("first")) at("first").value = found.first;
   at("first").max = found.traces;
   mark(found);
   drawTable();

@@ -44,7 +44,7 @@ function slots(title, numbers) {
 function layout(x, y, more = {}) {
   return {
     xaxis: x, yaxis: y, margin: { l: 62, r: 12, t: 26, b: 40 }, paper_bgcolor: css("--panel"), plot_bgcolor: css("--empty"),
-    font: { color: css("--text"), size: 12, family: "system-ui, DejaVu Sans, sans-serif" }, dragmode: "select", selectdirection: "any",
+    font: { color: css("--text"), size: 12, family: "system-ui, DejaVu Sans, sans-serif" }, dragmode: "select", selectdirection: "d",
     modebar: { bgcolor: "rgba(0,0,0,0)", color: css("--quiet"), activecolor: css("--strong") }, hovermode: "closest", showlegend: false, ...more,
   };
 }

@@ -115,6 +115,14 @@ def test_no_traces(tmp_path):
     made.close()
 
 
+def test_large_samples(tmp_path):
+    made = Desk(str(files.varying(tmp_path / "large.sgy")))
+    made.load()
+    view = views.Slices().view(made, 1, views.Window((500, 400), False), False)
+    assert view["now"] == [[2.0**64], [2.0**64]] and view["rows"] == 2
+    made.close()
+
+
 def test_a_mirror_that_is_wrong_is_read_again(desk, monkeypatch):
     for wrong in (77, 2):
         monkeypatch.setattr(mirror, "followed", lambda last, volume, lines: mirror.Mirror({**last.columns, "inline": last.columns["inline"] * 0 + wrong}, last.origin))
@@ -191,3 +199,26 @@ def test_lines_of_the_sources():
     for path in found:
         if path.suffix in (".py", ".js", ".css", ".html"):
             assert len(path.read_text().splitlines()) < 800, path
+
+
+def test_lines_of_a_slice(desk, monkeypatch):
+    monkeypatch.setattr(mirror, "PIECE", 7)
+    desk.run_script("move 1 9\ndelete 4\nset 3 inline -9")
+    found, wanted = mirror.read(desk.volume, NAMES), desk.volume.headers(*NAMES)
+    assert set(mirror.of_slice(desk.volume, len(found))) == set(mirror.LINES)
+    for name in NAMES:
+        assert found.columns[name].tolist() == wanted[name].tolist()
+
+
+def test_maps_by_either_way(monkeypatch):
+    chance = np.random.default_rng(7)
+    inlines, crosslines = chance.integers(-5, 40, 500), chance.integers(0, 30, 500)
+    down, right = maps.axis_of(np.unique(inlines)), maps.axis_of(np.unique(crosslines))
+    one = maps.folds(inlines, crosslines, down, right)
+    other = maps.folds(inlines[40:], crosslines[40:], down, right)
+    found = [at.tolist() for at in maps.differing(one, other, len(right))]
+    monkeypatch.setattr(maps, "MOST_DIRECT", 0)
+    monkeypatch.setattr(maps, "MOST_DENSE", 0)
+    assert [at.tolist() for at in maps.folds(inlines, crosslines, down, right)] == [at.tolist() for at in one]
+    assert [at.tolist() for at in maps.differing(one, other, len(right))] == found
+    assert sorted(set(zip(down.places(inlines[:40]).tolist(), right.places(crosslines[:40]).tolist()))) == list(zip(*found))

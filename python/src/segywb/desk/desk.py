@@ -14,6 +14,7 @@ from ..errors import LoadRefused, OptionRefused
 from ..lines import of_script
 from ..volume import Volume
 from . import mirror
+from .maps import Axis, Cells
 from .mirror import Mirror, silent
 
 RANGES = ("inline", "crossline", "offset", "x", "y")
@@ -51,6 +52,7 @@ class Desk:
         self._options: Dict[str, Any] = {"fixed": fixed, "max_bytes": max_bytes}
         self.opaque = False
         self.version = 0
+        self.kept_cells: List[Tuple[Mirror, Axis, Axis, Cells]] = []
         self._pending: List[str] = []
         self._shots: List[Shot] = []
         self._loaded: Optional[Shot] = None
@@ -124,10 +126,13 @@ class Desk:
         """Whether the columns are those of the program's answers: their inlines and crosslines occur as often as it says."""
         for name, wanted in (("inline", shot.inlines), ("crossline", shot.crosslines)):
             numbers = shot.mirror.columns[name]
-            at = np.searchsorted(wanted[0], numbers)
-            if len(numbers) and (at.max() >= len(wanted[0]) or not np.array_equal(wanted[0][at], numbers)):
+            if not len(numbers) or not len(wanted[0]):
+                return len(numbers) == len(wanted[0])
+            if numbers.min() < wanted[0][0] or numbers.max() > wanted[0][-1]:
                 return False
-            if not np.array_equal(np.bincount(at, minlength=len(wanted[0])), wanted[1]):
+            axis = Axis(wanted[0], np.arange(len(wanted[0])), [])
+            at = axis.places(numbers)
+            if not np.array_equal(wanted[0][at], numbers) or not np.array_equal(np.bincount(at, minlength=len(wanted[0])), wanted[1]):
                 return False
         return True
 

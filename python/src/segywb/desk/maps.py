@@ -8,6 +8,8 @@ import numpy as np
 
 MOST_MARKS = 2000
 MOST_FILLED = 20
+MOST_DIRECT = 1 << 22
+MOST_DENSE = 1 << 24
 
 
 class Axis(NamedTuple):
@@ -22,7 +24,14 @@ class Axis(NamedTuple):
 
     def places(self, numbers: Any) -> Any:
         """The slot of each of these numbers of the axis."""
-        return self.slots[np.searchsorted(self.numbers, numbers)]
+        if not len(self.numbers):
+            return np.empty(0, dtype=np.int64)
+        least, most = int(self.numbers[0]), int(self.numbers[-1])
+        if most - least >= MOST_DIRECT:
+            return self.slots[np.searchsorted(self.numbers, numbers)]
+        direct = np.zeros(most - least + 1, dtype=np.int64)
+        direct[self.numbers - least] = self.slots
+        return direct[np.asarray(numbers) - least]
 
 
 def step_of(gaps: Any) -> int:
@@ -89,9 +98,9 @@ def usual_of(cells: Cells, slots: int) -> int:
     """
     if not len(cells.values):
         return 0
-    values, counts = np.unique(cells.values, return_counts=True)
+    counts = np.bincount(cells.values)
     most = int(np.argmax(counts))
-    return 0 if slots - len(cells.values) > int(counts[most]) else int(values[most])
+    return 0 if slots - len(cells.values) > int(counts[most]) else most
 
 
 class Bundle(NamedTuple):
@@ -149,10 +158,17 @@ def sizes(bundle: Bundle, slots: Tuple[int, int]) -> Any:
 def differing(one: Cells, other: Cells, wide: int) -> Tuple[Any, Any]:
     """The rows and columns of the cells whose values differ, also where only one of both has them."""
     keys = [cells.rows * wide + cells.columns for cells in (one, other)]
+    size = max((int(key[-1]) + 1 for key in keys if len(key)), default=0)
+    if size <= MOST_DENSE:
+        dense = [np.zeros(size) for _ in keys]
+        for full, key, cells in zip(dense, keys, (one, other)):
+            full[key] = cells.values
+        found = np.flatnonzero(dense[0] != dense[1])
+        return found // wide, found % wide
     both = np.union1d(*keys)
     values = []
     for key, cells in zip(keys, (one, other)):
-        full = np.zeros(len(both), dtype=np.int64)
+        full = np.zeros(len(both))
         full[np.searchsorted(both, key)] = cells.values
         values.append(full)
     found = both[values[0] != values[1]]
@@ -173,9 +189,11 @@ def marks(rows: Any, columns: Any, bundle: Bundle) -> List[List[int]]:
 
 
 def plain(array: Any) -> List[List[Optional[float]]]:
-    """An array as lists, with nothing where it is not a number."""
-    boxed = array.astype(object)
-    boxed[np.isnan(array)] = None
+    """An array of whole numbers as lists, with nothing where it is not a number; above 2**53 they are rounded."""
+    missing = np.isnan(array)
+    known = np.where(missing, 0, array)
+    boxed = (known.astype(np.int64) if np.abs(known).max(initial=0) < 2**53 else known).astype(object)
+    boxed[missing] = None
     return list(boxed.tolist())
 
 

@@ -110,6 +110,21 @@ def on_axes(shot: Shot, down: maps.Axis, right: maps.Axis) -> Tuple[Any, Any]:
     return inlines[here], crosslines[here]
 
 
+def cells_of(desk: Desk, shot: Shot, down: maps.Axis, right: maps.Axis) -> maps.Cells:
+    """The folds of a shot on these axes. The last ones are kept: what is now is what was before, one step later."""
+    for known, inlines, crosslines, cells in desk.kept_cells:
+        if known is shot.mirror and np.array_equal(inlines.numbers, down.numbers) and np.array_equal(crosslines.numbers, right.numbers):
+            return cells
+    cells = maps.folds(*on_axes(shot, down, right), down, right)
+    desk.kept_cells = [(shot.mirror, down, right, cells), *desk.kept_cells[:2]]
+    return cells
+
+
+def moved(one: Shot, other: Shot) -> bool:
+    """Whether the inlines and crosslines of both are others, as far as is seen without a look at each."""
+    return any(one.mirror.columns[name] is not other.mirror.columns[name] for name in ("inline", "crossline"))
+
+
 def fold(desk: Desk, window: Window) -> Dict[str, Any]:
     """The fold map."""
     now, other = desk.now(), desk.loaded if window.compare else desk.before
@@ -119,8 +134,8 @@ def fold(desk: Desk, window: Window) -> Dict[str, Any]:
     down, right = maps.axis_of(ends[0]), maps.axis_of(ends[1])
     bundle = maps.bundle_for(len(down), len(right), window.pixels)
     slots = (len(down), len(right))
-    cells = maps.folds(now.mirror.columns["inline"], now.mirror.columns["crossline"], down, right)
-    others = maps.folds(*on_axes(other, down, right), down, right) if other is not None and other is not now else None
+    cells = cells_of(desk, now, down, right)
+    others = cells_of(desk, other, down, right) if other is not None and moved(other, now) else None
     usual = maps.usual_of(cells, slots[0] * slots[1])
     rows, columns = maps.differing(others, cells, max(slots[1], 1)) if others is not None else (np.empty(0, int), np.empty(0, int))
     shown = [cells, others if others is not None else cells] if window.compare else [cells]

@@ -4,6 +4,7 @@
 
 const css = (name) => getComputedStyle(document.documentElement).getPropertyValue(name).trim();
 const SLICES = [[0, "#2166ac"], [0.25, "#92c5de"], [0.5, "#f7f7f7"], [0.75, "#f4a582"], [1, "#b2182b"]];
+const MANY = 20000; // cells: from there on they are drawn as the pixels of one image, which the style sheet keeps sharp
 const CONFIG = {
   displaylogo: false, scrollZoom: true, doubleClick: "reset",
   modeBarButtonsToRemove: ["lasso2d", "toImage", "autoScale2d", "hoverClosestCartesian", "hoverCompareCartesian", "toggleSpikelines"],
@@ -66,8 +67,9 @@ export function outlines(marks) {
 }
 
 function cells(z, view, look) {
-  const gap = view.down.first.length * view.right.first.length < 2500 ? 1 : 0;
-  return { type: "heatmap", z, xgap: gap, ygap: gap, hoverinfo: "none", ...look };
+  const count = view.down.first.length * view.right.first.length;
+  const gap = count < 2500 ? 1 : 0;
+  return { type: "heatmap", z, xgap: gap, ygap: gap, zsmooth: count > MANY ? "fast" : false, hoverinfo: "none", ...look };
 }
 
 const foldLook = (view) => ({

@@ -274,8 +274,7 @@ def test_width_and_pictures(opened, scheme, tmp_path):
     page.one("#offers button:last-of-type").click()
     page.click("compare")
     page.wait(lambda: page.js("return Boolean(document.getElementById('plot-was').data)") and page.data("whole"))
-    page.find("first").clear()
-    page.find("first").send_keys("438", Keys.TAB)
+    page.find("first").send_keys(Keys.CONTROL + "a", Keys.NULL, "438", Keys.TAB)
     page.wait(lambda: "was 111" in page.find("table-room").text)
     assert page.marks() == 2
     picture("compare")

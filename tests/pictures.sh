@@ -91,6 +91,50 @@ runs 'no place for the page' 4 'segywb-report: cannot write none/x.html' segywb-
 SEGYWB=none/segywb runs 'no program' 5 'segywb-report: there is no program none/segywb' segywb-report --no-pictures cube.sgy x.html
 same 'a help' "$("$tools/segywb-plot" --help | head -n 1)" 'Draws a picture of a SEG-Y file, by the answers of segywb and with gnuplot.'
 
+# what is there and is not the tool's own stays: another file, a SEG-Y file by its name, a folder
+# stays NAME ERRORS WORD..: the tool is refused with status 2, and the file `b.sgy` is as it was
+cp survey.sgy b.sgy
+stays() { runs "$1" 2 "$2" "${@:3}"; same "$1: nothing is lost" "$(cmp survey.sgy b.sgy 2>&1)" ''; }
+stays 'two files, and no page' 'segywb-report: OUT.html is named as a SEG-Y file: b.sgy' segywb-report --no-pictures cube.sgy b.sgy
+stays 'two files and a page' 'segywb-report: OUT.html is named as a SEG-Y file: b.sgy' segywb-report --no-pictures cube.sgy b.sgy x.html
+stays 'two files, and no picture' 'segywb-plot: OUT.png is named as a SEG-Y file: b.sgy' segywb-plot fold cube.sgy b.sgy
+stays 'two files and a picture' 'segywb-plot: one FILE and OUT.png are needed' segywb-plot fold cube.sgy b.sgy x.png
+runs 'a new file that is named as a SEG-Y file' 2 'segywb-report: OUT.html is named as a SEG-Y file: new.SEGY' segywb-report --no-pictures cube.sgy new.SEGY
+ln -s b.sgy link.html
+stays 'a link to a file' 'segywb-report: OUT.html is there and no page: link.html' segywb-report --no-pictures cube.sgy link.html
+stays 'a link to a file, and a picture' 'segywb-plot: OUT.png is there and no picture: link.html' segywb-plot histogram cube.sgy link.html
+echo notes > notes.txt
+runs 'another file' 2 'segywb-report: OUT.html is there and no page: notes.txt' segywb-report --no-pictures cube.sgy notes.txt
+runs 'a picture over another file' 2 'segywb-plot: OUT.png is there and no picture: notes.txt' segywb-plot coordinates cube.sgy notes.txt
+same 'stays as it is' "$(cat notes.txt)" notes
+runs 'a picture over a page' 2 'segywb-plot: OUT.png is there and no picture: page.html' segywb-plot fold cube.sgy page.html
+printf '\211PNG\r\n\032\nand more' > p.png
+runs 'a page over a picture' 2 'segywb-report: OUT.html is there and no page: p.png' segywb-report --no-pictures cube.sgy p.png
+runs 'a folder as the page' 2 'segywb-report: OUT.html is a folder: .' segywb-report --no-pictures cube.sgy .
+absent 'no page was made' x.html
+absent 'nor a file' new.SEGY
+
+# the page is put in place whole: links, modes and what is beside it stay
+rm -f x.html link.html
+mkdir room
+ln -s room/x.html link.html
+runs 'a page through a link to nothing' 0 '' segywb-report --no-pictures cube.sgy link.html
+chmod 640 room/x.html
+cp room/x.html first.html
+ln room/x.html hard.html
+runs 'a page over a page' 0 '' segywb-report --no-pictures wrong_line.sgy link.html
+same 'the link stays, and so does the mode' "$(readlink link.html) $(stat -c %a room/x.html)" 'room/x.html 640'
+same 'the old page was replaced and not written' "$(cmp first.html hard.html 2>&1)" ''
+same 'nothing is left beside it' "$(ls -A room)" x.html
+: > empty.html
+runs 'a page over an empty file' 0 '' segywb-report --no-pictures cube.sgy empty.html
+has 'is a page' empty.html '<!DOCTYPE html'
+runs 'a page to a device' 0 '' segywb-report --no-pictures cube.sgy /dev/null
+same 'which stays one' "$(stat -c %F /dev/null)" 'character special file'
+name=$(printf 'x%.0s' $(seq 250)).html
+runs 'a page with a name of 255 bytes' 0 '' segywb-report --no-pictures cube.sgy "$name"
+has 'is there' "$name" '</html>'
+
 finish() { printf 'pictures: %d passed, %d failed\n' "$passed" "$failed"; [ "$failed" = 0 ]; exit; }
 GNUPLOT=$gnuplot
 command -v "$gnuplot" > /dev/null || { echo 'left out the pictures themselves: no gnuplot'; finish; }

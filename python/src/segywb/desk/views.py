@@ -250,7 +250,7 @@ def held(values: Any, whole: bool) -> List[float]:
     least, greatest = float(values.min()), float(values.max())
     low, high = (float(one) for one in np.percentile(values, [2, 98]))
     room = (high - low) * 0.5
-    if whole or (low - room <= least and greatest <= high + room):
+    if whole or not room or (low - room <= least and greatest <= high + room):
         return [least, greatest]
     inside = values[(values >= low - room) & (values <= high + room)]
     return [float(inside.min()), float(inside.max())]

@@ -16,6 +16,7 @@ PROGRAM ?= $(SHIPPED)
 PREFIX ?= /usr/local
 DESTDIR ?=
 INTO = $(DESTDIR)$(PREFIX)
+TOOLS = segywb-plot segywb-report segywb-desk
 
 .PHONY: help demo quick python desk install uninstall build test dist bench pages program
 
@@ -73,6 +74,11 @@ install: program
 	install -D -m 644 completions/segywb.bash $(INTO)/share/bash-completion/completions/segywb
 	install -D -m 644 completions/_segywb $(INTO)/share/zsh/site-functions/_segywb
 	install -D -m 644 completions/segywb.fish $(INTO)/share/fish/vendor_completions.d/segywb.fish
+	for tool in $(TOOLS); do \
+	    install -m 644 completions/tools.bash $(INTO)/share/bash-completion/completions/$$tool && \
+	    install -m 644 completions/tools.fish $(INTO)/share/fish/vendor_completions.d/$$tool.fish || exit 1; \
+	done
+	install -m 644 completions/_segywb_tools $(INTO)/share/zsh/site-functions/_segywb_tools
 	install -D -m 644 -t $(INTO)/share/doc/segywb LICENSE LICENSE-MIT LICENSE-APACHE docs/MANUAL.md docs/COOKBOOK.md
 	install -D -m 644 -t $(INTO)/share/doc/segywb/examples examples/*.sgy
 
@@ -82,6 +88,8 @@ uninstall:
 	rm -f $(INTO)/share/bash-completion/completions/segywb
 	rm -f $(INTO)/share/zsh/site-functions/_segywb
 	rm -f $(INTO)/share/fish/vendor_completions.d/segywb.fish
+	for tool in $(TOOLS); do rm -f $(INTO)/share/bash-completion/completions/$$tool $(INTO)/share/fish/vendor_completions.d/$$tool.fish; done
+	rm -f $(INTO)/share/zsh/site-functions/_segywb_tools
 	rm -rf $(INTO)/share/doc/segywb
 
 # Speed: the program as ratios to cp and md5sum of the same file in the same run, the reports on two surveys, the order of traces

@@ -195,7 +195,7 @@ def test_loading_is_shown(started, browser, tmp_path, example):
     desk = started("wrong_line", env={"SEGYWB": str(slow)})
     page = Page(browser, desk)
     browser.get(desk.url)
-    page.wait(lambda: page.text("loading-text") == "Reading the file ..")
+    page.wait(lambda: page.text("loading-text").startswith("Reading the file"))
     assert page.find("progress").is_displayed() and not page.find("main").is_displayed()
     (tmp_path / "go").touch()
     page.wait(lambda: page.data("whole"))

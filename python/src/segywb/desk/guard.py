@@ -41,7 +41,7 @@ class Guard:
             return "origin"
         if request.headers.get("Sec-Fetch-Site", "none") not in ("none", "same-origin"):
             return "origin"
-        word = request.path.split("/")[1]
+        word = request.path.lstrip("*").partition("/")[2].partition("/")[0]
         if not hmac.compare_digest(word.encode("utf-8", "replace"), self.token.encode()):
             return "token"
         if request.method == "POST" and (origin is None or request.content_type != "application/json"):

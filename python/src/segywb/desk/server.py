@@ -58,6 +58,17 @@ def box(query: Query) -> Tuple[int, int, int, int]:
     return inlines[0], inlines[1], crosslines[0], crosslines[1]
 
 
+def read_of(path: str) -> Answer:
+    """How far the program has read the file, by what the system tells of this process's children."""
+    try:
+        children = [one for task in Path("/proc/self/task").iterdir() for one in (task / "children").read_text().split()]
+        done = max(int(Path(f"/proc/{one}/io").read_text().split()[1]) for one in children)
+        size = Path(path).stat().st_size
+        return {"bytes": min(done, size), "size": size}
+    except (OSError, ValueError, IndexError):
+        return {}
+
+
 class Server:
     """The desk behind its address."""
 
@@ -205,6 +216,8 @@ class Server:
 
     def told(self) -> Answer:
         """The state of affairs for all tabs."""
+        if self.status["phase"] == "loading" and not self.status["of"]:
+            self.status = {**self.status, **read_of(self.desk.path)}
         if self.status["phase"] == "ready":
             if not self.desk.alive:
                 self._end("the program ended")

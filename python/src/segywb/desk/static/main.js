@@ -37,10 +37,11 @@ function phase(status) {
 }
 
 function loading(status) {
-  at("loading-text").textContent = status.of ? `Reading ${status.what}: ${status.done.toLocaleString("en")} of ${many(status.of, "trace")}` : `Reading ${status.what} ..`;
-  if (status.of) {
-    at("progress").max = status.of;
-    at("progress").value = status.done;
+  const [done, of, unit] = status.of ? [status.done, status.of, "trace"] : [status.bytes || 0, status.size || 0, "byte"];
+  at("loading-text").textContent = of && done ? `Reading ${status.what}: ${done.toLocaleString("en")} of ${many(of, unit)}` : `Reading ${status.what} ..`;
+  if (of && done) {
+    at("progress").max = of;
+    at("progress").value = done;
   } else {
     at("progress").removeAttribute("value");
   }

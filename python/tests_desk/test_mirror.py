@@ -93,6 +93,23 @@ def test_random_edits(desk, seed):
             count = len(desk.volume)
 
 
+@pytest.mark.parametrize("seed", range(4))
+def test_slices(desk, seed):
+    chance, slices, count = random.Random(100 + seed), views.Slices(), len(desk.volume)
+    for compare in (False, True, False, True):
+        lines, count = lines_of(chance, count)
+        desk.run_script("\n".join([*lines, f"patch 1 1 {chance.choice([-500, 500])}"]))
+        view = slices.view(desk, 1, views.Window((500, 400), compare), False)
+        for shown, volume in (("now", desk.volume), ("was", desk.original)) if compare else (("now", desk.volume),):
+            wanted = {}
+            for inline, crossline, _, value in volume.slice(1).rows.tolist():
+                cell = (inline, crossline)
+                if cell not in wanted or abs(value) > abs(wanted[cell]) or (abs(value) == abs(wanted[cell]) and value > wanted[cell]):
+                    wanted[cell] = value
+            found = {(view["down"]["first"][at], view["right"]["first"][up]): value for at, row in enumerate(view[shown]) for up, value in enumerate(row) if value is not None}
+            assert found == wanted
+
+
 def test_names_of_traces(desk):
     desk.run_script("delete 20\ndelete 3\ndelete 2\nblank 1\nmove 2 4\ncopy 5 1")
     assert sound(desk).mirror.origin.tolist() == [0, 0, 4, 5, 1, *range(6, 20)]

@@ -265,7 +265,7 @@ def test_width_and_pictures(opened, scheme, tmp_path):
         assert page.js("return document.documentElement.scrollWidth") <= 1280
         assert page.browser.save_screenshot(f"{folder}/desk-{name}{'' if scheme == 'light' else '-dark'}.png")
 
-    page.drag([(10, 4), (10, 30)], (4, 3))
+    page.drag([(10, 4), (10, 30)], (5, 5))
     assert page.text("offer-count") == "54 traces"
     page.hovered(17, 20, "inline 118, crossline 221: fold 1, trace 700")
     picture("select")

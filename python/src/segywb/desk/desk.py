@@ -9,7 +9,7 @@ import numpy as np
 
 import segywb
 
-from .. import answers
+from .. import answers, arrays
 from ..errors import LoadRefused, OptionRefused
 from ..lines import of_script
 from ..volume import Volume
@@ -39,8 +39,10 @@ def counted(answer: str) -> Any:
     >>> counted("inlines 1\\ninline 101 8").tolist()
     [[101], [8]]
     """
-    rows = answer.split("\n")[1:]
-    return np.array([row.split(" ")[1:] for row in rows], dtype=np.int64).reshape(len(rows), 2).T
+    head, _, rest = answer.partition("\n")
+    word = rest.partition(" ")[0]
+    numbers = arrays.parse(rest.replace(word + " ", "").encode(), 2 * int(head.split(" ")[1]))
+    return np.asarray(numbers, dtype=np.int64).reshape(-1, 2).T
 
 
 class Desk:

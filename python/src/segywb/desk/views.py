@@ -174,8 +174,8 @@ class Slices:
             ends = [joined(end, np.unique(other[name])) for end, name in zip(ends, ("inline", "crossline"))]
         down, right = maps.axis_of(ends[0]), maps.axis_of(ends[1])
         bundle = maps.bundle_for(len(down), len(right), window.pixels)
-        cells = sliced(rows, down, right)
-        others = sliced(other, down, right) if other is not None else None
+        cells = sliced(rows, down, right, True)
+        others = sliced(other, down, right, window.compare) if other is not None else None
         changed = maps.differing(others, cells, max(len(right), 1)) if others is not None else (np.empty(0, int), np.empty(0, int))
         shown = [cells, others] if window.compare and others is not None else [cells]
         slots = (len(down), len(right))
@@ -188,16 +188,22 @@ class Slices:
         }
 
 
-def sliced(rows: Any, down: maps.Axis, right: maps.Axis) -> maps.Cells:
-    """The cells of a slice that lie on the axes; of several traces in a cell the sample farthest from zero."""
-    here = np.isin(rows["inline"], down.numbers) & np.isin(rows["crossline"], right.numbers)
-    rows = rows[here]
-    keys = down.places(rows["inline"]) * max(len(right), 1) + right.places(rows["crossline"])
-    values = rows["value"].astype(np.float64)
-    order = np.lexsort((-np.abs(values), keys))
-    found, first = np.unique(keys[order], return_index=True)
+def sliced(rows: Any, down: maps.Axis, right: maps.Axis, inside: bool) -> maps.Cells:
+    """The cells of a slice; of several traces in a cell the sample farthest from zero. Rows rise by inline and crossline. Where they
+    need not be ``inside`` of the axes, those that are not are left out."""
+    if not inside:
+        rows = rows[np.isin(rows["inline"], down.numbers) & np.isin(rows["crossline"], right.numbers)]
     wide = max(len(right), 1)
-    return maps.Cells(found // wide, found % wide, values[order][first])
+    keys = down.places(rows["inline"]) * wide + right.places(rows["crossline"])
+    values = rows["value"].astype(np.float64)
+    if not len(keys):
+        return maps.Cells(keys, keys, values)
+    starts = np.flatnonzero(np.concatenate([[True], keys[1:] != keys[:-1]]))
+    if len(starts) < len(keys):
+        most, least = np.maximum.reduceat(values, starts), np.minimum.reduceat(values, starts)
+        values = np.where(most >= -least, most, least)
+        keys = keys[starts]
+    return maps.Cells(keys // wide, keys % wide, values)
 
 
 def amplitude(values: Any, whole: bool) -> Dict[str, Any]:

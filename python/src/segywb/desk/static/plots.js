@@ -33,9 +33,20 @@ function axis(title, more) {
   };
 }
 
+// At most eight slots with the round numbers in them; where there are too few of these, slots at even distances.
+export function rounded(numbers, most = 8) {
+  const named = numbers.first.map((number, slot) => [number, slot, numbers.last[slot]]).filter(([number]) => number !== null);
+  for (let power = 1; named.length > most && power < 1e10; power *= 10) {
+    for (const step of [1, 2, 5].map((one) => one * power)) {
+      const some = named.map(([first, slot, last]) => [Math.ceil(first / step) * step, slot, last]).filter(([number, , last]) => number <= last);
+      if (some.length <= most && some.length > 2) return some;
+    }
+  }
+  return chosen(named.length, most).map((index) => named[index]);
+}
+
 function slots(title, numbers) {
-  const named = numbers.first.map((number, slot) => [number, slot]).filter(([number]) => number !== null);
-  const some = chosen(named.length).map((index) => named[index]);
+  const some = rounded(numbers);
   return axis(title, {
     tickmode: "array", tickvals: some.map(([, slot]) => slot), ticktext: some.map(([number]) => String(number)),
     range: [-0.5, Math.max(numbers.first.length - 0.5, 0.5)], showgrid: false,
@@ -51,7 +62,7 @@ function layout(x, y, more = {}) {
 }
 
 const bar = (title, ticks) => ({
-  title: { text: title, side: "right" }, thickness: 12, outlinewidth: 0, tickcolor: css("--line"), tickmode: ticks ? "array" : "auto", nticks: 8,
+  title: { text: title, side: "right" }, thickness: 12, outlinewidth: 0, tickcolor: css("--line"), tickmode: ticks ? "array" : "auto", nticks: 8, tickformat: ",~f",
   ...(ticks ? { tickvals: ticks, ticktext: ticks.map(String) } : {}),
 });
 

@@ -122,11 +122,10 @@ class Server:
     def application(self) -> web.Application:
         """The routes."""
 
-        @web.middleware
         async def guarded(request: web.Request, handler: Handler) -> web.StreamResponse:
             return await self.guard.handle(request, handler)
 
-        app = web.Application(middlewares=[guarded], client_max_size=LONGEST_BODY)
+        app = web.Application(middlewares=[web.middleware(guarded)], client_max_size=LONGEST_BODY)
         at = f"/{self.guard.token}"
         app.router.add_get(f"{at}/", self._page)
         app.router.add_get(f"{at}/plotly.js", self._plotly)

@@ -3,12 +3,13 @@
 #   make install    the program, its tools for pictures, its man pages and completions, under PREFIX (and DESTDIR); make uninstall takes them away
 #   make quick      the end-to-end tests, in a minute or two
 #   make python     the tests of the Python package
+#   make desk       the tests of the desk, in a browser
 # With the Rattle kit (the command rt on the PATH):
 #   make build      proves and builds the program from the sources
 #   make test       the whole gate: every proof from nothing, the must-fail edits, then the end-to-end runs
 #   make bench      the speed, as ratios to cp and md5sum
 #   make dist       the program that was built becomes the shipped one
-# demo, install, quick and python take the shipped program, or the one that PROGRAM=.. names.
+# demo, install, quick, python and desk take the shipped program, or the one that PROGRAM=.. names.
 SHIPPED = dist/segywb-x86_64-linux
 BUILT = crates/segywb/out/segywb
 TIMINGS = crates/timings/out/timings
@@ -16,8 +17,9 @@ PROGRAM ?= $(SHIPPED)
 PREFIX ?= /usr/local
 DESTDIR ?=
 INTO = $(DESTDIR)$(PREFIX)
+TOOLS = segywb-plot segywb-report segywb-desk
 
-.PHONY: help demo quick python install uninstall build test dist bench pages program
+.PHONY: help demo quick python desk install uninstall build test dist bench pages program
 
 help:
 	@sed -n '/^#/s/^# *//p; /^SHIPPED/q' Makefile
@@ -34,6 +36,9 @@ quick: program
 python: program
 	bash tests/python.sh $(PROGRAM)
 
+desk: program
+	bash tests/desk.sh $(PROGRAM)
+
 build:
 	tools/build
 
@@ -48,6 +53,7 @@ test:
 	@cmp $(BUILT) $(SHIPPED) || { echo 'The sources do not give the shipped program: see make dist.'; exit 1; }
 	bash tests/run.sh $(BUILT)
 	bash tests/python.sh $(BUILT)
+	bash tests/desk.sh $(BUILT)
 
 # Once for each delivery, after make build.
 dist:
@@ -55,10 +61,11 @@ dist:
 	install -D -m 755 $(BUILT) $(SHIPPED)
 	cd dist && sha256sum segywb-x86_64-linux > SHA256SUMS
 
-# What is made from other files: the man pages from docs/MANUAL.md, the rows of docs/DEFINITIONS.md from the comments.
+# What is made from other files: the man pages and the words of the desk from docs/MANUAL.md, the rows of docs/DEFINITIONS.md from the comments.
 pages:
 	tools/manpages man
 	tools/definitions
+	tools/desk-words docs/MANUAL.md > python/src/segywb/desk/manual.txt
 
 install: program
 	install -D -m 755 $(PROGRAM) $(INTO)/bin/segywb
@@ -68,6 +75,11 @@ install: program
 	install -D -m 644 completions/segywb.bash $(INTO)/share/bash-completion/completions/segywb
 	install -D -m 644 completions/_segywb $(INTO)/share/zsh/site-functions/_segywb
 	install -D -m 644 completions/segywb.fish $(INTO)/share/fish/vendor_completions.d/segywb.fish
+	for tool in $(TOOLS); do \
+	    install -m 644 completions/tools.bash $(INTO)/share/bash-completion/completions/$$tool && \
+	    install -m 644 completions/tools.fish $(INTO)/share/fish/vendor_completions.d/$$tool.fish || exit 1; \
+	done
+	install -m 644 completions/_segywb_tools $(INTO)/share/zsh/site-functions/_segywb_tools
 	install -D -m 644 -t $(INTO)/share/doc/segywb LICENSE LICENSE-MIT LICENSE-APACHE docs/MANUAL.md docs/COOKBOOK.md
 	install -D -m 644 -t $(INTO)/share/doc/segywb/examples examples/*.sgy
 
@@ -77,6 +89,8 @@ uninstall:
 	rm -f $(INTO)/share/bash-completion/completions/segywb
 	rm -f $(INTO)/share/zsh/site-functions/_segywb
 	rm -f $(INTO)/share/fish/vendor_completions.d/segywb.fish
+	for tool in $(TOOLS); do rm -f $(INTO)/share/bash-completion/completions/$$tool $(INTO)/share/fish/vendor_completions.d/$$tool.fish; done
+	rm -f $(INTO)/share/zsh/site-functions/_segywb_tools
 	rm -rf $(INTO)/share/doc/segywb
 
 # Speed: the program as ratios to cp and md5sum of the same file in the same run, the reports on two surveys, the order of traces
@@ -89,5 +103,6 @@ bench: build
 	bash benchmarks/slices $(BUILT)
 	bash benchmarks/renumber $(BUILT)
 	bash benchmarks/python $(BUILT)
+	bash benchmarks/desk $(BUILT)
 	bash benchmarks/orders $(TIMINGS)
 	bash benchmarks/reports $(TIMINGS)

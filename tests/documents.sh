@@ -94,6 +94,20 @@ if command -v fish > /dev/null; then runs_well 'the completion for fish' fish -n
 completed=$(bash -c '. "$1"; COMP_WORDS=(segywb --m); COMP_CWORD=1; _segywb; echo "${COMPREPLY[@]}"' - "$top/completions/segywb.bash")
 same 'bash completes a word' "$completed" --max-bytes
 
+# the tools' completions know the options of all three, and those of each where bash is asked
+desk_help() { PYTHONPATH="$top/python/src" "${PYTHON:-/usr/bin/python3}" -c 'from segywb.desk.cli import main; main(["--help"])'; }
+shown=$({ bash "$top/tools/segywb-plot" --help; bash "$top/tools/segywb-report" --help; desk_help; } 2>&1 | options)
+same 'bash completes the tools' "$(options < "$top/completions/tools.bash")" "$shown"
+same 'zsh completes the tools' "$(options < "$top/completions/_segywb_tools")" "$shown"
+same 'fish completes the tools' "$(sed -n 's/.* -l \([a-z-]*\).*/--\1/p' "$top/completions/tools.fish" | sort -u)" "$shown"
+runs_well 'the completion of the tools for bash' bash -n "$top/completions/tools.bash"
+if command -v zsh > /dev/null; then runs_well 'the completion of the tools for zsh' zsh -n "$top/completions/_segywb_tools"; fi
+if command -v fish > /dev/null; then runs_well 'the completion of the tools for fish' fish -n "$top/completions/tools.fish"; fi
+completed() { bash -c '. "$1"; COMP_WORDS=("${@:2}"); COMP_CWORD=$(($# - 2)); _segywb_tool 2> /dev/null; echo "${COMPREPLY[@]}"' - "$top/completions/tools.bash" "$@"; }
+same 'bash completes a picture' "$(completed segywb-plot coord)" coordinates
+same 'bash completes an option of a tool' "$(completed segywb-desk --no)" --no-browser
+same 'and none of another tool' "$(completed segywb-report --cl)" ''
+
 # ---- install and uninstall
 place() { (cd "$top" && env -u MAKEFLAGS -u MAKELEVEL -u MFLAGS make -s "$@" PROGRAM="$program" DESTDIR="$work/root" PREFIX=/opt/segywb); }
 runs_well 'make install' place install
@@ -102,14 +116,21 @@ same 'what was installed' "$(cd root && find . -type f | grep -v examples | sort
 ./opt/segywb/bin/segywb-plot
 ./opt/segywb/bin/segywb-report
 ./opt/segywb/share/bash-completion/completions/segywb
+./opt/segywb/share/bash-completion/completions/segywb-desk
+./opt/segywb/share/bash-completion/completions/segywb-plot
+./opt/segywb/share/bash-completion/completions/segywb-report
 ./opt/segywb/share/doc/segywb/COOKBOOK.md
 ./opt/segywb/share/doc/segywb/LICENSE
 ./opt/segywb/share/doc/segywb/LICENSE-APACHE
 ./opt/segywb/share/doc/segywb/LICENSE-MIT
 ./opt/segywb/share/doc/segywb/MANUAL.md
+./opt/segywb/share/fish/vendor_completions.d/segywb-desk.fish
+./opt/segywb/share/fish/vendor_completions.d/segywb-plot.fish
+./opt/segywb/share/fish/vendor_completions.d/segywb-report.fish
 ./opt/segywb/share/fish/vendor_completions.d/segywb.fish
 ./opt/segywb/share/man/man1/segywb.1
 ./opt/segywb/share/man/man5/segywb-script.5
-./opt/segywb/share/zsh/site-functions/_segywb'
+./opt/segywb/share/zsh/site-functions/_segywb
+./opt/segywb/share/zsh/site-functions/_segywb_tools'
 runs_well 'make uninstall' place uninstall
 same 'what is left' "$(find root -type f)" ''

@@ -248,6 +248,48 @@ cells 'an odd name' none none 0 0 0
 absent 'nothing is run' touched
 absent 'by either tool' "${odd%/*}/touched"
 
+# a survey of 120 inlines with one trace each and 3 of them far away, a fold of 48, one of 500, a spike: what the axes hold, and the colours
+printf 'copy 1 1\n%.0s' $(seq 117) > many.txt
+{ cat many.txt; echo 'renumber 1 120 inline 1 1'; echo 'renumber 1 120 crossline 5 0'; } > line.txt
+{ cat line.txt; printf 'set 7 inline 99999\nset 8 inline -5\nset 9 crossline 2000000\nset 10 x 900000\npatch 3 0 32000\n'; } > wild.txt
+(
+    . "$tools/segywb-plot"
+    begin
+    seen() { inlines='' crosslines=''; focus "$@"; echo "$inlines,$crosslines,$outside"; }
+    take_script wild.txt
+    ask survey.sgy answers <<< grid
+    seen cell answers
+    raster cell answers; fold_end answers
+    ask survey.sgy answers <<< 'slice 0'
+    seen row answers
+    awk '$1 == "row" { print $NF < 0 ? -$NF : $NF }' "$work/answers" | ranked 98
+    ask_positions survey.sgy answers places
+    held '' 1 0 places
+    all=1
+    seen row answers
+    take_script line.txt
+    ask survey.sgy answers <<< grid
+    all=''
+    seen cell answers
+    for end in 9 10 48 200 99999; do fold_colours "$end" | sed -n 's/^set cbtics \([0-9, ]*\) format.*/\1/p' | tr '\n' ';'; done
+    for range in 1 7 8 47 199 1e6 3e9 0.02; do awk -v range="$range" -v step="$(tics "$range")" 'BEGIN { printf "%s", (int(range / step + 1e-9) < 8 && int(range / step + 1e-9) > 0 ? "few " : "many ") }'; done
+) > told 2> errors
+same 'what the axes hold' "$(cat told)" "-5:120,5:5,; 2 traces outside
+1
+-5:120,5:5,; 2 traces outside
+3
+1000:2000
+,,
+,,
+1, 2;1, 2;10;50;20000;few few few few few few few few "
+same 'no complaint' "$(cat errors)" ''
+drawn 'a fold map of a wild survey' 400x300 '' --size 400x300 --script wild.txt fold survey.sgy
+drawn 'the same with all of it' 400x300 '' --size 400x300 --script wild.txt --all fold survey.sgy
+runs 'all of a histogram' 2 'segywb-plot: --all is not for a histogram' segywb-plot --all histogram cube.sgy y.png
+printf 'set 1 scalar -16\nset 2 scalar -16\nset 3 scalar -16\n' > script
+runs 'a page of fractions' 0 '' segywb-report --no-pictures survey.sgy page.html script
+lacks 'coordinates are decimals' page.html '/4'
+
 # of many traces one of each few is asked: here as if 5 were many
 (
     . "$tools/segywb-plot"

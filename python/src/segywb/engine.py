@@ -86,6 +86,12 @@ class Engine:
             self._session = self._start(self.history)
         return self._session
 
+    @property
+    def alive(self) -> bool:
+        """Whether the program runs, or is not wanted: nothing is asked for it."""
+        session = self._session
+        return session is None or session.runs
+
     def forget(self) -> None:
         """Ends the session; the next call starts a new one with the accepted edits."""
         with self._lock:

@@ -63,6 +63,11 @@ class Session:
         """Whether this process started it, and it can still be asked."""
         return self.alive and os.getpid() == self._owner
 
+    @property
+    def runs(self) -> bool:
+        """Whether the process runs."""
+        return self.ours and self._process.poll() is None
+
     # ---- lines and answers
 
     def exchange(self, lines: bytes, count: int) -> List[bytes]:

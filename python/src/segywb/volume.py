@@ -58,6 +58,11 @@ class Volume:
         return self._engine.session().pid
 
     @property
+    def alive(self) -> bool:
+        """Whether the program still runs. It is not asked, and none is started."""
+        return self._engine.alive
+
+    @property
     def closed(self) -> bool:
         """Whether the volume is closed."""
         return self._engine.closed

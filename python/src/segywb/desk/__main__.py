@@ -1,0 +1,5 @@
+"""``python -m segywb.desk``."""
+
+from .cli import main
+
+raise SystemExit(main())

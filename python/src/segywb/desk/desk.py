@@ -1,0 +1,282 @@
+"""A volume on the desk: what was loaded, what it is now, and what the last step changed. One thread at a time works on it."""
+
+from __future__ import annotations
+
+import os
+from typing import Any, Callable, Dict, List, NamedTuple, Optional, Sequence, Tuple
+
+import numpy as np
+
+import segywb
+
+from .. import answers, arrays
+from ..errors import LoadRefused, OptionRefused
+from ..lines import of_script
+from ..volume import Volume
+from . import mirror
+from .maps import Axis, Cells
+from .mirror import Mirror, silent
+
+RANGES = ("inline", "crossline", "offset", "x", "y")
+QUESTIONS = ("info", "totals", *(f"range {which}" for which in RANGES), "histogram", "inlines", "crosslines", "fields")
+MOST_SHOTS = 12
+MOST_ANSWER = 400
+
+
+class Shot(NamedTuple):
+    """The survey between two steps: what its headers say, and what the program answers about it."""
+
+    steps: int
+    mirror: Mirror
+    told: Dict[str, str]
+    inlines: Any
+    crosslines: Any
+
+
+def counted(answer: str) -> Any:
+    """The numbers of a list of numbers with their counts, as two rows.
+
+    >>> counted("inlines 1\\ninline 101 8").tolist()
+    [[101], [8]]
+    """
+    head, _, rest = answer.partition("\n")
+    word = rest.partition(" ")[0]
+    numbers = arrays.parse(rest.replace(word + " ", "").encode(), 2 * int(head.split(" ")[1]))
+    return np.asarray(numbers, dtype=np.int64).reshape(-1, 2).T
+
+
+class Desk:
+    """The file, its session, and what is shown of it."""
+
+    def __init__(self, path: str, out: Optional[str] = None, fixed: bool = False, max_bytes: Optional[int] = None) -> None:
+        self.path = os.path.abspath(path)
+        self.out = os.path.abspath(out) if out else None
+        self._options: Dict[str, Any] = {"fixed": fixed, "max_bytes": max_bytes}
+        self.opaque = False
+        self.version = 0
+        self.kept_cells: List[Tuple[Mirror, Axis, Axis, Cells]] = []
+        self._pending: List[str] = []
+        self._shots: List[Shot] = []
+        self._loaded: Optional[Shot] = None
+        self._now: Optional[Shot] = None
+        self._before: Optional[Shot] = None
+        self._volume: Optional[Volume] = None
+        self._original: Optional[Volume] = None
+
+    # ---- opening
+
+    def load(self, told: Callable[[str, int, int], None] = lambda phase, done, of: None) -> None:
+        """Opens the file and reads the lines of all traces."""
+        told("the file", 0, 0)
+        self._volume = self._opened()
+        told("inlines and crosslines", 0, len(self._volume))
+        read = mirror.read(self._volume, mirror.LINES, lambda done, of: told("inlines and crosslines", done, of))
+        self._now = self._loaded = self._shot(read)
+        self._shots = [self._now]
+        self.version += 1
+
+    def _opened(self) -> Volume:
+        try:
+            return segywb.open(self.path, opaque_samples=self.opaque, **self._options)
+        except LoadRefused as refusal:
+            if self.opaque or refusal.code not in ("L06", "L07"):
+                raise
+            self.opaque = True
+            try:
+                return segywb.open(self.path, opaque_samples=True, **self._options)
+            except OptionRefused:
+                raise refusal from None
+
+    @property
+    def volume(self) -> Volume:
+        """The volume. It is there once the file is loaded."""
+        if self._volume is None:
+            raise segywb.Closed("the file is not loaded")
+        return self._volume
+
+    @property
+    def original(self) -> Volume:
+        """A second session, over the file as it was loaded: for what is shown of it beside the edited one."""
+        if self._original is None:
+            self._original = self._opened()
+        return self._original
+
+    def forget_original(self) -> None:
+        """Ends the second session."""
+        if self._original is not None:
+            self._original.close()
+            self._original = None
+
+    def close(self) -> None:
+        """Ends both sessions."""
+        self.forget_original()
+        if self._volume is not None:
+            self._volume.close()
+
+    @property
+    def alive(self) -> bool:
+        """Whether the program still runs, as far as can be seen without asking it."""
+        return self._volume is None or self._volume.alive
+
+    # ---- shots
+
+    def _shot(self, read: Mirror) -> Shot:
+        got = {one.line: one.text for one in self.volume.run(list(QUESTIONS))}
+        return Shot(self.volume.undoable, read, got, counted(got["inlines"]), counted(got["crosslines"]))
+
+    def _sound(self, shot: Shot) -> bool:
+        """Whether the columns are those of the program's answers: their inlines and crosslines occur as often as it says."""
+        for name, wanted in (("inline", shot.inlines), ("crossline", shot.crosslines)):
+            numbers = shot.mirror.columns[name]
+            if not len(numbers) or not len(wanted[0]):
+                return len(numbers) == len(wanted[0])
+            if numbers.min() < wanted[0][0] or numbers.max() > wanted[0][-1]:
+                return False
+            axis = Axis(wanted[0], np.arange(len(wanted[0])), [])
+            at = axis.places(numbers)
+            if not np.array_equal(wanted[0][at], numbers) or not np.array_equal(np.bincount(at, minlength=len(wanted[0])), wanted[1]):
+                return False
+        return True
+
+    def now(self) -> Shot:
+        """The survey as it is, brought up to date where lines were accepted since."""
+        assert self._now is not None
+        if self._pending:
+            lines, self._pending = self._pending, []
+            last = self._now
+            shot = self._shot(mirror.followed(last.mirror, self.volume, lines))
+            self._keep(shot if self._sound(shot) else self._anew())
+            self._before = last
+        return self._now
+
+    def _anew(self) -> Shot:
+        names = list(self._now.mirror.columns) if self._now else list(mirror.LINES)
+        return self._shot(mirror.read(self.volume, names))
+
+    def _keep(self, shot: Shot) -> None:
+        self._now = shot
+        self._shots = [one for one in self._shots if one.steps < shot.steps] + [shot]
+        if len(self._shots) > MOST_SHOTS:
+            del self._shots[1]
+
+    @property
+    def loaded(self) -> Shot:
+        """The survey as it was loaded."""
+        assert self._loaded is not None
+        return self._loaded
+
+    @property
+    def before(self) -> Optional[Shot]:
+        """The survey before the last step."""
+        self.now()
+        return self._before
+
+    def widen(self, names: Sequence[str]) -> Tuple[Shot, Shot]:
+        """Reads further fields of all traces: of the survey as it was loaded, and as it is."""
+        now = self.now()
+        if all(name in now.mirror.columns for name in names):
+            return self.loaded, now
+        wide = now._replace(mirror=mirror.wider(now.mirror, self.volume, names))
+        self._keep(wide)
+        if now is self._loaded:
+            self._loaded = wide
+        return self.loaded, wide
+
+    def wide_loaded(self, names: Sequence[str]) -> Shot:
+        """The survey as it was loaded, with these fields."""
+        if not all(name in self.loaded.mirror.columns for name in names):
+            self._loaded = self.loaded._replace(mirror=mirror.wider(self.loaded.mirror, self.original, names))
+        return self.loaded
+
+    # ---- lines
+
+    def run(self, line: str) -> Dict[str, Any]:
+        """Runs one line, and tells its answer; a long one in part."""
+        got = self.volume.run(of_script(line))
+        self._accepted([one.line for one in got if one.accepted])
+        return {"answers": [shown(one.line, one.text) for one in got], "version": self.version}
+
+    def run_script(self, script: str) -> Dict[str, Any]:
+        """Runs a script as one step: whole, or where a line of it is refused not at all."""
+        try:
+            got = self.volume.run(of_script(script), stop=True)
+        except segywb.Refused as refusal:
+            return {"refused": shown(refusal.line, refusal.answer), "version": self.version}
+        edits = [one.line for one in got if one.accepted]
+        self._accepted(edits)
+        queries = [shown(one.line, one.text) for one in got if not one.accepted]
+        return {"edits": len(edits), "answers": queries[:100], "queries": len(queries), "version": self.version}
+
+    def _accepted(self, lines: List[str]) -> None:
+        if lines:
+            self._pending += lines
+            self.version += 1
+
+    def undo(self) -> Dict[str, Any]:
+        """Takes the last step back."""
+        self.now()
+        lines = self.volume.undo(1)
+        last = self._now
+        earlier = [one for one in self._shots if one.steps == self.volume.undoable]
+        self._pending = []
+        self._keep(earlier[-1] if earlier else self._anew())
+        self._before = last
+        self.version += 1
+        return {"lines": shortened(lines), "version": self.version}
+
+    def redo(self) -> Dict[str, Any]:
+        """Does the step again that was taken back last."""
+        self.now()
+        lines = self.volume.redo(1)
+        self._accepted(lines)
+        return {"lines": shortened(lines), "version": self.version}
+
+    def restart(self) -> Dict[str, Any]:
+        """Starts the session anew with the accepted edits."""
+        self.forget_original()
+        self.volume.restart()
+        self._pending = []
+        before = self._before
+        self._keep(self._anew())
+        self._before = before
+        self.version += 1
+        return {"version": self.version}
+
+    def settled(self) -> None:
+        """After a save over the file itself: what is now is what was loaded."""
+        self.forget_original()
+        self._loaded = self._now = self._anew()
+        self._shots, self._before = [self._now], None
+        self.version += 1
+
+    def bring_original(self, sample: int) -> Any:
+        """A slice of the survey as it was loaded."""
+        return self.original.slice(sample).rows
+
+
+def shown(line: str, text: str) -> Dict[str, Any]:
+    """A line and its answer as the page gets them: a list's first rows alone, where there are many."""
+    rows = text.split("\n", MOST_ANSWER + 1)
+    more = rows[MOST_ANSWER + 1].count("\n") + 1 if len(rows) > MOST_ANSWER + 1 else 0
+    kind = "refused" if text.startswith("refused ") else "edit" if text == "ok" else "query"
+    return {"line": clean(line[:2000]), "text": clean("\n".join(rows[:MOST_ANSWER + 1])), "more": more, "kind": kind}
+
+
+def shortened(lines: Sequence[str]) -> Dict[str, Any]:
+    """The first lines of a step, and how many there are."""
+    return {"first": [clean(line[:200]) for line in lines[:20]], "count": len(lines)}
+
+
+def clean(text: str) -> str:
+    """A text that can be sent: bytes that were no UTF-8 are shown as a question mark in a box."""
+    return text.encode("utf-8", "surrogateescape").decode("utf-8", "replace")
+
+
+def span(text: str) -> Optional[List[str]]:
+    """The least and the greatest as decimals.
+
+    >>> span("range 45000 900003/2"), span("range none")
+    (['45000', '450001.5'], None)
+    """
+    found = answers.span(text) if text.startswith("range ") else None
+    return None if found is None else [f"{float(one):.12g}" for one in found]

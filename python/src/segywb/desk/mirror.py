@@ -1,0 +1,200 @@
+"""The inlines, crosslines and coordinates of all traces, kept beside the program, so that an edit does not read all of them again."""
+
+from __future__ import annotations
+
+from dataclasses import dataclass
+from typing import Any, Callable, Dict, List, Optional, Sequence, Tuple
+
+import numpy as np
+
+from ..errors import Refused
+from ..fields import TRACE_NAMES
+from ..volume import Volume
+
+LINES = ("inline", "crossline")
+PLACES = ("x", "y", "scalar")
+SIX = ("inline", "crossline", "offset", "x", "y", "scalar")
+PIECE = 1 << 17
+MOST_MOVES = 2000
+
+Told = Callable[[int, int], None]
+
+
+def silent(done: int, of: int) -> None:
+    """Tells nobody how far the reading is."""
+
+
+@dataclass(frozen=True)
+class Mirror:
+    """Columns by their names, a row for each trace, and the position that each trace had in the file (0: it is new)."""
+
+    columns: Dict[str, Any]
+    origin: Any
+
+    def __len__(self) -> int:
+        return len(self.origin)
+
+
+def column(volume: Volume, names: Sequence[str], count: int, told: Told = silent) -> Dict[str, Any]:
+    """These fields of all traces, read in pieces."""
+    parts: List[Any] = []
+    for first in range(0, count, PIECE):
+        last = min(first + PIECE, count)
+        parts.append(volume.headers(*names, traces=range(first + 1, last + 1)))
+        told(last, count)
+    return {name: np.concatenate([part[name] for part in parts]) if parts else np.empty(0, dtype=np.int32) for name in names}
+
+
+def read(volume: Volume, names: Sequence[str], told: Told = silent) -> Mirror:
+    """All of it, anew."""
+    count = len(volume)
+    found = of_slice(volume, count) if count > PIECE else {}
+    rest = [name for name in names if name not in found]
+    return Mirror({**found, **column(volume, rest, count, told)} if rest else found, np.arange(1, count + 1, dtype=np.int64))
+
+
+def of_slice(volume: Volume, count: int) -> Dict[str, Any]:
+    """The inlines and crosslines from the answer to ``slice 0``, which is shorter to ask and to read; nothing where a trace lacks in it."""
+    try:
+        rows = volume.slice(0).rows
+    except Refused:
+        return {}
+    if len(rows) != count:
+        return {}
+    made = {name: np.empty(count, dtype=np.int32) for name in LINES}
+    for name, values in made.items():
+        values[rows["trace"] - 1] = rows[name]
+    return made
+
+
+def wider(mirror: Mirror, volume: Volume, names: Sequence[str], told: Told = silent) -> Mirror:
+    """The same with further fields."""
+    more = [name for name in names if name not in mirror.columns]
+    return Mirror({**mirror.columns, **column(volume, more, len(mirror), told)}, mirror.origin) if more else mirror
+
+
+def followed(mirror: Mirror, volume: Volume, lines: Sequence[str]) -> Mirror:
+    """What it is after these accepted lines."""
+    plan = Plan(len(mirror), volume.fields())
+    for line in lines:
+        plan.line(line.split())
+    plan.flush()
+    names = list(mirror.columns)
+    if plan.lost:
+        fresh = read(volume, names)
+        return Mirror(fresh.columns, np.zeros(len(fresh), dtype=np.int64))
+    columns, origin = moved(mirror, plan)
+    anew = [name for name in names if name in plan.bound]
+    stale = np.flatnonzero(plan.stale) + 1
+    if 2 * len(stale) > len(origin):
+        anew = names
+    if anew:
+        columns.update(column(volume, anew, len(origin)))
+    kept = [name for name in names if name not in anew]
+    if kept and len(stale):
+        got = volume.headers(*kept, traces=stale)
+        for name in kept:
+            columns[name] = columns[name].copy()
+            columns[name][stale - 1] = got[name]
+    return Mirror(columns, origin)
+
+
+def moved(mirror: Mirror, plan: "Plan") -> Tuple[Dict[str, Any], Any]:
+    """The rows where the plan put them."""
+    if plan.row is None:
+        return dict(mirror.columns), mirror.origin
+    new = plan.row < 0
+    if not len(mirror):
+        return {name: np.zeros(len(plan.row), dtype=values.dtype) for name, values in mirror.columns.items()}, np.zeros(len(plan.row), dtype=np.int64)
+    source = np.where(new, 0, plan.row)
+    origin = mirror.origin[source]
+    origin[new] = 0
+    return {name: values[source] for name, values in mirror.columns.items()}, origin
+
+
+class Plan:
+    """What lines do to rows: where each row comes from, and which ones are to be read again."""
+
+    def __init__(self, count: int, fields: Dict[str, str]) -> None:
+        self.row: Any = None
+        self.stale = np.zeros(count, dtype=bool)
+        self.bound: List[str] = []
+        self.lost = False
+        self._fields = fields
+        self._places = [spanned(fields[name]) for name in SIX if name in fields]
+        self._moves = 0
+        self._gone: List[int] = []
+
+    def line(self, words: Sequence[str]) -> None:
+        """One accepted line."""
+        word = words[0] if words else ""
+        if word == "delete":
+            self._delete(int(words[1]))
+            return
+        self.flush()
+        if word == "set" and self._touches(words[2]):
+            self.stale[int(words[1]) - 1] = True
+        elif word == "renumber" and self._touches(words[3]):
+            self.stale[int(words[1]) - 1:int(words[2])] = True
+        elif word == "map" and words[1] in SIX:
+            self.bound.append(words[1])
+        elif word in ("blank", "copy"):
+            self._insert(int(words[-1]), None, True)
+        elif word == "move":
+            self._move(int(words[1]), int(words[2]))
+
+    def _touches(self, field: str) -> bool:
+        """Whether the field may share bytes with one of the six. Their places are those that hold behind all lines."""
+        span = spanned(self._fields.get(field, TRACE_NAMES.get(field, field)))
+        return field in SIX or span is None or bool(self.bound) or any(one is None or one[0] < span[1] and span[0] < one[1] for one in self._places)
+
+    def _rows(self) -> Any:
+        if self.row is None:
+            self.row = np.arange(len(self.stale), dtype=np.int64)
+        self._moves += 1
+        self.lost = self.lost or self._moves > MOST_MOVES
+        return self.row
+
+    def _delete(self, position: int) -> None:
+        """Deletions from the back to the front name the rows as they were: they are done together."""
+        if self._gone and position >= self._gone[-1]:
+            self.flush()
+        self._gone.append(position)
+
+    def flush(self) -> None:
+        """Does the deletions that wait."""
+        if self._gone and not self.lost:
+            at = np.asarray(self._gone) - 1
+            self.row = np.delete(self._rows(), at)
+            self.stale = np.delete(self.stale, at)
+        self._gone = []
+
+    def _insert(self, position: int, row: Optional[int], stale: bool) -> None:
+        rows = self._rows()
+        if not self.lost:
+            self.row = np.insert(rows, position - 1, -1 if row is None else row)
+            self.stale = np.insert(self.stale, position - 1, stale)
+
+    def _move(self, position: int, to: int) -> None:
+        rows = self._rows()
+        if self.lost:
+            return
+        row, stale = int(rows[position - 1]), bool(self.stale[position - 1])
+        self.row = np.delete(rows, position - 1)
+        self.stale = np.delete(self.stale, position - 1)
+        self._insert(to, row, stale)
+
+
+def spanned(place: str) -> Optional[Tuple[int, int]]:
+    """The bytes of a place in the first header: the first one, and the one behind the last.
+
+    >>> spanned("@189:4"), spanned("@115:2u"), spanned("@1.137:4u"), spanned("shot")
+    ((189, 193), (115, 117), (0, 0), None)
+    """
+    word = place.rstrip("u")
+    if not word.startswith("@") or ":" not in word:
+        return None
+    byte, _, size = word[1:].partition(":")
+    if "." in byte:
+        return (0, 0)
+    return (int(byte), int(byte) + int(size)) if byte.isdigit() and size.isdigit() else None

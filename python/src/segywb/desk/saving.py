@@ -1,0 +1,72 @@
+"""The save, and how many bytes it changed."""
+
+from __future__ import annotations
+
+import os
+import warnings
+from contextlib import ExitStack
+from typing import IO, Any, Dict, Optional
+
+import numpy as np
+
+from ..errors import FileChanged, SaveFailed
+from .desk import Desk, clean
+
+PIECE = 1 << 23
+
+
+def save(desk: Desk, path: str, replace: bool) -> Dict[str, Any]:
+    """Saves, or says what is in the way: a path that is there is written over only with ``replace``."""
+    if not path.strip():
+        return {"error": "no path is given"}
+    out = os.path.abspath(os.path.expanduser(path))
+    own = same(out, desk.path)
+    if os.path.lexists(out) and not replace:
+        return {"ask": clean(out), "own": own}
+    with ExitStack() as opened:
+        before = opened.enter_context(open(desk.path, "rb"))
+        try:
+            with warnings.catch_warnings(record=True) as said:
+                warnings.simplefilter("always")
+                desk.volume.save(out, replace=replace)
+        except SaveFailed as error:
+            return {"error": clean(error.stderr.strip() or str(error))}
+        except (FileChanged, FileExistsError, OSError, ValueError) as error:
+            return {"error": clean(str(error))}
+        after = opened.enter_context(open(out, "rb"))
+        changed = differing(before, after)
+        told = {"path": clean(out), "own": own, "said": [clean(str(one.message)) for one in said], "before": size(before), "bytes": size(after),
+                "changed": changed, "at": stamp(after)}
+    if own:
+        desk.settled()
+    return {**told, "version": desk.version}
+
+
+def same(one: str, other: str) -> bool:
+    """Whether both are one file."""
+    try:
+        return os.path.samefile(one, other)
+    except OSError:
+        return False
+
+
+def size(file: IO[bytes]) -> int:
+    """Its bytes."""
+    return os.fstat(file.fileno()).st_size
+
+
+def stamp(file: IO[bytes]) -> float:
+    """When it was written."""
+    return os.fstat(file.fileno()).st_mtime
+
+
+def differing(one: IO[bytes], other: IO[bytes]) -> Optional[int]:
+    """How many bytes differ; nothing where the lengths differ, or where both are one file that was written in place."""
+    if size(one) != size(other) or os.path.sameopenfile(one.fileno(), other.fileno()):
+        return None
+    count = 0
+    while True:
+        some, more = one.read(PIECE), other.read(PIECE)
+        if not some or not more:
+            return count
+        count += int(np.count_nonzero(np.frombuffer(some, np.uint8) != np.frombuffer(more, np.uint8)))

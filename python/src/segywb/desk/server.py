@@ -1,0 +1,287 @@
+"""The page and its answers, on 127.0.0.1 alone. One thread works with the program; the server never waits for it."""
+
+from __future__ import annotations
+
+import asyncio
+import importlib.util
+import json
+from concurrent.futures import ThreadPoolExecutor
+from pathlib import Path
+from typing import Any, Callable, Dict, Optional, Tuple
+
+from aiohttp import web
+
+from ..errors import Error, FileChanged, LoadRefused, ProgramEnded, Refused
+from . import saving, views
+from .desk import Desk, clean
+from .faults import Kept
+from .guard import HEADERS, Guard, Handler
+from .words import words
+
+STATIC = Path(__file__).resolve().parent / "static"
+KINDS = {".html": "text/html", ".css": "text/css", ".js": "text/javascript", ".svg": "image/svg+xml"}
+PLOTLY = "/usr/share/python3-plotly/plotly.js"
+LONGEST_BODY = 40 << 20
+LOOK_SECONDS = 0.1
+ALIVE_SECONDS = 10.0
+
+Query = Any
+Answer = Dict[str, Any]
+
+
+def plotly() -> Optional[Path]:
+    """The file plotly.js of the installed plotly."""
+    found = importlib.util.find_spec("plotly")
+    places = [Path(one) / "package_data" / "plotly.min.js" for one in (found.submodule_search_locations or [])] if found else []
+    return next((one for one in [*places, Path(PLOTLY)] if one.is_file()), None)
+
+
+def number(query: Query, name: str, default: Optional[int] = None) -> int:
+    """A whole number of a query."""
+    text = query.get(name)
+    if text is None and default is not None:
+        return default
+    return int(str(text))
+
+
+def window(query: Query) -> views.Window:
+    """The size of a map, and whether both sides are wanted."""
+    sides = (number(query, "wide", 500), number(query, "tall", 400))
+    wide, tall = (max(40, min(one, 1600)) for one in sides)
+    return views.Window((wide, tall), query.get("compare") == "1")
+
+
+def box(query: Query) -> Tuple[int, int, int, int]:
+    """A rectangle of cells."""
+    inlines = sorted((number(query, "i0"), number(query, "i1")))
+    crosslines = sorted((number(query, "x0"), number(query, "x1")))
+    return inlines[0], inlines[1], crosslines[0], crosslines[1]
+
+
+def read_of(path: str) -> Answer:
+    """How far the program has read the file, by what the system tells of this process's children."""
+    try:
+        children = [one for task in Path("/proc/self/task").iterdir() for one in (task / "children").read_text().split()]
+        done = max(int(Path(f"/proc/{one}/io").read_text().split()[1]) for one in children)
+        size = Path(path).stat().st_size
+        return {"bytes": min(done, size), "size": size}
+    except (OSError, ValueError, IndexError):
+        return {}
+
+
+class Server:
+    """The desk behind its address."""
+
+    def __init__(self, desk: Desk, token: str) -> None:
+        self.desk = desk
+        self.guard = Guard(token)
+        self.status: Answer = {"phase": "loading", "what": "the file", "done": 0, "of": 0}
+        self.failed: Optional[LoadRefused] = None
+        self._worker = ThreadPoolExecutor(max_workers=1, thread_name_prefix="desk")
+        self._faults = Kept()
+        self._slices = views.Slices()
+        self._runner: Optional[web.AppRunner] = None
+        self._stopped = False
+        self._heard = False
+
+    # ---- routes
+
+    def _asked(self) -> Dict[str, Callable[[Query], Answer]]:
+        """What GET answers, by its name. Each works on the desk in its thread."""
+        desk = self.desk
+        return {
+            "state": lambda q: views.state(desk),
+            "fold": lambda q: views.fold(desk, window(q)),
+            "slice": lambda q: self._slices.view(desk, number(q, "sample"), window(q), q.get("all") == "1"),
+            "positions": lambda q: views.positions(desk, window(q), q.get("all") == "1"),
+            "histogram": lambda q: views.histogram(desk, window(q).compare),
+            "faults": lambda q: views.faults(desk, self._answer()),
+            "fault": lambda q: views.fault_window(desk, self._answer(), q["code"], number(q, "skip", 0)),
+            "table": lambda q: views.table(desk, number(q, "first"), number(q, "size", 25), q["names"].split(), window(q).compare),
+            "text": lambda q: views.texts(desk, number(q, "block", 0), window(q).compare),
+            "edits": lambda q: views.edits(desk),
+            "cell": lambda q: views.cell(desk, box(q)),
+            "select": lambda q: views.select(desk, box(q)),
+            "place": lambda q: views.place(desk, number(q, "trace")),
+        }
+
+    def _told(self) -> Dict[str, Callable[[Query], Answer]]:
+        """What POST does, by its name."""
+        desk = self.desk
+        return {
+            "run": lambda q: desk.run(str(q["line"])),
+            "script": lambda q: desk.run_script(str(q["script"])),
+            "undo": lambda q: desk.undo(),
+            "redo": lambda q: desk.redo(),
+            "save": lambda q: saving.save(desk, str(q["path"]), q.get("replace") is True),
+        }
+
+    def _answer(self) -> bytes:
+        return self._faults.answer(self.desk.volume, self.desk.version)
+
+    def application(self) -> web.Application:
+        """The routes."""
+
+        async def guarded(request: web.Request, handler: Handler) -> web.StreamResponse:
+            return await self.guard.handle(request, handler)
+
+        app = web.Application(middlewares=[web.middleware(guarded)], client_max_size=LONGEST_BODY)
+        at = f"/{self.guard.token}"
+        app.router.add_get(f"{at}/", self._page)
+        app.router.add_get(f"{at}/plotly.js", self._plotly)
+        app.router.add_get(f"{at}/words", self._words)
+        app.router.add_get(f"{at}/events", self._events)
+        app.router.add_get(f"{at}/edits.txt", self._script)
+        app.router.add_post(f"{at}/restart", self._restart)
+        for name, asked in self._asked().items():
+            app.router.add_get(f"{at}/ask/{name}", self._asking(asked))
+        for name, told in self._told().items():
+            app.router.add_post(f"{at}/do/{name}", self._telling(told))
+        app.router.add_get(at + r"/{name:[a-z]+\.(?:js|css|svg)}", self._page)
+        return app
+
+    # ---- files
+
+    async def _page(self, request: web.Request) -> web.StreamResponse:
+        path = STATIC / request.match_info.get("name", "index.html")
+        if not path.is_file():
+            raise web.HTTPNotFound
+        return web.Response(body=path.read_bytes(), content_type=KINDS[path.suffix], charset="utf-8")
+
+    async def _plotly(self, request: web.Request) -> web.StreamResponse:
+        path = plotly()
+        if path is None:
+            raise web.HTTPNotFound
+        return web.FileResponse(path, headers={**HEADERS, "Content-Type": "text/javascript; charset=utf-8", "Cache-Control": "private, max-age=3600"})
+
+    async def _words(self, request: web.Request) -> web.StreamResponse:
+        return web.json_response(words())
+
+    async def _script(self, request: web.Request) -> web.StreamResponse:
+        """The accepted edits, also of a program that has ended."""
+        volume = self.desk.volume
+        made = volume._engine.history.sent().sent
+        return web.Response(body=made, content_type="text/plain", charset="utf-8", headers={"Content-Disposition": 'attachment; filename="edits.txt"'})
+
+    # ---- the worker
+
+    async def work(self, call: Callable[[], Answer]) -> Answer:
+        """Does something in the desk's thread."""
+        return await asyncio.get_running_loop().run_in_executor(self._worker, call)
+
+    async def _answered(self, call: Callable[[], Answer]) -> web.StreamResponse:
+        if self.status["phase"] != "ready":
+            return web.json_response(self.status, status=503)
+        try:
+            return web.json_response(await self.work(call))
+        except Refused as refusal:
+            return web.json_response({"refused": clean(refusal.answer)}, status=409)
+        except ProgramEnded as error:
+            self._end(str(error))
+            return web.json_response(self.status, status=503)
+        except FileChanged as error:
+            self.status = {"phase": "changed", "why": clean(str(error))}
+            return web.json_response(self.status, status=503)
+        except (ValueError, KeyError, TypeError, IndexError, Error) as error:
+            return web.json_response({"error": clean(str(error))}, status=400)
+
+    def _asking(self, call: Callable[[Query], Answer]) -> Handler:
+        async def handler(request: web.Request) -> web.StreamResponse:
+            return await self._answered(lambda: call(request.query))
+
+        return handler
+
+    def _telling(self, call: Callable[[Query], Answer]) -> Handler:
+        async def handler(request: web.Request) -> web.StreamResponse:
+            try:
+                body = await request.json()
+            except ValueError:
+                raise web.HTTPBadRequest from None
+            return await self._answered(lambda: call(body))
+
+        return handler
+
+    def _end(self, why: str) -> None:
+        self.status = {"phase": "ended", "why": clean(why)}
+
+    async def _restart(self, request: web.Request) -> web.StreamResponse:
+        """Starts a program that has ended anew, with the accepted edits."""
+        if self.status["phase"] == "ended":
+            self.status = {"phase": "ready", "version": self.desk.version}
+            return await self._answered(self.desk.restart)
+        return web.json_response(self.status)
+
+    # ---- what happens meanwhile
+
+    def told(self) -> Answer:
+        """The state of affairs for all tabs."""
+        if self.status["phase"] == "loading" and not self.status["of"]:
+            self.status = {**self.status, **read_of(self.desk.path)}
+        if self.status["phase"] == "ready":
+            if not self.desk.alive:
+                self._end("the program ended")
+            else:
+                self.status = {"phase": "ready", "version": self.desk.version}
+        return self.status
+
+    async def _events(self, request: web.Request) -> web.StreamResponse:
+        """A line for each change, until the page goes away."""
+        response = web.StreamResponse(headers={**HEADERS, "Content-Type": "text/event-stream"})
+        await response.prepare(request)
+        last, since = "", 0.0
+        try:
+            while not self._stopped:
+                now = json.dumps(self.told())
+                if now != last or since > ALIVE_SECONDS:
+                    await response.write(f"data: {now}\n\n".encode())
+                    last, since = now, 0.0
+                    self._heard = self._heard or self.status["phase"] == "refused"
+                await asyncio.sleep(LOOK_SECONDS)
+                since += LOOK_SECONDS
+        except (ConnectionError, asyncio.CancelledError):
+            pass
+        return response
+
+    # ---- start and end
+
+    async def start(self, port: int) -> int:
+        """Listens, and gives the port."""
+        self._runner = web.AppRunner(self.application(), access_log=None)
+        await self._runner.setup()
+        site = web.TCPSite(self._runner, "127.0.0.1", port, shutdown_timeout=1.0)
+        await site.start()
+        self.guard.port = int(self._runner.addresses[0][1])
+        return self.guard.port
+
+    async def load(self) -> None:
+        """Opens the file; the page shows how far it is."""
+
+        def told(what: str, done: int, of: int) -> None:
+            self.status = {"phase": "loading", "what": what, "done": done, "of": of}
+
+        try:
+            await asyncio.get_running_loop().run_in_executor(self._worker, self.desk.load, told)
+            self.status = {"phase": "ready", "version": self.desk.version}
+        except LoadRefused as refusal:
+            self.failed = refusal
+            self.status = {"phase": "refused", "why": clean(refusal.answer)}
+        except (Error, OSError) as error:
+            self._end(str(error))
+
+    async def goodbye(self, seconds: float) -> None:
+        """Waits until a page was told that the file is refused, or so long."""
+        for _ in range(int(seconds / LOOK_SECONDS)):
+            if self._heard:
+                await asyncio.sleep(1.0)
+                return
+            await asyncio.sleep(LOOK_SECONDS)
+
+    async def stop(self) -> None:
+        """Ends all of it."""
+        self._stopped = True
+        if self._runner is not None:
+            await self._runner.cleanup()
+        if self.desk._volume is not None:
+            self.desk._volume.interrupt()
+        self._worker.shutdown(wait=True)
+        self.desk.close()

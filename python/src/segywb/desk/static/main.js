@@ -1,0 +1,120 @@
+// The page: what is ready, what has ended, and the parts.
+
+import { tell, whenPhase, words } from "./api.js";
+import * as command from "./command.js";
+import { at, fill, make, many } from "./dom.js";
+import * as maps from "./maps.js";
+import * as offers from "./offers.js";
+import * as save from "./save.js";
+import * as side from "./side.js";
+import { done, part, refresh, store } from "./store.js";
+import * as table from "./table.js";
+
+// ---- what the server tells of itself
+
+const texts = {
+  ended: (status) => [make("strong", {}, `The program ended: ${status.why}. `), "The accepted edits are kept. ",
+    make("button", { id: "restart", on: { click: restart } }, "Start a new session with them"), make("a", { href: "edits.txt", download: "edits.txt" }, "Download the script")],
+  changed: (status) => [make("strong", {}, `${status.why}. `), make("a", { href: "edits.txt", download: "edits.txt" }, "Download the script")],
+  refused: (status) => [make("strong", {}, "The file is refused: "), make("code", {}, status.why)],
+  gone: () => [make("strong", {}, "The desk has ended, or does not answer. "), "Start it again with the command segywb-desk."],
+};
+
+function phase(status) {
+  const banner = at("banner");
+  store.ready = status.phase === "ready";
+  at("loading").hidden = status.phase !== "loading";
+  if (status.phase === "loading") loading(status);
+  if (texts[status.phase]) {
+    fill(banner, ...texts[status.phase](status));
+    banner.hidden = false;
+    document.body.dataset.phase = status.phase;
+    return;
+  }
+  banner.hidden = true;
+  document.body.dataset.phase = status.phase;
+  if (store.ready) ready(status);
+}
+
+function loading(status) {
+  const [done, of, unit] = status.of ? [status.done, status.of, "trace"] : [status.bytes || 0, status.size || 0, "byte"];
+  at("loading-text").textContent = of && done ? `Reading ${status.what}: ${done.toLocaleString("en")} of ${many(of, unit)}` : `Reading ${status.what} ..`;
+  if (of && done) {
+    at("progress").max = of;
+    at("progress").value = done;
+  } else {
+    at("progress").removeAttribute("value");
+  }
+}
+
+function ready(status) {
+  const first = at("main").hidden;
+  at("main").hidden = false;
+  if (first || status.version > store.version) {
+    store.version = Math.max(store.version, status.version);
+    refresh();
+  }
+}
+
+async function restart() {
+  at("restart").disabled = true;
+  const answer = await tell("restart", {}, "restart").catch(() => null);
+  if (answer) phase({ phase: "ready", version: answer.version });
+}
+
+// ---- the bar
+
+async function bar() {
+  await part.state();
+  const { file, traces, edits, undoable, redoable, opaque, samples } = store.state;
+  const cut = file.lastIndexOf("/") + 1;
+  at("name").textContent = file.slice(cut);
+  at("file").title = file;
+  document.title = `${file.slice(cut)} – segywb desk`;
+  at("summary").textContent = `${many(traces, "trace")} of ${many(samples, "sample")}, ${many(edits, "edit")}${opaque ? "; floats: the samples have no values here" : ""}`;
+  at("undo").disabled = !undoable;
+  at("redo").disabled = !redoable;
+  at("save").disabled = false;
+  document.body.dataset.version = String(store.state.version);
+  maps.time();
+}
+
+async function back(name) {
+  const entry = command.log(name);
+  at(name).disabled = true;
+  try {
+    const { lines } = await done(name);
+    command.answered(entry, { kind: "edit", text: `${name === "undo" ? "taken back" : "done again"}: ${lines.first[0]}${lines.count > 1 ? ` .. ${many(lines.count, "line")}` : ""}`, more: 0 });
+  } catch (error) {
+    command.answered(entry, { kind: "refused", text: error.message, more: 0 });
+  }
+}
+
+function keys(event) {
+  if (!(event.ctrlKey || event.metaKey) || event.target.matches("input, textarea")) return;
+  const does = { z: event.shiftKey ? "redo" : "undo", y: "redo", s: "save" }[event.key.toLowerCase()];
+  if (!does) return;
+  event.preventDefault();
+  at(does).click();
+}
+
+async function start() {
+  whenPhase(phase);
+  store.words = await words();
+  maps.start();
+  part(bar);
+  table.start();
+  offers.start();
+  side.start();
+  command.start();
+  at("undo").addEventListener("click", () => back("undo"));
+  at("redo").addEventListener("click", () => back("redo"));
+  at("save").addEventListener("click", save.open);
+  at("compare").addEventListener("change", () => { store.compare = at("compare").checked; refresh(); });
+  document.addEventListener("keydown", keys);
+  const events = new EventSource("events");
+  events.addEventListener("message", (event) => phase(JSON.parse(event.data)));
+  events.addEventListener("error", () => phase({ phase: "gone" }));
+}
+
+start();

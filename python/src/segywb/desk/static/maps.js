@@ -1,0 +1,263 @@
+// The panel of maps: which one is shown, what stands under the pointer, and the rectangle that is drawn.
+
+import { ask } from "./api.js";
+import { at, fill, many, tabs } from "./dom.js";
+import * as plots from "./plots.js";
+import { part, store } from "./store.js";
+import { goTo } from "./table.js";
+import { offer } from "./offers.js";
+
+const now = at("plot-now");
+const was = at("plot-was");
+const tip = at("tip");
+let kind = "fold";
+let view = null;
+let place = null;
+let bound = false;
+
+const KINDS = [["fold", "Fold map"], ["positions", "Positions"], ["slice", "Slice"], ["histogram", "Histogram"]];
+const isMap = () => kind === "fold" || kind === "slice";
+
+function query() {
+  at("was-figure").hidden = !store.compare;
+  at("now-caption").hidden = !store.compare;
+  return { wide: Math.max(now.clientWidth - 150, 60), tall: now.clientHeight - 80, compare: store.compare ? 1 : 0, all: at("whole").checked ? 1 : 0, sample: at("sample-number").value || 0 };
+}
+
+export async function show() {
+  const asked = kind;
+  now.classList.add("busy");
+  try {
+    const got = await ask(kind, query());
+    if (asked !== kind) return;
+    view = got;
+    await drawAll(got);
+  } catch (error) {
+    at("told").textContent = error.message;
+  } finally {
+    now.classList.remove("busy");
+  }
+}
+
+async function drawAll(got) {
+  if (got.refused) {
+    await plots.draw(now, { data: [], layout: { paper_bgcolor: "rgba(0,0,0,0)", plot_bgcolor: "rgba(0,0,0,0)", xaxis: { visible: false }, yaxis: { visible: false } } });
+    fill(at("caption"), `The program answers: ${got.refused}`);
+    return;
+  }
+  await plots.draw(now, picture(got, got.now, got.marks || []), store.compare);
+  if (store.compare && got.was) await plots.draw(was, picture(got, got.was, got.marks || []), true);
+  fill(at("caption"), caption(got));
+  document.body.dataset.mapVersion = String(got.version);
+  document.body.dataset.mapKind = kind;
+  if (!bound) listen();
+}
+
+function picture(got, drawn, marks) {
+  if (isMap()) return plots.map(kind, drawn, got, marks);
+  if (kind === "positions") return plots.places(drawn, got, store.state ? store.state.unit : "unit not told");
+  const every = [...got.now, ...(got.was || [])];
+  return plots.bars(drawn, { fold: Math.max(1, ...every.map(([fold]) => fold)), cells: Math.max(1, ...every.map(([, count]) => count)) });
+}
+
+function caption(got) {
+  if (kind === "histogram") return "How many cells have each fold.";
+  if (kind === "positions") {
+    const said = got.outside ? `${many(got.outside, "trace")} of ${got.traces.toLocaleString("en")} outside of these axes. ` : "";
+    return `${said}${got.now.kind === "pixels" ? "Many traces: a pixel shows the first one in it. " : ""}${got.changed ? `${many(got.changed, "trace")} moved by the last step, ringed. ` : ""}x and y are under the scalar of each trace.`;
+  }
+  const said = [];
+  if (store.compare) said.push(kind === "fold" ? "Colours: fold." : "Colours: samples.");
+  if (kind === "fold") said.push(`Usual fold ${got.usual}; grey: no traces.`);
+  if (kind === "slice") said.push(`${many(got.rows, "trace")} with this sample; grey: none.`);
+  if (got.changed) said.push(`${many(got.changed, "cell")} changed ${store.compare ? "since the file was loaded" : "by the last step"}, outlined.`);
+  if (got.bundle[0] * got.bundle[1] > 1) said.push(`A pixel stands for ${got.bundle[0]} by ${got.bundle[1]} cells and shows the ${kind === "fold" ? "fold farthest from the usual" : "sample farthest from zero"}.`);
+  if (got.beyond) said.push(`${many(got.beyond, "value")} beyond the colours, up to ${got.most}.`);
+  if (got.down.gaps || got.right.gaps) said.push("An empty line without a number: many numbers lack there.");
+  return said.join(" ");
+}
+
+function choose(key) {
+  kind = key;
+  at("slice-tools").hidden = kind !== "slice";
+  at("whole-tools").hidden = kind !== "slice" && kind !== "positions";
+  at("whole-text").textContent = kind === "slice" ? "all colours" : "axes to the farthest trace";
+  at("whole").checked = false;
+  at("box").hidden = !isMap();
+  place = null;
+  fill(at("told"));
+  show();
+}
+
+// ---- cells under the pointer, and by the keyboard
+
+const label = (axis, slot) => {
+  const [first, last] = [axis.first[slot], axis.last[slot]];
+  return first === null || first === undefined ? null : first === last ? `${first}` : `${first} to ${last}`;
+};
+
+function boxOf(row, column) {
+  const ends = [view.down.first[row], view.down.last[row], view.right.first[column], view.right.last[column]];
+  return ends.includes(null) ? null : { i0: ends[0], i1: ends[1], x0: ends[2], x1: ends[3] };
+}
+
+let asking = 0;
+
+async function tell(row, column, side, put) {
+  const inline = label(view.down, row);
+  const crossline = label(view.right, column);
+  if (inline === null || crossline === null) return put("no lines here");
+  const value = side === was ? view.was[row][column] : view.now[row][column];
+  const text = `inline ${inline}, crossline ${crossline}: ${kind === "fold" ? `fold ${value === null ? 0 : value}` : value === null ? "no sample" : `sample ${value}`}`;
+  put(text);
+  if (side === was) return undefined;
+  const mine = ++asking;
+  const got = await ask("cell", boxOf(row, column)).catch(() => null);
+  if (!got || mine !== asking) return undefined;
+  const rest = got.count > got.traces.length ? " .." : "";
+  return put(`${text}, ${got.count === 1 ? "trace" : `${got.count} traces`} ${got.traces.join(", ")}${rest}`);
+}
+
+let waiting = null;
+
+function hover(side) {
+  return (event) => {
+    if (!isMap()) return;
+    const point = event.points.find((one) => one.data.type === "heatmap");
+    if (!point) return;
+    const [row, column] = point.pointIndex || point.pointNumber;
+    place = [row, column];
+    const { clientX, clientY } = event.event;
+    clearTimeout(waiting);
+    waiting = setTimeout(() => tell(row, column, side, (text) => {
+      tip.textContent = text;
+      at("told").textContent = text;
+      tip.hidden = false;
+      tip.style.left = `${Math.min(clientX + 14, window.innerWidth - tip.offsetWidth - 8)}px`;
+      tip.style.top = `${clientY + 16}px`;
+    }), 40);
+  };
+}
+
+function unhover() {
+  clearTimeout(waiting);
+  asking += 1;
+  tip.hidden = true;
+}
+
+async function click(event) {
+  if (kind === "positions") {
+    const point = event.points[0];
+    if (point && point.customdata) goTo(point.customdata);
+    return;
+  }
+  if (isMap() && place) await choosePlace();
+}
+
+async function choosePlace() {
+  const box = boxOf(...place);
+  if (!box) return;
+  const got = await ask("cell", box);
+  if (got.traces.length) goTo(got.traces[0]);
+}
+
+function key(event) {
+  const step = { ArrowUp: [1, 0], ArrowDown: [-1, 0], ArrowLeft: [0, -1], ArrowRight: [0, 1] }[event.key];
+  if (!isMap() || !view || view.refused) return;
+  if (step) {
+    event.preventDefault();
+    const [row, column] = place || [0, -1];
+    place = [Math.min(Math.max(row + step[0], 0), view.down.first.length - 1), Math.min(Math.max(column + step[1], 0), view.right.first.length - 1)];
+    plots.cursor(now, ...place);
+    tell(...place, now, (text) => { at("told").textContent = text; });
+  } else if (event.key === "Enter" && place) {
+    event.preventDefault();
+    choosePlace();
+  } else if (event.key === " " && place) {
+    event.preventDefault();
+    const box = boxOf(...place);
+    if (box) select(box);
+  }
+}
+
+// ---- the rectangle
+
+const edge = (axis, from, to) => {
+  const some = [];
+  for (let slot = Math.max(0, Math.round(from)); slot <= Math.min(axis.first.length - 1, Math.round(to)); slot += 1) {
+    if (axis.first[slot] !== null) some.push(axis.first[slot], axis.last[slot]);
+  }
+  return some.length ? [Math.min(...some), Math.max(...some)] : null;
+};
+
+function drawn(event) {
+  if (!event || !event.range || !isMap()) return;
+  const sorted = (ends) => [...ends].sort((one, other) => one - other);
+  const inlines = edge(view.down, ...sorted(event.range.y));
+  const crosslines = edge(view.right, ...sorted(event.range.x));
+  if (inlines && crosslines) select({ i0: inlines[0], i1: inlines[1], x0: crosslines[0], x1: crosslines[1] });
+}
+
+async function select(box) {
+  for (const [name, value] of Object.entries(box)) at("box").elements[name].value = value;
+  offer(box, await ask("select", box));
+}
+
+function listen() {
+  bound = true;
+  for (const side of [now, was]) {
+    side.tabIndex = 0;
+    side.setAttribute("role", "application");
+    side.setAttribute("aria-label", side === now ? "Map of the survey. The arrow keys go from cell to cell, Enter shows the traces, the space bar selects." : "Map of the survey as it was loaded");
+  }
+  const attach = (side) => {
+    if (!side.on || side.dataset.bound) return;
+    side.dataset.bound = "yes";
+    side.on("plotly_hover", hover(side));
+    side.on("plotly_unhover", unhover);
+    side.on("plotly_click", click);
+    side.on("plotly_selected", drawn);
+  };
+  attach(now);
+  now.addEventListener("keydown", key);
+  const watch = new MutationObserver(() => {
+    if (!was._fullLayout || was.dataset.bound) return;
+    attach(was);
+    plots.together(now, was);
+  });
+  watch.observe(was, { childList: true });
+}
+
+let resizing = null;
+
+export function start() {
+  window.addEventListener("resize", () => {
+    clearTimeout(resizing);
+    resizing = setTimeout(() => { if (view) show(); }, 150);
+  });
+  tabs(at("map-tabs"), KINDS, kind, choose);
+  at("box").hidden = false;
+  at("box").addEventListener("submit", (event) => {
+    event.preventDefault();
+    const box = Object.fromEntries(["i0", "i1", "x0", "x1"].map((name) => [name, at("box").elements[name].value]));
+    select(box).catch((error) => { at("told").textContent = error.message; });
+  });
+  at("whole").addEventListener("change", show);
+  const sample = (value) => {
+    at("sample").value = value;
+    at("sample-number").value = value;
+    time();
+    show();
+  };
+  at("sample").addEventListener("change", () => sample(at("sample").value));
+  at("sample").addEventListener("input", () => { at("sample-number").value = at("sample").value; time(); });
+  at("sample-number").addEventListener("change", () => sample(at("sample-number").value));
+  window.matchMedia("(prefers-color-scheme: dark)").addEventListener("change", () => { if (view) drawAll(view); });
+  part(show);
+}
+
+export function time() {
+  if (!store.state) return;
+  at("sample").max = Math.max(store.state.samples - 1, 0);
+  at("sample-time").textContent = `at ${(at("sample-number").value * store.state.interval).toLocaleString("en")} ms`;
+}

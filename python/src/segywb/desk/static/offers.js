@@ -1,0 +1,108 @@
+// What can be done to the traces of a rectangle, with the lines shown before they are run.
+
+import { at, fill, make, many } from "./dom.js";
+import { ask } from "./api.js";
+import { part, store } from "./store.js";
+import { runScript } from "./command.js";
+import { goTo } from "./table.js";
+
+const MOST_SHOWN = 200;
+let runs = [];
+let count = 0;
+let version = 0;
+let shownBox = null;
+let preview = () => {};
+
+// The lines of a repair of these runs of traces.
+export function linesOf(what, field, value, step) {
+  const made = [];
+  let at = BigInt(0);
+  for (const [first, last] of runs) {
+    const size = BigInt(last - first + 1);
+    if (what === "renumber") made.push(`renumber ${first} ${last} ${field} ${value + step * at} ${step}`);
+    if (what === "set") for (let trace = first; trace <= last; trace += 1) made.push(`set ${trace} ${field} ${value}`);
+    at += size;
+  }
+  if (what === "delete") for (const [first, last] of [...runs].reverse()) for (let trace = last; trace >= first; trace -= 1) made.push(`delete ${trace}`);
+  return made;
+}
+
+const names = () => (store.words ? store.words.names.map((one) => one.name) : []);
+
+export function offer(box, got) {
+  runs = got.runs;
+  count = got.count;
+  version = got.version;
+  shownBox = box;
+  preview = () => {};
+  const room = at("offers");
+  room.hidden = false;
+  if (!count || !got.all) {
+    fill(room, count ? `${many(count, "trace")} in too many runs: select fewer.` : "No traces in this rectangle.", close());
+    return;
+  }
+  const what = make("select", { "aria-label": "what to do", id: "offer-what" }, ...["renumber", "set", "delete"].map((one) => make("option", {}, one)));
+  const field = make("input", { "aria-label": "field", id: "offer-field", list: "offer-fields", size: "14", spellcheck: "false", value: "inline" });
+  const value = make("input", { "aria-label": "first number", id: "offer-value", size: "9", value: String(box.i0) });
+  const step = make("input", { "aria-label": "step", id: "offer-step", size: "5", value: "0" });
+  const shown = make("pre", { "aria-label": "the lines that will be run", tabIndex: 0 });
+  const run = make("button", { class: "strong", id: "offer-run" }, "Run");
+  const fields = make("datalist", { id: "offer-fields" }, ...[...new Set([...Object.keys(store.bound), ...names()])].map((name) => make("option", { value: name })));
+  const parts = make("span", {}, field, make("label", {}, " from ", value), make("label", {}, " step ", step));
+  const form = make("form", { class: "bar", on: { submit: (event) => { event.preventDefault(); apply(); } } },
+    make("strong", { id: "offer-count" }, many(count, "trace")), what, parts, fields, run,
+    make("button", { type: "button", on: { click: () => goTo(runs[0][0]) } }, "Show in the table"), close());
+  const made = () => {
+    try {
+      return linesOf(what.value, field.value.trim(), BigInt(value.value.trim() || "0"), BigInt(step.value.trim() || "0"));
+    } catch {
+      return null;
+    }
+  };
+  preview = () => {
+    parts.hidden = what.value === "delete";
+    step.parentElement.hidden = what.value !== "renumber";
+    const lines = made();
+    run.disabled = !lines;
+    run.textContent = lines ? `Run ${many(lines.length, "line")}` : "Run";
+    fill(at("offer-count"), many(count, "trace"));
+    fill(shown, lines ? lines.slice(0, MOST_SHOWN).join("\n") + (lines.length > MOST_SHOWN ? `\n.. and ${(lines.length - MOST_SHOWN).toLocaleString("en")} more` : "") : "The numbers must be whole.");
+  };
+  const apply = async () => {
+    const lines = made();
+    if (!lines) return;
+    if (version !== store.version) {
+      fill(shown, "The survey has changed since this rectangle was selected: select it again.");
+      return;
+    }
+    run.disabled = true;
+    const title = lines.length === 1 ? lines[0] : `${lines[0]}  .. ${many(lines.length, "line")}`;
+    const answer = await runScript(`${lines.join("\n")}\n`, title);
+    if (answer.kind === "refused") {
+      run.disabled = false;
+      fill(shown, make("span", { class: "no-text", role: "alert" }, answer.text));
+    } else {
+      room.hidden = true;
+    }
+  };
+  for (const one of [what, field, value, step]) one.addEventListener("input", preview);
+  fill(room, form, shown);
+  preview();
+}
+
+// After a step the same rectangle may hold other traces.
+export function start() {
+  part(async () => {
+    if (at("offers").hidden || version === store.version) return;
+    const got = await ask("select", shownBox);
+    if (!got.count || !at("offer-run")) offer(shownBox, got);
+    else {
+      ({ runs, count, version } = got);
+      preview();
+    }
+  });
+}
+
+function close() {
+  return make("button", { type: "button", on: { click: () => { at("offers").hidden = true; } } }, "Close");
+}

@@ -1,0 +1,150 @@
+// Plots by plotly. Maps stand on slots: the numbers of their axes are those that occur, with the gaps between them.
+
+/* global Plotly */
+
+const css = (name) => getComputedStyle(document.documentElement).getPropertyValue(name).trim();
+const SLICES = [[0, "#2166ac"], [0.25, "#92c5de"], [0.5, "#f7f7f7"], [0.75, "#f4a582"], [1, "#b2182b"]];
+const MANY = 20000; // cells: from there on they are drawn as the pixels of one image, which the style sheet keeps sharp
+const CONFIG = {
+  displaylogo: false, scrollZoom: true, doubleClick: "reset",
+  modeBarButtonsToRemove: ["lasso2d", "toImage", "autoScale2d", "hoverClosestCartesian", "hoverCompareCartesian", "toggleSpikelines"],
+};
+
+// At most eight places of an axis, the first one among them.
+export function chosen(count, most = 8) {
+  const step = Math.max(1, Math.ceil(count / most));
+  return Array.from({ length: Math.ceil(count / step) }, (_, index) => index * step);
+}
+
+// At most eight whole numbers from one to another.
+export function wholes(least, most) {
+  const rough = Math.max(1, (most - least) / 7);
+  const power = 10 ** Math.floor(Math.log10(rough));
+  const step = Math.max(1, [1, 2, 5, 10].map((one) => one * power).find((one) => one >= rough));
+  const found = [];
+  for (let at = Math.ceil(least / step) * step; at <= most; at += step) found.push(at);
+  return found;
+}
+
+function axis(title, more) {
+  return {
+    title: { text: title, standoff: 8 }, color: css("--text"), gridcolor: css("--line"), linecolor: css("--line"), zeroline: false,
+    ticks: "outside", tickcolor: css("--line"), automargin: true, ...more,
+  };
+}
+
+// At most eight slots with the round numbers in them; where there are too few of these, slots at even distances.
+export function rounded(numbers, most = 8) {
+  const named = numbers.first.map((number, slot) => [number, slot, numbers.last[slot]]).filter(([number]) => number !== null);
+  for (let power = 1; named.length > most && power < 1e10; power *= 10) {
+    for (const step of [1, 2, 5].map((one) => one * power)) {
+      const some = named.map(([first, slot, last]) => [Math.ceil(first / step) * step, slot, last]).filter(([number, , last]) => number <= last);
+      if (some.length <= most && some.length > 2) return some;
+    }
+  }
+  return chosen(named.length, most).map((index) => named[index]);
+}
+
+function slots(title, numbers) {
+  const some = rounded(numbers);
+  return axis(title, {
+    tickmode: "array", tickvals: some.map(([, slot]) => slot), ticktext: some.map(([number]) => String(number)),
+    range: [-0.5, Math.max(numbers.first.length - 0.5, 0.5)], showgrid: false,
+  });
+}
+
+function layout(x, y, more = {}) {
+  return {
+    xaxis: x, yaxis: y, margin: { l: 62, r: 12, t: 26, b: 40 }, paper_bgcolor: css("--panel"), plot_bgcolor: css("--empty"),
+    font: { color: css("--text"), size: 12, family: "system-ui, DejaVu Sans, sans-serif" }, dragmode: "select", selectdirection: "d",
+    modebar: { bgcolor: "rgba(0,0,0,0)", color: css("--quiet"), activecolor: css("--strong") }, hovermode: "closest", showlegend: false, ...more,
+  };
+}
+
+const bar = (title, ticks) => ({
+  title: { text: title, side: "right" }, thickness: 12, outlinewidth: 0, tickcolor: css("--line"), tickmode: ticks ? "array" : "auto", nticks: 8, tickformat: ",~f",
+  ...(ticks ? { tickvals: ticks, ticktext: ticks.map(String) } : {}),
+});
+
+// Outlines around what changed: rows of cells, each from a first to a last column.
+export function outlines(marks) {
+  const x = [];
+  const y = [];
+  for (const [row, first, last] of marks) {
+    x.push(first - 0.5, last + 0.5, last + 0.5, first - 0.5, first - 0.5, null);
+    y.push(row - 0.5, row - 0.5, row + 0.5, row + 0.5, row - 0.5, null);
+  }
+  return [[css("--halo"), 4], [css("--mark"), 2]].map(([color, width]) => ({ type: "scatter", mode: "lines", x, y, line: { color, width }, hoverinfo: "skip" }));
+}
+
+function cells(z, view, look) {
+  const count = view.down.first.length * view.right.first.length;
+  const gap = count < 2500 ? 1 : 0;
+  return { type: "heatmap", z, xgap: gap, ygap: gap, zsmooth: count > MANY ? "fast" : false, hoverinfo: "none", ...look };
+}
+
+const foldLook = (view) => ({
+  zmin: 0, zmax: Math.max(view.end, 2), colorscale: "Viridis", colorbar: bar("fold (traces of a cell)", wholes(0, Math.max(view.end, 2))),
+});
+const sliceLook = (view) => ({ zmin: -view.end, zmax: view.end, colorscale: SLICES, colorbar: bar("sample (as in the file, no unit)") });
+
+export const map = (kind, z, view, marks) => ({
+  data: [cells(z, view, kind === "fold" ? foldLook(view) : sliceLook(view)), ...outlines(marks)],
+  layout: layout(slots("crossline (number)", view.right), slots("inline (number)", view.down), { uirevision: `${kind} ${view.right.first.length} ${view.down.first.length}` }),
+});
+
+export function places(drawn, view, unit) {
+  const look = { colorscale: "Viridis", colorbar: bar("trace (position in the file)") };
+  const data = drawn.kind === "points"
+    ? { type: "scatter", mode: "markers", x: drawn.x, y: drawn.y, customdata: drawn.trace, hovertemplate: "trace %{customdata}<br>x %{x}<br>y %{y}<extra></extra>",
+        marker: { size: 7, color: drawn.trace, line: { width: 0.8, color: css("--quiet") }, ...look } }
+    : { type: "heatmap", z: drawn.z, x0: drawn.x0, y0: drawn.y0, dx: drawn.dx, dy: drawn.dy, hovertemplate: "first trace %{z}<br>x %{x}<br>y %{y}<extra></extra>", ...look };
+  const marks = { type: "scatter", mode: "markers", x: view.marks.x, y: view.marks.y, hoverinfo: "skip", marker: { size: 11, symbol: "circle-open", color: css("--mark"), line: { width: 2 } } };
+  return {
+    data: [data, marks],
+    layout: layout(axis(`x (${unit})`, { range: wide(view.x), tickformat: "~f", nticks: 6 }), axis(`y (${unit})`, { range: wide(view.y), tickformat: "~f", nticks: 8 }),
+      { plot_bgcolor: css("--plot"), dragmode: "zoom", uirevision: "places" }),
+  };
+}
+
+function wide([least, most]) {
+  const room = (most - least) * 0.04 || 1;
+  return [least - room, most + room];
+}
+
+export function bars(times, end) {
+  return {
+    data: [{ type: "bar", x: times.map(([fold]) => fold), y: times.map(([, count]) => count), marker: { color: css("--strong") }, hovertemplate: "fold %{x}: %{y} cells<extra></extra>" }],
+    layout: layout(axis("fold (traces of a cell)", { tickvals: wholes(0, end.fold), range: [0.4, end.fold + 0.6], showgrid: false }),
+      axis("cells (number)", { tickvals: wholes(0, end.cells), range: [0, end.cells * 1.06], tickformat: "d" }), { plot_bgcolor: css("--plot"), dragmode: "zoom" }),
+  };
+}
+
+// A picture as large as its room. Beside another one the colour bar has no title: there the caption tells it.
+export function draw(room, picture, beside = false) {
+  for (const one of picture.data) {
+    const look = one.colorbar || (one.marker && one.marker.colorbar);
+    if (look && beside) look.title = { text: "" };
+  }
+  return Plotly.react(room, picture.data, { ...picture.layout, width: room.clientWidth, height: room.clientHeight }, CONFIG);
+}
+
+// A zoom of one plot is that of the other.
+export function together(one, other) {
+  const follow = (from, to) => from.on("plotly_relayout", (change) => {
+    const keys = Object.keys(change).filter((key) => /^[xy]axis\.(range|autorange)/.test(key));
+    if (!keys.length || to.hidden || !to._fullLayout || to.closest("[hidden]")) return;
+    const now = keys.every((key) => JSON.stringify(valueAt(to.layout, key)) === JSON.stringify(change[key]));
+    if (!now) Plotly.relayout(to, Object.fromEntries(keys.map((key) => [key, change[key]])));
+  });
+  follow(one, other);
+  follow(other, one);
+}
+
+function valueAt(object, path) {
+  return path.replace(/\[(\d)\]/g, ".$1").split(".").reduce((found, key) => (found === undefined || found === null ? undefined : found[key]), object);
+}
+
+export const cursor = (room, row, column) => Plotly.relayout(room, {
+  shapes: row === null ? [] : [{ type: "rect", x0: column - 0.5, x1: column + 0.5, y0: row - 0.5, y1: row + 0.5, line: { color: css("--text"), width: 3 } }],
+});

@@ -1,0 +1,373 @@
+"""What the page asks for, as plain values that become JSON."""
+
+from __future__ import annotations
+
+from typing import Any, Dict, List, NamedTuple, Optional, Tuple
+
+import numpy as np
+
+from .. import answers
+from ..answers import MEANINGS
+from ..errors import Refused
+from ..volume import Volume
+from . import maps
+from .desk import RANGES, Desk, Shot, clean, span
+from .faults import counts as fault_counts
+from .faults import window
+
+UNITS = {2: "seconds of arc", 3: "degrees", 4: "degrees, minutes, seconds"}
+LENGTHS = {1: "m", 2: "ft"}
+FORMATS = {1: "IBM float", 2: "4 bytes", 3: "2 bytes", 5: "IEEE float", 6: "IEEE float, 8 bytes", 7: "3 bytes", 8: "1 byte", 9: "8 bytes",
+           10: "4 bytes, unsigned", 11: "2 bytes, unsigned", 12: "8 bytes, unsigned", 15: "3 bytes, unsigned", 16: "1 byte, unsigned"}
+MOST_RUNS = 20000
+MOST_STEPS = 300
+MOST_ROWS = 500
+
+
+class Window(NamedTuple):
+    """How large a map is, in pixels, and whether the survey as it was loaded stands beside it."""
+
+    pixels: Tuple[int, int]
+    compare: bool
+
+
+# ---- numbers
+
+
+def state(desk: Desk) -> Dict[str, Any]:
+    """The file, its numbers now, as loaded and before the last step, and what can be taken back."""
+    now, before = desk.now(), desk.before
+    volume = desk.volume
+    return {
+        "version": desk.version, "file": clean(desk.path), "out": clean(desk.out) if desk.out else None, "opaque": desk.opaque,
+        "traces": len(now.mirror), "samples": answers.info(now.told["info"]).samples,
+        "edits": sum(step.size for step in volume._engine.history.done), "undoable": volume.undoable, "redoable": volume.redoable,
+        "fields": answers.fields(now.told["fields"].split("\n")), **facts(volume),
+        "numbers": numbers(now), "loaded": numbers(desk.loaded), "before": numbers(before) if before else None,
+    }
+
+
+def facts(volume: Volume) -> Dict[str, Any]:
+    """The interval of the samples in milliseconds, and the unit of the coordinates."""
+    got = [one.text for one in volume.run(["getbin interval", "getbin measurement", "get 1 coordinate_units"])]
+    interval, measurement, units = (int(text[6:]) if text.startswith("value ") else 0 for text in got)
+    unit = LENGTHS.get(measurement, "length, unit not told") if units in (0, 1) else UNITS.get(units, "unit not told")
+    return {"interval": interval / 1000, "unit": unit}
+
+
+def numbers(shot: Shot) -> List[List[str]]:
+    """The numbers of a shot, each with its name."""
+    info = answers.info(shot.told["info"])
+    made = [
+        ["traces", str(info.traces)], ["bytes", str(info.bytes)], ["samples of a trace", str(info.samples)],
+        ["format", f"{info.format} ({FORMATS.get(info.format, 'unknown')})"], ["byte order", info.order], ["revision", info.revision],
+        ["fixed length", "yes" if info.fixed else "no"], ["header extensions", str(info.extensions)],
+        ["extended textual headers", str(info.blocks)], ["data trailer records", str(info.trailer)],
+    ]
+    for which in RANGES:
+        found = span(shot.told[f"range {which}"])
+        made.append([which, " to ".join(found) if found else "none"])
+    made += [["different inlines", str(shot.inlines.shape[1])], ["different crosslines", str(shot.crosslines.shape[1])]]
+    times = histogram_of(shot)
+    made += [["cells with traces", str(sum(count for _, count in times))]]
+    made += [["folds", f"{times[0][0]} to {times[-1][0]}" if times else "none"]]
+    return made + totals(shot.told["totals"])
+
+
+def totals(told: str) -> List[List[str]]:
+    """The samples of all traces; a refusal in its own words."""
+    if told.startswith("refused "):
+        return [["all samples", told]]
+    found = answers.statistics(told, "totals")
+    names = ("least sample", "greatest sample", "sum of the samples", "all samples")
+    return [[name, "none" if found is None else str(number)] for name, number in zip(names, found or (0, 0, 0, 0))]
+
+
+def histogram_of(shot: Shot) -> List[Tuple[int, int]]:
+    """The folds that occur, with the numbers of their cells."""
+    return list(answers.counts(shot.told["histogram"].split("\n"), "histogram", "times").items())
+
+
+def histogram(desk: Desk, compare: bool) -> Dict[str, Any]:
+    """The bars."""
+    return {"version": desk.version, "now": histogram_of(desk.now()), "was": histogram_of(desk.loaded) if compare else None}
+
+
+# ---- maps
+
+
+def joined(one: Any, other: Any) -> Any:
+    """The numbers of two axes as one."""
+    return np.union1d(one, other)
+
+
+def on_axes(shot: Shot, down: maps.Axis, right: maps.Axis) -> Tuple[Any, Any]:
+    """The inlines and crosslines of those traces that lie on the axes."""
+    inlines, crosslines = shot.mirror.columns["inline"], shot.mirror.columns["crossline"]
+    if np.isin(shot.inlines[0], down.numbers).all() and np.isin(shot.crosslines[0], right.numbers).all():
+        return inlines, crosslines
+    here = np.isin(inlines, down.numbers) & np.isin(crosslines, right.numbers)
+    return inlines[here], crosslines[here]
+
+
+def cells_of(desk: Desk, shot: Shot, down: maps.Axis, right: maps.Axis) -> maps.Cells:
+    """The folds of a shot on these axes. The last ones are kept: what is now is what was before, one step later."""
+    for known, inlines, crosslines, cells in desk.kept_cells:
+        if known is shot.mirror and np.array_equal(inlines.numbers, down.numbers) and np.array_equal(crosslines.numbers, right.numbers):
+            return cells
+    cells = maps.folds(*on_axes(shot, down, right), down, right)
+    desk.kept_cells = [(shot.mirror, down, right, cells), *desk.kept_cells[:2]]
+    return cells
+
+
+def moved(one: Shot, other: Shot) -> bool:
+    """Whether the inlines and crosslines of both are others, as far as is seen without a look at each."""
+    return any(one.mirror.columns[name] is not other.mirror.columns[name] for name in ("inline", "crossline"))
+
+
+def fold(desk: Desk, window: Window) -> Dict[str, Any]:
+    """The fold map."""
+    now, other = desk.now(), desk.loaded if window.compare else desk.before
+    ends = [now.inlines[0], now.crosslines[0]]
+    if window.compare:
+        ends = [joined(ends[0], desk.loaded.inlines[0]), joined(ends[1], desk.loaded.crosslines[0])]
+    down, right = maps.axis_of(ends[0]), maps.axis_of(ends[1])
+    bundle = maps.bundle_for(len(down), len(right), window.pixels)
+    slots = (len(down), len(right))
+    cells = cells_of(desk, now, down, right)
+    others = cells_of(desk, other, down, right) if other is not None and moved(other, now) else None
+    usual = maps.usual_of(cells, slots[0] * slots[1])
+    rows, columns = maps.differing(others, cells, max(slots[1], 1)) if others is not None else (np.empty(0, int), np.empty(0, int))
+    shown = [cells, others if others is not None else cells] if window.compare else [cells]
+    pictures = [maps.plain(maps.farthest(one, bundle, usual, slots, True)) for one in shown]
+    return {
+        "version": desk.version, "usual": usual, "down": maps.shown_axis(down, bundle.tall), "right": maps.shown_axis(right, bundle.wide),
+        "now": pictures[0], "was": pictures[1] if window.compare else None, "changed": len(rows),
+        "marks": maps.marks(rows, columns, bundle), "bundle": [bundle.tall, bundle.wide], **maps.colour_end([one.values for one in shown], usual),
+    }
+
+
+class Slices:
+    """Slices, and the one that was shown last: what has changed in it is marked."""
+
+    def __init__(self) -> None:
+        self._last: Optional[Tuple[int, int, Any]] = None
+        self._earlier: Optional[Any] = None
+
+    def rows(self, desk: Desk, sample: int) -> Tuple[Any, Optional[Any]]:
+        """The rows of a slice, and those that were shown before the last step where they are known."""
+        if self._last is None or self._last[:2] != (sample, desk.version):
+            found = desk.volume.slice(sample).rows
+            self._earlier = self._last[2] if self._last is not None and self._last[0] == sample else None
+            self._last = (sample, desk.version, found)
+        return self._last[2], self._earlier
+
+    def view(self, desk: Desk, sample: int, window: Window, whole: bool) -> Dict[str, Any]:
+        """The map of a slice."""
+        try:
+            rows, earlier = self.rows(desk, sample)
+            other = desk.bring_original(sample) if window.compare else earlier
+        except Refused as refusal:
+            return {"version": desk.version, "refused": refusal.answer}
+        ends = [np.unique(rows[name]) for name in ("inline", "crossline")]
+        if window.compare:
+            ends = [joined(end, np.unique(other[name])) for end, name in zip(ends, ("inline", "crossline"))]
+        down, right = maps.axis_of(ends[0]), maps.axis_of(ends[1])
+        bundle = maps.bundle_for(len(down), len(right), window.pixels)
+        cells = sliced(rows, down, right, True)
+        others = sliced(other, down, right, window.compare) if other is not None else None
+        changed = maps.differing(others, cells, max(len(right), 1)) if others is not None else (np.empty(0, int), np.empty(0, int))
+        shown = [cells, others] if window.compare and others is not None else [cells]
+        slots = (len(down), len(right))
+        pictures = [maps.plain(maps.farthest(one, bundle, 0, slots, False)) for one in shown]
+        return {
+            "version": desk.version, "sample": sample, "rows": len(rows), "down": maps.shown_axis(down, bundle.tall),
+            "right": maps.shown_axis(right, bundle.wide), "now": pictures[0], "was": pictures[1] if len(pictures) > 1 else None,
+            "changed": len(changed[0]), "marks": maps.marks(*changed, bundle), "bundle": [bundle.tall, bundle.wide],
+            **amplitude(np.concatenate([one.values for one in shown]), whole),
+        }
+
+
+def sliced(rows: Any, down: maps.Axis, right: maps.Axis, inside: bool) -> maps.Cells:
+    """The cells of a slice; of several traces in a cell the sample farthest from zero. Rows rise by inline and crossline. Where they
+    need not be ``inside`` of the axes, those that are not are left out."""
+    if not inside:
+        rows = rows[np.isin(rows["inline"], down.numbers) & np.isin(rows["crossline"], right.numbers)]
+    wide = max(len(right), 1)
+    keys = down.places(rows["inline"]) * wide + right.places(rows["crossline"])
+    values = rows["value"].astype(np.float64)
+    if not len(keys):
+        return maps.Cells(keys, keys, values)
+    starts = np.flatnonzero(np.concatenate([[True], keys[1:] != keys[:-1]]))
+    if len(starts) < len(keys):
+        most, least = np.maximum.reduceat(values, starts), np.minimum.reduceat(values, starts)
+        values = np.where(most >= -least, most, least)
+        keys = keys[starts]
+    return maps.Cells(keys // wide, keys % wide, values)
+
+
+def amplitude(values: Any, whole: bool) -> Dict[str, Any]:
+    """Where the colours of a slice end, to both sides: at the 98th percentile, or at the greatest."""
+    sizes = np.abs(values)
+    most = float(sizes.max()) if len(sizes) else 0.0
+    end = most if whole or not len(sizes) else float(np.percentile(sizes, 98)) or most
+    return {"most": most, "end": end or 1.0, "beyond": int((sizes > end).sum())}
+
+
+def positions(desk: Desk, window: Window, whole: bool) -> Dict[str, Any]:
+    """Where the traces lie: points, or pixels where there are many. The axes hold the survey; what lies far outside is counted."""
+    now = desk.widen(("x", "y", "scalar"))[1]
+    shown = [scaled(now)]
+    if window.compare:
+        shown.append(scaled(desk.wide_loaded(("x", "y", "scalar"))))
+    every = [np.concatenate([one[at] for one in shown]) for at in (0, 1)]
+    axes = [held(one, whole) for one in every]
+    outside = int(np.count_nonzero((shown[0][0] < axes[0][0]) | (shown[0][0] > axes[0][1]) | (shown[0][1] < axes[1][0]) | (shown[0][1] > axes[1][1])))
+    drawn = [points(one, axes, window.pixels) for one in shown]
+    rows = shifted(desk.before, now)
+    marks = {"x": shown[0][0][rows[:maps.MOST_MARKS]].tolist(), "y": shown[0][1][rows[:maps.MOST_MARKS]].tolist()}
+    return {"version": desk.version, "x": axes[0], "y": axes[1], "outside": outside, "traces": len(now.mirror), "changed": len(rows), "marks": marks,
+            "now": drawn[0], "was": drawn[1] if window.compare else None}
+
+
+def shifted(before: Optional[Shot], now: Shot) -> Any:
+    """The rows of the traces that lie elsewhere than before the last step, where the order of the traces is the same."""
+    known = before is not None and "x" in before.mirror.columns and np.array_equal(before.mirror.origin, now.mirror.origin)
+    if before is None or not known:
+        return np.empty(0, dtype=np.int64)
+    return np.flatnonzero(np.logical_or(*(one != other for one, other in zip(scaled(before), scaled(now)))))
+
+
+def scaled(shot: Shot) -> Tuple[Any, Any]:
+    """x and y under the scalar."""
+    by = shot.mirror.columns["scalar"].astype(np.float64)
+    times, over = np.where(by > 0, by, 1.0), np.where(by < 0, -by, 1.0)
+    return shot.mirror.columns["x"] * times / over, shot.mirror.columns["y"] * times / over
+
+
+def held(values: Any, whole: bool) -> List[float]:
+    """The ends of an axis that holds the survey: not what lies far outside of it.
+
+    >>> held(np.array([1.0, 2.0, 3.0]), False)
+    [1.0, 3.0]
+    """
+    if not len(values):
+        return [0.0, 1.0]
+    least, greatest = float(values.min()), float(values.max())
+    low, high = (float(one) for one in np.percentile(values, [2, 98]))
+    room = (high - low) * 0.5
+    if whole or not room or (low - room <= least and greatest <= high + room):
+        return [least, greatest]
+    inside = values[(values >= low - room) & (values <= high + room)]
+    return [float(inside.min()), float(inside.max())]
+
+
+def points(places: Tuple[Any, Any], axes: List[List[float]], pixels: Tuple[int, int], most: int = 4000) -> Dict[str, Any]:
+    """Up to so many points with their positions in the file; more of them as pixels, each with the first trace in it."""
+    x, y = places
+    inside = np.flatnonzero((x >= axes[0][0]) & (x <= axes[0][1]) & (y >= axes[1][0]) & (y <= axes[1][1]))
+    if len(inside) <= most:
+        return {"kind": "points", "x": x[inside].tolist(), "y": y[inside].tolist(), "trace": (inside + 1).tolist()}
+    wide, tall = min(pixels[0], 300), min(pixels[1], 240)
+    steps = [(axes[at][1] - axes[at][0]) / (size - 1) or 1.0 for at, size in ((0, wide), (1, tall))]
+    at = np.rint((y[inside] - axes[1][0]) / steps[1]).astype(np.int64) * wide + np.rint((x[inside] - axes[0][0]) / steps[0]).astype(np.int64)
+    made = np.full(wide * tall, np.nan)
+    made[at[::-1]] = inside[::-1] + 1
+    return {"kind": "pixels", "x0": axes[0][0], "y0": axes[1][0], "dx": steps[0], "dy": steps[1], "z": maps.plain(made.reshape(tall, wide))}
+
+
+# ---- traces
+
+
+def within(desk: Desk, box: Tuple[int, int, int, int]) -> Any:
+    """The positions of the traces between two inlines and two crosslines."""
+    columns = desk.now().mirror.columns
+    inline, crossline = columns["inline"], columns["crossline"]
+    return np.flatnonzero((inline >= box[0]) & (inline <= box[1]) & (crossline >= box[2]) & (crossline <= box[3])) + 1
+
+
+def cell(desk: Desk, box: Tuple[int, int, int, int]) -> Dict[str, Any]:
+    """The traces of a cell, or of a pixel: the first ones, and their number."""
+    found = within(desk, box)
+    return {"count": len(found), "traces": found[:12].tolist()}
+
+
+def select(desk: Desk, box: Tuple[int, int, int, int]) -> Dict[str, Any]:
+    """The traces of a rectangle as runs of positions."""
+    found = within(desk, box)
+    breaks = np.flatnonzero(np.diff(found) != 1) + 1
+    firsts = found[np.concatenate([[0], breaks])] if len(found) else found
+    lasts = found[np.concatenate([breaks - 1, [len(found) - 1]])] if len(found) else found
+    runs = [[int(first), int(last)] for first, last in zip(firsts[:MOST_RUNS], lasts[:MOST_RUNS])]
+    return {"version": desk.version, "count": len(found), "runs": runs, "all": len(firsts) <= MOST_RUNS}
+
+
+def place(desk: Desk, trace: int) -> Dict[str, Any]:
+    """The inline and the crossline of a trace."""
+    columns = desk.now().mirror.columns
+    return {"inline": int(columns["inline"][trace - 1]), "crossline": int(columns["crossline"][trace - 1])}
+
+
+def table(desk: Desk, first: int, size: int, names: List[str], compare: bool) -> Dict[str, Any]:
+    """A window of the header table. Numbers are sent as texts: 8 bytes do not fit into those of the page."""
+    mirror = desk.now().mirror
+    first = max(1, min(first, len(mirror)))
+    last = min(first + min(size, MOST_ROWS) - 1, len(mirror))
+    try:
+        rows = told(desk.volume, names, range(first, last + 1))
+    except (Refused, ValueError) as error:
+        return {"version": desk.version, "error": clean(getattr(error, "answer", str(error)))}
+    origin = mirror.origin[first - 1:last].tolist()
+    was = None
+    if compare:
+        known = [one for one in origin if one > 0]
+        by = dict(zip(known, told(desk.original, names, known)))
+        was = [by.get(one) for one in origin]
+    return {"version": desk.version, "first": first, "names": names, "rows": rows, "origin": origin, "was": was, "traces": len(mirror)}
+
+
+def told(volume: Volume, names: List[str], traces: Any) -> List[List[str]]:
+    """The numbers of these fields of the traces."""
+    if not len(traces):
+        return []
+    got = volume.headers(*names, traces=traces)
+    return [[str(number) for number in row] for row in got.tolist()]
+
+
+def faults(desk: Desk, answer: bytes) -> Dict[str, Any]:
+    """The faults counted by their codes."""
+    found = fault_counts(answer)
+    return {"version": desk.version, "counts": [{"code": code, "count": count, "meaning": MEANINGS[code]} for code, count in found.items()]}
+
+
+def fault_window(desk: Desk, answer: bytes, code: str, skip: int) -> Dict[str, Any]:
+    """Some faults of one code."""
+    return {"version": desk.version, "code": code, "skip": skip, "faults": window(answer, code, skip, 100) if code in MEANINGS else []}
+
+
+# ---- texts and edits
+
+
+def texts(desk: Desk, block: int, compare: bool) -> Dict[str, Any]:
+    """The lines of a block of text."""
+    volume = desk.volume
+    was = desk.original.text_block(block) if compare else None
+    return {"version": desk.version, "block": block, "blocks": volume.info.blocks, "code": volume.code(block),
+            "lines": volume.text_block(block), "was": was, "stanzas": [[one.block, clean(one.name)] for one in volume.stanzas()]}
+
+
+def edits(desk: Desk) -> Dict[str, Any]:
+    """The steps, the last ones where there are many; and those that were taken back."""
+    history = desk.volume._engine.history
+    steps = history.done[-MOST_STEPS:]
+    return {
+        "version": desk.version, "steps": [brief(step) for step in steps], "before": len(history.done) - len(steps),
+        "undone": [brief(step) for step in history.undone[::-1][:20]], "lines": sum(step.size for step in history.done),
+    }
+
+
+def brief(step: Any) -> Dict[str, Any]:
+    """A step by its first and its last line."""
+    first = step.sent.partition(b"\n")[0]
+    last = step.sent[:-1].rpartition(b"\n")[2]
+    return {"count": step.size, "first": first[:200].decode("utf-8", "replace"), "last": last[:200].decode("utf-8", "replace")}

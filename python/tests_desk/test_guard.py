@@ -1,0 +1,210 @@
+"""Who is answered, and what a hostile file can do to the page."""
+
+import http.client
+import json
+import os
+import re
+import socket
+import struct
+import subprocess
+import sys
+import time
+from pathlib import Path
+
+import files
+import pytest
+from conftest import SOURCES, Started, run, wait_for
+
+HOSTILE = [
+    "<script>window.taken = 1</script>", "<img src=x onerror='window.taken = 1'>", "<b>bold</b>&amp;", "\"><svg onload=window.taken=1>", "C 5 </script>",
+]
+
+
+def asked(desk, path=None, method="GET", body=None, **headers):
+    """Asks the server by hand; a header that is None is left out."""
+    link = http.client.HTTPConnection("127.0.0.1", desk.port, timeout=20)
+    link.putrequest(method, f"/{desk.token}/ask/state" if path is None else path, skip_host=True, skip_accept_encoding=True)
+    sent = {"Host": f"127.0.0.1:{desk.port}", **{name.replace("_", "-"): value for name, value in headers.items()}}
+    data = json.dumps(body).encode() if body is not None else b""
+    if method == "POST":
+        sent["Content-Length"] = str(len(data))
+    for name, value in sent.items():
+        if value is not None:
+            link.putheader(name, value)
+    link.endheaders(data or None)
+    answer = link.getresponse()
+    told = answer.read().decode()
+    link.close()
+    return answer.status, told, answer
+
+
+def ready(desk):
+    assert wait_for(lambda: asked(desk)[0] == 200)
+    return desk
+
+
+def test_the_token(started):
+    desk = ready(started("cube"))
+    for path in ("/", "/index.html", "/ask/state", "/x/ask/state", f"/{desk.token}x/", f"/{desk.token[:-1]}/", f"//{desk.token}/", "/plotly.js", "/%2e%2e/", f"/x/../{desk.token}/"):
+        status, told, _ = asked(desk, path)
+        assert status in (400, 403) and "cube" not in told and "segywb" not in told, path
+    assert asked(desk, f"/{desk.token}/")[0] == 200
+    assert len(desk.token) >= 32
+    for path in ("../guard.py", "..%2fguard.py", "desk.css/../../cli.py", "edits", "nothing.js"):
+        assert asked(desk, f"/{desk.token}/{path}")[0] in (403, 404), path
+
+
+def test_the_host_and_the_origin(started):
+    desk = ready(started("cube"))
+    here = f"127.0.0.1:{desk.port}"
+    for host in ("evil.example", f"evil.example:{desk.port}", "127.0.0.1", f"127.0.0.1:{desk.port + 1}", f"127.0.0.1.evil.example:{desk.port}", "", None):
+        assert asked(desk, Host=host)[0] in (400, 403), host
+    assert asked(desk, Host=f"localhost:{desk.port}")[0] == 200
+    for origin in ("http://evil.example", "null", f"https://{here}", f"http://127.0.0.1:{desk.port + 1}", f"http://{here}.evil.example"):
+        assert asked(desk, Origin=origin)[0] == 403, origin
+    assert asked(desk, Origin=f"http://{here}")[0] == 200
+    for site in ("cross-site", "same-site"):
+        assert asked(desk, Sec_Fetch_Site=site)[0] == 403
+
+
+def test_edits_come_from_the_page_alone(started):
+    desk = ready(started("cube"))
+    own, kind = f"http://127.0.0.1:{desk.port}", "application/json"
+    address = f"/{desk.token}/do/run"
+    line = {"line": "delete 1"}
+    assert asked(desk, address, "POST", line, Content_Type=kind)[0] == 403
+    assert asked(desk, address, "POST", line, Content_Type="text/plain", Origin=own)[0] == 403
+    assert asked(desk, address, "POST", line, Content_Type=kind, Origin="http://evil.example")[0] == 403
+    assert asked(desk, address, "GET", Content_Type=kind, Origin=own)[0] == 405
+    assert json.loads(asked(desk)[1])["edits"] == 0
+    assert asked(desk, address, "POST", line, Content_Type=kind, Origin=own)[0] == 200
+    assert json.loads(asked(desk)[1])["edits"] == 1
+
+
+def test_what_the_browser_is_told(started):
+    desk = ready(started("cube"))
+    for path in (f"/{desk.token}/", f"/{desk.token}/main.js", f"/{desk.token}/plotly.js", f"/{desk.token}/ask/state", "/"):
+        policy = asked(desk, path)[2].getheader("Content-Security-Policy")
+        rules = dict(rule.strip().split(" ", 1) for rule in policy.split(";"))
+        assert rules["default-src"] == "'none'" and rules["script-src"] == "'self'" and rules["connect-src"] == "'self'"
+        assert rules["frame-ancestors"] == "'none'" and rules["base-uri"] == "'none'" and rules["form-action"] == "'none'"
+        assert not re.search(r"https?:|\*", policy)
+    page = asked(desk, f"/{desk.token}/")[1]
+    assert not re.search(r"<script(?![^>]* src=\"[a-z.]+\")|\son[a-z]+=|https?://", page)
+    for path in (SOURCES / "segywb" / "desk" / "static").iterdir():
+        assert not re.search(r"innerHTML|outerHTML|insertAdjacentHTML|document\.write|eval\(|(?<!xmlns=\")https?://", path.read_text()), path
+
+
+def test_this_machine_alone(started):
+    desk = ready(started("cube"))
+    listening = [row.split()[1] for row in Path("/proc/net/tcp").read_text().splitlines()[1:] if row.split()[3] == "0A"]
+    assert [one for one in listening if one.endswith(f":{desk.port:04X}")] == [f"0100007F:{desk.port:04X}"]
+    with pytest.raises(OSError):
+        socket.create_connection(("::1", desk.port), timeout=1).close()
+
+
+def test_bad_questions(started):
+    desk = ready(started("cube"))
+    for path in ("ask/slice?sample=x", "ask/table?first=1", "ask/cell?i0=1", "ask/place?trace=0x", "ask/text?block=99", "ask/fault?code=F1&skip=x"):
+        status, told, _ = asked(desk, f"/{desk.token}/{path}")
+        assert status in (400, 409) and set(json.loads(told)) <= {"error", "refused"}, (path, told)
+    own = {"Content_Type": "application/json", "Origin": f"http://127.0.0.1:{desk.port}"}
+    for name, body in (("run", {}), ("run", []), ("save", {"path": ""}), ("save", {"path": "x\0y"}), ("undo", {}), ("script", {"script": 7}), ("run", {"line": "delete 1\nset 1 x 9"})):
+        assert asked(desk, f"/{desk.token}/do/{name}", "POST", body, **own)[0] in (200, 400), name
+    assert asked(desk)[0] == 200
+
+
+def hostile(path):
+    """A file whose texts are meant for a page."""
+    text = "".join(line.ljust(80) for line in HOSTILE).ljust(3200).encode("ascii")
+    block = "((<script>window.taken = 1</script>))".ljust(3200).encode("ascii")
+    made = [text, files.binary(blocks=1, samples=2), block, files.trace(1, 1, 1, [1, 2]), files.trace(2, 1, 2, [3, 4])]
+    return files.write(path, *made)
+
+
+def test_a_hostile_textual_header(opened, tmp_path):
+    page = opened(hostile(tmp_path / "<img src=x onerror=alert(1)>.sgy"))
+    page.tab("text")
+    page.wait(lambda: HOSTILE[0] in page.text("panel"))
+    assert [one.text for one in page.all("#panel ol li")][:5] == HOSTILE
+    assert "((" not in page.text("panel") and "<script>window.taken = 1</script> (1)" in page.text("panel")
+    assert page.text("name") == "<img src=x onerror=alert(1)>.sgy"
+    assert page.run("line 0 2") == f"line |{HOSTILE[1]}|"
+    assert page.run("text 3 <script>window.taken = 2</script>") == "ok"
+    assert page.run("<img src=x onerror=alert(1)>") == "refused S01 unknown word"
+    page.tab("edits")
+    page.wait(lambda: "text 3 <script>" in page.text("panel"))
+    assert page.js("return window.taken === undefined && document.querySelectorAll('img, #panel script, #log script, b, svg[onload]').length") == 0
+
+
+def test_a_page_of_another_site(started, browser, tmp_path):
+    """A page elsewhere that knows the whole address still gets nothing."""
+    desk = ready(started("cube"))
+    page = tmp_path / "evil.html"
+    page.write_text("<!doctype html><title>waiting</title><script>"
+                    f"fetch('{desk.url}ask/state').then((r) => r.text()).then(() => document.title = 'read', () => document.title = 'nothing');"
+                    f"fetch('{desk.url}do/run', {{method: 'POST', mode: 'no-cors', body: '{{\"line\": \"delete 1\"}}'}});"
+                    "</script>")
+    browser.get(page.as_uri())
+    assert wait_for(lambda: browser.title != "waiting") and browser.title == "nothing"
+    time.sleep(0.3)
+    assert json.loads(asked(desk)[1])["edits"] == 0
+    browser.get_log("browser")
+
+
+# ---- the command
+
+
+def desk_of(*words):
+    command = [sys.executable, "-m", "segywb.desk", *words]
+    return subprocess.run(command, env={"PATH": "/usr/bin:/bin", "PYTHONPATH": str(SOURCES), **environment()}, capture_output=True, text=True, timeout=60, check=False)
+
+
+def environment():
+    return {name: os.environ[name] for name in ("SEGYWB",) if name in os.environ}
+
+
+def test_the_command_line(example, tmp_path):
+    done = desk_of(str(tmp_path / "none.sgy"), "--no-browser")
+    assert done.returncode == 3 and "cannot open" in done.stderr
+    done = desk_of("--no-browser")
+    assert done.returncode == 2 and "usage: segywb-desk" in done.stderr
+    done = desk_of("--help")
+    assert done.returncode == 0 and "--no-browser" in done.stdout
+    short = tmp_path / "short.sgy"
+    short.write_bytes(b"C" * 100)
+    done = desk_of(str(short), "--no-browser")
+    assert done.returncode == 3 and "segywb-desk: load refused L03 short 100" in done.stderr
+
+
+def test_a_port(example):
+    desk = Started(example("cube"), "--port", "0")
+    taken = desk.port
+    done = desk_of(str(desk.path), "--no-browser", "--port", str(taken))
+    status, told = desk.end()
+    assert done.returncode == 4 and f"cannot listen on port {taken}" in done.stderr
+    assert status == 0 and told == ""
+
+
+def test_a_refused_file(opened, started, browser, tmp_path):
+    path = tmp_path / "float.sgy"
+    files.write(path, files.header(), files.binary(form=8), files.trace(1, 1, 1, [1, 2])[:-3])
+    desk = started(path, show=True, env={"BROWSER": "true"})
+    browser.get(desk.url)
+    assert wait_for(lambda: "load refused L14 truncated trace 1" in browser.find_element("id", "banner").text)
+    assert desk.process.wait(timeout=20) == 3
+
+
+def test_floats(opened, tmp_path):
+    """A file of floats is shown where the program reads it without values for its samples; a program of before refuses it."""
+    samples = struct.pack(">2f", 1.5, -2.5)
+    traces = [files.trace(n, 1, n, [0, 0], size=4)[:240] + samples for n in (1, 2, 3)]
+    path = files.write(tmp_path / "float.sgy", files.header(), files.binary(form=5), *traces)
+    if run(path, "count\n", "--opaque-samples")[1] == 2:
+        done = desk_of(str(path), "--no-browser")
+        assert done.returncode == 3 and "load refused L06 float format 5" in done.stderr
+        return
+    page = opened(path)
+    assert page.map() == [[1, 1, 1]] and "no values here" in page.text("summary")
+    page.map_tab("slice")
+    page.wait(lambda: "refused" in page.text("caption"))

@@ -1,0 +1,241 @@
+"""What the desk keeps beside the program is what the program answers; the maps; what is packed."""
+
+import doctest
+import importlib
+import random
+import shutil
+import subprocess
+import sys
+import zipfile
+
+import files
+import numpy as np
+import pytest
+from conftest import HERE, SOURCES, TOP
+
+from segywb.desk import faults, maps, mirror, views
+from segywb.desk.desk import Desk
+
+MODULES = ("cli", "desk", "faults", "guard", "maps", "mirror", "saving", "server", "views", "words")
+NAMES = ["inline", "crossline", "x", "y", "scalar"]
+
+
+@pytest.fixture
+def desk(tmp_path):
+    made = Desk(str(files.cube(tmp_path / "cube.sgy", 4, 5)))
+    made.load()
+    made.widen(mirror.PLACES)
+    yield made
+    made.close()
+
+
+def sound(desk):
+    """The columns are those of a fresh reading, and the cells those of ``grid``."""
+    shot = desk.now()
+    fresh = desk.volume.headers(*NAMES)
+    assert len(shot.mirror) == len(desk.volume)
+    for name in NAMES:
+        assert shot.mirror.columns[name].tolist() == fresh[name].tolist(), name
+    view = views.fold(desk, views.Window((500, 400), False))
+    cells = [(view["down"]["first"][at], view["right"]["first"][up], int(fold)) for at, row in enumerate(view["now"]) for up, fold in enumerate(row) if fold]
+    assert cells == [tuple(map(int, row)) for row in desk.volume.grid.rows.tolist()]
+    return shot
+
+
+def lines_of(chance, count):
+    """Some edits that are accepted, and the number of traces behind them."""
+    made = []
+    for _ in range(chance.randint(1, 6)):
+        one = chance.randint(1, max(count, 1))
+        field = chance.choice(["inline", "crossline", "@189:4", "@71:2", "@187:4", "@1:8", "x", "trace_code", "delay"])
+        if count == 0 or chance.random() < 0.2:
+            made.append(f"blank {chance.randint(1, count + 1)}")
+            count += 1
+        elif chance.random() < 0.35:
+            made.append(f"set {one} {field} {chance.randint(0, 40)}")
+        elif chance.random() < 0.3:
+            last = chance.randint(one, count)
+            made.append(f"renumber {one} {last} {chance.choice(['inline', 'ensemble', '@193:4', 'y'])} {chance.randint(-5, 50)} {chance.randint(-2, 2)}")
+        elif chance.random() < 0.3:
+            made.append(f"copy {one} {chance.randint(1, count + 1)}")
+            count += 1
+        elif chance.random() < 0.4:
+            made.append(f"move {one} {chance.randint(1, count)}")
+        elif chance.random() < 0.5:
+            made.append(f"delete {one}")
+            count -= 1
+        elif chance.random() < 0.5:
+            made.append(f"map {chance.choice(['inline', 'x', 'scalar'])} {chance.choice(['@9:2', '@71:2', '@21:2'])}")
+        else:
+            made.append(f"patch {one} 0 {chance.randint(0, 99)}")
+    return made, count
+
+
+@pytest.mark.parametrize("seed", range(12))
+def test_random_edits(desk, seed):
+    chance = random.Random(seed)
+    count = len(desk.volume)
+    for _ in range(5):
+        lines, count = lines_of(chance, count)
+        if chance.random() < 0.5:
+            told = desk.run_script("\n".join(lines))
+        else:
+            told = [desk.run(line) for line in lines]
+        assert "refused" not in str(told), told
+        shot = sound(desk)
+        assert not shot.mirror.origin.any() or len(set(shot.mirror.origin[shot.mirror.origin > 0].tolist())) == np.count_nonzero(shot.mirror.origin)
+        if chance.random() < 0.4:
+            desk.undo()
+            sound(desk)
+            if chance.random() < 0.5:
+                desk.redo()
+                sound(desk)
+            count = len(desk.volume)
+
+
+@pytest.mark.parametrize("seed", range(4))
+def test_slices(desk, seed):
+    chance, slices, count = random.Random(100 + seed), views.Slices(), len(desk.volume)
+    for compare in (False, True, False, True):
+        lines, count = lines_of(chance, count)
+        desk.run_script("\n".join([*lines, f"patch 1 1 {chance.choice([-500, 500])}"]))
+        view = slices.view(desk, 1, views.Window((500, 400), compare), False)
+        for shown, volume in (("now", desk.volume), ("was", desk.original)) if compare else (("now", desk.volume),):
+            wanted = {}
+            for inline, crossline, _, value in volume.slice(1).rows.tolist():
+                cell = (inline, crossline)
+                if cell not in wanted or abs(value) > abs(wanted[cell]) or (abs(value) == abs(wanted[cell]) and value > wanted[cell]):
+                    wanted[cell] = value
+            found = {(view["down"]["first"][at], view["right"]["first"][up]): value for at, row in enumerate(view[shown]) for up, value in enumerate(row) if value is not None}
+            assert found == wanted
+
+
+def test_names_of_traces(desk):
+    desk.run_script("delete 20\ndelete 3\ndelete 2\nblank 1\nmove 2 4\ncopy 5 1")
+    assert sound(desk).mirror.origin.tolist() == [0, 0, 4, 5, 1, *range(6, 20)]
+
+
+def test_very_many_moves(desk):
+    desk.run_script("move 1 2\n" * (mirror.MOST_MOVES + 1))
+    assert not sound(desk).mirror.origin.any()
+
+
+def test_no_traces(tmp_path):
+    made = Desk(str(files.empty(tmp_path / "empty.sgy")))
+    made.load()
+    window = views.Window((500, 400), True)
+    assert views.fold(made, window)["now"] == [] and views.positions(made, window, False)["traces"] == 0
+    assert views.Slices().view(made, 0, window, False)["rows"] == 0
+    assert views.state(made)["traces"] == 0 and views.table(made, 1, 25, NAMES, True)["rows"] == []
+    made.run("blank 1")
+    sound(made)
+    made.close()
+
+
+def test_large_samples(tmp_path):
+    made = Desk(str(files.varying(tmp_path / "large.sgy")))
+    made.load()
+    view = views.Slices().view(made, 1, views.Window((500, 400), False), False)
+    assert view["now"] == [[2.0**64], [2.0**64]] and view["rows"] == 2
+    made.close()
+
+
+def test_a_mirror_that_is_wrong_is_read_again(desk, monkeypatch):
+    for wrong in (77, 2):
+        monkeypatch.setattr(mirror, "followed", lambda last, volume, lines: mirror.Mirror({**last.columns, "inline": last.columns["inline"] * 0 + wrong}, last.origin))
+        desk.run("set 9 crossline 4")
+        sound(desk)
+
+
+def test_thinned_maps():
+    folds = np.ones((900, 700), dtype=int)
+    folds[450, 333] = 0
+    folds[100, 10] = 3
+    rows, columns = np.nonzero(folds)
+    cells = maps.Cells(rows, columns, folds[rows, columns])
+    bundle = maps.bundle_for(900, 700, (200, 200))
+    assert (bundle.tall, bundle.wide, bundle.rows, bundle.columns) == (5, 4, 180, 175)
+    shown = maps.farthest(cells, bundle, maps.usual_of(cells, 900 * 700), (900, 700), True)
+    assert np.isnan(shown[90, 83]) and shown[20, 2] == 3
+    assert np.count_nonzero(shown != 1) == 2
+
+
+def test_a_sparse_map_shows_its_traces():
+    at = np.arange(1000)
+    cells = maps.Cells(at, at, np.ones(1000, dtype=int))
+    bundle = maps.bundle_for(1000, 1000, (100, 100))
+    shown = maps.farthest(cells, bundle, maps.usual_of(cells, 10**6), (1000, 1000), True)
+    assert np.diagonal(shown).tolist() == [1] * 100 and np.isnan(shown[0, 1])
+
+
+def test_wild_numbers_leave_the_map_legible():
+    axis = maps.axis_of(np.array([1, 2, 3, 5, 2**31 - 1]))
+    assert axis.labels == [1, 2, 3, 4, 5, None, 2**31 - 1]
+    assert views.held(np.array([0.0] + [450000.0 + at for at in range(99)]), False) == [450000.0, 450098.0]
+    assert views.amplitude(np.array([1.0] * 99 + [1e6]), False) == {"most": 1e6, "end": 1.0, "beyond": 1}
+    assert maps.colour_end([np.array([1] * 99 + [500])], 1) == {"most": 500, "end": 2, "beyond": 1}
+
+
+def test_windows_of_faults(desk):
+    desk.run("delete 1")
+    answer = faults.asked(desk.volume)
+    assert faults.counts(answer) == desk.volume.fault_counts()
+    wanted = [one.text for one in desk.volume.faults() if one.code == "F1"]
+    assert [one["text"] for one in faults.window(answer, "F1", 0, 1000)] == wanted
+    assert [one["text"] for one in faults.window(answer, "F1", 4, 3)] == wanted[4:7]
+
+
+@pytest.mark.parametrize("name", MODULES)
+def test_examples_of_modules(name):
+    assert doctest.testmod(importlib.import_module(f"segywb.desk.{name}")).failed == 0
+
+
+def test_words_are_those_of_the_manual():
+    made = subprocess.run(["bash", str(TOP / "tools" / "desk-words"), str(TOP / "docs" / "MANUAL.md")], capture_output=True, text=True, check=True).stdout
+    assert made == (SOURCES / "segywb" / "desk" / "manual.txt").read_text(), "make pages makes it anew"
+    assert made.count("command\t") >= 32 and made.count("name\t") >= 40 and made.count("refusal\t") >= 20
+
+
+def test_what_is_packed(tmp_path):
+    room = tmp_path / "room"
+    for name in ("python", "dist"):
+        shutil.copytree(TOP / name, room / name, ignore=shutil.ignore_patterns("__pycache__", "tests*"))
+    script = "import sys; sys.path.insert(0, 'backend'); import segywb_build; print(segywb_build.build_wheel('.'))"
+    name = subprocess.run([sys.executable, "-c", script], cwd=room / "python", capture_output=True, text=True, check=True).stdout.strip()
+    with zipfile.ZipFile(room / "python" / name) as wheel:
+        packed = set(wheel.namelist())
+        assert "segywb-desk = segywb.desk.cli:main" in wheel.read(next(one for one in packed if one.endswith("entry_points.txt"))).decode()
+    for path in (SOURCES / "segywb" / "desk").rglob("*"):
+        if path.is_file() and "__pycache__" not in path.parts:
+            assert path.relative_to(SOURCES).as_posix() in packed
+
+
+def test_lines_of_the_sources():
+    found = [*(SOURCES / "segywb" / "desk").rglob("*.*"), *HERE.glob("*.py")]
+    assert len(found) > 25
+    for path in found:
+        if path.suffix in (".py", ".js", ".css", ".html"):
+            assert len(path.read_text().splitlines()) < 800, path
+
+
+def test_lines_of_a_slice(desk, monkeypatch):
+    monkeypatch.setattr(mirror, "PIECE", 7)
+    desk.run_script("move 1 9\ndelete 4\nset 3 inline -9")
+    found, wanted = mirror.read(desk.volume, NAMES), desk.volume.headers(*NAMES)
+    assert set(mirror.of_slice(desk.volume, len(found))) == set(mirror.LINES)
+    for name in NAMES:
+        assert found.columns[name].tolist() == wanted[name].tolist()
+
+
+def test_maps_by_either_way(monkeypatch):
+    chance = np.random.default_rng(7)
+    inlines, crosslines = chance.integers(-5, 40, 500), chance.integers(0, 30, 500)
+    down, right = maps.axis_of(np.unique(inlines)), maps.axis_of(np.unique(crosslines))
+    one = maps.folds(inlines, crosslines, down, right)
+    other = maps.folds(inlines[40:], crosslines[40:], down, right)
+    found = [at.tolist() for at in maps.differing(one, other, len(right))]
+    monkeypatch.setattr(maps, "MOST_DIRECT", 0)
+    monkeypatch.setattr(maps, "MOST_DENSE", 0)
+    assert [at.tolist() for at in maps.folds(inlines, crosslines, down, right)] == [at.tolist() for at in one]
+    assert [at.tolist() for at in maps.differing(one, other, len(right))] == found
+    assert sorted(set(zip(down.places(inlines[:40]).tolist(), right.places(crosslines[:40]).tolist()))) == list(zip(*found))

@@ -1,0 +1,291 @@
+"""The desk in a real browser: what one sees, and what one does."""
+
+import math
+import os
+import struct
+
+import files
+import pytest
+from conftest import run
+from selenium.webdriver import ActionChains
+from selenium.webdriver.common.by import By
+from selenium.webdriver.common.keys import Keys
+
+NONE = [None] * 4
+BROKEN = [[2] * 4, NONE, [1] * 4]
+SOUND = [[1] * 4] * 3
+
+
+def test_what_one_sees(opened):
+    page = opened("wrong_line")
+    assert page.map() == BROKEN
+    assert page.text("name") == "wrong_line.sgy"
+    assert "12 traces of 5 samples, 0 edits" in page.text("summary")
+    page.wait(lambda: "4 faults" in page.text("panel"))
+    assert "inline, crossline and offset are those of trace Q, an earlier one" in page.text("panel")
+    assert page.rows()[4] == ["5", "101", "201", "0", "45000000", "680002500", "-100"]
+    page.hovered(0, 1, "inline 101, crossline 202: fold 2, 2 traces 2, 6")
+    page.tab("numbers")
+    page.wait(lambda: "450000 to 450075" in page.text("panel"))
+    assert "-103" in page.text("panel") and "in m" in page.text("panel")
+    page.tab("text")
+    page.wait(lambda: "C 1 EXAMPLE CUBE" in page.text("panel"))
+
+
+def test_the_other_maps(opened):
+    page = opened("wrong_line")
+    page.map_tab("slice")
+    assert page.map() == [[21, 22, 23, 24], NONE, [31, 32, 33, 34]]
+    field = page.find("sample-number")
+    field.clear()
+    field.send_keys("1", Keys.TAB)
+    page.wait(lambda: page.map()[0] == [41, 42, 43, 44])
+    assert page.text("sample-time") == "at 4 ms"
+    field.clear()
+    field.send_keys("99", Keys.TAB)
+    page.wait(lambda: "0 traces with this sample" in page.text("caption"))
+    page.map_tab("positions")
+    titles = page.js("const {xaxis, yaxis} = document.getElementById('plot-now')._fullLayout; return [xaxis.title.text, yaxis.title.text]")
+    assert titles == ["x (m)", "y (m)"]
+    ticks = [one.text for one in page.all("#plot-now .xtick text")]
+    assert "450020" in ticks and not any("k" in one or "M" in one for one in ticks)
+    page.map_tab("histogram")
+    assert page.js("const [{x, y}] = document.getElementById('plot-now').data; return [x, y]") == [[1, 2], [4, 4]]
+
+
+def test_a_command_changes_the_map(opened):
+    page = opened("wrong_line")
+    assert page.run("renumber 5 8 inline 102 0") == "ok"
+    assert page.map() == SOUND
+    assert page.marks() == 2 and "8 cells changed by the last step" in page.text("caption")
+    page.wait(lambda: "No faults" in page.text("panel"))
+    assert page.one("#panel tr.mark").text.startswith("F6 0\nwas 4")
+    marked = page.wait(lambda: [one.get_attribute("data-at") for one in page.all("#table-room td.mark")])
+    assert marked == ["4 0", "5 0", "6 0", "7 0"]
+    assert page.run("inlines") == "inlines 3\ninline 101 4\ninline 102 4\ninline 103 4"
+    assert page.marks() == 2
+
+
+def test_undo_and_redo(opened):
+    page = opened("wrong_line")
+    assert not page.find("undo").is_enabled() and not page.find("redo").is_enabled()
+    page.run("renumber 5 8 inline 102 0")
+    page.step("undo")
+    assert page.map() == BROKEN
+    assert not page.find("undo").is_enabled()
+    page.tab("edits")
+    page.wait(lambda: "Taken back" in page.text("panel"))
+    page.step("redo")
+    assert page.map() == SOUND
+    page.wait(lambda: page.text("steps") == "renumber 5 8 inline 102 0")
+
+
+@pytest.mark.parametrize("what, wanted", [
+    ("renumber", ["renumber 1 2 inline 101 0", "renumber 5 6 inline 101 0"]),
+    ("set", ["set 1 inline 101", "set 2 inline 101", "set 5 inline 101", "set 6 inline 101"]),
+    ("delete", ["delete 6", "delete 5", "delete 2", "delete 1"]),
+])
+def test_a_rectangle(opened, what, wanted):
+    page = opened("wrong_line")
+    page.drag([(0, 0), (0, 1)])
+    assert page.text("offer-count") == "4 traces"
+    page.find("offer-what").send_keys(what)
+    page.wait(lambda: page.one("#offers pre").text.split("\n") == wanted)
+    page.step("offer-run")
+    assert run(page.desk.path, "".join(f"{line}\n" for line in wanted))[1] == 0
+    page.tab("edits")
+    page.wait(lambda: "1 accepted" in page.text("panel") or f"{len(wanted)} accepted edits" in page.text("panel"))
+    expected = run(page.desk.path, "".join(f"{line}\n" for line in [*wanted, "grid"]))[0].split("\n")
+    cells = {tuple(map(int, row.split()[1:3])): int(row.split()[3]) for row in expected if row.startswith("cell ")}
+    found = page.map()
+    assert sum(one or 0 for row in found for one in row) == sum(cells.values())
+
+
+def test_select_and_renumber(opened):
+    page = opened("wrong_line")
+    page.run("renumber 5 8 inline 107 0")
+    for name, number in (("i0", 107), ("i1", 107), ("x0", 201), ("x1", 204)):
+        page.find("box").find_element(By.NAME, name).send_keys(str(number))
+    page.one("#box button").click()
+    page.wait(lambda: page.find("offers").is_displayed())
+    field = page.find("offer-value")
+    field.clear()
+    field.send_keys("102")
+    page.wait(lambda: page.one("#offers pre").text == "renumber 5 8 inline 102 0")
+    page.step("offer-run")
+    assert page.map() == SOUND
+    assert not page.find("offers").is_displayed()
+
+
+def test_a_refused_rectangle_changes_nothing(opened):
+    page = opened("wrong_line")
+    page.drag([(0, 0), (0, 3)])
+    field = page.find("offer-value")
+    field.clear()
+    field.send_keys("99999999999")
+    page.click("offer-run")
+    page.wait(lambda: "refused E04 does not fit" in page.find("offers").text)
+    assert page.map() == BROKEN and page.version() == 1
+
+
+def test_a_refusal(opened):
+    page = opened("wrong_line")
+    assert page.run("set 99 inline 7") == "refused E01 no trace 99 of 12"
+    assert "Traces count from 1" in page.text("log")
+    assert page.find("line").get_attribute("value") == "set 99 inline 7"
+    assert page.run("sett 1 inline 7") == "refused S01 unknown word"
+    assert page.version() == 1 and page.map() == BROKEN
+    assert not page.find("undo").is_enabled()
+
+
+def test_words(opened):
+    page = opened("wrong_line")
+    field = page.find("line")
+    field.send_keys("ren")
+    page.wait(lambda: page.find("choices").is_displayed())
+    assert page.one("#choices .word").text == "renumber"
+    field.send_keys(Keys.TAB)
+    assert field.get_attribute("value") == "renumber "
+    assert page.text("usage").startswith("renumber P Q FIELD FIRST STEP")
+    field.send_keys("5 8 cross", Keys.TAB, "7 0")
+    assert field.get_attribute("value") == "renumber 5 8 crossline 7 0"
+    field.clear()
+    field.send_keys("getbin inte")
+    page.wait(lambda: [one.text for one in page.all("#choices .word")] == ["interval"])
+    field.send_keys(Keys.TAB, Keys.ENTER)
+    assert page.answer() == "value 4000"
+    field.send_keys("count", Keys.ENTER)
+    assert page.answer("count") == "traces 12"
+    field.send_keys(Keys.ARROW_UP, Keys.ARROW_UP)
+    assert field.get_attribute("value").strip() == "getbin interval"
+    field.send_keys(Keys.ARROW_DOWN)
+    assert field.get_attribute("value") == "count"
+
+
+def test_the_table(opened):
+    page = opened("wrong_line")
+    ActionChains(page.browser).double_click(page.one('td[data-at="4 0"]')).perform()
+    field = page.one("td input")
+    field.clear()
+    field.send_keys("102", Keys.ENTER)
+    page.shown(2)
+    page.wait(lambda: page.rows()[4][1] == "102")
+    assert page.one('td[data-at="4 0"]').get_attribute("class") == "mark"
+    page.one('td[data-at="4 0"]').send_keys(Keys.ENTER)
+    field = page.one("td input")
+    field.clear()
+    field.send_keys("4000000000", Keys.ENTER)
+    page.wait(lambda: page.all("td .no") and page.one("td .no").text == "refused E04 does not fit")
+    page.one("td input").send_keys(Keys.ESCAPE)
+    assert page.rows()[4][1] == "102"
+    page.find("column").send_keys("samples", Keys.ENTER)
+    page.wait(lambda: page.rows()[0][-1] == "5")
+    page.find("column").send_keys("colour", Keys.ENTER)
+    page.wait(lambda: page.js("return document.getElementById('column').validationMessage") == "refused E02 no field")
+    assert len(page.rows()[0]) == 8
+
+
+def test_a_fault_leads_to_its_trace(opened):
+    page = opened("wrong_line")
+    page.find("size").send_keys("10")
+    page.wait(lambda: page.all("#panel button.link"))
+    page.one("#panel button.link").click()
+    page.wait(lambda: page.all("#fault-window button.link"))
+    page.all("#fault-window li > button.link")[2].click()
+    assert page.wait(lambda: page.all("tr.here"))[0].get_attribute("data-trace") == "7"
+
+
+def test_before_and_now(opened):
+    page = opened("wrong_line")
+    page.run("renumber 5 8 inline 102 0")
+    page.click("compare")
+    page.wait(lambda: page.js("return Boolean(document.getElementById('plot-was').data)"))
+    assert page.map("was") == BROKEN and page.map() == SOUND
+    assert "8 cells changed since the file was loaded" in page.text("caption")
+    ranges = "const all = ['was', 'now'].map((one) => document.getElementById(`plot-${one}`)._fullLayout); return all.map(({xaxis, yaxis}) => [xaxis.range, yaxis.range, xaxis._length])"
+    was, now = page.js(ranges)
+    assert was == now
+    page.js("return Plotly.relayout('plot-now', {'xaxis.range[0]': 0.5, 'xaxis.range[1]': 2.5}).then(() => null)")
+    page.wait(lambda: page.js(ranges)[0][0] == [0.5, 2.5])
+    page.wait(lambda: "was 101" in page.one('td[data-at="4 0"]').text)
+    page.map_tab("slice")
+    page.wait(lambda: page.map("was")[0] == [21, 22, 23, 24])
+    assert page.map()[0] == [11, 12, 13, 14]
+
+
+def test_traces_keep_their_names(opened):
+    page = opened("wrong_line")
+    page.run("delete 2")
+    page.wait(lambda: "was 3" in page.one('tr[data-trace="2"] th').text)
+    page.run("blank 1")
+    page.wait(lambda: "new" in page.one('tr[data-trace="1"] th').text)
+    assert not page.all("#table-room td.mark")
+
+
+def test_keyboard_on_the_map(opened):
+    page = opened("wrong_line")
+    page.find("plot-now").send_keys(Keys.ARROW_RIGHT)
+    page.wait(lambda: page.text("told") == "inline 101, crossline 201: fold 2, 2 traces 1, 5")
+    page.find("plot-now").send_keys(Keys.ARROW_UP)
+    page.wait(lambda: page.text("told").startswith("inline 102, crossline 201: fold 0"))
+    page.find("plot-now").send_keys(Keys.ARROW_DOWN, Keys.SPACE)
+    page.wait(lambda: page.find("offers").is_displayed() and page.text("offer-count") == "2 traces")
+    page.find("plot-now").send_keys(Keys.ENTER)
+    assert page.wait(lambda: page.all("tr.here"))[0].get_attribute("data-trace") == "1"
+
+
+def survey(path):
+    """A cube whose traces of inline 112 say 111, with a trace that lacks."""
+    inlines, crosslines, made = range(101, 125), range(201, 241), []
+    for inline in inlines:
+        for crossline in crosslines:
+            if (inline, crossline) != (118, 209):
+                samples = [round(300 * math.cos((inline * 2 + crossline) / 9 - k / 3) * math.exp(-((k - 12) / 6) ** 2)) for k in range(25)]
+                trace = bytearray(files.trace(len(made) + 1, 111 if inline == 112 else inline, crossline, samples))
+                trace[70:72] = struct.pack(">h", -100)
+                trace[180:188] = struct.pack(">2i", 45000000 + 2500 * (crossline - 201) - 900 * (inline - 101), 680000000 + 2500 * (inline - 101) + 900 * (crossline - 201))
+                trace[88:90] = struct.pack(">h", 1)
+                made.append(bytes(trace))
+    text = "".join(f"C{at:2d} {'EXAMPLE SURVEY' if at == 1 else ''}".ljust(80) for at in range(1, 41)).encode("cp037")
+    return files.write(path, text, files.binary(samples=25, at3255=(2, 1)), *made)
+
+
+@pytest.mark.parametrize("scheme", ["light", "dark"])
+def test_width_and_pictures(opened, scheme, tmp_path):
+    """Nothing is wider than a laptop's screen. SEGYWB_PICTURES names the folder where pictures of the page are put."""
+    folder = os.environ.get("SEGYWB_PICTURES") or str(tmp_path)
+    page = opened(survey(tmp_path / "survey.sgy"))
+    page.browser.execute_cdp_cmd("Emulation.setEmulatedMedia", {"features": [{"name": "prefers-color-scheme", "value": scheme}]})
+    page.browser.execute_cdp_cmd("Emulation.setDeviceMetricsOverride", {"width": 1280, "height": 960, "deviceScaleFactor": 1, "mobile": False})
+    back = page.js("return getComputedStyle(document.body).color")
+    assert (back == "rgb(27, 31, 36)") == (scheme == "light")
+
+    def picture(name):
+        page.js("document.activeElement.blur()")
+        assert page.js("return document.documentElement.scrollWidth") <= 1280
+        assert page.browser.save_screenshot(f"{folder}/desk-{name}{'' if scheme == 'light' else '-dark'}.png")
+
+    page.drag([(10, 4), (10, 30)], (5, 5))
+    assert page.text("offer-count") == "54 traces"
+    page.hovered(17, 20, "inline 118, crossline 221: fold 1, trace 700")
+    picture("select")
+    page.run("set 9999 inline 7")
+    page.run("renumber 441 480 inline 112 0")
+    page.one("#offers button:last-of-type").click()
+    page.click("compare")
+    page.wait(lambda: page.js("return Boolean(document.getElementById('plot-was').data)") and page.data("whole"))
+    page.find("first").send_keys(Keys.CONTROL + "a", Keys.NULL, "438", Keys.TAB)
+    page.wait(lambda: "was 111" in page.find("table-room").text)
+    assert page.marks() == 2
+    picture("compare")
+    page.map_tab("slice")
+    page.js("const one = document.getElementById('sample-number'); one.value = 12; one.dispatchEvent(new Event('change'))")
+    page.tab("numbers")
+    page.wait(lambda: page.map()[0][0] not in (None, 0) and "cells with traces" in page.text("panel"))
+    picture("slice")
+    page.click("compare")
+    page.map_tab("positions")
+    page.tab("edits")
+    page.wait(lambda: page.text("steps") == "renumber 441 480 inline 112 0")
+    picture("positions")
+    page.browser.execute_cdp_cmd("Emulation.clearDeviceMetricsOverride", {})

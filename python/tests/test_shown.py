@@ -46,7 +46,7 @@ def test_repr(opened):
 
 
 def test_repr_of_a_program_that_ends(fake, opened):
-    fake("sys.stdin.readline(); print('traces 3\\n', flush=True)\nsys.exit(4)\n")
+    fake("sys.stdin.readline(); print('traces 3\\n', flush=True)\nsys.stdin.readline(); sys.exit(4)\n")
     volume = opened("survey")
     assert "status 4" in repr(volume)
     Page(volume._repr_html_())

@@ -70,7 +70,7 @@ pages:
 install: program
 	install -D -m 755 $(PROGRAM) $(INTO)/bin/segywb
 	install -m 755 -t $(INTO)/bin tools/segywb-plot tools/segywb-report
-	install -D -m 644 man/segywb.1 $(INTO)/share/man/man1/segywb.1
+	install -D -m 644 -t $(INTO)/share/man/man1 man/segywb.1 man/segywb-plot.1 man/segywb-report.1 man/segywb-desk.1
 	install -D -m 644 man/segywb-script.5 $(INTO)/share/man/man5/segywb-script.5
 	install -D -m 644 completions/segywb.bash $(INTO)/share/bash-completion/completions/segywb
 	install -D -m 644 completions/_segywb $(INTO)/share/zsh/site-functions/_segywb
@@ -85,7 +85,8 @@ install: program
 
 uninstall:
 	rm -f $(INTO)/bin/segywb $(INTO)/bin/segywb-plot $(INTO)/bin/segywb-report
-	rm -f $(INTO)/share/man/man1/segywb.1 $(INTO)/share/man/man5/segywb-script.5
+	rm -f $(INTO)/share/man/man1/segywb.1 $(INTO)/share/man/man1/segywb-plot.1 $(INTO)/share/man/man1/segywb-report.1 $(INTO)/share/man/man1/segywb-desk.1
+	rm -f $(INTO)/share/man/man5/segywb-script.5
 	rm -f $(INTO)/share/bash-completion/completions/segywb
 	rm -f $(INTO)/share/zsh/site-functions/_segywb
 	rm -f $(INTO)/share/fish/vendor_completions.d/segywb.fish

@@ -31,7 +31,7 @@ rm -rf made
 runs_well 'man pages are made' bash "$top/tools/manpages" made
 runs_well 'the man pages are those of the manual' diff -r made "$top/man"
 runs_well 'the rows of the definitions' bash "$top/tools/definitions" --check
-for page in segywb.1 segywb-script.5; do
+for page in segywb.1 segywb-script.5 segywb-plot.1 segywb-report.1 segywb-desk.1; do
     if command -v mandoc > /dev/null; then same "mandoc on $page" "$(mandoc -Tlint "$top/man/$page" 2>&1)" ''; fi
     if command -v man > /dev/null && man --help 2>&1 | grep -q -- --warnings; then
         same "man on $page" "$(LC_ALL=C man --warnings -E UTF-8 -l -Tutf8 -Z "$top/man/$page" 2>&1 > /dev/null)" ''
@@ -128,6 +128,9 @@ same 'what was installed' "$(cd root && find . -type f | grep -v examples | sort
 ./opt/segywb/share/fish/vendor_completions.d/segywb-plot.fish
 ./opt/segywb/share/fish/vendor_completions.d/segywb-report.fish
 ./opt/segywb/share/fish/vendor_completions.d/segywb.fish
+./opt/segywb/share/man/man1/segywb-desk.1
+./opt/segywb/share/man/man1/segywb-plot.1
+./opt/segywb/share/man/man1/segywb-report.1
 ./opt/segywb/share/man/man1/segywb.1
 ./opt/segywb/share/man/man5/segywb-script.5
 ./opt/segywb/share/zsh/site-functions/_segywb

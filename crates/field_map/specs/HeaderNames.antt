@@ -2,9 +2,9 @@
 use Rattle.std.specs.Prelude.{[], ◌∷◌, codes}
 use Rattle.field_map.specs.Pairs.{Pairs, signed_at, unsigned_at, signed_in_first_extension, unsigned_in_first_extension}
 
--- in the order of bytes, those of the main header, then those of the first trace header extension; the fields of the
--- extension that are 8-byte floats have no name, and neither have the names of the headers in bytes 233 to 240, which
--- are characters: a place is that of a whole number
+-- the fields of the trace header that are whole numbers, in the order of bytes: those of the main header, then those of
+-- its first extension; the fields of the extension that are 8-byte floats have no name, and neither have the names of
+-- the headers in bytes 233 to 240, which are characters, since a place is that of a whole number
 abbrev pub header_names : Pairs
 header_names =
     (codes "sequence_line", signed_at 1 4)

@@ -78,8 +78,8 @@ unix_names =
     ∷ (codes "otrav", signed_at 179 2)
     ∷ []
 
--- the names of segyio, in lower case; it has the three directions of the source's energy as a mantissa and an exponent,
--- and the name of the header as two numbers
+-- the names of segyio, in lower case; it takes the three directions of the source's energy for a mantissa and an
+-- exponent, and the name of the header for two numbers
 abbrev pub segyio_names : Pairs
 segyio_names =
     (codes "trace_sequence_line", signed_at 1 4)

@@ -1,7 +1,7 @@
 // The names of a trace's fields that are known whatever is bound.
 ghost use Rattle.std.specs.Prelude.{◌≡◌};
 ghost use Rattle.std.specs.Option.{option_or};
-ghost use Rattle.std.specs.Str.{str_to_ascii_lowercase};
+ghost use Rattle.std.specs.Str.{str_to_ascii_lowercase, str_eq_ignore_ascii_case};
 ghost use Rattle.field_map.specs.Pairs.{IsPairAt, place_of, rows_shown, rows_in_lower_case};
 ghost use Rattle.field_map.specs.HeaderNames.{header_names};
 ghost use Rattle.field_map.specs.ToolNames.{unix_names};
@@ -64,9 +64,16 @@ fn place_in_any_case(table: &[(&str, Place)], name: &str) -> Option<Place>
     ensures { result ≡ place_of (rows_in_lower_case table.now) (str_to_ascii_lowercase name.now) }
 {
     for (known, place) in table {
-        if name.eq_ignore_ascii_case(known) {
+        if is_same_in_any_case(name, known) {
             return Some(*place);
         }
     }
     None
+}
+
+#[tactic(auto, using(crate::proofs::RowLemmas::tested))]
+fn is_same_in_any_case(name: &str, other: &str) -> bool
+    ensures { result ≡ str_eq_ignore_ascii_case name.now other.now }
+{
+    name.eq_ignore_ascii_case(other)
 }

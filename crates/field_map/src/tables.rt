@@ -1,4 +1,5 @@
-// The names of the fields of the trace header, with their places.
+// The names of the fields of the trace header, with their places and what they mean: the tables of
+// the manual are made from these rows.
 use crate::place::Place;
 use num_order::Kind;
 
@@ -46,105 +47,105 @@ macro_rules! extension_unsigned {
 // The fields of the standard that are whole numbers, in the order of bytes: the main header, then
 // its first extension.
 pub(crate) static HEADER_NAMES: [(&str, Place); 99] = [
-    ("sequence_line", signed!(1, 4)),
-    ("sequence_file", signed!(5, 4)),
-    ("field_record", signed!(9, 4)),
-    ("trace_in_record", signed!(13, 4)),
-    ("source_point", signed!(17, 4)),
-    ("ensemble", signed!(21, 4)),
-    ("trace_in_ensemble", signed!(25, 4)),
-    ("trace_code", signed!(29, 2)),
-    ("vertically_summed", signed!(31, 2)),
-    ("horizontally_stacked", signed!(33, 2)),
-    ("data_use", signed!(35, 2)),
-    ("distance", signed!(37, 4)),
-    ("receiver_elevation", signed!(41, 4)),
-    ("source_elevation", signed!(45, 4)),
-    ("source_depth", signed!(49, 4)),
-    ("receiver_datum", signed!(53, 4)),
-    ("source_datum", signed!(57, 4)),
-    ("source_water_depth", signed!(61, 4)),
-    ("group_water_depth", signed!(65, 4)),
-    ("elevation_scalar", signed!(69, 2)),
-    ("coordinate_scalar", signed!(71, 2)),
-    ("source_x", signed!(73, 4)),
-    ("source_y", signed!(77, 4)),
-    ("group_x", signed!(81, 4)),
-    ("group_y", signed!(85, 4)),
-    ("coordinate_units", signed!(89, 2)),
-    ("weathering_velocity", signed!(91, 2)),
-    ("subweathering_velocity", signed!(93, 2)),
-    ("source_uphole", signed!(95, 2)),
-    ("group_uphole", signed!(97, 2)),
-    ("source_static", signed!(99, 2)),
-    ("group_static", signed!(101, 2)),
-    ("total_static", signed!(103, 2)),
-    ("lag_a", signed!(105, 2)),
-    ("lag_b", signed!(107, 2)),
-    ("delay", signed!(109, 2)),
-    ("mute_start", signed!(111, 2)),
-    ("mute_end", signed!(113, 2)),
-    ("samples", unsigned!(115, 2)),
-    ("interval", unsigned!(117, 2)),
-    ("gain_type", signed!(119, 2)),
-    ("instrument_gain", signed!(121, 2)),
-    ("initial_gain", signed!(123, 2)),
-    ("correlated", signed!(125, 2)),
-    ("sweep_start", signed!(127, 2)),
-    ("sweep_end", signed!(129, 2)),
-    ("sweep_length", signed!(131, 2)),
-    ("sweep_type", signed!(133, 2)),
-    ("taper_start", signed!(135, 2)),
-    ("taper_end", signed!(137, 2)),
-    ("taper_type", signed!(139, 2)),
-    ("alias_frequency", signed!(141, 2)),
-    ("alias_slope", signed!(143, 2)),
-    ("notch_frequency", signed!(145, 2)),
-    ("notch_slope", signed!(147, 2)),
-    ("low_cut", signed!(149, 2)),
-    ("high_cut", signed!(151, 2)),
-    ("low_cut_slope", signed!(153, 2)),
-    ("high_cut_slope", signed!(155, 2)),
-    ("year", signed!(157, 2)),
-    ("day", signed!(159, 2)),
-    ("hour", signed!(161, 2)),
-    ("minute", signed!(163, 2)),
-    ("second", signed!(165, 2)),
-    ("time_basis", signed!(167, 2)),
-    ("weighting", signed!(169, 2)),
-    ("group_roll", signed!(171, 2)),
-    ("group_first", signed!(173, 2)),
-    ("group_last", signed!(175, 2)),
-    ("gap_size", signed!(177, 2)),
-    ("over_travel", signed!(179, 2)),
-    ("ensemble_x", signed!(181, 4)),
-    ("ensemble_y", signed!(185, 4)),
-    ("inline_number", signed!(189, 4)),
-    ("crossline_number", signed!(193, 4)),
-    ("shotpoint", signed!(197, 4)),
-    ("shotpoint_scalar", signed!(201, 2)),
-    ("measurement_unit", signed!(203, 2)),
-    ("transduction_mantissa", signed!(205, 4)),
-    ("transduction_exponent", signed!(209, 2)),
-    ("transduction_unit", signed!(211, 2)),
-    ("device_identifier", signed!(213, 2)),
-    ("time_scalar", signed!(215, 2)),
-    ("source_type", signed!(217, 2)),
-    ("source_energy_vertical", signed!(219, 2)),
-    ("source_energy_crossline", signed!(221, 2)),
-    ("source_energy_inline", signed!(223, 2)),
-    ("source_measure_mantissa", signed!(225, 4)),
-    ("source_measure_exponent", signed!(229, 2)),
-    ("source_measure_unit", signed!(231, 2)),
-    ("ext_sequence_line", extension_unsigned!(1, 8)),
-    ("ext_sequence_file", extension_unsigned!(9, 8)),
-    ("ext_field_record", extension_signed!(17, 8)),
-    ("ext_ensemble", extension_signed!(25, 8)),
-    ("ext_samples", extension_unsigned!(137, 4)),
-    ("ext_nanoseconds", extension_signed!(141, 4)),
-    ("ext_cable", extension_signed!(153, 4)),
-    ("ext_count", extension_unsigned!(157, 2)),
-    ("ext_last_trace", extension_signed!(159, 2)),
+    ("sequence_line", signed!(1, 4)), // number of the trace in its line
+    ("sequence_file", signed!(5, 4)), // number of the trace in the file
+    ("field_record", signed!(9, 4)), // original field record
+    ("trace_in_record", signed!(13, 4)), // number of the trace in its field record
+    ("source_point", signed!(17, 4)), // energy source point
+    ("ensemble", signed!(21, 4)), // ensemble (CDP, CMP) number
+    ("trace_in_ensemble", signed!(25, 4)), // number of the trace in its ensemble
+    ("trace_code", signed!(29, 2)), // what the trace is: 1 is time-domain seismic data, 2 dead, 3 dummy
+    ("vertically_summed", signed!(31, 2)), // number of traces that were summed vertically
+    ("horizontally_stacked", signed!(33, 2)), // number of traces that were stacked horizontally
+    ("data_use", signed!(35, 2)), // 1 production, 2 test
+    ("distance", signed!(37, 4)), // distance from source to receiver group
+    ("receiver_elevation", signed!(41, 4)), // elevation of the receiver group
+    ("source_elevation", signed!(45, 4)), // elevation of the surface at the source
+    ("source_depth", signed!(49, 4)), // depth of the source below the surface
+    ("receiver_datum", signed!(53, 4)), // datum elevation at the receiver group
+    ("source_datum", signed!(57, 4)), // datum elevation at the source
+    ("source_water_depth", signed!(61, 4)), // height of the water column at the source
+    ("group_water_depth", signed!(65, 4)), // height of the water column at the receiver group
+    ("elevation_scalar", signed!(69, 2)), // scalar of bytes 41-68
+    ("coordinate_scalar", signed!(71, 2)), // scalar of bytes 73-88 and 181-188
+    ("source_x", signed!(73, 4)), // X of the source
+    ("source_y", signed!(77, 4)), // Y of the source
+    ("group_x", signed!(81, 4)), // X of the receiver group
+    ("group_y", signed!(85, 4)), // Y of the receiver group
+    ("coordinate_units", signed!(89, 2)), // 1 length, 2 seconds of arc, 3 degrees, 4 degrees, minutes, seconds
+    ("weathering_velocity", signed!(91, 2)), // weathering velocity
+    ("subweathering_velocity", signed!(93, 2)), // velocity below the weathering
+    ("source_uphole", signed!(95, 2)), // uphole time at the source, in milliseconds
+    ("group_uphole", signed!(97, 2)), // uphole time at the receiver group, in milliseconds
+    ("source_static", signed!(99, 2)), // static correction of the source, in milliseconds
+    ("group_static", signed!(101, 2)), // static correction of the receiver group, in milliseconds
+    ("total_static", signed!(103, 2)), // total static that was applied, in milliseconds
+    ("lag_a", signed!(105, 2)), // time from the end of the trace header to the time break, in milliseconds
+    ("lag_b", signed!(107, 2)), // time from the time break to the start of the source, in milliseconds
+    ("delay", signed!(109, 2)), // delay recording time, in milliseconds
+    ("mute_start", signed!(111, 2)), // start of the mute, in milliseconds
+    ("mute_end", signed!(113, 2)), // end of the mute, in milliseconds
+    ("samples", unsigned!(115, 2)), // number of samples of the trace
+    ("interval", unsigned!(117, 2)), // sample interval of the trace, in microseconds
+    ("gain_type", signed!(119, 2)), // gain of the instruments: 1 fixed, 2 binary, 3 floating point
+    ("instrument_gain", signed!(121, 2)), // gain constant of the instruments, in decibels
+    ("initial_gain", signed!(123, 2)), // early or initial gain of the instruments, in decibels
+    ("correlated", signed!(125, 2)), // 1 not correlated, 2 correlated
+    ("sweep_start", signed!(127, 2)), // frequency of the sweep at its start, in hertz
+    ("sweep_end", signed!(129, 2)), // frequency of the sweep at its end, in hertz
+    ("sweep_length", signed!(131, 2)), // length of the sweep, in milliseconds
+    ("sweep_type", signed!(133, 2)), // 1 linear, 2 parabolic, 3 exponential, 4 other
+    ("taper_start", signed!(135, 2)), // length of the sweep's taper at its start, in milliseconds
+    ("taper_end", signed!(137, 2)), // length of the sweep's taper at its end, in milliseconds
+    ("taper_type", signed!(139, 2)), // 1 linear, 2 cosine squared, 3 other
+    ("alias_frequency", signed!(141, 2)), // frequency of the alias filter, in hertz
+    ("alias_slope", signed!(143, 2)), // slope of the alias filter, in decibels an octave
+    ("notch_frequency", signed!(145, 2)), // frequency of the notch filter, in hertz
+    ("notch_slope", signed!(147, 2)), // slope of the notch filter, in decibels an octave
+    ("low_cut", signed!(149, 2)), // low-cut frequency, in hertz
+    ("high_cut", signed!(151, 2)), // high-cut frequency, in hertz
+    ("low_cut_slope", signed!(153, 2)), // slope of the low cut, in decibels an octave
+    ("high_cut_slope", signed!(155, 2)), // slope of the high cut, in decibels an octave
+    ("year", signed!(157, 2)), // year recorded
+    ("day", signed!(159, 2)), // day of the year
+    ("hour", signed!(161, 2)), // hour of the day
+    ("minute", signed!(163, 2)), // minute of the hour
+    ("second", signed!(165, 2)), // second of the minute
+    ("time_basis", signed!(167, 2)), // 1 local, 2 GMT, 3 other, 4 UTC, 5 GPS
+    ("weighting", signed!(169, 2)), // trace weighting factor
+    ("group_roll", signed!(171, 2)), // geophone group number of roll switch position one
+    ("group_first", signed!(173, 2)), // geophone group number of the field record's first trace
+    ("group_last", signed!(175, 2)), // geophone group number of the field record's last trace
+    ("gap_size", signed!(177, 2)), // number of groups that were dropped
+    ("over_travel", signed!(179, 2)), // over travel of the taper: 1 down or behind, 2 up or ahead
+    ("ensemble_x", signed!(181, 4)), // X of the ensemble (CDP) position
+    ("ensemble_y", signed!(185, 4)), // Y of the ensemble (CDP) position
+    ("inline_number", signed!(189, 4)), // inline number
+    ("crossline_number", signed!(193, 4)), // crossline number
+    ("shotpoint", signed!(197, 4)), // shotpoint number
+    ("shotpoint_scalar", signed!(201, 2)), // scalar of the shotpoint number
+    ("measurement_unit", signed!(203, 2)), // unit of the samples
+    ("transduction_mantissa", signed!(205, 4)), // transduction constant, its mantissa
+    ("transduction_exponent", signed!(209, 2)), // transduction constant, its power of ten
+    ("transduction_unit", signed!(211, 2)), // unit of the samples times the transduction constant
+    ("device_identifier", signed!(213, 2)), // identifier of the device or the trace
+    ("time_scalar", signed!(215, 2)), // scalar of the times in bytes 95-114
+    ("source_type", signed!(217, 2)), // type and orientation of the source
+    ("source_energy_vertical", signed!(219, 2)), // direction of the source's energy, vertical, in tenths of a degree
+    ("source_energy_crossline", signed!(221, 2)), // direction of the source's energy, crossline, in tenths of a degree
+    ("source_energy_inline", signed!(223, 2)), // direction of the source's energy, inline, in tenths of a degree
+    ("source_measure_mantissa", signed!(225, 4)), // source measurement, its mantissa
+    ("source_measure_exponent", signed!(229, 2)), // source measurement, its power of ten
+    ("source_measure_unit", signed!(231, 2)), // unit of the source measurement
+    ("ext_sequence_line", extension_unsigned!(1, 8)), // number of the trace in its line, where it is not zero
+    ("ext_sequence_file", extension_unsigned!(9, 8)), // number of the trace in the file, where it is not zero
+    ("ext_field_record", extension_signed!(17, 8)), // original field record, where it is not zero
+    ("ext_ensemble", extension_signed!(25, 8)), // ensemble (CDP, CMP) number, where it is not zero
+    ("ext_samples", extension_unsigned!(137, 4)), // number of samples of the trace, where it is not zero
+    ("ext_nanoseconds", extension_signed!(141, 4)), // nanoseconds behind the second of the minute
+    ("ext_cable", extension_signed!(153, 4)), // number of the cable, or of the recording device
+    ("ext_count", extension_unsigned!(157, 2)), // number of header extensions of the trace, 0 for the most
+    ("ext_last_trace", extension_signed!(159, 2)), // last trace flag
 ];
 
 // The words of Seismic Unix.
@@ -308,11 +309,11 @@ pub(crate) static SEGYIO_NAMES: [(&str, Place); 91] = [
     ("TraceIdentifier", signed!(213, 2)),
     ("ScalarTraceHeader", signed!(215, 2)),
     ("SourceType", signed!(217, 2)),
-    ("SourceEnergyDirectionMantissa", signed!(219, 4)),
+    ("SourceEnergyDirectionMantissa", signed!(219, 4)), // direction of the source's energy, where it is a mantissa and an exponent
     ("SourceEnergyDirectionExponent", signed!(223, 2)),
     ("SourceMeasurementMantissa", signed!(225, 4)),
     ("SourceMeasurementExponent", signed!(229, 2)),
     ("SourceMeasurementUnit", signed!(231, 2)),
-    ("UnassignedInt1", signed!(233, 4)),
-    ("UnassignedInt2", signed!(237, 4)),
+    ("UnassignedInt1", signed!(233, 4)), // first half of the name of the header
+    ("UnassignedInt2", signed!(237, 4)), // second half of the name of the header
 ];

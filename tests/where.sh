@@ -28,7 +28,7 @@ told 'no command' 'quit' 'S01 unknown word: quit'
 told 'a name in capital letters' 'get 1 Inline' 'E02 no field: get 1 Inline (in small letters: inline)'
 told 'a near name' 'set 1 inlin 7' 'E02 no field: set 1 inlin 7 (did you mean inline?)'
 told 'a near name of the standard' 'get 1 sourcex' 'E02 no field: get 1 sourcex (did you mean source_x?)'
-told 'a near name of a range' 'renumber 1 2 croslsine 7 1' 'E02 no field: renumber 1 2 croslsine 7 1'
+told 'two letters of a name changed over' 'renumber 1 2 croslsine 7 1' 'E02 no field: renumber 1 2 croslsine 7 1 (did you mean crossline?)'
 told 'a near name of renumber' 'renumber 1 2 crosline 7 1' 'E02 no field: renumber 1 2 crosline 7 1 (did you mean crossline?)'
 told 'a near name of the binary header' 'getbin intervall' 'E02 no field: getbin intervall (did you mean interval?)'
 told 'a name of the binary header' 'get 1 job' 'E02 no field: get 1 job (a field of the binary header: bin and getbin)'
@@ -130,8 +130,10 @@ same_run() { if [ "$2" = 1 ] && cmp -s wanted answers && cmp -s wanted.sgy o.sgy
 "$program" s.sgy --script script --out o.sgy --quiet > answers 2> errors
 same_run 'the same quietly' $?
 [ -s errors ] && tell 'quietly' "$(< errors)" || tell 'quietly' ok
-"$program" s.sgy --quiet --script script --quiet --out o.sgy > answers 2> errors
-same_run 'the same twice quietly' $?
+"$program" --quiet s.sgy --out o.sgy --script script > answers 2> errors
+same_run 'the word in front' $?
+"$program" s.sgy --script script --quiet --quiet > answers 2> errors
+[ $? = 2 ] && [ ! -s answers ] && tell 'and no flag stands twice' ok || tell 'and no flag stands twice' "$(< errors)"
 if [ -e /dev/full ]; then
     "$program" s.sgy --script script --out o.sgy > answers 2> /dev/full
     same_run 'a full standard error' $?

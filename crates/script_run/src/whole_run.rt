@@ -27,8 +27,8 @@ use std::io::{Read, Write};
 /// refused gives its one line there, and no line is run. With `options.stop` the first refused line
 /// is the last, and nothing is saved. L01, P01, `Answers` and `Save` come only where that reader or
 /// writer failed in this call. Takes memory for the volume and the script; want of it is told as
-/// L16, P03 or, in a line's reply, E11. The refused lines are noted too, in a room of fixed size, from
-/// which no answer is made.
+/// L16, P03 or, in a line's reply, E11. The refused lines are noted too, in a room of fixed size;
+/// no answer is made from that.
 pub fn run<R: Read, S: Read, A: Write, O: Write>(
     alloc: Global,
     reader: &mut Source<R>,

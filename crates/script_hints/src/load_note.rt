@@ -39,11 +39,11 @@ fn hint(fault: LoadFault) -> Option<&'static str> {
         LoadFault::Revision(..) => Some("bytes 3501-3502; revisions 0, 1 and 2.0 are read"),
         LoadFault::FloatFormat(_) => Some(
             "bytes 3225-3226; formats 1, 5 and 6 are floats, which are not read yet: \
-             samples are whole numbers here",
+             samples are whole numbers, in formats 2, 3, 7 to 12, 15 and 16",
         ),
         LoadFault::GainFormat => Some(
             "bytes 3225-3226; format 4 is fixed point with gain, which is not read: \
-             samples are whole numbers here",
+             samples are whole numbers, in formats 2, 3, 7 to 12, 15 and 16",
         ),
         LoadFault::TooManyTraces => Some("a file has at most 4294967295 traces"),
         LoadFault::OutOfMemory => Some("the file must fit in memory"),

@@ -113,7 +113,11 @@ lines=$(grep -c '' errors)
 if [ $got = 1 ] && [ "$lines" = 9 ] && [ "$(grep -c '^refused ' answers)" = 9 ]; then tell 'hostile lines' ok; else tell 'hostile lines' "status $got, $lines lines"; fi
 tr -d '\n' < errors | LC_ALL=C grep -q '[[:cntrl:]]' && tell 'no control character' "$(od -c errors | head -n 20)" || tell 'no control character' ok
 LC_ALL=C grep -q $'\302[\200-\237]\|\342\200\256\|\357\273\277' errors && tell 'none of two bytes' "$(od -c errors | head -n 20)" || tell 'none of two bytes' ok
-iconv -f UTF-8 -t UTF-8 errors > plain 2> /dev/null && cmp -s plain errors && tell 'UTF-8 alone' ok || tell 'UTF-8 alone' "$(od -c errors | head -n 20)"
+if command -v iconv > /dev/null; then
+    iconv -f UTF-8 -t UTF-8 errors > plain 2> /dev/null && cmp -s plain errors && tell 'UTF-8 alone' ok || tell 'UTF-8 alone' "$(od -c errors | head -n 20)"
+else
+    echo 'left out: whether it is UTF-8, for which there is no command iconv'
+fi
 [ "$(sed -n 5p errors)" = "segywb: script:5: S01 unknown word: $(printf 'z%.0s' $(seq 60)).." ] && tell 'a long line is cut' ok || tell 'a long line is cut' "$(sed -n 5p errors)"
 [ "$(sed -n 6p errors)" = "segywb: script:6: S01 unknown word: $(printf '\360\237\230\200%.0s' $(seq 60)).." ] && tell 'at 60 characters' ok || tell 'at 60 characters' "$(sed -n 6p errors)"
 printf '%s' "$(printf 'x%.0s' $(seq 60))" > script

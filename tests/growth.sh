@@ -39,7 +39,7 @@ ways() {
     [ ! -e whole.sgy ] || ways+=(may rename 4 whole.txt "=segywb: save failed after $(wc -c < whole.sgy) bytes"$'\nsegywb: o.sgy: cannot put the file beside it in its place (out of memory): '"$then" -)
     # behind each line stands one that no line of the script is: so the answers to each line are known
     printf '%s\n=\n' "$@" > marked
-    "$program" "$file" --script marked > marked.txt
+    "$program" "$file" --script marked --quiet > marked.txt
     mapfile -t marked < marked.txt
     for ((k = 1; k <= $#; k++)); do
         if may_want "${!k}"; then

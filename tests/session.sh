@@ -68,7 +68,8 @@ printf 'count\0\n\377\ncount\n' > lines
 expect 'a NUL, and bytes that are no text' 1 'refused S01 unknown word\n\nrefused S04 not text\n\ntraces 3\n\n' '' s.sgy --session
 printf 'count\n' > lines
 head -c 3000 s.sgy > short.sgy
-expect 'a refused file has its line alone' 3 'load refused L03 short 3000\n' '' short.sgy --session
+expect 'a refused file has its line alone' 3 'load refused L03 short 3000\n' 'segywb: short.sgy: L03 short 3000 (the two file headers have 3600 bytes)\n' short.sgy --session
+expect 'and quietly' 3 'load refused L03 short 3000\n' '' short.sgy --session --quiet
 
 # ---- as a run of the same lines
 printf 'count\nset 1 inline 77\nset 9 inline 1\ninlines\nfaults\ngrid\n# note\n\nmap far @1:4\nfields\ninfo\nhistogram\nslice 0\nslice 1\nslice 1\nline 0 1\ntext 1 C 1 NOTE\nline 0 1\n' > lines

@@ -1,0 +1,83 @@
+// The commands and their forms.
+
+/// The first words of the commands.
+pub(crate) static COMMANDS: [&str; 32] = [
+    "set",
+    "get",
+    "bin",
+    "getbin",
+    "text",
+    "line",
+    "code",
+    "stanzas",
+    "map",
+    "unmap",
+    "fields",
+    "count",
+    "info",
+    "sample",
+    "patch",
+    "blank",
+    "copy",
+    "delete",
+    "move",
+    "resize",
+    "renumber",
+    "geometry",
+    "stat",
+    "fold",
+    "grid",
+    "inlines",
+    "crosslines",
+    "histogram",
+    "range",
+    "totals",
+    "slice",
+    "faults",
+];
+
+/// The form of a command, by its word: empty where the word is none.
+pub(crate) fn form(word: &[u8]) -> &'static str {
+    match word {
+        b"set" => "set P FIELD NUMBER",
+        b"get" => "get P FIELD",
+        b"bin" => "bin FIELD NUMBER",
+        b"getbin" => "getbin FIELD",
+        b"text" => "text L TEXT",
+        b"line" => "line B L",
+        b"code" => "code B",
+        b"map" => "map NAME PLACE",
+        b"unmap" => "unmap NAME",
+        b"sample" => "sample P K",
+        b"patch" => "patch P K NUMBER ..",
+        b"blank" => "blank P",
+        b"copy" => "copy Q P",
+        b"delete" => "delete P",
+        b"move" => "move P Q",
+        b"resize" => "resize P NUMBER",
+        b"renumber" => "renumber P Q FIELD FIRST STEP",
+        b"geometry" => "geometry P",
+        b"stat" => "stat P",
+        b"fold" => "fold NUMBER NUMBER",
+        b"range" => "range WHICH",
+        b"slice" => "slice K",
+        _ => form_alone(word),
+    }
+}
+
+// The form of a command of one word.
+fn form_alone(word: &[u8]) -> &'static str {
+    match word {
+        b"stanzas" => "stanzas",
+        b"fields" => "fields",
+        b"count" => "count",
+        b"info" => "info",
+        b"grid" => "grid",
+        b"inlines" => "inlines",
+        b"crosslines" => "crosslines",
+        b"histogram" => "histogram",
+        b"totals" => "totals",
+        b"faults" => "faults",
+        _ => "",
+    }
+}

@@ -7,7 +7,8 @@ use frame_cut::{Limits, LoadFault, Reading};
 use num_order::Kind;
 use range_stats::Quantity;
 use script_run::{Options, RunEnd, run};
-use script_text::{Command, LineFault, ScriptFault, parse_line};
+use script_text::ScriptFault;
+use script_words::{Command, LineFault, parse_line};
 use std::alloc::Global;
 use std::test::Fail;
 

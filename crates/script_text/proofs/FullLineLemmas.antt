@@ -6,7 +6,7 @@ use Rattle.std.specs.List.{list_all}
 use Rattle.std.specs.Str.{byte}
 use Rattle.std.proofs.lemmas.Bool.{ne_eqb, lt-ltb}
 use Rattle.std.proofs.lemmas.List.Folds.{list_all-append}
-use Rattle.script_text.specs.Words.{is_line_feed}
+use Rattle.script_words.specs.Words.{is_line_feed}
 use Rattle.script_text.specs.Texts.{with_blanks, with_line_end, list_lines, is_plain, is_full_line, IsFullLines}
 
 and_both : (a b : Bool) → a ≡ true → b ≡ true → (a && b) ≡ true

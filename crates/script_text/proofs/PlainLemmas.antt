@@ -41,9 +41,9 @@ use Rattle.bench_rules.specs.Refused.{is_line}
 use Rattle.bench_rules.specs.Reports.{geometry_in, statistics_in}
 use Rattle.bench_rules.specs.State.{State}
 use Rattle.bench_rules.specs.Answer.{Reply, IsReply, or_fault, of_trace, trace_value, trace_sample, binary_value, line_answer, text_blocks, numbered_stanzas, stanzas_from, answer}
-use Rattle.script_text.specs.declared.line_fault.LineFault.{LineFault}
-use Rattle.script_text.specs.declared.line_fault.LineFault.TheVariants as line_faults
-use Rattle.script_text.specs.Words.{is_line_feed}
+use Rattle.script_words.specs.declared.line_fault.LineFault.{LineFault}
+use Rattle.script_words.specs.declared.line_fault.LineFault.TheVariants as line_faults
+use Rattle.script_words.specs.Words.{is_line_feed}
 use Rattle.script_text.specs.Texts.{is_plain, IsFullLines}
 use Rattle.script_text.specs.FullLines.{HasPlainTexts}
 use Rattle.script_text.specs.RefusalTexts.{line_fault_text, no_trace, no_sample, text_fault_text, map_fault_text, refusal_text, ask_fault_text, refused_line}

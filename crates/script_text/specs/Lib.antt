@@ -1,8 +1,3 @@
-pub mod Words
-pub mod Numbers
-pub mod Readers
-pub mod ReportCommands
-pub mod Commands
 pub mod Texts
 pub mod RefusalTexts
 pub mod AnswerTexts
@@ -10,8 +5,6 @@ pub mod Replies
 pub mod Held
 pub mod Devices
 pub mod Printing
-pub mod Examples
 pub mod ReportTexts
-pub mod LineExamples
 pub mod ReportExamples
 pub mod FullLines

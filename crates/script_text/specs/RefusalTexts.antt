@@ -13,8 +13,8 @@ use Rattle.bench_rules.specs.declared.ask_fault.AskFault.{AskFault}
 use Rattle.bench_rules.specs.declared.ask_fault.AskFault.TheVariants as ask_faults
 use Rattle.script_text.specs.declared.script_fault.ScriptFault.{ScriptFault}
 use Rattle.script_text.specs.declared.script_fault.ScriptFault.TheVariants as script_faults
-use Rattle.script_text.specs.declared.line_fault.LineFault.{LineFault}
-use Rattle.script_text.specs.declared.line_fault.LineFault.TheVariants as line_faults
+use Rattle.script_words.specs.declared.line_fault.LineFault.{LineFault}
+use Rattle.script_words.specs.declared.line_fault.LineFault.TheVariants as line_faults
 use Rattle.script_text.specs.Texts.{with_line_end, with_blanks}
 
 -- what is printed for a refused file, behind `load refused`

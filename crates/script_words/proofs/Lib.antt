@@ -1,0 +1,9 @@
+pub mod PositionLemmas
+pub mod BoundaryLemmas
+pub mod WordLemmas
+pub mod NumberLemmas
+pub mod PlaceLemmas
+pub mod ParseLemmas
+pub mod LineLemmas
+pub mod ScriptLemmas
+pub mod PartLemmas

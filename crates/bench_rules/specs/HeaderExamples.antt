@@ -18,8 +18,8 @@ use Rattle.bench_rules.specs.Tables.{rows_from}
 abbrev loaded : State
 loaded = record { volume = volume_plain; fields = geometry_at_load; reading = AsWritten; limits = wide_limits }
 
--- two numbers a row, counted from position 4
-pub rows-two : rows_from 4 2 (pos 1 ∷ pos 2 ∷ pos 3 ∷ pos 4 ∷ []) ≡ (4, pos 1 ∷ pos 2 ∷ []) ∷ (5, pos 3 ∷ pos 4 ∷ []) ∷ []
+-- two rows of two numbers, counted from position 4
+pub rows-two : rows_from 4 2 2 (pos 1 ∷ pos 2 ∷ pos 3 ∷ pos 4 ∷ []) ≡ (4, pos 1 ∷ pos 2 ∷ []) ∷ (5, pos 3 ∷ pos 4 ∷ []) ∷ []
 rows-two = refl
 
 pub table-two : answer loaded (Table 2 3 (field.Name (codes "inline") ∷ field.Place (signed_at 193 4) ∷ [])) ≡ Ok (answers.Table ((2, pos 10 ∷ pos 22 ∷ []) ∷ (3, pos 10 ∷ pos 23 ∷ []) ∷ []))

@@ -1,16 +1,22 @@
 -- Numbers in the headers of many traces: as a table, and those between two bounds. Traces are counted from 1.
-use Rattle.std.specs.Prelude.{ℕ, ◌+◌, ◌*◌, ◌/◌, ℤ, Bool, not, ◌&&◌, int_lt, List, length, take, drop, map, filter, Option, option_map}
+use Rattle.std.specs.Prelude.{ℕ, ◌+◌, ◌*◌, ◌^◌, ◌≤◌, ◌≡◌, ℤ, Bool, not, ◌&&◌, int_lt, List, length, take, drop, map, filter, Option, option_map}
 use Rattle.std.specs.List.{range_with_len}
 use Rattle.field_map.specs.declared.place.Place.{Place}
 use Rattle.frame_cut.specs.declared.file_head.Head.{Head}
 use Rattle.frame_cut.specs.Traces.{trace_at}
 use Rattle.frame_cut.specs.Volume.{Volume}
 use Rattle.trace_view.specs.Values.{value_of}
+use Rattle.bench_rules.specs.declared.table.Table.TheInside.{Inside}
 use Rattle.bench_rules.specs.ManyTraces.{positions, each_of}
 
--- the numbers cut into rows of this width, the rows counted from a first position on
-abbrev pub rows_from : ℕ → ℕ → List ℤ → List (ℕ × List ℤ)
-rows_from first width xs = map (λ k. (first + k, take width (drop (width * k) xs))) (range_with_len 0 (length xs / width))
+-- so many rows of this width from the numbers, the rows counted from a first position on
+abbrev pub rows_from : (first count width : ℕ) → List ℤ → List (ℕ × List ℤ)
+rows_from first count width xs = map (λ k. (first + k, take width (drop (width * k) xs))) (range_with_len 0 count)
+
+-- a table has all numbers of its rows, and each row a position of a trace
+pub record IsWhole (t : Inside) : Type 0 where
+  pub numbers : length t.numbers.items ≡ t.width * t.count
+  pub last : t.first + t.count ≤ 2 ^ 32
 
 -- the numbers at these places of a trace, where it has all of them
 abbrev pub row_of : Head → List Place → List ℕ → Option (List ℤ)

@@ -4,6 +4,7 @@ pub mod WordLemmas
 pub mod NumberLemmas
 pub mod PlaceLemmas
 pub mod ParseLemmas
+pub mod ListLemmas
 pub mod LineLemmas
 pub mod ScriptLemmas
 pub mod PartLemmas

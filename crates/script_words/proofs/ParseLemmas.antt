@@ -8,8 +8,8 @@ use Rattle.script_words.specs.declared.command.Command.{Command}
 use Rattle.script_words.specs.declared.command.Command.TheVariants.{Apply, Ask}
 use Rattle.script_words.specs.declared.line_fault.LineFault.{LineFault}
 use Rattle.script_words.specs.declared.line_fault.LineFault.TheVariants.{Number, OutOfMemory}
-use Rattle.script_words.specs.Readers.{field_of}
-use Rattle.script_words.specs.Commands.{read_set, read_get, read_bin, read_getbin, read_renumber, IsFieldRead, IsName, HoldsMemory, CommandTakesMemory, IsRead}
+use Rattle.script_words.specs.Readers.{field_of, five}
+use Rattle.script_words.specs.Commands.{read_set, read_get, read_bin, read_getbin, IsFieldRead, IsName, HoldsMemory, CommandTakesMemory, IsRead}
 use Rattle.script_words.specs.Numbers.{position_of, number_of}
 
 -- a command of a field: S03 where the word is none
@@ -79,15 +79,17 @@ module _ (ws : List (List ℕ)) (at : List ℕ) (words : ws ≡ at ∷ []) where
   pub getbin_err : (fault : LineFault) (r : Read) → IsErrAnd r (λ e. e ≡ fault) → IsFieldRead (field_of at) (Err fault) → IsRead (read_getbin ws) r
   getbin_err fault r is h = rw words (field_err (λ o. ok_or (option_map (λ f. Ask (queries.GetBin f)) o) Number) (λ f. Ask (queries.GetBin f)) refl (λ f. refl) (λ f n. n) (field_of at) fault r is h)
 
-module _ (ws : List (List ℕ)) (s t at v w : List ℕ) (a b : ℕ) (x y : ℤ) (words : ws ≡ s ∷ t ∷ at ∷ v ∷ w ∷ []) (from : position_of s ≡ Some a) (to : position_of t ≡ Some b)
-    (first : number_of v ≡ Some x) (step : number_of w ≡ Some y) where
-  abbrev renumber_expected : Option Field → Read
-  renumber_expected o = ok_or (option_map (λ f. Apply (edits.Renumber a b f x y)) o) Number
+-- a command of two positions, a field and two numbers
+module _ (make : ℕ → ℕ → Field → ℤ → ℤ → Command) (ws : List (List ℕ)) (s t at v w : List ℕ) (a b : ℕ) (x y : ℤ) (words : ws ≡ s ∷ t ∷ at ∷ v ∷ w ∷ []) (from : position_of s ≡ Some a) (to : position_of t ≡ Some b)
+    (first : number_of v ≡ Some x) (second : number_of w ≡ Some y) where
+  abbrev five_expected : Option Field → Read
+  five_expected o = ok_or (option_map (λ f. make a b f x y) o) Number
 
-  pub renumber_ok : (f : Field) → IsFieldRead (field_of at) (Ok f) → IsRead (read_renumber ws) (Ok (Apply (edits.Renumber a b f x y)))
-  renumber_ok f h = rw (words, from, to, first, step) (field_ok renumber_expected (λ f. Apply (edits.Renumber a b f x y)) refl (λ f. refl) (field_of at) f h)
+  pub five_ok : (f : Field) → IsFieldRead (field_of at) (Ok f) → IsRead (five position_of position_of field_of number_of number_of make ws) (Ok (make a b f x y))
+  five_ok f h = rw (words, from, to, first, second) (field_ok five_expected (λ f. make a b f x y) refl (λ f. refl) (field_of at) f h)
 
-  pub renumber_err : (fault : LineFault) (r : Read) → IsErrAnd r (λ e. e ≡ fault) → IsFieldRead (field_of at) (Err fault) → IsRead (read_renumber ws) r
-  renumber_err fault r is h = rw (words, from, to, first, step) (field_err renumber_expected (λ f. Apply (edits.Renumber a b f x y)) refl (λ f. refl) (λ f n. n) (field_of at) fault r is h)
+  pub five_err : ((f : Field) → IsName f → HoldsMemory (make a b f x y)) → (fault : LineFault) (r : Read) → IsErrAnd r (λ e. e ≡ fault) → IsFieldRead (field_of at) (Err fault)
+      → IsRead (five position_of position_of field_of number_of number_of make ws) r
+  five_err holds fault r is h = rw (words, from, to, first, second) (field_err five_expected (λ f. make a b f x y) refl (λ f. refl) holds (field_of at) fault r is h)
 
 -- ---- a text that found no memory

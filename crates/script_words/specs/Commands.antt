@@ -1,9 +1,11 @@
 -- The command of a line.
-use Rattle.std.specs.Prelude.{◌≡◌, ◌⊎◌, ℕ, ℤ, not, List, [], ◌∷◌, bytes_eq, codes, Option, Some, None, Result, Ok, Err, if◌then◌else◌}
+use Rattle.std.specs.Prelude.{◌≡◌, ◌⊎◌, ℕ, not, List, [], ◌∷◌, bytes_eq, codes, Option, Some, None, Result, Ok, Err, if◌then◌else◌}
 use Rattle.std.specs.Str.{is_utf8}
 use Rattle.std.specs.Map.{lookup}
 use Rattle.bench_rules.specs.declared.field.Field.{Field}
 use Rattle.bench_rules.specs.declared.field.Field.TheVariants as fields
+use Rattle.bench_rules.specs.declared.operand.Operand.{Operand}
+use Rattle.bench_rules.specs.declared.operand.Operand.TheVariants as operands
 use Rattle.bench_rules.specs.declared.edit.Edit.{Edit}
 use Rattle.bench_rules.specs.declared.edit.Edit.TheVariants as edits
 use Rattle.bench_rules.specs.declared.query.Query.{Query}
@@ -15,7 +17,7 @@ use Rattle.script_words.specs.declared.line_fault.LineFault.TheVariants.{Unknown
 use Rattle.script_words.specs.Words.{words_of, behind_word, text_behind_word, is_note}
 use Rattle.script_words.specs.Numbers.{number_of, position_of, place_of_word}
 use Rattle.script_words.specs.Readers.{Reader, name_of, field_of, alone, one, two, three, five, one_and_text, two_and_numbers}
-use Rattle.script_words.specs.ReportCommands.{report_commands}
+use Rattle.script_words.specs.HeaderCommands.{header_commands}
 
 -- ---- the commands
 
@@ -42,6 +44,10 @@ read_text rest = one_and_text position_of (λ q. Apply (edits.SetText q (text_be
 -- `line B L`
 abbrev pub read_line : Reader Command
 read_line = two position_of position_of (λ block q. Ask (queries.Line block q))
+
+-- `lines B`
+abbrev pub read_lines : Reader Command
+read_lines = one position_of (λ block. Ask (queries.Lines block))
 
 -- `code B`
 abbrev pub read_code : Reader Command
@@ -112,6 +118,7 @@ commands rest =
     ∷ (codes "getbin", read_getbin)
     ∷ (codes "text", read_text rest)
     ∷ (codes "line", read_line)
+    ∷ (codes "lines", read_lines)
     ∷ (codes "code", read_code)
     ∷ (codes "stanzas", read_stanzas)
     ∷ (codes "map", read_map)
@@ -127,7 +134,7 @@ commands rest =
     ∷ (codes "move", read_move)
     ∷ (codes "resize", read_resize)
     ∷ (codes "renumber", read_renumber)
-    ∷ report_commands
+    ∷ header_commands
 
 -- the reader's command, where the word has a reader
 abbrev pub read_by : {C : Type 0} → Option (Reader C) → List (List ℕ) → Result C LineFault
@@ -169,10 +176,20 @@ abbrev pub IsFieldRead : Option Field → Result Field LineFault → Type 0
 IsFieldRead None result = result ≡ Err Number
 IsFieldRead (Some field) result = (result ≡ Ok field) ⊎ ((result ≡ Err OutOfMemory) × IsName field)
 
--- what is read as numbers: S03 for none, else the numbers, or want of memory
-abbrev pub AreNumbersRead : Option (List ℤ) → Result (List ℤ) LineFault → Type 0
-AreNumbersRead None result = result ≡ Err Number
-AreNumbersRead (Some values) result = (result ≡ Ok values) ⊎ (result ≡ Err OutOfMemory)
+-- an operand that is a name holds a text
+abbrev pub OperandHoldsMemory : Operand → Type 0
+OperandHoldsMemory (operands.Number x) = ⊥
+OperandHoldsMemory (operands.Field field) = IsName field
+
+-- what is read as an operand: S03 for none, else the operand, or want of memory for a name
+abbrev pub IsOperandRead : Option Operand → Result Operand LineFault → Type 0
+IsOperandRead None result = result ≡ Err Number
+IsOperandRead (Some operand) result = (result ≡ Ok operand) ⊎ ((result ≡ Err OutOfMemory) × OperandHoldsMemory operand)
+
+-- what is read as a list: S03 for none, else the list, or want of memory
+abbrev pub IsListRead : {X : Type 0} → Option (List X) → Result (List X) LineFault → Type 0
+IsListRead None result = result ≡ Err Number
+IsListRead (Some items) result = (result ≡ Ok items) ⊎ (result ≡ Err OutOfMemory)
 
 -- an edit that holds a text or a list
 abbrev pub EditHoldsMemory : Edit → Type 0
@@ -188,8 +205,9 @@ EditHoldsMemory (edits.Delete p) = ⊥
 EditHoldsMemory (edits.Move a b) = ⊥
 EditHoldsMemory (edits.Resize p count) = ⊥
 EditHoldsMemory (edits.Renumber a b field first step) = IsName field
+EditHoldsMemory (edits.Compute a b field source steps) = Unit {0}
 
--- a query that holds a text
+-- a query that holds a text or a list
 abbrev pub QueryHoldsMemory : Query → Type 0
 QueryHoldsMemory queries.Count = ⊥
 QueryHoldsMemory queries.Info = ⊥
@@ -211,6 +229,11 @@ QueryHoldsMemory (queries.Range quantity) = ⊥
 QueryHoldsMemory queries.Totals = ⊥
 QueryHoldsMemory (queries.Slice k) = ⊥
 QueryHoldsMemory queries.Faults = ⊥
+QueryHoldsMemory (queries.Lines b) = ⊥
+QueryHoldsMemory (queries.Table a b fields) = Unit {0}
+QueryHoldsMemory (queries.Find a b field low high) = IsName field
+QueryHoldsMemory (queries.Header p) = ⊥
+QueryHoldsMemory (queries.Extremes a b) = ⊥
 
 -- a command that holds a text or a list
 abbrev pub HoldsMemory : Command → Type 0

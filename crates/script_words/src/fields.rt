@@ -1,5 +1,5 @@
 // Words that are places, and fields of a header.
-ghost use Rattle.std.specs.Prelude.{◌≡◌, IfOk, IfErr};
+ghost use Rattle.std.specs.Prelude.{◌≡◌, is_some, IfOk, IfErr};
 ghost use Rattle.script_words.specs.Numbers.{place_of_word, place_in};
 ghost use Rattle.script_words.specs.Readers.{field_of};
 ghost use Rattle.script_words.specs.Commands.{IsFieldRead};
@@ -67,4 +67,11 @@ pub(crate) fn field(alloc: Global, word: &str) -> Result<Field, LineFault>
     } else {
         Ok(Field::Name(text_of(alloc, word)?))
     }
+}
+
+/// Whether the word is a field.
+pub(crate) fn is_field(word: &str) -> bool
+    ensures { result ≡ is_some (field_of word.now) }
+{
+    !word.as_bytes().starts_with(b"@") || place(word).is_some()
 }

@@ -9,7 +9,9 @@
 #![tactic(auto)]
 
 mod command;
+mod compute_command;
 mod fields;
+mod header_commands;
 mod line_fault;
 mod lines;
 mod numbers;

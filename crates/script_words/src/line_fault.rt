@@ -10,7 +10,7 @@ pub enum LineFault {
     /// S02: too few or too many words.
     #[error("S02 words")]
     Words,
-    /// S03: a word that has to be a number or a place is not one; the words are tried from left to
+    /// S03: a word that has to be a number, a place, a kind of value or an operator is not one; the words are tried from left to
     /// right.
     #[error("S03 number")]
     Number,

@@ -1,6 +1,6 @@
 // Words that are numbers.
 ghost use Rattle.std.specs.Prelude.{◌≡◌, ◌≤◌, ◌^◌, neg_ℤ, pos};
-ghost use Rattle.script_words.specs.Numbers.{natural_up_to, number_of, position_of};
+ghost use Rattle.script_words.specs.Numbers.{natural_up_to, number_of, position_of, is_to_be_number};
 
 // From here on one more digit goes past 2^127, and below it a digit more fits 128 bits.
 const ROOM_FOR_A_DIGIT: u128 = 1 << 124;
@@ -43,6 +43,16 @@ pub(crate) fn position(word: &str) -> Option<u32>
         return None;
     }
     Some(value as u32)
+}
+
+/// Whether the word is to be a number: it begins with a digit, `-` or `+`.
+pub(crate) fn is_number_like(word: &str) -> bool
+    ensures { result ≡ is_to_be_number word.now }
+{
+    match word.as_bytes().first() {
+        Some(byte) => byte.is_ascii_digit() || *byte == b'-' || *byte == b'+',
+        None => false,
+    }
 }
 
 fn negative(magnitude: u128) -> i128

@@ -3,13 +3,13 @@ ghost use Rattle.std.specs.Prelude.{◌≡◌, ◌≢◌, ◌∷◌, [], length,
 ghost use Rattle.script_words.specs.Words.{words_of};
 ghost use Rattle.script_words.specs.declared.command.Command.TheVariants.{Ask as ask};
 ghost use Rattle.script_words.specs.Readers.{alone};
-ghost use Rattle.script_words.specs.Commands.{command_of, read_set, read_get, read_bin, read_getbin, read_text, read_line, read_code, read_map, read_unmap, read_sample, IsRead, IsParsed};
+ghost use Rattle.script_words.specs.Commands.{command_of, read_set, read_get, read_bin, read_getbin, read_text, read_line, read_lines, read_code, read_map, read_unmap, read_sample, IsRead, IsParsed};
 
 use crate::command::Command;
 use crate::fields::{field, place, text_of};
+use crate::header_commands::of_headers;
 use crate::line_fault::LineFault;
 use crate::numbers::{number, position};
-use crate::report_commands::report;
 use crate::trace_commands::{blank, copy, delete, move_trace, patch, renumber, resize};
 use crate::words::Words;
 use bench_rules::{Edit, Query};
@@ -20,9 +20,9 @@ use std::str;
 /// dropped; `Ok(None)` where it has no words, or its first word begins with `#`.
 ///
 /// Words are separated by blanks and tabs. A line that is not UTF-8 is S04, a first word that is no
-/// command S01, too few or too many words S02, and a word that has to be a number, a place or a
-/// kind of value and is none S03; the first of these that holds is told. Takes memory only where
-/// the command holds a text, a name or a list of numbers, and is E11 where that was refused.
+/// command S01, too few or too many words S02, and a word that has to be a number, a place, a kind
+/// of value or an operator and is none S03; the first of these that holds is told. Takes memory
+/// only where the command holds a text, a name or a list, and is E11 where that was refused.
 pub fn parse_line(alloc: Global, line: &[u8]) -> Result<Option<Command>, LineFault>
     ensures { IsParsed line.now result }
 {
@@ -48,6 +48,7 @@ fn command(alloc: Global, word: &str, words: Words) -> Result<Command, LineFault
         "getbin" => getbin(alloc, words),
         "text" => text(alloc, words),
         "line" => line(words),
+        "lines" => lines(words),
         "code" => code(words),
         "stanzas" => query_alone(words, Query::Stanzas),
         "map" => map(alloc, words),
@@ -63,7 +64,7 @@ fn command(alloc: Global, word: &str, words: Words) -> Result<Command, LineFault
         "move" => move_trace(words),
         "resize" => resize(words),
         "renumber" => renumber(alloc, words),
-        _ => report(word, words),
+        _ => of_headers(alloc, word, words),
     }
 }
 
@@ -119,6 +120,14 @@ fn line(words: Words) -> Result<Command, LineFault>
     let b = position(b).ok_or(LineFault::Number)?;
     let q = position(q).ok_or(LineFault::Number)?;
     Ok(Command::Ask(Query::Line(b, q)))
+}
+
+fn lines(words: Words) -> Result<Command, LineFault>
+    ensures { result ≡ read_lines (words_of words.entry) }
+{
+    let b = one(words).ok_or(LineFault::Words)?;
+    let b = position(b).ok_or(LineFault::Number)?;
+    Ok(Command::Ask(Query::Lines(b)))
 }
 
 fn code(words: Words) -> Result<Command, LineFault>

@@ -3,7 +3,7 @@ ghost use Rattle.std.specs.Prelude.{◌≡◌, is_some, if◌then◌else◌};
 ghost use Rattle.script_words.specs.declared.line_fault.LineFault.TheVariants.{OutOfMemory as no_memory, Number as no_number};
 ghost use Rattle.script_words.specs.Words.{words_of};
 ghost use Rattle.script_words.specs.Readers.{numbers_of};
-ghost use Rattle.script_words.specs.Commands.{read_patch, read_blank, read_copy, read_delete, read_move, read_resize, read_renumber, AreNumbersRead, IsRead};
+ghost use Rattle.script_words.specs.Commands.{read_patch, read_blank, read_copy, read_delete, read_move, read_resize, read_renumber, IsListRead, IsRead};
 
 use crate::command::Command;
 use crate::fields::field;
@@ -111,7 +111,7 @@ fn fault_without_memory(rest: &str) -> LineFault
 // The numbers that the words of the text are. Takes memory. S03 where a word is no number, else
 // E11.
 fn numbers(alloc: Global, text: &str) -> Result<Items<i128>, LineFault>
-    ensures { AreNumbersRead (numbers_of (words_of text.now)) result }
+    ensures { IsListRead (numbers_of (words_of text.now)) result }
 {
     let mut values = Vec::new(alloc);
     let mut words = Words::new(text);

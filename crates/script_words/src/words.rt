@@ -1,5 +1,5 @@
 // The words of a line.
-ghost use Rattle.std.specs.Prelude.{◌≡◌, ◌∷◌, [], not, IfSome, IfNone, position};
+ghost use Rattle.std.specs.Prelude.{◌≡◌, ◌∷◌, [], length, min, not, IfSome, IfNone, position};
 ghost use Rattle.std.specs.List.{position_or_len};
 ghost use Rattle.script_words.specs.Words.{is_gap, words_of, behind_word, without_one_gap};
 
@@ -85,4 +85,17 @@ fn word_length(text: &[u8]) -> usize
     ensures { result ≡ position_or_len is_gap text.now }
 {
     first_gap(text).unwrap_or(text.len())
+}
+
+/// The number of words of the text, up to `most`.
+pub(crate) fn number_of_words(text: &str, most: usize) -> usize
+    ensures { result ≡ min most (length (words_of text.now)) }
+{
+    let mut words = Words::new(text);
+    for count in 0..most {
+        if words.next().is_none() {
+            return count;
+        }
+    }
+    most
 }

@@ -1,5 +1,6 @@
 pub mod TextLemmas
 pub mod OutLemmas
+pub mod TableTextLemmas
 pub mod FullLineLemmas
 pub mod AnswerLineLemmas
 pub mod PlainLemmas

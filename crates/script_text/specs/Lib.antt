@@ -1,5 +1,6 @@
 pub mod Texts
 pub mod RefusalTexts
+pub mod HeaderTexts
 pub mod AnswerTexts
 pub mod Replies
 pub mod Held
@@ -7,4 +8,5 @@ pub mod Devices
 pub mod Printing
 pub mod ReportTexts
 pub mod ReportExamples
+pub mod HeaderExamples
 pub mod FullLines

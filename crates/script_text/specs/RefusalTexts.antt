@@ -88,6 +88,7 @@ refusal_text (refusals.Map fault) = map_fault_text fault
 refusal_text refusals.TooLarge = codes "E09 too large"
 refusal_text refusals.TooManyTraces = codes "E10 too many traces"
 refusal_text refusals.OutOfMemory = codes "E11 out of memory"
+refusal_text (refusals.ZeroDivisor p) = with_blanks (codes "E13 zero divisor trace" ∷ decimal p ∷ [])
 
 -- what is printed for a refused query
 abbrev pub ask_fault_text : AskFault → List ℕ

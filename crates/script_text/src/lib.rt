@@ -4,6 +4,7 @@
 #![tactic(auto)]
 
 mod answer_texts;
+mod header_texts;
 mod laws;
 mod list_texts;
 mod long_texts;
@@ -12,6 +13,7 @@ mod refusal_texts;
 mod reply;
 mod report_texts;
 mod script_fault;
+mod table_texts;
 mod text_buffer;
 mod text_from_end;
 mod writing;

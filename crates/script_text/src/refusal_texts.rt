@@ -72,6 +72,7 @@ pub(crate) fn refusal_line(refusal: Refusal) -> TextBuffer
         Refusal::TooLarge => line.push(b"E09 too large"),
         Refusal::TooManyTraces => line.push(b"E10 too many traces"),
         Refusal::OutOfMemory => line.push(b"E11 out of memory"),
+        Refusal::ZeroDivisor(p) => line.push_numbered(b"E13 zero divisor trace ", p),
     }
     line.push(b"\n");
     line

@@ -56,7 +56,7 @@ names() {
 }
 same 'the names of the manual' "$(names)" "$(sed -n 's/^| `\([a-z0-9_]*\)` | `\(@[^`]*\)` | \([^|]*\) |.*/\1 \2 \3/p' "$top/docs/MANUAL.md" | sort)"
 [ "$(names | wc -l)" -ge 126 ] && tell 'there are names' ok || tell 'there are names' "$(names | wc -l)"
-commands() { cat "$top/crates/script_text/specs/Commands.antt" "$top/crates/script_text/specs/ReportCommands.antt" | sed -n 's/.*(codes "\([a-z]*\)", .*/\1/p' | sort; }
+commands() { cat "$top/crates/script_words/specs/"*Commands.antt | sed -n 's/.*(codes "\([a-z]*\)", .*/\1/p' | sort; }
 same 'the commands of the manual' "$(commands)" "$(sed -n 's/^### \([a-z]*\).*/\1/p' "$top/docs/MANUAL.md" | sort)"
 [ "$(commands | wc -l)" -ge 30 ] && tell 'there are commands' ok || tell 'there are commands' "$(commands | wc -l)"
 # a fault's words: its code, `trace` where it is of a trace, and the words between its numbers, which are capitals in the manual

@@ -13,3 +13,4 @@ pub mod RenumberLemmas
 mod CountedLemmas
 pub mod LiveLemmas
 pub mod LetterLemmas
+mod TableLemmas

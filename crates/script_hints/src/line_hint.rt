@@ -9,7 +9,7 @@ use crate::number_hint::number_hint;
 use crate::words::Words;
 use bench_rules::{AskFault, Refusal};
 use field_map::MapFault;
-use script_text::LineFault;
+use script_words::LineFault;
 
 /// What may be meant by a refused line.
 pub(crate) fn hint_of(note: &Note) -> Hint {

@@ -2,7 +2,7 @@
 ghost use Rattle.std.specs.Prelude.{◌≡◌, ◌≤◌, length, take, not, IsTrue};
 
 use crate::fault::Fault;
-use script_text::LineFault;
+use script_words::LineFault;
 
 // So many bytes hold 60 characters of UTF-8, and the words that a hint looks at.
 const KEPT: usize = 240;

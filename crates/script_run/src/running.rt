@@ -12,7 +12,8 @@ use crate::told::{Told, write_reply};
 use bench_core::Bench;
 use device_io::{Sink, WriteFault};
 use script_hints::{Notes, fault_of};
-use script_text::{Command, Lines, OutBuffer, Reply, parse_line};
+use script_text::{OutBuffer, Reply};
+use script_words::{Command, Lines, parse_line};
 use std::alloc::Global;
 use std::io::Write;
 

@@ -8,7 +8,8 @@ use num_order::Kind;
 use range_stats::Quantity;
 use script_hints::Notes;
 use script_run::{Options, RunEnd, run};
-use script_text::{Command, LineFault, ScriptFault, parse_line};
+use script_text::ScriptFault;
+use script_words::{Command, LineFault, parse_line};
 use std::alloc::Global;
 use std::test::Fail;
 

@@ -1,0 +1,3 @@
+pub mod EachLemmas
+pub mod RowsLemmas
+pub mod FoundLemmas

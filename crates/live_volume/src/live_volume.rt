@@ -25,7 +25,7 @@ use bench_rules::{
 };
 use device_io::{Sink, Source};
 use edit_overlay::{Overlay, SaveFault};
-use field_map::{FieldMap, Place, is_geometry, standard};
+use field_map::{FieldMap, Place, is_geometry, named};
 use frame_cut::{Limits, LoadFault, Reading};
 use live_reports::LiveReports;
 use num_order::write;
@@ -133,7 +133,7 @@ impl LiveVolume {
             Field::Place(place) => Some(*place),
             Field::Name(name) => match self.fields.place(name.as_str()) {
                 Some(place) => Some(place),
-                None => standard(name.as_str()),
+                None => named(name.as_str()),
             },
         }
     }

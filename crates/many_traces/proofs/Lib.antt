@@ -1,3 +1,4 @@
 pub mod EachLemmas
 pub mod RowsLemmas
 pub mod FoundLemmas
+mod NameLemmas

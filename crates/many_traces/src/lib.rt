@@ -7,8 +7,12 @@
 #![tactic(auto)]
 
 mod finds;
+mod headers;
+mod names;
 mod row;
 mod tables;
 
 pub use crate::finds::find;
+pub use crate::headers::header;
+pub use crate::names::named_places;
 pub use crate::tables::table;

@@ -6,12 +6,15 @@
 //! refused for want of it, E11, only where no trace lacks a place, E03.
 #![tactic(auto)]
 
+mod all_extremes;
 mod finds;
 mod headers;
 mod names;
 mod row;
+mod seen;
 mod tables;
 
+pub use crate::all_extremes::extremes;
 pub use crate::finds::find;
 pub use crate::headers::header;
 pub use crate::names::named_places;

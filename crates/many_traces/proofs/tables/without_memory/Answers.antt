@@ -1,4 +1,4 @@
-use Rattle.std.proofs.Common.{◌≡◌, ◌∙◌, sym, arith, rules}
+use Rattle.std.proofs.Common.{◌∙◌, sym, arith, rules}
 use Rattle.many_traces.proofs.RowsLemmas.{left_goes_on}
 use Rattle.many_traces.proofs.tables.without_memory.Goals as goal
 

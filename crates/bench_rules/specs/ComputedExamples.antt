@@ -1,6 +1,7 @@
 -- Computed fields, worked by hand.
 use Rattle.std.specs.Prelude.{◌≡◌, ◌-◌, ◌^◌, pos, negsuc, [], ◌∷◌, None, Some, Ok, Err, codes, refl}
 use Rattle.field_map.specs.Binding.{geometry_at_load}
+use Rattle.field_map.specs.KnownNames.{named_place}
 use Rattle.field_map.specs.Pairs.{signed_at}
 use Rattle.frame_cut.specs.declared.reading.Reading.TheVariants.{AsWritten}
 use Rattle.frame_cut.specs.SmallFiles.{wide_limits, volume_plain, file_plain, with_bytes_at}
@@ -78,7 +79,9 @@ just-fits = refl
 
 -- a name that is not there comes before the place that a trace lacks, and that before the division
 pub no-field : first_refusal loaded (Compute 1 3 (field.Name (codes "ext_count")) (operand.Number (pos 1)) ((Over, operand.Field (field.Name (codes "nothing"))) ∷ [])) ≡ Some refusals.NoField
+unfolding named_place
 no-field = refl
 
 pub no-place : first_refusal loaded (Compute 1 3 (field.Name (codes "inline")) (operand.Number (pos 1)) ((Over, operand.Number (pos 0)) ∷ (Plus, operand.Field (field.Name (codes "ext_count"))) ∷ [])) ≡ Some refusals.NoPlace
+unfolding named_place
 no-place = refl

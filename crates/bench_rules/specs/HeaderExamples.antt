@@ -1,6 +1,7 @@
 -- Tables, finds, all headers of a trace and extremes, worked by hand.
 use Rattle.std.specs.Prelude.{◌≡◌, pos, [], ◌∷◌, Ok, Err, codes, refl}
 use Rattle.field_map.specs.Binding.{geometry_at_load}
+use Rattle.field_map.specs.KnownNames.{named_place}
 use Rattle.field_map.specs.Pairs.{Pairs, signed_at, unsigned_at, unsigned_in_first_extension}
 use Rattle.frame_cut.specs.declared.reading.Reading.TheVariants.{AsWritten}
 use Rattle.frame_cut.specs.SmallFiles.{wide_limits, head_plain, volume_plain, trace_plain_2}
@@ -27,15 +28,19 @@ table-two = refl
 
 -- trace 4 comes before the unknown name, and the name before the place that no trace has
 pub table-no_trace : answer loaded (Table 1 4 (field.Name (codes "nothing") ∷ [])) ≡ Err (faults.NoTrace 4 3)
+unfolding named_place
 table-no_trace = refl
 
 pub table-behind : answer loaded (Table 3 2 (field.Name (codes "nothing") ∷ [])) ≡ Err (faults.NoTrace 2 3)
+unfolding named_place
 table-behind = refl
 
 pub table-no_field : answer loaded (Table 1 3 (field.Name (codes "ext_count") ∷ field.Name (codes "nothing") ∷ [])) ≡ Err faults.NoField
+unfolding named_place
 table-no_field = refl
 
 pub table-no_place : answer loaded (Table 1 3 (field.Name (codes "inline") ∷ field.Name (codes "ext_count") ∷ [])) ≡ Err faults.NoPlace
+unfolding named_place
 table-no_place = refl
 
 -- three traces are looked at once, and none for a name that is not there
@@ -43,6 +48,7 @@ pub table-looks : query_looks loaded [] (Table 1 3 (field.Name (codes "inline") 
 table-looks = refl
 
 pub table-no_looks : query_looks loaded [] (Table 1 3 (field.Name (codes "nothing") ∷ [])) ≡ 0
+unfolding named_place
 table-no_looks = refl
 
 pub find-some : answer loaded (Find 1 3 (field.Name (codes "crossline")) (pos 22) (pos 1000)) ≡ Ok (answers.Found ((2, pos 22) ∷ (3, pos 23) ∷ []))

@@ -4,7 +4,7 @@ use Rattle.std.specs.List.{list_any}
 use Rattle.std.specs.Ordering.{int_eq}
 use Rattle.field_map.specs.declared.place.Place.{Place}
 use Rattle.field_map.specs.Pairs.{Pairs}
-use Rattle.field_map.specs.StandardNames.{standard_names}
+use Rattle.field_map.specs.HeaderNames.{header_names}
 use Rattle.frame_cut.specs.declared.file_head.Head.{Head}
 use Rattle.frame_cut.specs.Traces.{trace_at}
 use Rattle.frame_cut.specs.Volume.{Volume}
@@ -13,9 +13,9 @@ use Rattle.trace_record.specs.Statistics.{least_of, greatest_of}
 use Rattle.bench_rules.specs.declared.extremes.Extremes.{Extremes}
 use Rattle.bench_rules.specs.ManyTraces.{positions}
 
--- the names of the standard's trace header, in the order of the manual, then the bound names in the map's order
-abbrev pub named_places : Pairs → Pairs
-named_places fields = standard_names ++ fields
+-- the names of the standard's trace header, in the order of bytes, then the bound names in the map's order
+unfoldable pub named_places : Pairs → Pairs
+named_places fields = header_names ++ fields
 
 -- a name with what there is for it
 abbrev pub with_name : {X : Type 0} → List ℕ → Option X → Option (List ℕ × X)

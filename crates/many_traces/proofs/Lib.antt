@@ -1,0 +1,5 @@
+pub mod EachLemmas
+pub mod RowsLemmas
+pub mod FoundLemmas
+mod NameLemmas
+mod SeenLemmas

@@ -11,6 +11,7 @@ pub mod ResizingLemmas
 pub mod ResizeLemmas
 pub mod RenumberLemmas
 mod CountedLemmas
+pub mod ComputedLemmas
 pub mod LiveLemmas
 pub mod LetterLemmas
 mod TableLemmas

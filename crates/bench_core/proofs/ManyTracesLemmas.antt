@@ -18,24 +18,24 @@ use Rattle.bench_rules.specs.Refused.{first_refusal, with_value}
 use Rattle.bench_rules.specs.State.{State}
 use Rattle.bench_rules.specs.Steps.{IsAfter}
 use Rattle.bench_rules.specs.TraceEdits.{counted, bytes_after_renumber}
-use Rattle.bench_rules.proofs.RenumberLemmas.{valued, renumbered, with_one, with_traces, renumber_accepted, renumber_no_field, made_from}
+use Rattle.bench_rules.proofs.RenumberLemmas.{valued, with_values, with_one, with_traces, renumber_accepted, renumber_no_field, made_from}
 use Rattle.live_volume.specs.Held.{any_moves}
 
 -- ---- the traces
 
 -- those in front of the first that is changed stay
-trace-before : (h : Head) (place : Place) (value : ℕ → ℤ) (k n : ℕ) (ts : List (List ℕ)) (p : ℕ) → 1 ≤ p → p < k → get_or (renumbered h place value k n ts) (p - 1) [] ≡ get_or ts (p - 1) []
+trace-before : (h : Head) (place : Place) (value : ℕ → ℤ) (k n : ℕ) (ts : List (List ℕ)) (p : ℕ) → 1 ≤ p → p < k → get_or (with_values h place value k n ts) (p - 1) [] ≡ get_or ts (p - 1) []
 trace-before h place value k zero ts p low less = refl
 trace-before h place value k (suc n) ts p low less =
     trace-before h place value (k + 1) n (with_one h ts k place (value k)) p low (omega (arith, less))
     ∙ get_or-set_other ts (k - 1) (p - 1) (with_value h (get_or ts (k - 1) []) place (value k)) [] (λ e. omega (arith, e, low, less))
 
 -- each that is changed has its value
-trace-renumbered : (h : Head) (place : Place) (value : ℕ → ℤ) (k n : ℕ) (ts : List (List ℕ)) (p : ℕ) → 1 ≤ k → k ≤ p → p < k + n → k - 1 + n ≤ length ts
-    → get_or (renumbered h place value k n ts) (p - 1) [] ≡ with_value h (get_or ts (p - 1) []) place (value p)
-trace-renumbered h place value k zero ts p low from less last = absurd (omega (arith, from, less))
-trace-renumbered h place value k (suc n) ts p low from less last =
-    by (λ behind. trace-renumbered h place value (k + 1) n (with_one h ts k place (value k)) p (omega arith) behind (omega (arith, less)) (omega (arith, low, last, length-set ts (k - 1) (with_value h (get_or ts (k - 1) []) place (value k)))))
+trace-with_value : (h : Head) (place : Place) (value : ℕ → ℤ) (k n : ℕ) (ts : List (List ℕ)) (p : ℕ) → 1 ≤ k → k ≤ p → p < k + n → k - 1 + n ≤ length ts
+    → get_or (with_values h place value k n ts) (p - 1) [] ≡ with_value h (get_or ts (p - 1) []) place (value p)
+trace-with_value h place value k zero ts p low from less last = absurd (omega (arith, from, less))
+trace-with_value h place value k (suc n) ts p low from less last =
+    by (λ behind. trace-with_value h place value (k + 1) n (with_one h ts k place (value k)) p (omega arith) behind (omega (arith, less)) (omega (arith, low, last, length-set ts (k - 1) (with_value h (get_or ts (k - 1) []) place (value k)))))
     (eqb k p) refl
   where
     u : List ℕ
@@ -43,12 +43,12 @@ trace-renumbered h place value k (suc n) ts p low from less last =
 
     -- what holds of the rest
     Again : Type 0
-    Again = k + 1 ≤ p → get_or (renumbered h place value (k + 1) n (with_one h ts k place (value k))) (p - 1) [] ≡ with_value h (get_or (with_one h ts k place (value k)) (p - 1) []) place (value p)
+    Again = k + 1 ≤ p → get_or (with_values h place value (k + 1) n (with_one h ts k place (value k))) (p - 1) [] ≡ with_value h (get_or (with_one h ts k place (value k)) (p - 1) []) place (value p)
 
-    by : Again → (b : Bool) → eqb k p ≡ b → get_or (renumbered h place value (k + 1) n (with_one h ts k place (value k))) (p - 1) [] ≡ with_value h (get_or ts (p - 1) []) place (value p)
+    by : Again → (b : Bool) → eqb k p ≡ b → get_or (with_values h place value (k + 1) n (with_one h ts k place (value k))) (p - 1) [] ≡ with_value h (get_or ts (p - 1) []) place (value p)
     by again true e =
         let same : k ≡ p = eqb-true k p e in
-        subst (λ (q : ℕ). get_or (renumbered h place value (k + 1) n (with_one h ts k place (value k))) (q - 1) [] ≡ with_value h (get_or ts (q - 1) []) place (value q)) same
+        subst (λ (q : ℕ). get_or (with_values h place value (k + 1) n (with_one h ts k place (value k))) (q - 1) [] ≡ with_value h (get_or ts (q - 1) []) place (value q)) same
         (trace-before h place value (k + 1) n (with_one h ts k place (value k)) k low (omega arith)
         ∙ get_or-set_same ts (k - 1) u [] (omega (arith, low, last)))
     by again false e =
@@ -109,13 +109,13 @@ numbers_of_many old new a b f first step kept cut none after = by (place_in_trac
         let h : Head = v.head in
         let r = renumber_accepted old a b f first step none in
         let m = made_from old a b f first step place cut e none in
-        let ts : List (List ℕ) = renumbered h place value a (b + 1 - a) v.traces in
+        let ts : List (List ℕ) = with_values h place value a (b + 1 - a) v.traces in
         let w : Volume = (with_traces old ts).volume in
         let there : IsCut (bytes_after_renumber v a b place first step) old.reading old.limits new.volume = rw e at after.volume in
         let here : IsCut (bytes_after_renumber v a b place first step) old.reading old.limits w = subst (λ (file : List ℕ). IsCut file old.reading old.limits w) m.bytes m.read in
         let same : new.volume ≡ w = at_most_one_cut (bytes_after_renumber v a b place first step) old.reading old.limits new.volume w there here in
         let each : (p : ℕ) → a ≤ p → p < a + (b + 1 - a) → trace_at new.volume p ≡ with_value h (trace_at v p) place (value p) =
-        λ p low less. ap (λ (u : Volume). trace_at u p) same ∙ trace-renumbered h place value a (b + 1 - a) v.traces p r.low low less (omega (arith, r.low, r.high, r.last)) in
+        λ p low less. ap (λ (u : Volume). trace_at u p) same ∙ trace-with_value h place value a (b + 1 - a) v.traces p r.low low less (omega (arith, r.low, r.high, r.last)) in
         let moved : any_moves old new a b ≡ list_any (moved_by old place value) (range_with_len a (b + 1 - a)) =
         any_alike _ _ a (b + 1 - a) (λ p low less. ap (λ (t : List ℕ). not (same_cell h old.fields (trace_at v p) t)) (each p low less)) in
         rw e (ap (λ (c : Bool). cond c [] kept) moved ∙ sym (kept_sets old place value a (b + 1 - a) kept))

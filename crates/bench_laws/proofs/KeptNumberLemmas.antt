@@ -17,7 +17,7 @@ use Rattle.bench_rules.specs.Reports.{slice_in}
 use Rattle.bench_rules.specs.State.{State}
 use Rattle.bench_rules.specs.Steps.{IsAfter}
 use Rattle.bench_rules.specs.TraceEdits.{counted}
-use Rattle.bench_rules.proofs.RenumberLemmas.{IsRead, IsAlike, alike_first, with_traces, with_one, one_value, renumbered, valued, accepted_from}
+use Rattle.bench_rules.proofs.RenumberLemmas.{IsRead, IsAlike, alike_first, with_traces, with_one, one_value, with_values, valued, accepted_from}
 use Rattle.bench_rules.proofs.SetLemmas.{Accepted}
 use Rattle.bench_laws.proofs.KeptSetLemmas.{Has, slice_after, set_stays}
 use Rattle.bench_laws.proofs.RenumberingLemmas.{one_set, unplaced, counted_traces, cut_counted}
@@ -48,7 +48,7 @@ kept_alike s ts k f place x kept e a =
 
 slices_from : (s : State) (f : Field) (place : Place) (value : ℕ → ℤ) (k n : ℕ) (ts : List (List ℕ)) → place_in_trace s.fields f ≡ Some place → IsAlike s.volume.traces ts k → IsRead (with_traces s ts)
     → ((i : ℕ) → i < n → Accepted s.volume (k + i) place (value (k + i))) → (kept : List ℕ) (j : ℕ) → Has j (kept_after_sets s (Some place) (valued value k n) kept)
-    → slice_in (with_traces s (renumbered s.volume.head place value k n ts)) j ≡ slice_in (with_traces s ts) j
+    → slice_in (with_traces s (with_values s.volume.head place value k n ts)) j ≡ slice_in (with_traces s ts) j
 slices_from s f place value k zero ts e a cut ok kept j any = refl
 slices_from s f place value k (suc n) ts e a cut ok kept j any =
     let here : k + 0 ≡ k = omega arith in

@@ -14,7 +14,7 @@ use Rattle.bench_rules.specs.State.{State}
 use Rattle.bench_rules.specs.Steps.{IsAfter, StepUnless, Step, Steps}
 use Rattle.bench_rules.specs.TraceEdits.{counted, numbers, bytes_after_renumber}
 use Rattle.bench_rules.proofs.HeaderEditLemmas.{same_refused, same_after}
-use Rattle.bench_rules.proofs.RenumberLemmas.{IsRead, IsAlike, alike_first, with_traces, with_one, one_value, renumbered, valued, made_from, accepted_from, renumber_accepted, renumber_no_field}
+use Rattle.bench_rules.proofs.RenumberLemmas.{IsRead, IsAlike, alike_first, with_traces, with_one, one_value, with_values, valued, made_from, accepted_from, renumber_accepted, renumber_no_field}
 use Rattle.bench_rules.proofs.SetLemmas.{Accepted, not_refused}
 use Rattle.bench_laws.specs.NumberLaws.{RenumberIsItsSets, sets_of, all_done}
 
@@ -43,7 +43,7 @@ one_set s ts k f place x e ok after =
 
 steps_from : (s : State) (f : Field) (place : Place) (value : ℕ → ℤ) (k n : ℕ) (ts : List (List ℕ)) → place_in_trace s.fields f ≡ Some place → IsAlike s.volume.traces ts k → IsRead (with_traces s ts)
     → ((i : ℕ) → i < n → Accepted s.volume (k + i) place (value (k + i)))
-    → Steps (with_traces s ts) (sets_of f (valued value k n)) (all_done (valued value k n)) (with_traces s (renumbered s.volume.head place value k n ts))
+    → Steps (with_traces s ts) (sets_of f (valued value k n)) (all_done (valued value k n)) (with_traces s (with_values s.volume.head place value k n ts))
 steps_from s f place value k zero ts e a cut ok = refl
 steps_from s f place value k (suc n) ts e a cut ok =
     let here : k + 0 ≡ k = omega arith in
@@ -66,7 +66,7 @@ unplaced s a b f first step e none =
 
 -- the traces with each value over the place
 abbrev pub counted_traces : State → (a b : ℕ) → Place → (first step : ℤ) → List (List ℕ)
-counted_traces s a b place first step = renumbered s.volume.head place (λ p. counted first step (p - a)) a (b + 1 - a) s.volume.traces
+counted_traces s a b place first step = with_values s.volume.head place (λ p. counted first step (p - a)) a (b + 1 - a) s.volume.traces
 
 -- their volume is the cut of the bytes after the edit
 pub cut_counted : (s : State) (a b : ℕ) (f : Field) (first step : ℤ) (place : Place) → IsRead s → place_in_trace s.fields f ≡ Some place → first_refusal s (Renumber a b f first step) ≡ None

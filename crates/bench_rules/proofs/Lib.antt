@@ -9,6 +9,8 @@ pub mod TraceStepLemmas
 pub mod SpliceLemmas
 pub mod ResizingLemmas
 pub mod ResizeLemmas
+pub mod ManyValueLemmas
+pub mod FirstLemmas
 pub mod RenumberLemmas
 mod CountedLemmas
 pub mod ComputedLemmas

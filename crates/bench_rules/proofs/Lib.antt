@@ -14,6 +14,7 @@ pub mod FirstLemmas
 pub mod RenumberLemmas
 mod CountedLemmas
 pub mod ComputedLemmas
+pub mod ComputeLemmas
 pub mod LiveLemmas
 pub mod LetterLemmas
 mod TableLemmas

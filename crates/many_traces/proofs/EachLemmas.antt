@@ -1,5 +1,5 @@
 -- What each of some positions gives, one after another.
-use Rattle.std.proofs.Common.{◌≡◌, ℕ, zero, suc, ◌+◌, ◌-◌, ◌<◌, ◌≤◌, Bool, true, false, List, length, drop, get_or, [], ◌∷◌, ◌++◌, Option, Some, None, refl, sym, ap, ◌∙◌, arith}
+use Rattle.std.proofs.Common.{◌≡◌, ℕ, suc, ◌+◌, ◌-◌, ◌<◌, ◌≤◌, true, false, List, length, drop, get_or, [], ◌∷◌, ◌++◌, Option, Some, None, refl, sym, ap, ◌∙◌, arith}
 use Rattle.std.proofs.Math.ListN.{drop_of_length-le}
 use Rattle.std.proofs.lemmas.List.{append_assoc, append-nil, drop_more}
 use Rattle.std.specs.Prelude.{option_map, option_and_then, is_some}
@@ -73,3 +73,26 @@ left_decides {B = B} f x xs e = by (f x) (each_of f xs) e
     by None ys e = absurd cc
     by (Some y) None e = refl
     by (Some y) (Some ys) e = refl
+
+-- two steps for each are the second step for what the first gives
+through : {A B C : Type 0} (f : A → Option B) (g : B → Option C) (xs : List A) → each_of (λ x. option_and_then g (f x)) xs ≡ option_and_then (λ ys. each_of g ys) (each_of f xs)
+through f g [] = refl
+through {B = B} {C = C} f g (x ∷ xs) =
+    ap (λ o. option_and_then (λ z. option_map (λ zs. z ∷ zs) o) (option_and_then g (f x))) (through f g xs) ∙ by (f x) (each_of f xs)
+  where
+    none : (o : Option C) → option_and_then {U = List C} (λ z. option_map (λ zs. z ∷ zs) None) o ≡ None
+    none None = refl
+    none (Some z) = refl
+
+    by : (y : Option B) (us : Option (List B)) → option_and_then (λ z. option_map (λ zs. z ∷ zs) (option_and_then (λ ys. each_of g ys) us)) (option_and_then g y)
+        ≡ option_and_then (λ ys. each_of g ys) (option_and_then (λ y. option_map (λ ys. y ∷ ys) us) y)
+    by None us = refl
+    by (Some y) None = none (g y)
+    by (Some y) (Some ys) = refl
+
+pub each_through : {A B C : Type 0} (f : A → Option B) (g : B → Option C) (xs : List A) (ys : List B) → each_of f xs ≡ Some ys → each_of (λ x. option_and_then g (f x)) xs ≡ each_of g ys
+each_through f g xs ys e = through f g xs ∙ ap (λ o. option_and_then (λ ys. each_of g ys) o) e
+
+-- where item i gives something, those behind it decide
+pub list_left : {A B : Type 0} (f : A → Option B) (xs : List A) (i : ℕ) (d : A) → i < length xs → is_some (f (get_or xs i d)) ≡ true → is_some (each_of f (drop i xs)) ≡ is_some (each_of f (drop (i + 1) xs))
+list_left f xs i d below e = ap (λ ys. is_some (each_of f ys)) (drop_more xs i d below) ∙ left_decides f (get_or xs i d) (drop (i + 1) xs) e

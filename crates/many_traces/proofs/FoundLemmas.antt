@@ -7,8 +7,7 @@ use Rattle.field_map.specs.declared.place.Place.{Place}
 use Rattle.frame_cut.specs.Traces.{trace_at}
 use Rattle.frame_cut.specs.Volume.{Volume}
 use Rattle.trace_view.specs.Values.{value_of}
-use Rattle.bench_rules.specs.declared.ask_fault.AskFault.{AskFault}
-use Rattle.bench_rules.specs.declared.ask_fault.AskFault.TheVariants.{NoPlace, OutOfMemory}
+use Rattle.bench_rules.specs.declared.ask_fault.AskFault.TheVariants.{NoPlace}
 use Rattle.bench_rules.specs.ManyTraces.{each_of}
 use Rattle.bench_rules.specs.Tables.{column_of, found_of, is_between}
 use Rattle.many_traces.specs.Faults.{fault_of}
@@ -77,8 +76,8 @@ pub lacks : (v : Volume) (place : Place) (low high : ℤ) (a b k : ℕ) (us : Li
     → IsFound v place low high a b k us → found_of v place low high a b ≡ None
 lacks v place low high a b k us below e far =
     far ∙ ap (λ o. found_behind low high us o)
-      (ap (λ ps. each_of (number_at v place) ps) (next_position a k (b + 1 - a) below)
-      ∙ each_stops (number_at v place) (a + k) (range_with_len (a + (k + 1)) (b + 1 - a - (k + 1))) (ap (λ o. option_map (λ y. (a + k, y)) o) (sym e)))
+    (ap (λ ps. each_of (number_at v place) ps) (next_position a k (b + 1 - a) below)
+    ∙ each_stops (number_at v place) (a + k) (range_with_len (a + (k + 1)) (b + 1 - a - (k + 1))) (ap (λ o. option_map (λ y. (a + k, y)) o) (sym e)))
 
 -- no trace is left
 pub all_found : (v : Volume) (place : Place) (low high : ℤ) (a b k : ℕ) (us : List (ℕ × ℤ)) → b + 1 - a ≤ k → IsFound v place low high a b k us → found_of v place low high a b ≡ Some us

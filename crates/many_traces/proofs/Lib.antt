@@ -2,3 +2,4 @@ pub mod EachLemmas
 pub mod RowsLemmas
 pub mod FoundLemmas
 mod NameLemmas
+mod SeenLemmas

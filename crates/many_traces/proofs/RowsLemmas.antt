@@ -1,5 +1,5 @@
 -- The rows of a table that is filled row by row.
-use Rattle.std.proofs.Common.{◌≡◌, ℕ, ℤ, zero, suc, ◌+◌, ◌-◌, ◌*◌, ◌<◌, ◌≤◌, Bool, true, false, List, [], ◌∷◌, ◌++◌, length, take, drop, map, Option, Some, None, refl, sym, ap, ap₂, subst, ◌∙◌, arith}
+use Rattle.std.proofs.Common.{◌≡◌, ℕ, ℤ, zero, suc, ◌+◌, ◌-◌, ◌*◌, ◌<◌, ◌≤◌, true, false, List, [], ◌∷◌, ◌++◌, length, take, drop, map, Option, Some, None, refl, sym, ap, ap₂, subst, ◌∙◌, arith}
 use Rattle.std.proofs.Math.Nat.{mul-le-mul_left}
 use Rattle.std.proofs.Math.Seq.{drop-append_seam, take-length}
 use Rattle.std.proofs.lemmas.List.{append-nil, drop-append-le, take-append-le, length-append, length-drop}
@@ -9,9 +9,17 @@ use Rattle.std.specs.List.{range_with_len}
 use Rattle.bench_rules.specs.ManyTraces.{each_of}
 use Rattle.bench_rules.specs.Tables.{rows_from, row_of, table_of}
 use Rattle.field_map.specs.declared.place.Place.{Place}
+use Rattle.field_map.specs.Pairs.{Pairs}
+use Rattle.frame_cut.specs.declared.file_head.Head.{Head}
+use Rattle.trace_view.specs.Values.{value_of}
+use Rattle.bench_rules.specs.declared.ask_fault.AskFault.TheVariants.{NoPlace, OutOfMemory}
+use Rattle.bench_rules.specs.declared.field.Field.{Field}
+use Rattle.bench_rules.specs.Places.{place_in_trace}
+use Rattle.many_traces.specs.Faults.{fault_of}
+use Rattle.many_traces.specs.Fields.{number_in}
 use Rattle.frame_cut.specs.Traces.{trace_at}
 use Rattle.frame_cut.specs.Volume.{Volume}
-use Rattle.many_traces.proofs.EachLemmas.{each_stops, each_goes_on, in_front, next_position, nothing_there, left_decides}
+use Rattle.many_traces.proofs.EachLemmas.{each_stops, each_goes_on, in_front, next_position, nothing_there, left_decides, each_through}
 
 -- two functions that agree on these positions give the same list
 same_over : {X : Type 0} (f g : ℕ → X) (a n : ℕ) → ((j : ℕ) → j < a + n → f j ≡ g j) → map f (range_with_len a n) ≡ map g (range_with_len a n)
@@ -103,8 +111,30 @@ kept_some : {A B : Type 0} (f : A → B) (o : Option A) → is_some (option_map 
 kept_some f None = refl
 kept_some f (Some x) = refl
 
-pub left_goes_on : (v : Volume) (places : List Place) (a b k : ℕ) → k < b + 1 - a → true ≡ is_some (row_of v.head places (trace_at v (a + k)))
+-- the fields of a trace by their names, and by the places of these
+fields_there : (h : Head) (t : List ℕ) (pairs : Pairs) (fields : List Field) (places : List Place) → each_of (place_in_trace pairs) fields ≡ Some places
+    → each_of (number_in h t pairs) fields ≡ row_of h places t
+fields_there h t pairs fields places e = each_through (place_in_trace pairs) (λ place. value_of h t place) fields places e
+
+pub left_goes_on : (v : Volume) (pairs : Pairs) (fields : List Field) (places : List Place) (a b k : ℕ) → each_of (place_in_trace pairs) fields ≡ Some places → k < b + 1 - a
+    → true ≡ is_some (each_of (number_in v.head (trace_at v (a + k)) pairs) fields)
     → is_some (each_of (row_at v places) (range_with_len (a + k) (b + 1 - a - k))) ≡ is_some (each_of (row_at v places) (range_with_len (a + (k + 1)) (b + 1 - a - (k + 1))))
-left_goes_on v places a b k below e =
+left_goes_on v pairs fields places a b k known below e =
     ap (λ ps. is_some (each_of (row_at v places) ps)) (next_position a k (b + 1 - a) below)
-    ∙ left_decides (row_at v places) (a + k) (range_with_len (a + (k + 1)) (b + 1 - a - (k + 1))) (kept_some (λ xs. (a + k, xs)) (row_of v.head places (trace_at v (a + k))) ∙ sym e)
+    ∙ left_decides (row_at v places) (a + k) (range_with_len (a + (k + 1)) (b + 1 - a - (k + 1)))
+    (kept_some (λ xs. (a + k, xs)) (row_of v.head places (trace_at v (a + k))) ∙ sym (e ∙ ap (λ o. is_some o) (fields_there v.head (trace_at v (a + k)) pairs fields places known)))
+
+pub left_stops : (v : Volume) (pairs : Pairs) (fields : List Field) (places : List Place) (a b k : ℕ) → each_of (place_in_trace pairs) fields ≡ Some places → k < b + 1 - a
+    → false ≡ is_some (each_of (number_in v.head (trace_at v (a + k)) pairs) fields)
+    → is_some (each_of (row_at v places) (range_with_len (a + k) (b + 1 - a - k))) ≡ false
+left_stops v pairs fields places a b k known below e =
+    let none : row_at v places (a + k) ≡ None = ap (λ o. option_map (λ xs. (a + k, xs)) o) (nothing_there (row_of v.head places (trace_at v (a + k))) (e ∙ ap (λ o. is_some o) (fields_there v.head (trace_at v (a + k)) pairs fields places known))) in
+    ap (λ o. is_some o) (ap (λ ps. each_of (row_at v places) ps) (next_position a k (b + 1 - a) below) ∙ each_stops (row_at v places) (a + k) (range_with_len (a + (k + 1)) (b + 1 - a - (k + 1))) none)
+
+pub fault_none : {X : Type 0} (o : Option X) → is_some o ≡ false → NoPlace ≡ fault_of o
+fault_none None e = refl
+fault_none (Some x) e = absurd cc
+
+pub fault_some : {X : Type 0} (o : Option X) → is_some o ≡ true → OutOfMemory ≡ fault_of o
+fault_some None e = absurd cc
+fault_some (Some x) e = refl

@@ -51,11 +51,7 @@ fn named_numbers(
 }
 
 // Puts the name with its number behind others, where it has one.
-fn keep(
-    numbers: &mut Vec<(Text, i128)>,
-    name: Text,
-    number: Option<i128>,
-) -> Result<(), AskFault>
+fn keep(numbers: &mut Vec<(Text, i128)>, name: Text, number: Option<i128>) -> Result<(), AskFault>
     ensures ok { OnOk result (numbers.new.items ≡ numbers.old.items
         ++ option_to_list (with_name name number)) }
     ensures err { IfErr result (λ fault. fault ≡ no_memory) }

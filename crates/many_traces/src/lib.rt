@@ -6,13 +6,18 @@
 //! refused for want of it, E11, only where no trace lacks a place, E03.
 #![tactic(auto)]
 
+mod all_extremes;
 mod finds;
 mod headers;
 mod names;
+mod places;
 mod row;
+mod seen;
 mod tables;
 
+pub use crate::all_extremes::extremes;
 pub use crate::finds::find;
 pub use crate::headers::header;
 pub use crate::names::named_places;
+pub use crate::places::{have_places, place_in_trace};
 pub use crate::tables::table;

@@ -1,40 +1,57 @@
 // Some header fields of many traces.
-ghost use Rattle.std.specs.Prelude.{◌≡◌, ◌+◌, ◌-◌, ◌*◌, ◌≤◌, [], None, Some, IfOk, IfErr, IfSome, length};
+ghost use Rattle.std.specs.Prelude.{◌≡◌, ◌+◌, ◌-◌, ◌*◌, ◌≤◌, [], None, Some, Ok, List, IfOk, IfErr, IfSome, length};
 ghost use Rattle.std.specs.Vec.{vec_capacity};
 ghost use Rattle.frame_cut.specs.Traces.{count_of};
 ghost use Rattle.edit_overlay.specs.CountedVolume.{RisesAtMost};
 ghost use Rattle.bench_rules.specs.declared.ask_fault.AskFault.TheVariants.{NoPlace};
+ghost use Rattle.field_map.specs.declared.place.Place.{Place};
+ghost use Rattle.bench_rules.specs.declared.answer.Answer.TheVariants as answers;
+ghost use Rattle.bench_rules.specs.Answer.{table_answer};
+ghost use Rattle.bench_rules.specs.Looks.{looks_at};
+ghost use Rattle.bench_rules.specs.ManyTraces.{each_of};
+ghost use Rattle.bench_rules.specs.Places.{place_in_trace};
 ghost use Rattle.bench_rules.specs.Tables.{table_of};
-ghost use Rattle.many_traces.specs.Faults.{fault_of};
+ghost use Rattle.many_traces.specs.Faults.{fault_of, IsFaultFor};
 
+use crate::places::{have_places, places_of};
 use crate::row::{has_row, push_row};
-use bench_rules::{AskFault, Table};
+use bench_rules::{AskFault, Field, Table};
 use edit_overlay::Overlay;
-use field_map::Place;
+use field_map::{FieldMap, Place};
 use std::alloc::Global;
 
-/// The numbers at the places of traces a to b. Looks at each of them once at most. Refused: E03
-/// where one of them lacks a place, else E11 alone.
+/// These fields of each of traces a to b. Looks at each of them once at most, and at none where a
+/// field has no place. Refused: E02, then E03 where one of the traces lacks a place, else E11
+/// alone.
 pub fn table(
     alloc: Global,
     overlay: &mut Overlay,
+    map: &FieldMap,
     a: u32,
     b: u32,
-    places: &[Place],
+    fields: &[Field],
 ) -> Result<Table, AskFault>
     requires first { 1 ≤ a }
     requires range { a ≤ b }
     requires last { b ≤ count_of overlay.old.volume }
-    ensures ok { IfOk result (λ rows. table_of overlay.old.volume places.now a b ≡ Some rows) }
-    ensures err { IfErr result (λ fault. fault ≡ fault_of
-        (table_of overlay.old.volume places.now a b)) }
+    ensures ok { IfOk result (λ rows. table_answer overlay.old.volume a b
+        (each_of (place_in_trace map.now.pairs) fields.now) ≡ Ok (answers.Table rows)) }
+    ensures err { IfErr result (λ fault. IsFaultFor fault (table_answer overlay.old.volume a b
+        (each_of (place_in_trace map.now.pairs) fields.now))) }
     ensures volume { overlay.new.volume ≡ overlay.old.volume }
     ensures prepared { overlay.new.prepared ≡ overlay.old.prepared }
-    ensures looks { RisesAtMost overlay.old.looks overlay.new.looks (b + 1 - a) }
+    ensures looks { RisesAtMost overlay.old.looks overlay.new.looks
+        (looks_at (each_of (place_in_trace map.now.pairs) fields.now) (b + 1 - a)) }
 {
+    if !have_places(map, fields) {
+        return Err(AskFault::NoField);
+    }
+    let Some(places) = places_of(alloc, map, fields) else {
+        return Err(without_memory(overlay, map, a, b, fields));
+    };
     match room(alloc, b - a + 1, places.len()) {
-        Some(numbers) => filled(overlay, a, b, places, numbers),
-        None => Err(without_memory(overlay, a, b, places)),
+        Some(numbers) => filled(overlay, a, b, places.as_slice(), numbers),
+        None => Err(without_memory(overlay, map, a, b, fields)),
     }
 }
 
@@ -79,19 +96,25 @@ fn filled(
     Ok(Table::new(a, b - a + 1, places.len(), numbers))
 }
 
-// Why the table of traces a to b is refused where there is no room for it: E03
-// comes before E11.
-fn without_memory(overlay: &mut Overlay, a: u32, b: u32, places: &[Place]) -> AskFault
+// Why the table of traces a to b is refused where there is no room for it: E03 comes before E11.
+fn without_memory(
+    overlay: &mut Overlay,
+    map: &FieldMap,
+    a: u32,
+    b: u32,
+    fields: &[Field],
+) -> AskFault
     requires first { 1 ≤ a }
     requires range { a ≤ b }
     requires last { b ≤ count_of overlay.old.volume }
-    ensures fault { result ≡ fault_of (table_of overlay.old.volume places.now a b) }
+    ensures fault { (places : List Place) → each_of (place_in_trace map.now.pairs) fields.now
+        ≡ Some places → result ≡ fault_of (table_of overlay.old.volume places a b) }
     ensures volume { overlay.new.volume ≡ overlay.old.volume }
     ensures prepared { overlay.new.prepared ≡ overlay.old.prepared }
     ensures looks { RisesAtMost overlay.old.looks overlay.new.looks (b + 1 - a) }
 {
     for k in 0..b - a + 1 {
-        if !has_row(overlay, a + k, places) {
+        if !has_row(overlay, map, a + k, fields) {
             return AskFault::NoPlace;
         }
     }

@@ -1,8 +1,7 @@
-use Rattle.std.proofs.Common.{◌≡◌, ◌∙◌, ap, refl, sym, arith, rules}
+use Rattle.std.proofs.Common.{◌∙◌, ap, refl, sym, arith, rules}
 use Rattle.std.proofs.lemmas.Int.{to_z-of_z}
 use Rattle.std.specs.Int.{w128}
 use mir.Val.{SFits}
-use Rattle.bench_rules.specs.declared.ask_fault.AskFault.{AskFault}
 use Rattle.many_traces.specs.Faults.{fault_of}
 use Rattle.many_traces.proofs.FoundLemmas.{go_on, lacks, fault_left}
 use Rattle.many_traces.proofs.finds.find.Goals as goal

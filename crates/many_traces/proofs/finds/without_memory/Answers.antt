@@ -1,4 +1,4 @@
-use Rattle.std.proofs.Common.{◌≡◌, ◌∙◌, sym, arith, rules}
+use Rattle.std.proofs.Common.{◌∙◌, sym, rules}
 use Rattle.many_traces.proofs.FoundLemmas.{behind_stops, behind_goes_on, none_there}
 use Rattle.many_traces.proofs.finds.without_memory.Goals as goal
 

@@ -1,4 +1,4 @@
-use Rattle.std.proofs.Common.{◌≡◌, ◌++◌, ◌∷◌, [], ◌∙◌, Some, rules}
+use Rattle.std.proofs.Common.{◌≡◌, ◌++◌, ◌∷◌, [], Some, rules}
 use Rattle.std.specs.Prelude.{slice_get}
 use Rattle.field_map.specs.HeaderNames.{header_names}
 use Rattle.many_traces.proofs.NameLemmas.{one_more}

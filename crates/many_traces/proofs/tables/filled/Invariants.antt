@@ -1,5 +1,5 @@
 use Rattle.std.proofs.Common.{◌≡◌, ◌+◌, ◌-◌, ◌*◌, ◌≤◌, length}
-use Rattle.std.specs.Vec.{vec_len, vec_capacity}
+use Rattle.std.specs.Vec.{vec_capacity}
 use Rattle.edit_overlay.specs.CountedVolume.{RisesAtMost}
 use Rattle.many_traces.proofs.RowsLemmas.{AreRows}
 use Rattle.many_traces.proofs.tables.filled.Given as goal

@@ -26,7 +26,7 @@ one_step p (Ok a) operator x None = refl
 one_step p (Err refusal) operator x None = refl
 
 -- the step whose number is there is the next of the list
-with_number : (p : ℕ) (number next : Result ℤ Refusal) (operator : Operator) (o : Option ℤ) (rest : Option (List (Operator × ℤ)))
+pub with_number : (p : ℕ) (number next : Result ℤ Refusal) (operator : Operator) (o : Option ℤ) (rest : Option (List (Operator × ℤ)))
     → Some next ≡ option_map (λ x. unless_refused number (λ a. stepped p operator a x)) o
     → goes_on p number (option_and_then (λ y. option_map (λ ys. y ∷ ys) rest) (option_map (λ x. (operator, x)) o)) ≡ goes_on p next rest
 with_number p number next operator None rest e = absurd cc
@@ -35,7 +35,7 @@ with_number p number next operator (Some x) rest e =
     one_step p number operator x rest ∙ ap (λ (r : Result ℤ Refusal). goes_on p r rest) (sym is)
 
 -- one that is not there is E03
-without_number : (p : ℕ) (number : Result ℤ Refusal) (operator : Operator) (o : Option ℤ) (rest : Option (List (Operator × ℤ)))
+pub without_number : (p : ℕ) (number : Result ℤ Refusal) (operator : Operator) (o : Option ℤ) (rest : Option (List (Operator × ℤ)))
     → None ≡ option_map (λ x. unless_refused number (λ a. stepped p operator a x)) o
     → goes_on p number (option_and_then (λ y. option_map (λ ys. y ∷ ys) rest) (option_map (λ x. (operator, x)) o)) ≡ Err refusals.NoPlace
 without_number p number operator None rest e = refl
@@ -60,7 +60,7 @@ step_is_missing h t p number all steps i d o below is e far =
     ∙ without_number p number (get_or steps i d).0 (term_in h t (get_or steps i d).1) (steps_in h t (drop (i + 1) steps)) (sym e ∙ is))
 
 -- behind the last step the number stands
-nothing_goes_on : (p : ℕ) (number : Result ℤ Refusal) → goes_on p number (Some []) ≡ number
+pub nothing_goes_on : (p : ℕ) (number : Result ℤ Refusal) → goes_on p number (Some []) ≡ number
 nothing_goes_on p (Ok a) = refl
 nothing_goes_on p (Err refusal) = refl
 

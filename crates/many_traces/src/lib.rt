@@ -7,7 +7,9 @@
 #![tactic(auto)]
 
 mod all_extremes;
+mod computed;
 mod finds;
+mod formula;
 mod headers;
 mod names;
 mod places;
@@ -16,6 +18,7 @@ mod seen;
 mod tables;
 
 pub use crate::all_extremes::extremes;
+pub use crate::computed::computed_bytes;
 pub use crate::finds::find;
 pub use crate::headers::header;
 pub use crate::names::named_places;

@@ -14,7 +14,7 @@ use Rattle.bench_rules.specs.declared.extremes.Extremes.{Extremes}
 use Rattle.bench_rules.specs.ManyTraces.{positions}
 
 -- the names of the standard's trace header, in the order of bytes, then the bound names in the map's order
-abbrev pub named_places : Pairs → Pairs
+unfoldable pub named_places : Pairs → Pairs
 named_places fields = header_names ++ fields
 
 -- a name with what there is for it

@@ -1,7 +1,7 @@
 -- Numbers that are computed for many traces, one trace after another.
-use Rattle.std.proofs.Common.{◌≡◌, ℕ, ℤ, zero, suc, ◌+◌, ◌-◌, ◌*◌, ◌<◌, ◌≤◌, true, false, ltb, List, [], ◌∷◌, ◌++◌, Option, Some, None, Ok, Err, refl, sym, ap, ◌∙◌, arith}
+use Rattle.std.proofs.Common.{◌≡◌, ℕ, ℤ, zero, suc, ◌+◌, ◌-◌, ◌*◌, ◌≤◌, true, List, [], ◌++◌, Option, Some, None, Ok, Err, refl, sym, ap, ◌∙◌, arith}
 use Rattle.std.specs.Prelude.{Result, IfOk, IfErr}
-use Rattle.std.specs.List.{flat_map, range_with_len}
+use Rattle.std.specs.List.{flat_map}
 use Rattle.std.proofs.lemmas.Bool.{le-leb}
 use borrow.Author.Count.{below_more}
 use Rattle.num_order.specs.declared.kind.Kind.{Kind}
@@ -21,7 +21,7 @@ use Rattle.bench_rules.specs.declared.operator.Operator.{Operator}
 use Rattle.bench_rules.specs.declared.term.Term.{Term}
 use Rattle.bench_rules.specs.Computed.{Formula, compute_refusal, compute_refusal_in, computed_in, refusal_of_result, steps_of}
 use Rattle.bench_rules.specs.SetRefusals.{set_refusal}
-use Rattle.bench_rules.proofs.ComputeLemmas.{NoneRefused, number_of, number_or_zero, number_there, numbers_are}
+use Rattle.bench_rules.proofs.ComputeLemmas.{NoneRefused, number_of, number_or_zero, numbers_are}
 use Rattle.bench_rules.proofs.FirstLemmas.{first_is, first_none}
 use Rattle.bench_rules.proofs.ManyValueLemmas.{bytes_from, more_from, valued}
 use Rattle.bench_rules.proofs.PlaceLemmas.{sized, stands}
@@ -77,7 +77,7 @@ refused_here v f a b k r none inside e = first_is (compute_refusal v f) a (b + 1
 pub none_refused : (v : Volume) (f : Formula) (a b : ℕ) → NoneRefused v f a (b + 1 - a) → compute_refusal_in v (Some f) a b ≡ None
 none_refused v f a b none = first_none (compute_refusal v f) a (b + 1 - a) none
 
-of_valued : (o : Order) (kind : Kind) (value : ℕ → ℤ) (a n : ℕ) → flat_map (λ (m : ℕ × ℤ). bytes o kind m.1) (valued value a n) ≡ bytes_from o kind value a n
+pub of_valued : (o : Order) (kind : Kind) (value : ℕ → ℤ) (a n : ℕ) → flat_map (λ (m : ℕ × ℤ). bytes o kind m.1) (valued value a n) ≡ bytes_from o kind value a n
 of_valued o kind value a zero = refl
 of_valued o kind value a (suc n) = ap (λ (bs : List ℕ). bytes o kind (value a) ++ bs) (of_valued o kind value (a + 1) n)
 

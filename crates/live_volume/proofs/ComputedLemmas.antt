@@ -1,35 +1,30 @@
 -- A field of many traces computed: what is known where its bytes are laid over the traces.
-use Rattle.std.proofs.Common.{◌≡◌, ℕ, ℤ, ◌+◌, ◌-◌, ◌*◌, ◌<◌, ◌≤◌, true, ◌&&◌, leb, List, Option, Some, None, Ok, Err, refl, sym, ap, subst, ◌∙◌, arith}
-use Rattle.std.specs.Prelude.{Result, option_map, option_and_then}
+use Rattle.std.proofs.Common.{◌≡◌, ℕ, ℤ, ◌+◌, ◌-◌, ◌≤◌, List, Option, Some, None, refl, sym, ap, subst, ◌∙◌}
+use Rattle.std.specs.Prelude.{option_map, option_and_then}
 use Rattle.std.specs.List.{flat_map}
 use Rattle.std.specs.Option.{option_or}
-use Rattle.std.proofs.lemmas.Bool.{le-leb}
 use Rattle.num_order.specs.Number.{bytes}
 use Rattle.field_map.specs.declared.place.Place.{Place}
 use Rattle.field_map.specs.Pairs.{Pairs}
 use Rattle.field_map.specs.Places.{offset_of}
 use Rattle.frame_cut.specs.Parts.{with_each}
-use Rattle.frame_cut.specs.Traces.{count_of, is_trace, trace_at}
+use Rattle.frame_cut.specs.Traces.{trace_at}
 use Rattle.frame_cut.specs.Volume.{Volume}
-use Rattle.edit_overlay.specs.CountedVolume.{RisesAtMost}
 use Rattle.bench_rules.specs.declared.edit.Edit.TheVariants.{Compute}
 use Rattle.bench_rules.specs.declared.field.Field.{Field}
 use Rattle.bench_rules.specs.declared.operand.Operand.{Operand}
 use Rattle.bench_rules.specs.declared.operator.Operator.{Operator}
-use Rattle.bench_rules.specs.declared.refusal.Refusal.{Refusal}
 use Rattle.bench_rules.specs.declared.term.Term.{Term}
 use Rattle.bench_rules.specs.Computed.{Formula, compute_refusal_in, formula_of, steps_of, term_of}
-use Rattle.bench_rules.specs.Looks.{edit_looks, looks_at}
 use Rattle.bench_rules.specs.Places.{place_in_trace}
 use Rattle.bench_rules.specs.Refused.{first_refusal, no_trace, no_trace_from}
 use Rattle.bench_rules.specs.State.{State}
-use Rattle.bench_rules.specs.Steps.{IsAfter, Step}
-use Rattle.bench_rules.proofs.ComputeLemmas.{ComputeAccepted, accepted_numbers, compute_accepted, compute_done, compute_first, number_of, numbers_are}
+use Rattle.bench_rules.specs.Steps.{IsAfter}
+use Rattle.bench_rules.proofs.ComputeLemmas.{accepted_numbers, compute_accepted, compute_done, compute_first, number_of, numbers_are}
 use Rattle.bench_rules.proofs.FirstLemmas.{AreTraces, are_traces, both_none}
 use Rattle.bench_rules.proofs.ManyValueLemmas.{IsRead, ValuesFitIn, bytes_from, values_fit_in}
 use Rattle.bench_rules.proofs.PlaceLemmas.{stands}
-use Rattle.bench_rules.proofs.SetLemmas.{Accepted}
-use Rattle.many_traces.specs.Formulas.{IsRefusalFor, formula_at, number_bytes}
+use Rattle.many_traces.specs.Formulas.{formula_at, number_bytes}
 use Rattle.many_traces.proofs.NumbersLemmas.{of_valued}
 
 -- traces a to b are there, where nothing refuses them

@@ -2,7 +2,6 @@ use Rattle.std.proofs.Common.{◌≡◌, ◌∙◌, ◌+◌, ◌-◌, None, sym,
 use Rattle.std.proofs.lemmas.Int.{to_z-of_z}
 use Rattle.std.specs.Int.{w128}
 use mir.Val.{SFits}
-use Rattle.field_map.specs.Places.{offset_of}
 use Rattle.frame_cut.specs.Parts.{with_each}
 use Rattle.frame_cut.specs.Traces.{trace_at}
 use Rattle.bench_rules.specs.declared.edit.Edit.TheVariants.{Renumber}

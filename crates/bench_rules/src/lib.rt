@@ -10,6 +10,8 @@
 mod answer;
 mod ask_fault;
 mod binary_header;
+mod calculation;
+mod computation;
 mod edit;
 mod extremes;
 mod field;
@@ -36,6 +38,8 @@ mod trace_bytes;
 pub use crate::answer::Answer;
 pub use crate::ask_fault::AskFault;
 pub use crate::binary_header::{binary_offset, binary_value, place_in_binary, set_bin_refusal};
+pub use crate::calculation::calculate;
+pub use crate::computation::{admitted, after_step, computed_in, term_in};
 pub use crate::edit::Edit;
 pub use crate::extremes::Extremes;
 pub use crate::field::Field;

@@ -12,11 +12,12 @@
 //!
 //! `load` takes memory for the file's bytes, the list of its traces, the six geometry names and the
 //! records with what has counted them; `apply` for `Set`, `Map`, `Patch`, `Blank`, `Copy`, `Move`,
-//! `Resize` and `Renumber` alone; `ask` for answers that are texts or lists alone: `Line`,
+//! `Resize`, `Renumber` and `Compute` alone; `ask` for answers that are texts or lists alone: `Line`,
 //! `Lines`, `Stanzas`, `Fields`, `Grid`, `Inlines`, `Crosslines`, `Histogram`, `Slice`, `Faults`,
 //! `Table`, `Find`, `Header` and `Extremes`.
 #![tactic(auto)]
 
+mod computed_edits;
 mod kept_slices;
 mod live_volume;
 mod many_queries;

@@ -109,7 +109,7 @@ impl LiveVolume {
     }
 
     // The first refusal of a range of traces: E01.
-    fn range_refusal(&self, a: u32, b: u32) -> Option<Refusal>
+    pub(crate) fn range_refusal(&self, a: u32, b: u32) -> Option<Refusal>
         ensures { result ≡ option_or (no_trace self.now.state.volume a)
             (no_trace_from self.now.state.volume a b) }
     {

@@ -3,3 +3,5 @@ pub mod RowsLemmas
 pub mod FoundLemmas
 mod NameLemmas
 mod SeenLemmas
+pub mod FormulaLemmas
+pub mod NumbersLemmas

@@ -1,7 +1,7 @@
 // The commands and their forms.
 
 /// The first words of the commands.
-pub(crate) static COMMANDS: [&str; 32] = [
+pub(crate) static COMMANDS: [&str; 38] = [
     "set",
     "get",
     "bin",
@@ -34,6 +34,12 @@ pub(crate) static COMMANDS: [&str; 32] = [
     "totals",
     "slice",
     "faults",
+    "table",
+    "find",
+    "header",
+    "extremes",
+    "lines",
+    "compute",
 ];
 
 /// The form of a command, by its word: empty where the word is none.
@@ -61,6 +67,12 @@ pub(crate) fn form(word: &[u8]) -> &'static str {
         b"fold" => "fold NUMBER NUMBER",
         b"range" => "range WHICH",
         b"slice" => "slice K",
+        b"table" => "table P Q FIELD ..",
+        b"find" => "find P Q FIELD LOW HIGH",
+        b"header" => "header P",
+        b"extremes" => "extremes P Q",
+        b"lines" => "lines B",
+        b"compute" => "compute P Q FIELD SOURCE [OP OPERAND] ..",
         _ => form_alone(word),
     }
 }

@@ -19,7 +19,7 @@ use Rattle.field_map.specs.declared.map_fault.MapFault.{MapFault}
 use Rattle.field_map.specs.declared.map_fault.MapFault.TheVariants as map_faults
 use Rattle.field_map.specs.declared.place.Place.{Place}
 use Rattle.field_map.specs.Pairs.{Pairs, is_bound, bound, unbound}
-use Rattle.field_map.specs.StandardNames.{standard_names}
+use Rattle.field_map.specs.HeaderNames.{header_names}
 use Rattle.field_map.specs.Binding.{is_name_character, is_name, begins_with_letter}
 use Rattle.frame_cut.specs.declared.file_head.Head.{Head}
 use Rattle.frame_cut.specs.Traces.{count_of, is_trace, trace_at}
@@ -193,7 +193,8 @@ plain_names of (e ∷ es) h =
     with_plain_name e.0 (of e) (filter_map (λ g. with_name g.0 (of g)) es) both.0 (plain_names of es both.1)
 
 plain_places : (fields : Pairs) → HasPlainNames fields → HasPlainNames (named_places fields)
-plain_places fields h = list_all-append (λ f. is_plain f.0) standard_names fields ∙ and_both (list_all (λ f. is_plain f.0) standard_names) (list_all (λ f. is_plain f.0) fields) refl h
+unfolding named_places
+plain_places fields h = list_all-append (λ f. is_plain f.0) header_names fields ∙ and_both (list_all (λ f. is_plain f.0) header_names) (list_all (λ f. is_plain f.0) fields) refl h
 
 plain_lines : (block : List ℕ) (qs : List ℕ) → list_all is_plain (map (shown_line block) qs) ≡ true
 plain_lines block [] = refl

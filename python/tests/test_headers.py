@@ -143,6 +143,20 @@ def test_find(opened, case):
     assert got.tolist() == wanted and got.dtype.names == ("trace", "value")
 
 
+def test_a_refused_question_does_not_load_the_file_again(opened, monkeypatch):
+    monkeypatch.setattr("segywb.volume.WINDOW_TRACES", 1)
+    volume = opened("cube")
+    before = volume.pid
+    for call, code in (
+        (lambda: volume.headers("colour"), "E02"), (lambda: volume.headers("inline", traces=[1, 2, 3, 99]), "E01"), (lambda: volume.find("@1.1:4", 0, 1), "E03"),
+        (lambda: volume.header(99), "E01"), (lambda: volume.extremes(range(5, 99)), "E01"), (lambda: volume.lines(1), "E03"), (lambda: volume.positions([99]), "E01"),
+    ):
+        with pytest.raises(segywb.Refused) as refusal:
+            call()
+        assert refusal.value.code == code and volume.pid == before
+    assert volume.headers("inline", traces=[12, 1]).tolist() == [(103,), (101,)]
+
+
 def test_find_wide_numbers(opened):
     volume = opened("cube")
     volume.set(2, "@225:8u", 2**64 - 1)

@@ -255,15 +255,25 @@ class Volume:
 
     def _windows(self, where: Sequence[int], line: Callable[[int, int], str]) -> Iterator[Tuple[bytes, int]]:
         """The answers to lines that are asked of a first and a last trace, for all of these traces in order: those of some lines
-        together, and of how many traces they are."""
+        together, and of how many traces they are. Behind a refusal nothing more is asked, and what was asked is read: the session goes on."""
         pieces = [(encode(line(first, last)), last - first + 1) for first, last in runs(where, WINDOW_TRACES)] if len(where) else []
         cuts = list(_cut(pieces))
-        batches = ((lines.payload(sent for sent, _ in some), len(some)) for some in cuts)
-        with closing(self._engine.stream(batches)) as told:
+        refusal: Optional[Exception] = None
+
+        def batches() -> Iterator[Batch]:
+            for some in cuts:
+                if refusal is not None:
+                    return
+                yield lines.payload(sent for sent, _ in some), len(some)
+
+        with closing(self._engine.stream(batches())) as told:
             for answer, some in zip(told, cuts):
-                if b"refused" in answer:
-                    raise _first_refusal(answer, [sent for sent, _ in some])
-                yield answer, sum(count for _, count in some)
+                if refusal is None and b"refused" in answer:
+                    refusal = _first_refusal(answer, [sent for sent, _ in some])
+                if refusal is None:
+                    yield answer, sum(count for _, count in some)
+        if refusal is not None:
+            raise refusal
 
     def _by_get(self, words: Sequence[str], where: Sequence[int], unsigned: bool) -> List[Any]:
         """Field by field within pieces of the traces: what is read of a piece is still near when the next field of it is asked."""

@@ -104,6 +104,7 @@ bench: build
 	bash benchmarks/live $(BUILT)
 	bash benchmarks/slices $(BUILT)
 	bash benchmarks/renumber $(BUILT)
+	bash benchmarks/headers $(BUILT)
 	bash benchmarks/python $(BUILT)
 	bash benchmarks/desk $(BUILT)
 	bash benchmarks/orders $(TIMINGS)

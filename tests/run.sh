@@ -283,6 +283,8 @@ expect 'the greatest limit' 0 'ok\n' '' s.sgy --script script --max-bytes 109951
 
 . "$here/edits.sh" || tell 'edits.sh' 'did not run to its end'
 
+. "$here/headers.sh" || tell 'headers.sh' 'did not run to its end'
+
 . "$here/documents.sh" || tell 'documents.sh' 'did not run to its end'
 
 . "$here/paths.sh" || tell 'paths.sh' 'did not run to its end'

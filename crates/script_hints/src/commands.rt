@@ -1,18 +1,23 @@
 // The commands and their forms.
 
 /// The first words of the commands.
-pub(crate) static COMMANDS: [&str; 32] = [
+pub(crate) static COMMANDS: [&str; 37] = [
     "set",
     "get",
     "bin",
     "getbin",
     "text",
     "line",
+    "lines",
     "code",
     "stanzas",
     "map",
     "unmap",
     "fields",
+    "table",
+    "find",
+    "header",
+    "extremes",
     "count",
     "info",
     "sample",
@@ -45,6 +50,7 @@ pub(crate) fn form(word: &[u8]) -> &'static str {
         b"getbin" => "getbin FIELD",
         b"text" => "text L TEXT",
         b"line" => "line B L",
+        b"lines" => "lines B",
         b"code" => "code B",
         b"map" => "map NAME PLACE",
         b"unmap" => "unmap NAME",
@@ -61,6 +67,17 @@ pub(crate) fn form(word: &[u8]) -> &'static str {
         b"fold" => "fold NUMBER NUMBER",
         b"range" => "range WHICH",
         b"slice" => "slice K",
+        _ => form_of_headers(word),
+    }
+}
+
+// The form of a query about the headers of traces.
+fn form_of_headers(word: &[u8]) -> &'static str {
+    match word {
+        b"table" => "table P Q FIELD ..",
+        b"find" => "find P Q FIELD LOW HIGH",
+        b"header" => "header P",
+        b"extremes" => "extremes P Q",
         _ => form_alone(word),
     }
 }

@@ -49,7 +49,7 @@ told 'too few words' 'set 1 inline' 'S02 words: set 1 inline (the form is set P 
 told 'too many words' 'count 1' 'S02 words: count 1 (the form is count)'
 told 'too few words of a search' 'find 1 3 inline 7' 'S02 words: find 1 3 inline 7 (the form is find P Q FIELD LOW HIGH)'
 told 'a table without fields' 'table 1 3' 'S02 words: table 1 3 (the form is table P Q FIELD ..)'
-told 'a table of too many fields' "table 1 3$(printf ' x%.0s' $(seq 65))" "S02 words: table 1 3$(printf ' x%.0s' $(seq 25)).. (a table has at most 64 fields)"
+told 'a table of too many fields' "table 1 3$(printf ' x%.0s' $(seq 65))" "S02 words: table 1 3$(printf ' x%.0s' $(seq 25)) .. (a table has at most 64 fields)"
 told 'words in another order' 'set inline 1 7' 'S03 number: set inline 1 7 (the form is set P FIELD NUMBER)'
 told 'a place that is none' 'get 1 @189' 'S03 number: get 1 @189 (a place is @BYTE:SIZE, as @189:4)'
 told 'a place without its sign' 'map shot 17:4' 'S03 number: map shot 17:4 (a place is @BYTE:SIZE, as @189:4)'

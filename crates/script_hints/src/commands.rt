@@ -8,11 +8,16 @@ pub(crate) static COMMANDS: [&str; 38] = [
     "getbin",
     "text",
     "line",
+    "lines",
     "code",
     "stanzas",
     "map",
     "unmap",
     "fields",
+    "table",
+    "find",
+    "header",
+    "extremes",
     "count",
     "info",
     "sample",
@@ -34,11 +39,6 @@ pub(crate) static COMMANDS: [&str; 38] = [
     "totals",
     "slice",
     "faults",
-    "table",
-    "find",
-    "header",
-    "extremes",
-    "lines",
     "compute",
 ];
 
@@ -51,6 +51,7 @@ pub(crate) fn form(word: &[u8]) -> &'static str {
         b"getbin" => "getbin FIELD",
         b"text" => "text L TEXT",
         b"line" => "line B L",
+        b"lines" => "lines B",
         b"code" => "code B",
         b"map" => "map NAME PLACE",
         b"unmap" => "unmap NAME",
@@ -67,11 +68,17 @@ pub(crate) fn form(word: &[u8]) -> &'static str {
         b"fold" => "fold NUMBER NUMBER",
         b"range" => "range WHICH",
         b"slice" => "slice K",
+        _ => form_of_headers(word),
+    }
+}
+
+// The form of a query about the headers of traces.
+fn form_of_headers(word: &[u8]) -> &'static str {
+    match word {
         b"table" => "table P Q FIELD ..",
         b"find" => "find P Q FIELD LOW HIGH",
         b"header" => "header P",
         b"extremes" => "extremes P Q",
-        b"lines" => "lines B",
         b"compute" => "compute P Q FIELD SOURCE [OP OPERAND] ..",
         _ => form_alone(word),
     }

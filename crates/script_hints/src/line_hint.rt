@@ -8,8 +8,9 @@ use crate::note::Note;
 use crate::number_hint::number_hint;
 use crate::words::Words;
 use bench_rules::{AskFault, Refusal};
-use field_map::MapFault;
+use field_map::{MapFault, is_geometry, named};
 use script_words::LineFault;
+use std::str;
 
 /// What may be meant by a refused line.
 pub(crate) fn hint_of(note: &Note) -> Hint {
@@ -42,7 +43,7 @@ fn line_hint(words: &Words, fault: LineFault) -> Hint {
     match fault {
         LineFault::Unknown => nearest(words.at(0), &COMMANDS),
         LineFault::Words if words.has_note() => note_behind(),
-        LineFault::Words => form_of(words),
+        LineFault::Words => wrong_words(words),
         LineFault::Number => wrong_number(words),
         LineFault::NotText => Hint::Text("the line is not UTF-8: save the script as UTF-8"),
         LineFault::TooLarge | LineFault::OutOfMemory => Hint::None,
@@ -51,6 +52,14 @@ fn line_hint(words: &Words, fault: LineFault) -> Hint {
 
 fn note_behind() -> Hint {
     Hint::Text("a note stands on a line of its own")
+}
+
+// Of a command with too few or too many words.
+fn wrong_words(words: &Words) -> Hint {
+    match words.at(0) {
+        b"table" if !words.at(3).is_empty() => Hint::Text("a table has at most 64 fields"),
+        _ => form_of(words),
+    }
 }
 
 fn form_of(words: &Words) -> Hint {
@@ -122,11 +131,16 @@ fn query_hint(words: &Words, fault: AskFault) -> Hint {
 fn no_trace(words: &Words, p: u32, count: u32) -> Hint {
     if p == 0 {
         Hint::Text("traces count from 1")
-    } else if words.at(0) == b"renumber".as_slice() && p <= count {
+    } else if is_of_range(words.at(0)) && p <= count {
         Hint::Text("P stands behind Q: the first of the traces comes first")
     } else {
         Hint::None
     }
+}
+
+// Whether the command is one of the traces from P to Q.
+fn is_of_range(command: &[u8]) -> bool {
+    matches!(command, b"renumber" | b"table" | b"find" | b"extremes")
 }
 
 // Of a name that is no field.
@@ -136,8 +150,26 @@ fn no_field(words: &Words) -> Hint {
             let other = "a field of the trace headers: set and get";
             field_hint(words.at(1), &BINARY_NAMES, &TRACE_NAMES, other)
         }
-        b"renumber" => trace_field(words.at(3)),
+        b"renumber" | b"find" => trace_field(words.at(3)),
+        b"table" => first_unknown(words, 3),
         _ => trace_field(words.at(2)),
+    }
+}
+
+// Of the first word from this one on that is no place and no name that is always there.
+fn first_unknown(words: &Words, from: usize) -> Hint {
+    for word in words.as_slice().iter().skip(from) {
+        if !word.starts_with(b"@") && !is_trace_name(word) {
+            return trace_field(word);
+        }
+    }
+    Hint::None
+}
+
+fn is_trace_name(word: &[u8]) -> bool {
+    match str::from_utf8(word) {
+        Ok(name) => is_geometry(name) || named(name).is_some(),
+        Err(_) => false,
     }
 }
 
@@ -166,8 +198,8 @@ fn no_place(words: &Words) -> Hint {
             Hint::Text("BYTE is that of the file, 3201 to 3600; SIZE is 1, 2, 3, 4 or 8")
         }
         b"text" | b"line" => Hint::Text("lines count from 1 to 40, blocks from 0"),
-        b"code" => Hint::Text("blocks count from 0"),
-        b"set" | b"get" | b"renumber" => {
+        b"code" | b"lines" => Hint::Text("blocks count from 0"),
+        b"set" | b"get" | b"renumber" | b"table" | b"find" => {
             Hint::Text("BYTE is that of the header, 1 to 240; SIZE is 1, 2, 3, 4 or 8")
         }
         _ => Hint::None,

@@ -1,6 +1,7 @@
 // The names that are always there.
 
-/// The names of a trace header: the six that reports read, then the standard's in the order of bytes.
+/// The names of a trace header: the six that reports read, then those of its fields in the order of
+/// bytes, and those of its first extension.
 pub(crate) static TRACE_NAMES: [&str; 105] = [
     "inline",
     "crossline",

@@ -1,9 +1,9 @@
 // The words of a line.
 
 // No hint looks at a word behind so many.
-const MOST: usize = 8;
+const MOST: usize = 24;
 
-/// The first 8 words of a line, and whether one of its words begins with `#`.
+/// The first 24 words of a line, and whether one of its words begins with `#`.
 #[derive(Drop)]
 pub(crate) struct Words<'a> {
     words: [&'a [u8]; MOST],

@@ -284,6 +284,7 @@ expect 'the greatest limit' 0 'ok\n' '' s.sgy --script script --max-bytes 109951
 . "$here/edits.sh" || tell 'edits.sh' 'did not run to its end'
 
 . "$here/headers.sh" || tell 'headers.sh' 'did not run to its end'
+. "$here/computed.sh" || tell 'computed.sh' 'did not run to its end'
 
 . "$here/documents.sh" || tell 'documents.sh' 'did not run to its end'
 

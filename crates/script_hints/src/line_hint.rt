@@ -140,7 +140,7 @@ fn no_trace(words: &Words, p: u32, count: u32) -> Hint {
 
 // Whether the command is one of the traces from P to Q.
 fn is_of_range(command: &[u8]) -> bool {
-    matches!(command, b"renumber" | b"table" | b"find" | b"extremes")
+    matches!(command, b"renumber" | b"table" | b"find" | b"extremes" | b"compute")
 }
 
 // Of a name that is no field.

@@ -66,9 +66,7 @@ pub fn follow(slices: &mut SliceCache, edit: &Edit, moved: bool)
 {
     match edit {
         Edit::SetBin(_, _) | Edit::SetText(_, _) | Edit::Unmap(_) => {}
-        Edit::Set(_, _, _)
-        | Edit::Renumber(_, _, _, _, _)
-        | Edit::Compute(_, _, _, _, _) => {
+        Edit::Set(_, _, _) | Edit::Renumber(_, _, _, _, _) | Edit::Compute(_, _, _, _, _) => {
             if moved {
                 slices.clear();
             }

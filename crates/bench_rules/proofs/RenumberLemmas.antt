@@ -156,7 +156,6 @@ one_more_value o kind first step n old new all e f joined =
     ∙ ap (λ (s : List ℕ). values_bytes o kind first step n ++ s) (f ∙ ap (λ (k : ℕ). bytes o kind (counted first step k)) (sym zeroth))
     ∙ sym (more_from o kind (counted first step) 0 n)
 
-
 -- the bytes of the values, each from its trace
 pub bytes_of_numbers : (o : Order) (kind : Kind) (first step : ℤ) (a n : ℕ) (bs : List ℕ) → bs ≡ values_bytes o kind first step n → bs ≡ bytes_from o kind (λ p. counted first step (p - a)) a n
 bytes_of_numbers o kind first step a n bs is =

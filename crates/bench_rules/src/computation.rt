@@ -52,8 +52,11 @@ pub fn computed_in(
     source: Term,
     steps: &[(Operator, Term)],
 ) -> Result<i128, Refusal>
-    ensures { result ≡ number_computed_in (head_of trace.now) (record { place = place;
-        source = source; steps = steps.now }) p (bytes_of trace.now) }
+    ensures { result ≡ number_computed_in (head_of trace.now) (record {
+      place = place;
+      source = source;
+      steps = steps.now;
+    }) p (bytes_of trace.now) }
 {
     if trace.value(place).is_none() {
         return Err(Refusal::NoPlace);

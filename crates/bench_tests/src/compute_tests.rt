@@ -33,7 +33,11 @@ fn from_crossline(
 fn compute_sequence(rt: &impl Abort, alloc: Global, bench: &mut Bench) -> Result<(), Fail> {
     bench.ask(alloc, &Query::Slice(0))?;
     let before = bench.looks();
-    let steps = [(Operator::Over, -2), (Operator::Times, 10), (Operator::Modulo, 7)];
+    let steps = [
+        (Operator::Over, -2),
+        (Operator::Times, 10),
+        (Operator::Modulo, 7),
+    ];
     let sequence = from_crossline(alloc, 1, 3, signed(0, 1, 4), &steps)?;
     assert!(rt; meets(bench, alloc, sequence, None));
     assert!(rt; bench.looks().checked_sub(before) <= Some(6));
@@ -71,7 +75,13 @@ fn refuse_whole(rt: &impl Abort, alloc: Global, bench: &mut Bench) -> Result<(),
         (1, 3, 1, 1, Operator::Times, 6, Refusal::DoesNotFit),
     ];
     for (a, b, byte, size, operator, number, expected) in &cases {
-        let edit = from_crossline(alloc, *a, *b, signed(0, *byte, *size), &[(*operator, *number)])?;
+        let edit = from_crossline(
+            alloc,
+            *a,
+            *b,
+            signed(0, *byte, *size),
+            &[(*operator, *number)],
+        )?;
         assert!(rt; meets(bench, alloc, edit, Some(*expected)));
     }
     assert_eq!(rt; value(bench, alloc, 1, signed(0, 1, 4))?, sequence);

@@ -85,6 +85,15 @@ impl LiveVolume {
         ensures looks { RisesAtMost self.old.looks self.new.looks
             (looks_at (formula_at self.old.state.fields place source.now steps.now) (b + 1 - a)) }
     {
-        computed_bytes(alloc, &mut self.overlay, &self.fields, a, b, place, source, steps)
+        computed_bytes(
+            alloc,
+            &mut self.overlay,
+            &self.fields,
+            a,
+            b,
+            place,
+            source,
+            steps,
+        )
     }
 }

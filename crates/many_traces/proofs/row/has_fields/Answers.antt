@@ -10,4 +10,4 @@ loop-field-preserved c =
     let item : slice_index_or c.args.fields.now c.loop-field.field-index c.field-item.result ≡ c.field-item.result = search rules in
     c.loop-field.invariant
     ∙ list_left (number_in (head_of c.args.trace.now) (bytes_of c.args.trace.now) c.args.map.now.pairs) c.args.fields.now c.loop-field.field-index c.field-item.result c.loop-field-test.true
-      (ap (λ field. is_some (number_in (head_of c.args.trace.now) (bytes_of c.args.trace.now) c.args.map.now.pairs field)) item ∙ ap (λ o. is_some o) (sym c.number_of.ensures) ∙ c.if-is_none.ensures)
+    (ap (λ field. is_some (number_in (head_of c.args.trace.now) (bytes_of c.args.trace.now) c.args.map.now.pairs field)) item ∙ ap (λ o. is_some o) (sym c.number_of.ensures) ∙ c.if-is_none.ensures)

@@ -83,6 +83,18 @@ told 'a name that is not bound' 'unmap shot' 'E08 M06 unknown: unmap shot'
 told 'a name of the standard that is bound' 'map delay @17:4' 'E08 M07 standard: map delay @17:4 (a name of the standard keeps its place: take another)'
 told 'a file above its limit' 'blank 1' 'E09 too large: blank 1 (--max-bytes N raises the limit)' --max-bytes 4332
 
+told 'a zero divisor' 'compute 1 3 offset 1 / 0' 'E13 zero divisor trace 1: compute 1 3 offset 1 / 0 (find tells the traces where a FIELD is 0: leave them out)'
+told 'an operator without blanks' 'compute 1 3 offset cdp/1000' 'E02 no field: compute 1 3 offset cdp/1000 (an operator is a word of its own, as in cdp / 1000)'
+told 'an operator behind a number without blanks' 'compute 1 3 offset 10*inline' 'S03 number: compute 1 3 offset 10*inline (an operator is a word of its own, as in cdp / 1000)'
+told 'a field that begins with a digit' 'compute 1 3 offset 3d_line' 'S03 number: compute 1 3 offset 3d_line (what begins with a digit, - or + is to be a NUMBER)'
+told 'a plus in front of an operand' 'compute 1 3 offset inline + +5' 'S03 number: compute 1 3 offset inline + +5 (a number has no + in front)'
+told 'no operator' 'compute 1 3 offset inline ^ 2' 'S03 number: compute 1 3 offset inline ^ 2 (OP is one of + - * / %)'
+told 'an operator without an operand' 'compute 1 3 offset inline +' 'S02 words: compute 1 3 offset inline + (behind SOURCE each OP has an OPERAND)'
+told 'two operators side by side' 'compute 1 3 offset inline + - 2 *' 'S03 number: compute 1 3 offset inline + - 2 * (behind each OP stands a NUMBER or a FIELD)'
+told 'nine operations' "compute 1 3 offset 1$(printf ' + 1%.0s' $(seq 9))" "S02 words: compute 1 3 offset 1$(printf ' + 1%.0s' $(seq 9)) (at most 8 operations: go on in a second line)"
+told 'a near name of a computation' 'compute 1 3 offset inlin + 1' 'E02 no field: compute 1 3 offset inlin + 1 (did you mean inline?)'
+told 'P behind Q of a computation' 'compute 2 1 offset 1' 'E01 no trace 1 of 3: compute 2 1 offset 1 (P stands behind Q: the first of the traces comes first)'
+
 # ---- the forms are those of the manual
 forms() { sed -n 's/^### \([a-z].*\)/\1/p' "$top/docs/MANUAL.md"; }
 top=$(cd "$here/.." && pwd)

@@ -28,6 +28,7 @@ pub(crate) static COMMANDS: [&str; 38] = [
     "move",
     "resize",
     "renumber",
+    "compute",
     "geometry",
     "stat",
     "fold",
@@ -41,6 +42,9 @@ pub(crate) static COMMANDS: [&str; 38] = [
     "faults",
     "compute",
 ];
+
+// The form of a computed field.
+const COMPUTE: &str = "compute P Q FIELD SOURCE [OP OPERAND] ..";
 
 /// The form of a command, by its word: empty where the word is none.
 pub(crate) fn form(word: &[u8]) -> &'static str {
@@ -63,6 +67,7 @@ pub(crate) fn form(word: &[u8]) -> &'static str {
         b"move" => "move P Q",
         b"resize" => "resize P NUMBER",
         b"renumber" => "renumber P Q FIELD FIRST STEP",
+        b"compute" => COMPUTE,
         b"geometry" => "geometry P",
         b"stat" => "stat P",
         b"fold" => "fold NUMBER NUMBER",

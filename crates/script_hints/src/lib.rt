@@ -7,6 +7,7 @@
 #![tactic(auto)]
 
 mod commands;
+mod compute_hint;
 mod fault;
 mod hint;
 mod line_hint;

@@ -1,5 +1,6 @@
 // What may be meant by a line that is refused.
 use crate::commands::{COMMANDS, form};
+use crate::compute_hint::{computed_number_hint, joined_hint, operations_hint};
 use crate::fault::Fault;
 use crate::hint::Hint;
 use crate::names::{BINARY_NAMES, QUANTITIES, TRACE_NAMES};
@@ -44,6 +45,7 @@ fn line_hint(words: &Words, fault: LineFault) -> Hint {
         LineFault::Unknown => nearest(words.at(0), &COMMANDS),
         LineFault::Words if words.has_note() => note_behind(),
         LineFault::Words => wrong_words(words),
+        LineFault::Number if words.at(0) == b"compute".as_slice() => wrong_computation(words),
         LineFault::Number => wrong_number(words),
         LineFault::NotText => Hint::Text("the line is not UTF-8: save the script as UTF-8"),
         LineFault::TooLarge | LineFault::OutOfMemory => Hint::None,
@@ -58,7 +60,15 @@ fn note_behind() -> Hint {
 fn wrong_words(words: &Words) -> Hint {
     match words.at(0) {
         b"table" if !words.at(3).is_empty() => Hint::Text("a table has at most 64 fields"),
+        b"compute" => text_or_form(operations_hint(words), words),
         _ => form_of(words),
+    }
+}
+
+fn text_or_form(text: Option<&'static str>, words: &Words) -> Hint {
+    match text {
+        Some(text) => Hint::Text(text),
+        None => form_of(words),
     }
 }
 
@@ -94,10 +104,26 @@ fn wrong_number(words: &Words) -> Hint {
             hint => hint,
         },
         b"map" => Hint::Text("a place is @BYTE:SIZE, as @189:4"),
-        _ if words.as_slice().iter().any(|word| word.starts_with(b"@")) => {
-            Hint::Text("a place is @BYTE:SIZE, as @189:4")
-        }
-        _ => form_of(words),
+        _ => place_or_form(words),
+    }
+}
+
+fn place_or_form(words: &Words) -> Hint {
+    if words.as_slice().iter().any(|word| word.starts_with(b"@")) {
+        Hint::Text("a place is @BYTE:SIZE, as @189:4")
+    } else {
+        form_of(words)
+    }
+}
+
+// Of a computation with a word that has to be a number, a place or an operator.
+fn wrong_computation(words: &Words) -> Hint {
+    if words.has_note() {
+        return note_behind();
+    }
+    match computed_number_hint(words) {
+        Some(text) => Hint::Text(text),
+        None => place_or_form(words),
     }
 }
 
@@ -111,6 +137,7 @@ fn edit_hint(words: &Words, refusal: Refusal) -> Hint {
         Refusal::Frame => frame(words),
         Refusal::Map(fault) => map_hint(words, fault),
         Refusal::TooLarge => Hint::Text("--max-bytes N raises the limit"),
+        Refusal::ZeroDivisor(_) => Hint::Text("find tells the traces where a FIELD is 0: leave them out"),
         _ => Hint::None,
     }
 }
@@ -140,7 +167,7 @@ fn no_trace(words: &Words, p: u32, count: u32) -> Hint {
 
 // Whether the command is one of the traces from P to Q.
 fn is_of_range(command: &[u8]) -> bool {
-    matches!(command, b"renumber" | b"table" | b"find" | b"extremes" | b"compute")
+    matches!(command, b"renumber" | b"compute" | b"table" | b"find" | b"extremes")
 }
 
 // Of a name that is no field.
@@ -152,6 +179,10 @@ fn no_field(words: &Words) -> Hint {
         }
         b"renumber" | b"find" => trace_field(words.at(3)),
         b"table" => first_unknown(words, 3),
+        b"compute" => match joined_hint(words) {
+            Some(text) => Hint::Text(text),
+            None => first_unknown(words, 3),
+        },
         _ => trace_field(words.at(2)),
     }
 }
@@ -159,7 +190,7 @@ fn no_field(words: &Words) -> Hint {
 // Of the first word from this one on that is no place and no name that is always there.
 fn first_unknown(words: &Words, from: usize) -> Hint {
     for word in words.as_slice().iter().skip(from) {
-        if !word.starts_with(b"@") && !is_trace_name(word) {
+        if word.first().is_some_and(u8::is_ascii_alphabetic) && !is_trace_name(word) {
             return trace_field(word);
         }
     }
@@ -199,7 +230,7 @@ fn no_place(words: &Words) -> Hint {
         }
         b"text" | b"line" => Hint::Text("lines count from 1 to 40, blocks from 0"),
         b"code" | b"lines" => Hint::Text("blocks count from 0"),
-        b"set" | b"get" | b"renumber" | b"table" | b"find" => {
+        b"set" | b"get" | b"renumber" | b"compute" | b"table" | b"find" => {
             Hint::Text("BYTE is that of the header, 1 to 240; SIZE is 1, 2, 3, 4 or 8")
         }
         _ => Hint::None,

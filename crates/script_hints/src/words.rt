@@ -7,6 +7,7 @@ const MOST: usize = 24;
 #[derive(Drop)]
 pub(crate) struct Words<'a> {
     words: [&'a [u8]; MOST],
+    length: usize,
     has_note: bool,
 }
 
@@ -22,7 +23,11 @@ impl<'a> Words<'a> {
                 length += 1;
             }
         }
-        Words { words, has_note }
+        Words {
+            words,
+            length,
+            has_note,
+        }
     }
 
     /// The word of this number, from 0: no bytes where there is none.
@@ -31,6 +36,11 @@ impl<'a> Words<'a> {
             Some(word) => *word,
             None => b"",
         }
+    }
+
+    /// How many of the words there are.
+    pub(crate) fn count(&self) -> usize {
+        self.length
     }
 
     /// The words; no bytes stand for those that are missing.

@@ -13,7 +13,7 @@ differs 'not a byte' s.sgy o.sgy ''
 answers 'the number of samples of a trace' 1 v.sgy 'compute 1 3 samples 3 ; compute 2 2 samples 1 + 1 ; get 2 samples' 'refused E06 frame / ok / value 2'
 answers 'words of compute' 1 s.sgy 'compute ; compute 1 3 inline ; compute 1 3 inline 1 + ; compute 1 3 inline 1 + 1 + 1 + 1 + 1 + 1 + 1 + 1 + 1 + 1 ; compute 1 3 inline 1 ^ 2 ; compute 1 3 inline 5x ; compute 1 3 inline +5 ; compute 1 3 inline 1 + @9 ; compute x 3 inline 1 ; compute 1 3 @9 1 ; compute 1 1 inline 0 + 1 + 1 + 1 + 1 + 1 + 1 + 1 + 1 ; get 1 inline' 'refused S02 words / refused S02 words / refused S02 words / refused S02 words / refused S03 number / refused S03 number / refused S03 number / refused S03 number / refused S03 number / refused S03 number / ok / value 8'
 answers 'kept slices follow' 0 s.sgy 'slice 0 ; compute 1 3 crossline 30 - crossline ; slice 0' 'slice 3 / row 10 21 1 1 / row 10 22 2 3 / row 10 23 3 -5 / ok / slice 3 / row 10 7 3 -5 / row 10 8 2 3 / row 10 9 1 1'
-reloads 'reports after computed fields' s.sgy 'compute 1 3 inline crossline * -3 % 7\ncompute 2 3 x x / 7\ncompute 1 2 scalar 0 - 100\ncompute 1 3 offset offset + offset\n'
+reloads 'reports after computed fields' s.sgy 'compute 1 3 inline crossline * -3 %% 7\ncompute 2 3 x x / 7\ncompute 1 2 scalar 0 - 100\ncompute 1 3 offset offset + offset\n'
 reloads 'reports after computed places of extensions' x.sgy 'copy 1 1\nmap deep @1.9:8\ncompute 1 2 deep 2147483648 * 4294967295\ncompute 1 2 inline deep / 1000000000000\n'
 # a number and no operation: as a field that is counted up by 0
 printf 'compute 2 3 inline 7\ncompute 1 3 @115:2u 9\ncompute 1 3 @225:8u 18446744073709551615\n' > script

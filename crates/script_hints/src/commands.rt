@@ -40,7 +40,6 @@ pub(crate) static COMMANDS: [&str; 38] = [
     "totals",
     "slice",
     "faults",
-    "compute",
 ];
 
 // The form of a computed field.
@@ -84,7 +83,6 @@ fn form_of_headers(word: &[u8]) -> &'static str {
         b"find" => "find P Q FIELD LOW HIGH",
         b"header" => "header P",
         b"extremes" => "extremes P Q",
-        b"compute" => "compute P Q FIELD SOURCE [OP OPERAND] ..",
         _ => form_alone(word),
     }
 }

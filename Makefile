@@ -61,8 +61,9 @@ dist:
 	install -D -m 755 $(BUILT) $(SHIPPED)
 	cd dist && sha256sum segywb-x86_64-linux > SHA256SUMS
 
-# What is made from other files: the man pages and the words of the desk from docs/MANUAL.md, the rows of docs/DEFINITIONS.md from the comments.
+# What is made from other files: the tables of names in docs/MANUAL.md from the program's, the man pages and the words of the desk from docs/MANUAL.md, the rows of docs/DEFINITIONS.md from the comments.
 pages:
+	tools/names --write
 	tools/manpages man
 	tools/definitions
 	tools/desk-words docs/MANUAL.md > python/src/segywb/desk/manual.txt
@@ -103,6 +104,7 @@ bench: build
 	bash benchmarks/live $(BUILT)
 	bash benchmarks/slices $(BUILT)
 	bash benchmarks/renumber $(BUILT)
+	bash benchmarks/headers $(BUILT)
 	bash benchmarks/python $(BUILT)
 	bash benchmarks/desk $(BUILT)
 	bash benchmarks/orders $(TIMINGS)

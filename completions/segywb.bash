@@ -6,7 +6,7 @@ _segywb() {
         --max-bytes) COMPREPLY=() ;;
         *)
             if [[ $word == -* ]]; then
-                mapfile -t COMPREPLY < <(compgen -W '--script --session --out --in-place --fixed --max-bytes --stop --help --version' -- "$word")
+                mapfile -t COMPREPLY < <(compgen -W '--script --session --out --in-place --fixed --max-bytes --stop --quiet --help --version' -- "$word")
             else
                 compopt -o filenames 2> /dev/null
                 mapfile -t COMPREPLY < <(compgen -f -- "$word")

@@ -6,5 +6,6 @@ complete -c segywb -l in-place -d 'write over that file itself'
 complete -c segywb -l fixed -d "read each trace with the binary header's number of samples"
 complete -c segywb -l max-bytes -x -d 'refuse files above so many bytes'
 complete -c segywb -l stop -d 'end the run at the first refused line, and save nothing'
+complete -c segywb -l quiet -d 'leave out the places and hints of refused lines on standard error'
 complete -c segywb -s h -l help -d 'print help'
 complete -c segywb -s V -l version -d 'print version'

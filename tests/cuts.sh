@@ -196,6 +196,9 @@ once 'a number of traces' saves o.sgy may so 0 wanted - bad.sgy -- "$program" ba
 cp v.sgy bad.sgy
 put bad.sgy 3960 ffff
 echo 'stat 2' > script
+echo 'table 2 2 samples' > table
+once 'a number of samples in a header' saves o.sgy may so 0 '=table 1
+2 65535' - bad.sgy -- "$program" bad.sgy --script table --out o.sgy
 once 'a trace of 65535 samples over the next' saves o.sgy may so 0 '=stat least -1 greatest 0 sum -1 samples 65535' - bad.sgy -- "$program" bad.sgy --script script --out o.sgy
 
 finish

@@ -31,6 +31,7 @@ rm -rf made
 runs_well 'man pages are made' bash "$top/tools/manpages" made
 runs_well 'the man pages are those of the manual' diff -r made "$top/man"
 runs_well 'the rows of the definitions' bash "$top/tools/definitions" --check
+runs_well 'the tables of the names' bash "$top/tools/names" --check
 for page in segywb.1 segywb-script.5 segywb-plot.1 segywb-report.1 segywb-desk.1; do
     if command -v mandoc > /dev/null; then same "mandoc on $page" "$(mandoc -Tlint "$top/man/$page" 2>&1)" ''; fi
     if command -v man > /dev/null && man --help 2>&1 | grep -q -- --warnings; then
@@ -40,7 +41,7 @@ done
 
 # ---- the manual has each name at its place, each command, each refusal
 names() {
-    cat "$top/crates/field_map/specs/StandardNames.antt" "$top/crates/field_map/specs/Binding.antt" |
+    cat "$top/crates/field_map/specs/"{StandardNames,HeaderNames,Binding}.antt |
         sed -n 's/.*(codes "\([a-z0-9_]*\)", \([a-z_]*\) \([0-9]*\) \([0-9]*\)).*/\1 \2 \3 \4/p' |
         while read -r name kind byte size; do
             bytes=bytes
@@ -48,13 +49,14 @@ names() {
             case $kind in
                 signed_at) echo "$name @$byte:$size $size $bytes, signed" ;;
                 unsigned_at) echo "$name @$byte:${size}u $size $bytes, unsigned" ;;
+                signed_in_first_extension) echo "$name @1.$byte:$size $size $bytes, signed" ;;
                 unsigned_in_first_extension) echo "$name @1.$byte:${size}u $size $bytes, unsigned" ;;
             esac
-        done | sort
+        done | sort -u
 }
 same 'the names of the manual' "$(names)" "$(sed -n 's/^| `\([a-z0-9_]*\)` | `\(@[^`]*\)` | \([^|]*\) |.*/\1 \2 \3/p' "$top/docs/MANUAL.md" | sort)"
-[ "$(names | wc -l)" -ge 55 ] && tell 'there are names' ok || tell 'there are names' "$(names | wc -l)"
-commands() { cat "$top/crates/script_text/specs/Commands.antt" "$top/crates/script_text/specs/ReportCommands.antt" | sed -n 's/.*(codes "\([a-z]*\)", .*/\1/p' | sort; }
+[ "$(names | wc -l)" -ge 126 ] && tell 'there are names' ok || tell 'there are names' "$(names | wc -l)"
+commands() { cat "$top/crates/script_words/specs/"*Commands.antt | sed -n 's/.*(codes "\([a-z]*\)", .*/\1/p' | sort; }
 same 'the commands of the manual' "$(commands)" "$(sed -n 's/^### \([a-z]*\).*/\1/p' "$top/docs/MANUAL.md" | sort)"
 [ "$(commands | wc -l)" -ge 30 ] && tell 'there are commands' ok || tell 'there are commands' "$(commands | wc -l)"
 # a fault's words: its code, `trace` where it is of a trace, and the words between its numbers, which are capitals in the manual

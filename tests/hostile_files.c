@@ -260,6 +260,17 @@ static void count_as(const char *text) {
     met[at].met++;
 }
 
+/* The queries: those of traces where there are traces, from the first to the last of them. */
+static void ask(const char *text) {
+    static const char always[] = "count\ninfo\nfaults\ntotals\nrange x\ngrid\nhistogram\nslice 0\nslice 1\nstanzas\nline 0 1\nfields\nlines 0\n";
+    char queries[1000];
+    unsigned long traces = 0;
+    strcpy(queries, always);
+    if (sscanf(text, "traces %lu", &traces) == 1 && traces)
+        sprintf(queries + strlen(queries), "header 1\nheader %lu\nextremes 1 %lu\ntable 1 %lu inline @1:8 samples\nfind 1 %lu crossline -5 30\n", traces, traces, traces, traces);
+    write_path("queries", queries, strlen(queries));
+}
+
 /* Runs one variant; whether it went as it has to. */
 static int run(char *program, long number, byte *bytes) {
     extern char **environ;
@@ -273,6 +284,7 @@ static int run(char *program, long number, byte *bytes) {
     sprintf(limit, "%zu", file.most);
     judge(&file, text);
     is_accepted = text[0] == 't';
+    ask(text);
     sprintf(wanted, is_accepted ? "%s\n" : "load refused %s\n", text);
     write_path("variant.sgy", bytes, file.length);
     unlink("saved.sgy");
@@ -295,7 +307,6 @@ static int run(char *program, long number, byte *bytes) {
 }
 
 int main(int count, char **words) {
-    static const char queries[] = "count\ninfo\nfaults\ntotals\nrange x\ngrid\nhistogram\nslice 0\nslice 1\nstanzas\nline 0 1\nfields\n";
     static byte bytes[MOST_BYTES + 5000];
     long number, failed = 0;
     int at;
@@ -305,7 +316,6 @@ int main(int count, char **words) {
         bases[base_count] = read_path(words[at]);
         if (!bases[base_count].bytes || bases[base_count++].length > MOST_BYTES) give_up(words[at]);
     }
-    write_path("queries", queries, sizeof queries - 1);
     for (number = 1; number <= atol(words[3]) && !is_late; number++) failed += !run(words[1], number, bytes);
     for (at = 0; met[at].met; at++) printf("%s %ld\n", strcmp(met[at].code, "acc") ? met[at].code : "accepted", met[at].met);
     return failed != 0;

@@ -57,11 +57,13 @@ for count in 0 1 2 3 4 5 255 256 257 512 65536; do
     { echo count; for ((n = 0; n < count; n++)); do echo x; done; } > script
     "$program" s.sgy --script script --out o.sgy > answers 2> errors
     got=$?
-    if [ "$got" = $((count > 0)) ] && [ "$(wc -l < answers)" = $((count + 1)) ] && [ ! -s errors ] && cmp -s s.sgy o.sgy; then tell "$count lines refused" ok; else tell "$count lines refused" "status $got"; fi
+    refusals_told || got="$got, refusals told: $(head -c 300 errors)"
+    if [ "$got" = $((count > 0)) ] && [ "$(wc -l < answers)" = $((count + 1)) ] && [ ! -s others ] && cmp -s s.sgy o.sgy; then tell "$count lines refused" ok; else tell "$count lines refused" "status $got"; fi
     rm -f o.sgy
     "$program" s.sgy --script script --out o.sgy --stop > answers 2> errors
     got=$?
-    if [ "$got" = $((count > 0)) ] && [ "$(wc -l < answers)" = $((count > 0 ? 2 : 1)) ] && [ ! -s errors ]; then tell "$count lines refused, with --stop" ok; else tell "$count lines refused, with --stop" "status $got"; fi
+    refusals_told || got="$got, refusals told: $(head -c 300 errors)"
+    if [ "$got" = $((count > 0)) ] && [ "$(wc -l < answers)" = $((count > 0 ? 2 : 1)) ] && [ ! -s others ]; then tell "$count lines refused, with --stop" ok; else tell "$count lines refused, with --stop" "status $got"; fi
     if [ "$count" = 0 ]; then differs 'a run without a refusal saves' s.sgy o.sgy ''; else is_absent 'a stopped run saves nothing' o.sgy; fi
 done
 printf 'x\n' > script

@@ -24,7 +24,15 @@ tell() {
     if [ "$2" = ok ]; then passed=$((passed + 1)); else failed=$((failed + 1)); printf 'FAILED %s: %s\n' "$1" "$2"; fi
 }
 
-# expect NAME STATUS ANSWERS ERRORS WORD..: runs the program on the words, with printf's escapes in the texts
+# refusals_told: standard error tells the refusals among the answers, in order, the first 20; what else it has goes to the file `others`
+refusals_told() {
+    sed -nE 's/^(load )?refused //p' answers | head -n 20 > refusals
+    sed -E '/^segywb: [^:]*(:[0-9]+)?: [LES][0-9][0-9] /d; /^segywb: [0-9]+ more lines? refused, not told here$/d; /^segywb: saved without [0-9]+ refused lines?; /d' errors > others
+    sed -nE 's/^segywb: [^:]*(:[0-9]+)?: ([LES][0-9][0-9] [^:(]*[^:( ]).*/\2/p' errors | cmp -s - refusals
+}
+
+# expect NAME STATUS ANSWERS ERRORS WORD..: runs the program on the words, with printf's escapes in the texts; ERRORS is what standard
+# error has beside the refusals
 expect() {
     local name=$1 status=$2 answers=$3 errors=$4 outcome=ok
     shift 4
@@ -32,7 +40,8 @@ expect() {
     local got=$?
     [ "$got" = "$status" ] || outcome="status $got, not $status"
     printf "$answers" | cmp -s - answers || outcome="answers: $(head -c 300 answers)"
-    printf "$errors" | cmp -s - errors || outcome="standard error: $(head -c 300 errors)"
+    refusals_told || outcome="refusals told: $(head -c 300 errors)"
+    printf "$errors" | cmp -s - others || outcome="standard error: $(head -c 300 errors)"
     tell "$name" "$outcome"
 }
 
@@ -266,12 +275,16 @@ line 'two files' s.sgy x.sgy --script script
 line 'a limit of 0' s.sgy --script script --max-bytes 0
 line 'a limit above 2^40' s.sgy --script script --max-bytes 1099511627777
 line 'a limit that is no number' s.sgy --script script --max-bytes many
-line 'help' --help
 expect 'the greatest limit' 0 'ok\n' '' s.sgy --script script --max-bytes 1099511627776
+
+. "$here/where.sh" || tell 'where.sh' 'did not run to its end'
 
 . "$here/reports.sh" || tell 'reports.sh' 'did not run to its end'
 
 . "$here/edits.sh" || tell 'edits.sh' 'did not run to its end'
+
+. "$here/headers.sh" || tell 'headers.sh' 'did not run to its end'
+. "$here/computed.sh" || tell 'computed.sh' 'did not run to its end'
 
 . "$here/documents.sh" || tell 'documents.sh' 'did not run to its end'
 

@@ -20,7 +20,7 @@ struct text {
     size_t length;
 };
 
-/* How a run ended: its exit status, or 256 and the signal that ended it. */
+/* How a run ended: its exit status, or 256 and the signal that ended it. The errors are what standard error has beside the refusals. */
 struct ended {
     int status;
     struct text answers, errors;
@@ -74,6 +74,35 @@ static void write_path(const char *path, const void *bytes, size_t length) {
     close(file);
 }
 
+/* Whether a line of standard error tells a refused line or file, which the answers tell too: `segywb: PATH:3: E01 ..`, `segywb: PATH: L14 ..`,
+   how many more there are, or a save without them. */
+static int tells_refusal(const char *line, size_t length) {
+    static const char head[] = "segywb: ", saved[] = "saved without ", more[] = " refused, not told here";
+    size_t at = sizeof head - 1;
+    if (length < at || memcmp(line, head, at) != 0) return 0;
+    if (length >= at + sizeof saved - 1 && memcmp(line + at, saved, sizeof saved - 1) == 0) return 1;
+    if (length >= at + sizeof more - 1 && memcmp(line + length - (sizeof more - 1), more, sizeof more - 1) == 0) return 1;
+    for (; at + 6 <= length; at++)
+        if (line[at] == ':' && line[at + 1] == ' ')
+            return strchr("LSE", line[at + 2]) && line[at + 3] >= '0' && line[at + 3] <= '9' && line[at + 4] >= '0' && line[at + 4] <= '9' && line[at + 5] == ' ';
+    return 0;
+}
+
+/* Leaves out of a text the lines that tell refusals. */
+static void leave_refusals_out(struct text *text) {
+    size_t from = 0, kept = 0;
+    while (from < text->length) {
+        const char *end = memchr(text->bytes + from, '\n', text->length - from);
+        size_t length = end ? (size_t)(end - (text->bytes + from)) + 1 : text->length - from;
+        if (!tells_refusal(text->bytes + from, length - (end != NULL))) {
+            memmove(text->bytes + kept, text->bytes + from, length);
+            kept += length;
+        }
+        from += length;
+    }
+    text->length = kept;
+}
+
 /* Runs the words with these variables, standard input empty, until it ends or its time is over. */
 static struct ended run_program(char **words, char **variables) {
     static int answers = -1, errors;
@@ -102,6 +131,7 @@ static struct ended run_program(char **words, char **variables) {
     ended.status = WIFEXITED(status) ? WEXITSTATUS(status) : 256 + WTERMSIG(status);
     ended.answers = read_file(answers);
     ended.errors = read_file(errors);
+    leave_refusals_out(&ended.errors);
     return ended;
 }
 

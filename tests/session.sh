@@ -68,11 +68,15 @@ printf 'count\0\n\377\ncount\n' > lines
 expect 'a NUL, and bytes that are no text' 1 'refused S01 unknown word\n\nrefused S04 not text\n\ntraces 3\n\n' '' s.sgy --session
 printf 'count\n' > lines
 head -c 3000 s.sgy > short.sgy
-expect 'a refused file has its line alone' 3 'load refused L03 short 3000\n' '' short.sgy --session
+expect 'a refused file has its line alone' 3 'load refused L03 short 3000\n' 'segywb: short.sgy: L03 short 3000 (the two file headers have 3600 bytes)\n' short.sgy --session
+expect 'and quietly' 3 'load refused L03 short 3000\n' '' short.sgy --session --quiet
 
 # ---- as a run of the same lines
 printf 'count\nset 1 inline 77\nset 9 inline 1\ninlines\nfaults\ngrid\n# note\n\nmap far @1:4\nfields\ninfo\nhistogram\nslice 0\nslice 1\nslice 1\nline 0 1\ntext 1 C 1 NOTE\nline 0 1\n' > lines
 as_a_run 'reports and edits' s.sgy
+printf 'table 1 3 inline crossline @5:4\nset 2 crossline -7\nfind 1 3 crossline -9 21\nheader 2\nextremes 2 3\nlines 0\ntable 1 4 inline\nfind 1 3 nothing 1 2\nlines 1\nheader 4\nmap mine @189:4\nheader 1\nextremes 1 1\nfind 1 3 mine 11 9\ntable 3 3 mine mine\n' > lines
+as_a_run 'headers' s.sgy
+as_a_run 'headers with an extension' x.sgy
 printf 'delete 1\nblank 1\ncopy 2 4\nmove 1 3\npatch 1 0 5 6\nrenumber 1 3 inline 100 5\ninlines\nget 1 inline\nsample 1 1\nbogus\ntotals\nrange x\n' > lines
 as_a_run 'traces' s.sgy
 as_a_run 'under --fixed' s.sgy --fixed
@@ -135,7 +139,7 @@ fi
 
 # ---- each growth of memory is refused in turn: a line is E11 and changes nothing, and all others are answered and saved as without it
 if command -v cc > /dev/null && cc -O1 -shared -fPIC -o refuse_growth.so "$here/refuse_growth.c" -ldl 2> /dev/null; then
-    script=('set 1 inline 5' "# $(head -c 150000 /dev/zero | tr '\0' x)" 'patch 1 0 7' "map mine @9:4$(head -c 70000 /dev/zero | tr '\0' ' ')" 'get 1 inline' 'text 1 C 1 NOTE' 'copy 1 2' count)
+    script=('set 1 inline 5' 'table 1 3 inline x' 'lines 0' "# $(head -c 150000 /dev/zero | tr '\0' x)" 'patch 1 0 7' "map mine @9:4$(head -c 70000 /dev/zero | tr '\0' ' ')" 'get 1 inline' 'text 1 C 1 NOTE' 'copy 1 2' count)
     printf '%s\n' "${script[@]}" > lines
     env LD_PRELOAD=./refuse_growth.so REFUSE_COUNT=asked "$program" s.sgy --session --out o.sgy < lines > answers 2> errors
     outcome=ok

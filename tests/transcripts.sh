@@ -3,6 +3,7 @@
 # and standard error must be the block ```text that follows it (no such block: nothing). Words behind `sh` and `text`:
 #   sh top        the block is run at the top of the repository, else in a folder with the example files
 #   sh needs=WORD the block is left out where there is no command WORD
+#   sh told       with what standard error has for refused lines, which the other blocks leave out (--quiet)
 #   text status=N the last command's exit status, which is else 0
 # The blocks of one document share a folder, and are run one after another. `segywb` is the program that is tried, and the tools
 # for pictures and pages are there.
@@ -14,8 +15,10 @@ PROGRAM=$(realpath "$1")
 shift
 room=$(mktemp -d)
 trap 'rm -rf "$room"' EXIT
-mkdir "$room/bin" "$room/home"
-ln -s "$PROGRAM" "$room/bin/segywb"
+mkdir "$room/bin" "$room/told_too" "$room/home"
+printf '#!/bin/sh\nexec "%s" --quiet "$@"\n' "$PROGRAM" > "$room/bin/segywb"
+chmod +x "$room/bin/segywb"
+ln -s "$PROGRAM" "$room/told_too/segywb"
 ln -s "$top/tools/segywb-plot" "$top/tools/segywb-report" "$room/bin"
 export PROGRAM PATH="$room/bin:$PATH" HOME="$room/home" LC_ALL=C
 unset MAKEFLAGS MAKELEVEL MFLAGS PREFIX DESTDIR SEGYWB GNUPLOT
@@ -25,15 +28,16 @@ left_out=0
 
 # try DOCUMENT LINE WORDS COMMANDS STATUS ANSWERS: runs one example
 try() {
-    local folder=$room/work got word
+    local folder=$room/work path=$PATH got word
     for word in $3; do
         case $word in
             top) folder=$top ;;
+            told) path=$room/told_too:$PATH ;;
             needs=*) command -v "${word#needs=}" > /dev/null || { left_out=$((left_out + 1)); printf 'left out %s:%s: no %s\n' "$1" "$2" "${word#needs=}"; return; } ;;
             *) failed=$((failed + 1)); printf 'FAILED %s:%s: the word %s\n' "$1" "$2" "$word"; return ;;
         esac
     done
-    (cd "$folder" && bash -c "$4") > "$room/told" 2>&1 < /dev/null
+    (cd "$folder" && PATH=$path bash -c "$4") > "$room/told" 2>&1 < /dev/null
     got=$?
     printf '%s' "$6" > "$room/wanted"
     if [ "$got" = "$5" ] && cmp -s "$room/told" "$room/wanted"; then passed=$((passed + 1)); return; fi

@@ -28,6 +28,7 @@ def whole_file(v):
     text = v.text
     for block in range(i.blocks + 1):
         yield f"code {block}", f"code {v.code(block)}"
+        yield f"lines {block}", listed("lines", (f"line |{line}|" for line in v.lines(block)))
         for at in range(1, 41):
             yield f"line {block} {at}", f"line |{text[40 * block + at - 1]}|"
     yield "stanzas", listed("stanzas", (f"stanza {one.block} {one.name}" for one in v.stanzas()))
@@ -52,11 +53,27 @@ def reports(v):
         yield f"fold {i} {x}", f"fold {v.fold(i, x)}"
 
 
+def used(v):
+    """What is found, and the extremes, each with the answer by what Python shows."""
+    count = len(v)
+    if not count:
+        return
+    for low, high in ((-5, 5), (0, 0), (-(2**31), 2**31), (7, -7)):
+        found = v.find("crossline", low, high)
+        yield f"find 1 {count} crossline {low} {high}", listed("found", (f"trace {p} {value}" for p, value in found))
+    for first in sorted({1, (count + 1) // 2, count}):
+        found = v.extremes(range(first, count + 1))
+        yield f"extremes {first} {count}", listed("extremes", (f"field {name} {' '.join(map(str, four))}" for name, four in found.items()))
+
+
 def traces(v):
     """Each trace: where it lies, its samples and its headers."""
     count = len(v)
     names = [name for name in [*TRACE_NAMES, *v.fields()] if v.info.extensions or not name.startswith("ext_")]
     headers = v.headers(*names)
+    if count:
+        rows = v.headers("inline", "interval", "@1:8")
+        yield f"table 1 {count} inline interval @1:8", listed("table", (" ".join(map(str, [p, *row])) for p, row in enumerate(rows, 1)))
     where = v.positions()
     for p in range(1, count + 1):
         g = v.geometry(p)
@@ -64,6 +81,7 @@ def traces(v):
         assert tuple(where[p - 1])[:3] == (g.inline, g.crossline, g.offset)
         assert tuple(where[p - 1])[3:] == (float(g.x), float(g.y))
         yield f"stat {p}", numbers(v.stat(p), "stat")
+        yield f"header {p}", listed("header", (f"field {name} {value}" for name, value in v.header(p).items()))
         for name, value in zip(names, headers[p - 1]):
             yield f"get {p} {name}", f"value {value}"
         for k, value in enumerate(v.samples(p)):
@@ -72,4 +90,4 @@ def traces(v):
 
 def everything(v):
     """All of it."""
-    return [*whole_file(v), *reports(v), *traces(v)]
+    return [*whole_file(v), *reports(v), *used(v), *traces(v)]

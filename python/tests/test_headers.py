@@ -76,9 +76,13 @@ def test_positions_in_an_extension(opened, tmp_path):
 
 def test_pieces(opened, monkeypatch):
     whole = opened("cube").headers("inline", "x", "y").tolist()
-    monkeypatch.setattr("segywb.volume.GET_LINES", 5)
-    monkeypatch.setattr("segywb.volume.BATCH_LINES", 5)
+    for name, number in (("GET_LINES", 5), ("WINDOW_TRACES", 5), ("WINDOW_LINES", 2)):
+        monkeypatch.setattr(f"segywb.volume.{name}", number)
     volume = opened("cube")
+    assert volume.headers("inline", "x", "y").tolist() == whole
+    assert volume.headers("crossline", traces=range(12, 0, -1))["crossline"].tolist() == [204, 203, 202, 201] * 3
+    assert volume.find("crossline", 203, 203)["trace"].tolist() == [3, 7, 11]
+    volume._table = False
     assert volume.headers("inline", "x", "y").tolist() == whole
     assert len(volume.positions()) == 12
 
@@ -105,13 +109,79 @@ for line in sys.stdin:
 def test_by_table(fake, opened, monkeypatch, case, piece):
     """Where the program knows `table`, no `get` is sent."""
     fake(TABLE)
-    monkeypatch.setattr("segywb.volume.BATCH_LINES", piece)
+    monkeypatch.setattr("segywb.volume.WINDOW_TRACES", piece)
     volume = opened("cube")
     got = volume.headers("inline", "y", "x", traces=case[0])
     assert got.tolist() == [(6 * p, p * (1 + 2**60), p) for p in case[1]]
     with pytest.raises(segywb.Refused) as refusal:
         volume.headers("inline", traces=[1, 2, 13])
     assert refusal.value.line.startswith("table ")
+
+
+@pytest.mark.parametrize("case", SELECTIONS, ids=lambda case: str(case[0]))
+def test_by_get(opened, case):
+    """A program that does not know `table` is asked by `get`."""
+    volume = opened("cube")
+    volume.set(4, "@225:8", 2**63 - 1)
+    by_table = volume.headers("inline", "@225:8", "x", traces=case[0])
+    assert volume._table is True or not len(by_table)
+    volume._table = False
+    assert volume.headers("inline", "@225:8", "x", traces=case[0]).tolist() == by_table.tolist()
+
+
+FOUND = [
+    (("inline", 102, 102, None), [(5, 102), (6, 102), (7, 102), (8, 102)]), (("crossline", 204, 999, slice(1, 9)), [(4, 204), (8, 204)]),
+    (("crossline", 203, 204, [8, 1, 7, 7]), [(8, 204), (7, 203), (7, 203)]), (("crossline", 204, 203, None), []), (("inline", -(2**127), 2**127 - 1, 12), [(12, 103)]),
+    (("inline", 0, 999, []), []), (("inline", 0, 999, slice(40, 50)), []), ((TraceField.CROSSLINE_3D, 201, 201, range(9, 0, -4)), [(9, 201), (5, 201), (1, 201)]),
+]
+
+
+@pytest.mark.parametrize("case", FOUND, ids=lambda case: str(case[0]))
+def test_find(opened, case):
+    words, wanted = case
+    got = opened("cube").find(*words)
+    assert got.tolist() == wanted and got.dtype.names == ("trace", "value")
+
+
+def test_a_refused_question_does_not_load_the_file_again(opened, monkeypatch):
+    monkeypatch.setattr("segywb.volume.WINDOW_TRACES", 1)
+    volume = opened("cube")
+    before = volume.pid
+    for call, code in (
+        (lambda: volume.headers("colour"), "E02"), (lambda: volume.headers("inline", traces=[1, 2, 3, 99]), "E01"), (lambda: volume.find("@1.1:4", 0, 1), "E03"),
+        (lambda: volume.header(99), "E01"), (lambda: volume.extremes(range(5, 99)), "E01"), (lambda: volume.lines(1), "E03"), (lambda: volume.positions([99]), "E01"),
+    ):
+        with pytest.raises(segywb.Refused) as refusal:
+            call()
+        assert refusal.value.code == code and volume.pid == before
+    assert volume.headers("inline", traces=[12, 1]).tolist() == [(103,), (101,)]
+
+
+def test_find_wide_numbers(opened):
+    volume = opened("cube")
+    volume.set(2, "@225:8u", 2**64 - 1)
+    volume.set(5, "@225:8", -7)
+    assert volume.find("@225:8u", 1, 2**64).tolist() == [(2, 2**64 - 1), (5, 2**64 - 7)]
+    assert volume.find("@225:8", -9, -1).tolist() == [(2, -1), (5, -7)]
+    volume.set_many("offset", volume.find("@225:8", -9, -1)["trace"], 3)
+    assert volume.headers("offset", traces=volume.find("offset", 3, 3)["trace"])["offset"].tolist() == [3, 3]
+
+
+def test_answers_that_are_not_expected(fake, opened):
+    fake("""
+for line in sys.stdin:
+    word, *more = line.split()
+    told = {"count": "traces 2", "fields": "fields 1\\nfield inline @1:4", "table": "table 2\\n1 7\\n2 8", "find": "found 1\\ntrace 1",
+            "header": "header 2\\nfield inline 7", "extremes": "extremes 1\\nfield inline 7 7 7", "lines": "lines 1\\nline |x"}[word]
+    if word == "table" and more[-1] != "inline":
+        told = "rows 2\\n1 7\\n2 8"
+    print(told, end="\\n\\n", flush=True)
+""")
+    volume = opened("cube")
+    assert volume.headers("inline").tolist() == [(7,), (8,)]
+    for call in (lambda: volume.headers("x"), lambda: volume.headers("x", "inline"), lambda: volume.find("x", 1, 2), lambda: volume.header(1), volume.extremes, volume.lines):
+        with pytest.raises(segywb.ProgramEnded):
+            call()
 
 
 def test_table_of_many_fields(fake, opened):
@@ -133,6 +203,8 @@ pairs = retell.everything(volume)
 assert run(sys.argv[1], [*volume.edits, *(question for question, _ in pairs)])[0] == "".join(line + "\\n" for line in ["ok", "ok"] + [answer for _, answer in pairs])
 assert volume.headers("inline", traces=slice(1, 4)) == [(101,), (7,), (8,)]
 assert volume.headers("inline", traces=[]) == []
+assert volume.find("inline", 7, 8) == [(2, 7), (3, 8)] and volume.find("inline", 8, 7) == []
+assert volume.extremes()["inline"] == (7, 103, 101, 103)
 assert volume.grid.array[0][:2] == [0, 1], volume.grid.array
 assert volume.slice(1).array[0][:2] == [None, 42], volume.slice(1).array
 assert volume.slice(1).traces[0][:2] == [0, 2]

@@ -9,6 +9,7 @@ import retell
 from conftest import TOP, run
 
 import segywb
+from segywb.fields import TRACE_NAMES
 
 EXAMPLES = sorted(path.stem for path in (TOP / "examples").glob("*.sgy"))
 MADE = [files.varying, files.stanzas, files.extended, files.empty]
@@ -18,6 +19,7 @@ METHODS = {
     "patch": "patch", "resize": "resize", "blank": "blank", "copy": "copy", "delete": "delete", "move": "move", "count": "count",
     "info": "info", "geometry": "geometry", "stat": "stat", "totals": "totals", "range": "range", "fold": "fold", "grid": "grid",
     "inlines": "inlines", "crosslines": "crosslines", "histogram": "histogram", "slice": "slice", "faults": "faults",
+    "table": "headers", "find": "find", "header": "header", "extremes": "extremes", "lines": "lines",
 }
 
 
@@ -69,6 +71,47 @@ def test_kinds_of_answers(opened):
     assert bool(volume)
 
 
+def test_the_headers_of_a_trace(opened, tmp_path):
+    volume = opened(files.cube(tmp_path / "cube.sgy"))
+    told = volume.header(6)
+    assert list(told) == [*(name for name in TRACE_NAMES if not name.startswith("ext_")), "inline", "crossline", "offset", "x", "y", "scalar"]
+    used = {name: number for name, number in told.items() if number}
+    assert used == {"sequence_file": 6, "samples": 3, "interval": 4000, "inline_number": 2, "crossline_number": 2, "inline": 2, "crossline": 2}
+    volume.map("mine", "@117:2u")
+    assert list(volume.header(6).items())[-1] == ("mine", 4000)
+    extended = opened(files.extended(tmp_path / "made.sgy")).header(2)
+    assert len(TRACE_NAMES) == 99 and list(extended)[:99] == list(TRACE_NAMES) and extended["ext_count"] == 1
+
+
+def test_extremes(opened, tmp_path):
+    volume = opened(files.cube(tmp_path / "cube.sgy"))
+    whole = {
+        "sequence_file": (1, 12, 1, 12), "samples": (3, 3, 3, 3), "interval": (4000, 4000, 4000, 4000), "inline_number": (1, 3, 1, 3),
+        "crossline_number": (1, 4, 1, 4), "inline": (1, 3, 1, 3), "crossline": (1, 4, 1, 4),
+    }
+    assert volume.extremes() == whole and list(volume.extremes()) == list(whole)
+    assert volume.extremes()["inline"] == segywb.Extremes(least=1, greatest=3, first=1, last=3)
+    part = volume.extremes(slice(3, 6))
+    assert (part["sequence_file"], part["inline"], part["crossline"]) == ((3, 5, 3, 5), (1, 2, 1, 2), (1, 4, 3, 1))
+    assert volume.extremes([4, 5]) == volume.extremes(range(4, 6)) and volume.extremes(7) == volume.extremes([7])
+    volume.set_many("delay", [2, 3], [-9, 4])
+    assert volume.extremes()["delay"] == (-9, 4, 0, 0) and "delay" not in volume.extremes(slice(4, None))
+    assert volume.extremes([]) == {} and volume.extremes(slice(40, 50)) == {}
+    for others in ([1, 3], [2, 1], [1, 1], slice(None, None, -1), range(1, 9, 2)):
+        with pytest.raises(ValueError):
+            volume.extremes(others)
+
+
+def test_lines(opened, tmp_path):
+    volume = opened("survey")
+    volume.set_text(2, "C 2 SEEN")
+    assert len(volume.lines()) == 40 and volume.lines(0)[1] == "C 2 SEEN" == volume.line(0, 2)
+    assert volume.text == volume.text_block(0) == volume.lines()
+    stanzas = opened(files.stanzas(tmp_path / "made.sgy"))
+    assert [stanzas.lines(block)[0] for block in (1, 2)] == ["((OGP:P1/90))", "((SEG: EndText))"]
+    assert len(stanzas.text) == 120
+
+
 def test_faults(opened):
     volume = opened("wrong_line")
     faults = volume.faults()
@@ -90,6 +133,7 @@ def test_without_traces(opened, tmp_path):
     volume = opened(files.empty(tmp_path / "none.sgy"))
     assert (len(volume), volume.totals, volume.range("x"), len(volume.grid), len(volume.slice(0))) == (0, None, None, 0, 0)
     assert len(volume.headers()) == 0
+    assert len(volume.find("inline", 0, 9)) == 0 and volume.extremes() == {}
     assert len(volume.positions()) == 0
     assert bool(volume)
 

@@ -126,10 +126,18 @@ def test_no_traces(tmp_path):
     window = views.Window((500, 400), True)
     assert views.fold(made, window)["now"] == [] and views.positions(made, window, False)["traces"] == 0
     assert views.Slices().view(made, 0, window, False)["rows"] == 0
-    assert views.state(made)["traces"] == 0 and views.table(made, 1, 25, NAMES, True)["rows"] == []
+    assert views.state(made)["traces"] == 0 and views.table(made, 1, 25, NAMES, True)["rows"] == [] and views.extremes(made)["rows"] == []
     made.run("blank 1")
     sound(made)
     made.close()
+
+
+def test_which_headers_are_used(desk):
+    rows = views.extremes(desk)["rows"]
+    assert rows == [
+        ["sequence_file", "1", "20", "1", "20"], ["samples", "3", "3", "3", "3"], ["interval", "4000", "4000", "4000", "4000"],
+        ["inline_number", "1", "4", "1", "4"], ["crossline_number", "1", "5", "1", "5"], ["inline", "1", "4", "1", "4"], ["crossline", "1", "5", "1", "5"],
+    ]
 
 
 def test_large_samples(tmp_path):

@@ -150,6 +150,10 @@ def test_words(opened):
     field.send_keys("5 8 cross", Keys.TAB, "7 0")
     assert field.get_attribute("value") == "renumber 5 8 crossline 7 0"
     field.clear()
+    field.send_keys("table 1 2 inline crossl")
+    page.wait(lambda: "crossline" in [one.text for one in page.all("#choices .word")])
+    field.send_keys(Keys.TAB, Keys.ENTER)
+    assert page.answer("table 1 2 inline crossline ") == "table 2\n1 101 201\n2 101 202"
     field.send_keys("getbin inte")
     page.wait(lambda: [one.text for one in page.all("#choices .word")] == ["interval"])
     field.send_keys(Keys.TAB, Keys.ENTER)
@@ -183,6 +187,32 @@ def test_the_table(opened):
     page.find("column").send_keys("colour", Keys.ENTER)
     page.wait(lambda: page.js("return document.getElementById('column').validationMessage") == "refused E02 no field")
     assert len(page.rows()[0]) == 8
+
+
+def test_find_from_a_column(opened):
+    page = opened("wrong_line")
+    page.one('button[aria-label="find in inline"]').click()
+    field = page.find("line")
+    assert field.get_attribute("value") == "find 1 12 inline "
+    field.send_keys("103 103", Keys.ENTER)
+    assert page.answer("find 1 12 inline 103 103") == "found 4"
+    rows = page.wait(lambda: page.all("#log button.link"))
+    assert [one.text for one in rows] == [f"trace {trace} 103" for trace in (9, 10, 11, 12)]
+    rows[2].click()
+    page.wait(lambda: page.all("#table-room tr.here") and page.one("#table-room tr.here").get_attribute("data-trace") == "11")
+
+
+def test_which_headers_are_used(opened):
+    page = opened("wrong_line")
+    assert page.text("used-room") == ""
+    page.one("#used summary").click()
+    used = "return [...document.querySelectorAll('#used-room tbody tr')].map((row) => [...row.children].map((one) => one.textContent))"
+    page.wait(lambda: ["inline", "101", "103", "101", "103"] in page.js(used))
+    assert ["sequence_file", "1", "12", "1", "12"] in page.js(used) and "day" not in [row[0] for row in page.js(used)]
+    page.run("renumber 3 4 day 77 0")
+    page.wait(lambda: ["day", "0", "77", "0", "0"] in page.js(used))
+    page.one('button[aria-label="add the column day"]').click()
+    page.wait(lambda: [row[-1] for row in page.rows()[:5]] == ["0", "0", "77", "77", "0"])
 
 
 def test_a_fault_leads_to_its_trace(opened):

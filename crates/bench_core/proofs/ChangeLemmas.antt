@@ -13,10 +13,10 @@ use Rattle.frame_cut.specs.Volume.{Volume, bytes_of}
 use Rattle.time_slice.specs.Cache.{Cache, kept_numbers, kept_of, is_from, IsRight}
 use Rattle.time_slice.proofs.CacheLemmas.{numbers_after_forgotten}
 use Rattle.bench_rules.specs.declared.edit.Edit.{Edit}
-use Rattle.bench_rules.specs.declared.edit.Edit.TheVariants.{Set, SetBin, SetText, Map, Unmap, Patch, Blank, Copy, Delete, Move, Resize, Renumber}
+use Rattle.bench_rules.specs.declared.edit.Edit.TheVariants.{Set, SetBin, SetText, Map, Unmap, Patch, Blank, Copy, Delete, Move, Resize, Renumber, Compute}
 use Rattle.bench_rules.specs.declared.refusal.Refusal.{Refusal}
 use Rattle.bench_rules.specs.declared.query.Query.{Query}
-use Rattle.bench_rules.specs.declared.query.Query.TheVariants.{Count, Info, Get, GetBin, Line, Code, Stanzas, Fields, Sample, Geometry, Stat, Fold, Grid, Inlines, Crosslines, Histogram, Range, Totals, Slice, Faults}
+use Rattle.bench_rules.specs.declared.query.Query.TheVariants.{Count, Info, Get, GetBin, Line, Code, Stanzas, Fields, Sample, Geometry, Stat, Fold, Grid, Inlines, Crosslines, Histogram, Range, Totals, Slice, Faults, Lines, Table, Find, Header, Extremes}
 use Rattle.bench_rules.specs.Kept.{kept_after_edit, kept_after_query, same_cell, cell_of}
 use Rattle.bench_rules.specs.Live.{AreSlicesOf, kept_after_reply}
 use Rattle.bench_rules.specs.Looks.{query_looks}
@@ -30,7 +30,7 @@ use Rattle.bench_laws.proofs.KeptSliceLemmas.{Has, kept_slices_stay}
 use Rattle.bench_laws.proofs.ReadsSetLemmas.{made}
 use Rattle.live_volume.specs.Held.{any_moves}
 use Rattle.bench_core.specs.Changes.{cell_at, has_moved, is_moved, entries_after}
-use Rattle.bench_core.proofs.ManyTracesLemmas.{numbers_of_many}
+use Rattle.bench_core.proofs.ManyTracesLemmas.{numbers_of_many, numbers_of_computed}
 
 -- ---- an edit that is done
 
@@ -116,6 +116,8 @@ numbers_follow old new (Move a b) cache cut none after = refl
 numbers_follow old new (Resize p m) cache cut none after = refl
 numbers_follow old new (Renumber a b f first step) cache cut none after =
     numbers_unless (any_moves old new a b) cache ∙ numbers_of_many old new a b f first step (kept_numbers cache) cut none after
+numbers_follow old new (Compute a b f source steps) cache cut none after =
+    numbers_unless (any_moves old new a b) cache ∙ numbers_of_computed old new a b f source steps (kept_numbers cache) cut none after
 
 -- ---- the rows
 
@@ -159,6 +161,7 @@ right_part s edit moved cache all = by edit
     by (Move a b) = All-nil R
     by (Resize p m) = All-nil R
     by (Renumber a b f first step) = if_not moved
+    by (Compute a b f source steps) = if_not moved
 
 -- each slice that stays is that of the volume after the edit
 pub slices_follow : (old new : State) (edit : Edit) (cache : Cache) → IsCut (bytes_of old.volume) old.reading old.limits old.volume → HasGeometry old.volume.head.extensions old.fields
@@ -174,27 +177,32 @@ slices_follow old new edit cache cut has none after all =
 -- ---- queries
 
 -- a query of no slice looks at as many traces whatever slices are kept, and leaves them
-pub no_slice : (q : Query) → ((k : ℕ) → q ≡ Slice k → ⊥) → ((v : Volume) (kept : List ℕ) → query_looks v kept q ≡ query_looks v [] q) × ((kept : List ℕ) → kept_after_query q kept ≡ kept)
-no_slice Count other = (λ v kept. refl, λ kept. refl)
-no_slice Info other = (λ v kept. refl, λ kept. refl)
-no_slice (Get p field) other = (λ v kept. refl, λ kept. refl)
-no_slice (GetBin field) other = (λ v kept. refl, λ kept. refl)
-no_slice (Line b q) other = (λ v kept. refl, λ kept. refl)
-no_slice (Code b) other = (λ v kept. refl, λ kept. refl)
-no_slice Stanzas other = (λ v kept. refl, λ kept. refl)
-no_slice Fields other = (λ v kept. refl, λ kept. refl)
-no_slice (Sample p k) other = (λ v kept. refl, λ kept. refl)
-no_slice (Geometry p) other = (λ v kept. refl, λ kept. refl)
-no_slice (Stat p) other = (λ v kept. refl, λ kept. refl)
-no_slice (Fold i c) other = (λ v kept. refl, λ kept. refl)
-no_slice Grid other = (λ v kept. refl, λ kept. refl)
-no_slice Inlines other = (λ v kept. refl, λ kept. refl)
-no_slice Crosslines other = (λ v kept. refl, λ kept. refl)
-no_slice Histogram other = (λ v kept. refl, λ kept. refl)
-no_slice (Range quantity) other = (λ v kept. refl, λ kept. refl)
-no_slice Totals other = (λ v kept. refl, λ kept. refl)
+pub no_slice : (q : Query) → ((k : ℕ) → q ≡ Slice k → ⊥) → ((s : State) (kept : List ℕ) → query_looks s kept q ≡ query_looks s [] q) × ((kept : List ℕ) → kept_after_query q kept ≡ kept)
+no_slice Count other = (λ s kept. refl, λ kept. refl)
+no_slice Info other = (λ s kept. refl, λ kept. refl)
+no_slice (Get p field) other = (λ s kept. refl, λ kept. refl)
+no_slice (GetBin field) other = (λ s kept. refl, λ kept. refl)
+no_slice (Line b q) other = (λ s kept. refl, λ kept. refl)
+no_slice (Code b) other = (λ s kept. refl, λ kept. refl)
+no_slice Stanzas other = (λ s kept. refl, λ kept. refl)
+no_slice Fields other = (λ s kept. refl, λ kept. refl)
+no_slice (Sample p k) other = (λ s kept. refl, λ kept. refl)
+no_slice (Geometry p) other = (λ s kept. refl, λ kept. refl)
+no_slice (Stat p) other = (λ s kept. refl, λ kept. refl)
+no_slice (Fold i c) other = (λ s kept. refl, λ kept. refl)
+no_slice Grid other = (λ s kept. refl, λ kept. refl)
+no_slice Inlines other = (λ s kept. refl, λ kept. refl)
+no_slice Crosslines other = (λ s kept. refl, λ kept. refl)
+no_slice Histogram other = (λ s kept. refl, λ kept. refl)
+no_slice (Range quantity) other = (λ s kept. refl, λ kept. refl)
+no_slice Totals other = (λ s kept. refl, λ kept. refl)
 no_slice (Slice k) other = absurd (other k refl)
-no_slice Faults other = (λ v kept. refl, λ kept. refl)
+no_slice Faults other = (λ s kept. refl, λ kept. refl)
+no_slice (Lines b) other = (λ s kept. refl, λ kept. refl)
+no_slice (Table a b fields) other = (λ s kept. refl, λ kept. refl)
+no_slice (Find a b field low high) other = (λ s kept. refl, λ kept. refl)
+no_slice (Header p) other = (λ s kept. refl, λ kept. refl)
+no_slice (Extremes a b) other = (λ s kept. refl, λ kept. refl)
 
 -- numbers that an answer leaves stay whatever the reply is
 pub same_kept : {A E : Type 0} (r : Result A E) {after before : List ℕ} → after ≡ before → kept_after_reply r after before ≡ before

@@ -5,7 +5,7 @@ use Rattle.field_map.specs.Binding.{is_geometry}
 use Rattle.frame_cut.specs.Traces.{trace_of}
 use Rattle.time_slice.specs.Cache.{Cache, cache_after_change}
 use Rattle.bench_rules.specs.declared.edit.Edit.{Edit}
-use Rattle.bench_rules.specs.declared.edit.Edit.TheVariants.{Set, SetBin, SetText, Map, Unmap, Patch, Blank, Copy, Delete, Move, Resize, Renumber}
+use Rattle.bench_rules.specs.declared.edit.Edit.TheVariants.{Set, SetBin, SetText, Map, Unmap, Patch, Blank, Copy, Delete, Move, Resize, Renumber, Compute}
 use Rattle.bench_rules.specs.Kept.{cell_of}
 use Rattle.bench_rules.specs.State.{State}
 use Rattle.live_volume.specs.Held.{any_moves}
@@ -21,10 +21,11 @@ is_moved (Some old) None = false
 is_moved None (Some new) = false
 is_moved None None = false
 
--- a set gave its trace, or a renumbering one of its traces, another inline or crossline
+-- a set gave its trace, or a field of many traces counted up or computed one of them, another inline or crossline
 abbrev pub has_moved : State → Edit → State → Bool
 has_moved old (Set p field x) new = is_moved (cell_at old p) (cell_at new p)
 has_moved old (Renumber a b field first step) new = any_moves old new a b
+has_moved old (Compute a b field source steps) new = any_moves old new a b
 has_moved old (SetBin field x) new = false
 has_moved old (SetText q text) new = false
 has_moved old (Map name place) new = false
@@ -36,8 +37,8 @@ has_moved old (Delete p) new = false
 has_moved old (Move a b) new = false
 has_moved old (Resize p count) new = false
 
--- what stays of the kept slices: nothing, after a set or a renumbering that gave a trace another inline or crossline, a geometry name bound
--- anew, and edits of whole traces; after a patch all but the slices of its samples; else all
+-- what stays of the kept slices: nothing, after a set or a field of many traces counted up or computed that gave a trace another inline or
+-- crossline, a geometry name bound anew, and edits of whole traces; after a patch all but the slices of its samples; else all
 abbrev pub entries_after : Bool → Edit → Cache → Cache
 entries_after moved (Set p field x) cache = if moved then [] else cache
 entries_after moved (SetBin field x) cache = cache
@@ -51,3 +52,4 @@ entries_after moved (Delete p) cache = []
 entries_after moved (Move a b) cache = []
 entries_after moved (Resize p count) cache = []
 entries_after moved (Renumber a b field first step) cache = if moved then [] else cache
+entries_after moved (Compute a b field source steps) cache = if moved then [] else cache

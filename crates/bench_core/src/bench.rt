@@ -82,14 +82,14 @@ impl Bench {
         Ok(Bench { volume, slices })
     }
 
-    /// One edit: done whole, and the reports follow it; or refused, and all is as it was, after a
-    /// renumbering too. `Set`, `Map`, `Patch`, `Blank`, `Copy`, `Move`, `Resize` and `Renumber`
-    /// take memory, and are refused for want of it, E11, only where nothing else refuses them.
-    /// Slices that the edit may have changed are forgotten.
+    /// One edit: done whole, and the reports follow it; or refused, and all is as it was, after one
+    /// of many traces too. `Set`, `Map`, `Patch`, `Blank`, `Copy`, `Move`, `Resize`, `Renumber` and
+    /// `Compute` take memory, and are refused for want of it, E11, only where nothing else refuses
+    /// them. Slices that the edit may have changed are forgotten.
     pub fn apply(&mut self, alloc: Global, edit: &Edit) -> Result<(), Refusal>
         ensures step { Step self.old.state edit.now result self.new.state }
         ensures looks { RisesAtMost self.old.looks self.new.looks
-            (edit_looks self.old.state.volume edit.now) }
+            (edit_looks self.old.state edit.now) }
         ensures kept { self.new.kept ≡ kept_after_reply result
             (kept_after_edit self.old.state edit.now self.old.kept) self.old.kept }
     {
@@ -106,7 +106,7 @@ impl Bench {
         ensures reply { IsReply self.old.state query.now result }
         ensures unchanged { self.new.state ≡ self.old.state }
         ensures looks { RisesAtMost self.old.looks self.new.looks
-            (query_looks self.old.state.volume self.old.kept query.now) }
+            (query_looks self.old.state self.old.kept query.now) }
         ensures kept { self.new.kept ≡ kept_after_reply result
             (kept_after_query query.now self.old.kept) self.old.kept }
     {
@@ -121,7 +121,7 @@ impl Bench {
         ensures reply { IsReply self.old.state (queries.Slice k) result }
         ensures unchanged { self.new.state ≡ self.old.state }
         ensures looks { RisesAtMost self.old.looks self.new.looks
-            (query_looks self.old.state.volume self.old.kept (queries.Slice k)) }
+            (query_looks self.old.state self.old.kept (queries.Slice k)) }
         ensures kept { self.new.kept ≡ kept_after_reply result
             (kept_after_query (queries.Slice k) self.old.kept) self.old.kept }
     {

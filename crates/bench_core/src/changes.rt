@@ -19,12 +19,13 @@ pub fn no_slices(alloc: Global) -> Result<SliceCache, OutOfMemory>
     SliceCache::new(alloc, 8)
 }
 
-/// The edit in the volume. Where it is done, tells whether a set gave its trace, or a renumbering
-/// one of its traces, another inline or crossline; of any other edit it tells no.
+/// The edit in the volume. Where it is done, tells whether a set gave its trace, or a field of many
+/// traces counted up or computed one of them, another inline or crossline; of any other edit it
+/// tells no.
 pub fn change(volume: &mut LiveVolume, alloc: Global, edit: &Edit) -> Result<bool, Refusal>
     ensures step { Step volume.old.state edit.now result volume.new.state }
     ensures looks { RisesAtMost volume.old.looks volume.new.looks
-        (edit_looks volume.old.state.volume edit.now) }
+        (edit_looks volume.old.state edit.now) }
     ensures moved { IfOk result (λ moved. moved
         ≡ has_moved volume.old.state edit.now volume.new.state) }
 {
@@ -36,6 +37,9 @@ pub fn change(volume: &mut LiveVolume, alloc: Global, edit: &Edit) -> Result<boo
         }
         Edit::Renumber(a, b, field, first, step) => {
             volume.renumber(alloc, *a, *b, field, *first, *step)
+        }
+        Edit::Compute(a, b, field, source, steps) => {
+            volume.compute(alloc, *a, *b, field, source, steps.as_slice())
         }
         _ => {
             volume.apply(alloc, edit)?;
@@ -54,15 +58,15 @@ pub fn is_moved(before: Option<(i32, i32)>, after: Option<(i32, i32)>) -> bool
     }
 }
 
-/// Forgets the slices that an edit may have changed; `moved` tells whether a set or a renumbering
-/// gave a trace another inline or crossline. Takes no memory.
+/// Forgets the slices that an edit may have changed; `moved` tells whether a set, or a field of many
+/// traces counted up or computed, gave a trace another inline or crossline. Takes no memory.
 pub fn follow(slices: &mut SliceCache, edit: &Edit, moved: bool)
     ensures entries { slices.new.entries ≡ entries_after moved edit.now slices.old.entries }
     ensures capacity { slices.new.capacity ≡ slices.old.capacity }
 {
     match edit {
         Edit::SetBin(_, _) | Edit::SetText(_, _) | Edit::Unmap(_) => {}
-        Edit::Set(_, _, _) | Edit::Renumber(_, _, _, _, _) => {
+        Edit::Set(_, _, _) | Edit::Renumber(_, _, _, _, _) | Edit::Compute(_, _, _, _, _) => {
             if moved {
                 slices.clear();
             }

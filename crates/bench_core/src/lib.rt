@@ -12,13 +12,16 @@
 //!
 //! `load` takes memory for the file's bytes, the list of its traces, the six geometry names, the
 //! records with what has counted them, and room for kept slices; `apply` for `Set`, `Map`,
-//! `Patch`, `Blank`, `Copy`, `Move`, `Resize` and `Renumber` alone; `ask` for answers that are
-//! texts or lists alone: `Line`, `Stanzas`, `Fields`, `Grid`, `Inlines`, `Crosslines`, `Histogram`,
-//! `Slice` and `Faults`.
+//! `Patch`, `Blank`, `Copy`, `Move`, `Resize`, `Renumber` and `Compute` alone; `ask` for answers
+//! that are texts or lists alone: `Line`, `Lines`, `Stanzas`, `Fields`, `Grid`, `Inlines`,
+//! `Crosslines`, `Histogram`, `Slice`, `Faults`, `Table`, `Find`, `Header` and `Extremes`.
 #![tactic(auto)]
 
 mod bench;
 mod changes;
 
 pub use crate::bench::Bench;
-pub use bench_rules::{Answer, AskFault, Edit, Field, Info, Items, Query, Refusal, Text};
+pub use bench_rules::{
+    Answer, AskFault, Edit, Extremes, Field, Info, Items, Operand, Operator, Query, Refusal, Table,
+    Text,
+};

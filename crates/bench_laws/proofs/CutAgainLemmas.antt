@@ -5,7 +5,7 @@ use Rattle.field_map.specs.declared.place.Place.{Place}
 use Rattle.frame_cut.specs.Cuts.{IsCut}
 use Rattle.frame_cut.specs.Volume.{Volume}
 use Rattle.frame_cut.specs.Traces.{trace_at, with_trace}
-use Rattle.bench_rules.specs.declared.edit.Edit.TheVariants.{Set, SetBin, SetText, Map, Unmap, Patch, Blank, Copy, Delete, Move, Resize, Renumber}
+use Rattle.bench_rules.specs.declared.edit.Edit.TheVariants.{Set, SetBin, SetText, Map, Unmap, Patch, Blank, Copy, Delete, Move, Resize, Renumber, Compute}
 use Rattle.bench_laws.specs.EditLaws.{StaysCut}
 use Rattle.bench_rules.specs.Places.{place_in_trace, place_in_binary}
 use Rattle.bench_rules.specs.Refused.{with_value}
@@ -14,11 +14,12 @@ use Rattle.frame_cut.specs.Parts.{with_inserted, without, with_moved}
 use Rattle.bench_rules.specs.WholeTraces.{blank_trace}
 use Rattle.bench_rules.proofs.PatchLemmas.{with_samples}
 use Rattle.bench_rules.proofs.TraceStepLemmas.{patch_is_after, blank_done, copy_done, delete_done, move_done}
-use Rattle.bench_rules.proofs.RenumberLemmas.{with_traces}
+use Rattle.bench_rules.proofs.ManyValueLemmas.{with_traces}
 use Rattle.bench_rules.proofs.ResizeLemmas.{resize_done}
 use Rattle.bench_rules.proofs.SetLemmas.{accepted, is_after}
 use Rattle.bench_rules.proofs.HeaderEditLemmas.{same_refused, same_after, no_place, bin_accepted, with_binary, bin_is_after, text_accepted, with_text, text_is_after, no_bin_place}
-use Rattle.bench_laws.proofs.RenumberingLemmas.{unplaced, counted_traces, cut_counted}
+use Rattle.bench_rules.proofs.ComputeLemmas.{compute_accepted}
+use Rattle.bench_laws.proofs.RenumberingLemmas.{unplaced, counted_traces, cut_counted, computed_traces, cut_computed}
 use Rattle.bench_laws.proofs.ResizeLemmas.{with_resized}
 
 pub stays_cut : StaysCut
@@ -55,3 +56,6 @@ stays_cut s (Renumber a b f first step) cut none = by (place_in_trace s.fields f
     by : (o : Option Place) → place_in_trace s.fields f ≡ o → (v : Volume) × IsCut (bytes_after s.volume s.fields (Renumber a b f first step)) s.reading s.limits v × (v.head ≡ s.volume.head)
     by None e = absurd (unplaced s a b f first step e none)
     by (Some place) e = ((with_traces s (counted_traces s a b place first step)).volume, (cut_counted s a b f first step place cut e none).volume, refl)
+stays_cut s (Compute a b f source steps) cut none =
+    let c = compute_accepted s a b f source steps none in
+    ((with_traces s (computed_traces s a b c.formula)).volume, (cut_computed s a b f source steps cut c).volume, refl)

@@ -1,5 +1,5 @@
--- The slices whose numbers are kept after a field of many traces is counted up are as they were.
-use Rattle.std.proofs.Common.{◌≡◌, ℕ, ℤ, zero, suc, ◌+◌, ◌-◌, ◌<◌, Bool, true, false, cond, eqb, List, [], ◌∷◌, Option, Some, None, refl, ap, ◌∙◌, arith}
+-- The slices whose numbers are kept after a field of many traces is counted up or computed are as they were.
+use Rattle.std.proofs.Common.{◌≡◌, ℕ, ℤ, zero, suc, ◌+◌, ◌-◌, ◌<◌, Bool, true, false, cond, eqb, List, [], ◌∷◌, Option, Some, None, refl, sym, ap, ◌∙◌, arith}
 use Rattle.std.specs.List.{list_any}
 use Rattle.field_map.specs.declared.place.Place.{Place}
 use Rattle.frame_cut.specs.declared.file_head.Head.{Head}
@@ -7,20 +7,25 @@ use Rattle.frame_cut.specs.Cuts.{IsCut}
 use Rattle.frame_cut.specs.Traces.{trace_at}
 use Rattle.frame_cut.specs.Volume.{Volume, bytes_of}
 use Rattle.frame_cut.proofs.OneCutLemmas.{at_most_one_cut}
-use Rattle.bench_rules.specs.declared.edit.Edit.TheVariants.{Set, Renumber}
+use Rattle.bench_rules.specs.declared.edit.Edit.TheVariants.{Set, Renumber, Compute}
 use Rattle.bench_rules.specs.declared.field.Field.{Field}
+use Rattle.bench_rules.specs.declared.operand.Operand.{Operand}
+use Rattle.bench_rules.specs.declared.operator.Operator.{Operator}
 use Rattle.bench_rules.specs.After.{bytes_after}
-use Rattle.bench_rules.specs.Kept.{same_cell, kept_after_set, kept_after_sets, kept_after_edit}
+use Rattle.bench_rules.specs.Computed.{Formula}
+use Rattle.bench_rules.specs.Kept.{same_cell, kept_after_compute, kept_after_set, kept_after_sets, kept_after_edit}
 use Rattle.bench_rules.specs.Places.{place_in_trace}
 use Rattle.bench_rules.specs.Refused.{first_refusal, with_value}
 use Rattle.bench_rules.specs.Reports.{slice_in}
 use Rattle.bench_rules.specs.State.{State}
 use Rattle.bench_rules.specs.Steps.{IsAfter}
 use Rattle.bench_rules.specs.TraceEdits.{counted}
-use Rattle.bench_rules.proofs.RenumberLemmas.{IsRead, IsAlike, alike_first, with_traces, with_one, one_value, renumbered, valued, accepted_from}
+use Rattle.bench_rules.proofs.ManyValueLemmas.{IsRead, IsAlike, alike_first, with_traces, with_one, one_value, with_values, valued}
+use Rattle.bench_rules.proofs.RenumberLemmas.{accepted_from}
+use Rattle.bench_rules.proofs.ComputeLemmas.{accepted_numbers, compute_accepted, number_of, numbers_are}
 use Rattle.bench_rules.proofs.SetLemmas.{Accepted}
 use Rattle.bench_laws.proofs.KeptSetLemmas.{Has, slice_after, set_stays}
-use Rattle.bench_laws.proofs.RenumberingLemmas.{one_set, unplaced, counted_traces, cut_counted}
+use Rattle.bench_laws.proofs.RenumberingLemmas.{one_set, unplaced, counted_traces, cut_counted, computed_place, computed_traces, cut_computed}
 
 -- ---- a number that is kept
 
@@ -48,7 +53,7 @@ kept_alike s ts k f place x kept e a =
 
 slices_from : (s : State) (f : Field) (place : Place) (value : ℕ → ℤ) (k n : ℕ) (ts : List (List ℕ)) → place_in_trace s.fields f ≡ Some place → IsAlike s.volume.traces ts k → IsRead (with_traces s ts)
     → ((i : ℕ) → i < n → Accepted s.volume (k + i) place (value (k + i))) → (kept : List ℕ) (j : ℕ) → Has j (kept_after_sets s (Some place) (valued value k n) kept)
-    → slice_in (with_traces s (renumbered s.volume.head place value k n ts)) j ≡ slice_in (with_traces s ts) j
+    → slice_in (with_traces s (with_values s.volume.head place value k n ts)) j ≡ slice_in (with_traces s ts) j
 slices_from s f place value k zero ts e a cut ok kept j any = refl
 slices_from s f place value k (suc n) ts e a cut ok kept j any =
     let here : k + 0 ≡ k = omega arith in
@@ -77,4 +82,20 @@ renumber_stays old new a b f first step kept j cut none after any = by (place_in
         let one : new.volume ≡ w =
         at_most_one_cut (bytes_after old.volume old.fields (Renumber a b f first step)) old.reading old.limits new.volume w after.volume (cut_counted old a b f first step place cut e none).volume in
         slice_after old new j w one after.fields
-        ∙ slices_from old f place (λ p. counted first step (p - a)) a (b + 1 - a) old.volume.traces e (alike_first old.volume.traces a) cut (accepted_from old a b f first step place e none) kept j (rw e at any)
+        ∙ slices_from old f place (λ p. counted first step (p - a)) a (b + 1 - a) old.volume.traces e (alike_first old.volume.traces a) cut (accepted_from old a b f first step place e none).each kept j (rw e at any)
+
+pub compute_stays : (old new : State) (a b : ℕ) (field : Field) (source : Operand) (steps : List (Operator × Operand)) (kept : List ℕ) (j : ℕ) → IsCut (bytes_of old.volume) old.reading old.limits old.volume
+    → first_refusal old (Compute a b field source steps) ≡ None → IsAfter old (Compute a b field source steps) new → Has j (kept_after_edit old (Compute a b field source steps) kept) → slice_in new j ≡ slice_in old j
+compute_stays old new a b field source steps kept j cut none after any =
+    let c = compute_accepted old a b field source steps none in
+    let f : Formula = c.formula in
+    let n : ℕ = b + 1 - a in
+    let w : Volume = (with_traces old (computed_traces old a b f)).volume in
+    let one : new.volume ≡ w =
+    at_most_one_cut (bytes_after old.volume old.fields (Compute a b field source steps)) old.reading old.limits new.volume w after.volume (cut_computed old a b field source steps cut c).volume in
+    let left : kept_after_edit old (Compute a b field source steps) kept ≡ kept_after_sets old (Some f.place) (valued (number_of old.volume f) a n) kept =
+    ap (λ (o : Option Formula). kept_after_compute old o a b kept) c.found
+    ∙ ap (λ (ns : List (ℕ × ℤ)). kept_after_sets old (Some f.place) ns kept) (numbers_are old.volume f a n c.none) in
+    slice_after old new j w one after.fields
+    ∙ slices_from old field f.place (number_of old.volume f) a n old.volume.traces (computed_place old a b field source steps c) (alike_first old.volume.traces a) cut (accepted_numbers old a b field source steps c).each kept j
+    (ap (λ (l : List ℕ). list_any (λ i. eqb i j) l) (sym left) ∙ any)

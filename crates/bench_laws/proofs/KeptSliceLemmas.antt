@@ -13,7 +13,7 @@ use Rattle.frame_cut.specs.Traces.{trace_at, with_trace}
 use Rattle.frame_cut.specs.Volume.{Volume}
 use Rattle.time_slice.specs.Cache.{is_from}
 use Rattle.time_slice.specs.Slices.{slice_of}
-use Rattle.bench_rules.specs.declared.edit.Edit.TheVariants.{Set, SetBin, SetText, Map, Unmap, Patch, Blank, Copy, Delete, Move, Resize, Renumber}
+use Rattle.bench_rules.specs.declared.edit.Edit.TheVariants.{Set, SetBin, SetText, Map, Unmap, Patch, Blank, Copy, Delete, Move, Resize, Renumber, Compute}
 use Rattle.bench_laws.specs.KeptLaws.{KeptSlicesStay}
 use Rattle.bench_rules.specs.Places.{place_in_binary}
 use Rattle.bench_rules.specs.Reports.{slice_in}
@@ -26,7 +26,7 @@ use Rattle.bench_laws.proofs.SliceRowLemmas.{slice_of-set, slice_of-bound, front
 use Rattle.bench_rules.proofs.TraceStepLemmas.{patch_is_after}
 pub use Rattle.bench_laws.proofs.KeptSetLemmas.{Has}
 use Rattle.bench_laws.proofs.KeptSetLemmas.{kept_unless, none_kept, kept_apart, one_volume, slice_after, set_stays}
-use Rattle.bench_laws.proofs.KeptNumberLemmas.{renumber_stays}
+use Rattle.bench_laws.proofs.KeptNumberLemmas.{renumber_stays, compute_stays}
 
 -- ---- names of the field map
 
@@ -88,3 +88,4 @@ kept_slices_stay old new (Delete p) kept k cut has none after any = absurd (none
 kept_slices_stay old new (Move a b) kept k cut has none after any = absurd (none_kept k any)
 kept_slices_stay old new (Resize p m) kept k cut has none after any = absurd (none_kept k any)
 kept_slices_stay old new (Renumber a b f first step) kept k cut has none after any = renumber_stays old new a b f first step kept k cut none after any
+kept_slices_stay old new (Compute a b f source steps) kept k cut has none after any = compute_stays old new a b f source steps kept k cut none after any

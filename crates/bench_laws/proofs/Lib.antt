@@ -8,3 +8,4 @@ mod SliceRowLemmas
 mod KeptSetLemmas
 mod KeptNumberLemmas
 pub mod KeptSliceLemmas
+mod OneNumberLemmas

@@ -13,7 +13,7 @@ use Rattle.frame_cut.specs.declared.reading.Reading.{Reading}
 use Rattle.bench_rules.specs.Refused.{first_refusal}
 use Rattle.bench_rules.specs.State.{State}
 use Rattle.bench_rules.specs.Steps.{IsAfter, StepUnless}
-use Rattle.bench_rules.proofs.RenumberLemmas.{IsRead}
+use Rattle.bench_rules.proofs.ManyValueLemmas.{IsRead}
 use Rattle.bench_laws.proofs.CutAgainLemmas.{stays_cut}
 
 itself : (s : State) → IsRead s → IsReadAlike s s

@@ -1,16 +1,20 @@
--- What holds of another number of samples of a trace, and of a field of many traces counted up.
-use Rattle.std.specs.Prelude.{◌≡◌, ℕ, nat_abs, ◌-◌, ℤ, pos, List, ◌++◌, map, take, replicate, None, Result, Ok}
+-- What holds of another number of samples of a trace, and of a field of many traces counted up or computed.
+use Rattle.std.specs.Prelude.{◌≡◌, ℕ, nat_abs, ◌-◌, ℤ, pos, List, [], ◌++◌, map, take, replicate, Option, Some, None, Result, Ok}
 use Rattle.frame_cut.specs.Cuts.{IsCut}
 use Rattle.frame_cut.specs.Frames.{sample_count}
 use Rattle.frame_cut.specs.Traces.{trace_at}
 use Rattle.frame_cut.specs.Volume.{Volume, bytes_of}
 use Rattle.trace_view.specs.Values.{samples_of}
 use Rattle.bench_rules.specs.declared.edit.Edit.{Edit}
-use Rattle.bench_rules.specs.declared.edit.Edit.TheVariants.{Set, Resize, Renumber}
+use Rattle.bench_rules.specs.declared.edit.Edit.TheVariants.{Set, Resize, Renumber, Compute}
 use Rattle.bench_rules.specs.declared.field.Field.{Field}
+use Rattle.bench_rules.specs.declared.operand.Operand.{Operand}
+use Rattle.bench_rules.specs.declared.operand.Operand.TheVariants.{Number}
+use Rattle.bench_rules.specs.declared.operator.Operator.{Operator}
 use Rattle.bench_rules.specs.declared.refusal.Refusal.{Refusal}
 use Rattle.bench_laws.specs.EditLaws.{LeavesOthers}
 use Rattle.bench_rules.specs.After.{bytes_after}
+use Rattle.bench_rules.specs.Computed.{Formula, formula_of, computed_numbers}
 use Rattle.bench_rules.specs.Refused.{first_refusal}
 use Rattle.bench_rules.specs.State.{State}
 use Rattle.bench_rules.specs.Steps.{IsAfter, Steps}
@@ -49,3 +53,21 @@ abbrev pub RenumberIsItsSets : Type 0
 RenumberIsItsSets = (s : State) (a b : ℕ) (field : Field) (first step : ℤ)
     → IsCut (bytes_of s.volume) s.reading s.limits s.volume → first_refusal s (Renumber a b field first step) ≡ None
     → (new : State) × Steps s (sets_of field (numbers a b first step)) (all_done (numbers a b first step)) new × IsAfter s (Renumber a b field first step) new
+
+-- the numbers that a computation makes of traces a to b, each with its trace
+abbrev pub numbers_of : Volume → Option Formula → ℕ → ℕ → List (ℕ × ℤ)
+numbers_of v None a b = []
+numbers_of v (Some f) a b = computed_numbers v f a b
+
+-- a computed field is what the sets of its numbers make, all of the file as it was, one after another, each of them done
+abbrev pub ComputeIsItsSets : Type 0
+ComputeIsItsSets = (s : State) (a b : ℕ) (field : Field) (source : Operand) (steps : List (Operator × Operand))
+    → IsCut (bytes_of s.volume) s.reading s.limits s.volume → first_refusal s (Compute a b field source steps) ≡ None
+    → (new : State) × Steps s (sets_of field (numbers_of s.volume (formula_of s.fields field source steps) a b)) (all_done (numbers_of s.volume (formula_of s.fields field source steps) a b)) new
+    × IsAfter s (Compute a b field source steps) new
+
+-- a field computed from a number alone is counted up by 0 from it: the same first refusal, and the same bytes
+abbrev pub ComputeOfANumberIsRenumber : Type 0
+ComputeOfANumberIsRenumber = (s : State) (a b : ℕ) (field : Field) (x : ℤ)
+    → (first_refusal s (Compute a b field (Number x) []) ≡ first_refusal s (Renumber a b field x (pos 0)))
+    × (first_refusal s (Compute a b field (Number x) []) ≡ None → bytes_after s.volume s.fields (Compute a b field (Number x) []) ≡ bytes_after s.volume s.fields (Renumber a b field x (pos 0)))

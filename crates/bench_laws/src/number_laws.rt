@@ -1,6 +1,6 @@
 // What holds of edits of numbers of samples and of fields of many traces, as contracts of calls
 // that do nothing.
-ghost use Rattle.bench_laws.specs.NumberLaws.{ResizeKeepsSamples, ResizeLeavesTheRest, RenumberIsItsSets};
+ghost use Rattle.bench_laws.specs.NumberLaws.{ResizeKeepsSamples, ResizeLeavesTheRest, RenumberIsItsSets, ComputeIsItsSets, ComputeOfANumberIsRenumber};
 
 /// A trace that is given m samples has them in what reading the new bytes from scratch gives: its
 /// first ones as they were, and zeros behind them.
@@ -18,4 +18,16 @@ pub fn resize_leaves_the_rest()
 /// another, each of them done.
 pub fn renumber_is_its_sets()
     ensures { RenumberIsItsSets }
+{}
+
+/// A field of many traces that is computed is what the sets of each trace's number make, one after
+/// another, each of them done: each number is computed from the file as it was.
+pub fn compute_is_its_sets()
+    ensures { ComputeIsItsSets }
+{}
+
+/// A field of many traces that is computed from a number, without a step, is the same as counted up
+/// from it by 0: the same first refusal, and the same bytes where there is none.
+pub fn compute_of_a_number_is_renumber()
+    ensures { ComputeOfANumberIsRenumber }
 {}

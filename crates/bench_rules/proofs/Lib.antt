@@ -9,7 +9,12 @@ pub mod TraceStepLemmas
 pub mod SpliceLemmas
 pub mod ResizingLemmas
 pub mod ResizeLemmas
+pub mod ManyValueLemmas
+pub mod FirstLemmas
 pub mod RenumberLemmas
 mod CountedLemmas
+pub mod ComputedLemmas
+pub mod ComputeLemmas
 pub mod LiveLemmas
 pub mod LetterLemmas
+mod TableLemmas

@@ -9,7 +9,7 @@ use Rattle.std.proofs.lemmas.List.Elements.{All-set}
 use Rattle.sample_codes.specs.Formats.{width}
 use Rattle.frame_cut.specs.declared.file_head.Head.{Head}
 use Rattle.frame_cut.specs.Cuts.{IsTrace, IsCut}
-use Rattle.frame_cut.specs.Traces.{count_of, is_trace, trace_at, with_trace}
+use Rattle.frame_cut.specs.Traces.{count_of, trace_at, with_trace}
 use Rattle.frame_cut.specs.Volume.{Volume, bytes_of}
 use Rattle.frame_cut.proofs.EditLemmas.{recut}
 use Rattle.frame_cut.proofs.HeadFrontLemmas.{has_head}

@@ -1,6 +1,6 @@
 -- The answer to every query, from a volume and its field map.
-use Rattle.std.specs.Prelude.{◌≡◌, ◌⊎◌, ℕ, max, not, List, ◌++◌, length, map, flat_map, Option, Some, None, Result, Ok, Err, IsOk, if◌then◌else◌}
-use Rattle.std.specs.List.{enumerate_from}
+use Rattle.std.specs.Prelude.{◌≡◌, ◌⊎◌, ℕ, ℤ, ◌&&◌, nat_le, max, not, List, ◌++◌, length, map, flat_map, Option, Some, None, Result, Ok, Err, IsOk, if◌then◌else◌}
+use Rattle.std.specs.List.{enumerate_from, range_with_len}
 use Rattle.num_order.specs.Number.{num}
 use Rattle.text_block.specs.Blocks.{code_of}
 use Rattle.text_block.specs.Lines.{shown_line}
@@ -20,6 +20,9 @@ use Rattle.bench_rules.specs.declared.ask_fault.AskFault.{AskFault}
 use Rattle.bench_rules.specs.declared.ask_fault.AskFault.TheVariants.{NoTrace, NoField, NoPlace, NoSample, OutOfMemory}
 use Rattle.bench_rules.specs.Places.{place_in_trace, place_in_binary, is_in_binary}
 use Rattle.bench_rules.specs.Refused.{is_line}
+use Rattle.bench_rules.specs.Headers.{named_places, header_of, extremes_in}
+use Rattle.bench_rules.specs.ManyTraces.{each_of}
+use Rattle.bench_rules.specs.Tables.{table_of, found_of}
 use Rattle.bench_rules.specs.Reports.{geometry_in, statistics_in, fold_in, cells_in, inlines_in, crosslines_in, histogram_in, range_in, totals_in, slice_in, faults_in}
 use Rattle.frame_cut.specs.Parts.{block_of}
 use Rattle.bench_rules.specs.State.{State}
@@ -80,6 +83,26 @@ all_stanzas v = stanzas_from 1 (text_blocks v)
 abbrev pub or_no_trace : {X : Type 0} → Volume → ℕ → Option X → (X → Answer) → Reply
 or_no_trace v p x f = or_fault x (NoTrace p (count_of v)) f
 
+-- the answer of traces a to b, where all of them are there
+abbrev pub of_traces : Volume → ℕ → ℕ → Reply → Reply
+of_traces v a b reply =
+    if not (is_trace v a) then Err (NoTrace a (count_of v)) else
+    if nat_le a b && nat_le b (count_of v) then reply else Err (NoTrace b (count_of v))
+
+-- the table at the places of fields, if each has one
+abbrev pub table_answer : Volume → ℕ → ℕ → Option (List Place) → Reply
+table_answer v a b None = Err NoField
+table_answer v a b (Some places) = or_fault (table_of v places a b) NoPlace answers.Table
+
+-- what is found at the place of a field, if it has one
+abbrev pub found_answer : Volume → ℕ → ℕ → (low high : ℤ) → Option Place → Reply
+found_answer v a b low high None = Err NoField
+found_answer v a b low high (Some place) = or_fault (found_of v place low high a b) NoPlace answers.Found
+
+-- the lines of a block, where there is one
+abbrev pub lines_answer : Option (List ℕ) → Reply
+lines_answer block = or_fault block NoPlace (λ t. answers.Lines (map (shown_line t) (range_with_len 1 40)))
+
 -- the answer, or the first refusal
 abbrev pub answer : State → Query → Reply
 answer s queries.Count = Ok (answers.Count (count_of s.volume))
@@ -102,6 +125,11 @@ answer s (queries.Range quantity) = Ok (answers.Range (range_in s quantity))
 answer s queries.Totals = Ok (answers.Totals (totals_in s))
 answer s (queries.Slice k) = Ok (answers.Slice (slice_in s k))
 answer s queries.Faults = Ok (answers.Faults (faults_in s))
+answer s (queries.Lines b) = lines_answer (block_of s.volume b)
+answer s (queries.Table a b fields) = of_traces s.volume a b (table_answer s.volume a b (each_of (place_in_trace s.fields) fields))
+answer s (queries.Find a b field low high) = of_traces s.volume a b (found_answer s.volume a b low high (place_in_trace s.fields field))
+answer s (queries.Header p) = of_trace s.volume p (λ t. Ok (answers.Header (header_of s.volume.head (named_places s.fields) t)))
+answer s (queries.Extremes a b) = of_traces s.volume a b (Ok (answers.Extremes (extremes_in s.volume (named_places s.fields) a b)))
 
 -- whether a query may be refused for want of memory: its answer is a text or a list
 abbrev pub TakesMemory : Query → Type 0
@@ -125,6 +153,11 @@ TakesMemory (queries.Range quantity) = ⊥
 TakesMemory queries.Totals = ⊥
 TakesMemory (queries.Slice k) = Unit {0}
 TakesMemory queries.Faults = Unit {0}
+TakesMemory (queries.Lines b) = Unit {0}
+TakesMemory (queries.Table a b fields) = Unit {0}
+TakesMemory (queries.Find a b field low high) = Unit {0}
+TakesMemory (queries.Header p) = Unit {0}
+TakesMemory (queries.Extremes a b) = Unit {0}
 
 -- the reply is the answer, or want of memory where the query takes it and is not refused
 abbrev pub IsReply : State → Query → Reply → Type 0

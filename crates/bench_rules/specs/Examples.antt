@@ -3,6 +3,7 @@ use Rattle.std.specs.Prelude.{◌≡◌, [], ◌∷◌, pos, Some, None, Ok, Err
 use Rattle.std.specs.Str.{chars}
 use Rattle.field_map.specs.declared.map_fault.MapFault.TheVariants as map_faults
 use Rattle.field_map.specs.Binding.{geometry_at_load}
+use Rattle.field_map.specs.KnownNames.{named_place}
 use Rattle.field_map.specs.Pairs.{unsigned_at}
 use Rattle.text_block.specs.declared.text_fault.TextFault.TheVariants as text_faults
 use Rattle.frame_cut.specs.declared.reading.Reading.TheVariants.{AsWritten}
@@ -35,6 +36,7 @@ set-no_trace = refl
 
 -- a name whose place stands in an extension that the trace lacks
 pub set-no_extension : first_refusal (loaded volume_plain) (Set 1 (field.Name (codes "ext_count")) (pos 7)) ≡ Some refusals.NoPlace
+unfolding named_place
 set-no_extension = refl
 
 -- the number of samples of a trace whose length it gives

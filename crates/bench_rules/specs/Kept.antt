@@ -11,9 +11,10 @@ use Rattle.frame_cut.specs.Traces.{trace_at}
 use Rattle.trace_record.specs.OfTrace.{bound_value}
 use Rattle.time_slice.specs.Cache.{is_from}
 use Rattle.bench_rules.specs.declared.edit.Edit.{Edit}
-use Rattle.bench_rules.specs.declared.edit.Edit.TheVariants.{Set, SetBin, SetText, Map, Unmap, Patch, Blank, Copy, Delete, Move, Resize, Renumber}
+use Rattle.bench_rules.specs.declared.edit.Edit.TheVariants.{Set, SetBin, SetText, Map, Unmap, Patch, Blank, Copy, Delete, Move, Resize, Renumber, Compute}
 use Rattle.bench_rules.specs.declared.query.Query.{Query}
-use Rattle.bench_rules.specs.declared.query.Query.TheVariants.{Count, Info, Get, GetBin, Line, Code, Stanzas, Fields, Sample, Geometry, Stat, Fold, Grid, Inlines, Crosslines, Histogram, Range, Totals, Slice, Faults}
+use Rattle.bench_rules.specs.declared.query.Query.TheVariants.{Count, Info, Get, GetBin, Line, Lines, Code, Stanzas, Fields, Sample, Geometry, Stat, Fold, Grid, Inlines, Crosslines, Histogram, Range, Totals, Slice, Faults, Table, Find, Header, Extremes}
+use Rattle.bench_rules.specs.Computed.{Formula, formula_of, computed_numbers}
 use Rattle.bench_rules.specs.Places.{place_in_trace}
 use Rattle.bench_rules.specs.Refused.{with_value}
 use Rattle.bench_rules.specs.State.{State}
@@ -53,6 +54,11 @@ kept_after_query Histogram kept = kept
 kept_after_query (Range quantity) kept = kept
 kept_after_query Totals kept = kept
 kept_after_query Faults kept = kept
+kept_after_query (Lines b) kept = kept
+kept_after_query (Table a b fields) kept = kept
+kept_after_query (Find a b field low high) kept = kept
+kept_after_query (Header p) kept = kept
+kept_after_query (Extremes a b) kept = kept
 
 -- the inline and the crossline of a trace
 abbrev pub cell_of : Head → Pairs → List ℕ → ℤ × ℤ
@@ -80,6 +86,11 @@ abbrev pub kept_after_sets : State → Option Place → List (ℕ × ℤ) → Li
 kept_after_sets s place [] kept = kept
 kept_after_sets s place (n ∷ ns) kept = kept_after_sets s place ns (kept_after_set s.volume.head s.fields (trace_at s.volume n.0) place n.1 kept)
 
+-- the numbers kept after the computed number over the field's place of each of traces a to b
+abbrev pub kept_after_compute : State → Option Formula → ℕ → ℕ → List ℕ → List ℕ
+kept_after_compute s None a b kept = kept
+kept_after_compute s (Some f) a b kept = kept_after_sets s (Some f.place) (computed_numbers s.volume f a b) kept
+
 -- the numbers kept after an edit that is done in this state
 abbrev pub kept_after_edit : State → Edit → List ℕ → List ℕ
 kept_after_edit s (Set p field x) kept = kept_after_set s.volume.head s.fields (trace_at s.volume p) (place_in_trace s.fields field) x kept
@@ -94,3 +105,4 @@ kept_after_edit s (Delete p) kept = []
 kept_after_edit s (Move a b) kept = []
 kept_after_edit s (Resize p m) kept = []
 kept_after_edit s (Renumber a b field first step) kept = kept_after_sets s (place_in_trace s.fields field) (numbers a b first step) kept
+kept_after_edit s (Compute a b field source steps) kept = kept_after_compute s (formula_of s.fields field source steps) a b kept

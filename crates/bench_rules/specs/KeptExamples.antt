@@ -62,8 +62,8 @@ pub renumber-other : kept_after_edit loaded (Renumber 1 3 (field.Name (codes "cr
 renumber-other = refl
 
 -- three traces are looked at twice, and none where the last stands before the first
-pub renumber-looks : edit_looks volume_plain (Renumber 1 3 (field.Name (codes "crossline")) (pos 21) (pos 2)) ≡ 6
+pub renumber-looks : edit_looks loaded (Renumber 1 3 (field.Name (codes "crossline")) (pos 21) (pos 2)) ≡ 6
 renumber-looks = refl
 
-pub renumber-no_looks : edit_looks volume_plain (Renumber 2 1 (field.Name (codes "crossline")) (pos 21) (negsuc 0)) ≡ 0
+pub renumber-no_looks : edit_looks loaded (Renumber 2 1 (field.Name (codes "crossline")) (pos 21) (negsuc 0)) ≡ 0
 renumber-no_looks = refl

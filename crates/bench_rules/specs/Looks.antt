@@ -1,60 +1,72 @@
 -- How often edits and queries look at traces.
-use Rattle.std.specs.Prelude.{ℕ, ◌+◌, ◌-◌, ◌*◌, List, Option, Some, None, if◌then◌else◌}
-use Rattle.std.specs.Option.{option_or}
+use Rattle.std.specs.Prelude.{ℕ, ◌+◌, ◌-◌, ◌*◌, ◌&&◌, nat_le, List, Option, Some, None, if◌then◌else◌}
 use Rattle.field_map.specs.Binding.{is_geometry}
-use Rattle.frame_cut.specs.Traces.{count_of}
+use Rattle.frame_cut.specs.Traces.{count_of, is_trace}
 use Rattle.frame_cut.specs.Volume.{Volume}
 use Rattle.bench_rules.specs.declared.edit.Edit.{Edit}
 use Rattle.bench_rules.specs.declared.edit.Edit.TheVariants as edits
 use Rattle.bench_rules.specs.declared.query.Query.{Query}
 use Rattle.bench_rules.specs.declared.query.Query.TheVariants as queries
-use Rattle.bench_rules.specs.declared.refusal.Refusal.{Refusal}
+use Rattle.bench_rules.specs.Computed.{formula_of}
 use Rattle.bench_rules.specs.Kept.{is_kept}
-use Rattle.bench_rules.specs.Refused.{no_trace, no_trace_from}
+use Rattle.bench_rules.specs.ManyTraces.{each_of}
+use Rattle.bench_rules.specs.Places.{place_in_trace}
+use Rattle.bench_rules.specs.State.{State}
 
 -- the most traces that a load looks at: each once, for its record
 abbrev pub load_looks : Volume → ℕ
 load_looks v = count_of v
 
--- twice the traces a to b; none where a is no trace, or b is none of those from a on
-abbrev pub renumber_looks : Option Refusal → ℕ → ℕ → ℕ
-renumber_looks (Some refusal) a b = 0
-renumber_looks None a b = 2 * (b + 1 - a)
+-- so many looks, but none where the field has no place
+abbrev pub looks_at : {X : Type 0} → Option X → ℕ → ℕ
+looks_at None n = 0
+looks_at (Some place) n = n
 
--- the most traces that an edit looks at; a geometry name bound anew gives each trace another record
-abbrev pub edit_looks : Volume → Edit → ℕ
-edit_looks v (edits.Set p field x) = 2
-edit_looks v (edits.SetBin field x) = 0
-edit_looks v (edits.SetText q text) = 0
-edit_looks v (edits.Map name place) = if is_geometry name then count_of v else 0
-edit_looks v (edits.Unmap name) = 0
-edit_looks v (edits.Patch p k values) = 2
-edit_looks v (edits.Blank p) = 1
-edit_looks v (edits.Copy q p) = 2
-edit_looks v (edits.Delete p) = 0
-edit_looks v (edits.Move a b) = 0
-edit_looks v (edits.Resize p m) = 2
-edit_looks v (edits.Renumber a b field first step) = renumber_looks (option_or (no_trace v a) (no_trace_from v a b)) a b
+-- the number of traces a to b; none where a is no trace, or b is none of those from a on
+abbrev pub range_looks : Volume → ℕ → ℕ → ℕ
+range_looks v a b = if is_trace v a && nat_le a b && nat_le b (count_of v) then b + 1 - a else 0
+
+-- the most traces that an edit looks at; a geometry name bound anew gives each trace another record, and a field
+-- without a place none
+abbrev pub edit_looks : State → Edit → ℕ
+edit_looks s (edits.Set p field x) = looks_at (place_in_trace s.fields field) 2
+edit_looks s (edits.SetBin field x) = 0
+edit_looks s (edits.SetText q text) = 0
+edit_looks s (edits.Map name place) = if is_geometry name then count_of s.volume else 0
+edit_looks s (edits.Unmap name) = 0
+edit_looks s (edits.Patch p k values) = 2
+edit_looks s (edits.Blank p) = 1
+edit_looks s (edits.Copy q p) = 2
+edit_looks s (edits.Delete p) = 0
+edit_looks s (edits.Move a b) = 0
+edit_looks s (edits.Resize p m) = 2
+edit_looks s (edits.Renumber a b field first step) = looks_at (place_in_trace s.fields field) (2 * range_looks s.volume a b)
+edit_looks s (edits.Compute a b field source steps) = looks_at (formula_of s.fields field source steps) (2 * range_looks s.volume a b)
 
 -- the most traces that a query looks at, where the slices with these numbers are kept
-abbrev pub query_looks : Volume → List ℕ → Query → ℕ
-query_looks v kept queries.Count = 0
-query_looks v kept queries.Info = 0
-query_looks v kept (queries.Get p field) = 1
-query_looks v kept (queries.GetBin field) = 0
-query_looks v kept (queries.Line b q) = 0
-query_looks v kept (queries.Code b) = 0
-query_looks v kept queries.Stanzas = 0
-query_looks v kept queries.Fields = 0
-query_looks v kept (queries.Sample p k) = 1
-query_looks v kept (queries.Geometry p) = 0
-query_looks v kept (queries.Stat p) = 0
-query_looks v kept (queries.Fold i c) = 0
-query_looks v kept queries.Grid = 0
-query_looks v kept queries.Inlines = 0
-query_looks v kept queries.Crosslines = 0
-query_looks v kept queries.Histogram = 0
-query_looks v kept (queries.Range quantity) = 0
-query_looks v kept queries.Totals = 0
-query_looks v kept (queries.Slice k) = if is_kept k kept then 0 else count_of v
-query_looks v kept queries.Faults = 0
+abbrev pub query_looks : State → List ℕ → Query → ℕ
+query_looks s kept queries.Count = 0
+query_looks s kept queries.Info = 0
+query_looks s kept (queries.Get p field) = looks_at (place_in_trace s.fields field) 1
+query_looks s kept (queries.GetBin field) = 0
+query_looks s kept (queries.Line b q) = 0
+query_looks s kept (queries.Lines b) = 0
+query_looks s kept (queries.Code b) = 0
+query_looks s kept queries.Stanzas = 0
+query_looks s kept queries.Fields = 0
+query_looks s kept (queries.Sample p k) = 1
+query_looks s kept (queries.Geometry p) = 0
+query_looks s kept (queries.Stat p) = 0
+query_looks s kept (queries.Fold i c) = 0
+query_looks s kept queries.Grid = 0
+query_looks s kept queries.Inlines = 0
+query_looks s kept queries.Crosslines = 0
+query_looks s kept queries.Histogram = 0
+query_looks s kept (queries.Range quantity) = 0
+query_looks s kept queries.Totals = 0
+query_looks s kept (queries.Slice k) = if is_kept k kept then 0 else count_of s.volume
+query_looks s kept queries.Faults = 0
+query_looks s kept (queries.Table a b fields) = looks_at (each_of (place_in_trace s.fields) fields) (range_looks s.volume a b)
+query_looks s kept (queries.Find a b field low high) = looks_at (place_in_trace s.fields field) (range_looks s.volume a b)
+query_looks s kept (queries.Header p) = 1
+query_looks s kept (queries.Extremes a b) = range_looks s.volume a b

@@ -1,27 +1,26 @@
 -- The first refusal that an edit meets.
-use Rattle.std.specs.Prelude.{ℕ, ◌+◌, ◌-◌, ◌==◌, ◌&&◌, nat_le, nat_lt, nat_abs, int_lt, max, Bool, not, false, ℤ, pos, List, [], ◌∷◌, length, Option, Some, None, option_map, if◌then◌else◌}
+use Rattle.std.specs.Prelude.{ℕ, ◌+◌, ◌-◌, ◌==◌, ◌&&◌, nat_le, nat_lt, nat_abs, int_lt, max, Bool, not, ℤ, pos, List, [], ◌∷◌, length, Option, Some, None, option_map, if◌then◌else◌}
 use Rattle.std.specs.List.{list_all}
 use Rattle.std.specs.Option.{option_or}
 use Rattle.std.specs.Str.{chars}
-use Rattle.num_order.specs.Number.{bytes, fits}
+use Rattle.num_order.specs.Number.{fits}
 use Rattle.field_map.specs.declared.place.Place.{Place}
-use Rattle.field_map.specs.Places.{offset_of}
 use Rattle.field_map.specs.Binding.{bind_fault, unbind_fault}
 use Rattle.text_block.specs.Blocks.{code_of}
 use Rattle.text_block.specs.Lines.{text_fault}
 use Rattle.sample_codes.specs.Formats.{sample_fits}
 use Rattle.frame_cut.specs.declared.file_head.Head.{Head}
 use Rattle.frame_cut.specs.declared.limits.Limits.{Limits}
-use Rattle.frame_cut.specs.Splice.{splice}
-use Rattle.frame_cut.specs.Frames.{trace_length, sample_count}
+use Rattle.frame_cut.specs.Frames.{sample_count}
 use Rattle.frame_cut.specs.Traces.{count_of, is_trace, trace_at}
 use Rattle.frame_cut.specs.Volume.{Volume, bytes_of}
-use Rattle.trace_view.specs.Values.{has_place}
 use Rattle.bench_rules.specs.declared.edit.Edit.{Edit}
-use Rattle.bench_rules.specs.declared.edit.Edit.TheVariants.{Set, SetBin, SetText, Map, Unmap, Patch, Blank, Copy, Delete, Move, Resize, Renumber}
+use Rattle.bench_rules.specs.declared.edit.Edit.TheVariants.{Set, SetBin, SetText, Map, Unmap, Patch, Blank, Copy, Delete, Move, Resize, Renumber, Compute}
 use Rattle.bench_rules.specs.declared.refusal.Refusal.{Refusal}
 use Rattle.bench_rules.specs.declared.refusal.Refusal.TheVariants as refusals
 use Rattle.bench_rules.specs.Places.{place_in_trace, place_in_binary, is_in_binary, touches_frame}
+pub use Rattle.bench_rules.specs.SetRefusals.{with_value, is_length, changes_length, set_refusal}
+use Rattle.bench_rules.specs.Computed.{formula_of, compute_refusal_in}
 use Rattle.bench_rules.specs.State.{State}
 use Rattle.bench_rules.specs.TraceEdits.{resized, numbers}
 use Rattle.bench_rules.specs.WholeTraces.{blank_trace}
@@ -52,27 +51,6 @@ no_samples n k many = if nat_lt n (k + many) then Some (refusals.NoSample (max k
 abbrev pub patch_refusal : Head → List ℕ → ℕ → List ℤ → Option Refusal
 patch_refusal h t k values =
     if not (list_all (sample_fits h.format) values) then Some refusals.DoesNotFit else no_samples (sample_count h t) k (length values)
-
--- the trace with the value over the place
-abbrev pub with_value : Head → List ℕ → Place → ℤ → List ℕ
-with_value h t place x = splice t (offset_of place) place.kind.size (bytes h.order place.kind x)
-
--- the length is this one
-abbrev pub is_length : Option ℕ → ℕ → Bool
-is_length None n = false
-is_length (Some m) n = m == n
-
--- with the value over the place the trace's headers give it another length than it has, or none
-abbrev pub changes_length : Head → List ℕ → Place → ℤ → Bool
-changes_length h t place x = not (is_length (trace_length h (with_value h t place x)) (length t))
-
--- the refusal of a value at the place that a field of the trace has, if it has one
-abbrev pub set_refusal : Head → List ℕ → Option Place → ℤ → Option Refusal
-set_refusal h t None x = Some refusals.NoField
-set_refusal h t (Some place) x =
-    if not (has_place h t place) then Some refusals.NoPlace else
-    if not (fits place.kind x) then Some refusals.DoesNotFit else
-    if changes_length h t place x then Some refusals.Frame else None
 
 -- the refusal of a value at the place that a field of the binary header has, if it has one
 abbrev pub set_bin_refusal : Option Place → ℤ → Option Refusal
@@ -141,3 +119,5 @@ first_refusal s (Move a b) = option_or (no_trace s.volume a) (no_trace s.volume 
 first_refusal s (Resize p m) = option_or (no_trace s.volume p) (count_refusal s.volume.head (length (bytes_of s.volume)) s.limits.bytes (trace_at s.volume p) m)
 first_refusal s (Renumber a b field first step) =
     option_or (no_trace s.volume a) (option_or (no_trace_from s.volume a b) (first_refusal_among s.volume (place_in_trace s.fields field) (numbers a b first step)))
+first_refusal s (Compute a b field source steps) =
+    option_or (no_trace s.volume a) (option_or (no_trace_from s.volume a b) (compute_refusal_in s.volume (formula_of s.fields field source steps) a b))

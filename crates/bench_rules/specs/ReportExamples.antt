@@ -47,8 +47,8 @@ pub report-slice : answer loaded (Slice 2) ≡ Ok (answers.Slice [])
 report-slice = refl
 
 -- three looks, and none where the slice is kept
-pub looks-slice : query_looks volume_plain (7 ∷ []) (Slice 2) ≡ 3
+pub looks-slice : query_looks loaded (7 ∷ []) (Slice 2) ≡ 3
 looks-slice = refl
 
-pub looks-kept : query_looks volume_plain (7 ∷ 2 ∷ []) (Slice 2) ≡ 0
+pub looks-kept : query_looks loaded (7 ∷ 2 ∷ []) (Slice 2) ≡ 0
 looks-kept = refl

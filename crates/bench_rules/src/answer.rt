@@ -1,6 +1,8 @@
+use crate::extremes::Extremes;
 use crate::info::Info;
 use crate::items::Items;
 use crate::location::Location;
+use crate::table::Table;
 use crate::text::Text;
 use fault_live::Fault;
 use field_map::Place;
@@ -19,6 +21,8 @@ pub enum Answer {
     Value(i128),
     /// The shown line, with the blanks at its end.
     Line(Text),
+    /// The 40 shown lines of a block, with the blanks at their ends.
+    Lines(Items<Text>),
     /// The code of a block.
     Code(Code),
     /// Each stanza's block and name. A data trailer record counts on behind the last block.
@@ -46,4 +50,12 @@ pub enum Answer {
     Slice(Items<Row>),
     /// Those of the headers, then those of each trace in order.
     Faults(Items<Fault>),
+    /// For each trace its position and its numbers in the fields that were asked.
+    Table(Table),
+    /// The positions of the traces that were found, rising, each with its number.
+    Found(Items<(u32, i128)>),
+    /// Each name with its number: the standard's names by their bytes, then the bound ones.
+    Header(Items<(Text, i128)>),
+    /// Each name with the extremes of its numbers, in the same order.
+    Extremes(Items<(Text, Extremes)>),
 }

@@ -1,5 +1,7 @@
 use crate::field::Field;
 use crate::items::Items;
+use crate::operand::Operand;
+use crate::operator::Operator;
 use crate::text::Text;
 use field_map::Place;
 
@@ -41,4 +43,10 @@ pub enum Edit {
     /// step, whole or not at all. Refused, in this order: E01 for a, E01 for b, then the first
     /// refusal of the lowest trace's value, each judged in the file as it was: E02, E03, E04, E06.
     Renumber(u32, u32, Field, i128, i128),
+    /// `Compute(a, b, field, source, steps)`: the field of each of traces a to b from the source by
+    /// the steps, strictly one after another, on whole numbers of that trace as it was: whole or
+    /// not at all. Refused, in this order: E01 for a, E01 for b, E02 where a field has no place,
+    /// then the first refusal of the lowest trace that has one: E03 where it lacks a place, E13 or
+    /// E04 of the first step that has no number, E04 where the last one does not fit the field, E06.
+    Compute(u32, u32, Field, Operand, Items<(Operator, Operand)>),
 }

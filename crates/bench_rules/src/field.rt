@@ -6,7 +6,7 @@ use field_map::Place;
 pub enum Field {
     /// The number at this place.
     Place(Place),
-    /// The field of this name: of a trace a bound name, else a standard one; of the binary header a
-    /// name of its own.
+    /// The field of this name: of a trace a bound name, else one that is always known; of the
+    /// binary header a name of its own.
     Name(Text),
 }

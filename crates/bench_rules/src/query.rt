@@ -1,4 +1,5 @@
 use crate::field::Field;
+use crate::items::Items;
 use range_stats::Quantity;
 
 /// What is asked of a volume. Traces count from 1, samples of a trace from 0. Block 0 is the
@@ -17,6 +18,8 @@ pub enum Query {
     GetBin(Field),
     /// `Line(b, q)`: line q of block b, as it is shown. Refused: E03.
     Line(u32, u32),
+    /// `Lines(b)`: the 40 lines of block b, as they are shown. Refused: E03.
+    Lines(u32),
     /// `Code(b)`: the code of block b. Refused: E03.
     Code(u32),
     /// The stanzas of the extended textual headers and of the data trailer records.
@@ -47,4 +50,17 @@ pub enum Query {
     Slice(u32),
     /// What the headers contradict each other in, or the traces each other.
     Faults,
+    /// `Table(a, b, fields)`: these header fields of each of traces a to b. Refused, in this order:
+    /// E01 for a, E01 for b, E02 where a field has no place, E03 where one of the traces lacks a
+    /// place.
+    Table(u32, u32, Items<Field>),
+    /// `Find(a, b, field, low, high)`: those of traces a to b whose field has a number from low to
+    /// high; low above high finds none. Refused as `Table` is.
+    Find(u32, u32, Field, i128, i128),
+    /// `Header(p)`: all named header fields of trace p that it has. Refused: E01.
+    Header(u32),
+    /// `Extremes(a, b)`: of each named header field whose numbers in traces a to b are not all 0,
+    /// the least, the greatest, the first and the last. Refused, in this order: E01 for a, E01 for
+    /// b.
+    Extremes(u32, u32),
 }

@@ -47,6 +47,9 @@ pub enum Refusal {
     /// A growth was refused.
     #[error("E11 out of memory")]
     OutOfMemory,
+    /// `ZeroDivisor(p)`: in trace p a computation divides by 0.
+    #[error("E13 zero divisor trace {0}")]
+    ZeroDivisor(u32),
 }
 
 impl From<OutOfMemory> for Refusal {

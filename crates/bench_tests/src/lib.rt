@@ -3,6 +3,10 @@
 #![tactic(auto)]
 
 #[cfg(test)]
+mod compute_tests;
+#[cfg(test)]
+mod header_tests;
+#[cfg(test)]
 mod number_tests;
 #[cfg(test)]
 mod report_tests;

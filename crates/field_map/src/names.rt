@@ -6,8 +6,8 @@ ghost use Rattle.field_map.specs.StandardNames.{standard_place, binary_place};
 use crate::place::Place;
 use num_order::Kind;
 
-/// The place of a trace's field by its standard name: the trace header's fields of the standard,
-/// and two fields of the first trace header extension. Takes no memory.
+/// The place of a trace's field by a standard name, which is never bound anew: most of the trace
+/// header's fields of the standard, and two of its first extension. Takes no memory.
 pub fn standard(name: &str) -> Option<Place>
     ensures { result ≡ standard_place name.now }
 {

@@ -1,6 +1,6 @@
 // Names that are bound, looked up and left out. One function owns the map of each test and lends it
 // out: the check of a function that owns a map takes the longer the more it does.
-use crate::{FieldMap, MapFault, Place, bin_field, standard};
+use crate::{FieldMap, MapFault, Place, bin_field, header_field, named, standard};
 use num_order::Kind;
 use std::alloc::Global;
 use std::process::Abort;
@@ -49,6 +49,97 @@ fn looks_up_standard_names(rt: HostRuntime) -> Result<(), Fail> {
     assert_eq!(rt; bin_field("trailer"), Some(signed(0, 3529, 4)));
     assert_eq!(rt; bin_field("delay"), None);
     Ok(())
+}
+
+#[test]
+fn looks_up_the_names_of_other_tools(rt: HostRuntime) -> Result<(), Fail> {
+    let cases = [
+        ("delay", signed(0, 109, 2)),
+        ("total_static", signed(0, 103, 2)),
+        ("source_energy_inline", signed(0, 223, 2)),
+        ("ext_sequence_line", unsigned(1, 1, 8)),
+        ("ext_last_trace", signed(1, 159, 2)),
+        ("tstat", signed(0, 103, 2)),
+        ("ns", unsigned(0, 115, 2)),
+        ("otrav", signed(0, 179, 2)),
+        ("TotalStaticApplied", signed(0, 103, 2)),
+        ("INLINE_3D", signed(0, 189, 4)),
+        ("inline_3d", signed(0, 189, 4)),
+        ("Inline_3D", signed(0, 189, 4)),
+        ("UnassignedInt2", signed(0, 237, 4)),
+    ];
+    for (name, place) in &cases {
+        assert_eq!(rt; named(name), Some(*place));
+    }
+    for name in &[
+        "TSTAT",
+        "Delay",
+        "Total_Static",
+        "tsta",
+        "inline",
+        "x",
+        "job",
+        "",
+        "d1",
+    ] {
+        assert_eq!(rt; named(name), None);
+    }
+    assert_eq!(rt; bin_field("ns"), None);
+    assert_eq!(rt; bin_field("total_static"), None);
+    assert_eq!(rt; standard("total_static"), None);
+    Ok(())
+}
+
+#[test]
+fn lists_the_fields_of_the_header(rt: HostRuntime) -> Result<(), Fail> {
+    assert_eq!(rt; header_field(0), Some(("sequence_line", signed(0, 1, 4))));
+    assert_eq!(rt;
+        header_field(8),
+        Some(("vertically_summed", signed(0, 31, 2)))
+    );
+    assert_eq!(rt;
+        header_field(89),
+        Some(("source_measure_unit", signed(0, 231, 2)))
+    );
+    assert_eq!(rt;
+        header_field(90),
+        Some(("ext_sequence_line", unsigned(1, 1, 8)))
+    );
+    assert_eq!(rt;
+        header_field(98),
+        Some(("ext_last_trace", signed(1, 159, 2)))
+    );
+    assert_eq!(rt; header_field(99), None);
+    assert_eq!(rt; header_field(u32::MAX), None);
+    Ok(())
+}
+
+fn bind_known(rt: &impl Abort, alloc: Global, fields: &mut FieldMap) -> Result<(), Fail> {
+    fields.bind(alloc, "cdp", signed(0, 233, 4))?;
+    fields.bind(alloc, "total_static", signed(0, 5, 4))?;
+    assert_eq!(rt; fields.place("cdp"), Some(signed(0, 233, 4)));
+    assert_eq!(rt; named("cdp"), Some(signed(0, 21, 4)));
+    assert_eq!(rt;
+        fields.bind(alloc, "CDP", signed(0, 5, 4)).err(),
+        Some(MapFault::BadName)
+    );
+    assert_eq!(rt;
+        fields.bind(alloc, "samples", signed(0, 5, 4)).err(),
+        Some(MapFault::Standard)
+    );
+    fields.unbind("cdp")?;
+    assert_eq!(rt; fields.place("cdp"), None);
+    Ok(())
+}
+
+#[test]
+fn binds_the_names_of_other_tools(rt: HostRuntime) -> Result<(), Fail> {
+    let alloc = rt.alloc();
+    on_standard(
+        alloc,
+        0,
+        &mut |fields: &mut FieldMap| bind_known(&rt, alloc, fields),
+    )
 }
 
 fn refuse_each(rt: &impl Abort, alloc: Global, fields: &mut FieldMap) -> Result<(), Fail> {

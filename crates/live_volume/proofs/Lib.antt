@@ -1,2 +1,4 @@
 pub mod HeldLemmas
 mod ManyTracesLemmas
+mod RangeLemmas
+pub mod ComputedLemmas

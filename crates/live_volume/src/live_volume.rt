@@ -25,9 +25,10 @@ use bench_rules::{
 };
 use device_io::{Sink, Source};
 use edit_overlay::{Overlay, SaveFault};
-use field_map::{FieldMap, Place, is_geometry, standard};
+use field_map::{FieldMap, Place, is_geometry};
 use frame_cut::{Limits, LoadFault, Reading};
 use live_reports::LiveReports;
+use many_traces::place_in_trace;
 use num_order::write;
 use std::alloc::Global;
 use std::io::{Read, Write};
@@ -99,12 +100,12 @@ impl LiveVolume {
     }
 
     /// One edit: done, and the reports follow it; or refused, and all is as it was. `Set`, `Map`,
-    /// `Patch`, `Blank`, `Copy`, `Move`, `Resize` and `Renumber` take memory, and are refused for
-    /// want of it, E11, only where nothing else refuses them.
+    /// `Patch`, `Blank`, `Copy`, `Move`, `Resize`, `Renumber` and `Compute` take memory, and are
+    /// refused for want of it, E11, only where nothing else refuses them.
     pub fn apply(&mut self, alloc: Global, edit: &Edit) -> Result<(), Refusal>
         ensures step { Step self.old.state edit.now result self.new.state }
         ensures looks { RisesAtMost self.old.looks self.new.looks
-            (edit_looks self.old.state.volume edit.now) }
+            (edit_looks self.old.state edit.now) }
     {
         match edit {
             Edit::Set(p, field, value) => self.set_field(alloc, *p, field, *value),
@@ -122,6 +123,10 @@ impl LiveVolume {
                 self.renumber(alloc, *a, *b, field, *first, *step)?;
                 Ok(())
             }
+            Edit::Compute(a, b, field, source, steps) => {
+                self.compute(alloc, *a, *b, field, source, steps.as_slice())?;
+                Ok(())
+            }
         }
     }
 
@@ -129,13 +134,7 @@ impl LiveVolume {
     pub(crate) fn place_in_trace(&self, field: &Field) -> Option<Place>
         ensures { result ≡ place_in_trace self.now.state.fields field.now }
     {
-        match field {
-            Field::Place(place) => Some(*place),
-            Field::Name(name) => match self.fields.place(name.as_str()) {
-                Some(place) => Some(place),
-                None => standard(name.as_str()),
-            },
-        }
+        place_in_trace(&self.fields, field)
     }
 
     // Whether there is a trace p.
@@ -154,7 +153,8 @@ impl LiveVolume {
         value: i128,
     ) -> Result<(), Refusal>
         ensures step { Step self.old.state (edits.Set p field.now value) result self.new.state }
-        ensures looks { RisesAtMost self.old.looks self.new.looks 2 }
+        ensures looks { RisesAtMost self.old.looks self.new.looks
+            (edit_looks self.old.state (edits.Set p field.now value)) }
     {
         match self.place_in_trace(field) {
             Some(place) => self.set(alloc, p, place, value),
@@ -262,7 +262,7 @@ impl LiveVolume {
     fn bind(&mut self, alloc: Global, name: &Text, place: Place) -> Result<(), Refusal>
         ensures step { Step self.old.state (edits.Map name.now place) result self.new.state }
         ensures looks { RisesAtMost self.old.looks self.new.looks
-            (edit_looks self.old.state.volume (edits.Map name.now place)) }
+            (edit_looks self.old.state (edits.Map name.now place)) }
     {
         if is_geometry(name.as_str()) {
             self.bind_geometry(alloc, name, place)
@@ -326,7 +326,7 @@ impl LiveVolume {
         ensures reply { IsReply self.old.state query.now result }
         ensures unchanged { self.new.state ≡ self.old.state }
         ensures looks { RisesAtMost self.old.looks self.new.looks
-            (query_looks self.old.state.volume [] query.now) }
+            (query_looks self.old.state [] query.now) }
     {
         match query {
             Query::Count => Ok(Answer::Count(self.overlay.count())),
@@ -349,6 +349,13 @@ impl LiveVolume {
             Query::Totals => self.totals_answer(),
             Query::Slice(k) => self.slice_answer(alloc, *k),
             Query::Faults => self.faults_answer(alloc),
+            Query::Lines(b) => self.lines_answer(alloc, *b),
+            Query::Table(a, b, fields) => self.table_answer(alloc, *a, *b, fields.as_slice()),
+            Query::Find(a, b, field, low, high) => {
+                self.found_answer(alloc, *a, *b, field, *low, *high)
+            }
+            Query::Header(p) => self.header_answer(alloc, *p),
+            Query::Extremes(a, b) => self.extremes_answer(alloc, *a, *b),
         }
     }
 
@@ -356,7 +363,8 @@ impl LiveVolume {
     fn get_field(&mut self, p: u32, field: &Field) -> Result<Answer, AskFault>
         ensures reply { result ≡ answer self.old.state (queries.Get p field.now) }
         ensures state { self.new.state ≡ self.old.state }
-        ensures looks { RisesAtMost self.old.looks self.new.looks 1 }
+        ensures looks { RisesAtMost self.old.looks self.new.looks
+            (query_looks self.old.state [] (queries.Get p field.now)) }
     {
         match self.place_in_trace(field) {
             Some(place) => self.get(p, place),

@@ -92,7 +92,7 @@ impl LiveVolume {
         ensures step { Step self.old.state (edits.Renumber a b field.now first step) result
             self.new.state }
         ensures looks { RisesAtMost self.old.looks self.new.looks
-            (edit_looks self.old.state.volume (edits.Renumber a b field.now first step)) }
+            (edit_looks self.old.state (edits.Renumber a b field.now first step)) }
         ensures moved { IfOk result (λ moved. moved
             ≡ any_moves self.old.state self.new.state a b) }
     {
@@ -109,7 +109,7 @@ impl LiveVolume {
     }
 
     // The first refusal of a range of traces: E01.
-    fn range_refusal(&self, a: u32, b: u32) -> Option<Refusal>
+    pub(crate) fn range_refusal(&self, a: u32, b: u32) -> Option<Refusal>
         ensures { result ≡ option_or (no_trace self.now.state.volume a)
             (no_trace_from self.now.state.volume a b) }
     {

@@ -12,7 +12,7 @@ use Rattle.script_text.specs.RefusalTexts.{load_refusal_line, script_refusal_lin
 use Rattle.script_text.specs.Devices.{Takes, TakesPart, count_in_64_bits}
 use Rattle.script_run.specs.Loading.{Loads, ReadsScript}
 use Rattle.script_text.specs.Replies.{Printed}
-use Rattle.script_text.specs.Words.{script_lines}
+use Rattle.script_words.specs.Words.{script_lines}
 use Rattle.script_run.specs.FromScratch.{ScratchSteps, saved}
 use Rattle.script_run.specs.Runs.{LineStep, LineSteps, RunsWhole, StopsAt, BreaksOff}
 use Rattle.script_run.proofs.ScratchLemmas.{scratch, line_keeps}

@@ -13,10 +13,10 @@ use Rattle.bench_rules.specs.After.{fields_after}
 use Rattle.bench_rules.specs.Refused.{first_refusal}
 use Rattle.bench_rules.specs.State.{State}
 use Rattle.bench_rules.specs.Steps.{StepUnless}
-use Rattle.script_text.specs.declared.command.Command.{Command}
-use Rattle.script_text.specs.declared.command.Command.TheVariants.{Apply, Ask}
-use Rattle.script_text.specs.declared.line_fault.LineFault.{LineFault}
-use Rattle.script_text.specs.declared.line_fault.LineFault.TheVariants.{TooLarge, OutOfMemory}
+use Rattle.script_words.specs.declared.command.Command.{Command}
+use Rattle.script_words.specs.declared.command.Command.TheVariants.{Apply, Ask}
+use Rattle.script_words.specs.declared.line_fault.LineFault.{LineFault}
+use Rattle.script_words.specs.declared.line_fault.LineFault.TheVariants.{TooLarge, OutOfMemory}
 use Rattle.script_text.specs.Replies.{Printed, fault_reply, edit_reply}
 use Rattle.script_text.specs.Texts.{IsFullLines}
 use Rattle.script_text.proofs.PlainLemmas.{HasPlainNames, plain_name, plain_bound, plain_unbound, nothing_full, fault_full, edit_full, query_full}
@@ -49,6 +49,7 @@ fields_plain s (edits.Delete p) e h = h
 fields_plain s (edits.Move a b) e h = h
 fields_plain s (edits.Resize p m) e h = h
 fields_plain s (edits.Renumber a b field first step) e h = h
+fields_plain s (edits.Compute a b field source steps) e h = h
 
 same_plain : (old new : State) → new ≡ old → HasPlainNames old.fields → HasPlainNames new.fields
 same_plain old new e h = subst (λ (s : State). HasPlainNames s.fields) (sym e) h

@@ -5,9 +5,9 @@ use Rattle.std.specs.List.{list_any, before_first, after_first, position_or_len}
 use Rattle.std.proofs.lemmas.List.{drop-take, drop-drop, length-take}
 use Rattle.std.proofs.lemmas.Bool.{eq-eqb}
 use Rattle.std.specs.Io.KnownBytes.{Consumes, IsAtEnd}
-use Rattle.script_text.specs.Words.{is_line_feed, parts_by_line_feed}
-use Rattle.script_text.proofs.PartLemmas.{cut_in_part, part_in_front}
-use Rattle.script_text.proofs.ScriptLemmas.{last_part}
+use Rattle.script_words.specs.Words.{is_line_feed, parts_by_line_feed}
+use Rattle.script_words.proofs.PartLemmas.{cut_in_part, part_in_front}
+use Rattle.script_words.proofs.ScriptLemmas.{last_part}
 use Rattle.script_run.specs.Input.{left_of, TakesLine, TakesLines, TakesFront, KeepsTaken, Held, Holds, nothing_held, IsFront}
 
 -- ---- a slice

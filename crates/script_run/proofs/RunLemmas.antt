@@ -7,7 +7,7 @@ use Rattle.std.proofs.lemmas.List.{take_at, length-map}
 use Rattle.std.proofs.lemmas.List.Sums.{sum_by_push}
 use Rattle.std.proofs.lemmas.List.Concat.{flat_map-append}
 use Rattle.bench_rules.specs.State.{State}
-use Rattle.script_text.specs.Words.{is_line_feed, parts_by_line_feed, script_lines, without_return}
+use Rattle.script_words.specs.Words.{is_line_feed, parts_by_line_feed, script_lines, without_return}
 use Rattle.script_text.specs.Replies.{Printed}
 use Rattle.script_text.specs.Devices.{Device, Takes, TakesPart, count_in_64_bits}
 use Rattle.script_run.specs.Runs.{LineStep, LineSteps, StepsBy, printed_text, refusals, StopsAt, BreaksOff}

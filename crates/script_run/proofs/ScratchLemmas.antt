@@ -11,9 +11,9 @@ use Rattle.bench_rules.specs.Answer.{answer}
 use Rattle.bench_rules.specs.State.{State}
 use Rattle.bench_rules.specs.Steps.{Steps}
 use Rattle.bench_laws.specs.EditLaws.{IsReadAlike, StepsStayCut, AnswersFromScratch}
-use Rattle.script_text.specs.declared.command.Command.{Command}
-use Rattle.script_text.specs.declared.command.Command.TheVariants.{Apply, Ask}
-use Rattle.script_text.specs.declared.line_fault.LineFault.{LineFault}
+use Rattle.script_words.specs.declared.command.Command.{Command}
+use Rattle.script_words.specs.declared.command.Command.TheVariants.{Apply, Ask}
+use Rattle.script_words.specs.declared.line_fault.LineFault.{LineFault}
 use Rattle.script_text.specs.Replies.{Printed}
 use Rattle.script_run.specs.FromScratch.{saved, ScratchSteps}
 use Rattle.script_run.specs.Laws.{IsRead, LinesAreEdits, LinesFromScratch, ReloadsAsSaved}

@@ -5,7 +5,7 @@ use Rattle.std.specs.Io.KnownBytes.{Appends, IsAtEnd}
 use Rattle.std.proofs.lemmas.List.{take_at}
 use Rattle.bench_rules.specs.State.{State}
 use Rattle.script_text.specs.declared.script_fault.ScriptFault.{ScriptFault}
-use Rattle.script_text.specs.Words.{parts_by_line_feed}
+use Rattle.script_words.specs.Words.{parts_by_line_feed}
 use Rattle.script_run.specs.declared.session_lines.SessionLines.TheVariants.{Script}
 use Rattle.script_text.specs.Replies.{Printed}
 use Rattle.script_text.specs.Devices.{Device, Takes, TakesPart, count_in_64_bits}

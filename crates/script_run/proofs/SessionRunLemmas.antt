@@ -1,9 +1,9 @@
 -- A session is the run of its lines, with an empty line behind each answer.
 use Rattle.std.proofs.Common.{◌≡◌, ◌≤◌, ℕ, List, [], ◌∷◌, length, refl, ap, ap₂, ◌∙◌, inl, inr, arith}
 use Rattle.bench_rules.specs.State.{State}
-use Rattle.script_text.specs.declared.line_fault.LineFault.TheVariants.{OutOfMemory}
+use Rattle.script_words.specs.declared.line_fault.LineFault.TheVariants.{OutOfMemory}
 use Rattle.script_text.specs.Replies.{Printed, fault_reply}
-use Rattle.script_text.specs.Words.{without_return}
+use Rattle.script_words.specs.Words.{without_return}
 use Rattle.script_run.specs.Laws.{SessionIsRun}
 use Rattle.script_run.specs.Runs.{LineStep}
 use Rattle.script_run.specs.Sessions.{AnswerStep, with_empty_line}

@@ -10,7 +10,7 @@ use Rattle.script_text.specs.declared.script_fault.ScriptFault.{ScriptFault}
 use Rattle.script_text.specs.Devices.{Device, Takes, TakesPart, count_in_64_bits}
 use Rattle.script_run.specs.Loading.{Loads, IsLoadRefused, ReadsScript, IsScriptRefused}
 use Rattle.script_text.specs.RefusalTexts.{load_refusal_line, script_refusal_line}
-use Rattle.script_text.specs.Words.{script_lines}
+use Rattle.script_words.specs.Words.{script_lines}
 use Rattle.script_run.specs.FromScratch.{ScratchSteps, saved}
 use Rattle.script_run.specs.Runs.{LineStep, RunsWhole, StopsAt, BreaksOff}
 

@@ -8,9 +8,9 @@ use Rattle.bench_rules.specs.declared.refusal.Refusal.{Refusal}
 use Rattle.bench_rules.specs.Answer.{answer}
 use Rattle.bench_rules.specs.State.{State}
 use Rattle.bench_rules.specs.Steps.{Steps}
-use Rattle.script_text.specs.declared.line_fault.LineFault.TheVariants.{OutOfMemory}
+use Rattle.script_words.specs.declared.line_fault.LineFault.TheVariants.{OutOfMemory}
 use Rattle.script_text.specs.Replies.{Printed, fault_reply}
-use Rattle.script_text.specs.Words.{without_return}
+use Rattle.script_words.specs.Words.{without_return}
 use Rattle.script_run.specs.FromScratch.{ScratchSteps, saved}
 use Rattle.script_run.specs.Runs.{LineStep, LineSteps}
 use Rattle.script_run.specs.Sessions.{SessionSteps, with_empty_line}

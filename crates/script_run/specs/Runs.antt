@@ -4,11 +4,11 @@ use Rattle.bench_rules.specs.declared.refusal.Refusal.{Refusal}
 use Rattle.bench_rules.specs.State.{State}
 use Rattle.bench_rules.specs.Steps.{Step}
 use Rattle.bench_rules.specs.Answer.{Reply, IsReply}
-use Rattle.script_text.specs.declared.command.Command.{Command}
-use Rattle.script_text.specs.declared.command.Command.TheVariants.{Apply, Ask}
-use Rattle.script_text.specs.declared.line_fault.LineFault.{LineFault}
-use Rattle.script_text.specs.Words.{script_lines}
-use Rattle.script_text.specs.Commands.{IsParsed}
+use Rattle.script_words.specs.declared.command.Command.{Command}
+use Rattle.script_words.specs.declared.command.Command.TheVariants.{Apply, Ask}
+use Rattle.script_words.specs.declared.line_fault.LineFault.{LineFault}
+use Rattle.script_words.specs.Words.{script_lines}
+use Rattle.script_words.specs.Commands.{IsParsed}
 use Rattle.script_text.specs.Replies.{Printed, nothing, fault_reply, edit_reply, query_reply}
 
 -- a command with what it prints: an edit is one step, a query changes nothing

@@ -4,14 +4,14 @@ use Rattle.frame_cut.specs.declared.load_fault.LoadFault.{LoadFault}
 use Rattle.frame_cut.specs.Volume.{bytes_of}
 use Rattle.bench_rules.specs.State.{State}
 use Rattle.device_io.specs.Failures.{one_more}
-use Rattle.script_text.specs.declared.line_fault.LineFault.TheVariants.{TooLarge, OutOfMemory}
+use Rattle.script_words.specs.declared.line_fault.LineFault.TheVariants.{TooLarge, OutOfMemory}
 use Rattle.script_text.specs.declared.script_fault.ScriptFault.{ScriptFault}
 use Rattle.script_text.specs.declared.script_fault.ScriptFault.TheVariants as script_faults
 use Rattle.script_text.specs.Devices.{Device, Takes, TakesPart, count_in_64_bits}
 use Rattle.script_text.specs.RefusalTexts.{load_refusal_line, script_refusal_line}
 use Rattle.script_text.specs.Replies.{Printed, fault_reply}
 use Rattle.script_text.specs.Texts.{IsFullLines}
-use Rattle.script_text.specs.Words.{parts_by_line_feed, without_return}
+use Rattle.script_words.specs.Words.{parts_by_line_feed, without_return}
 use Rattle.script_run.specs.declared.options.Options.{Options}
 use Rattle.script_run.specs.declared.run_end.RunEnd.{RunEnd}
 use Rattle.script_run.specs.declared.run_end.RunEnd.TheVariants as ends

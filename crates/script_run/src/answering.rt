@@ -19,7 +19,8 @@ use crate::session_lines::SessionLines;
 use crate::told::{Told, write_reply};
 use bench_core::Bench;
 use device_io::{Sink, Source, WriteFault};
-use script_text::{LineFault, OutBuffer, Reply, ScriptFault, strip_return};
+use script_text::{OutBuffer, Reply, ScriptFault};
+use script_words::{LineFault, strip_return};
 use std::alloc::Global;
 use std::io::{Read, Write};
 

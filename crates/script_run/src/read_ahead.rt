@@ -6,7 +6,7 @@ ghost use Rattle.script_run.specs.Input.{IsPartTaken};
 
 use crate::held_line::HeldLine;
 use device_io::{Failed, Source};
-use script_text::split_once;
+use script_words::split_once;
 use std::io::Read;
 use std::marker::Model;
 

@@ -11,18 +11,21 @@ use crate::lines_end::LinesEnd;
 use crate::told::{Told, write_reply};
 use bench_core::Bench;
 use device_io::{Sink, WriteFault};
-use script_text::{Command, Lines, OutBuffer, Reply, parse_line};
+use script_hints::{Notes, fault_of};
+use script_text::{OutBuffer, Reply};
+use script_words::{Command, Lines, parse_line};
 use std::alloc::Global;
 use std::io::Write;
 
 /// Runs the lines in order, and writes the whole reply to each before the next is run, a short one
-/// at once.
+/// at once. The refused lines are noted.
 pub(crate) fn run_lines<A: Write>(
     alloc: Global,
     bench: &mut Bench,
     script: &[u8],
     answers: &mut Sink<A>,
     stop: bool,
+    notes: &mut Notes,
 ) -> LinesEnd
     requires { length script.now ≤ 16777216 }
     ensures { RunsLines bench.old.state bench.new.state script.now stop
@@ -36,7 +39,7 @@ pub(crate) fn run_lines<A: Write>(
     let mut written = 0u64;
     'lines: while let Some(line) = lines.next() {
         number += 1;
-        match answer_line(alloc, bench, line, &mut out, answers) {
+        match answer_line(alloc, bench, line, &mut out, answers, number, notes) {
             Ok(told) => {
                 written = written.saturating_add(told.length);
                 if told.is_refusal {
@@ -56,13 +59,15 @@ pub(crate) fn run_lines<A: Write>(
     LinesEnd::Whole { refused }
 }
 
-// Runs one line and writes its reply.
+// Runs one line and writes its reply. Where it is refused, it is noted under its number.
 fn answer_line<A: Write>(
     alloc: Global,
     bench: &mut Bench,
     line: &[u8],
     out: &mut OutBuffer,
     answers: &mut Sink<A>,
+    number: u64,
+    notes: &mut Notes,
 ) -> Result<Told, WriteFault>
     ensures { let old = device_of A.contents answers.old in
         let new = device_of A.contents answers.new in
@@ -70,6 +75,9 @@ fn answer_line<A: Write>(
         × IsWritten old new printed result }
 {
     let reply = run_line(alloc, bench, line);
+    if let Some(fault) = fault_of(&reply) {
+        notes.keep(number, line, fault);
+    }
     write_reply(out, answers, &reply, b"")
 }
 

@@ -15,6 +15,7 @@ use bench_laws::steps_stay_cut;
 use device_io::{Sink, Source};
 use edit_overlay::SaveFault;
 use frame_cut::LoadFault;
+use script_hints::Notes;
 use script_text::{TextBuffer, load_fault_line, script_fault_line, write_text};
 use std::alloc::Global;
 use std::io::{Read, Write};
@@ -26,7 +27,8 @@ use std::io::{Read, Write};
 /// refused gives its one line there, and no line is run. With `options.stop` the first refused line
 /// is the last, and nothing is saved. L01, P01, `Answers` and `Save` come only where that reader or
 /// writer failed in this call. Takes memory for the volume and the script; want of it is told as
-/// L16, P03 or, in a line's reply, E11.
+/// L16, P03 or, in a line's reply, E11. The refused lines are noted too, in a room of fixed size;
+/// no answer is made from that.
 pub fn run<R: Read, S: Read, A: Write, O: Write>(
     alloc: Global,
     reader: &mut Source<R>,
@@ -34,6 +36,7 @@ pub fn run<R: Read, S: Read, A: Write, O: Write>(
     answers: &mut Sink<A>,
     out: &mut Sink<O>,
     options: Options,
+    notes: &mut Notes,
 ) -> RunEnd
     ensures { Runs options
         (devices (device_of R.remaining reader.old)
@@ -45,7 +48,7 @@ pub fn run<R: Read, S: Read, A: Write, O: Write>(
         result }
 {
     match load(alloc, reader, options) {
-        Ok(mut bench) => run_loaded(alloc, &mut bench, script, answers, out, options),
+        Ok(mut bench) => run_loaded(alloc, &mut bench, script, answers, out, options, notes),
         Err(fault) => tell(answers, &load_fault_line(fault), RunEnd::Load(fault)),
     }
 }
@@ -60,6 +63,7 @@ fn run_loaded<S: Read, A: Write, O: Write>(
     answers: &mut Sink<A>,
     out: &mut Sink<O>,
     options: Options,
+    notes: &mut Notes,
 ) -> RunEnd
     ensures { (before after : Device) →
         Loads before after options.reading options.limits bench.old.state →
@@ -76,7 +80,7 @@ fn run_loaded<S: Read, A: Write, O: Write>(
         Ok(lines) => lines,
         Err(fault) => return tell(answers, &script_fault_line(fault), RunEnd::Script(fault)),
     };
-    match run_lines(alloc, bench, lines.as_slice(), answers, options.stop) {
+    match run_lines(alloc, bench, lines.as_slice(), answers, options.stop, notes) {
         LinesEnd::Stopped { line } => RunEnd::Stopped { line },
         LinesEnd::Answers { written } => RunEnd::Answers { written },
         LinesEnd::Whole { refused } if options.save => match save(bench, out) {

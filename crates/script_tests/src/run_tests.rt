@@ -1,6 +1,7 @@
 // What the reports and a long answer are printed as; each is worked by hand.
 use crate::tests::{options, prints, put, sample_file};
 use device_io::{Sink, Source, StepReader, StepWriter};
+use script_hints::Notes;
 use script_run::{RunEnd, run};
 use std::alloc::Global;
 use std::test::Fail;
@@ -86,6 +87,7 @@ fn cut_slice(alloc: Global, limit: usize) -> Result<(Vec<u8>, RunEnd), Fail> {
         &mut answers,
         &mut out,
         options(false, false)?,
+        &mut Notes::new(),
     );
     let _writer = answers.into_inner();
     Ok((room, end))

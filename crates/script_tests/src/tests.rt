@@ -6,8 +6,10 @@ use field_map::Place;
 use frame_cut::{Limits, LoadFault, Reading};
 use num_order::Kind;
 use range_stats::Quantity;
+use script_hints::Notes;
 use script_run::{Options, RunEnd, run};
-use script_text::{Command, LineFault, ScriptFault, parse_line};
+use script_text::ScriptFault;
+use script_words::{Command, LineFault, parse_line};
 use std::alloc::Global;
 use std::test::Fail;
 
@@ -79,6 +81,7 @@ fn run_script(alloc: Global, file: &[u8], script: &[u8], options: Options) -> Re
         &mut answers,
         &mut out,
         options,
+        &mut Notes::new(),
     );
     Ok(Told {
         end,
@@ -352,6 +355,7 @@ fn tells_failed_reads(rt: HostRuntime) -> Result<(), Fail> {
             &mut answers,
             &mut out,
             options(false, true)?,
+            &mut Notes::new(),
         );
         assert_eq!(rt; ended, end);
         assert_eq!(rt; answers.into_inner().as_slice(), line);
@@ -398,6 +402,7 @@ fn tells_failed_writes(rt: HostRuntime) -> Result<(), Fail> {
             &mut answers,
             &mut out,
             options(false, true)?,
+            &mut Notes::new(),
         );
         let _answers = answers.into_inner();
         let _out = out.into_inner();

@@ -1,5 +1,5 @@
 -- The texts of answers, of refusals and of faults are lines none of which is empty.
-use Rattle.std.proofs.Common.{◌≡◌, ℕ, ◌==◌, ◌-◌, length, List, [], ◌∷◌, ◌++◌, map, Bool, true, false, Option, Some, None, cond, refl}
+use Rattle.std.proofs.Common.{◌≡◌, ℕ, ℤ, ◌==◌, ◌-◌, length, List, [], ◌∷◌, ◌++◌, map, Bool, true, false, Option, Some, None, cond, refl}
 use Rattle.std.specs.Prelude.{codes, decimal}
 use Rattle.std.specs.Fmt.{signed_decimal}
 use Rattle.std.specs.List.{list_all, suffix_len}
@@ -19,14 +19,16 @@ use Rattle.grid_live.specs.declared.fold_count.FoldCount.{FoldCount}
 use Rattle.fault_live.specs.declared.fault.Fault.{Fault}
 use Rattle.fault_live.specs.declared.fault.Fault.TheVariants as faults
 use Rattle.time_slice.specs.declared.row.Row.{Row}
+use Rattle.bench_rules.specs.declared.extremes.Extremes.{Extremes}
 use Rattle.bench_rules.specs.declared.info.Info.{Info}
 use Rattle.bench_rules.specs.declared.location.Location.{Location}
 use Rattle.bench_rules.specs.declared.answer.Answer.TheVariants as answers
 use Rattle.script_text.specs.Texts.{with_blanks, list_lines, place_text, extension_text, sign_letter, is_plain, is_full_line, IsFullLines}
 use Rattle.script_text.specs.ReportTexts.{fraction_text, location_text, statistics_text, range_text, cell_text, numbered_text, fold_count_text, row_text, of_trace_text, fault_text}
-use Rattle.script_text.specs.AnswerTexts.{order_text, yes_or_no, info_text, code_text, stanza_text, field_text}
+use Rattle.script_text.specs.HeaderTexts.{table_row_text, found_text, number_text, four_numbers, extremes_text}
+use Rattle.script_text.specs.AnswerTexts.{order_text, yes_or_no, info_text, code_text, stanza_text, field_text, shown_text}
 use Rattle.script_text.specs.FullLines.{AnswersAreFullLines}
-use Rattle.script_text.proofs.FullLineLemmas.{plain_both, plain_decimal, plain_signed, plain_first, plain_joined, Plain, no_word, word, full_joined, words_line, one_line, lines_behind, each_full, some_full}
+use Rattle.script_text.proofs.FullLineLemmas.{plain_both, plain_decimal, full_decimal, plain_signed, plain_numbers, plain_first, plain_joined, Plain, no_word, word, plain_words, full_joined, words_line, one_line, lines_behind, each_full, some_full}
 
 -- ---- the parts of lines
 
@@ -134,6 +136,27 @@ full_stanza s e = full_joined (codes "stanza ") refl (word (decimal s.0) (plain_
 full_field : (f : List ℕ × Place) → is_plain f.0 ≡ true → is_full_line (field_text f) ≡ true
 full_field f e = full_joined (codes "field ") refl (word f.0 e (word (codes " ") refl (word (place_text f.1) (plain_place f.1) no_word)))
 
+full_shown : (text : List ℕ) → is_plain text ≡ true → is_full_line (shown_text text) ≡ true
+full_shown text e =
+    full_joined (codes "line |") refl (word (without_blanks text) (plain_first (length text - suffix_len (λ c. c == byte " ") text) text e) (word (codes "|") refl no_word))
+
+full_table_row : (r : ℕ × List ℤ) → is_full_line (table_row_text r) ≡ true
+full_table_row r = words_line (decimal r.0) (full_decimal r.0) (plain_numbers r.1)
+
+full_found : (e : ℕ × ℤ) → is_full_line (found_text (codes "trace") e) ≡ true
+full_found e = words_line (codes "trace") refl (word (decimal e.0) (plain_decimal e.0) (word (signed_decimal e.1) (plain_signed e.1) no_word))
+
+full_number : (f : List ℕ × ℤ) → is_plain f.0 ≡ true → is_full_line (number_text f) ≡ true
+full_number f e = full_joined (codes "field ") refl (word f.0 e (word (codes " ") refl (word (signed_decimal f.1) (plain_signed f.1) no_word)))
+
+plain_four : (x : Extremes) → Plain (four_numbers x)
+plain_four x =
+    word (signed_decimal x.least) (plain_signed x.least) (word (signed_decimal x.greatest) (plain_signed x.greatest)
+    (word (signed_decimal x.first) (plain_signed x.first) (word (signed_decimal x.last) (plain_signed x.last) no_word)))
+
+full_extremes : (f : List ℕ × Extremes) → is_plain f.0 ≡ true → is_full_line (extremes_text f) ≡ true
+full_extremes f e = full_joined (codes "field ") refl (word f.0 e (word (codes " ") refl (word (with_blanks (four_numbers f.1)) (plain_words (plain_four f.1)) no_word)))
+
 -- ---- lists
 
 counted : (head : List ℕ) (n : ℕ) → is_full_line head ≡ true → is_full_line (head ++ codes " " ++ decimal n) ≡ true
@@ -146,8 +169,7 @@ pub answers_are_full_lines : AnswersAreFullLines
 answers_are_full_lines (answers.Count n) h = one_line (with_blanks (codes "traces" ∷ decimal n ∷ [])) (words_line (codes "traces") refl (word (decimal n) (plain_decimal n) no_word))
 answers_are_full_lines (answers.Info info) h = one_line (info_text info) (full_info info)
 answers_are_full_lines (answers.Value v) h = one_line (with_blanks (codes "value" ∷ signed_decimal v ∷ [])) (words_line (codes "value") refl (word (signed_decimal v) (plain_signed v) no_word))
-answers_are_full_lines (answers.Line text) h =
-    one_line (codes "line |" ++ without_blanks text ++ codes "|") (full_joined (codes "line |") refl (word (without_blanks text) (plain_first (length text - suffix_len (λ c. c == byte " ") text) text h) (word (codes "|") refl no_word)))
+answers_are_full_lines (answers.Line text) h = one_line (shown_text text) (full_shown text h)
 answers_are_full_lines (answers.Code code) h = one_line (codes "code " ++ code_text code) (full_joined (codes "code ") refl (word (code_text code) (plain_code code) no_word))
 answers_are_full_lines (answers.Stanzas stanzas) h = a_list (codes "stanzas") (map stanza_text stanzas) refl (some_full stanza_text (λ s. is_plain s.1) full_stanza stanzas h)
 answers_are_full_lines (answers.Fields fields) h = a_list (codes "fields") (map field_text fields) refl (some_full field_text (λ f. is_plain f.0) full_field fields h)
@@ -162,3 +184,8 @@ answers_are_full_lines (answers.Range range) h = one_line (range_text range) (fu
 answers_are_full_lines (answers.Totals statistics) h = one_line (statistics_text (codes "totals") statistics) (full_statistics (codes "totals") refl statistics)
 answers_are_full_lines (answers.Slice rows) h = a_list (codes "slice") (map (row_text (codes "row")) rows) refl (each_full (row_text (codes "row")) full_row rows)
 answers_are_full_lines (answers.Faults faults) h = a_list (codes "faults") (map fault_text faults) refl (each_full fault_text full_fault faults)
+answers_are_full_lines (answers.Lines lines) h = a_list (codes "lines") (map shown_text lines) refl (some_full shown_text is_plain full_shown lines h)
+answers_are_full_lines (answers.Table rows) h = a_list (codes "table") (map table_row_text rows) refl (each_full table_row_text full_table_row rows)
+answers_are_full_lines (answers.Found found) h = a_list (codes "found") (map (found_text (codes "trace")) found) refl (each_full (found_text (codes "trace")) full_found found)
+answers_are_full_lines (answers.Header fields) h = a_list (codes "header") (map number_text fields) refl (some_full number_text (λ f. is_plain f.0) full_number fields h)
+answers_are_full_lines (answers.Extremes fields) h = a_list (codes "extremes") (map extremes_text fields) refl (some_full extremes_text (λ f. is_plain f.0) full_extremes fields h)

@@ -6,7 +6,7 @@ use Rattle.std.specs.List.{list_all}
 use Rattle.std.specs.Str.{byte}
 use Rattle.std.proofs.lemmas.Bool.{ne_eqb, lt-ltb}
 use Rattle.std.proofs.lemmas.List.Folds.{list_all-append}
-use Rattle.script_text.specs.Words.{is_line_feed}
+use Rattle.script_words.specs.Words.{is_line_feed}
 use Rattle.script_text.specs.Texts.{with_blanks, with_line_end, list_lines, is_plain, is_full_line, IsFullLines}
 
 and_both : (a b : Bool) → a ≡ true → b ≡ true → (a && b) ≡ true
@@ -33,6 +33,22 @@ pub plain_decimal : (n : ℕ) → is_plain (decimal n) ≡ true
 unfolding digits
 plain_decimal n = plain_digits 64 n [] refl
 
+-- the digits of a number are not empty
+digits_there : (k n d : ℕ) (acc : List ℕ) → nat_lt 0 (length (digits_onto k 10 false n (d ∷ acc))) ≡ true
+digits_there zero n d acc = lt-ltb 0 (suc (length acc)) (omega arith)
+digits_there (suc k) n d acc =
+    elim (n / 10 == 0) as (λ v. nat_lt 0 (length (cond v (digit_glyph false (n % 10) ∷ d ∷ acc) (digits_onto k 10 false (n / 10) (digit_glyph false (n % 10) ∷ d ∷ acc)))) ≡ true)
+    [ true ↦ lt-ltb 0 (suc (suc (length acc))) (omega arith) | false ↦ digits_there k (n / 10) (digit_glyph false (n % 10)) (d ∷ acc) ]
+
+pub full_decimal : (n : ℕ) → is_full_line (decimal n) ≡ true
+unfolding digits
+full_decimal n = and_both (is_plain (decimal n)) (nat_lt 0 (length (decimal n))) (plain_decimal n) (there n)
+  where
+    there : (n : ℕ) → nat_lt 0 (length (digits_onto 64 10 false n [])) ≡ true
+    there n =
+        elim (n / 10 == 0) as (λ v. nat_lt 0 (length (cond v (digit_glyph false (n % 10) ∷ []) (digits_onto 63 10 false (n / 10) (digit_glyph false (n % 10) ∷ [])))) ≡ true)
+        [ true ↦ refl | false ↦ digits_there 63 (n / 10) (digit_glyph false (n % 10)) [] ]
+
 pub plain_signed : (n : ℤ) → is_plain (signed_decimal n) ≡ true
 plain_signed (pos n) = plain_decimal n
 plain_signed (negsuc n) = plain_decimal (suc n)
@@ -53,6 +69,10 @@ no_word = record { all = refl }
 
 pub word : (x : List ℕ) {xs : List (List ℕ)} → is_plain x ≡ true → Plain xs → Plain (x ∷ xs)
 word x {xs} e p = record { all = and_both (is_plain x) (list_all is_plain xs) e p.all }
+
+pub plain_numbers : (xs : List ℤ) → Plain (map signed_decimal xs)
+plain_numbers [] = no_word
+plain_numbers (x ∷ xs) = word (signed_decimal x) (plain_signed x) (plain_numbers xs)
 
 plain_join : (words : List (List ℕ)) → list_all is_plain words ≡ true → is_plain (with_blanks words) ≡ true
 plain_join [] e = refl

@@ -1,14 +1,6 @@
-pub mod PositionLemmas
-pub mod BoundaryLemmas
-pub mod WordLemmas
-pub mod NumberLemmas
-pub mod PlaceLemmas
-pub mod ParseLemmas
-pub mod LineLemmas
 pub mod TextLemmas
 pub mod OutLemmas
-pub mod ScriptLemmas
-pub mod PartLemmas
+pub mod TableTextLemmas
 pub mod FullLineLemmas
 pub mod AnswerLineLemmas
 pub mod PlainLemmas

@@ -1,7 +1,7 @@
 -- No answer has an empty line: names and texts have no line feed.
-use Rattle.std.proofs.Common.{◌≡◌, ◌&&◌, ◌==◌, ◌+◌, ℕ, suc, zero, length, List, [], ◌∷◌, ◌++◌, map, drop, Bool, true, false, not, nat_lt, nat_le, bytes_eq, Option, Some, None, Result, Ok, Err, cond, refl, sym, ap, subst, ◌∙◌, arith, inl, inr}
-use Rattle.std.specs.Prelude.{⊤, codes, find, option_map, decimal, max, ◌/◌, ◌%◌}
-use Rattle.std.specs.List.{list_all, cons_option, prefix_len}
+use Rattle.std.proofs.Common.{◌≡◌, ◌&&◌, ◌==◌, ◌+◌, ℕ, ℤ, suc, zero, length, List, [], ◌∷◌, ◌++◌, map, drop, Bool, true, false, not, nat_lt, nat_le, bytes_eq, Option, Some, None, Result, Ok, Err, cond, refl, sym, ap, subst, ◌∙◌, arith, inl, inr}
+use Rattle.std.specs.Prelude.{⊤, codes, find, filter_map, option_map, decimal, max, ◌/◌, ◌%◌}
+use Rattle.std.specs.List.{list_all, cons_option, prefix_len, range_with_len}
 use Rattle.std.specs.Char.{digit_char}
 use Rattle.std.proofs.lemmas.Bool.{eqb-true, ne_eqb}
 use Rattle.std.proofs.lemmas.List.Folds.{list_all-append}
@@ -19,6 +19,7 @@ use Rattle.field_map.specs.declared.map_fault.MapFault.{MapFault}
 use Rattle.field_map.specs.declared.map_fault.MapFault.TheVariants as map_faults
 use Rattle.field_map.specs.declared.place.Place.{Place}
 use Rattle.field_map.specs.Pairs.{Pairs, is_bound, bound, unbound}
+use Rattle.field_map.specs.HeaderNames.{header_names}
 use Rattle.field_map.specs.Binding.{is_name_character, is_name, begins_with_letter}
 use Rattle.frame_cut.specs.declared.file_head.Head.{Head}
 use Rattle.frame_cut.specs.Traces.{count_of, is_trace, trace_at}
@@ -36,14 +37,17 @@ use Rattle.bench_rules.specs.declared.query.Query.{Query}
 use Rattle.bench_rules.specs.declared.query.Query.TheVariants as queries
 use Rattle.bench_rules.specs.declared.refusal.Refusal.{Refusal}
 use Rattle.bench_rules.specs.declared.refusal.Refusal.TheVariants as refusals
+use Rattle.bench_rules.specs.ManyTraces.{each_of}
 use Rattle.bench_rules.specs.Places.{place_in_trace, place_in_binary, is_in_binary}
 use Rattle.bench_rules.specs.Refused.{is_line}
 use Rattle.bench_rules.specs.Reports.{geometry_in, statistics_in}
 use Rattle.bench_rules.specs.State.{State}
-use Rattle.bench_rules.specs.Answer.{Reply, IsReply, or_fault, of_trace, trace_value, trace_sample, binary_value, line_answer, text_blocks, numbered_stanzas, stanzas_from, answer}
-use Rattle.script_text.specs.declared.line_fault.LineFault.{LineFault}
-use Rattle.script_text.specs.declared.line_fault.LineFault.TheVariants as line_faults
-use Rattle.script_text.specs.Words.{is_line_feed}
+use Rattle.bench_rules.specs.Headers.{with_name, header_of, extremes_in, named_places, numbers_at, extremes_unless_zero}
+use Rattle.bench_rules.specs.Tables.{table_of, found_of}
+use Rattle.bench_rules.specs.Answer.{Reply, IsReply, or_fault, of_trace, of_traces, trace_value, trace_sample, binary_value, line_answer, lines_answer, table_answer, found_answer, text_blocks, numbered_stanzas, stanzas_from, answer}
+use Rattle.script_words.specs.declared.line_fault.LineFault.{LineFault}
+use Rattle.script_words.specs.declared.line_fault.LineFault.TheVariants as line_faults
+use Rattle.script_words.specs.Words.{is_line_feed}
 use Rattle.script_text.specs.Texts.{is_plain, IsFullLines}
 use Rattle.script_text.specs.FullLines.{HasPlainTexts}
 use Rattle.script_text.specs.RefusalTexts.{line_fault_text, no_trace, no_sample, text_fault_text, map_fault_text, refusal_text, ask_fault_text, refused_line}
@@ -175,6 +179,27 @@ plain_stanzas_from number (b ∷ bs) =
     ∙ and_both (list_all (λ (s : ℕ × List ℕ). is_plain s.1) (numbered_stanzas number b)) (list_all (λ (s : ℕ × List ℕ). is_plain s.1) (stanzas_from (number + 1) bs))
     (numbered_plain number (stanzas b) (plain_stanzas 0 (shown_bytes (code_of b) b) (plain_block b))) (plain_stanzas_from (number + 1) bs)
 
+-- ---- names with what there is for them
+
+with_plain_name : {X : Type 0} (name : List ℕ) (x : Option X) (xs : List (List ℕ × X)) → is_plain name ≡ true → list_all (λ f. is_plain f.0) xs ≡ true
+    → list_all (λ f. is_plain f.0) (cons_option (with_name name x) xs) ≡ true
+with_plain_name name None xs e f = f
+with_plain_name name (Some x) xs e f = and_both (is_plain name) (list_all (λ g. is_plain g.0) xs) e f
+
+plain_names : {X : Type 0} (of : List ℕ × Place → Option X) (names : Pairs) → HasPlainNames names → list_all (λ f. is_plain f.0) (filter_map (λ e. with_name e.0 (of e)) names) ≡ true
+plain_names of [] h = refl
+plain_names of (e ∷ es) h =
+    let both = and_parts (is_plain e.0) (list_all (λ g. is_plain g.0) es) h in
+    with_plain_name e.0 (of e) (filter_map (λ g. with_name g.0 (of g)) es) both.0 (plain_names of es both.1)
+
+plain_places : (fields : Pairs) → HasPlainNames fields → HasPlainNames (named_places fields)
+unfolding named_places
+plain_places fields h = list_all-append (λ f. is_plain f.0) header_names fields ∙ and_both (list_all (λ f. is_plain f.0) header_names) (list_all (λ f. is_plain f.0) fields) refl h
+
+plain_lines : (block : List ℕ) (qs : List ℕ) → list_all is_plain (map (shown_line block) qs) ≡ true
+plain_lines block [] = refl
+plain_lines block (q ∷ qs) = and_both (is_plain (shown_line block q)) (list_all is_plain (map (shown_line block) qs)) (plain_line block q) (plain_lines block qs)
+
 -- ---- answers
 
 -- an answer has plain texts, or there is none
@@ -204,6 +229,24 @@ plain_line_answer block q =
     elim (not (is_line q)) as (λ b. PlainReply (cond b (Err NoPlace) (or_fault block NoPlace (λ x. answers.Line (shown_line x q)))))
     [ true ↦ tt | false ↦ plain_or_fault block NoPlace (λ x. answers.Line (shown_line x q)) (λ x. plain_line x q) ]
 
+plain_of_traces : (v : Volume) (a b : ℕ) (reply : Reply) → PlainReply reply → PlainReply (of_traces v a b reply)
+plain_of_traces v a b reply h =
+    elim (not (is_trace v a)) as (λ x. PlainReply (cond x (Err (NoTrace a (count_of v))) (cond (nat_le a b && nat_le b (count_of v)) reply (Err (NoTrace b (count_of v)))))) [
+      | true ↦ tt
+      | false ↦ elim (nat_le a b && nat_le b (count_of v)) as (λ x. PlainReply (cond x reply (Err (NoTrace b (count_of v))))) [ true ↦ h | false ↦ tt ]
+    ]
+
+plain_lines_answer : (block : Option (List ℕ)) → PlainReply (lines_answer block)
+plain_lines_answer block = plain_or_fault block NoPlace (λ t. answers.Lines (map (shown_line t) (range_with_len 1 40))) (λ t. plain_lines t (range_with_len 1 40))
+
+plain_table_answer : (v : Volume) (a b : ℕ) (places : Option (List Place)) → PlainReply (table_answer v a b places)
+plain_table_answer v a b None = tt
+plain_table_answer v a b (Some places) = plain_or_fault (table_of v places a b) NoPlace answers.Table (λ x. tt)
+
+plain_found_answer : (v : Volume) (a b : ℕ) (low high : ℤ) (place : Option Place) → PlainReply (found_answer v a b low high place)
+plain_found_answer v a b low high None = tt
+plain_found_answer v a b low high (Some place) = plain_or_fault (found_of v place low high a b) NoPlace answers.Found (λ x. tt)
+
 plain_answer : (s : State) (query : Query) → HasPlainNames s.fields → PlainReply (answer s query)
 plain_answer s queries.Count h = tt
 plain_answer s queries.Info h = tt
@@ -227,6 +270,17 @@ plain_answer s (queries.Range quantity) h = tt
 plain_answer s queries.Totals h = tt
 plain_answer s (queries.Slice k) h = tt
 plain_answer s queries.Faults h = tt
+plain_answer s (queries.Lines b) h = plain_lines_answer (block_of s.volume b)
+plain_answer s (queries.Table a b fields) h =
+    plain_of_traces s.volume a b (table_answer s.volume a b (each_of (place_in_trace s.fields) fields)) (plain_table_answer s.volume a b (each_of (place_in_trace s.fields) fields))
+plain_answer s (queries.Find a b field low high) h =
+    plain_of_traces s.volume a b (found_answer s.volume a b low high (place_in_trace s.fields field)) (plain_found_answer s.volume a b low high (place_in_trace s.fields field))
+plain_answer s (queries.Header p) h =
+    plain_of_trace s.volume p (λ t. Ok (answers.Header (header_of s.volume.head (named_places s.fields) t)))
+    (λ t. plain_names (λ e. value_of s.volume.head t e.1) (named_places s.fields) (plain_places s.fields h))
+plain_answer s (queries.Extremes a b) h =
+    plain_of_traces s.volume a b (Ok (answers.Extremes (extremes_in s.volume (named_places s.fields) a b)))
+    (plain_names (λ e. extremes_unless_zero (numbers_at s.volume e.1 a b)) (named_places s.fields) (plain_places s.fields h))
 
 -- ---- what is printed
 
@@ -273,6 +327,7 @@ plain_refusal (refusals.Map fault) = plain_map_fault fault
 plain_refusal refusals.TooLarge = refl
 plain_refusal refusals.TooManyTraces = refl
 plain_refusal refusals.OutOfMemory = refl
+plain_refusal (refusals.ZeroDivisor p) = plain_words (word (codes "E13 zero divisor trace") refl (word (decimal p) (plain_decimal p) no_word))
 
 plain_ask_fault : (fault : AskFault) → is_plain (ask_fault_text fault) ≡ true
 plain_ask_fault (ask_faults.NoTrace p count) = plain_no_trace p count

@@ -1,5 +1,5 @@
 -- Texts behind one another.
-use Rattle.std.proofs.Common.{◌≡◌, ℕ, List, ◌++◌, append_assoc}
+use Rattle.std.proofs.Common.{◌≡◌, ℕ, List, ◌∷◌, ◌++◌, append_assoc}
 
 pub three_parts : (a b c d : List ℕ) → (a ++ b) ++ (c ++ d) ≡ a ++ (((b ++ c) ++ d))
 three_parts a b c d = simp append_assoc
@@ -14,3 +14,7 @@ four_numbered w a b c d e f g h = simp append_assoc
 -- three numbers and two fractions, each behind its word
 pub five_behind : (a b c d e f g h i j k : List ℕ) → ((((((a ++ b) ++ (c ++ d)) ++ (e ++ f)) ++ g) ++ h) ++ i ++ j) ++ k ≡ (a ++ (b ++ (c ++ (d ++ (e ++ (f ++ (g ++ (h ++ (i ++ j))))))))) ++ k
 five_behind a b c d e f g h i j k = simp append_assoc
+
+-- four texts, each behind a blank
+pub four_behind : (a b c d e : List ℕ) → 32 ∷ (a ++ 32 ∷ (b ++ 32 ∷ (c ++ 32 ∷ (d ++ e)))) ≡ 32 ∷ ((a ++ 32 ∷ (b ++ 32 ∷ (c ++ 32 ∷ d))) ++ e)
+four_behind a b c d e = simp append_assoc

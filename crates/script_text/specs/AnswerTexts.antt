@@ -11,6 +11,7 @@ use Rattle.bench_rules.specs.declared.info.Info.{Info}
 use Rattle.bench_rules.specs.declared.answer.Answer.{Answer}
 use Rattle.bench_rules.specs.declared.answer.Answer.TheVariants as answers
 use Rattle.text_block.specs.Lines.{without_blanks}
+use Rattle.script_text.specs.HeaderTexts.{table_row_text, found_text, number_text, extremes_text}
 use Rattle.script_text.specs.ReportTexts.{location_text, statistics_text, range_text, cell_text, numbered_text, fold_count_text, row_text, fault_text}
 use Rattle.script_text.specs.Texts.{with_blanks, with_line_end, list_lines, place_text}
 
@@ -50,12 +51,16 @@ stanza_text s = codes "stanza " ++ decimal s.0 ++ codes " " ++ s.1
 abbrev pub field_text : List ℕ × Place → List ℕ
 field_text f = codes "field " ++ f.0 ++ codes " " ++ place_text f.1
 
+-- a shown line, without the blanks at its end
+abbrev pub shown_text : List ℕ → List ℕ
+shown_text text = codes "line |" ++ without_blanks text ++ codes "|"
+
 -- an answer, each line with its end
 abbrev pub answer_text : Answer → List ℕ
 answer_text (answers.Count n) = with_line_end (with_blanks (codes "traces" ∷ decimal n ∷ []))
 answer_text (answers.Info info) = with_line_end (info_text info)
 answer_text (answers.Value v) = with_line_end (with_blanks (codes "value" ∷ signed_decimal v ∷ []))
-answer_text (answers.Line text) = with_line_end (codes "line |" ++ without_blanks text ++ codes "|")
+answer_text (answers.Line text) = with_line_end (shown_text text)
 answer_text (answers.Code code) = with_line_end (codes "code " ++ code_text code)
 answer_text (answers.Stanzas stanzas) = list_lines (codes "stanzas") (map stanza_text stanzas)
 answer_text (answers.Fields fields) = list_lines (codes "fields") (map field_text fields)
@@ -70,3 +75,8 @@ answer_text (answers.Range range) = with_line_end (range_text range)
 answer_text (answers.Totals statistics) = with_line_end (statistics_text (codes "totals") statistics)
 answer_text (answers.Slice rows) = list_lines (codes "slice") (map (row_text (codes "row")) rows)
 answer_text (answers.Faults faults) = list_lines (codes "faults") (map fault_text faults)
+answer_text (answers.Lines lines) = list_lines (codes "lines") (map shown_text lines)
+answer_text (answers.Table rows) = list_lines (codes "table") (map table_row_text rows)
+answer_text (answers.Found found) = list_lines (codes "found") (map (found_text (codes "trace")) found)
+answer_text (answers.Header fields) = list_lines (codes "header") (map number_text fields)
+answer_text (answers.Extremes fields) = list_lines (codes "extremes") (map extremes_text fields)

@@ -11,6 +11,9 @@ abbrev pub HasPlainTexts : Answer → Type 0
 HasPlainTexts (answers.Line text) = is_plain text ≡ true
 HasPlainTexts (answers.Stanzas stanzas) = list_all (λ s. is_plain s.1) stanzas ≡ true
 HasPlainTexts (answers.Fields fields) = list_all (λ f. is_plain f.0) fields ≡ true
+HasPlainTexts (answers.Lines lines) = list_all is_plain lines ≡ true
+HasPlainTexts (answers.Header fields) = list_all (λ f. is_plain f.0) fields ≡ true
+HasPlainTexts (answers.Extremes fields) = list_all (λ f. is_plain f.0) fields ≡ true
 HasPlainTexts answer = ⊤
 
 -- what is printed for an answer whose texts and names have no line feed are lines, none of which is empty

@@ -13,8 +13,8 @@ use Rattle.bench_rules.specs.declared.ask_fault.AskFault.{AskFault}
 use Rattle.bench_rules.specs.declared.ask_fault.AskFault.TheVariants as ask_faults
 use Rattle.script_text.specs.declared.script_fault.ScriptFault.{ScriptFault}
 use Rattle.script_text.specs.declared.script_fault.ScriptFault.TheVariants as script_faults
-use Rattle.script_text.specs.declared.line_fault.LineFault.{LineFault}
-use Rattle.script_text.specs.declared.line_fault.LineFault.TheVariants as line_faults
+use Rattle.script_words.specs.declared.line_fault.LineFault.{LineFault}
+use Rattle.script_words.specs.declared.line_fault.LineFault.TheVariants as line_faults
 use Rattle.script_text.specs.Texts.{with_line_end, with_blanks}
 
 -- what is printed for a refused file, behind `load refused`
@@ -88,6 +88,7 @@ refusal_text (refusals.Map fault) = map_fault_text fault
 refusal_text refusals.TooLarge = codes "E09 too large"
 refusal_text refusals.TooManyTraces = codes "E10 too many traces"
 refusal_text refusals.OutOfMemory = codes "E11 out of memory"
+refusal_text (refusals.ZeroDivisor p) = with_blanks (codes "E13 zero divisor trace" ∷ decimal p ∷ [])
 
 -- what is printed for a refused query
 abbrev pub ask_fault_text : AskFault → List ℕ

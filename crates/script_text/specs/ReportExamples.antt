@@ -1,10 +1,12 @@
--- Worked texts of reports.
+-- Worked texts of reports and of refusals.
 use Rattle.std.specs.Prelude.{◌≡◌, pos, negsuc, [], ◌∷◌, codes, Some, None, refl}
 use Rattle.std.specs.Fmt.{digits}
+use Rattle.frame_cut.specs.declared.load_fault.LoadFault.TheVariants.{TextCount}
 use Rattle.trace_record.specs.Coordinates.{under_scalar, over, greatest_divisor}
 use Rattle.fault_live.specs.declared.fault.Fault.TheVariants.{Repeated, Scalar, Samples}
 use Rattle.bench_rules.specs.declared.answer.Answer.TheVariants as answers
 use Rattle.script_text.specs.AnswerTexts.{answer_text}
+use Rattle.script_text.specs.RefusalTexts.{load_refusal_line}
 
 -- scalar -32768 over x -2147483648 and y 500
 pub text-geometry : answer_text (answers.Geometry (record {
@@ -34,3 +36,7 @@ pub text-faults : answer_text (answers.Faults (Samples 1 4 2 ∷ Scalar 1 (pos 5
     ≡ codes "faults 3\nF2 trace 1 field 4 samples 2\nF4 trace 1 scalar 5\nF6 trace 3 first 1\n"
 unfolding digits
 text-faults = refl
+
+pub load-text_count : load_refusal_line (TextCount (negsuc 0)) ≡ codes "load refused L09 text count -1\n"
+unfolding digits
+load-text_count = refl

@@ -3,7 +3,7 @@ use Rattle.std.specs.Prelude.{ℕ, ◌≡◌, ◌==◌, ◌&&◌, Bool, true, no
 use Rattle.std.specs.List.{join_with_byte, list_all}
 use Rattle.std.specs.Str.{byte}
 use Rattle.field_map.specs.declared.place.Place.{Place}
-use Rattle.script_text.specs.Words.{is_line_feed}
+use Rattle.script_words.specs.Words.{is_line_feed}
 
 -- words with a blank between each two
 abbrev pub with_blanks : List (List ℕ) → List ℕ

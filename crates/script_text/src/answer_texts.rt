@@ -6,9 +6,10 @@ ghost use Rattle.script_text.specs.Printing.{Pushes};
 ghost use Rattle.script_text.specs.Texts.{with_line_end};
 
 use crate::list_texts::push_list;
-use crate::long_texts::{push_fields, push_shown_line, push_stanzas};
+use crate::long_texts::{LongLine, push_long_list};
 use crate::out_buffer::OutBuffer;
 use crate::report_texts::{location_line, range_line, statistics_line};
+use crate::table_texts::push_table;
 use crate::text_buffer::TextBuffer;
 use bench_rules::{Answer, Info};
 use device_io::{Sink, WriteFault};
@@ -27,9 +28,14 @@ pub(crate) fn push_answer<W: Write>(
         out.old out.new (answer_text answer.now) result }
 {
     match answer {
-        Answer::Line(line) => push_shown_line(out, writer, line),
-        Answer::Stanzas(stanzas) => push_stanzas(out, writer, stanzas.as_slice()),
-        Answer::Fields(fields) => push_fields(out, writer, fields.as_slice()),
+        Answer::Line(line) => line.push_line(out, writer),
+        Answer::Lines(lines) => push_long_list(out, writer, b"lines", lines.as_slice()),
+        Answer::Stanzas(stanzas) => push_long_list(out, writer, b"stanzas", stanzas.as_slice()),
+        Answer::Fields(fields) => push_long_list(out, writer, b"fields", fields.as_slice()),
+        Answer::Header(fields) => push_long_list(out, writer, b"header", fields.as_slice()),
+        Answer::Extremes(fields) => push_long_list(out, writer, b"extremes", fields.as_slice()),
+        Answer::Table(table) => push_table(out, writer, table),
+        Answer::Found(found) => push_list(out, writer, b"found", b"trace", found.as_slice()),
         Answer::Grid(cells) => push_list(out, writer, b"cells", b"cell", cells.as_slice()),
         Answer::Inlines(lines) => push_list(out, writer, b"inlines", b"inline", lines.as_slice()),
         Answer::Crosslines(lines) => {

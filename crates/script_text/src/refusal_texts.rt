@@ -2,12 +2,12 @@
 ghost use Rattle.std.specs.Prelude.{◌≡◌, ◌≤◌, ◌+◌, ◌++◌, length};
 ghost use Rattle.script_text.specs.RefusalTexts.{load_fault_text, load_refusal_line, script_fault_text, script_refusal_line, line_fault_text, refusal_text, ask_fault_text, no_trace, no_sample, text_fault_text, map_fault_text, refused_line};
 
-use crate::line_fault::LineFault;
 use crate::script_fault::ScriptFault;
 use crate::text_buffer::TextBuffer;
 use bench_rules::{AskFault, Refusal};
 use field_map::MapFault;
 use frame_cut::LoadFault;
+use script_words::LineFault;
 use text_block::TextFault;
 
 /// The line for a refused file.
@@ -72,6 +72,7 @@ pub(crate) fn refusal_line(refusal: Refusal) -> TextBuffer
         Refusal::TooLarge => line.push(b"E09 too large"),
         Refusal::TooManyTraces => line.push(b"E10 too many traces"),
         Refusal::OutOfMemory => line.push(b"E11 out of memory"),
+        Refusal::ZeroDivisor(p) => line.push_numbered(b"E13 zero divisor trace ", p),
     }
     line.push(b"\n");
     line

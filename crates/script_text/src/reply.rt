@@ -5,11 +5,11 @@ ghost use Rattle.script_text.specs.Printing.{Pushes, nothing_out};
 ghost use Rattle.script_text.specs.Held.{printed_of};
 
 use crate::answer_texts::push_answer;
-use crate::line_fault::LineFault;
 use crate::out_buffer::OutBuffer;
 use crate::refusal_texts::{ask_fault_line, line_fault_line, refusal_line};
 use bench_rules::{Answer, AskFault, Refusal};
 use device_io::{Sink, WriteFault};
+use script_words::LineFault;
 use std::io::Write;
 
 /// What a line gives, of which its text is made.

@@ -36,6 +36,13 @@ impl TextFromEnd {
         }
     }
 
+    /// Forgets what is there.
+    pub(crate) fn clear(&mut self)
+        ensures { self.new ≡ [] }
+    {
+        self.start = ROOM;
+    }
+
     pub(crate) fn as_slice(&self) -> &[u8]
         ensures bytes { result.now ≡ self.now }
     {

@@ -42,13 +42,17 @@ stop_rule = record (new_rule (codes "stop")) { long = Some (codes "stop"); actio
 abbrev pub session_rule : Rule
 session_rule = record (new_rule (codes "session")) { long = Some (codes "session"); action = Some SetTrue }
 
+-- the flag `--quiet`
+abbrev pub quiet_rule : Rule
+quiet_rule = record (new_rule (codes "quiet")) { long = Some (codes "quiet"); action = Some SetTrue }
+
 -- the program's name with a version, for which there is the flag `--version`
 abbrev pub titled : App
 titled = on_top (λ s. record s { has_version = true }) (new_app (codes "segywb"))
 
--- `segywb FILE [--script S] [--session] [--out O] [--in-place] [--fixed] [--max-bytes N] [--stop]`
+-- `segywb FILE [--script S] [--session] [--out O] [--in-place] [--fixed] [--max-bytes N] [--stop] [--quiet]`
 unfoldable pub segywb : App
-segywb = with_rule (with_rule (with_rule (with_rule (with_rule (with_rule (with_rule (with_rule titled file_rule) script_rule) out_rule) in_place_rule) fixed_rule) limit_rule) stop_rule) session_rule
+segywb = with_rule (with_rule (with_rule (with_rule (with_rule (with_rule (with_rule (with_rule (with_rule titled file_rule) script_rule) out_rule) in_place_rule) fixed_rule) limit_rule) stop_rule) session_rule) quiet_rule
 
 -- what clap matches for the words
 abbrev pub matched : List (List ℕ) → List Row

@@ -54,7 +54,8 @@ fn command<'a>(alloc: Global) -> Result<Command<'a>, AllocError>
         .arg(args::fixed(alloc))?
         .arg(args::limit(alloc))?
         .arg(args::stop(alloc))?
-        .arg(args::session(alloc))?;
+        .arg(args::session(alloc))?
+        .arg(args::quiet(alloc))?;
     Ok(command)
 }
 
@@ -92,6 +93,8 @@ fn read_matches<'a>(matches: &ArgMatches<'a>) -> Option<Arguments<'a>>
         a.stop) }
     ensures session { IfSome result
         (λ a. ReadsFlag (one_text (found_of matches.now) (codes "session")) a.session) }
+    ensures quiet { IfSome result (λ a. ReadsFlag (one_text (found_of matches.now) (codes "quiet"))
+        a.quiet) }
 {
     let file = matches.get_str("FILE")?;
     let script = matches.get_str("script");
@@ -101,6 +104,7 @@ fn read_matches<'a>(matches: &ArgMatches<'a>) -> Option<Arguments<'a>>
     let fixed = matches.get_flag("fixed");
     let stop = matches.get_flag("stop");
     let session = matches.get_flag("session");
+    let quiet = matches.get_flag("quiet");
     Some(Arguments {
         file,
         script,
@@ -110,12 +114,14 @@ fn read_matches<'a>(matches: &ArgMatches<'a>) -> Option<Arguments<'a>>
         fixed,
         stop,
         session,
+        quiet,
     })
 }
 
 /// What the words of a command line say, the program's name first: `FILE --script S [--out O]
-/// [--in-place] [--fixed] [--max-bytes N] [--stop]`, N from 1 to 1099511627776. Refused with clap's
-/// text where they are not accepted, `--help` too, or where a growth was refused. Takes memory.
+/// [--in-place] [--fixed] [--max-bytes N] [--stop] [--quiet]`, N from 1 to 1099511627776. Refused
+/// with clap's text where they are not accepted, `--help` too, or where a growth was refused. Takes
+/// memory.
 pub fn arguments<'a>(alloc: Global, words: &'a [String]) -> Result<Arguments<'a>, Error>
     ensures file { IfOk result (λ a. first_of (codes "FILE") (matched (map string_bytes words.now))
         ≡ Some a.file.now) }
@@ -138,6 +144,8 @@ pub fn arguments<'a>(alloc: Global, words: &'a [String]) -> Result<Arguments<'a>
     ensures session { IfOk result
         (λ a. ReadsFlag (one_of (codes "session") (matched (map string_bytes words.now)))
         a.session) }
+    ensures quiet { IfOk result
+        (λ a. ReadsFlag (one_of (codes "quiet") (matched (map string_bytes words.now))) a.quiet) }
 {
     let mut command = command(alloc)?;
     let matches = command.try_get_matches_from_mut(words)?;

@@ -3,9 +3,11 @@ ghost use Rattle.segywb.specs.Ending.{IsExitStatus};
 
 use crate::command_line::Arguments;
 use crate::ending::{Message, SaveEnd, exit_status, told};
+use crate::refused::tell_refused;
 use crate::target::Target;
 use crate::where_to::OutRefusal;
 use safe_save::{Fault, Original, Save, SaveError, Step, end_save, give_up};
+use script_hints::Notes;
 use script_run::RunEnd;
 use std::io::BufWriter;
 use std::os::fd::AsFd;
@@ -19,12 +21,16 @@ pub fn finish<'a, R: Files + AllocGlobal + Eprint>(
     end: RunEnd,
     writer: BufWriter<Save<Target<'a, R>>>,
     mode: Option<u32>,
+    notes: &Notes,
 ) -> u8
 where
     R::File: AsFd,
     ensures { IsExitStatus end result }
 {
     let (save, error, is_beside) = end_of_save(end, writer, mode, arguments.out.is_some());
+    if !arguments.quiet {
+        tell_refused(rt, arguments, end, save, notes);
+    }
     tell(rt, arguments, told(end, save), error, is_beside);
     if save == SaveEnd::NotBegun && original.is_some_and(|original| original.is_changed(rt)) {
         let then = "the answers may be those of a file that never was";

@@ -1,6 +1,7 @@
-//! `segywb FILE --script S [--out O] [--in-place] [--fixed] [--max-bytes N] [--stop]`: runs a
-//! script of edits and queries over a SEG-Y file, with one answer for each line on standard output,
-//! and saves the edited file to O, which is left as it was where the save fails.
+//! `segywb FILE --script S [--out O] [--in-place] [--fixed] [--max-bytes N] [--stop] [--quiet]`:
+//! runs a script of edits and queries over a SEG-Y file, with one answer for each line on standard
+//! output, and saves the edited file to O, which is left as it was where the save fails. Standard
+//! error is told where each refused line stands, and what may be meant.
 //!
 //! Ends with status 0 where no line was refused, 1 where one was, 2 where the command line is not
 //! accepted, 3 where the file cannot be opened or is refused, 4 where the script cannot be opened
@@ -12,13 +13,16 @@ mod ending;
 mod finish;
 mod in_place;
 mod program;
+mod refused;
 mod target;
 mod where_to;
 
 use crate::program::status_of;
 use std::io;
+use std::io::IsTerminal;
 use std::process::ExitCode;
 
 fn main(rt: HostRuntime) -> io::Result<ExitCode> {
-    Ok(ExitCode::from(status_of(&rt)))
+    let is_typed = rt.stdin().is_terminal();
+    Ok(ExitCode::from(status_of(&rt, is_typed)))
 }

@@ -4,14 +4,16 @@ ghost use Rattle.frame_cut.specs.declared.reading.Reading.TheVariants.{Fixed, As
 
 use crate::command_line::{Arguments, arguments};
 use crate::finish::{finish, refused_out};
+use crate::refused::tell_how_to_begin;
 use crate::target::Target;
 use crate::where_to::{misuse, target_of};
 use device_io::{Sink, Source};
 use frame_cut::{Limits, Reading};
 use safe_save::{Original, Save};
-use script_run::{Options, run, session};
+use script_hints::Notes;
+use script_run::{Options, RunEnd, run, session};
 use std::fs::OpenFile;
-use std::io::BufWriter;
+use std::io::{BufWriter, Write};
 use std::os::fd::AsFd;
 use std::rt::{Env, Files};
 use std::{env, fs, io};
@@ -23,8 +25,23 @@ const DEFAULT_LIMIT: u64 = 4294967296;
 // goes by itself.
 const ROOM: usize = 65536;
 
-// Reads the command line and runs the script.
-pub fn status_of<R: Files + Env + AllocGlobal + Print + Eprint + Input>(rt: &R) -> u8
+// Where the lines come from.
+#[derive(Drop)]
+enum Lines<F> {
+    // A script, from a file.
+    File(F),
+    // A script, from standard input.
+    Standard,
+    // A session on standard input.
+    Session,
+}
+
+// Reads the command line and runs the script. Whether standard input is a terminal decides what is
+// told where the command line asks for neither a script nor a session.
+pub fn status_of<R: Files + Env + AllocGlobal + Print + Eprint + Input>(
+    rt: &R,
+    is_typed: bool,
+) -> u8
 where
     R::File: AsFd,
 {
@@ -33,9 +50,14 @@ where
         return 2;
     };
     match arguments(rt.alloc(), words.as_slice()) {
+        Ok(arguments) if is_typed && arguments.script.is_none() && !arguments.session => {
+            tell_how_to_begin(rt, arguments.file);
+            2
+        }
         Ok(arguments) => open_and_run(rt, &arguments),
         Err(error) => {
-            let _ = eprint!(rt; "{error}");
+            // What --help and --version ask for goes to standard output.
+            let _ = error.print(rt);
             2
         }
     }
@@ -72,7 +94,7 @@ where
         Ok(about) => Original::new(file, &about),
         Err(_) => None,
     };
-    let lines = match script_of(rt, arguments) {
+    let lines = match lines_of(rt, arguments) {
         Ok(lines) => lines,
         Err(status) => return status,
     };
@@ -82,16 +104,18 @@ where
     }
 }
 
-// The open script, `None` of a session; where it cannot be opened, the exit status.
-fn script_of<R: Files + Eprint>(
+// Where the lines come from, with the script open; where it cannot be opened, the exit status.
+fn lines_of<R: Files + Eprint>(
     rt: &R,
     arguments: &Arguments,
-) -> std::result::Result<Option<R::File>, u8> {
-    let Some(script) = arguments.script else {
-        return Ok(None);
+) -> std::result::Result<Lines<R::File>, u8> {
+    let script = match arguments.script {
+        None => return Ok(Lines::Session),
+        Some("-") => return Ok(Lines::Standard),
+        Some(script) => script,
     };
     match fs::open(rt, script) {
-        Ok(lines) => Ok(Some(lines)),
+        Ok(file) => Ok(Lines::File(file)),
         Err(_) => {
             let _ = eprintln!(rt; "segywb: cannot open {script}");
             Err(4)
@@ -105,7 +129,7 @@ fn run_to<'a, R: Files + AllocGlobal + Print + Eprint + Input>(
     arguments: &Arguments<'a>,
     original: Option<Original<'a>>,
     volume: R::File,
-    lines: Option<R::File>,
+    lines: Lines<R::File>,
     target: Target<'a, R>,
 ) -> u8
 where
@@ -119,28 +143,51 @@ where
         return 4;
     };
     let mut out = Sink::new(out);
+    let mut notes = Notes::new();
     let volume = &mut Source::new(volume);
+    let end = answer(rt, volume, lines, &mut out, options(arguments), &mut notes);
+    finish(rt, arguments, original, end, out.into_inner(), mode, &notes)
+}
+
+// Answers the lines on standard output. The refused ones of a script are noted; of a session each
+// answer follows its line.
+fn answer<R: Files + AllocGlobal + Print + Input, O: Write>(
+    rt: &R,
+    volume: &mut Source<R::File>,
+    lines: Lines<R::File>,
+    out: &mut Sink<O>,
+    options: Options,
+    notes: &mut Notes,
+) -> RunEnd {
     let answers = &mut Sink::new(io::writer(rt));
-    let options = options(arguments);
-    let end = match lines {
-        Some(lines) => run(
+    match lines {
+        Lines::File(file) => run(
             rt.alloc(),
             volume,
-            &mut Source::new(lines),
+            &mut Source::new(file),
             answers,
-            &mut out,
+            out,
             options,
+            notes,
         ),
-        None => session(
+        Lines::Standard => run(
             rt.alloc(),
             volume,
             &mut Source::new(rt.reader()),
             answers,
-            &mut out,
+            out,
+            options,
+            notes,
+        ),
+        Lines::Session => session(
+            rt.alloc(),
+            volume,
+            &mut Source::new(rt.reader()),
+            answers,
+            out,
             options,
         ),
-    };
-    finish(rt, arguments, original, end, out.into_inner(), mode)
+    }
 }
 
 // How the command line asks for the run.

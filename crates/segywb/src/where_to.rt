@@ -38,7 +38,7 @@ pub fn misuse<R: Files>(rt: &R, arguments: &Arguments) -> Option<&'static str> {
         _ => return None,
     };
     if let Some(script) = arguments.script
-        && leads_to(rt, script, &there)
+        && leads_to(rt, path_of(script), &there)
     {
         return Some("--out names SCRIPT itself");
     }
@@ -46,6 +46,11 @@ pub fn misuse<R: Files>(rt: &R, arguments: &Arguments) -> Option<&'static str> {
         return Some("--out names the file that the answers go to");
     }
     None
+}
+
+// The path of a script; `-` is standard input.
+fn path_of(script: &str) -> &str {
+    if script == "-" { "/dev/stdin" } else { script }
 }
 
 // Whether a path leads to this file.

@@ -5,7 +5,7 @@ from __future__ import annotations
 from typing import Optional
 
 from . import tools
-from .answers import Answer, Fault, Geometry, Info, Stanza, Statistics
+from .answers import Answer, Extremes, Fault, Geometry, Info, Stanza, Statistics
 from .errors import (
     Closed,
     Error,
@@ -24,9 +24,9 @@ from .volume import Path, Volume
 __version__ = "0.1.0"
 
 __all__ = [
-    "Answer", "BinField", "Closed", "Error", "Fault", "FileChanged", "Geometry", "Grid", "Info", "LoadRefused", "OptionRefused",
-    "ProgramEnded", "ProgramNotFound", "Refused", "SaveFailed", "Slice", "Stanza", "Statistics", "TraceField", "Volume", "open",
-    "tools",
+    "Answer", "BinField", "Closed", "Error", "Extremes", "Fault", "FileChanged", "Geometry", "Grid", "Info", "LoadRefused",
+    "OptionRefused", "ProgramEnded", "ProgramNotFound", "Refused", "SaveFailed", "Slice", "Stanza", "Statistics", "TraceField",
+    "Volume", "open", "tools",
 ]
 
 

@@ -56,6 +56,15 @@ class Statistics(NamedTuple):
     samples: int
 
 
+class Extremes(NamedTuple):
+    """The numbers of a field in many traces: the least, the greatest, that of the first trace and that of the last."""
+
+    least: int
+    greatest: int
+    first: int
+    last: int
+
+
 class Stanza(NamedTuple):
     """A stanza of the extended textual headers, and the block where it begins."""
 
@@ -165,6 +174,34 @@ def fields(lines: List[str]) -> Dict[str, str]:
     {'inline': '@189:4'}
     """
     return {one: place for one, place in rows(lines, "fields", "field")}
+
+
+@strict
+def header(lines: List[str]) -> Dict[str, int]:
+    """
+    >>> header(["header 2", "field sequence_line 7", "field inline 101"])
+    {'sequence_line': 7, 'inline': 101}
+    """
+    return {one: int(value) for one, value in rows(lines, "header", "field")}
+
+
+@strict
+def extremes(lines: List[str]) -> Dict[str, Extremes]:
+    """
+    >>> extremes(["extremes 1", "field inline 101 103 101 102"])
+    {'inline': Extremes(least=101, greatest=103, first=101, last=102)}
+    """
+    return {one: Extremes(*map(int, four)) for one, *four in rows(lines, "extremes", "field")}
+
+
+@strict
+def block(lines: List[str]) -> List[str]:
+    """
+    >>> block(["lines 2", "line |C 1|", "line ||"])
+    ['C 1', '']
+    """
+    counted(lines, "lines")
+    return [text(line) for line in lines[1:]]
 
 
 @strict

@@ -5,10 +5,10 @@ from __future__ import annotations
 import os
 from contextlib import closing
 from fractions import Fraction
-from typing import Any, Dict, Iterable, Iterator, List, Optional, Sequence, Tuple, Union
+from typing import Any, Callable, Dict, Iterable, Iterator, List, Optional, Sequence, Tuple, Union
 
 from . import answers, arrays, lines
-from .answers import Answer, Fault, Geometry, Info, Stanza, Statistics
+from .answers import Answer, Extremes, Fault, Geometry, Info, Stanza, Statistics
 from .engine import BATCH_LINES, Engine
 from .errors import ProgramEnded, Refused
 from .fields import TRACE_NAMES, kind
@@ -18,6 +18,9 @@ from .selection import positions, runs
 from .session import Batch
 
 GET_LINES = 1 << 16
+# So many traces in a line of `table` or `find`, and so many lines and traces of such lines sent at once: this bounds the memory.
+WINDOW_TRACES = 1 << 15
+WINDOW_LINES = 1 << 12
 
 Path = Union[str, "os.PathLike[str]"]
 
@@ -128,7 +131,7 @@ class Volume:
 
         ``traces`` is a slice, a range, or positions; ``values`` has a number for each of them, or is one number for all.
         """
-        where = positions(traces, len(self) if isinstance(traces, slice) or traces is None else 0)
+        where = self._where(traces)
         what = [int(number(values))] * len(where) if lines.single(values) else lines.numbers(values)
         if len(what) != len(where):
             raise ValueError(f"{len(where)} traces and {len(what)} values")
@@ -166,7 +169,7 @@ class Volume:
         words = [field(name) for name in names] or ["inline", "crossline", "offset", "x", "y", "scalar"]
         if len(set(words)) < len(words):
             raise ValueError("a field stands twice")
-        where = positions(traces, len(self) if isinstance(traces, slice) or traces is None else 0)
+        where = self._where(traces)
         kinds = self._kinds(words)
         columns = self._columns(words, where, [one == (8, True) for one in kinds])
         made = arrays.table(words, [arrays.type_of(one) for one in kinds], columns)
@@ -175,9 +178,46 @@ class Volume:
         pandas = arrays.pandas()
         return pandas.DataFrame(made, columns=words, index=pandas.Index(where, name="trace"))
 
+    def header(self, trace: int) -> Dict[str, int]:
+        """All named numbers of a trace's headers: those of the standard in the order of their bytes, then the bound names."""
+        return answers.header(self._ask("header", number(trace)))
+
+    def find(self, name: Field, low: int, high: int, traces: Any = None) -> Any:
+        """The traces whose number in this field is from ``low`` to ``high``: an array of ``trace`` and ``value``, in order of ``traces``.
+
+        ``traces`` as for ``headers``. The column ``trace`` is what ``headers`` and ``set_many`` take. Without numpy: a list of tuples.
+        """
+        word, bounds = field(name), f"{number(low)} {number(high)}"
+        where = self._where(traces)
+        unsigned = self._kinds([word])[0] == (8, True)
+        columns: List[List[Any]] = [[], []]
+        for told, _ in self._windows(where, lambda first, last: f"find {first} {last} {word} {bounds}"):
+            rows = _rows(told, b"found ").replace(b"trace ", b"")
+            flat = arrays.parse(rows, 2 * rows.count(b"\n"), unsigned)
+            columns[0].append(flat[0::2])
+            columns[1].append(flat[1::2])
+        return arrays.table(["trace", "value"], ["i8", "u8" if unsigned else "i8"], [_join(parts) for parts in columns])
+
+    def extremes(self, traces: Any = None) -> Dict[str, Extremes]:
+        """The least, the greatest, the first and the last number of each named field that is used: fields of zeros alone are left out.
+
+        ``traces`` as for ``headers``, but they follow one another.
+        """
+        where = self._where(traces)
+        if not len(where):
+            return {}
+        (first, last), *more = runs(where, len(where))
+        if more:
+            raise ValueError("these traces do not follow one another")
+        return answers.extremes(self._ask("extremes", str(first), str(last)))
+
     def dataframe(self, *names: Field, traces: Any = None) -> Any:
         """``headers`` as a pandas DataFrame."""
         return self.headers(*names, traces=traces, frame=True)
+
+    def _where(self, traces: Any) -> Sequence[int]:
+        """The positions that are meant. How many traces there are is asked where it matters."""
+        return positions(traces, len(self) if isinstance(traces, slice) or traces is None else 0)
 
     def _kinds(self, words: Sequence[str]) -> List[Optional[Tuple[int, bool]]]:
         places = {**TRACE_NAMES, **self.fields()}
@@ -206,23 +246,34 @@ class Volume:
         return True
 
     def _by_table(self, words: Sequence[str], where: Sequence[int], unsigned: bool) -> List[Any]:
-        pieces = [(first, last, encode(f"table {first} {last} {' '.join(words)}")) for first, last in runs(where, BATCH_LINES)]
-        parts = []
-        for told, count, sent in self._many([(line, last - first + 1) for first, last, line in pieces], 256):
-            if b"refused" in told:
-                raise _first_refusal(told, sent)
-            rows = b"\n".join(one.partition(b"\n")[2] for one in told.split(b"\n\n"))
-            numbers = arrays.parse(rows, count * (len(words) + 1), unsigned)
-            parts.append([numbers[at + 1::len(words) + 1] for at in range(len(words))])
+        wide, named = len(words) + 1, " ".join(words)
+        parts: List[List[Any]] = []
+        for told, count in self._windows(where, lambda first, last: f"table {first} {last} {named}"):
+            numbers = arrays.parse(_rows(told, b"table "), count * wide, unsigned)
+            parts.append([numbers[at::wide] for at in range(1, wide)])
         return [_join([part[at] for part in parts]) for at in range(len(words))]
 
-    def _many(self, sent: Sequence[Tuple[bytes, int]], at_once: int) -> Iterator[Tuple[bytes, int, List[bytes]]]:
-        """The answers to lines, so many at once, with what their numbers sum up to and the lines."""
-        cuts = [sent[at:at + at_once] for at in range(0, len(sent), at_once)]
-        batches = ((lines.payload(line for line, _ in some), len(some)) for some in cuts)
-        with closing(self._engine.stream(batches)) as told:
+    def _windows(self, where: Sequence[int], line: Callable[[int, int], str]) -> Iterator[Tuple[bytes, int]]:
+        """The answers to lines that are asked of a first and a last trace, for all of these traces in order: those of some lines
+        together, and of how many traces they are. Behind a refusal nothing more is asked, and what was asked is read: the session goes on."""
+        pieces = [(encode(line(first, last)), last - first + 1) for first, last in runs(where, WINDOW_TRACES)] if len(where) else []
+        cuts = list(_cut(pieces))
+        refusal: Optional[Exception] = None
+
+        def batches() -> Iterator[Batch]:
+            for some in cuts:
+                if refusal is not None:
+                    return
+                yield lines.payload(sent for sent, _ in some), len(some)
+
+        with closing(self._engine.stream(batches())) as told:
             for answer, some in zip(told, cuts):
-                yield answer, sum(count for _, count in some), [line for line, _ in some]
+                if refusal is None and b"refused" in answer:
+                    refusal = _first_refusal(answer, [sent for sent, _ in some])
+                if refusal is None:
+                    yield answer, sum(count for _, count in some)
+        if refusal is not None:
+            raise refusal
 
     def _by_get(self, words: Sequence[str], where: Sequence[int], unsigned: bool) -> List[Any]:
         """Field by field within pieces of the traces: what is read of a piece is still near when the next field of it is asked."""
@@ -255,15 +306,15 @@ class Volume:
     @property
     def text(self) -> List[str]:
         """The 40 lines of the textual header, then those of the extended ones."""
-        return [line for block in range(self.info.blocks + 1) for line in self.text_block(block)]
+        return [line for block in range(self.info.blocks + 1) for line in self.lines(block)]
 
     def text_block(self, block: int = 0) -> List[str]:
+        """The same as ``lines``."""
+        return self.lines(block)
+
+    def lines(self, block: int = 0) -> List[str]:
         """The 40 lines of a block: 0 is the textual header, 1 and up are the extended ones."""
-        with closing(self._engine.stream([(encode("".join(f"line {number(block)} {at}\n" for at in range(1, 41))), 40)])) as stream:
-            told = b"".join(stream)
-        if told.startswith(b"refused "):
-            raise _first_refusal(told, [encode(f"line {block} 1")])
-        return [answers.text(lines.decode(one)) for one in told.split(b"\n\n")[:-1]]
+        return answers.block(self._ask("lines", number(block)))
 
     def line(self, block: int, at: int) -> str:
         """Line ``at`` (1 to 40) of a block."""
@@ -332,7 +383,7 @@ class Volume:
 
     def positions(self, traces: Any = None, frame: bool = False) -> Any:
         """Where many traces lie: inline, crossline, offset, and x and y under the scalar as floats; ``traces`` as for ``headers``."""
-        where = positions(traces, len(self) if isinstance(traces, slice) or traces is None else 0)
+        where = self._where(traces)
         names = ("inline", "crossline", "offset", "x", "y")
         columns = arrays.scaled(self._columns([*names, "scalar"], where, [False] * 6))
         made = arrays.table(names, ["i4", "i4", "i4", "f8", "f8"], columns)
@@ -464,6 +515,29 @@ def _join(parts: List[Any]) -> Any:
     if np is not None:
         return np.concatenate(parts) if parts else np.empty(0, dtype=np.int64)
     return [number for part in parts for number in part]
+
+
+def _cut(pieces: Sequence[Tuple[bytes, int]]) -> Iterator[List[Tuple[bytes, int]]]:
+    """Lines with their numbers of traces, cut into what is sent at once."""
+    some: List[Tuple[bytes, int]] = []
+    traces = 0
+    for piece in pieces:
+        if some and (traces + piece[1] > WINDOW_TRACES or len(some) == WINDOW_LINES):
+            yield some
+            some, traces = [], 0
+        some.append(piece)
+        traces += piece[1]
+    if some:
+        yield some
+
+
+def _rows(told: bytes, head: bytes) -> bytes:
+    """The rows of answers that are lists, without the lines that count them."""
+    heads_and_rows = [one.partition(b"\n") for one in told.split(b"\n\n")[:-1]]
+    for first, _, _ in heads_and_rows:
+        if not first.startswith(head):
+            raise answers.unexpected(lines.decode(first))
+    return b"".join(rows + b"\n" for _, _, rows in heads_and_rows if rows)
 
 
 def _first_refusal(told: bytes, sent: Iterable[bytes]) -> Exception:

@@ -1,7 +1,7 @@
 // The arguments of the command line, one by one.
 ghost use Rattle.std.specs.Prelude.{◌≡◌, false};
 ghost use Rattle.clap.specs.Words.{rule_of};
-ghost use Rattle.segywb.specs.CommandLine.{file_rule, script_rule, out_rule, in_place_rule, fixed_rule, limit_rule, stop_rule, session_rule};
+ghost use Rattle.segywb.specs.CommandLine.{file_rule, script_rule, out_rule, in_place_rule, fixed_rule, limit_rule, stop_rule, session_rule, quiet_rule};
 
 use clap::builder::ValueParser;
 use clap::{Arg, ArgAction};
@@ -25,7 +25,7 @@ pub fn script<'a>(alloc: Global) -> Arg<'a>
     Arg::new(alloc, "script")
         .long("script")
         .value_name("SCRIPT")
-        .help("edits and queries, one a line; /dev/stdin is standard input")
+        .help("edits and queries, one a line; - is standard input")
 }
 
 // `--out O`: where the file is saved after the script.
@@ -92,4 +92,15 @@ pub fn session<'a>(alloc: Global) -> Arg<'a>
         .long("session")
         .action(ArgAction::SetTrue)
         .help("in place of a script, answer the lines of standard input one by one")
+}
+
+// `--quiet`: standard error is not told of refused lines and refused files.
+pub fn quiet<'a>(alloc: Global) -> Arg<'a>
+    ensures rule { rule_of result ≡ quiet_rule }
+    ensures local { result.global ≡ false }
+{
+    Arg::new(alloc, "quiet")
+        .long("quiet")
+        .action(ArgAction::SetTrue)
+        .help("leave out the places and hints that standard error has for refused lines")
 }

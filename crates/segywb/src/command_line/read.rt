@@ -17,4 +17,6 @@ pub struct Arguments<'a> {
     pub stop: bool,
     /// Whether the lines of standard input are answered one by one, in place of a script.
     pub session: bool,
+    /// Whether standard error is not told of refused lines.
+    pub quiet: bool,
 }

@@ -98,6 +98,7 @@ class Server:
             "faults": lambda q: views.faults(desk, self._answer()),
             "fault": lambda q: views.fault_window(desk, self._answer(), q["code"], number(q, "skip", 0)),
             "table": lambda q: views.table(desk, number(q, "first"), number(q, "size", 25), q["names"].split(), window(q).compare),
+            "extremes": lambda q: views.extremes(desk),
             "text": lambda q: views.texts(desk, number(q, "block", 0), window(q).compare),
             "edits": lambda q: views.edits(desk),
             "cell": lambda q: views.cell(desk, box(q)),

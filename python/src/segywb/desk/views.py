@@ -334,6 +334,12 @@ def told(volume: Volume, names: List[str], traces: Any) -> List[List[str]]:
     return [[str(number) for number in row] for row in got.tolist()]
 
 
+def extremes(desk: Desk) -> Dict[str, Any]:
+    """The headers that are used: each named field whose numbers are not all 0, with the least, the greatest, the first and the last."""
+    found = desk.volume.extremes()
+    return {"version": desk.version, "rows": [[name, *map(str, numbers)] for name, numbers in found.items()]}
+
+
 def faults(desk: Desk, answer: bytes) -> Dict[str, Any]:
     """The faults counted by their codes."""
     found = fault_counts(answer)

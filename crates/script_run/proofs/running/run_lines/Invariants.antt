@@ -1,6 +1,6 @@
 use Rattle.std.proofs.Common.{◌≤◌, ◌+◌, length}
 use Rattle.script_text.specs.Devices.{device_of}
-use Rattle.script_text.specs.Words.{script_lines}
+use Rattle.script_words.specs.Words.{script_lines}
 use Rattle.script_run.proofs.RunLemmas.{SoFar}
 use Rattle.script_run.proofs.running.run_lines.Given as goal
 

@@ -48,3 +48,9 @@ returns-in-Some-clause-session c =
     let rows = rows_are _ _ c.in_ok-matches.matches c.in_ok-command.ensures c.in_ok-matches.ensures.ok.2 in
     let same = sym (ap (one_of (codes "session")) (sym rows) ∙ one_of-rows_of (found_of c.in_ok-matches.matches) (codes "session")) in
     subst (λ (o : Option (List ℕ)). ReadsFlag o c.in-Some.read.session) same c.in-Some.ensures.session
+
+pub returns-in-Some-clause-quiet : goal.returns-in-Some-clause-quiet
+returns-in-Some-clause-quiet c =
+    let rows = rows_are _ _ c.in_ok-matches.matches c.in_ok-command.ensures c.in_ok-matches.ensures.ok.2 in
+    let same = sym (ap (one_of (codes "quiet")) (sym rows) ∙ one_of-rows_of (found_of c.in_ok-matches.matches) (codes "quiet")) in
+    subst (λ (o : Option (List ℕ)). ReadsFlag o c.in-Some.read.quiet) same c.in-Some.ensures.quiet

@@ -5,7 +5,8 @@ use Rattle.segywb.proofs.command_line.command.Goals as goal
 
 pub returns : goal.returns
 unfolding segywb
-returns c = c.in_ok-command.ensures.shape c.session.ensures.local ∙ ap₂ with_rule (
+returns c = c.in_ok-command.ensures.shape c.quiet.ensures.local ∙ ap₂ with_rule (
+    c.in_ok-arg-8.ensures.shape c.session.ensures.local ∙ ap₂ with_rule (
     c.in_ok-arg-7.ensures.shape c.stop.ensures.local ∙ ap₂ with_rule (
     c.in_ok-arg-6.ensures.shape c.limit.ensures.local ∙ ap₂ with_rule (
     c.in_ok-arg-5.ensures.shape c.fixed.ensures.local ∙ ap₂ with_rule (
@@ -13,4 +14,4 @@ returns c = c.in_ok-command.ensures.shape c.session.ensures.local ∙ ap₂ with
     c.in_ok-arg-3.ensures.shape c.out.ensures.local ∙ ap₂ with_rule (
     c.in_ok-arg-2.ensures.shape c.script.ensures.local ∙ ap₂ with_rule (
     c.in_ok-arg.ensures.shape c.file.ensures.local ∙ ap₂ with_rule c.titled_command.ensures c.file.ensures.rule)
-    c.script.ensures.rule) c.out.ensures.rule) c.in_place.ensures.rule) c.fixed.ensures.rule) c.limit.ensures.rule) c.stop.ensures.rule) c.session.ensures.rule
+    c.script.ensures.rule) c.out.ensures.rule) c.in_place.ensures.rule) c.fixed.ensures.rule) c.limit.ensures.rule) c.stop.ensures.rule) c.session.ensures.rule) c.quiet.ensures.rule

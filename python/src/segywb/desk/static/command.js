@@ -49,10 +49,19 @@ export function log(text) {
   return entry;
 }
 
+let onFound = () => {};
+export const whenFound = (does) => { onFound = does; };
+
+// A list of traces that were found: each of them leads to it.
+const shown = (text) => (text.startsWith("found ") ? text.split("\n").flatMap((row) => {
+  const [, trace] = /^trace (\d+) /.exec(row) || [];
+  return trace ? ["\n", make("button", { class: "link", type: "button", on: { click: () => onFound(Number(trace)) } }, row)] : [row];
+}) : [text]);
+
 export function answered(entry, answer) {
   const room = entry.querySelector(".answer");
   room.className = `answer ${answer.kind}`;
-  fill(room, answer.text, answer.more ? `\n.. and ${answer.more.toLocaleString("en")} more lines` : null);
+  fill(room, ...shown(answer.text), answer.more ? `\n.. and ${answer.more.toLocaleString("en")} more lines` : null);
   if (answer.kind === "refused") room.append(...why(answer.text));
   return answer;
 }
@@ -67,14 +76,22 @@ function why(text) {
   return found ? [make("span", { class: "why" }, `${capital(found.when)}. ${capital(found.do)}.`)] : [];
 }
 
+// Puts the first words of a line into the command line, for the rest to be typed.
+export function begin(text) {
+  line.value = text;
+  line.focus();
+  complete();
+}
+
 // ---- words
 
 function kindAt(words, index) {
   if (index === 0) return "COMMAND";
   const command = store.words.commands.find((one) => one.word === words[0]);
   const wanted = command ? command.usage.split(" ") : [];
-  const kind = wanted[Math.min(index, wanted.length - 1)];
-  return kind === "FIELD" && /^(get)?bin$/.test(words[0]) ? "BINARY" : kind === ".." ? "NUMBER" : kind;
+  const at = Math.min(index, wanted.length - 1);
+  const kind = wanted[at] === ".." ? wanted[at - 1] : wanted[at];
+  return kind === "FIELD" && /^(get)?bin$/.test(words[0]) ? "BINARY" : kind;
 }
 
 function candidates(kind) {

@@ -1,9 +1,9 @@
 // The header table: a window of traces, columns by their names, edits by a double click.
 
 import { ask } from "./api.js";
-import { at, fill, make } from "./dom.js";
+import { at, fill, make, many } from "./dom.js";
 import { part, store } from "./store.js";
-import { runLine } from "./command.js";
+import { begin, runLine, whenFound } from "./command.js";
 
 let names = ["inline", "crossline", "offset", "x", "y", "scalar"];
 let first = 1;
@@ -40,7 +40,8 @@ function mark(found) {
 }
 
 function drawTable() {
-  const head = make("tr", {}, make("th", { scope: "col" }, "trace"), ...names.map((name) => make("th", { scope: "col", title: told(name) }, name,
+  const head = make("tr", {}, make("th", { scope: "col" }, "trace"), ...names.map((name) => make("th", { scope: "col", title: told(name) },
+    make("button", { class: "link", type: "button", "aria-label": `find in ${name}`, on: { click: () => begin(`find 1 ${got.traces} ${name} `) } }, name),
     make("button", { type: "button", "aria-label": `leave out ${name}`, on: { click: () => drop(name) } }, "×"))));
   const body = got.rows.map((row, index) => rowOf(row, index));
   fill(at("table-room"), make("table", {}, make("thead", {}, head), make("tbody", {}, ...body)));
@@ -133,6 +134,28 @@ async function add(event) {
   }
 }
 
+// The headers that are used, with their least and greatest numbers: shown on demand, since every trace is looked at.
+async function used() {
+  if (!at("used").open) return;
+  const found = await ask("extremes").catch((error) => ({ error: error.message }));
+  if (found.error) {
+    fill(at("used-room"), found.error);
+    return;
+  }
+  const head = make("tr", {}, ...["field", "least", "greatest", "first", "last"].map((one) => make("th", { scope: "col" }, one)));
+  const body = found.rows.map(([name, ...numbers]) => make("tr", { title: told(name) },
+    make("th", { scope: "row" }, make("button", { class: "link", type: "button", "aria-label": `add the column ${name}`, on: { click: () => addColumn(name) } }, name)),
+    ...numbers.map((one) => make("td", {}, one))));
+  fill(at("used-room"), make("p", { id: "used-said" }, `${many(found.rows.length, "field")} used. The others are 0 in every trace.`),
+    found.rows.length ? make("table", {}, make("thead", {}, head), make("tbody", {}, ...body)) : null);
+}
+
+async function addColumn(name) {
+  if (names.includes(name)) return;
+  names = [...names, name];
+  await show();
+}
+
 // To a trace: the table shows it, with a frame.
 export async function goTo(trace) {
   here = trace;
@@ -151,7 +174,10 @@ export function start() {
   at("rows-on").addEventListener("click", () => { if (got && got.first + got.rows.length <= got.traces) first += Number(at("size").value); show(); });
   at("add-column").addEventListener("submit", add);
   at("column").addEventListener("input", () => at("column").setCustomValidity(""));
+  at("used").addEventListener("toggle", used);
+  whenFound(goTo);
   part(show);
+  part(used);
   part(async () => {
     const known = { ...Object.fromEntries((store.words ? store.words.names : []).map((one) => [one.name, one.told])), ...store.bound };
     fill(at("fields"), ...Object.entries(known).map(([name, what]) => make("option", { value: name }, what)));

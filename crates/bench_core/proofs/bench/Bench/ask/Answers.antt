@@ -8,6 +8,6 @@ returns c =
     rw (← c.self.view_is) (record {
       reply = c.ask.ensures.reply;
       unchanged = c.ask.ensures.unchanged;
-      looks = rw (other.0 c.self.inside.volume.state.volume _) c.ask.ensures.looks;
+      looks = rw (other.0 c.self.inside.volume.state _) c.ask.ensures.looks;
       kept = sym (same_kept c.ask.result (other.1 _));
     })

@@ -2,7 +2,6 @@ use Rattle.std.proofs.Common.{◌≡◌, ◌∙◌, ◌+◌, ◌-◌, None, sym,
 use Rattle.std.proofs.lemmas.Int.{to_z-of_z}
 use Rattle.std.specs.Int.{w128}
 use mir.Val.{SFits}
-use Rattle.field_map.specs.Places.{offset_of}
 use Rattle.frame_cut.specs.Parts.{with_each}
 use Rattle.frame_cut.specs.Traces.{trace_at}
 use Rattle.bench_rules.specs.declared.edit.Edit.TheVariants.{Renumber}
@@ -13,7 +12,8 @@ use Rattle.bench_rules.specs.Steps.{IsAfter}
 use Rattle.bench_rules.specs.TraceEdits.{values_bytes}
 use Rattle.bench_rules.proofs.HeaderEditLemmas.{after_cut}
 use Rattle.bench_rules.proofs.PlaceLemmas.{stands}
-use Rattle.bench_rules.proofs.RenumberLemmas.{RenumberFits, renumber_accepted, each_accepted, values_fit, renumber_fits, renumber_done}
+use Rattle.bench_rules.proofs.ManyValueLemmas.{ValuesFitIn}
+use Rattle.bench_rules.proofs.RenumberLemmas.{renumber_accepted, each_accepted, values_fit, renumber_fits, renumber_done}
 use Rattle.live_volume.specs.Held.{state_of}
 use Rattle.live_volume.proofs.HeldLemmas.{on_ok}
 use Rattle.live_volume.proofs.live_volume.LiveVolume.count_up.Goals as goal
@@ -55,7 +55,7 @@ bytes_are c =
     c.as_slice.ensures.value ∙ (rw (to_z-of_z w128 c.args.first first, to_z-of_z w128 c.args.step step, c.head-order.ensures, as_many c) at c.in_ok-bytes.ensures.ok)
 
 -- and they fit there
-fit : (c : goal.After-as_slice) → RenumberFits (state_of c.self.inside) c.args.a c.args.b c.from-at.result c.from.result c.as_slice.result.now
+fit : (c : goal.After-as_slice) → ValuesFitIn (state_of c.self.inside) c.args.a (c.args.b + 1 - c.args.a) c.from-at.result c.from.result c.as_slice.result.now
 fit c =
     renumber_fits (state_of c.self.inside) c.args.a c.args.b (field.Place c.args.place) c.args.first c.args.step c.args.place c.from-at.result c.from.result c.as_slice.result.now
     c.self.invariant.cut refl (none_refused c) (c.from-at.ensures ∙ c.offset.ensures) c.from.ensures (bytes_are c)

@@ -1,0 +1,7 @@
+pub mod EachLemmas
+pub mod RowsLemmas
+pub mod FoundLemmas
+mod NameLemmas
+mod SeenLemmas
+pub mod FormulaLemmas
+pub mod NumbersLemmas

@@ -1,0 +1,14 @@
+-- Why there is no answer about many traces.
+use Rattle.std.specs.Prelude.{◌≡◌, ◌⊎◌, Option, Some, None, Err, IsOk}
+use Rattle.bench_rules.specs.declared.ask_fault.AskFault.{AskFault}
+use Rattle.bench_rules.specs.declared.ask_fault.AskFault.TheVariants.{NoPlace, OutOfMemory}
+use Rattle.bench_rules.specs.Answer.{Reply}
+
+-- E03 where a trace lacks a place, and so there is nothing to answer, else E11
+abbrev pub fault_of : {X : Type 0} → Option X → AskFault
+fault_of None = NoPlace
+fault_of (Some answer) = OutOfMemory
+
+-- a fault in place of this reply: the reply's own, or want of memory for an answer
+abbrev pub IsFaultFor : AskFault → Reply → Type 0
+IsFaultFor fault reply = (reply ≡ Err fault) ⊎ ((fault ≡ OutOfMemory) × IsOk reply)

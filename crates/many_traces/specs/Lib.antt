@@ -1,0 +1,4 @@
+pub mod Faults
+pub mod Fields
+pub mod Seen
+pub mod Formulas

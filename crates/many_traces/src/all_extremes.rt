@@ -1,0 +1,118 @@
+// The extremes of all named header fields over many traces.
+ghost use Rattle.std.specs.Prelude.{◌≡◌, ◌+◌, ◌-◌, ◌≤◌, ◌++◌, [], IsTrue, IfOk, IfErr, OnOk, length, map, option_to_list};
+ghost use Rattle.frame_cut.specs.Traces.{count_of, is_trace, trace_at};
+ghost use Rattle.trace_view.specs.Shown.{bytes_of, head_of};
+ghost use Rattle.edit_overlay.specs.CountedVolume.{RisesAtMost};
+ghost use Rattle.bench_rules.specs.declared.ask_fault.AskFault.TheVariants.{OutOfMemory as no_memory};
+ghost use Rattle.bench_rules.specs.Headers.{extremes_in, with_name};
+ghost use Rattle.many_traces.specs.Seen.{seen_of, seen_each, shown_of};
+
+use crate::seen::Seen;
+use bench_rules::{AskFault, Extremes, Items, Text};
+use edit_overlay::Overlay;
+use field_map::Place;
+use std::alloc::Global;
+use trace_view::TraceView;
+
+/// Each of the names whose numbers in traces a to b are not all 0, with the least, the greatest,
+/// the first and the last of those of the traces that have its place. Looks at each of the traces
+/// once. Refused: E11 alone.
+pub fn extremes(
+    alloc: Global,
+    overlay: &mut Overlay,
+    a: u32,
+    b: u32,
+    names: Vec<(Text, Place)>,
+) -> Result<Items<(Text, Extremes)>, AskFault>
+    requires first { 1 ≤ a }
+    requires range { a ≤ b }
+    requires last { b ≤ count_of overlay.old.volume }
+    ensures ok { IfOk result (λ found. found ≡ extremes_in overlay.old.volume names.items a b) }
+    ensures err { IfErr result (λ fault. fault ≡ no_memory) }
+    ensures volume { overlay.new.volume ≡ overlay.old.volume }
+    ensures prepared { overlay.new.prepared ≡ overlay.old.prepared }
+    ensures looks { RisesAtMost overlay.old.looks overlay.new.looks (b + 1 - a) }
+{
+    let mut seen = nothing_seen(alloc, names.as_slice())?;
+    for k in 0..b - a + 1 {
+        see_trace(overlay, a + k, names.as_slice(), &mut seen);
+    }
+    shown(alloc, names, seen.as_slice())
+}
+
+// Nothing seen of each of the names.
+fn nothing_seen(alloc: Global, names: &[(Text, Place)]) -> Result<Vec<Seen>, AskFault>
+    ensures ok { IfOk result (λ seen. seen.items ≡ map (λ _. seen_of []) names.now) }
+    ensures err { IfErr result (λ fault. fault ≡ no_memory) }
+{
+    let mut seen = Vec::with_capacity(alloc, names.len())?;
+    for _each in names {
+        seen.push(Seen {
+            extremes: None,
+            some: false,
+        })?;
+    }
+    Ok(seen)
+}
+
+// Sees the numbers of trace p, in one look.
+fn see_trace(overlay: &mut Overlay, p: u32, names: &[(Text, Place)], seen: &mut Vec<Seen>)
+    requires trace { IsTrue (is_trace overlay.old.volume p) }
+    requires each { length seen.old.items ≡ length names.now }
+    ensures seen { seen.new.items ≡ seen_each overlay.old.volume.head
+        (trace_at overlay.old.volume p) names.now seen.old.items }
+    ensures volume { overlay.new.volume ≡ overlay.old.volume }
+    ensures prepared { overlay.new.prepared ≡ overlay.old.prepared }
+    ensures looks { RisesAtMost overlay.old.looks overlay.new.looks 1 }
+{
+    let Some(trace) = overlay.look(p) else {
+        unreachable!()
+    };
+    see_numbers(&trace, names, seen);
+}
+
+// Sees the numbers of a trace.
+fn see_numbers(trace: &TraceView<'_>, names: &[(Text, Place)], seen: &mut Vec<Seen>)
+    requires { length seen.old.items ≡ length names.now }
+    ensures { seen.new.items ≡ seen_each (head_of trace.now) (bytes_of trace.now) names.now
+        seen.old.items }
+{
+    for i in 0..names.len() {
+        seen[i] = seen[i].with(trace.value(names[i].1));
+    }
+}
+
+// The names whose numbers are not all 0, with what was seen of each.
+fn shown(
+    alloc: Global,
+    names: Vec<(Text, Place)>,
+    seen: &[Seen],
+) -> Result<Items<(Text, Extremes)>, AskFault>
+    requires { length seen.now ≡ length names.items }
+    ensures ok { IfOk result (λ found. found ≡ shown_of names.items seen.now) }
+    ensures err { IfErr result (λ fault. fault ≡ no_memory) }
+{
+    let mut found = Vec::new(alloc);
+    let mut at = 0usize;
+    for (name, _place) in names {
+        keep(&mut found, name, seen[at].shown())?;
+        at += 1;
+    }
+    Ok(Items::new(found))
+}
+
+// Puts the name with its extremes behind others, where it has any.
+fn keep(
+    found: &mut Vec<(Text, Extremes)>,
+    name: Text,
+    extremes: Option<Extremes>,
+) -> Result<(), AskFault>
+    ensures ok { OnOk result (found.new.items ≡ found.old.items
+        ++ option_to_list (with_name name extremes)) }
+    ensures err { IfErr result (λ fault. fault ≡ no_memory) }
+{
+    if let Some(extremes) = extremes {
+        found.push((name, extremes))?;
+    }
+    Ok(())
+}

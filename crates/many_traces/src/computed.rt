@@ -1,0 +1,205 @@
+// A number computed for each of many traces.
+ghost use Rattle.std.specs.Prelude.{◌≡◌, ◌+◌, ◌-◌, ◌*◌, ◌≤◌, [], ◌++◌, None, Some, Ok, IsTrue, IfOk, IfErr, List, length};
+ghost use Rattle.std.specs.Vec.{vec_len, vec_capacity};
+ghost use Rattle.num_order.specs.Number.{IsSize, InRange, bytes as bytes_of_number};
+ghost use Rattle.frame_cut.specs.Traces.{count_of, is_trace, trace_at};
+ghost use Rattle.edit_overlay.specs.CountedVolume.{RisesAtMost};
+ghost use Rattle.bench_rules.specs.declared.operator.Operator.{Operator};
+ghost use Rattle.bench_rules.specs.declared.term.Term.{Term};
+ghost use Rattle.bench_rules.specs.Computed.{compute_refusal, compute_refusal_in, computed_in, steps_of};
+ghost use Rattle.bench_rules.specs.Looks.{looks_at};
+ghost use Rattle.many_traces.specs.Formulas.{formula_at, number_bytes, IsRefusalFor};
+
+use crate::formula::{computed_by_names, have_terms, term_of, terms_of};
+use bench_rules::{Operand, Operator, Refusal, Term, admitted, computed_in};
+use edit_overlay::Overlay;
+use field_map::{FieldMap, Place};
+use num_order::{Kind, Order, write};
+use std::alloc::Global;
+
+/// The bytes of the numbers that are computed for traces a to b over this place, one after another:
+/// of those of the place, or the first refusal of a set of them. Looks at each of the traces once
+/// at most, and at none where a field has no place. Takes memory for the places of the steps and
+/// for the bytes, before the first look. Refused, in this order: E02, then the first refusal of the
+/// lowest trace that has one, E03, E13, E04 or E06; else E11 alone.
+pub fn computed_bytes(
+    alloc: Global,
+    overlay: &mut Overlay,
+    map: &FieldMap,
+    a: u32,
+    b: u32,
+    place: Place,
+    source: &Operand,
+    steps: &[(Operator, Operand)],
+) -> Result<Vec<u8>, Refusal>
+    requires first { 1 ≤ a }
+    requires range { a ≤ b }
+    requires last { b ≤ count_of overlay.old.volume }
+    ensures none { IfOk result (λ _. compute_refusal_in overlay.old.volume
+        (formula_at map.now.pairs place source.now steps.now) a b ≡ None) }
+    ensures bytes { IfOk result (λ bytes. bytes.items ≡ number_bytes overlay.old.volume
+        (formula_at map.now.pairs place source.now steps.now) a b) }
+    ensures err { IfErr result (λ refusal. IsRefusalFor refusal (compute_refusal_in
+        overlay.old.volume (formula_at map.now.pairs place source.now steps.now) a b)) }
+    ensures volume { overlay.new.volume ≡ overlay.old.volume }
+    ensures prepared { overlay.new.prepared ≡ overlay.old.prepared }
+    ensures looks { RisesAtMost overlay.old.looks overlay.new.looks
+        (looks_at (formula_at map.now.pairs place source.now steps.now) (b + 1 - a)) }
+{
+    let Some(source) = term_of(map, source) else {
+        return Err(Refusal::NoField);
+    };
+    if !have_terms(map, steps) {
+        return Err(Refusal::NoField);
+    }
+    // Where there is no memory, the traces are judged all the same: E11 comes behind all else.
+    let Some(terms) = terms_of(alloc, map, steps) else {
+        return Err(without_memory(overlay, map, a, b, place, source, steps));
+    };
+    let room = usize::from(place.kind.size) * (b - a + 1) as usize;
+    match Vec::with_capacity(alloc, room) {
+        Ok(bytes) => filled(overlay, a, b, place, source, terms.as_slice(), bytes),
+        Err(_) => Err(without_memory(overlay, map, a, b, place, source, steps)),
+    }
+}
+
+// The bytes of the numbers of traces a to b, in this room, or the first refusal.
+fn filled(
+    overlay: &mut Overlay,
+    a: u32,
+    b: u32,
+    place: Place,
+    source: Term,
+    steps: &[(Operator, Term)],
+    bytes: Vec<u8>,
+) -> Result<Vec<u8>, Refusal>
+    requires first { 1 ≤ a }
+    requires range { a ≤ b }
+    requires last { b ≤ count_of overlay.old.volume }
+    requires empty { bytes.items ≡ [] }
+    requires room { place.kind.size * (b + 1 - a) ≤ vec_capacity bytes }
+    ensures none { IfOk result (λ _. compute_refusal_in overlay.old.volume
+        (Some (record { place = place; source = source; steps = steps.now })) a b ≡ None) }
+    ensures bytes { IfOk result (λ bytes. bytes.items ≡ number_bytes overlay.old.volume
+        (Some (record { place = place; source = source; steps = steps.now })) a b) }
+    ensures err { IfErr result (λ refusal. compute_refusal_in overlay.old.volume
+        (Some (record { place = place; source = source; steps = steps.now })) a b
+        ≡ Some refusal) }
+    ensures volume { overlay.new.volume ≡ overlay.old.volume }
+    ensures prepared { overlay.new.prepared ≡ overlay.old.prepared }
+    ensures looks { RisesAtMost overlay.old.looks overlay.new.looks (b + 1 - a) }
+{
+    let order = overlay.head().order;
+    let mut bytes = bytes;
+    for k in 0..b - a + 1 {
+        match number_at(overlay, a + k, place, source, steps) {
+            Ok(number) => push_number(&mut bytes, order, place.kind, number),
+            Err(refusal) => return Err(refusal),
+        }
+    }
+    Ok(bytes)
+}
+
+// The number that is computed for trace p, or its first refusal, in one look.
+fn number_at(
+    overlay: &mut Overlay,
+    p: u32,
+    place: Place,
+    source: Term,
+    steps: &[(Operator, Term)],
+) -> Result<i128, Refusal>
+    requires { IsTrue (is_trace overlay.old.volume p) }
+    ensures none { IfOk result (λ _. compute_refusal overlay.old.volume
+        (record { place = place; source = source; steps = steps.now }) p ≡ None) }
+    ensures number { IfOk result (λ x. computed_in overlay.old.volume.head
+        (record { place = place; source = source; steps = steps.now }) p
+        (trace_at overlay.old.volume p) ≡ Ok x) }
+    ensures err { IfErr result (λ refusal. compute_refusal overlay.old.volume
+        (record { place = place; source = source; steps = steps.now }) p ≡ Some refusal) }
+    ensures volume { overlay.new.volume ≡ overlay.old.volume }
+    ensures prepared { overlay.new.prepared ≡ overlay.old.prepared }
+    ensures looks { RisesAtMost overlay.old.looks overlay.new.looks 1 }
+{
+    let order = overlay.head().order;
+    let Some(trace) = overlay.look(p) else {
+        unreachable!()
+    };
+    let number = computed_in(&trace, p, place, source, steps);
+    admitted(order, &trace, place, number)
+}
+
+// Puts the bytes of a number behind others, for which there is room.
+fn push_number(bytes: &mut Vec<u8>, order: Order, kind: Kind, number: i128)
+    requires size { IsSize kind.size }
+    requires fits { InRange kind number }
+    requires room { vec_len bytes.old + kind.size ≤ vec_capacity bytes.old }
+    ensures bytes { bytes.new.items ≡ bytes.old.items ++ bytes_of_number order kind number }
+    ensures count { vec_len bytes.new ≡ vec_len bytes.old + kind.size }
+    ensures room { vec_capacity bytes.old ≤ vec_capacity bytes.new }
+{
+    let mut buffer = [0u8; 8];
+    let new = &mut buffer[..usize::from(kind.size)];
+    write(order, kind, number, new);
+    let Ok(()) = bytes.extend_from_slice(new) else {
+        unreachable!()
+    };
+}
+
+// Why there are no bytes where there is no room for them: the first refusal of traces a to b comes
+// before E11.
+fn without_memory(
+    overlay: &mut Overlay,
+    map: &FieldMap,
+    a: u32,
+    b: u32,
+    place: Place,
+    source: Term,
+    steps: &[(Operator, Operand)],
+) -> Refusal
+    requires first { 1 ≤ a }
+    requires range { a ≤ b }
+    requires last { b ≤ count_of overlay.old.volume }
+    ensures refusal { (terms : List (Operator × Term)) → steps_of map.now.pairs steps.now
+        ≡ Some terms → IsRefusalFor result (compute_refusal_in overlay.old.volume
+        (Some (record { place = place; source = source; steps = terms })) a b) }
+    ensures volume { overlay.new.volume ≡ overlay.old.volume }
+    ensures prepared { overlay.new.prepared ≡ overlay.old.prepared }
+    ensures looks { RisesAtMost overlay.old.looks overlay.new.looks (b + 1 - a) }
+{
+    for k in 0..b - a + 1 {
+        let number = number_by_names(overlay, map, a + k, place, source, steps);
+        if let Err(refusal) = number {
+            return refusal;
+        }
+    }
+    Refusal::OutOfMemory
+}
+
+// The number that is computed for trace p, with the steps' fields found by name, or its first
+// refusal, in one look.
+fn number_by_names(
+    overlay: &mut Overlay,
+    map: &FieldMap,
+    p: u32,
+    place: Place,
+    source: Term,
+    steps: &[(Operator, Operand)],
+) -> Result<i128, Refusal>
+    requires { IsTrue (is_trace overlay.old.volume p) }
+    ensures none { IfOk result (λ _. (terms : List (Operator × Term)) → steps_of map.now.pairs
+        steps.now ≡ Some terms → compute_refusal overlay.old.volume
+        (record { place = place; source = source; steps = terms }) p ≡ None) }
+    ensures err { IfErr result (λ refusal. (terms : List (Operator × Term)) → steps_of
+        map.now.pairs steps.now ≡ Some terms → compute_refusal overlay.old.volume
+        (record { place = place; source = source; steps = terms }) p ≡ Some refusal) }
+    ensures volume { overlay.new.volume ≡ overlay.old.volume }
+    ensures prepared { overlay.new.prepared ≡ overlay.old.prepared }
+    ensures looks { RisesAtMost overlay.old.looks overlay.new.looks 1 }
+{
+    let order = overlay.head().order;
+    let Some(trace) = overlay.look(p) else {
+        unreachable!()
+    };
+    let number = computed_by_names(&trace, map, p, place, source, steps);
+    admitted(order, &trace, place, number)
+}

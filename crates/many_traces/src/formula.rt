@@ -1,0 +1,105 @@
+// A computation whose fields are found by name.
+ghost use Rattle.std.specs.Prelude.{◌≡◌, Some, is_some, IfSome};
+ghost use Rattle.trace_view.specs.Shown.{bytes_of, head_of};
+ghost use Rattle.bench_rules.specs.Computed.{chained_from, steps_of, term_of as term_of_operand};
+ghost use Rattle.bench_rules.specs.ManyTraces.{each_of};
+ghost use Rattle.many_traces.specs.Formulas.{named_number_in, step_in};
+
+use crate::places::place_in_trace;
+use bench_rules::{Operand, Operator, Refusal, Term, after_step, term_in};
+use field_map::{FieldMap, Place};
+use std::alloc::Global;
+use trace_view::TraceView;
+
+/// The operand with the place of its field, where that has one. Takes no memory.
+pub fn term_of(map: &FieldMap, operand: &Operand) -> Option<Term>
+    ensures { result ≡ term_of_operand map.now.pairs operand.now }
+{
+    match operand {
+        Operand::Number(number) => Some(Term::Number(*number)),
+        Operand::Field(field) => match place_in_trace(map, field) {
+            Some(place) => Some(Term::At(place)),
+            None => None,
+        },
+    }
+}
+
+/// Whether each field of the steps has a place. Takes no memory.
+pub fn have_terms(map: &FieldMap, steps: &[(Operator, Operand)]) -> bool
+    ensures { result ≡ is_some (steps_of map.now.pairs steps.now) }
+{
+    for step in steps {
+        if term_of(map, &step.1).is_none() {
+            return false;
+        }
+    }
+    true
+}
+
+/// The steps with the places of their fields; `None` where one has none, or where there is no
+/// memory for the list.
+pub fn terms_of(
+    alloc: Global,
+    map: &FieldMap,
+    steps: &[(Operator, Operand)],
+) -> Option<Vec<(Operator, Term)>>
+    ensures { IfSome result (λ terms. steps_of map.now.pairs steps.now ≡ Some terms.items) }
+{
+    let Ok(mut terms) = Vec::with_capacity(alloc, steps.len()) else {
+        return None;
+    };
+    for step in steps {
+        let term = term_of(map, &step.1)?;
+        if terms.push((step.0, term)).is_err() {
+            return None;
+        }
+    }
+    Some(terms)
+}
+
+/// The number of trace p, with the place of each step's field found anew: slower than with a list
+/// of them, but without memory for it. E03 where the trace lacks a place, then E13 or E04 of the
+/// first step that has no number.
+pub fn computed_by_names(
+    trace: &TraceView<'_>,
+    map: &FieldMap,
+    p: u32,
+    place: Place,
+    source: Term,
+    steps: &[(Operator, Operand)],
+) -> Result<i128, Refusal>
+    ensures { result ≡ named_number_in (head_of trace.now) map.now.pairs place source steps.now p
+        (bytes_of trace.now) }
+{
+    if trace.value(place).is_none() {
+        return Err(Refusal::NoPlace);
+    }
+    match term_in(trace, source) {
+        Some(first) => chained_by_names(trace, map, p, first, steps),
+        None => Err(Refusal::NoPlace),
+    }
+}
+
+// The number of trace p that the steps make of the first one.
+fn chained_by_names(
+    trace: &TraceView<'_>,
+    map: &FieldMap,
+    p: u32,
+    first: i128,
+    steps: &[(Operator, Operand)],
+) -> Result<i128, Refusal>
+    ensures { result ≡ chained_from p (Some first)
+        (each_of (step_in (head_of trace.now) (bytes_of trace.now) map.now.pairs) steps.now) }
+{
+    let mut number = Ok(first);
+    for step in steps {
+        let Some(term) = term_of(map, &step.1) else {
+            return Err(Refusal::NoPlace);
+        };
+        match after_step(trace, p, number, step.0, term) {
+            Some(next) => number = next,
+            None => return Err(Refusal::NoPlace),
+        }
+    }
+    number
+}

@@ -1,0 +1,63 @@
+// All named header fields of one trace.
+ghost use Rattle.std.specs.Prelude.{◌≡◌, ◌++◌, option_to_list, IsTrue, IfOk, IfErr, OnOk};
+ghost use Rattle.frame_cut.specs.Traces.{is_trace, trace_at};
+ghost use Rattle.trace_view.specs.Shown.{bytes_of, head_of};
+ghost use Rattle.edit_overlay.specs.CountedVolume.{RisesAtMost};
+ghost use Rattle.bench_rules.specs.declared.ask_fault.AskFault.TheVariants.{OutOfMemory as no_memory};
+ghost use Rattle.bench_rules.specs.Headers.{header_of, with_name};
+
+use bench_rules::{AskFault, Items, Text};
+use edit_overlay::Overlay;
+use field_map::Place;
+use std::alloc::Global;
+use trace_view::TraceView;
+
+/// Each of the names whose place trace p has, with the number there. One look. Refused: E11 alone.
+pub fn header(
+    alloc: Global,
+    overlay: &mut Overlay,
+    p: u32,
+    names: Vec<(Text, Place)>,
+) -> Result<Items<(Text, i128)>, AskFault>
+    requires { IsTrue (is_trace overlay.old.volume p) }
+    ensures ok { IfOk result (λ numbers. numbers ≡ header_of overlay.old.volume.head names.items
+        (trace_at overlay.old.volume p)) }
+    ensures err { IfErr result (λ fault. fault ≡ no_memory) }
+    ensures volume { overlay.new.volume ≡ overlay.old.volume }
+    ensures prepared { overlay.new.prepared ≡ overlay.old.prepared }
+    ensures looks { RisesAtMost overlay.old.looks overlay.new.looks 1 }
+{
+    let Some(trace) = overlay.look(p) else {
+        unreachable!()
+    };
+    named_numbers(alloc, &trace, names)
+}
+
+// Each of the names whose place the trace has, with the number there.
+fn named_numbers(
+    alloc: Global,
+    trace: &TraceView<'_>,
+    names: Vec<(Text, Place)>,
+) -> Result<Items<(Text, i128)>, AskFault>
+    ensures ok { IfOk result (λ numbers. numbers ≡ header_of (head_of trace.now) names.items
+        (bytes_of trace.now)) }
+    ensures err { IfErr result (λ fault. fault ≡ no_memory) }
+{
+    let mut numbers = Vec::new(alloc);
+    for (name, place) in names {
+        keep(&mut numbers, name, trace.value(place))?;
+    }
+    Ok(Items::new(numbers))
+}
+
+// Puts the name with its number behind others, where it has one.
+fn keep(numbers: &mut Vec<(Text, i128)>, name: Text, number: Option<i128>) -> Result<(), AskFault>
+    ensures ok { OnOk result (numbers.new.items ≡ numbers.old.items
+        ++ option_to_list (with_name name number)) }
+    ensures err { IfErr result (λ fault. fault ≡ no_memory) }
+{
+    if let Some(number) = number {
+        numbers.push((name, number))?;
+    }
+    Ok(())
+}

@@ -1,0 +1,27 @@
+//! The headers of many traces of a volume under edits: some fields of each as a table, those with a
+//! number between two bounds, all named fields of one trace, the extremes of each named field, and
+//! the bytes of a number that is computed for each.
+//!
+//! Traces count from 1. Each call looks once at each trace that it is asked about, and leaves the
+//! volume and what is prepared as they are. Each takes memory in step with its answer, once, and is
+//! refused for want of it, E11, only where nothing else refuses it.
+#![tactic(auto)]
+
+mod all_extremes;
+mod computed;
+mod finds;
+mod formula;
+mod headers;
+mod names;
+mod places;
+mod row;
+mod seen;
+mod tables;
+
+pub use crate::all_extremes::extremes;
+pub use crate::computed::computed_bytes;
+pub use crate::finds::find;
+pub use crate::headers::header;
+pub use crate::names::named_places;
+pub use crate::places::{have_places, place_in_trace};
+pub use crate::tables::table;

@@ -1,0 +1,51 @@
+// The places of the fields of a trace.
+ghost use Rattle.std.specs.Prelude.{◌≡◌, Some, is_some, IfSome};
+ghost use Rattle.bench_rules.specs.ManyTraces.{each_of};
+ghost use Rattle.bench_rules.specs.Places.{place_in_trace as place_of_field};
+
+use bench_rules::Field;
+use field_map::{FieldMap, Place, named};
+use std::alloc::Global;
+
+/// The place of a trace's field, where it has one: of a name the bound one, else that of a name
+/// that is always known. Takes no memory.
+pub fn place_in_trace(map: &FieldMap, field: &Field) -> Option<Place>
+    ensures { result ≡ place_of_field map.now.pairs field.now }
+{
+    match field {
+        Field::Place(place) => Some(*place),
+        Field::Name(name) => match map.place(name.as_str()) {
+            Some(place) => Some(place),
+            None => named(name.as_str()),
+        },
+    }
+}
+
+/// Whether each field has a place. Takes no memory.
+pub fn have_places(map: &FieldMap, fields: &[Field]) -> bool
+    ensures { result ≡ is_some (each_of (place_of_field map.now.pairs) fields.now) }
+{
+    for field in fields {
+        if place_in_trace(map, field).is_none() {
+            return false;
+        }
+    }
+    true
+}
+
+/// The place of each field; `None` where one has none, or where there is no memory for the list.
+pub fn places_of(alloc: Global, map: &FieldMap, fields: &[Field]) -> Option<Vec<Place>>
+    ensures { IfSome result (λ places. each_of (place_of_field map.now.pairs) fields.now
+        ≡ Some places.items) }
+{
+    let Ok(mut places) = Vec::with_capacity(alloc, fields.len()) else {
+        return None;
+    };
+    for field in fields {
+        let place = place_in_trace(map, field)?;
+        if places.push(place).is_err() {
+            return None;
+        }
+    }
+    Some(places)
+}

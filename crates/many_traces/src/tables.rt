@@ -1,0 +1,122 @@
+// Some header fields of many traces.
+ghost use Rattle.std.specs.Prelude.{◌≡◌, ◌+◌, ◌-◌, ◌*◌, ◌≤◌, [], None, Some, Ok, List, IfOk, IfErr, IfSome, length};
+ghost use Rattle.std.specs.Vec.{vec_capacity};
+ghost use Rattle.frame_cut.specs.Traces.{count_of};
+ghost use Rattle.edit_overlay.specs.CountedVolume.{RisesAtMost};
+ghost use Rattle.bench_rules.specs.declared.ask_fault.AskFault.TheVariants.{NoPlace};
+ghost use Rattle.field_map.specs.declared.place.Place.{Place};
+ghost use Rattle.bench_rules.specs.declared.answer.Answer.TheVariants as answers;
+ghost use Rattle.bench_rules.specs.Answer.{table_answer};
+ghost use Rattle.bench_rules.specs.Looks.{looks_at};
+ghost use Rattle.bench_rules.specs.ManyTraces.{each_of};
+ghost use Rattle.bench_rules.specs.Places.{place_in_trace};
+ghost use Rattle.bench_rules.specs.Tables.{table_of};
+ghost use Rattle.many_traces.specs.Faults.{fault_of, IsFaultFor};
+
+use crate::places::{have_places, places_of};
+use crate::row::{has_row, push_row};
+use bench_rules::{AskFault, Field, Table};
+use edit_overlay::Overlay;
+use field_map::{FieldMap, Place};
+use std::alloc::Global;
+
+/// These fields of each of traces a to b. Looks at each of them once at most, and at none where a
+/// field has no place. Refused: E02, then E03 where one of the traces lacks a place, else E11
+/// alone.
+pub fn table(
+    alloc: Global,
+    overlay: &mut Overlay,
+    map: &FieldMap,
+    a: u32,
+    b: u32,
+    fields: &[Field],
+) -> Result<Table, AskFault>
+    requires first { 1 ≤ a }
+    requires range { a ≤ b }
+    requires last { b ≤ count_of overlay.old.volume }
+    ensures ok { IfOk result (λ rows. table_answer overlay.old.volume a b
+        (each_of (place_in_trace map.now.pairs) fields.now) ≡ Ok (answers.Table rows)) }
+    ensures err { IfErr result (λ fault. IsFaultFor fault (table_answer overlay.old.volume a b
+        (each_of (place_in_trace map.now.pairs) fields.now))) }
+    ensures volume { overlay.new.volume ≡ overlay.old.volume }
+    ensures prepared { overlay.new.prepared ≡ overlay.old.prepared }
+    ensures looks { RisesAtMost overlay.old.looks overlay.new.looks
+        (looks_at (each_of (place_in_trace map.now.pairs) fields.now) (b + 1 - a)) }
+{
+    if !have_places(map, fields) {
+        return Err(AskFault::NoField);
+    }
+    let Some(places) = places_of(alloc, map, fields) else {
+        return Err(without_memory(overlay, map, a, b, fields));
+    };
+    match room(alloc, b - a + 1, places.len()) {
+        Some(numbers) => filled(overlay, a, b, places.as_slice(), numbers),
+        None => Err(without_memory(overlay, map, a, b, fields)),
+    }
+}
+
+// Room for so many rows of so many numbers; `None` where there is none.
+fn room(alloc: Global, count: u32, width: usize) -> Option<Vec<i128>>
+    ensures empty { IfSome result (λ numbers. numbers.items ≡ []) }
+    ensures room { IfSome result (λ numbers. width * count ≤ vec_capacity numbers) }
+{
+    let numbers = width.checked_mul(count as usize)?;
+    match Vec::with_capacity(alloc, numbers) {
+        Ok(numbers) => Some(numbers),
+        Err(_) => None,
+    }
+}
+
+// The table of traces a to b, in this room.
+fn filled(
+    overlay: &mut Overlay,
+    a: u32,
+    b: u32,
+    places: &[Place],
+    numbers: Vec<i128>,
+) -> Result<Table, AskFault>
+    requires first { 1 ≤ a }
+    requires range { a ≤ b }
+    requires last { b ≤ count_of overlay.old.volume }
+    requires empty { numbers.items ≡ [] }
+    requires room { length places.now * (b + 1 - a) ≤ vec_capacity numbers }
+    ensures ok { IfOk result (λ rows. table_of overlay.old.volume places.now a b ≡ Some rows) }
+    ensures err { IfErr result (λ fault. (fault ≡ NoPlace) × (table_of overlay.old.volume
+        places.now a b ≡ None)) }
+    ensures volume { overlay.new.volume ≡ overlay.old.volume }
+    ensures prepared { overlay.new.prepared ≡ overlay.old.prepared }
+    ensures looks { RisesAtMost overlay.old.looks overlay.new.looks (b + 1 - a) }
+{
+    let mut numbers = numbers;
+    for k in 0..b - a + 1 {
+        if !push_row(overlay, a + k, places, &mut numbers) {
+            return Err(AskFault::NoPlace);
+        }
+    }
+    Ok(Table::new(a, b - a + 1, places.len(), numbers))
+}
+
+// Why the table of traces a to b is refused where there is no room for it: E03 comes before E11.
+fn without_memory(
+    overlay: &mut Overlay,
+    map: &FieldMap,
+    a: u32,
+    b: u32,
+    fields: &[Field],
+) -> AskFault
+    requires first { 1 ≤ a }
+    requires range { a ≤ b }
+    requires last { b ≤ count_of overlay.old.volume }
+    ensures fault { (places : List Place) → each_of (place_in_trace map.now.pairs) fields.now
+        ≡ Some places → result ≡ fault_of (table_of overlay.old.volume places a b) }
+    ensures volume { overlay.new.volume ≡ overlay.old.volume }
+    ensures prepared { overlay.new.prepared ≡ overlay.old.prepared }
+    ensures looks { RisesAtMost overlay.old.looks overlay.new.looks (b + 1 - a) }
+{
+    for k in 0..b - a + 1 {
+        if !has_row(overlay, map, a + k, fields) {
+            return AskFault::NoPlace;
+        }
+    }
+    AskFault::OutOfMemory
+}

@@ -1,0 +1,31 @@
+//! What is told of refused lines beside their answers: where each stands, and what may be meant.
+//!
+//! [`Notes`] keeps the first 20 refused lines of a run in a room of fixed size, and counts all.
+//! [`NoteLine`] is what is told of one of them, [`LoadNote`] of a refused file; each is one line,
+//! without its line feed. Nothing here takes memory, and no answer depends on it. Lines count from
+//! 1, and bytes of a header from 1.
+#![tactic(auto)]
+
+mod commands;
+mod compute_hint;
+mod fault;
+mod hint;
+mod line_hint;
+mod load_note;
+mod names;
+mod near;
+mod note;
+mod note_line;
+mod notes;
+mod number_hint;
+mod shown;
+mod words;
+
+pub use crate::fault::{Fault, fault_of};
+pub use crate::load_note::LoadNote;
+pub use crate::note::Note;
+pub use crate::note_line::NoteLine;
+pub use crate::notes::Notes;
+
+#[cfg(test)]
+mod tests;

@@ -1,0 +1,259 @@
+// What may be meant by a line that is refused.
+use crate::commands::{COMMANDS, form};
+use crate::compute_hint::{computed_number_hint, joined_hint, operations_hint};
+use crate::fault::Fault;
+use crate::hint::Hint;
+use crate::names::{BINARY_NAMES, QUANTITIES, TRACE_NAMES};
+use crate::near::{Near, nearest_of};
+use crate::note::Note;
+use crate::number_hint::number_hint;
+use crate::words::Words;
+use bench_rules::{AskFault, Refusal};
+use field_map::{MapFault, is_geometry, named};
+use script_words::LineFault;
+use std::str;
+
+/// What may be meant by a refused line.
+pub(crate) fn hint_of(note: &Note) -> Hint {
+    let bytes = note.bytes();
+    if bytes.starts_with(b"\xef\xbb\xbf") {
+        return Hint::Text("a byte order mark stands in front: save the script as UTF-8 without it");
+    }
+    if is_wide(bytes) {
+        return Hint::Text("this looks like UTF-16: save the script as UTF-8");
+    }
+    let words = Words::new(bytes);
+    match note.fault() {
+        Fault::Line(fault) => line_hint(&words, fault),
+        Fault::Edit(refusal) => edit_hint(&words, refusal),
+        Fault::Query(fault) => query_hint(&words, fault),
+    }
+}
+
+// Whether the bytes are those of UTF-16: its mark stands in front, or each other byte is zero.
+fn is_wide(bytes: &[u8]) -> bool {
+    if bytes.starts_with(b"\xff\xfe") || bytes.starts_with(b"\xfe\xff") {
+        return true;
+    }
+    let zeros = bytes.iter().filter(|byte| **byte == 0).count();
+    bytes.len() >= 3 && zeros >= bytes.len() / 2
+}
+
+// Of a line that is no command.
+fn line_hint(words: &Words, fault: LineFault) -> Hint {
+    match fault {
+        LineFault::Unknown => nearest(words.at(0), &COMMANDS),
+        LineFault::Words if words.has_note() => note_behind(),
+        LineFault::Words => wrong_words(words),
+        LineFault::Number if words.at(0) == b"compute".as_slice() => wrong_computation(words),
+        LineFault::Number => wrong_number(words),
+        LineFault::NotText => Hint::Text("the line is not UTF-8: save the script as UTF-8"),
+        LineFault::TooLarge | LineFault::OutOfMemory => Hint::None,
+    }
+}
+
+fn note_behind() -> Hint {
+    Hint::Text("a note stands on a line of its own")
+}
+
+// Of a command with too few or too many words.
+fn wrong_words(words: &Words) -> Hint {
+    match words.at(0) {
+        b"table" if !words.at(3).is_empty() => Hint::Text("a table has at most 64 fields"),
+        b"compute" => text_or_form(operations_hint(words), words),
+        _ => form_of(words),
+    }
+}
+
+fn text_or_form(text: Option<&'static str>, words: &Words) -> Hint {
+    match text {
+        Some(text) => Hint::Text(text),
+        None => form_of(words),
+    }
+}
+
+fn form_of(words: &Words) -> Hint {
+    match form(words.at(0)) {
+        "" => Hint::None,
+        form => Hint::Form(form),
+    }
+}
+
+// The one of the names that is meant.
+fn nearest(word: &[u8], names: &[&'static str]) -> Hint {
+    match nearest_of(word, names) {
+        Near::Letters(name) => Hint::Small(name),
+        Near::Typed(name) => Hint::Near(name),
+        Near::None => Hint::None,
+    }
+}
+
+// Of a command with a word that has to be a number or a place.
+fn wrong_number(words: &Words) -> Hint {
+    for word in words.as_slice() {
+        if let Some(text) = number_hint(word) {
+            return Hint::Text(text);
+        }
+    }
+    if words.has_note() {
+        return note_behind();
+    }
+    match words.at(0) {
+        b"range" => match nearest(words.at(1), &QUANTITIES) {
+            Hint::None => Hint::Text("WHICH is inline, crossline, offset, x or y"),
+            hint => hint,
+        },
+        b"map" => Hint::Text("a place is @BYTE:SIZE, as @189:4"),
+        _ => place_or_form(words),
+    }
+}
+
+fn place_or_form(words: &Words) -> Hint {
+    if words.as_slice().iter().any(|word| word.starts_with(b"@")) {
+        Hint::Text("a place is @BYTE:SIZE, as @189:4")
+    } else {
+        form_of(words)
+    }
+}
+
+// Of a computation with a word that has to be a number, a place or an operator.
+fn wrong_computation(words: &Words) -> Hint {
+    if words.has_note() {
+        return note_behind();
+    }
+    match computed_number_hint(words) {
+        Some(text) => Hint::Text(text),
+        None => place_or_form(words),
+    }
+}
+
+// Of an edit that is refused.
+fn edit_hint(words: &Words, refusal: Refusal) -> Hint {
+    match refusal {
+        Refusal::NoTrace(p, count) => no_trace(words, p, count),
+        Refusal::NoField => no_field(words),
+        Refusal::NoPlace => no_place(words),
+        Refusal::NoSample(k, count) if k == count => Hint::Text("samples count from 0"),
+        Refusal::Frame => frame(words),
+        Refusal::Map(fault) => map_hint(words, fault),
+        Refusal::TooLarge => Hint::Text("--max-bytes N raises the limit"),
+        Refusal::ZeroDivisor(_) => Hint::Text("find tells the traces where a FIELD is 0: leave them out"),
+        _ => Hint::None,
+    }
+}
+
+// Of a query that is refused.
+fn query_hint(words: &Words, fault: AskFault) -> Hint {
+    match fault {
+        AskFault::NoTrace(p, count) => no_trace(words, p, count),
+        AskFault::NoField => no_field(words),
+        AskFault::NoPlace => no_place(words),
+        AskFault::NoSample(k, count) if k == count => Hint::Text("samples count from 0"),
+        _ => Hint::None,
+    }
+}
+
+// Of a position without a trace. A range of traces that is refused by its last one, though there
+// is such a trace, stands the other way round.
+fn no_trace(words: &Words, p: u32, count: u32) -> Hint {
+    if p == 0 {
+        Hint::Text("traces count from 1")
+    } else if is_of_range(words.at(0)) && p <= count {
+        Hint::Text("P stands behind Q: the first of the traces comes first")
+    } else {
+        Hint::None
+    }
+}
+
+// Whether the command is one of the traces from P to Q.
+fn is_of_range(command: &[u8]) -> bool {
+    matches!(command, b"renumber" | b"compute" | b"table" | b"find" | b"extremes")
+}
+
+// Of a name that is no field.
+fn no_field(words: &Words) -> Hint {
+    match words.at(0) {
+        b"bin" | b"getbin" => {
+            let other = "a field of the trace headers: set and get";
+            field_hint(words.at(1), &BINARY_NAMES, &TRACE_NAMES, other)
+        }
+        b"renumber" | b"find" => trace_field(words.at(3)),
+        b"table" => first_unknown(words, 3),
+        b"compute" => match joined_hint(words) {
+            Some(text) => Hint::Text(text),
+            None => first_unknown(words, 3),
+        },
+        _ => trace_field(words.at(2)),
+    }
+}
+
+// Of the first word from this one on that is no place and no name that is always there.
+fn first_unknown(words: &Words, from: usize) -> Hint {
+    for word in words.as_slice().iter().skip(from) {
+        if word.first().is_some_and(u8::is_ascii_alphabetic) && !is_trace_name(word) {
+            return trace_field(word);
+        }
+    }
+    Hint::None
+}
+
+fn is_trace_name(word: &[u8]) -> bool {
+    match str::from_utf8(word) {
+        Ok(name) => is_geometry(name) || named(name).is_some(),
+        Err(_) => false,
+    }
+}
+
+fn trace_field(word: &[u8]) -> Hint {
+    let other = "a field of the binary header: bin and getbin";
+    field_hint(word, &TRACE_NAMES, &BINARY_NAMES, other)
+}
+
+// The name that is meant, or that it is one of the other header.
+fn field_hint(
+    word: &[u8],
+    names: &[&'static str],
+    others: &[&'static str],
+    other: &'static str,
+) -> Hint {
+    if others.iter().any(|name| name.as_bytes() == word) {
+        return Hint::Text(other);
+    }
+    nearest(word, names)
+}
+
+// Of a place outside the header, or a line outside the block.
+fn no_place(words: &Words) -> Hint {
+    match words.at(0) {
+        b"bin" | b"getbin" => {
+            Hint::Text("BYTE is that of the file, 3201 to 3600; SIZE is 1, 2, 3, 4 or 8")
+        }
+        b"text" | b"line" => Hint::Text("lines count from 1 to 40, blocks from 0"),
+        b"code" | b"lines" => Hint::Text("blocks count from 0"),
+        b"set" | b"get" | b"renumber" | b"compute" | b"table" | b"find" => {
+            Hint::Text("BYTE is that of the header, 1 to 240; SIZE is 1, 2, 3, 4 or 8")
+        }
+        _ => Hint::None,
+    }
+}
+
+// Of an edit that would cut the file elsewhere.
+fn frame(words: &Words) -> Hint {
+    match words.at(0) {
+        b"resize" => Hint::Text("each trace has the binary header's number of samples"),
+        _ => Hint::Text("these bytes say how the file is cut"),
+    }
+}
+
+// Of a name that is not bound or not unbound.
+fn map_hint(words: &Words, fault: MapFault) -> Hint {
+    match fault {
+        MapFault::BadName => Hint::Text("1 to 24 of a to z, 0 to 9 and _, a letter first"),
+        MapFault::OutsideHeader => Hint::Text("a header has the bytes 1 to 240"),
+        MapFault::BadKind if words.at(0) == b"map".as_slice() => {
+            Hint::Text("SIZE is 1, 2, 3, 4 or 8; the six names are signed, of 2 or 4 bytes")
+        }
+        MapFault::Standard => Hint::Text("a name of the standard keeps its place: take another"),
+        _ => Hint::None,
+    }
+}

@@ -1,0 +1,83 @@
+// What is told of a file that is refused.
+use frame_cut::LoadFault;
+use std::fmt;
+
+/// `segywb: FILE: REFUSAL (HINT)`, one line without its line feed: why the file is refused, and
+/// what to do.
+#[derive(Drop)]
+pub struct LoadNote<'a> {
+    /// The path of the file.
+    pub file: &'a str,
+    /// Why it is refused.
+    pub fault: LoadFault,
+}
+
+impl fmt::Display for LoadNote<'_> {
+    fn fmt<W: fmt::Write>(&self, f: &mut fmt::Formatter<W>) -> fmt::Result {
+        let file = self.file;
+        let fault = self.fault;
+        write!(f, "segywb: {file}: {fault} (")?;
+        match (hint(fault), fault) {
+            (Some(text), _) => f.write_str(text)?,
+            (None, LoadFault::UnknownFormat(code)) => unknown_format(f, code)?,
+            (None, _) => frame_hint(f, fault)?,
+        }
+        f.write_str(")")
+    }
+}
+
+// What to do about a file that is read in no way here.
+fn hint(fault: LoadFault) -> Option<&'static str> {
+    match fault {
+        LoadFault::ReadFailed => Some("it is a folder, or its disk fails"),
+        LoadFault::TooLarge => Some("--max-bytes N raises the limit"),
+        LoadFault::Short(_) => Some("the two file headers have 3600 bytes"),
+        LoadFault::PairSwapped => Some(
+            "bytes 3297-3300 are 02 01 04 03: the two bytes of each pair are swapped; \
+             swap them back, as by dd conv=swab",
+        ),
+        LoadFault::Revision(..) => Some("bytes 3501-3502; revisions 0, 1 and 2.0 are read"),
+        LoadFault::FloatFormat(_) => Some(
+            "bytes 3225-3226; formats 1, 5 and 6 are floats, which are not read yet: \
+             samples are whole numbers, in formats 2, 3, 7 to 12, 15 and 16",
+        ),
+        LoadFault::GainFormat => Some(
+            "bytes 3225-3226; format 4 is fixed point with gain, which is not read: \
+             samples are whole numbers, in formats 2, 3, 7 to 12, 15 and 16",
+        ),
+        LoadFault::TooManyTraces => Some("a file has at most 4294967295 traces"),
+        LoadFault::OutOfMemory => Some("the file must fit in memory"),
+        _ => None,
+    }
+}
+
+// The format's code in the other byte order, where that is one of the standard's.
+fn unknown_format<W: fmt::Write>(f: &mut fmt::Formatter<W>, code: u16) -> fmt::Result {
+    let other = code.swap_bytes();
+    if 1 <= other && other <= 16 {
+        write!(
+            f,
+            "bytes 3225-3226; in the other byte order it is {other}: a little-endian file has \
+             04 03 02 01 in bytes 3297-3300"
+        )
+    } else {
+        f.write_str("bytes 3225-3226; formats 2, 3, 7 to 12, 15 and 16 are read")
+    }
+}
+
+// Which bytes say how the file is cut.
+fn frame_hint<W: fmt::Write>(f: &mut fmt::Formatter<W>, fault: LoadFault) -> fmt::Result {
+    f.write_str(match fault {
+        LoadFault::TextCount(_) => "bytes 3505-3506: extended textual headers",
+        LoadFault::Extensions(_) => "bytes 3507-3510: header extensions of a trace, at most 255",
+        LoadFault::Trailer(_) => "bytes 3529-3532: data trailer records",
+        LoadFault::FirstTrace(_) => "bytes 3521-3528: where the first trace begins",
+        LoadFault::ExtensionCount(_) => {
+            "bytes 157-158 of its first header extension: more than bytes 3507-3510 of the file say"
+        }
+        _ => {
+            "the file ends inside that trace; where bytes 115-116 of the traces are wrong, --fixed \
+             reads each with the binary header's number of samples"
+        }
+    })
+}

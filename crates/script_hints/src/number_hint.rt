@@ -1,0 +1,19 @@
+// What is wrong with a word that has to be a number.
+
+/// What people write for a number that is none.
+pub(crate) fn number_hint(word: &[u8]) -> Option<&'static str> {
+    let digits = word.strip_prefix(b"-").unwrap_or(word);
+    if word.starts_with(b"+") {
+        return Some("a number has no + in front");
+    }
+    if digits.starts_with(b"0x") || digits.starts_with(b"0X") {
+        return Some("numbers are decimal");
+    }
+    if !digits.first().is_some_and(|byte| byte.is_ascii_digit()) {
+        return None;
+    }
+    if digits.iter().any(|byte| *byte == b'.' || *byte == b',') {
+        return Some("numbers are whole, in digits alone");
+    }
+    None
+}

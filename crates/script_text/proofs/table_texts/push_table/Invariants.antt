@@ -1,0 +1,12 @@
+use Rattle.std.proofs.Common.{map, drop}
+use Rattle.script_text.specs.Devices.{device_of}
+use Rattle.script_text.specs.HeaderTexts.{table_row_text}
+use Rattle.script_text.specs.Texts.{with_line_ends}
+use Rattle.script_text.proofs.OutLemmas.{Left}
+use Rattle.script_text.proofs.table_texts.push_table.Given as goal
+
+-- since the head was pushed the lines of the rows before this one were
+abbrev pub invariant-loop-k : goal.invariant-loop-k
+invariant-loop-k g l =
+    Left (device_of g.W.Write.contents l.initial.writer) (device_of g.W.Write.contents l.writer) l.initial.out l.out
+    (with_line_ends (map table_row_text (drop l.k l.table))) (with_line_ends (map table_row_text l.table))

@@ -1,0 +1,10 @@
+pub mod PositionLemmas
+pub mod BoundaryLemmas
+pub mod WordLemmas
+pub mod NumberLemmas
+pub mod PlaceLemmas
+pub mod ParseLemmas
+pub mod ListLemmas
+pub mod LineLemmas
+pub mod ScriptLemmas
+pub mod PartLemmas

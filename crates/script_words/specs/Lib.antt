@@ -1,0 +1,9 @@
+pub mod Words
+pub mod Numbers
+pub mod Readers
+pub mod ReportCommands
+pub mod HeaderCommands
+pub mod Commands
+pub mod Examples
+pub mod LineExamples
+pub mod HeaderExamples

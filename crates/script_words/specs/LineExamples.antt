@@ -1,0 +1,64 @@
+-- Worked lines of the reports, and of the edits of numbers of samples and of many traces.
+use Rattle.std.specs.Prelude.{◌≡◌, pos, negsuc, codes, Some, Ok, Err, refl}
+use Rattle.std.specs.Str.{is_utf8, chars}
+use Rattle.std.specs.Char.{encode_utf8}
+use Rattle.range_stats.specs.declared.quantity.Quantity.TheVariants.{X}
+use Rattle.bench_rules.specs.declared.field.Field.TheVariants as fields
+use Rattle.bench_rules.specs.declared.edit.Edit.TheVariants as edits
+use Rattle.bench_rules.specs.declared.query.Query.TheVariants as queries
+use Rattle.script_words.specs.declared.command.Command.TheVariants.{Apply, Ask}
+use Rattle.script_words.specs.declared.line_fault.LineFault.TheVariants.{Unknown, Words, Number}
+use Rattle.script_words.specs.Commands.{line_result}
+
+-- ---- reports
+
+pub line-range : line_result (codes "range x") ≡ Ok (Some (Ask (queries.Range X)))
+unfolding is_utf8 chars encode_utf8
+line-range = refl
+
+-- the inline stands first
+pub line-fold : line_result (codes "fold 10 -1") ≡ Ok (Some (Ask (queries.Fold (pos 10) (negsuc 0))))
+unfolding is_utf8 chars encode_utf8
+line-fold = refl
+
+-- a sample behind the greatest position
+pub line-slice : line_result (codes "slice 4294967296") ≡ Err Number
+unfolding is_utf8 chars encode_utf8
+line-slice = refl
+
+-- a kind of value that has no range
+pub line-which : line_result (codes "range z") ≡ Err Number
+unfolding is_utf8 chars encode_utf8
+line-which = refl
+
+pub line-many : line_result (codes "grid 1") ≡ Err Words
+unfolding is_utf8 chars encode_utf8
+line-many = refl
+
+pub line-few : line_result (codes "geometry") ≡ Err Words
+unfolding is_utf8 chars encode_utf8
+line-few = refl
+
+pub line-unknown : line_result (codes "grids") ≡ Err Unknown
+unfolding is_utf8 chars encode_utf8
+line-unknown = refl
+
+-- ---- edits of numbers of samples, and of a field of many traces
+
+pub line-resize : line_result (codes "resize 2 65536") ≡ Ok (Some (Apply (edits.Resize 2 (pos 65536))))
+unfolding is_utf8 chars encode_utf8
+line-resize = refl
+
+pub line-renumber : line_result (codes "renumber 1 3 crossline 100 -5") ≡ Ok (Some (Apply (edits.Renumber 1 3 (fields.Name (codes "crossline")) (pos 100) (negsuc 4))))
+unfolding is_utf8 chars encode_utf8
+line-renumber = refl
+
+-- the step is missing
+pub line-renumber_few : line_result (codes "renumber 1 3 crossline 100") ≡ Err Words
+unfolding is_utf8 chars encode_utf8
+line-renumber_few = refl
+
+-- a step that is no number of 128 bits
+pub line-renumber_step : line_result (codes "renumber 1 3 crossline 1 170141183460469231731687303715884105728") ≡ Err Number
+unfolding is_utf8 chars encode_utf8
+line-renumber_step = refl

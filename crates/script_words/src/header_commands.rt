@@ -1,0 +1,109 @@
+// The commands on the headers of traces.
+ghost use Rattle.std.specs.Prelude.{◌≡◌, bytes_eq, is_some};
+ghost use Rattle.std.specs.Map.{lookup};
+ghost use Rattle.script_words.specs.Words.{words_of};
+ghost use Rattle.script_words.specs.Readers.{fields_of};
+ghost use Rattle.script_words.specs.HeaderCommands.{header_commands, read_table, read_find, read_header, read_extremes};
+ghost use Rattle.script_words.specs.Commands.{read_by, IsListRead, IsRead};
+
+use crate::command::Command;
+use crate::compute_command::compute;
+use crate::fields::{field, is_field};
+use crate::line_fault::LineFault;
+use crate::numbers::{number, position};
+use crate::parse::{five, one, two};
+use crate::report_commands::report;
+use crate::words::{Words, number_of_words};
+use bench_rules::{Field, Items, Query};
+use std::alloc::Global;
+
+// The command of such a word and of the words behind it, or that of a report; S01 for any other.
+pub(crate) fn of_headers(alloc: Global, word: &str, words: Words) -> Result<Command, LineFault>
+    ensures { IsRead (read_by (lookup (bytes_eq word.now) header_commands) (words_of words.entry)) result }
+{
+    match word {
+        "table" => table(alloc, words),
+        "find" => find(alloc, words),
+        "header" => header(words),
+        "extremes" => extremes(words),
+        "compute" => compute(alloc, words),
+        _ => report(word, words),
+    }
+}
+
+fn table(alloc: Global, mut words: Words) -> Result<Command, LineFault>
+    ensures { IsRead (read_table (words_of words.entry)) result }
+{
+    let a = words.next().ok_or(LineFault::Words)?;
+    let b = words.next().ok_or(LineFault::Words)?;
+    let rest = words.rest();
+    let count = number_of_words(rest, 65);
+    if count == 0 || count == 65 {
+        return Err(LineFault::Words);
+    }
+    let a = position(a).ok_or(LineFault::Number)?;
+    let b = position(b).ok_or(LineFault::Number)?;
+    let fields = fields(alloc, rest)?;
+    Ok(Command::Ask(Query::Table(a, b, fields)))
+}
+
+fn find(alloc: Global, words: Words) -> Result<Command, LineFault>
+    ensures { IsRead (read_find (words_of words.entry)) result }
+{
+    let (a, b, at, low, high) = five(words).ok_or(LineFault::Words)?;
+    let a = position(a).ok_or(LineFault::Number)?;
+    let b = position(b).ok_or(LineFault::Number)?;
+    let low = number(low).ok_or(LineFault::Number)?;
+    let high = number(high).ok_or(LineFault::Number)?;
+    let at = field(alloc, at)?;
+    Ok(Command::Ask(Query::Find(a, b, at, low, high)))
+}
+
+fn header(words: Words) -> Result<Command, LineFault>
+    ensures { result ≡ read_header (words_of words.entry) }
+{
+    let p = one(words).ok_or(LineFault::Words)?;
+    let p = position(p).ok_or(LineFault::Number)?;
+    Ok(Command::Ask(Query::Header(p)))
+}
+
+fn extremes(words: Words) -> Result<Command, LineFault>
+    ensures { result ≡ read_extremes (words_of words.entry) }
+{
+    let (a, b) = two(words).ok_or(LineFault::Words)?;
+    let a = position(a).ok_or(LineFault::Number)?;
+    let b = position(b).ok_or(LineFault::Number)?;
+    Ok(Command::Ask(Query::Extremes(a, b)))
+}
+
+// Whether each word of the text is a field.
+fn are_fields(text: &str) -> bool
+    ensures { result ≡ is_some (fields_of (words_of text.now)) }
+{
+    let mut words = Words::new(text);
+    'words: while let Some(word) = words.next() {
+        if !is_field(word) {
+            return false;
+        }
+    }
+    true
+}
+
+// The fields that the words of the text are. Takes memory. S03 where a word is no field, else E11.
+fn fields(alloc: Global, text: &str) -> Result<Items<Field>, LineFault>
+    ensures { IsListRead (fields_of (words_of text.now)) result }
+{
+    // S03 of any word comes before E11.
+    if !are_fields(text) {
+        return Err(LineFault::Number);
+    }
+    let mut fields = Vec::new(alloc);
+    let mut words = Words::new(text);
+    'words: while let Some(word) = words.next() {
+        let at = field(alloc, word)?;
+        if fields.push(at).is_err() {
+            return Err(LineFault::OutOfMemory);
+        }
+    }
+    Ok(Items::new(fields))
+}

@@ -1,0 +1,230 @@
+// A line of a script into a command.
+ghost use Rattle.std.specs.Prelude.{◌≡◌, ◌≢◌, ◌∷◌, [], length, IfSome, IfNone};
+ghost use Rattle.script_words.specs.Words.{words_of};
+ghost use Rattle.script_words.specs.declared.command.Command.TheVariants.{Ask as ask};
+ghost use Rattle.script_words.specs.Readers.{alone};
+ghost use Rattle.script_words.specs.Commands.{command_of, read_set, read_get, read_bin, read_getbin, read_text, read_line, read_lines, read_code, read_map, read_unmap, read_sample, IsRead, IsParsed};
+
+use crate::command::Command;
+use crate::fields::{field, place, text_of};
+use crate::header_commands::of_headers;
+use crate::line_fault::LineFault;
+use crate::numbers::{number, position};
+use crate::trace_commands::{blank, copy, delete, move_trace, patch, renumber, resize};
+use crate::words::Words;
+use bench_rules::{Edit, Query};
+use std::alloc::Global;
+use std::str;
+
+/// The command of one line of a script, given without its line feed and the carriage return that is
+/// dropped; `Ok(None)` where it has no words, or its first word begins with `#`.
+///
+/// Words are separated by blanks and tabs. A line that is not UTF-8 is S04, a first word that is no
+/// command S01, too few or too many words S02, and a word that has to be a number, a place, a kind
+/// of value or an operator and is none S03; the first of these that holds is told. Takes memory
+/// only where the command holds a text, a name or a list, and is E11 where that was refused.
+pub fn parse_line(alloc: Global, line: &[u8]) -> Result<Option<Command>, LineFault>
+    ensures { IsParsed line.now result }
+{
+    let Ok(text) = str::from_utf8(line) else {
+        return Err(LineFault::NotText);
+    };
+    let mut words = Words::new(text);
+    match words.next() {
+        None => Ok(None),
+        Some(word) if word.as_bytes().starts_with(b"#") => Ok(None),
+        Some(word) => Ok(Some(command(alloc, word, words)?)),
+    }
+}
+
+// The command of a word and of what stands behind it.
+fn command(alloc: Global, word: &str, words: Words) -> Result<Command, LineFault>
+    ensures { IsRead (command_of word.now words.entry) result }
+{
+    match word {
+        "set" => set(alloc, words),
+        "get" => get(alloc, words),
+        "bin" => bin(alloc, words),
+        "getbin" => getbin(alloc, words),
+        "text" => text(alloc, words),
+        "line" => line(words),
+        "lines" => lines(words),
+        "code" => code(words),
+        "stanzas" => query_alone(words, Query::Stanzas),
+        "map" => map(alloc, words),
+        "unmap" => unmap(alloc, words),
+        "fields" => query_alone(words, Query::Fields),
+        "count" => query_alone(words, Query::Count),
+        "info" => query_alone(words, Query::Info),
+        "sample" => sample(words),
+        "patch" => patch(alloc, words),
+        "blank" => blank(words),
+        "copy" => copy(words),
+        "delete" => delete(words),
+        "move" => move_trace(words),
+        "resize" => resize(words),
+        "renumber" => renumber(alloc, words),
+        _ => of_headers(alloc, word, words),
+    }
+}
+
+fn set(alloc: Global, words: Words) -> Result<Command, LineFault>
+    ensures { IsRead (read_set (words_of words.entry)) result }
+{
+    let (p, at, value) = three(words).ok_or(LineFault::Words)?;
+    let p = position(p).ok_or(LineFault::Number)?;
+    let value = number(value).ok_or(LineFault::Number)?;
+    let at = field(alloc, at)?;
+    Ok(Command::Apply(Edit::Set(p, at, value)))
+}
+
+fn get(alloc: Global, words: Words) -> Result<Command, LineFault>
+    ensures { IsRead (read_get (words_of words.entry)) result }
+{
+    let (p, at) = two(words).ok_or(LineFault::Words)?;
+    let p = position(p).ok_or(LineFault::Number)?;
+    let at = field(alloc, at)?;
+    Ok(Command::Ask(Query::Get(p, at)))
+}
+
+fn bin(alloc: Global, words: Words) -> Result<Command, LineFault>
+    ensures { IsRead (read_bin (words_of words.entry)) result }
+{
+    let (at, value) = two(words).ok_or(LineFault::Words)?;
+    let value = number(value).ok_or(LineFault::Number)?;
+    let at = field(alloc, at)?;
+    Ok(Command::Apply(Edit::SetBin(at, value)))
+}
+
+fn getbin(alloc: Global, words: Words) -> Result<Command, LineFault>
+    ensures { IsRead (read_getbin (words_of words.entry)) result }
+{
+    let at = one(words).ok_or(LineFault::Words)?;
+    let at = field(alloc, at)?;
+    Ok(Command::Ask(Query::GetBin(at)))
+}
+
+fn text(alloc: Global, mut words: Words) -> Result<Command, LineFault>
+    ensures { IsRead (read_text words.entry (words_of words.entry)) result }
+{
+    let q = words.next().ok_or(LineFault::Words)?;
+    let q = position(q).ok_or(LineFault::Number)?;
+    let text = text_of(alloc, words.text_behind())?;
+    Ok(Command::Apply(Edit::SetText(q, text)))
+}
+
+fn line(words: Words) -> Result<Command, LineFault>
+    ensures { result ≡ read_line (words_of words.entry) }
+{
+    let (b, q) = two(words).ok_or(LineFault::Words)?;
+    let b = position(b).ok_or(LineFault::Number)?;
+    let q = position(q).ok_or(LineFault::Number)?;
+    Ok(Command::Ask(Query::Line(b, q)))
+}
+
+fn lines(words: Words) -> Result<Command, LineFault>
+    ensures { result ≡ read_lines (words_of words.entry) }
+{
+    let b = one(words).ok_or(LineFault::Words)?;
+    let b = position(b).ok_or(LineFault::Number)?;
+    Ok(Command::Ask(Query::Lines(b)))
+}
+
+fn code(words: Words) -> Result<Command, LineFault>
+    ensures { result ≡ read_code (words_of words.entry) }
+{
+    let b = one(words).ok_or(LineFault::Words)?;
+    let b = position(b).ok_or(LineFault::Number)?;
+    Ok(Command::Ask(Query::Code(b)))
+}
+
+fn map(alloc: Global, words: Words) -> Result<Command, LineFault>
+    ensures { IsRead (read_map (words_of words.entry)) result }
+{
+    let (name, at) = two(words).ok_or(LineFault::Words)?;
+    let at = place(at).ok_or(LineFault::Number)?;
+    let name = text_of(alloc, name)?;
+    Ok(Command::Apply(Edit::Map(name, at)))
+}
+
+fn unmap(alloc: Global, words: Words) -> Result<Command, LineFault>
+    ensures { IsRead (read_unmap (words_of words.entry)) result }
+{
+    let name = one(words).ok_or(LineFault::Words)?;
+    let name = text_of(alloc, name)?;
+    Ok(Command::Apply(Edit::Unmap(name)))
+}
+
+fn sample(words: Words) -> Result<Command, LineFault>
+    ensures { result ≡ read_sample (words_of words.entry) }
+{
+    let (p, k) = two(words).ok_or(LineFault::Words)?;
+    let p = position(p).ok_or(LineFault::Number)?;
+    let k = position(k).ok_or(LineFault::Number)?;
+    Ok(Command::Ask(Query::Sample(p, k)))
+}
+
+// The query, where no words follow its own.
+pub(crate) fn query_alone(mut words: Words, query: Query) -> Result<Command, LineFault>
+    ensures { result ≡ alone (ask query) (words_of words.entry) }
+{
+    match words.next() {
+        Some(_) => Err(LineFault::Words),
+        None => Ok(Command::Ask(query)),
+    }
+}
+
+// The word, where there is one alone.
+pub(crate) fn one(mut words: Words) -> Option<&str>
+    ensures none { IfNone result (length (words_of words.entry) ≢ 1) }
+    ensures some { IfSome result (λ word. words_of words.entry ≡ word.now ∷ []) }
+{
+    let one = words.next()?;
+    match words.next() {
+        Some(_) => None,
+        None => Some(one),
+    }
+}
+
+// The two words, where they are two.
+pub(crate) fn two(mut words: Words) -> Option<(&str, &str)>
+    ensures none { IfNone result (length (words_of words.entry) ≢ 2) }
+    ensures some { IfSome result (λ t. words_of words.entry ≡ t.0.now ∷ t.1.now ∷ []) }
+{
+    let two = (words.next()?, words.next()?);
+    match words.next() {
+        Some(_) => None,
+        None => Some(two),
+    }
+}
+
+// The three words, where they are three.
+fn three(mut words: Words) -> Option<(&str, &str, &str)>
+    ensures none { IfNone result (length (words_of words.entry) ≢ 3) }
+    ensures some { IfSome result (λ t. words_of words.entry ≡ t.0.now ∷ t.1.now ∷ t.2.now ∷ []) }
+{
+    let three = (words.next()?, words.next()?, words.next()?);
+    match words.next() {
+        Some(_) => None,
+        None => Some(three),
+    }
+}
+
+// The five words, where they are five.
+pub(crate) fn five(mut words: Words) -> Option<(&str, &str, &str, &str, &str)>
+    ensures none { IfNone result (length (words_of words.entry) ≢ 5) }
+    ensures some { IfSome result (λ t. words_of words.entry
+        ≡ t.0.now ∷ t.1.now ∷ t.2.now ∷ t.3.now ∷ t.4.now ∷ []) }
+{
+    let five = (
+        words.next()?,
+        words.next()?,
+        words.next()?,
+        words.next()?,
+        words.next()?,
+    );
+    match words.next() {
+        Some(_) => None,
+        None => Some(five),
+    }
+}

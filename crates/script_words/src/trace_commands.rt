@@ -1,0 +1,129 @@
+// The commands on samples, on whole traces and on many traces.
+ghost use Rattle.std.specs.Prelude.{◌≡◌, is_some, if◌then◌else◌};
+ghost use Rattle.script_words.specs.declared.line_fault.LineFault.TheVariants.{OutOfMemory as no_memory, Number as no_number};
+ghost use Rattle.script_words.specs.Words.{words_of};
+ghost use Rattle.script_words.specs.Readers.{numbers_of};
+ghost use Rattle.script_words.specs.Commands.{read_patch, read_blank, read_copy, read_delete, read_move, read_resize, read_renumber, IsListRead, IsRead};
+
+use crate::command::Command;
+use crate::fields::field;
+use crate::line_fault::LineFault;
+use crate::numbers::{number, position};
+use crate::parse::{five, one, two};
+use crate::words::Words;
+use bench_rules::{Edit, Items};
+use std::alloc::Global;
+
+pub(crate) fn patch(alloc: Global, mut words: Words) -> Result<Command, LineFault>
+    ensures { IsRead (read_patch (words_of words.entry)) result }
+{
+    let p = words.next().ok_or(LineFault::Words)?;
+    let k = words.next().ok_or(LineFault::Words)?;
+    let values = words.rest();
+    if words.next().is_none() {
+        return Err(LineFault::Words);
+    }
+    let p = position(p).ok_or(LineFault::Number)?;
+    let k = position(k).ok_or(LineFault::Number)?;
+    let values = numbers(alloc, values)?;
+    Ok(Command::Apply(Edit::Patch(p, k, values)))
+}
+
+pub(crate) fn blank(words: Words) -> Result<Command, LineFault>
+    ensures { result ≡ read_blank (words_of words.entry) }
+{
+    let p = one(words).ok_or(LineFault::Words)?;
+    let p = position(p).ok_or(LineFault::Number)?;
+    Ok(Command::Apply(Edit::Blank(p)))
+}
+
+pub(crate) fn copy(words: Words) -> Result<Command, LineFault>
+    ensures { result ≡ read_copy (words_of words.entry) }
+{
+    let (q, p) = two(words).ok_or(LineFault::Words)?;
+    let q = position(q).ok_or(LineFault::Number)?;
+    let p = position(p).ok_or(LineFault::Number)?;
+    Ok(Command::Apply(Edit::Copy(q, p)))
+}
+
+pub(crate) fn delete(words: Words) -> Result<Command, LineFault>
+    ensures { result ≡ read_delete (words_of words.entry) }
+{
+    let p = one(words).ok_or(LineFault::Words)?;
+    let p = position(p).ok_or(LineFault::Number)?;
+    Ok(Command::Apply(Edit::Delete(p)))
+}
+
+pub(crate) fn move_trace(words: Words) -> Result<Command, LineFault>
+    ensures { result ≡ read_move (words_of words.entry) }
+{
+    let (a, b) = two(words).ok_or(LineFault::Words)?;
+    let a = position(a).ok_or(LineFault::Number)?;
+    let b = position(b).ok_or(LineFault::Number)?;
+    Ok(Command::Apply(Edit::Move(a, b)))
+}
+
+pub(crate) fn resize(words: Words) -> Result<Command, LineFault>
+    ensures { result ≡ read_resize (words_of words.entry) }
+{
+    let (p, count) = two(words).ok_or(LineFault::Words)?;
+    let p = position(p).ok_or(LineFault::Number)?;
+    let count = number(count).ok_or(LineFault::Number)?;
+    Ok(Command::Apply(Edit::Resize(p, count)))
+}
+
+pub(crate) fn renumber(alloc: Global, words: Words) -> Result<Command, LineFault>
+    ensures { IsRead (read_renumber (words_of words.entry)) result }
+{
+    let (a, b, at, first, step) = five(words).ok_or(LineFault::Words)?;
+    let a = position(a).ok_or(LineFault::Number)?;
+    let b = position(b).ok_or(LineFault::Number)?;
+    let first = number(first).ok_or(LineFault::Number)?;
+    let step = number(step).ok_or(LineFault::Number)?;
+    let at = field(alloc, at)?;
+    Ok(Command::Apply(Edit::Renumber(a, b, at, first, step)))
+}
+
+// Whether each word of the text is a number.
+fn are_numbers(text: &str) -> bool
+    ensures { result ≡ is_some (numbers_of (words_of text.now)) }
+{
+    let mut words = Words::new(text);
+    'words: while let Some(word) = words.next() {
+        if number(word).is_none() {
+            return false;
+        }
+    }
+    true
+}
+
+// What is told where memory ran out in front of this rest: S03 comes before E11.
+fn fault_without_memory(rest: &str) -> LineFault
+    ensures { result ≡ if is_some (numbers_of (words_of rest.now)) then no_memory else no_number }
+{
+    if are_numbers(rest) {
+        LineFault::OutOfMemory
+    } else {
+        LineFault::Number
+    }
+}
+
+// The numbers that the words of the text are. Takes memory. S03 where a word is no number, else
+// E11.
+fn numbers(alloc: Global, text: &str) -> Result<Items<i128>, LineFault>
+    ensures { IsListRead (numbers_of (words_of text.now)) result }
+{
+    let mut values = Vec::new(alloc);
+    let mut words = Words::new(text);
+    'words: while let Some(word) = words.next() {
+        match number(word) {
+            Some(value) => {
+                if values.push(value).is_err() {
+                    return Err(fault_without_memory(words.rest()));
+                }
+            }
+            None => return Err(LineFault::Number),
+        }
+    }
+    Ok(Items::new(values))
+}

@@ -14,15 +14,16 @@ use Rattle.edit_overlay.specs.declared.store.TraceStore.{TraceStore}
 use Rattle.edit_overlay.specs.Ahead.{traces_ahead, traces_then, traces_with, AreRunsFrom, AreRunsOf, IsReady, IsReadyIfSome}
 use Rattle.edit_overlay.specs.Each.{part_of, ArePutEach, ArePutRuns}
 use Rattle.edit_overlay.specs.Slots.{base_under, bytes_under}
-use Rattle.edit_overlay.specs.Stores.{bases_of, traces_of}
+use Rattle.edit_overlay.specs.Stores.{bases_of, payloads_of, traces_of}
 use Rattle.edit_overlay.proofs.EachLemmas.{laid-next, so_far_all, so_far_more, ArePutSoFar}
 use Rattle.edit_overlay.proofs.LengthLemmas.{total, total-set}
 use Rattle.edit_overlay.proofs.MoveLemmas.{length-moved, total-moved, AreTraces}
 use Rattle.edit_overlay.proofs.PieceLemmas.{length-splice}
 
 -- each trace has its base
-pub length-bases : (s : TraceStore) → length (bases_of s) ≡ length (traces_of s)
-length-bases s = length-map s.order.ids (base_under s.loaded.items s.slots) ∙ sym (length-map s.order.ids (bytes_under s.loaded.items s.slots))
+module _ {T : Type 0} where
+  pub length-bases : (s : TraceStore T) → length (bases_of s) ≡ length (traces_of s)
+  length-bases s = length-map s.order.ids (base_under s.loaded.items s.slots) ∙ sym (length-map s.order.ids (bytes_under s.loaded.items s.slots))
 
 -- ---- the traces, one by one
 
@@ -30,10 +31,11 @@ pub length-with : (bases ts : List (List ℕ)) (place : ℕ) (lists : List (Vec 
 length-with bases ts place [] = refl
 length-with bases ts place (runs ∷ lists) = length-with bases (slice_set ts place (bytes_with_runs (slice_index_or bases place []) runs.items)) (place + 1) lists ∙ length-set ts place (bytes_with_runs (slice_index_or bases place []) runs.items)
 
-pub length-ahead : (s : TraceStore) (prepared : Option Prepared) → IsReadyIfSome s prepared → length (traces_ahead s prepared) ≡ length (traces_of s)
-length-ahead s None ready = refl
-length-ahead s (Some (Runs runs)) ready = length-with (bases_of s) (traces_of s) runs.place runs.lists.items
-length-ahead s (Some (Move m)) ready = length-moved (traces_of s) m.from m.to (record { from_first = ready.fit.from_first; from_last = ready.fit.from_last; to_first = ready.fit.to_first; to_last = ready.fit.to_last })
+module _ {T : Type 0} where
+  pub length-ahead : (s : TraceStore T) (prepared : Option Prepared) → IsReadyIfSome s prepared → length (traces_ahead s prepared) ≡ length (traces_of s)
+  length-ahead s None ready = refl
+  length-ahead s (Some (Runs runs)) ready = length-with (bases_of s) (traces_of s) runs.place runs.lists.items
+  length-ahead s (Some (Move m)) ready = length-moved (traces_of s) m.from m.to (record { from_first = ready.fit.from_first; from_last = ready.fit.from_last; to_first = ready.fit.to_first; to_last = ready.fit.to_last })
 
 pub in_front : (bases ts : List (List ℕ)) (place j : ℕ) (lists : List (Vec Run Global)) → j < place → slice_index_or (traces_with bases ts place lists) j [] ≡ slice_index_or ts j []
 in_front bases ts place j [] h = refl
@@ -73,18 +75,19 @@ with-at h bases ts place j (suc k) (first ∷ lists) runs all same within is e =
 
 -- ---- runs for one trace
 
-pub ready_one : (s : TraceStore) (place at : ℕ) (bytes : List ℕ) (lists : Vec (Vec Run Global) Global) (runs : Vec Run Global) → lists.items ≡ runs ∷ [] → place < length (traces_of s)
-    → at + length bytes ≤ length (slice_index_or (traces_of s) place []) → IsTrace s.head (splice (slice_index_or (traces_of s) place []) at (length bytes) bytes)
-    → ArePutRuns (slice_index_or (bases_of s) place []) (slice_index_or (traces_of s) place []) at bytes runs.items → IsReady s (Runs (record { place = place; lists = lists }))
-ready_one s place at bytes lists runs is there inside whole put =
-    let ts : List (List ℕ) = traces_of s in
-    let t : List ℕ = slice_index_or ts place [] in
-    let one : AreRunsOf s.head (bases_of s) place runs.items = record { there = omega (arith, there, length-bases s); fit = put.fit; whole = rw put.shows whole } in
-    let then_is : traces_with (bases_of s) ts place lists.items ≡ slice_set ts place (splice t at (length bytes) bytes) = rw is (ap (λ (x : List ℕ). slice_set ts place x) put.shows) in
-    record {
-      fit = subst (λ (xs : List (Vec Run Global)). AreRunsFrom s.head (bases_of s) place xs) (sym is) (one, tt);
-      length = omega (arith, ap total then_is, total-set ts place (splice t at (length bytes) bytes) there, length-splice t at bytes inside);
-    }
+module _ {T : Type 0} where
+  pub ready_one : (s : TraceStore T) (place at : ℕ) (bytes : List ℕ) (lists : Vec (Vec Run Global) Global) (runs : Vec Run Global) → lists.items ≡ runs ∷ [] → place < length (traces_of s)
+      → at + length bytes ≤ length (slice_index_or (traces_of s) place []) → IsTrace s.head (splice (slice_index_or (traces_of s) place []) at (length bytes) bytes)
+      → ArePutRuns (slice_index_or (bases_of s) place []) (slice_index_or (traces_of s) place []) at bytes runs.items → IsReady s (Runs (record { place = place; lists = lists }))
+  ready_one s place at bytes lists runs is there inside whole put =
+      let ts : List (List ℕ) = traces_of s in
+      let t : List ℕ = slice_index_or ts place [] in
+      let one : AreRunsOf s.head (bases_of s) place runs.items = record { there = omega (arith, there, length-bases s); fit = put.fit; whole = rw put.shows whole } in
+      let then_is : traces_with (bases_of s) ts place lists.items ≡ slice_set ts place (splice t at (length bytes) bytes) = rw is (ap (λ (x : List ℕ). slice_set ts place x) put.shows) in
+      record {
+        fit = subst (λ (xs : List (Vec Run Global)). AreRunsFrom s.head (bases_of s) place xs) (sym is) (one, tt);
+        length = omega (arith, ap total then_is, total-set ts place (splice t at (length bytes) bytes) there, length-splice t at bytes inside);
+      }
 
 -- ---- runs for traces that follow one another
 
@@ -122,7 +125,7 @@ none_yet old place at size bytes =
       left = ap (λ (n : ℕ). put_each_at old (place + 0) at size (drop n bytes)) none ∙ ap (λ (q : ℕ). put_each_at old q at size bytes) here;
     }
 
-module _ (s : TraceStore) (place at size : ℕ) (bytes : List ℕ) (lists : Vec (Vec Run Global) Global) (some : 0 < size) (count : length lists.items ≡ length bytes / size) (room : place + length bytes / size ≤ length (traces_of s))
+module _ {T : Type 0} (s : TraceStore T) (place at size : ℕ) (bytes : List ℕ) (lists : Vec (Vec Run Global) Global) (some : 0 < size) (count : length lists.items ≡ length bytes / size) (room : place + length bytes / size ≤ length (traces_of s))
     (puts : ArePutEach (bases_of s) (traces_of s) place at size bytes 0 lists.items) where
   pub then_each : length bytes % size ≡ 0 → traces_then s (Runs (record { place = place; lists = lists })) ≡ put_each_at (traces_of s) place at size bytes
   then_each exact =
@@ -141,41 +144,46 @@ module _ (s : TraceStore) (place at size : ℕ) (bytes : List ℕ) (lists : Vec 
 
 -- ---- a move
 
-pub ready_move : (s : TraceStore) (a b : ℕ) → AreTraces (traces_of s) a b → 1 ≤ s.order.spare → IsReady s (Move (record { from = a; to = b }))
-ready_move s a b there room = record {
-  fit = record { from_first = there.from_first; from_last = there.from_last; to_first = there.to_first; to_last = there.to_last; room = room };
-  length = total-moved (traces_of s) a b there;
-}
+module _ {T : Type 0} where
+  pub ready_move : (s : TraceStore T) (a b : ℕ) → AreTraces (traces_of s) a b → 1 ≤ s.order.spare → IsReady s (Move (record { from = a; to = b }))
+  ready_move s a b there room = record {
+    fit = record { from_first = there.from_first; from_last = there.from_last; to_first = there.to_first; to_last = there.to_last; room = room };
+    length = total-moved (traces_of s) a b there;
+  }
 
 -- ---- the same traces in another store
 
 -- a store has the same traces over the same bases, and no less room in its order
-pub record IsSame (s t : TraceStore) : Type 0 where
-  pub head : t.head ≡ s.head
-  pub bases : bases_of t ≡ bases_of s
-  pub traces : traces_of t ≡ traces_of s
-  pub room : s.order.spare ≤ t.order.spare
+module _ {T : Type 0} where
+  pub record IsSame (s t : TraceStore T) : Type 0 where
+    pub head : t.head ≡ s.head
+    pub bases : bases_of t ≡ bases_of s
+    pub traces : traces_of t ≡ traces_of s
+    pub payloads : payloads_of t ≡ payloads_of s
+    pub room : s.order.spare ≤ t.order.spare
 
-pub ahead_kept : (s t : TraceStore) (prepared : Option Prepared) → IsSame s t → traces_ahead t prepared ≡ traces_ahead s prepared
-ahead_kept s t None same = same.traces
-ahead_kept s t (Some (Runs runs)) same = rw (same.bases, same.traces) refl
-ahead_kept s t (Some (Move m)) same = rw same.traces refl
+module _ {T : Type 0} where
+  pub ahead_kept : (s t : TraceStore T) (prepared : Option Prepared) → IsSame s t → traces_ahead t prepared ≡ traces_ahead s prepared
+  ahead_kept s t None same = same.traces
+  ahead_kept s t (Some (Runs runs)) same = rw (same.bases, same.traces) refl
+  ahead_kept s t (Some (Move m)) same = rw same.traces refl
 
-pub ready_kept : (s t : TraceStore) (prepared : Option Prepared) → IsSame s t → IsReadyIfSome s prepared → IsReadyIfSome t prepared
-ready_kept s t None same ready = tt
-ready_kept s t (Some (Runs runs)) same ready = record {
-  fit = rw (same.head, same.bases) ready.fit;
-  length = rw (same.bases, same.traces) ready.length;
-}
-ready_kept s t (Some (Move m)) same ready =
-    let count : length (traces_of t) ≡ length (traces_of s) = ap (λ (ts : List (List ℕ)). length ts) same.traces in
-    record {
-      fit = record {
-        from_first = ready.fit.from_first;
-        from_last = omega (arith, ready.fit.from_last, count);
-        to_first = ready.fit.to_first;
-        to_last = omega (arith, ready.fit.to_last, count);
-        room = omega (arith, ready.fit.room, same.room);
-      };
-      length = rw same.traces ready.length;
-    }
+module _ {T : Type 0} where
+  pub ready_kept : (s t : TraceStore T) (prepared : Option Prepared) → IsSame s t → IsReadyIfSome s prepared → IsReadyIfSome t prepared
+  ready_kept s t None same ready = tt
+  ready_kept s t (Some (Runs runs)) same ready = record {
+    fit = rw (same.head, same.bases) ready.fit;
+    length = rw (same.bases, same.traces) ready.length;
+  }
+  ready_kept s t (Some (Move m)) same ready =
+      let count : length (traces_of t) ≡ length (traces_of s) = ap (λ (ts : List (List ℕ)). length ts) same.traces in
+      record {
+        fit = record {
+          from_first = ready.fit.from_first;
+          from_last = omega (arith, ready.fit.from_last, count);
+          to_first = ready.fit.to_first;
+          to_last = omega (arith, ready.fit.to_last, count);
+          room = omega (arith, ready.fit.room, same.room);
+        };
+        length = rw same.traces ready.length;
+      }

@@ -16,15 +16,16 @@ both_ok P Q R (Ok x) p q f = f x p q
 both_ok P Q R (Err e) p q f = tt
 
 -- runs that were made over the base of a slot
-pub put-runs : (loaded l : List ℕ) (slot : Slot) (base trace : List ℕ) (at : ℕ) (bytes : List ℕ) (runs : List Run) → l ≡ loaded → base ≡ base_of loaded slot.base → trace ≡ bytes_in loaded slot
-    → Fit runs (length (base_of l slot.base)) → bytes_with_runs (base_of l slot.base) runs ≡ splice (bytes_in l slot) at (length bytes) bytes → ArePutRuns base trace at bytes runs
-put-runs loaded l slot base trace at bytes runs e b t fit shows =
-    let from : base_of l slot.base ≡ base = ap (λ (xs : List ℕ). base_of xs slot.base) e ∙ sym b in
-    let whole : bytes_in l slot ≡ trace = ap (λ (xs : List ℕ). bytes_in xs slot) e ∙ sym t in
-    record {
-      fit = subst (λ (xs : List ℕ). Fit runs (length xs)) from fit;
-      shows = ap (λ (xs : List ℕ). bytes_with_runs xs runs) (sym from) ∙ (shows ∙ ap (λ (xs : List ℕ). splice xs at (length bytes) bytes) whole);
-    }
+module _ {T : Type 0} where
+  pub put-runs : (loaded l : List ℕ) (slot : Slot T) (base trace : List ℕ) (at : ℕ) (bytes : List ℕ) (runs : List Run) → l ≡ loaded → base ≡ base_of loaded slot.base → trace ≡ bytes_in loaded slot
+      → Fit runs (length (base_of l slot.base)) → bytes_with_runs (base_of l slot.base) runs ≡ splice (bytes_in l slot) at (length bytes) bytes → ArePutRuns base trace at bytes runs
+  put-runs loaded l slot base trace at bytes runs e b t fit shows =
+      let from : base_of l slot.base ≡ base = ap (λ (xs : List ℕ). base_of xs slot.base) e ∙ sym b in
+      let whole : bytes_in l slot ≡ trace = ap (λ (xs : List ℕ). bytes_in xs slot) e ∙ sym t in
+      record {
+        fit = subst (λ (xs : List ℕ). Fit runs (length xs)) from fit;
+        shows = ap (λ (xs : List ℕ). bytes_with_runs xs runs) (sym from) ∙ (shows ∙ ap (λ (xs : List ℕ). splice xs at (length bytes) bytes) whole);
+      }
 
 -- ---- the runs of one trace after the other
 

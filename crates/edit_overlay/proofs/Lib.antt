@@ -6,6 +6,7 @@ pub mod LengthLemmas
 pub mod MoveLemmas
 pub mod OrderLemmas
 pub mod PassLemmas
+pub mod PayloadLemmas
 pub mod PieceLemmas
 pub mod SavingLemmas
 pub mod SlotLemmas

@@ -114,11 +114,12 @@ after_flush {T = T} r old mid new from loaded w written bytes e f g start all h 
     go (Err fault) is = rw is at (g start all come)
 
 -- the bytes of a loaded trace without runs are a range of the loaded file
-pub plain_bytes : (loaded : List ℕ) (slot : Slot) (extent : Extent) → slot.base ≡ Loaded extent → slot.runs.len ≡ length slot.runs.items → true ≡ nat_eq slot.runs.len 0 → slice_range loaded extent.start (extent.start + extent.length) ≡ bytes_in loaded slot
-plain_bytes loaded slot extent is len none =
-    let no_runs : slot.runs.items ≡ [] = nil_from_length slot.runs.items (sym len ∙ eqb-true slot.runs.len 0 (sym none)) in
-    let n : extent.start + extent.length - extent.start ≡ extent.length = omega arith in
-    rw (is, no_runs, n) refl
+module _ {T : Type 0} where
+  pub plain_bytes : (loaded : List ℕ) (slot : Slot T) (extent : Extent) → slot.base ≡ Loaded extent → slot.runs.len ≡ length slot.runs.items → true ≡ nat_eq slot.runs.len 0 → slice_range loaded extent.start (extent.start + extent.length) ≡ bytes_in loaded slot
+  plain_bytes loaded slot extent is len none =
+      let no_runs : slot.runs.items ≡ [] = nil_from_length slot.runs.items (sym len ∙ eqb-true slot.runs.len 0 (sym none)) in
+      let n : extent.start + extent.length - extent.start ≡ extent.length = omega arith in
+      rw (is, no_runs, n) refl
 
 -- ---- how many bytes that are
 
@@ -134,20 +135,20 @@ length-waits loaded w l = omega (arith, w.in_order, l, length-take (w.to - w.fro
 
 -- ---- the traces of an order
 
-module _ (s : TraceStore) (passed : List ℕ) (id : ℕ) (rest : List ℕ) (ids : passed ++ id ∷ rest ≡ s.order.ids) where
+module _ {T : Type 0} (s : TraceStore T) (passed : List ℕ) (id : ℕ) (rest : List ℕ) (ids : passed ++ id ∷ rest ≡ s.order.ids) where
   -- an id of the order has a slot
-  pub slot_here : (slot : Slot) → get s.slots id ≡ Some slot → IsSlot s.loaded.items s.head slot
+  pub slot_here : (slot : Slot T) → get s.slots id ≡ Some slot → IsSlot s.loaded.items s.head slot
   slot_here slot e =
       let held : 0 < times id s.order.ids = omega (arith, ap (λ (xs : List ℕ). times id xs) ids, times-append id passed (id ∷ rest), times-self id rest) in
-      subst (λ (o : Option Slot). IsSomeAnd o (IsSlot s.loaded.items s.head)) e (s.sound.held id held)
+      subst (λ (o : Option (Slot T)). IsSomeAnd o (IsSlot s.loaded.items s.head)) e (s.sound.held id held)
 
   pub no_slot : get s.slots id ≡ None → ⊥
   no_slot e =
       let held : 0 < times id s.order.ids = omega (arith, ap (λ (xs : List ℕ). times id xs) ids, times-append id passed (id ∷ rest), times-self id rest) in
-      subst (λ (o : Option Slot). IsSomeAnd o (IsSlot s.loaded.items s.head)) e (s.sound.held id held)
+      subst (λ (o : Option (Slot T)). IsSomeAnd o (IsSlot s.loaded.items s.head)) e (s.sound.held id held)
 
   -- its trace stands between those in front and those behind
-  pub traces_here : (slot : Slot) → get s.slots id ≡ Some slot
+  pub traces_here : (slot : Slot T) → get s.slots id ≡ Some slot
       → (concat (map (bytes_under s.loaded.items s.slots) passed) ++ bytes_in s.loaded.items slot) ++ concat (map (bytes_under s.loaded.items s.slots) rest) ≡ concat (traces_of s)
   traces_here slot e =
       let f : ℕ → List ℕ = bytes_under s.loaded.items s.slots in
@@ -158,7 +159,7 @@ module _ (s : TraceStore) (passed : List ℕ) (id : ℕ) (rest : List ℕ) (ids 
       ∙ ap (λ (ts : List (List ℕ)). concat ts) (sym (map-append f passed (id ∷ rest)) ∙ ap (λ (xs : List ℕ). map f xs) ids)
 
   -- and those in front, with it
-  pub traces_passed : (slot : Slot) → get s.slots id ≡ Some slot → concat (map (bytes_under s.loaded.items s.slots) passed) ++ bytes_in s.loaded.items slot ≡ concat (map (bytes_under s.loaded.items s.slots) (passed ++ id ∷ []))
+  pub traces_passed : (slot : Slot T) → get s.slots id ≡ Some slot → concat (map (bytes_under s.loaded.items s.slots) passed) ++ bytes_in s.loaded.items slot ≡ concat (map (bytes_under s.loaded.items s.slots) (passed ++ id ∷ []))
   traces_passed slot e =
       let f : ℕ → List ℕ = bytes_under s.loaded.items s.slots in
       let here : bytes_in s.loaded.items slot ≡ f id ++ [] = rw (e, append-nil (bytes_in s.loaded.items slot)) refl in
@@ -208,14 +209,15 @@ waits_first old loaded w start all come = record {
 }
 
 -- the parts of a save are the bytes of the volume
-pub parts_joined : (text bin : List ℕ) (s : TraceStore) → HasEnds s
-    → (((text ++ bin) ++ slice_range s.loaded.items 3600 s.head.traces_at) ++ concat (traces_of s)) ++ slice_range s.loaded.items (length s.loaded.items - 3200 * s.head.trailer) (length s.loaded.items) ≡ bytes_of (volume_with text bin s)
-parts_joined text bin s ends =
-    let file : List ℕ = s.loaded.items in
-    let tail : ℕ = length file - 3200 * s.head.trailer in
-    let front : s.head.traces_at - 3600 ≡ 3200 * s.head.blocks = omega (arith, ends.front) in
-    let back : length file - tail ≡ 3200 * s.head.trailer = omega (arith, ends.whole) in
-    rw (front, back, ← concat-blocks_of s.head.blocks (drop 3600 file), ← concat-blocks_of s.head.trailer (drop tail file)) refl
+module _ {T : Type 0} where
+  pub parts_joined : (text bin : List ℕ) (s : TraceStore T) → HasEnds s
+      → (((text ++ bin) ++ slice_range s.loaded.items 3600 s.head.traces_at) ++ concat (traces_of s)) ++ slice_range s.loaded.items (length s.loaded.items - 3200 * s.head.trailer) (length s.loaded.items) ≡ bytes_of (volume_with text bin s)
+  parts_joined text bin s ends =
+      let file : List ℕ = s.loaded.items in
+      let tail : ℕ = length file - 3200 * s.head.trailer in
+      let front : s.head.traces_at - 3600 ≡ 3200 * s.head.blocks = omega (arith, ends.front) in
+      let back : length file - tail ≡ 3200 * s.head.trailer = omega (arith, ends.whole) in
+      rw (front, back, ← concat-blocks_of s.head.blocks (drop 3600 file), ← concat-blocks_of s.head.trailer (drop tail file)) refl
 
 pub on_ok : {T E A B : Type 0} (r : Result T E) → (A → B) → OnOk r A → OnOk r B
 on_ok (Ok x) f a = f a

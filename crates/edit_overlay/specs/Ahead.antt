@@ -34,7 +34,7 @@ abbrev pub traces_moved : List (List ℕ) → ℕ → ℕ → List (List ℕ)
 traces_moved traces a b = insert (remove traces (a - 1)) (b - 1) (slice_index_or traces (a - 1) [])
 
 -- the store has both traces of the move, and its order has room for it
-pub record MayMove (s : TraceStore) (m : TraceMove) : Type 0 where
+pub record MayMove {T : Type 0} (s : TraceStore T) (m : TraceMove) : Type 0 where
   pub from_first : 1 ≤ m.from
   pub from_last : m.from ≤ length (traces_of s)
   pub to_first : 1 ≤ m.to
@@ -42,26 +42,26 @@ pub record MayMove (s : TraceStore) (m : TraceMove) : Type 0 where
   pub room : 1 ≤ s.order.spare
 
 -- the traces of the store as they would be
-abbrev pub traces_then : TraceStore → Prepared → List (List ℕ)
+abbrev pub traces_then : {T : Type 0} → TraceStore T → Prepared → List (List ℕ)
 traces_then s (Runs runs) = traces_with (bases_of s) (traces_of s) runs.place runs.lists.items
 traces_then s (Move m) = traces_moved (traces_of s) m.from m.to
 
 -- what is prepared fits the store
-abbrev pub IsFit : TraceStore → Prepared → Type 0
+abbrev pub IsFit : {T : Type 0} → TraceStore T → Prepared → Type 0
 IsFit s (Runs runs) = AreRunsFrom s.head (bases_of s) runs.place runs.lists.items
 IsFit s (Move m) = MayMove s m
 
 -- what is prepared fits the store, and all its traces together stay as long as they are
-pub record IsReady (s : TraceStore) (prepared : Prepared) : Type 0 where
+pub record IsReady {T : Type 0} (s : TraceStore T) (prepared : Prepared) : Type 0 where
   pub fit : IsFit s prepared
   pub length : length (concat (traces_then s prepared)) ≡ length (concat (traces_of s))
 
 -- the traces of the store as they would be, where something may be prepared or nothing
-abbrev pub traces_ahead : TraceStore → Option Prepared → List (List ℕ)
+abbrev pub traces_ahead : {T : Type 0} → TraceStore T → Option Prepared → List (List ℕ)
 traces_ahead s None = traces_of s
 traces_ahead s (Some prepared) = traces_then s prepared
 
 -- what is prepared, if anything, fits the traces of the store
-abbrev pub IsReadyIfSome : TraceStore → Option Prepared → Type 0
+abbrev pub IsReadyIfSome : {T : Type 0} → TraceStore T → Option Prepared → Type 0
 IsReadyIfSome s None = Unit {0}
 IsReadyIfSome s (Some prepared) = IsReady s prepared

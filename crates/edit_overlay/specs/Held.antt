@@ -7,12 +7,12 @@ use Rattle.frame_cut.specs.Volume.{Volume, bytes_of}
 use Rattle.edit_overlay.specs.Ahead.{traces_ahead, IsReadyIfSome}
 use Rattle.edit_overlay.specs.CountedVolume.{CountedVolume}
 use Rattle.edit_overlay.specs.declared.prepared.Prepared.{Prepared}
-use Rattle.edit_overlay.specs.Stores.{traces_of}
+use Rattle.edit_overlay.specs.Stores.{payloads_ahead, payloads_of, traces_of}
 use Rattle.edit_overlay.specs.declared.store.TraceStore.{TraceStore}
 use Rattle.edit_overlay.specs.declared.overlay.Overlay.TheInside.{Inside}
 
 -- the volume with these headers and the traces of the store
-abbrev pub volume_with : List ℕ → List ℕ → TraceStore → Volume
+abbrev pub volume_with : {T : Type 0} → List ℕ → List ℕ → TraceStore T → Volume
 volume_with text bin s = record {
   head = s.head;
   text = text;
@@ -23,24 +23,26 @@ volume_with text bin s = record {
 }
 
 -- the same as it would be with the edit that is prepared
-abbrev pub volume_ahead : List ℕ → List ℕ → TraceStore → Option Prepared → Volume
+abbrev pub volume_ahead : {T : Type 0} → List ℕ → List ℕ → TraceStore T → Option Prepared → Volume
 volume_ahead text bin s prepared = record (volume_with text bin s) { traces = traces_ahead s prepared }
 
 -- what an overlay shows
-abbrev pub looked_of : Inside → CountedVolume
+abbrev pub looked_of : {T : Type 0} → Inside T → CountedVolume T
 looked_of o = record {
   volume = volume_with o.text o.bin o.store;
   prepared = volume_ahead o.text o.bin o.store o.prepared;
   looks = o.looks;
+  payloads = payloads_of o.store;
+  payloads_prepared = payloads_ahead (payloads_of o.store) o.prepared;
 }
 
 -- the loaded file has the blocks in front of its traces, and the data trailer records behind them
-pub record HasEnds (s : TraceStore) : Type 0 where
+pub record HasEnds {T : Type 0} (s : TraceStore T) : Type 0 where
   pub front : s.head.traces_at ≡ FILE_HEADER_BYTES + TEXT_BLOCK_BYTES * s.head.blocks
   pub whole : s.head.traces_at + TEXT_BLOCK_BYTES * s.head.trailer ≤ length s.loaded.items
 
 -- what holds of an overlay between two calls
-pub record IsHeld (o : Inside) : Type 0 where
+pub record IsHeld {T : Type 0} (o : Inside T) : Type 0 where
   pub ends : HasEnds o.store
   pub text : length o.text ≡ TEXT_BLOCK_BYTES
   pub bin : length o.bin ≡ BINARY_HEADER_BYTES

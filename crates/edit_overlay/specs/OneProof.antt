@@ -21,7 +21,7 @@ IsTrace-prop h t = λ a b i. record {
   exact = Coded-set (coded_option coded_ℕ) _ _ a.exact b.exact i;
 }
 
-IsSlot-prop : (loaded : List ℕ) (h : Head) (slot : Slot) → IsProp (IsSlot loaded h slot)
+IsSlot-prop : {T : Type 0} (loaded : List ℕ) (h : Head) (slot : Slot T) → IsProp (IsSlot loaded h slot)
 IsSlot-prop loaded h slot = λ a b i. record {
   inside = IsInside-prop loaded slot.base a.inside b.inside i;
   fit = FitFrom-prop 0 slot.runs.items (length (base_of loaded slot.base)) a.fit b.fit i;
@@ -32,7 +32,7 @@ IsSomeAnd-prop : {A : Type 0} (P : A → Type 0) (o : Option A) → ((x : A) →
 IsSomeAnd-prop P None each = ⊥_prop
 IsSomeAnd-prop P (Some x) each = each x
 
-pub IsStore-prop : (loaded : List ℕ) (h : Head) (ids : List ℕ) (slots : Slab Slot) → IsProp (IsStore loaded h ids slots)
+pub IsStore-prop : {T : Type 0} (loaded : List ℕ) (h : Head) (ids : List ℕ) (slots : Slab (Slot T)) → IsProp (IsStore loaded h ids slots)
 IsStore-prop loaded h ids slots = λ a b i. record {
   held = Π_prop (λ id. Π_prop (λ _. IsSomeAnd-prop (IsSlot loaded h) (get slots id) (IsSlot-prop loaded h))) a.held b.held i;
   distinct = Π_prop (λ _. le_prop) a.distinct b.distinct i;

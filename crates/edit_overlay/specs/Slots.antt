@@ -22,34 +22,34 @@ IsInside loaded (Loaded extent) = extent.start + extent.length ≤ length loaded
 IsInside loaded (Added bytes) = Unit {0}
 
 -- the bytes of a slot's trace
-abbrev pub bytes_in : List ℕ → Slot → List ℕ
+abbrev pub bytes_in : {T : Type 0} → List ℕ → Slot T → List ℕ
 bytes_in loaded slot = bytes_with_runs (base_of loaded slot.base) slot.runs.items
 
 -- the slot holds a whole trace
-pub record IsSlot (loaded : List ℕ) (h : Head) (slot : Slot) : Type 0 where
+pub record IsSlot {T : Type 0} (loaded : List ℕ) (h : Head) (slot : Slot T) : Type 0 where
   pub inside : IsInside loaded slot.base
   pub fit : Fit slot.runs.items (length (base_of loaded slot.base))
   pub whole : IsTrace h (bytes_in loaded slot)
 
 -- the bytes of the trace under an id
-abbrev pub bytes_under : List ℕ → Slab Slot → ℕ → List ℕ
+abbrev pub bytes_under : {T : Type 0} → List ℕ → Slab (Slot T) → ℕ → List ℕ
 bytes_under loaded slots id = option_map_or (bytes_in loaded) (get slots id) []
 
 -- the bytes under the runs of the trace under an id
-abbrev pub base_under : List ℕ → Slab Slot → ℕ → List ℕ
+abbrev pub base_under : {T : Type 0} → List ℕ → Slab (Slot T) → ℕ → List ℕ
 base_under loaded slots id = option_map_or (λ slot. base_of loaded slot.base) (get slots id) []
 
 -- the id has a slot with a whole trace
-abbrev pub IsHeldUnder : List ℕ → Head → Slab Slot → ℕ → Type 0
+abbrev pub IsHeldUnder : {T : Type 0} → List ℕ → Head → Slab (Slot T) → ℕ → Type 0
 IsHeldUnder loaded h slots id = IsSomeAnd (get slots id) (IsSlot loaded h)
 
 -- each of these ids has a slot with a whole trace
-abbrev pub AreHeld : List ℕ → Head → List ℕ → Slab Slot → Type 0
+abbrev pub AreHeld : {T : Type 0} → List ℕ → Head → List ℕ → Slab (Slot T) → Type 0
 AreHeld loaded h ids slots = (id : ℕ) → 0 < times id ids → IsHeldUnder loaded h slots id
 
 -- each of the ids has a slot with a whole trace, no id stands twice, there is no slot but theirs, and they can be
 -- counted in 32 bits
-pub record IsStore (loaded : List ℕ) (h : Head) (ids : List ℕ) (slots : Slab Slot) : Type 0 where
+pub record IsStore {T : Type 0} (loaded : List ℕ) (h : Head) (ids : List ℕ) (slots : Slab (Slot T)) : Type 0 where
   pub held : AreHeld loaded h ids slots
   pub distinct : AreDistinct ids
   pub no_more : slab_len slots ≡ length ids

@@ -33,7 +33,7 @@ impl<'a> Ahead<'a> {
 
     // The pass shows one trace more.
     #[inline(always)]
-    pub fn step(&mut self, store: &TraceStore) {
+    pub fn step<T: Copy>(&mut self, store: &TraceStore<T>) {
         if self.left == 0 {
             self.read(store);
             self.left = AHEAD;
@@ -43,7 +43,7 @@ impl<'a> Ahead<'a> {
 
     // Reads the byte of each of the next traces.
     #[inline(never)]
-    fn read(&mut self, store: &TraceStore) {
+    fn read<T: Copy>(&mut self, store: &TraceStore<T>) {
         let mut places = [NOWHERE; AHEAD];
         for k in 0..AHEAD {
             if let Some(id) = self.ids.next() {
@@ -55,7 +55,7 @@ impl<'a> Ahead<'a> {
 }
 
 // Where byte `at` of the trace under an id lies among the loaded ones.
-fn place_of(store: &TraceStore, id: usize, at: u64) -> usize {
+fn place_of<T: Copy>(store: &TraceStore<T>, id: usize, at: u64) -> usize {
     match store.slots.get(id) {
         Some(slot) => slot.loaded_place(at).unwrap_or(NOWHERE),
         None => NOWHERE,

@@ -1,4 +1,4 @@
-ghost use Rattle.std.specs.Prelude.{ℕ, ◌≡◌, ◌⊎◌, ◌↔◌, ◌+◌, ◌-◌, ◌/◌, ◌%◌, ◌≤◌, ◌<◌, ◌^◌, [], length, slice_index_or, option_map, IfOk, IfErr, IfSome, IsSome, IsTrue, OnOk, OnErr, MatchResult};
+ghost use Rattle.std.specs.Prelude.{ℕ, ◌≡◌, ◌⊎◌, ◌↔◌, ◌+◌, ◌-◌, ◌/◌, ◌%◌, ◌≤◌, ◌<◌, ◌^◌, [], length, slice_index_or, option_map, slice_get, slice_set, map, Some, IfOk, IfErr, IfSome, IsSome, IsTrue, OnOk, OnErr, MatchResult};
 ghost use Rattle.std.specs.Borrow.{sem};
 ghost use Rattle.std.specs.Io.KnownBytes.{Consumes, IsAtEnd};
 ghost use Rattle.device_io.specs.Failures.{CountsFailure};
@@ -9,7 +9,9 @@ ghost use Rattle.frame_cut.specs.Volume.{bytes_of};
 ghost use Rattle.frame_cut.specs.declared.load_fault.LoadFault.TheVariants.{OutOfMemory as no_memory};
 ghost use Rattle.edit_overlay.specs.Each.{part_of};
 ghost use Rattle.edit_overlay.specs.Loading.{IsLoadFault, FailuresAfterRefusal};
-ghost use Rattle.edit_overlay.specs.CountedVolume.{with_prepared, with_volume};
+ghost use Rattle.edit_overlay.specs.CountedVolume.{with_prepared, with_table, with_table_prepared, with_volume};
+ghost use Rattle.edit_overlay.specs.Stores.{payloads_moved};
+ghost use Rattle.std.specs.List.{insert, remove, zip};
 ghost use Rattle.frame_cut.specs.Parts.{block_of, trailer_of, with_line, with_header_bytes, with_each, with_inserted, without, with_moved};
 ghost use Rattle.edit_overlay.specs.Saving.{Saves};
 
@@ -18,6 +20,7 @@ use crate::out_of_memory::OutOfMemory;
 use crate::pass::Pass;
 use crate::prepared::Prepared;
 use crate::reading_in::read_file;
+use crate::rows::Rows;
 use crate::save_fault::SaveFault;
 use crate::slot::Base;
 use crate::store::TraceStore;
@@ -34,19 +37,19 @@ use trace_view::TraceView;
 /// A volume under edits: one SEG-Y file in its parts. The bytes that were loaded never change:
 /// edits lie over them.
 #[derive(Drop)]
-pub struct Overlay {
+pub struct Overlay<T: Copy> {
     text: [u8; TEXT_BLOCK_BYTES],
     bin: [u8; BINARY_HEADER_BYTES],
-    store: TraceStore,
+    store: TraceStore<T>,
     prepared: Option<Prepared>,
     length: u64,
     looks: u64,
 }
 
-impl Model for Overlay {
+impl<T: Copy> Model for Overlay<T> {
     ghost use Rattle.edit_overlay.specs.CountedVolume.{CountedVolume};
 
-    ghost Value = { CountedVolume };
+    ghost Value = { CountedVolume T };
 
     ghost use Rattle.edit_overlay.specs.Held.{looked_of, IsHeld};
 
@@ -55,7 +58,7 @@ impl Model for Overlay {
     ghost invariant = { IsHeld };
 }
 
-impl Overlay {
+impl<T: Copy> Overlay<T> {
     ghost use Rattle.edit_overlay.specs.CountedVolume.{IsViewOf};
     ghost use Rattle.edit_overlay.specs.Looks.{EndsLooked, EndsPassed};
     ghost use Rattle.edit_overlay.specs.Passes.{volume_of};
@@ -68,11 +71,13 @@ impl Overlay {
         reader: &mut Source<R>,
         reading: Reading,
         limits: Limits,
-    ) -> Result<Overlay, LoadFault>
+        blank: T,
+    ) -> Result<Overlay<T>, LoadFault>
         ensures taken { IfOk result (λ o. Consumes (R.remaining reader.old.inner)
             (R.remaining reader.new.inner) (bytes_of o.volume)) }
         ensures all { IfOk result (λ _. IsAtEnd (R.remaining reader.new.inner)) }
         ensures cut { IfOk result (λ o. IsCut (bytes_of o.volume) reading limits o.volume) }
+        ensures payloads { IfOk result (λ o. o.payloads ≡ map (λ _. blank) o.volume.traces) }
         ensures prepared { IfOk result (λ o. o.prepared ≡ o.volume) }
         ensures looks { IfOk result (λ o. o.looks ≡ 0) }
         ensures refused { IfErr result (λ fault. IsLoadFault (R.remaining reader.old.inner) reading
@@ -81,7 +86,7 @@ impl Overlay {
             (λ fault. FailuresAfterRefusal fault reader.old.failures reader.new.failures) }
     {
         let bytes = read_file(alloc, reader, limits)?;
-        Overlay::from_bytes(alloc, bytes, reading, limits)
+        Overlay::from_bytes(alloc, bytes, reading, limits, blank)
     }
 
     /// Cuts a file that is in memory. Takes memory for the list of traces. Refused: L02 to L15 for
@@ -92,8 +97,10 @@ impl Overlay {
         bytes: Vec<u8>,
         reading: Reading,
         limits: Limits,
-    ) -> Result<Overlay, LoadFault>
+        blank: T,
+    ) -> Result<Overlay<T>, LoadFault>
         ensures cut { IfOk result (λ o. IsCut bytes.items reading limits o.volume) }
+        ensures payloads { IfOk result (λ o. o.payloads ≡ map (λ _. blank) o.volume.traces) }
         ensures prepared { IfOk result (λ o. o.prepared ≡ o.volume) }
         ensures looks { IfOk result (λ o. o.looks ≡ 0) }
         ensures refused { IfErr result (λ fault. (fault ≡ no_memory) ⊎
@@ -105,7 +112,7 @@ impl Overlay {
         let text = *array_at::<TEXT_BLOCK_BYTES>(bytes.as_slice(), 0);
         let bin = *array_at::<BINARY_HEADER_BYTES>(bytes.as_slice(), TEXT_BLOCK_BYTES);
         let length = bytes.len() as u64;
-        let Ok(store) = TraceStore::new(alloc, bytes, head, extents) else {
+        let Ok(store) = TraceStore::new(alloc, bytes, head, extents, blank) else {
             return Err(LoadFault::OutOfMemory);
         };
         Ok(Overlay {
@@ -149,7 +156,7 @@ impl Overlay {
     /// Trace p, counted from 1, and one look more; None where there is none, and then no look.
     /// Takes no memory.
     pub fn look(&mut self, p: u32) -> Option<TraceView<'_>>
-        ensures* counts { sem 𝓛 (EndsLooked self.entry result) }
+        ensures* counts { sem 𝓛 (EndsLooked T.row self.entry result) }
         ensures there { IsSome result ↔ IsTrue (is_trace self.old.volume p) }
         ensures trace { IfSome result (IsViewOf self.old.volume p) }
     {
@@ -158,6 +165,26 @@ impl Overlay {
         }
         self.looks = self.looks.saturating_add(1);
         Some(self.view(p))
+    }
+
+    /// The payload of trace p, counted from 1.
+    pub fn payload(&self, p: u32) -> T
+        requires first { 1 ≤ p }
+        requires last { p ≤ count_of self.now.volume }
+        ensures { slice_get self.now.payloads (p - 1) ≡ Some result }
+    {
+        self.store.payload(p)
+    }
+
+    /// Gives trace p, counted from 1, another payload. Takes no memory.
+    pub fn set_payload(&mut self, p: u32, payload: T)
+        requires first { 1 ≤ p }
+        requires last { p ≤ count_of self.old.volume }
+        ensures { self.new ≡ with_table self.old self.old.volume
+            (slice_set self.old.payloads (p - 1) payload) }
+    {
+        self.store.set_payload(p, payload);
+        self.prepared = None;
     }
 
     // Trace p.
@@ -171,8 +198,8 @@ impl Overlay {
 
     /// A pass over all traces as they are now, in order, and one look more for each. The looks are
     /// counted where the pass is made, however far it goes. Takes no memory.
-    pub fn pass(&mut self) -> Pass<'_>
-        ensures* counts { sem 𝓛 (EndsPassed self.entry) }
+    pub fn pass(&mut self) -> Pass<'_, T>
+        ensures* counts { sem 𝓛 (EndsPassed T.row self.entry) }
         ensures volume { volume_of result ≡ self.old.volume }
     {
         self.counted_pass(None)
@@ -181,16 +208,16 @@ impl Overlay {
     /// A pass as `pass` makes it, for a caller that needs of each trace what stands near byte `at`,
     /// counted from 0 in the trace: it is faster, since those bytes of the next traces are read
     /// together, and shows the same. A trace need not have the byte. Takes no memory.
-    pub fn pass_near(&mut self, at: u64) -> Pass<'_>
-        ensures* counts { sem 𝓛 (EndsPassed self.entry) }
+    pub fn pass_near(&mut self, at: u64) -> Pass<'_, T>
+        ensures* counts { sem 𝓛 (EndsPassed T.row self.entry) }
         ensures volume { volume_of result ≡ self.old.volume }
     {
         self.counted_pass(Some(at))
     }
 
     // A pass, and one look more for each trace.
-    fn counted_pass(&mut self, near: Option<u64>) -> Pass<'_>
-        ensures* counts { sem 𝓛 (EndsPassed self.entry) }
+    fn counted_pass(&mut self, near: Option<u64>) -> Pass<'_, T>
+        ensures* counts { sem 𝓛 (EndsPassed T.row self.entry) }
         ensures volume { volume_of result ≡ self.old.volume }
     {
         self.looks = self.looks.saturating_add(u64::from(self.count()));
@@ -198,14 +225,21 @@ impl Overlay {
     }
 
     // All traces in order.
-    pub(crate) fn views(&self) -> Views<'_>
+    pub(crate) fn views(&self) -> Views<'_, T>
         ensures { result ≡ shown_traces self.now.volume }
     {
         Views::new(&self.store)
     }
 
+    // All traces with their payloads, in order.
+    pub fn rows(&self) -> Rows<'_, T>
+        ensures { result ≡ zip (shown_traces self.now.volume) self.now.payloads }
+    {
+        Rows::new(&self.store)
+    }
+
     // All traces in order, where byte `at` of each, counted from 0, is read ahead.
-    pub(crate) fn views_near(&self, at: u64) -> Views<'_>
+    pub(crate) fn views_near(&self, at: u64) -> Views<'_, T>
         ensures { result ≡ shown_traces self.now.volume }
     {
         Views::near(&self.store, at)
@@ -214,7 +248,7 @@ impl Overlay {
     /// Trace p, counted from 1, as it would be with the edit that is prepared, and one look more;
     /// None where there is none, and then no look. Takes no memory.
     pub fn look_prepared(&mut self, p: u32) -> Option<TraceView<'_>>
-        ensures* counts { sem 𝓛 (EndsLooked self.entry result) }
+        ensures* counts { sem 𝓛 (EndsLooked T.row self.entry result) }
         ensures there { IsSome result ↔ IsTrue (is_trace self.old.prepared p) }
         ensures trace { IfSome result (IsViewOf self.old.prepared p) }
     {
@@ -378,7 +412,8 @@ impl Overlay {
         requires to_first { 1 ≤ b }
         requires to_last { b ≤ count_of self.old.volume }
         ensures ok { OnOk result
-            (self.new ≡ with_prepared self.old (with_moved self.old.volume a b)) }
+            (self.new ≡ with_table_prepared self.old (with_moved self.old.volume a b)
+            (payloads_moved self.old.payloads a b)) }
         ensures err { OnErr result (self.new ≡ self.old) }
     {
         let prepared = self.store.prepare_move(alloc, a, b)?;
@@ -388,7 +423,7 @@ impl Overlay {
 
     /// Makes the edit that is prepared, if one is. Takes no memory.
     pub fn commit(&mut self)
-        ensures { self.new ≡ with_volume self.old self.old.prepared }
+        ensures { self.new ≡ with_table self.old self.old.prepared self.old.payloads_prepared }
     {
         if let Some(prepared) = self.prepared.take() {
             self.store.commit(prepared);
@@ -457,33 +492,43 @@ impl Overlay {
     /// than their number. The caller shows that its headers give it its length, and that there are
     /// fewer than 2^32 traces and 2^64 bytes then. May be refused for want of memory alone, and
     /// then nothing is changed, and the bytes are dropped.
-    pub fn insert(&mut self, alloc: Global, p: u32, bytes: Vec<u8>) -> Result<(), OutOfMemory>
+    pub fn insert(
+        &mut self,
+        alloc: Global,
+        p: u32,
+        bytes: Vec<u8>,
+        payload: T,
+    ) -> Result<(), OutOfMemory>
         requires first { 1 ≤ p }
         requires last { p ≤ count_of self.old.volume + 1 }
         requires few { count_of self.old.volume + 1 < 2 ^ 32 }
         requires whole { IsTrace self.old.volume.head bytes.items }
         requires small { length (bytes_of self.old.volume) + length bytes.items < 2 ^ 64 }
         ensures ok { OnOk result
-            (self.new ≡ with_volume self.old (with_inserted self.old.volume p bytes.items)) }
+            (self.new ≡ with_table self.old (with_inserted self.old.volume p bytes.items)
+            (insert self.old.payloads (p - 1) payload)) }
         ensures err { OnErr result (self.new ≡ self.old) }
     {
         let added = bytes.len() as u64;
-        self.store.insert(alloc, p, Base::Added(bytes))?;
+        self.store.insert(alloc, p, Base::Added(bytes), payload)?;
         self.prepared = None;
         self.length += added;
         Ok(())
     }
 
     /// Takes trace p, counted from 1, out. Takes no memory.
-    pub fn delete(&mut self, p: u32)
+    pub fn delete(&mut self, p: u32) -> T
         requires first { 1 ≤ p }
         requires last { p ≤ count_of self.old.volume }
-        ensures { self.new ≡ with_volume self.old (without self.old.volume p) }
+        ensures payload { slice_get self.old.payloads (p - 1) ≡ Some result }
+        ensures after { self.new ≡ with_table self.old (without self.old.volume p)
+            (remove self.old.payloads (p - 1)) }
     {
         let gone = self.store.view(p).length();
-        self.store.delete(p);
+        let payload = self.store.delete(p);
         self.prepared = None;
         self.length -= gone;
+        payload
     }
 
     /// Takes trace a out, and puts it in again so that it is trace b; both count from 1. May be
@@ -494,7 +539,8 @@ impl Overlay {
         requires to_first { 1 ≤ b }
         requires to_last { b ≤ count_of self.old.volume }
         ensures ok { OnOk result
-            (self.new ≡ with_volume self.old (with_moved self.old.volume a b)) }
+            (self.new ≡ with_table self.old (with_moved self.old.volume a b)
+            (payloads_moved self.old.payloads a b)) }
         ensures err { OnErr result (self.new ≡ self.old) }
     {
         self.prepare_move(alloc, a, b)?;
@@ -504,16 +550,17 @@ impl Overlay {
 
     /// Makes the bytes the whole of trace p, counted from 1. The caller shows that their headers
     /// give them their length, and that there are fewer than 2^64 bytes then. Takes no memory.
-    pub fn replace(&mut self, alloc: Global, p: u32, bytes: Vec<u8>)
+    pub fn replace(&mut self, alloc: Global, p: u32, bytes: Vec<u8>, payload: T)
         requires first { 1 ≤ p }
         requires last { p ≤ count_of self.old.volume }
         requires whole { IsTrace self.old.volume.head bytes.items }
         requires small { length (bytes_of self.old.volume) + length bytes.items < 2 ^ 64 }
-        ensures { self.new ≡ with_volume self.old (with_trace self.old.volume p bytes.items) }
+        ensures { self.new ≡ with_table self.old (with_trace self.old.volume p bytes.items)
+            (slice_set self.old.payloads (p - 1) payload) }
     {
         let gone = self.store.view(p).length();
         let added = bytes.len() as u64;
-        self.store.replace(alloc, p, Base::Added(bytes));
+        self.store.replace(alloc, p, Base::Added(bytes), payload);
         self.prepared = None;
         self.length = self.length - gone + added;
     }

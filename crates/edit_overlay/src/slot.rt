@@ -19,12 +19,13 @@ pub enum Base {
 
 // One trace: its bytes, and the runs that edits laid over them.
 #[derive(Drop)]
-pub struct Slot {
+pub struct Slot<T: Copy> {
     pub base: Base,
     pub runs: Vec<Run>,
+    pub payload: T,
 }
 
-impl Slot {
+impl<T: Copy> Slot<T> {
     // The bytes under the runs.
     pub fn base_bytes<'a>(&'a self, loaded: &'a [u8]) -> &'a [u8]
         requires { IsInside loaded.now self.now.base }

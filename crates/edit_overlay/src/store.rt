@@ -1,5 +1,5 @@
 // The traces of a volume: an order of ids, and a slot under each.
-ghost use Rattle.std.specs.Prelude.{All, ◌≡◌, ℕ, ◌+◌, ◌-◌, ◌/◌, ◌%◌, ◌^◌, ◌<◌, ◌≤◌, [], length, Some, slice_index_or, slice_set, IfOk, OnOk, OnErr};
+ghost use Rattle.std.specs.Prelude.{All, ◌≡◌, ℕ, ◌+◌, ◌-◌, ◌/◌, ◌%◌, ◌^◌, ◌<◌, ◌≤◌, [], length, Some, slice_index_or, slice_set, IfOk, OnOk, OnErr, slice_get, map};
 ghost use Rattle.std.specs.List.{insert, remove};
 ghost use Rattle.frame_cut.specs.Cuts.{IsTrace};
 ghost use Rattle.frame_cut.specs.Layout.{bytes_at, pieces};
@@ -23,18 +23,18 @@ use trace_view::{Run, TraceView};
 
 // The loaded bytes, which never change, and the traces that lie over them. Traces count from 1.
 #[derive(Drop)]
-pub struct TraceStore {
+pub struct TraceStore<T: Copy> {
     pub loaded: Vec<u8>,
     pub head: Head,
     pub order: ChunkSeq,
-    pub slots: Slab<Slot>,
+    pub slots: Slab<Slot<T>>,
     pub ghost sound: { IsStore loaded.items head order.ids slots } by { IsStore-prop loaded.items
         head order.ids slots },
 }
 
-impl TraceStore {
+impl<T: Copy> TraceStore<T> {
     ghost use Rattle.edit_overlay.specs.Ahead.{traces_moved, traces_then, traces_with, AreRunsFrom, AreRunsOf, IsReady};
-    ghost use Rattle.edit_overlay.specs.Stores.{bases_of, traces_of};
+    ghost use Rattle.edit_overlay.specs.Stores.{bases_of, payload_under, traces_of, payloads_of, payloads_moved, payloads_then};
 
     // The store of a loaded file whose traces lie at these extents. Refused for want of memory
     // alone.
@@ -43,13 +43,15 @@ impl TraceStore {
         loaded: Vec<u8>,
         head: Head,
         extents: Vec<Extent>,
-    ) -> Result<TraceStore, OutOfMemory>
+        blank: T,
+    ) -> Result<TraceStore<T>, OutOfMemory>
         requires few { length extents.items < 2 ^ 32 }
         requires inside { All (λ e. e.start + e.length ≤ length loaded.items) extents.items }
         requires whole { All (λ e. IsTrace head (bytes_at loaded.items e)) extents.items }
         ensures head { IfOk result (λ s. s.head ≡ head) }
         ensures loaded { IfOk result (λ s. s.loaded.items ≡ loaded.items) }
         ensures traces { IfOk result (λ s. traces_of s ≡ pieces loaded.items extents.items) }
+        ensures payloads { IfOk result (λ s. payloads_of s ≡ map (λ _. blank) extents.items) }
     {
         let mut store = TraceStore {
             loaded,
@@ -59,7 +61,7 @@ impl TraceStore {
         };
         for extent in extents.as_slice() {
             let last = store.count() + 1;
-            store.insert(alloc, last, Base::Loaded(*extent))?;
+            store.insert(alloc, last, Base::Loaded(*extent), blank)?;
         }
         Ok(store)
     }
@@ -80,6 +82,37 @@ impl TraceStore {
         let mut probes = 0;
         match self.order.get(p, &mut probes) {
             Some(id) => id,
+            None => unreachable!(),
+        }
+    }
+
+    // The payload of trace p.
+    pub fn payload(&self, p: u32) -> T
+        requires first { 1 ≤ p }
+        requires last { p ≤ length (traces_of self.now) }
+        ensures { slice_get (payloads_of self.now) (p - 1) ≡ Some result }
+    {
+        let id = self.id(p);
+        match self.slots.get(id) {
+            Some(slot) => slot.payload,
+            None => unreachable!(),
+        }
+    }
+
+    // Gives trace p another payload.
+    pub fn set_payload(&mut self, p: u32, payload: T)
+        requires first { 1 ≤ p }
+        requires last { p ≤ length (traces_of self.old) }
+        ensures head { self.new.head ≡ self.old.head }
+        ensures loaded { self.new.loaded ≡ self.old.loaded }
+        ensures order { self.new.order ≡ self.old.order }
+        ensures bases { bases_of self.new ≡ bases_of self.old }
+        ensures traces { traces_of self.new ≡ traces_of self.old }
+        ensures payloads { payloads_of self.new ≡ slice_set (payloads_of self.old) (p - 1) payload }
+    {
+        let id = self.id(p);
+        match self.slots.get_mut(id) {
+            Some(slot) => slot.payload = payload,
             None => unreachable!(),
         }
     }
@@ -105,6 +138,17 @@ impl TraceStore {
                 let base = slot.base_bytes(self.loaded.as_slice());
                 TraceView::new(&self.head, base, slot.runs.as_slice())
             }
+            None => unreachable!(),
+        }
+    }
+
+    // The payload under an id.
+    pub fn payload_under(&self, id: usize) -> T
+        requires { IsHeldUnder self.now.loaded.items self.now.head self.now.slots id }
+        ensures { payload_under self.now.slots id ≡ Some result }
+    {
+        match self.slots.get(id) {
+            Some(slot) => slot.payload,
             None => unreachable!(),
         }
     }
@@ -180,6 +224,8 @@ impl TraceStore {
             (splice (slice_index_or (traces_of self.now) (p - 1) []) at (length bytes.now)
             bytes.now) }
         ensures ready { IfOk result (IsReady self.now) }
+        ensures payloads { IfOk result (λ prepared. payloads_then (payloads_of self.now) prepared
+            ≡ payloads_of self.now) }
         ensures traces { IfOk result (λ prepared. traces_then self.now prepared
             ≡ slice_set (traces_of self.now) (p - 1)
             (splice (slice_index_or (traces_of self.now) (p - 1) []) at (length bytes.now)
@@ -218,6 +264,8 @@ impl TraceStore {
             IsTrace self.now.head (splice (slice_index_or (traces_of self.now) (a - 1 + k) []) at
             size (part_of bytes.now size k)) }
         ensures ready { IfOk result (IsReady self.now) }
+        ensures payloads { IfOk result (λ prepared. payloads_then (payloads_of self.now) prepared
+            ≡ payloads_of self.now) }
         ensures traces { IfOk result (λ prepared. traces_then self.now prepared
             ≡ put_each_at (traces_of self.now) (a - 1) at size bytes.now) }
     {
@@ -239,10 +287,13 @@ impl TraceStore {
         ensures loaded { self.new.loaded ≡ self.old.loaded }
         ensures bases { bases_of self.new ≡ bases_of self.old }
         ensures traces { traces_of self.new ≡ traces_of self.old }
+        ensures payloads { payloads_of self.new ≡ payloads_of self.old }
         ensures room { self.old.order.spare ≤ self.new.order.spare }
         ensures ready { IfOk result (IsReady self.new) }
         ensures moved { IfOk result (λ prepared. traces_then self.new prepared
             ≡ traces_moved (traces_of self.old) a b) }
+        ensures carried { IfOk result (λ prepared. payloads_then (payloads_of self.new) prepared
+            ≡ payloads_moved (payloads_of self.old) a b) }
     {
         self.order.reserve_one(alloc, 0)?;
         Ok(Prepared::Move(TraceMove { from: a, to: b }))
@@ -254,6 +305,7 @@ impl TraceStore {
         ensures head { self.new.head ≡ self.old.head }
         ensures loaded { self.new.loaded ≡ self.old.loaded }
         ensures traces { traces_of self.new ≡ traces_then self.old prepared }
+        ensures payloads { payloads_of self.new ≡ payloads_then (payloads_of self.old) prepared }
     {
         match prepared {
             Prepared::Runs(runs) => self.lay(runs),
@@ -269,6 +321,7 @@ impl TraceStore {
         ensures loaded { self.new.loaded ≡ self.old.loaded }
         ensures traces { traces_of self.new ≡ traces_with (bases_of self.old) (traces_of self.old)
             prepared.place prepared.lists.items }
+        ensures payloads { payloads_of self.new ≡ payloads_of self.old }
     {
         let mut done = prepared.place;
         for runs in prepared.lists {
@@ -338,6 +391,7 @@ impl TraceStore {
         ensures bases { bases_of self.new ≡ bases_of self.old }
         ensures traces { traces_of self.new ≡ slice_set (traces_of self.old) (p - 1)
             (bytes_with_runs (slice_index_or (bases_of self.old) (p - 1) []) runs.items) }
+        ensures payloads { payloads_of self.new ≡ payloads_of self.old }
     {
         let id = self.id(p);
         match self.slots.get_mut(id) {
@@ -348,7 +402,13 @@ impl TraceStore {
 
     // A slot's base as a new trace in front of trace p, or behind the last. Where memory is
     // refused, nothing is changed.
-    pub fn insert(&mut self, alloc: Global, p: u32, base: Base) -> Result<(), OutOfMemory>
+    pub fn insert(
+        &mut self,
+        alloc: Global,
+        p: u32,
+        base: Base,
+        payload: T,
+    ) -> Result<(), OutOfMemory>
         requires first { 1 ≤ p }
         requires last { p ≤ length (traces_of self.old) + 1 }
         requires few { length (traces_of self.old) + 1 < 2 ^ 32 }
@@ -359,6 +419,9 @@ impl TraceStore {
         ensures ok { OnOk result (traces_of self.new ≡ insert (traces_of self.old) (p - 1)
             (base_of self.old.loaded.items base)) }
         ensures err { OnErr result (traces_of self.new ≡ traces_of self.old) }
+        ensures put { OnOk result (payloads_of self.new ≡ insert (payloads_of self.old) (p - 1)
+            payload) }
+        ensures payloads { OnErr result (payloads_of self.new ≡ payloads_of self.old) }
         ensures bases { OnErr result (bases_of self.new ≡ bases_of self.old) }
         ensures room { OnErr result (self.old.order.spare ≤ self.new.order.spare) }
     {
@@ -366,6 +429,7 @@ impl TraceStore {
         let id = self.slots.insert_reserved(Slot {
             base,
             runs: Vec::new(alloc),
+            payload,
         });
         // The id is below the capacity, which is a usize.
         let _capacity = self.slots.capacity();
@@ -378,16 +442,18 @@ impl TraceStore {
     }
 
     // Takes trace p out, and frees its slot.
-    pub fn delete(&mut self, p: u32)
+    pub fn delete(&mut self, p: u32) -> T
         requires first { 1 ≤ p }
         requires last { p ≤ length (traces_of self.old) }
         ensures head { self.new.head ≡ self.old.head }
         ensures loaded { self.new.loaded ≡ self.old.loaded }
         ensures traces { traces_of self.new ≡ remove (traces_of self.old) (p - 1) }
+        ensures payloads { payloads_of self.new ≡ remove (payloads_of self.old) (p - 1) }
+        ensures payload { slice_get (payloads_of self.old) (p - 1) ≡ Some result }
     {
         let id = self.id(p);
         self.order.remove(p);
-        let _ = self.slots.remove(id);
+        self.slots.remove(id).payload
     }
 
     // Takes trace a out, and puts it in again so that it is trace b.
@@ -400,12 +466,13 @@ impl TraceStore {
         ensures head { self.new.head ≡ self.old.head }
         ensures loaded { self.new.loaded ≡ self.old.loaded }
         ensures traces { traces_of self.new ≡ traces_moved (traces_of self.old) a b }
+        ensures payloads { payloads_of self.new ≡ payloads_moved (payloads_of self.old) a b }
     {
         self.order.move_to(a, b);
     }
 
     // Makes the base the whole of trace p, without runs.
-    pub fn replace(&mut self, alloc: Global, p: u32, base: Base)
+    pub fn replace(&mut self, alloc: Global, p: u32, base: Base, payload: T)
         requires first { 1 ≤ p }
         requires last { p ≤ length (traces_of self.old) }
         requires inside { IsInside self.old.loaded.items base }
@@ -414,11 +481,13 @@ impl TraceStore {
         ensures loaded { self.new.loaded ≡ self.old.loaded }
         ensures traces { traces_of self.new ≡ slice_set (traces_of self.old) (p - 1)
             (base_of self.old.loaded.items base) }
+        ensures payloads { payloads_of self.new ≡ slice_set (payloads_of self.old) (p - 1) payload }
     {
         let id = self.id(p);
         let fresh = Slot {
             base,
             runs: Vec::new(alloc),
+            payload,
         };
         match self.slots.get_mut(id) {
             Some(slot) => *slot = fresh,

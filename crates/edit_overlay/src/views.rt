@@ -9,13 +9,13 @@ use trace_view::TraceView;
 /// An iterator over the traces of a volume, in order. Seen as what views of those that are left
 /// show. Takes each trace from its place, without a search, and no memory.
 #[derive(Drop)]
-pub struct Views<'a> {
-    store: &'a TraceStore,
+pub struct Views<'a, T: Copy> {
+    store: &'a TraceStore<T>,
     ids: Ids<'a>,
     ahead: Option<Ahead<'a>>,
 }
 
-impl<'a> Model for Views<'a> {
+impl<'a, T: Copy> Model for Views<'a, T> {
     ghost use Rattle.std.specs.Prelude.{List};
     ghost use Rattle.edit_overlay.specs.Shown.{ShownTrace, shown_under};
     ghost use Rattle.edit_overlay.specs.Slots.{AreHeld};
@@ -28,11 +28,11 @@ impl<'a> Model for Views<'a> {
         p.store.now.slots };
 }
 
-impl<'a> Views<'a> {
+impl<'a, T: Copy> Views<'a, T> {
     ghost use Rattle.edit_overlay.specs.Shown.{shown_under};
 
     // All traces of the store.
-    pub(crate) fn new(store: &'a TraceStore) -> Views<'a>
+    pub(crate) fn new(store: &'a TraceStore<T>) -> Views<'a, T>
         ensures { result ≡ shown_under store.now store.now.order.ids }
     {
         Views {
@@ -43,7 +43,7 @@ impl<'a> Views<'a> {
     }
 
     // All traces of the store, where byte `at` of each, counted from 0, is read ahead.
-    pub(crate) fn near(store: &'a TraceStore, at: u64) -> Views<'a>
+    pub(crate) fn near(store: &'a TraceStore<T>, at: u64) -> Views<'a, T>
         ensures { result ≡ shown_under store.now store.now.order.ids }
     {
         Views {
@@ -54,7 +54,7 @@ impl<'a> Views<'a> {
     }
 }
 
-impl<'a> Iterator for Views<'a> {
+impl<'a, T: Copy> Iterator for Views<'a, T> {
     ghost use Rattle.std.specs.Iterator.{YieldsFirstBy, item_count};
     ghost use Rattle.edit_overlay.specs.Shown.{shown_by};
 

@@ -22,11 +22,11 @@ use text_block::TEXT_BLOCK_BYTES;
 use trace_view::TraceView;
 
 // Writes the headers, then the blocks, the traces and the data trailer records of the store.
-pub fn write_volume<W: Write>(
+pub fn write_volume<W: Write, T: Copy>(
     writer: &mut Sink<W>,
     text: &[u8; TEXT_BLOCK_BYTES],
     bin: &[u8; BINARY_HEADER_BYTES],
-    store: &TraceStore,
+    store: &TraceStore<T>,
 ) -> Result<(), SaveFault>
     requires ends { HasEnds store.now }
     requires small { length (bytes_of (volume_with text.now bin.now store.now)) < 2 ^ 64 }
@@ -50,9 +50,9 @@ pub fn write_volume<W: Write>(
 }
 
 // Writes the traces behind what waits.
-fn write_traces<W: Write>(
+fn write_traces<W: Write, T: Copy>(
     writer: &mut Sink<W>,
-    store: &TraceStore,
+    store: &TraceStore<T>,
     waiting: &mut Waiting,
 ) -> Result<(), SaveFault>
     requires inside { waiting.old.to ≤ length store.now.loaded.items }
@@ -74,11 +74,11 @@ fn write_traces<W: Write>(
 }
 
 // Writes a slot's trace behind what waits.
-fn write_slot<W: Write>(
+fn write_slot<W: Write, T: Copy>(
     writer: &mut Sink<W>,
     head: &Head,
     loaded: &[u8],
-    slot: &Slot,
+    slot: &Slot<T>,
     waiting: &mut Waiting,
 ) -> Result<(), SaveFault>
     requires slot { IsSlot loaded.now head.now slot.now }

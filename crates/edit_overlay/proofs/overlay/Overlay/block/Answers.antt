@@ -3,13 +3,13 @@ use Rattle.edit_overlay.proofs.PieceLemmas.{read_block, slice_get-none, block_nu
 use Rattle.edit_overlay.proofs.overlay.Overlay.block.Goals as goal
 
 pub returns-then-b-self : goal.returns-then-b-self
-returns-then-b-self c =
+returns-then-b-self g c =
     sym (block_number c.args.self.now.volume c.args.b c.if-b-eq0.false
     ∙ ap (λ o. slice_get o.volume.blocks (c.args.b - 1)) (sym c.self.view_is)
     ∙ slice_get-none c.self.inside.store.head.blocks _ (c.args.b - 1) (omega (arith, c.if-b-eq0.false, c.if-b-self.true)))
 
 pub returns : goal.returns
-returns c =
+returns g c =
     let i = c.args.b - 1 in
     let read : c.array_at.result.now ≡ take 3200 (drop (3600 + 3200 * i) c.self.inside.store.loaded.items) = c.array_at.ensures ∙ rw c.as_slice.ensures.value refl in
     ap (λ (s : List ℕ). let o : Option (List ℕ) = Some s in o) read

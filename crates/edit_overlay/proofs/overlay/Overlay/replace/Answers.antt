@@ -6,14 +6,14 @@ use Rattle.edit_overlay.proofs.LengthLemmas.{total, total-set, trace-within}
 use Rattle.edit_overlay.proofs.overlay.Overlay.replace.Goals as goal
 
 pub overflow_sub-self : goal.overflow_sub-self
-overflow_sub-self c =
+overflow_sub-self g c =
     let ts : List (List ℕ) = traces_of c.self.inside.store in
     let there : c.args.p - 1 < length ts = omega (arith, c.requires.first, c.requires.last, ap (λ o. length o.volume.traces) c.self.view_is) in
     let gone : c.length-gone.result ≡ length (get_or ts (c.args.p - 1) []) = c.length-gone.ensures ∙ ap (λ (t : List ℕ). length t) c.view.ensures.bytes in
     omega (arith, gone, trace-within (volume_with c.self.inside.text c.self.inside.bin c.self.inside.store) (c.args.p - 1) there, c.self.invariant.length)
 
 pub invariant_of-self : goal.invariant_of-self
-invariant_of-self c =
+invariant_of-self g c =
     let ts : List (List ℕ) = traces_of c.self.inside.store in
     let there : c.args.p - 1 < length ts = omega (arith, c.requires.first, c.requires.last, ap (λ o. length o.volume.traces) c.self.view_is) in
     let gone : c.length-gone.result ≡ length (get_or ts (c.args.p - 1) []) = c.length-gone.ensures ∙ ap (λ (t : List ℕ). length t) c.view.ensures.bytes in

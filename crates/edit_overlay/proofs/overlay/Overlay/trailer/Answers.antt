@@ -3,13 +3,13 @@ use Rattle.edit_overlay.proofs.PieceLemmas.{read_record, slice_get-none, record_
 use Rattle.edit_overlay.proofs.overlay.Overlay.trailer.Goals as goal
 
 pub returns-then-j-self : goal.returns-then-j-self
-returns-then-j-self c =
+returns-then-j-self g c =
     sym (record_number c.args.self.now.volume c.args.j c.if-j-eq0.false
     ∙ ap (λ o. slice_get o.volume.trailer (c.args.j - 1)) (sym c.self.view_is)
     ∙ slice_get-none c.self.inside.store.head.trailer _ (c.args.j - 1) (omega (arith, c.if-j-eq0.false, c.if-j-self.true)))
 
 pub returns : goal.returns
-returns c =
+returns g c =
     let s = c.self.inside.store in
     let n = s.head.trailer in
     let i = c.args.j - 1 in

@@ -3,10 +3,12 @@ use Rattle.std.proofs.lemmas.List.{length-map}
 use Rattle.edit_overlay.specs.Slots.{bytes_under, AreHeld}
 use Rattle.edit_overlay.proofs.OrderLemmas.{map-moved}
 use Rattle.edit_overlay.proofs.SlotLemmas.{held-moved, times-moved, length-moved}
+use Rattle.edit_overlay.proofs.PayloadLemmas.{payloads-moved}
+use Rattle.edit_overlay.specs.Stores.{somes, payload_under}
 use Rattle.edit_overlay.proofs.store.TraceStore.move_to.Goals as goal
 
 pub invariant_of-self : goal.invariant_of-self
-invariant_of-self c =
+invariant_of-self g c =
     let s = c.args.self.now in
     let short : c.args.a - 1 < length s.order.ids = omega (arith, c.requires.from_first, c.requires.from_last, length-map s.order.ids (bytes_under s.loaded.items s.slots)) in
     let most : c.args.b - 1 < length s.order.ids = omega (arith, c.requires.to_first, c.requires.to_last, length-map s.order.ids (bytes_under s.loaded.items s.slots)) in
@@ -21,7 +23,13 @@ invariant_of-self c =
     }
 
 pub returns-clause-traces : goal.returns-clause-traces
-returns-clause-traces c =
+returns-clause-traces g c =
     let s = c.args.self.now in
     let short : c.args.a - 1 < length s.order.ids = omega (arith, c.requires.from_first, c.requires.from_last, length-map s.order.ids (bytes_under s.loaded.items s.slots)) in
     ap (λ (xs : List ℕ). map (bytes_under s.loaded.items s.slots) xs) c.move_to.ensures.ids ∙ map-moved (bytes_under s.loaded.items s.slots) s.order.ids c.args.a c.args.b [] short
+
+pub returns-clause-payloads : goal.returns-clause-payloads
+returns-clause-payloads g c =
+    let s = c.args.self.now in
+    let short : c.args.a - 1 < length s.order.ids = omega (arith, c.requires.from_first, c.requires.from_last, length-map s.order.ids (bytes_under s.loaded.items s.slots)) in
+    ap (λ (xs : List ℕ). somes (map (payload_under s.slots) xs)) c.move_to.ensures.ids ∙ payloads-moved s.loaded.items s.head s.order.ids s.slots s.sound.held c.args.a c.args.b short

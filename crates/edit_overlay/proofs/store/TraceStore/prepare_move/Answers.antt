@@ -5,7 +5,7 @@ use Rattle.edit_overlay.proofs.AheadLemmas.{ready_move}
 use Rattle.edit_overlay.proofs.store.TraceStore.prepare_move.Goals as goal
 
 pub returns-clause-ready : goal.returns-clause-ready
-returns-clause-ready c =
+returns-clause-ready g c =
     let s = c.args.self.now in
     let count : length (map (bytes_under s.loaded.items s.slots) c.reserve_one.new.self.ids) ≡ length (traces_of s) = ap (λ (xs : List ℕ). length (map (bytes_under s.loaded.items s.slots) xs)) c.reserve_one.ensures.ids in
     ready_move _ c.args.a c.args.b (record {

@@ -6,13 +6,13 @@ use Rattle.edit_overlay.proofs.EachLemmas.{runs-more, runs-all}
 use Rattle.edit_overlay.proofs.store.TraceStore.runs_for_each.Goals as goal
 
 pub runs_with-requires-clause-inside : goal.runs_with-requires-clause-inside
-runs_with-requires-clause-inside c =
+runs_with-requires-clause-inside g c =
     let place : c.args.a + c.loop-k.k - 1 ≡ c.args.a - 1 + c.loop-k.k = omega (arith, c.requires.first) in
     let inside : c.args.at + c.args.size ≤ length (slice_index_or (traces_of c.args.self.now) (c.args.a - 1 + c.loop-k.k) []) = c.requires.inside c.loop-k.k c.loop-k-test.true in
     rw (place, c.part-part.ensures.length) inside
 
 pub loop-k-preserved : goal.loop-k-preserved
-loop-k-preserved c =
+loop-k-preserved g c =
     let place : c.args.a + c.loop-k.k - 1 ≡ c.args.a - 1 + c.loop-k.k = omega (arith, c.requires.first) in
     record {
       count = omega (arith, ap (λ (xs : List (Vec Run Global)). length xs) c.in_ok-push.ensures.items, length-append c.loop-k.lists.items (c.in_ok-runs.runs ∷ []), c.loop-k.invariant.count);
@@ -21,5 +21,5 @@ loop-k-preserved c =
     }
 
 pub returns-clause-runs : goal.returns-clause-runs
-returns-clause-runs c =
+returns-clause-runs g c =
     runs-all (bases_of c.args.self.now) (traces_of c.args.self.now) (c.args.a - 1) c.args.at c.args.size c.args.bytes.now c.loop-k.k c.loop-k.lists.items c.loop-k.invariant.runs

@@ -6,7 +6,7 @@ use Rattle.edit_overlay.proofs.store.TraceStore.runs_for_each.Given as goal
 
 -- whatever lists follow for the traces that are left, all are the lists of all
 abbrev pub invariant-loop-k : goal.invariant-loop-k
-invariant-loop-k l = record {
+invariant-loop-k g l = record {
   count : length l.lists.items ≡ l.k;
   runs : (more : List (Vec Run Global)) → ArePutEach (bases_of l.self) (traces_of l.self) (l.a - 1) l.at l.size l.bytes l.k more → ArePutEach (bases_of l.self) (traces_of l.self) (l.a - 1) l.at l.size l.bytes 0 (l.lists.items ++ more);
 }

@@ -9,31 +9,31 @@ use Rattle.edit_overlay.proofs.EachLemmas.{both_ok, put-runs}
 use Rattle.edit_overlay.proofs.store.TraceStore.runs_with.Goals as goal
 
 pub runs_with-requires-clause-base : goal.runs_with-requires-clause-base
-runs_with-requires-clause-base c =
+runs_with-requires-clause-base g c =
     let s = c.args.self.now in
     let slot = slot-found s.loaded.items s.head s.order.ids s.slots c.args.p c.id-id.result c.in-Some.slot.now s.sound.held c.id-id.ensures (sym c.in-Some.ensures) in
     subst (λ (l : List ℕ). IsInside l c.in-Some.slot.now.base) (sym c.as_slice.ensures.value) slot.inside
 
 pub runs_with-requires-clause-fit : goal.runs_with-requires-clause-fit
-runs_with-requires-clause-fit c =
+runs_with-requires-clause-fit g c =
     let s = c.args.self.now in
     let slot = slot-found s.loaded.items s.head s.order.ids s.slots c.args.p c.id-id.result c.in-Some.slot.now s.sound.held c.id-id.ensures (sym c.in-Some.ensures) in
     rw c.as_slice.ensures.value slot.fit
 
 pub runs_with-requires-clause-inside : goal.runs_with-requires-clause-inside
-runs_with-requires-clause-inside c =
+runs_with-requires-clause-inside g c =
     let s = c.args.self.now in
     let slot = slot-found s.loaded.items s.head s.order.ids s.slots c.args.p c.id-id.result c.in-Some.slot.now s.sound.held c.id-id.ensures (sym c.in-Some.ensures) in
     let trace = trace-at s.loaded.items s.order.ids s.slots c.args.p c.id-id.result c.in-Some.slot.now c.id-id.ensures (sym c.in-Some.ensures) in
     rw c.as_slice.ensures.value (omega (arith, c.requires.inside, ap (λ (t : List ℕ). length t) trace, length-written (base_of s.loaded.items c.in-Some.slot.now.base) c.in-Some.slot.now.runs.items slot.fit))
 
 pub unreachable-requires : goal.unreachable-requires
-unreachable-requires c =
+unreachable-requires g c =
     let s = c.args.self.now in
     slot-missed s.loaded.items s.head s.order.ids s.slots c.args.p c.id-id.result s.sound.held c.id-id.ensures (sym c.in-None.ensures)
 
 pub returns : goal.returns
-returns c =
+returns g c =
     let s = c.args.self.now in
     let slot = c.in-Some.slot.now in
     let trace = trace-at s.loaded.items s.order.ids s.slots c.args.p c.id-id.result slot c.id-id.ensures (sym c.in-Some.ensures) in

@@ -1,4 +1,4 @@
-use Rattle.std.proofs.Common.{◌-◌, [], ◌∙◌, ℕ, List, Some, length, refl, sym, ap}
+use Rattle.std.proofs.Common.{◌-◌, [], ◌∙◌, ℕ, List, Option, Some, length, refl, sym, ap}
 use Rattle.std.specs.Prelude.{slice_index_or, slice_set}
 use Rattle.slab.specs.Slab.{with_value, Updates}
 use Rattle.trace_view.specs.Runs.{bytes_with_runs}
@@ -6,19 +6,21 @@ use Rattle.edit_overlay.specs.declared.slot.Slot.{Slot}
 use Rattle.edit_overlay.specs.Slots.{IsSlot}
 use Rattle.edit_overlay.specs.Stores.{bases_of, traces_of}
 use Rattle.edit_overlay.proofs.SlotLemmas.{slot-found, slot-missed, base-at, runs-slot, bases-kept, write-updates, write-counts, traces-changed, held-changed}
+use Rattle.edit_overlay.proofs.PayloadLemmas.{payloads-kept}
+use Rattle.edit_overlay.specs.Stores.{somes}
 use Rattle.edit_overlay.proofs.store.TraceStore.set_runs.Goals as goal
 
 pub unreachable-requires : goal.unreachable-requires
-unreachable-requires c =
+unreachable-requires g c =
     let s = c.args.self.now in
     slot-missed s.loaded.items s.head s.order.ids s.slots c.args.p c.id-id.result s.sound.held c.id-id.ensures (sym c.in-None.ensures.value)
 
 pub invariant_of-self : goal.invariant_of-self
-invariant_of-self c =
+invariant_of-self g c =
     let s = c.args.self.now in
     let id = c.id-id.result in
-    let old : Slot = c.in-Some.slot.now in
-    let new : Slot = record { base = old.base; runs = c.args.runs } in
+    let old : Slot g.row.T.Denot = c.in-Some.slot.now in
+    let new : Slot g.row.T.Denot = record { base = old.base; runs = c.args.runs; payload = old.payload } in
     let slot = slot-found s.loaded.items s.head s.order.ids s.slots c.args.p id old s.sound.held c.id-id.ensures (sym c.in-Some.ensures.value) in
     let base = base-at s.loaded.items s.order.ids s.slots c.args.p id old c.id-id.ensures (sym c.in-Some.ensures.value) in
     let sound : IsSlot s.loaded.items s.head new = runs-slot s.loaded.items s.head old new (slice_index_or (bases_of s) (c.args.p - 1) []) refl base slot c.requires.runs.fit c.requires.runs.whole in
@@ -33,21 +35,30 @@ invariant_of-self c =
     }
 
 pub returns-clause-bases : goal.returns-clause-bases
-returns-clause-bases c =
+returns-clause-bases g c =
     let s = c.args.self.now in
     let id = c.id-id.result in
-    let old : Slot = c.in-Some.slot.now in
-    let new : Slot = record { base = old.base; runs = c.args.runs } in
+    let old : Slot g.row.T.Denot = c.in-Some.slot.now in
+    let new : Slot g.row.T.Denot = record { base = old.base; runs = c.args.runs; payload = old.payload } in
     let up : Updates s.slots (with_value s.slots id new) id (Some new) = write-updates s.slots id old new (sym c.in-Some.ensures.value) in
     bases-kept s.loaded.items s.order.ids s.slots (with_value s.slots id new) id old new (sym c.in-Some.ensures.value) refl up
 
 pub returns-clause-traces : goal.returns-clause-traces
-returns-clause-traces c =
+returns-clause-traces g c =
     let s = c.args.self.now in
     let id = c.id-id.result in
-    let old : Slot = c.in-Some.slot.now in
-    let new : Slot = record { base = old.base; runs = c.args.runs } in
+    let old : Slot g.row.T.Denot = c.in-Some.slot.now in
+    let new : Slot g.row.T.Denot = record { base = old.base; runs = c.args.runs; payload = old.payload } in
     let base = base-at s.loaded.items s.order.ids s.slots c.args.p id old c.id-id.ensures (sym c.in-Some.ensures.value) in
     let up : Updates s.slots (with_value s.slots id new) id (Some new) = write-updates s.slots id old new (sym c.in-Some.ensures.value) in
     traces-changed s.loaded.items s.order.ids s.slots (with_value s.slots id new) c.args.p id new s.sound.distinct c.id-id.ensures up
     ∙ ap (λ (b : List ℕ). slice_set (traces_of s) (c.args.p - 1) (bytes_with_runs b c.args.runs.items)) (sym base)
+
+pub returns-clause-payloads : goal.returns-clause-payloads
+returns-clause-payloads g c =
+    let s = c.args.self.now in
+    let id = c.id-id.result in
+    let old : Slot g.row.T.Denot = c.in-Some.slot.now in
+    let new : Slot g.row.T.Denot = record { base = old.base; runs = c.args.runs; payload = old.payload } in
+    let up : Updates s.slots (with_value s.slots id new) id (Some new) = write-updates s.slots id old new (sym c.in-Some.ensures.value) in
+    ap (λ (os : List (Option g.row.T.Denot)). somes os) (payloads-kept s.order.ids s.slots (with_value s.slots id new) id old new (sym c.in-Some.ensures.value) refl up)

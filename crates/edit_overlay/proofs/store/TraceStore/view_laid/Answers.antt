@@ -7,18 +7,18 @@ use Rattle.edit_overlay.proofs.AheadLemmas.{behind, in_front, length-bases, runs
 use Rattle.edit_overlay.proofs.store.TraceStore.view_laid.Goals as goal
 
 pub returns-then-at-prepared-clause-bytes : goal.returns-then-at-prepared-clause-bytes
-returns-then-at-prepared-clause-bytes c =
+returns-then-at-prepared-clause-bytes g c =
     let s = c.args.self.now in
     c.view.ensures.bytes ∙ sym (in_front (bases_of s) (traces_of s) c.args.prepared.now.place (c.args.p - 1) c.args.prepared.now.lists.items c.if-at-prepared.true)
 
 pub returns-then-k-len-clause-bytes : goal.returns-then-k-len-clause-bytes
-returns-then-k-len-clause-bytes c =
+returns-then-k-len-clause-bytes g c =
     let s = c.args.self.now in
     let lists = c.args.prepared.now.lists in
     c.view-then-k-len.ensures.bytes ∙ sym (behind (bases_of s) (traces_of s) c.args.prepared.now.place (c.args.p - 1) lists.items (omega (arith, c.if-at-prepared.false, c.if-k-len.true, c.len.ensures, lists.ok)))
 
 pub view_with-requires-clause-runs : goal.view_with-requires-clause-runs
-view_with-requires-clause-runs c =
+view_with-requires-clause-runs g c =
     let s = c.args.self.now in
     let place = c.args.prepared.now.place in
     let lists = c.args.prepared.now.lists in
@@ -27,7 +27,7 @@ view_with-requires-clause-runs c =
     )
 
 pub returns-clause-bytes : goal.returns-clause-bytes
-returns-clause-bytes c =
+returns-clause-bytes g c =
     let s = c.args.self.now in
     let place = c.args.prepared.now.place in
     let lists = c.args.prepared.now.lists in

@@ -8,7 +8,7 @@ use Rattle.edit_overlay.proofs.MoveLemmas.{moved-at}
 use Rattle.edit_overlay.proofs.store.TraceStore.view_then.Goals as goal
 
 pub returns-in-Move-clause-bytes : goal.returns-in-Move-clause-bytes
-returns-in-Move-clause-bytes c =
+returns-in-Move-clause-bytes g c =
     let s = c.args.self.now in
     let m = c.in-Move.places in
     let ready : IsReady s (Move m) = subst (λ (d : Prepared). IsReady s d) c.in-Move.is c.requires.ready in

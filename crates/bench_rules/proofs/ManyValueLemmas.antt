@@ -18,7 +18,7 @@ use Rattle.frame_cut.specs.Traces.{count_of, trace_at}
 use Rattle.frame_cut.specs.Volume.{Volume, front_of, bytes_of}
 use Rattle.frame_cut.proofs.EditLemmas.{length-splice}
 use Rattle.trace_view.specs.Values.{has_place, samples_at}
-use Rattle.edit_overlay.specs.Each.{part_of}
+use Rattle.trace_store.specs.Each.{part_of}
 use Rattle.bench_rules.specs.declared.edit.Edit.TheVariants.{Set}
 use Rattle.bench_rules.specs.declared.field.Field.TheVariants as field
 use Rattle.bench_rules.specs.Refused.{with_value}

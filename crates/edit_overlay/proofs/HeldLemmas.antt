@@ -1,13 +1,13 @@
 -- An overlay is sound again with another store of the same file.
 use Rattle.std.proofs.Common.{◌≡◌, ℕ, ◌+◌, List, length, refl, ap, ◌∙◌, arith, Result, Ok, Err, OnOk, OnErr, None}
 use Rattle.frame_cut.specs.Volume.{Volume, bytes_of}
-use Rattle.edit_overlay.specs.Ahead.{traces_ahead}
+use Rattle.trace_store.specs.Ahead.{traces_ahead}
 use Rattle.edit_overlay.specs.Held.{looked_of, volume_ahead, volume_with, IsHeld}
-use Rattle.edit_overlay.specs.Stores.{payloads_ahead, payloads_of, traces_of}
-use Rattle.edit_overlay.specs.declared.store.TraceStore.{TraceStore}
+use Rattle.trace_store.specs.Stores.{payloads_ahead, payloads_of, traces_of}
+use Rattle.trace_store.specs.declared.store.TraceStore.{TraceStore}
 use Rattle.edit_overlay.specs.declared.overlay.Overlay.TheInside.{Inside}
-use Rattle.edit_overlay.proofs.AheadLemmas.{ahead_kept, IsSame}
-use Rattle.edit_overlay.proofs.LengthLemmas.{total, length-with}
+use Rattle.trace_store.proofs.AheadLemmas.{ahead_kept, IsSame}
+use Rattle.trace_store.proofs.LengthLemmas.{total, length-with}
 
 -- what follows from success and from failure alike
 pub settle : {T E : Type 0} (r : Result T E) {A B C : Type 0} → OnOk r A → OnErr r B → (A → C) → (B → C) → C

@@ -1,12 +1,5 @@
-pub mod AheadLemmas
-pub mod EachLemmas
 pub mod FaultLemmas
 pub mod HeldLemmas
-pub mod LengthLemmas
-pub mod MoveLemmas
-pub mod OrderLemmas
 pub mod PassLemmas
-pub mod PayloadLemmas
 pub mod PieceLemmas
 pub mod SavingLemmas
-pub mod SlotLemmas

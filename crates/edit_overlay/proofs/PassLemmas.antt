@@ -6,7 +6,7 @@ use Rattle.frame_cut.specs.Traces.{count_of}
 use Rattle.frame_cut.specs.Volume.{Volume}
 use Rattle.trace_view.specs.declared.view.TraceView.{TraceView}
 use Rattle.edit_overlay.specs.CountedVolume.{IsViewOf}
-use Rattle.edit_overlay.specs.Shown.{ShownTrace, shown_by, shown_each}
+use Rattle.trace_store.specs.Shown.{ShownTrace, shown_by, shown_each}
 
 -- behind n traces comes one that the view shows, and then those behind it
 pub record IsNextShown (v : Volume) (n : ℕ) (view : TraceView) (rest : List ShownTrace) : Type 0 where

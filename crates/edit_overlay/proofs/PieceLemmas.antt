@@ -41,12 +41,6 @@ pub all_whole : (file : List ℕ) (reading : Reading) (limits : Limits) (h : Hea
 all_whole file reading limits h es cut k d l =
     subst (λ (t : List ℕ). IsTrace h t) (get_or-pieces file es k d [] l) (All-get_or (IsTrace h) (pieces file es) k [] (omega (arith, length-map es (λ (e : Extent). bytes_at file e))) cut.parts.traces)
 
--- ---- a splice keeps the length
-
-pub length-splice : (file : List ℕ) (a : ℕ) (new : List ℕ) → a + length new ≤ length file → length (splice file a (length new) new) ≡ length file
-length-splice file a new h =
-    omega (arith, length-append (take a file ++ new) (drop (a + length new) file), length-append (take a file) new, length-take a file, length-drop (a + length new) file)
-
 -- ---- blocks by their number
 
 pub slice_get-blocks : (n : ℕ) (rest : List ℕ) (i : ℕ) → i < n → slice_get (blocks_of n rest) i ≡ Some (take 3200 (drop (3200 * i) rest))

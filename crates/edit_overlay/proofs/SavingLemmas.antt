@@ -11,12 +11,12 @@ use Rattle.std.specs.Io.KnownBytes.{Appends}
 use Rattle.slab.specs.Slab.{get}
 use Rattle.trace_seq.specs.Order.{times}
 use Rattle.trace_seq.proofs.TimeLemmas.{times-append, times-self}
-use Rattle.edit_overlay.specs.declared.store.TraceStore.{TraceStore}
+use Rattle.trace_store.specs.declared.store.TraceStore.{TraceStore}
 use Rattle.frame_cut.specs.declared.extent.Extent.{Extent}
-use Rattle.edit_overlay.specs.declared.slot.Base.TheVariants.{Loaded}
-use Rattle.edit_overlay.specs.declared.slot.Slot.{Slot}
-use Rattle.edit_overlay.specs.Slots.{bytes_in, bytes_under, IsSlot}
-use Rattle.edit_overlay.specs.Stores.{traces_of}
+use Rattle.trace_store.specs.declared.slot.Base.TheVariants.{Loaded}
+use Rattle.trace_store.specs.declared.slot.Slot.{Slot}
+use Rattle.trace_store.specs.Slots.{bytes_in, bytes_under, IsSlot}
+use Rattle.trace_store.specs.Stores.{traces_of}
 use Rattle.edit_overlay.specs.declared.save_fault.SaveFault.{SaveFault}
 use Rattle.edit_overlay.specs.declared.waiting.Waiting.{Waiting}
 use Rattle.frame_cut.specs.Volume.{bytes_of}

@@ -4,11 +4,11 @@ use Rattle.text_block.specs.declared.block.TheConstants.{TEXT_BLOCK_BYTES}
 use Rattle.frame_cut.specs.declared.sizes.TheConstants.{BINARY_HEADER_BYTES, FILE_HEADER_BYTES}
 use Rattle.frame_cut.specs.Heads.{blocks_of}
 use Rattle.frame_cut.specs.Volume.{Volume, bytes_of}
-use Rattle.edit_overlay.specs.Ahead.{traces_ahead, IsReadyIfSome}
+use Rattle.trace_store.specs.Ahead.{traces_ahead, IsReadyIfSome}
 use Rattle.edit_overlay.specs.CountedVolume.{CountedVolume}
-use Rattle.edit_overlay.specs.declared.prepared.Prepared.{Prepared}
-use Rattle.edit_overlay.specs.Stores.{payloads_ahead, payloads_of, traces_of}
-use Rattle.edit_overlay.specs.declared.store.TraceStore.{TraceStore}
+use Rattle.trace_store.specs.declared.prepared.Prepared.{Prepared}
+use Rattle.trace_store.specs.Stores.{payloads_ahead, payloads_of, traces_of}
+use Rattle.trace_store.specs.declared.store.TraceStore.{TraceStore}
 use Rattle.edit_overlay.specs.declared.overlay.Overlay.TheInside.{Inside}
 
 -- the volume with these headers and the traces of the store

@@ -1,12 +1,6 @@
-pub mod Ahead
 pub mod Loading
 pub mod Saving
 pub mod Held
-pub mod Slots
-pub mod Stores
-pub mod OneProof
-pub mod Each
 pub mod CountedVolume
 pub mod Looks
-pub mod Shown
 pub mod Passes

@@ -1,19 +1,6 @@
 // Parts of one vector of bytes.
 ghost use Rattle.std.specs.Prelude.{◌≡◌, ◌+◌, ◌≤◌, length, take, drop};
-ghost use Rattle.frame_cut.specs.Layout.{bytes_at};
 ghost use Rattle.frame_cut.specs.Splice.{splice};
-
-use frame_cut::Extent;
-
-// The bytes of an extent.
-pub fn piece(bytes: &[u8], extent: Extent) -> &[u8]
-    requires { extent.start + extent.length ≤ length bytes.now }
-    ensures { result.now ≡ bytes_at bytes.now extent }
-{
-    let start = extent.start as usize;
-    let end = start + extent.length as usize;
-    &bytes[start..end]
-}
 
 // Writes the new bytes over those from a place on.
 pub fn overwrite(all: &mut [u8], at: usize, new: &[u8])

@@ -28,24 +28,15 @@
 //! were read.
 #![tactic(auto)]
 
-mod ahead;
 mod bytes;
-mod out_of_memory;
 mod overlay;
 mod pass;
-mod prepared;
 mod reading_in;
-mod rows;
 mod save_fault;
-mod slot;
-mod store;
-mod views;
 mod waiting;
 mod writing_out;
 
-pub use crate::out_of_memory::OutOfMemory;
 pub use crate::overlay::Overlay;
 pub use crate::pass::Pass;
-pub use crate::rows::Rows;
 pub use crate::save_fault::SaveFault;
-pub use crate::views::Views;
+pub use trace_store::{OutOfMemory, Rows, Views};

@@ -7,24 +7,18 @@ ghost use Rattle.frame_cut.specs.Splice.{splice};
 ghost use Rattle.frame_cut.specs.Traces.{count_of, is_trace, trace_at, with_trace};
 ghost use Rattle.frame_cut.specs.Volume.{bytes_of};
 ghost use Rattle.frame_cut.specs.declared.load_fault.LoadFault.TheVariants.{OutOfMemory as no_memory};
-ghost use Rattle.edit_overlay.specs.Each.{part_of};
+ghost use Rattle.trace_store.specs.Each.{part_of};
 ghost use Rattle.edit_overlay.specs.Loading.{IsLoadFault, FailuresAfterRefusal};
 ghost use Rattle.edit_overlay.specs.CountedVolume.{with_prepared, with_table, with_table_prepared, with_volume};
-ghost use Rattle.edit_overlay.specs.Stores.{payloads_moved};
+ghost use Rattle.trace_store.specs.Stores.{payloads_moved};
 ghost use Rattle.std.specs.List.{insert, remove, zip};
 ghost use Rattle.frame_cut.specs.Parts.{block_of, trailer_of, with_line, with_header_bytes, with_each, with_inserted, without, with_moved};
 ghost use Rattle.edit_overlay.specs.Saving.{Saves};
 
 use crate::bytes::{array_at, overwrite};
-use crate::out_of_memory::OutOfMemory;
 use crate::pass::Pass;
-use crate::prepared::Prepared;
 use crate::reading_in::read_file;
-use crate::rows::Rows;
 use crate::save_fault::SaveFault;
-use crate::slot::Base;
-use crate::store::TraceStore;
-use crate::views::Views;
 use crate::writing_out::write_volume;
 use device_io::{Sink, Source};
 use frame_cut::{BINARY_HEADER_BYTES, FILE_HEADER_BYTES, Head, Limits, LoadFault, Reading, cut};
@@ -32,6 +26,7 @@ use std::alloc::Global;
 use std::io::{Read, Write};
 use std::marker::Model;
 use text_block::TEXT_BLOCK_BYTES;
+use trace_store::{Base, OutOfMemory, Prepared, Rows, TraceStore, Views};
 use trace_view::TraceView;
 
 /// A volume under edits: one SEG-Y file in its parts. The bytes that were loaded never change:
@@ -62,7 +57,7 @@ impl<T: Copy> Overlay<T> {
     ghost use Rattle.edit_overlay.specs.CountedVolume.{IsViewOf};
     ghost use Rattle.edit_overlay.specs.Looks.{EndsLooked, EndsPassed};
     ghost use Rattle.edit_overlay.specs.Passes.{volume_of};
-    ghost use Rattle.edit_overlay.specs.Shown.{shown_traces};
+    ghost use Rattle.trace_store.specs.Shown.{shown_traces};
 
     /// Reads a whole file and cuts it. Takes memory. Refused: L01 where a read failed in this call,
     /// L02 to L15 for the first reason that the file gives, L16 where a growth was refused.

@@ -1,5 +1,5 @@
 use crate::overlay::Overlay;
-use crate::views::Views;
+use trace_store::Views;
 use trace_view::TraceView;
 
 /// A pass over all traces of a volume, in order, whose looks are counted: a `for` over it shows
@@ -25,7 +25,7 @@ impl<'a, T: Copy> Pass<'a, T> {
 impl<'a, T: Copy> IntoIterator for Pass<'a, T> {
     ghost use Rattle.std.specs.Prelude.{◌≡◌};
     ghost use Rattle.edit_overlay.specs.Passes.{volume_of};
-    ghost use Rattle.edit_overlay.specs.Shown.{shown_traces};
+    ghost use Rattle.trace_store.specs.Shown.{shown_traces};
 
     type Item = TraceView<'a>;
 

@@ -8,17 +8,16 @@ ghost use Rattle.frame_cut.specs.Volume.{bytes_of};
 ghost use Rattle.trace_view.specs.Shown.{bytes_of as bytes_of_view};
 ghost use Rattle.edit_overlay.specs.Held.{volume_with, HasEnds};
 ghost use Rattle.edit_overlay.specs.Saving.{progress, GoesOn, Saves};
-ghost use Rattle.edit_overlay.specs.Slots.{bytes_in, IsSlot};
-ghost use Rattle.edit_overlay.specs.Stores.{traces_of};
+ghost use Rattle.trace_store.specs.Slots.{bytes_in, IsSlot};
+ghost use Rattle.trace_store.specs.Stores.{traces_of};
 
 use crate::save_fault::SaveFault;
-use crate::slot::{Base, Slot};
-use crate::store::TraceStore;
 use crate::waiting::Waiting;
 use device_io::Sink;
 use frame_cut::{BINARY_HEADER_BYTES, FILE_HEADER_BYTES, Head};
 use std::io::Write;
 use text_block::TEXT_BLOCK_BYTES;
+use trace_store::{Base, Slot, TraceStore};
 use trace_view::TraceView;
 
 // Writes the headers, then the blocks, the traces and the data trailer records of the store.

@@ -13,7 +13,7 @@ use Rattle.frame_cut.specs.Parts.{put_each_at, with_each}
 use Rattle.frame_cut.specs.Splice.{splice}
 use Rattle.frame_cut.specs.Traces.{count_of}
 use Rattle.frame_cut.specs.Volume.{Volume}
-use Rattle.edit_overlay.specs.Each.{part_of}
+use Rattle.trace_store.specs.Each.{part_of}
 use Rattle.trace_view.specs.Values.{samples_at}
 use Rattle.trace_record.specs.Facts.{Facts, facts_of, with_samples_of}
 use Rattle.trace_record.specs.OfTrace.{record_of}

@@ -8,7 +8,7 @@ use Rattle.frame_cut.specs.Cuts.{IsTrace, IsCut}
 use Rattle.frame_cut.specs.Splice.{splice}
 use Rattle.frame_cut.specs.Traces.{count_of}
 use Rattle.frame_cut.specs.Volume.{Volume, bytes_of}
-use Rattle.edit_overlay.specs.Each.{part_of}
+use Rattle.trace_store.specs.Each.{part_of}
 use Rattle.trace_view.specs.Values.{samples_at}
 use Rattle.trace_record.specs.Facts.{Facts, with_samples_of}
 use Rattle.trace_record.specs.OfTrace.{record_of}

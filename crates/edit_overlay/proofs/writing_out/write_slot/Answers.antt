@@ -1,7 +1,7 @@
 use Rattle.std.proofs.Common.{◌≡◌, [], refl, sym, ◌∙◌}
 use Rattle.std.proofs.lemmas.Result.{err_from_is_err_and}
 use Rattle.edit_overlay.specs.Saving.{progress}
-use Rattle.edit_overlay.specs.Slots.{bytes_in}
+use Rattle.trace_store.specs.Slots.{bytes_in}
 use Rattle.edit_overlay.proofs.SavingLemmas.{nothing, refused_at, same_bytes, after_flush, plain_bytes}
 use Rattle.edit_overlay.proofs.writing_out.write_slot.Goals as goal
 

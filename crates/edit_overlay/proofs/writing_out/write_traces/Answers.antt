@@ -2,8 +2,8 @@ use Rattle.std.proofs.Common.{◌≡◌, ◌++◌, ◌∷◌, [], ℕ, List, map
 use Rattle.std.proofs.lemmas.Result.{err_from_is_err_and}
 use Rattle.std.specs.List.{concat}
 use Rattle.edit_overlay.specs.Saving.{progress}
-use Rattle.edit_overlay.specs.Slots.{bytes_in, bytes_under}
-use Rattle.edit_overlay.specs.Stores.{traces_of}
+use Rattle.trace_store.specs.Slots.{bytes_in, bytes_under}
+use Rattle.trace_store.specs.Stores.{traces_of}
 use Rattle.edit_overlay.proofs.SavingLemmas.{comes_on, refused_at, counted, length-waits, slot_here, no_slot, traces_here, traces_passed, same_come}
 use Rattle.edit_overlay.proofs.writing_out.write_traces.Goals as goal
 

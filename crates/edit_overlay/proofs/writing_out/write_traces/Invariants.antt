@@ -1,7 +1,7 @@
 use Rattle.std.proofs.Common.{◌≡◌, ◌≤◌, ◌++◌, List, ℕ, map, length}
 use Rattle.std.specs.List.{concat}
 use Rattle.edit_overlay.specs.Saving.{progress}
-use Rattle.edit_overlay.specs.Slots.{bytes_under}
+use Rattle.trace_store.specs.Slots.{bytes_under}
 use Rattle.edit_overlay.proofs.SavingLemmas.{Comes}
 use Rattle.edit_overlay.proofs.writing_out.write_traces.Given as goal
 

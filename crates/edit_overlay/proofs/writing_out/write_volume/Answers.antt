@@ -5,7 +5,7 @@ use Rattle.frame_cut.specs.Volume.{bytes_of}
 use Rattle.edit_overlay.specs.Held.{volume_with}
 use Rattle.edit_overlay.specs.declared.waiting.Waiting.{Waiting}
 use Rattle.edit_overlay.specs.Saving.{Progress, progress}
-use Rattle.edit_overlay.specs.Stores.{traces_of}
+use Rattle.trace_store.specs.Stores.{traces_of}
 use Rattle.edit_overlay.proofs.SavingLemmas.{begin, empty_waits, on_ok, IsFront, Comes, comes_on, counted, length-waits, parts_joined, refused_save, ended_save, shorter_front, waits_first, nothing}
 use Rattle.edit_overlay.proofs.writing_out.write_volume.Goals as goal
 

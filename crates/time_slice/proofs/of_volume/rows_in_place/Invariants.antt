@@ -1,7 +1,7 @@
 use Rattle.std.proofs.Common.{◌≡◌, ◌+◌, ◌++◌, length, drop, All, IsTrue}
 use Rattle.sample_codes.specs.Formats.{sample_fits}
 use Rattle.frame_cut.specs.Traces.{count_of}
-use Rattle.edit_overlay.specs.Shown.{shown_each}
+use Rattle.trace_store.specs.Shown.{shown_each}
 use Rattle.time_slice.specs.OfRecords.{with_sample_of}
 use Rattle.time_slice.specs.Slices.{rows_from}
 use Rattle.time_slice.proofs.of_volume.rows_in_place.Given as goal

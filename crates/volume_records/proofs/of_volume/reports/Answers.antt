@@ -6,7 +6,7 @@ use Rattle.frame_cut.specs.declared.file_head.Head.{Head}
 use Rattle.trace_record.specs.Facts.{facts_of}
 use Rattle.trace_record.specs.OfTrace.{record_of}
 use Rattle.trace_record.specs.declared.record.Record.{Record}
-use Rattle.edit_overlay.specs.Shown.{shown_each}
+use Rattle.trace_store.specs.Shown.{shown_each}
 use Rattle.edit_overlay.proofs.PassLemmas.{all_shown, next_shown, IsNextShown}
 use Rattle.volume_records.specs.OfVolume.{records_of}
 use Rattle.volume_records.proofs.FewLemmas.{cut_is_few}

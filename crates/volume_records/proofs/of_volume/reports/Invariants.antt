@@ -1,7 +1,7 @@
 use Rattle.std.proofs.Common.{◌≡◌, length, drop, take}
 use Rattle.std.specs.Prelude.{map}
 use Rattle.trace_record.specs.Facts.{facts_of}
-use Rattle.edit_overlay.specs.Shown.{shown_each}
+use Rattle.trace_store.specs.Shown.{shown_each}
 use Rattle.volume_records.specs.OfVolume.{records_of}
 use Rattle.volume_records.proofs.of_volume.reports.Given as goal
 

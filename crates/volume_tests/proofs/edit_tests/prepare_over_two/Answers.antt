@@ -2,7 +2,7 @@ use Rattle.std.proofs.Common.{arith, refl, ◌≡◌, ◌+◌, length, ℕ, ◌<
 use Rattle.std.specs.Prelude.{slice_index_or}
 use Rattle.frame_cut.specs.Cuts.{IsTrace}
 use Rattle.frame_cut.specs.Splice.{splice}
-use Rattle.edit_overlay.specs.Each.{part_of}
+use Rattle.trace_store.specs.Each.{part_of}
 use Rattle.volume_tests.proofs.TwoLemmas.{two}
 use Rattle.volume_tests.proofs.edit_tests.prepare_over_two.Goals as goal
 

@@ -5,7 +5,7 @@ use Rattle.frame_cut.specs.Cuts.{IsTrace}
 use Rattle.frame_cut.specs.Splice.{splice}
 use Rattle.frame_cut.specs.Traces.{count_of}
 use Rattle.edit_overlay.specs.CountedVolume.{CountedVolume}
-use Rattle.edit_overlay.specs.Each.{part_of}
+use Rattle.trace_store.specs.Each.{part_of}
 use Rattle.volume_records.proofs.EachLemmas.{length-put_each}
 use Rattle.volume_tests.proofs.TwoLemmas.{two}
 use Rattle.volume_tests.proofs.made_tests.prepared_two.Goals as goal

@@ -1,5 +1,5 @@
 use Rattle.std.proofs.Common.{◌∙◌, length, ap, sym}
-use Rattle.edit_overlay.proofs.AheadLemmas.{length-ahead}
+use Rattle.trace_store.proofs.AheadLemmas.{length-ahead}
 use Rattle.edit_overlay.proofs.overlay.Overlay.count_prepared.Goals as goal
 
 pub returns-clause-prepared : goal.returns-clause-prepared

@@ -1,8 +1,8 @@
 use Rattle.std.proofs.Common.{◌≡◌, ℕ, ◌<◌, ◌-◌, List, [], length, get_or, ap, arith, ◌∙◌}
-use Rattle.edit_overlay.specs.Stores.{traces_of}
+use Rattle.trace_store.specs.Stores.{traces_of}
 use Rattle.edit_overlay.specs.Held.{volume_with}
 use Rattle.edit_overlay.proofs.HeldLemmas.{held_again}
-use Rattle.edit_overlay.proofs.LengthLemmas.{total, total-remove, trace-within}
+use Rattle.trace_store.proofs.LengthLemmas.{total, total-remove, trace-within}
 use Rattle.edit_overlay.proofs.overlay.Overlay.delete.Goals as goal
 
 pub overflow_sub-self : goal.overflow_sub-self

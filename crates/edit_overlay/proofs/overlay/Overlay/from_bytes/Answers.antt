@@ -3,7 +3,7 @@ use Rattle.edit_overlay.proofs.PieceLemmas.{all_inside, all_whole}
 use Rattle.std.proofs.Common.{◌∙◌, ℕ, List, map, sym, ap}
 use Rattle.frame_cut.specs.declared.extent.Extent.{Extent}
 use Rattle.frame_cut.specs.Layout.{bytes_at}
-use Rattle.edit_overlay.proofs.PayloadLemmas.{blanks-mapped}
+use Rattle.trace_store.proofs.PayloadLemmas.{blanks-mapped}
 use Rattle.edit_overlay.proofs.overlay.Overlay.from_bytes.Goals as goal
 
 pub returns-in_err-cut-clause-refused : goal.returns-in_err-cut-clause-refused

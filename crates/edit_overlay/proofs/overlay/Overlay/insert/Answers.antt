@@ -1,8 +1,8 @@
 use Rattle.std.proofs.Common.{◌-◌, ◌∙◌, ap, arith}
-use Rattle.edit_overlay.specs.Stores.{traces_of}
+use Rattle.trace_store.specs.Stores.{traces_of}
 use Rattle.edit_overlay.proofs.HeldLemmas.{held_again, shown_kept}
-use Rattle.edit_overlay.proofs.SlotLemmas.{on_err}
-use Rattle.edit_overlay.proofs.LengthLemmas.{total, total-insert}
+use Rattle.trace_store.proofs.SlotLemmas.{on_err}
+use Rattle.trace_store.proofs.LengthLemmas.{total, total-insert}
 use Rattle.edit_overlay.proofs.overlay.Overlay.insert.Goals as goal
 
 pub invariant_of-self-2 : goal.invariant_of-self-2

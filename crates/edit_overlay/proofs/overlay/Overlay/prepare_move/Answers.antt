@@ -1,6 +1,6 @@
 use Rattle.std.proofs.Common.{◌∙◌}
 use Rattle.edit_overlay.proofs.HeldLemmas.{shown_kept}
-use Rattle.edit_overlay.proofs.SlotLemmas.{on_err}
+use Rattle.trace_store.proofs.SlotLemmas.{on_err}
 use Rattle.edit_overlay.proofs.overlay.Overlay.prepare_move.Goals as goal
 
 pub returns-in_err-prepared-clause-err : goal.returns-in_err-prepared-clause-err

@@ -1,8 +1,0 @@
-use Rattle.std.proofs.Common.{sym}
-use Rattle.edit_overlay.proofs.SlotLemmas.{held-missed}
-use Rattle.edit_overlay.proofs.store.TraceStore.payload_under.Goals as goal
-
-pub unreachable-requires : goal.unreachable-requires
-unreachable-requires g c =
-    let s = c.args.self.now in
-    held-missed s.loaded.items s.head s.slots c.args.id c.requires (sym c.in-None.ensures)

@@ -1,0 +1,7 @@
+pub mod AheadLemmas
+pub mod EachLemmas
+pub mod LengthLemmas
+pub mod MoveLemmas
+pub mod OrderLemmas
+pub mod PayloadLemmas
+pub mod SlotLemmas

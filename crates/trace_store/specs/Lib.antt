@@ -1,0 +1,6 @@
+pub mod Slots
+pub mod Stores
+pub mod Ahead
+pub mod Each
+pub mod OneProof
+pub mod Shown

@@ -1,0 +1,56 @@
+-- How the traces of a volume are held: an order of ids, and under each id a slot.
+use Rattle.std.specs.Prelude.{ℕ, ◌≡◌, ◌+◌, ◌<◌, ◌≤◌, ◌^◌, List, [], length, IsSomeAnd}
+use Rattle.std.specs.Option.{option_map_or}
+use Rattle.slab.specs.Slab.{Slab, get, slab_len}
+use Rattle.frame_cut.specs.declared.file_head.Head.{Head}
+use Rattle.frame_cut.specs.Cuts.{IsTrace}
+use Rattle.frame_cut.specs.Layout.{bytes_at}
+use Rattle.trace_seq.specs.Order.{times, AreDistinct}
+use Rattle.trace_view.specs.Runs.{Fit, bytes_with_runs}
+use Rattle.trace_store.specs.declared.slot.Base.{Base}
+use Rattle.trace_store.specs.declared.slot.Base.TheVariants.{Loaded, Added}
+use Rattle.trace_store.specs.declared.slot.Slot.{Slot}
+
+-- the bytes under a trace's runs: a part of the loaded file, or bytes of the trace's own
+abbrev pub base_of : List ℕ → Base → List ℕ
+base_of loaded (Loaded extent) = bytes_at loaded extent
+base_of loaded (Added bytes) = bytes.items
+
+-- the part lies inside the loaded file
+abbrev pub IsInside : List ℕ → Base → Type 0
+IsInside loaded (Loaded extent) = extent.start + extent.length ≤ length loaded
+IsInside loaded (Added bytes) = Unit {0}
+
+-- the bytes of a slot's trace
+abbrev pub bytes_in : {T : Type 0} → List ℕ → Slot T → List ℕ
+bytes_in loaded slot = bytes_with_runs (base_of loaded slot.base) slot.runs.items
+
+-- the slot holds a whole trace
+pub record IsSlot {T : Type 0} (loaded : List ℕ) (h : Head) (slot : Slot T) : Type 0 where
+  pub inside : IsInside loaded slot.base
+  pub fit : Fit slot.runs.items (length (base_of loaded slot.base))
+  pub whole : IsTrace h (bytes_in loaded slot)
+
+-- the bytes of the trace under an id
+abbrev pub bytes_under : {T : Type 0} → List ℕ → Slab (Slot T) → ℕ → List ℕ
+bytes_under loaded slots id = option_map_or (bytes_in loaded) (get slots id) []
+
+-- the bytes under the runs of the trace under an id
+abbrev pub base_under : {T : Type 0} → List ℕ → Slab (Slot T) → ℕ → List ℕ
+base_under loaded slots id = option_map_or (λ slot. base_of loaded slot.base) (get slots id) []
+
+-- the id has a slot with a whole trace
+abbrev pub IsHeldUnder : {T : Type 0} → List ℕ → Head → Slab (Slot T) → ℕ → Type 0
+IsHeldUnder loaded h slots id = IsSomeAnd (get slots id) (IsSlot loaded h)
+
+-- each of these ids has a slot with a whole trace
+abbrev pub AreHeld : {T : Type 0} → List ℕ → Head → List ℕ → Slab (Slot T) → Type 0
+AreHeld loaded h ids slots = (id : ℕ) → 0 < times id ids → IsHeldUnder loaded h slots id
+
+-- each of the ids has a slot with a whole trace, no id stands twice, there is no slot but theirs, and they can be
+-- counted in 32 bits
+pub record IsStore {T : Type 0} (loaded : List ℕ) (h : Head) (ids : List ℕ) (slots : Slab (Slot T)) : Type 0 where
+  pub held : AreHeld loaded h ids slots
+  pub distinct : AreDistinct ids
+  pub no_more : slab_len slots ≡ length ids
+  pub few : length ids < 2 ^ 32

@@ -1,0 +1,508 @@
+// The traces of a volume: an order of ids, and a slot under each.
+ghost use Rattle.std.specs.Prelude.{All, ◌≡◌, ℕ, ◌+◌, ◌-◌, ◌/◌, ◌%◌, ◌^◌, ◌<◌, ◌≤◌, [], length, Some, slice_index_or, slice_set, IfOk, OnOk, OnErr, slice_get, map};
+ghost use Rattle.std.specs.List.{insert, remove};
+ghost use Rattle.frame_cut.specs.Cuts.{IsTrace};
+ghost use Rattle.frame_cut.specs.Layout.{bytes_at, pieces};
+ghost use Rattle.frame_cut.specs.Splice.{splice};
+ghost use Rattle.trace_seq.specs.Order.{id_at};
+ghost use Rattle.trace_view.specs.Runs.{Fit, bytes_with_runs};
+ghost use Rattle.trace_view.specs.Shown.{bytes_of, head_of};
+ghost use Rattle.trace_store.specs.Slots.{base_of, bytes_under, IsHeldUnder, IsInside, IsStore};
+ghost use Rattle.frame_cut.specs.Parts.{put_each_at};
+ghost use Rattle.trace_store.specs.Each.{part_of, ArePutRuns, ArePutEach};
+ghost use Rattle.trace_store.specs.OneProof.{IsStore-prop};
+
+use crate::out_of_memory::OutOfMemory;
+use crate::prepared::{Prepared, TraceMove, TraceRuns};
+use crate::slot::{Base, Slot};
+use frame_cut::{Extent, Head};
+use slab::Slab;
+use std::alloc::Global;
+use trace_seq::{ChunkSeq, TraceSeq};
+use trace_view::{Run, TraceView};
+
+/// The loaded bytes, which never change, and the traces that lie over them. Traces count from 1.
+#[derive(Drop)]
+pub struct TraceStore<T: Copy> {
+    pub loaded: Vec<u8>,
+    pub head: Head,
+    pub order: ChunkSeq,
+    pub slots: Slab<Slot<T>>,
+    pub ghost sound: { IsStore loaded.items head order.ids slots } by { IsStore-prop loaded.items
+        head order.ids slots },
+}
+
+impl<T: Copy> TraceStore<T> {
+    ghost use Rattle.trace_store.specs.Ahead.{traces_moved, traces_then, traces_with, AreRunsFrom, AreRunsOf, IsReady};
+    ghost use Rattle.trace_store.specs.Stores.{bases_of, payload_under, traces_of, payloads_of, payloads_moved, payloads_then};
+
+    /// The store of a loaded file whose traces lie at these extents. Refused for want of memory
+    /// alone.
+    pub fn new(
+        alloc: Global,
+        loaded: Vec<u8>,
+        head: Head,
+        extents: Vec<Extent>,
+        blank: T,
+    ) -> Result<TraceStore<T>, OutOfMemory>
+        requires few { length extents.items < 2 ^ 32 }
+        requires inside { All (λ e. e.start + e.length ≤ length loaded.items) extents.items }
+        requires whole { All (λ e. IsTrace head (bytes_at loaded.items e)) extents.items }
+        ensures head { IfOk result (λ s. s.head ≡ head) }
+        ensures loaded { IfOk result (λ s. s.loaded.items ≡ loaded.items) }
+        ensures traces { IfOk result (λ s. traces_of s ≡ pieces loaded.items extents.items) }
+        ensures payloads { IfOk result (λ s. payloads_of s ≡ map (λ _. blank) extents.items) }
+    {
+        let mut store = TraceStore {
+            loaded,
+            head,
+            order: ChunkSeq::new(alloc),
+            slots: Slab::with_capacity(alloc, extents.len())?,
+        };
+        for extent in extents.as_slice() {
+            let last = store.count() + 1;
+            store.insert(alloc, last, Base::Loaded(*extent), blank)?;
+        }
+        Ok(store)
+    }
+
+    /// The number of traces.
+    pub fn count(&self) -> u32
+        ensures { result ≡ length (traces_of self.now) }
+    {
+        self.order.len()
+    }
+
+    // The id of trace p.
+    fn id(&self, p: u32) -> usize
+        requires first { 1 ≤ p }
+        requires last { p ≤ length (traces_of self.now) }
+        ensures { id_at self.now.order.ids p ≡ Some result }
+    {
+        let mut probes = 0;
+        match self.order.get(p, &mut probes) {
+            Some(id) => id,
+            None => unreachable!(),
+        }
+    }
+
+    /// The payload of trace p.
+    pub fn payload(&self, p: u32) -> T
+        requires first { 1 ≤ p }
+        requires last { p ≤ length (traces_of self.now) }
+        ensures { slice_get (payloads_of self.now) (p - 1) ≡ Some result }
+    {
+        let id = self.id(p);
+        match self.slots.get(id) {
+            Some(slot) => slot.payload,
+            None => unreachable!(),
+        }
+    }
+
+    /// Gives trace p another payload.
+    pub fn set_payload(&mut self, p: u32, payload: T)
+        requires first { 1 ≤ p }
+        requires last { p ≤ length (traces_of self.old) }
+        ensures head { self.new.head ≡ self.old.head }
+        ensures loaded { self.new.loaded ≡ self.old.loaded }
+        ensures order { self.new.order ≡ self.old.order }
+        ensures bases { bases_of self.new ≡ bases_of self.old }
+        ensures traces { traces_of self.new ≡ traces_of self.old }
+        ensures payloads { payloads_of self.new ≡ slice_set (payloads_of self.old) (p - 1) payload }
+    {
+        let id = self.id(p);
+        match self.slots.get_mut(id) {
+            Some(slot) => slot.payload = payload,
+            None => unreachable!(),
+        }
+    }
+
+    /// Trace p.
+    pub fn view(&self, p: u32) -> TraceView<'_>
+        requires first { 1 ≤ p }
+        requires last { p ≤ length (traces_of self.now) }
+        ensures head { head_of result ≡ self.now.head }
+        ensures bytes { bytes_of result ≡ slice_index_or (traces_of self.now) (p - 1) [] }
+    {
+        self.view_under(self.id(p))
+    }
+
+    /// The trace under an id.
+    pub fn view_under(&self, id: usize) -> TraceView<'_>
+        requires { IsHeldUnder self.now.loaded.items self.now.head self.now.slots id }
+        ensures head { head_of result ≡ self.now.head }
+        ensures bytes { bytes_of result ≡ bytes_under self.now.loaded.items self.now.slots id }
+    {
+        match self.slots.get(id) {
+            Some(slot) => {
+                let base = slot.base_bytes(self.loaded.as_slice());
+                TraceView::new(&self.head, base, slot.runs.as_slice())
+            }
+            None => unreachable!(),
+        }
+    }
+
+    /// The payload under an id.
+    pub fn payload_under(&self, id: usize) -> T
+        requires { IsHeldUnder self.now.loaded.items self.now.head self.now.slots id }
+        ensures { payload_under self.now.slots id ≡ Some result }
+    {
+        match self.slots.get(id) {
+            Some(slot) => slot.payload,
+            None => unreachable!(),
+        }
+    }
+
+    // Trace p with these runs in place of its own.
+    fn view_with<'a>(&'a self, p: u32, runs: &'a [Run]) -> TraceView<'a>
+        requires first { 1 ≤ p }
+        requires runs { AreRunsOf self.now.head (bases_of self.now) (p - 1) runs.now }
+        ensures head { head_of result ≡ self.now.head }
+        ensures bytes { bytes_of result ≡ bytes_with_runs
+            (slice_index_or (bases_of self.now) (p - 1) []) runs.now }
+    {
+        let id = self.id(p);
+        match self.slots.get(id) {
+            Some(slot) => {
+                let base = slot.base_bytes(self.loaded.as_slice());
+                TraceView::new(&self.head, base, runs)
+            }
+            None => unreachable!(),
+        }
+    }
+
+    /// Trace p as it would be with the edit that is prepared.
+    pub fn view_then<'a>(&'a self, p: u32, prepared: &'a Prepared) -> TraceView<'a>
+        requires ready { IsReady self.now prepared.now }
+        requires first { 1 ≤ p }
+        requires last { p ≤ length (traces_of self.now) }
+        ensures head { head_of result ≡ self.now.head }
+        ensures bytes { bytes_of result ≡ slice_index_or (traces_then self.now prepared.now) (p - 1)
+            [] }
+    {
+        match prepared {
+            Prepared::Runs(runs) => self.view_laid(p, runs),
+            Prepared::Move(places) => self.view(places.origin(p)),
+        }
+    }
+
+    // Trace p as it would be with the prepared runs.
+    fn view_laid<'a>(&'a self, p: u32, prepared: &'a TraceRuns) -> TraceView<'a>
+        requires runs { AreRunsFrom self.now.head (bases_of self.now) prepared.now.place
+            prepared.now.lists.items }
+        requires first { 1 ≤ p }
+        requires last { p ≤ length (traces_of self.now) }
+        ensures head { head_of result ≡ self.now.head }
+        ensures bytes { bytes_of result ≡ slice_index_or (traces_with (bases_of self.now)
+            (traces_of self.now) prepared.now.place prepared.now.lists.items) (p - 1) [] }
+    {
+        let at = p - 1;
+        if at < prepared.place {
+            return self.view(p);
+        }
+        let k = (at - prepared.place) as usize;
+        if k >= prepared.lists.len() {
+            return self.view(p);
+        }
+        self.view_with(p, prepared.lists[k].as_slice())
+    }
+
+    /// The runs that lay the bytes over those of trace p from place `at` on, counted from 0 in the
+    /// trace.
+    pub fn prepare_put(
+        &self,
+        alloc: Global,
+        p: u32,
+        at: u64,
+        bytes: &[u8],
+    ) -> Result<Prepared, OutOfMemory>
+        requires first { 1 ≤ p }
+        requires last { p ≤ length (traces_of self.now) }
+        requires inside { at + length bytes.now ≤ length
+            (slice_index_or (traces_of self.now) (p - 1) []) }
+        requires whole { IsTrace self.now.head
+            (splice (slice_index_or (traces_of self.now) (p - 1) []) at (length bytes.now)
+            bytes.now) }
+        ensures ready { IfOk result (IsReady self.now) }
+        ensures payloads { IfOk result (λ prepared. payloads_then (payloads_of self.now) prepared
+            ≡ payloads_of self.now) }
+        ensures traces { IfOk result (λ prepared. traces_then self.now prepared
+            ≡ slice_set (traces_of self.now) (p - 1)
+            (splice (slice_index_or (traces_of self.now) (p - 1) []) at (length bytes.now)
+            bytes.now)) }
+    {
+        let place = p - 1;
+        if bytes.is_empty() {
+            return Ok(Prepared::Runs(TraceRuns {
+                place,
+                lists: Vec::new(alloc),
+            }));
+        }
+        let runs = self.runs_with(alloc, p, at, bytes)?;
+        let mut lists = Vec::with_capacity(alloc, 1)?;
+        lists.push(runs)?;
+        Ok(Prepared::Runs(TraceRuns { place, lists }))
+    }
+
+    /// The runs that lay the bytes, `size` of them over each trace, over the traces from `a` on, in
+    /// each from place `at` on, counted from 0.
+    pub fn prepare_put_each(
+        &self,
+        alloc: Global,
+        a: u32,
+        at: u64,
+        size: u32,
+        bytes: &[u8],
+    ) -> Result<Prepared, OutOfMemory>
+        requires first { 1 ≤ a }
+        requires some { 0 < size }
+        requires exact { length bytes.now % size ≡ 0 }
+        requires last { a - 1 + length bytes.now / size ≤ length (traces_of self.now) }
+        requires inside { (k : ℕ) → k < length bytes.now / size →
+            at + size ≤ length (slice_index_or (traces_of self.now) (a - 1 + k) []) }
+        requires whole { (k : ℕ) → k < length bytes.now / size →
+            IsTrace self.now.head (splice (slice_index_or (traces_of self.now) (a - 1 + k) []) at
+            size (part_of bytes.now size k)) }
+        ensures ready { IfOk result (IsReady self.now) }
+        ensures payloads { IfOk result (λ prepared. payloads_then (payloads_of self.now) prepared
+            ≡ payloads_of self.now) }
+        ensures traces { IfOk result (λ prepared. traces_then self.now prepared
+            ≡ put_each_at (traces_of self.now) (a - 1) at size bytes.now) }
+    {
+        let lists = self.runs_for_each(alloc, a, at, size, bytes)?;
+        Ok(Prepared::Runs(TraceRuns {
+            place: a - 1,
+            lists,
+        }))
+    }
+
+    /// The move of trace a to where it is trace b, and room for it in the order. Where memory is
+    /// refused, nothing is changed.
+    pub fn prepare_move(&mut self, alloc: Global, a: u32, b: u32) -> Result<Prepared, OutOfMemory>
+        requires from_first { 1 ≤ a }
+        requires from_last { a ≤ length (traces_of self.old) }
+        requires to_first { 1 ≤ b }
+        requires to_last { b ≤ length (traces_of self.old) }
+        ensures head { self.new.head ≡ self.old.head }
+        ensures loaded { self.new.loaded ≡ self.old.loaded }
+        ensures bases { bases_of self.new ≡ bases_of self.old }
+        ensures traces { traces_of self.new ≡ traces_of self.old }
+        ensures payloads { payloads_of self.new ≡ payloads_of self.old }
+        ensures room { self.old.order.spare ≤ self.new.order.spare }
+        ensures ready { IfOk result (IsReady self.new) }
+        ensures moved { IfOk result (λ prepared. traces_then self.new prepared
+            ≡ traces_moved (traces_of self.old) a b) }
+        ensures carried { IfOk result (λ prepared. payloads_then (payloads_of self.new) prepared
+            ≡ payloads_moved (payloads_of self.old) a b) }
+    {
+        self.order.reserve_one(alloc, 0)?;
+        Ok(Prepared::Move(TraceMove { from: a, to: b }))
+    }
+
+    /// Makes the edit that is prepared.
+    pub fn commit(&mut self, prepared: Prepared)
+        requires ready { IsReady self.old prepared }
+        ensures head { self.new.head ≡ self.old.head }
+        ensures loaded { self.new.loaded ≡ self.old.loaded }
+        ensures traces { traces_of self.new ≡ traces_then self.old prepared }
+        ensures payloads { payloads_of self.new ≡ payloads_then (payloads_of self.old) prepared }
+    {
+        match prepared {
+            Prepared::Runs(runs) => self.lay(runs),
+            Prepared::Move(places) => self.move_to(places.from, places.to),
+        }
+    }
+
+    // Gives the traces the prepared runs.
+    fn lay(&mut self, prepared: TraceRuns)
+        requires runs { AreRunsFrom self.old.head (bases_of self.old) prepared.place
+            prepared.lists.items }
+        ensures head { self.new.head ≡ self.old.head }
+        ensures loaded { self.new.loaded ≡ self.old.loaded }
+        ensures traces { traces_of self.new ≡ traces_with (bases_of self.old) (traces_of self.old)
+            prepared.place prepared.lists.items }
+        ensures payloads { payloads_of self.new ≡ payloads_of self.old }
+    {
+        let mut done = prepared.place;
+        for runs in prepared.lists {
+            done += 1;
+            self.set_runs(done, runs);
+        }
+    }
+
+    // For each of these traces, the runs with its bytes laid over it.
+    fn runs_for_each(
+        &self,
+        alloc: Global,
+        a: u32,
+        at: u64,
+        size: u32,
+        bytes: &[u8],
+    ) -> Result<Vec<Vec<Run>>, OutOfMemory>
+        requires first { 1 ≤ a }
+        requires some { 0 < size }
+        requires last { a - 1 + length bytes.now / size ≤ length (traces_of self.now) }
+        requires inside { (k : ℕ) → k < length bytes.now / size →
+            at + size ≤ length (slice_index_or (traces_of self.now) (a - 1 + k) []) }
+        ensures count { IfOk result (λ lists. length lists.items ≡ length bytes.now / size) }
+        ensures runs { IfOk result (λ lists.
+            ArePutEach (bases_of self.now) (traces_of self.now) (a - 1) at size bytes.now 0
+            lists.items) }
+    {
+        let count = bytes.len() / size as usize;
+        let mut lists = Vec::with_capacity(alloc, count)?;
+        for k in 0..count {
+            let part = part(bytes, size, k);
+            let runs = self.runs_with(alloc, a + k as u32, at, part)?;
+            lists.push(runs)?;
+        }
+        Ok(lists)
+    }
+
+    // The runs of trace p with the bytes laid over it from place `at` on, counted from 0.
+    fn runs_with(
+        &self,
+        alloc: Global,
+        p: u32,
+        at: u64,
+        bytes: &[u8],
+    ) -> Result<Vec<Run>, OutOfMemory>
+        requires first { 1 ≤ p }
+        requires last { p ≤ length (traces_of self.now) }
+        requires some { 0 < length bytes.now }
+        requires inside { at + length bytes.now ≤ length
+            (slice_index_or (traces_of self.now) (p - 1) []) }
+        ensures { IfOk result (λ list. ArePutRuns (slice_index_or (bases_of self.now) (p - 1) [])
+            (slice_index_or (traces_of self.now) (p - 1) []) at bytes.now list.items) }
+    {
+        let id = self.id(p);
+        match self.slots.get(id) {
+            Some(slot) => slot.runs_with(alloc, self.loaded.as_slice(), at, bytes),
+            None => unreachable!(),
+        }
+    }
+
+    // Gives trace p these runs in place of those that it has.
+    fn set_runs(&mut self, p: u32, runs: Vec<Run>)
+        requires first { 1 ≤ p }
+        requires runs { AreRunsOf self.old.head (bases_of self.old) (p - 1) runs.items }
+        ensures head { self.new.head ≡ self.old.head }
+        ensures loaded { self.new.loaded ≡ self.old.loaded }
+        ensures bases { bases_of self.new ≡ bases_of self.old }
+        ensures traces { traces_of self.new ≡ slice_set (traces_of self.old) (p - 1)
+            (bytes_with_runs (slice_index_or (bases_of self.old) (p - 1) []) runs.items) }
+        ensures payloads { payloads_of self.new ≡ payloads_of self.old }
+    {
+        let id = self.id(p);
+        match self.slots.get_mut(id) {
+            Some(slot) => slot.runs = runs,
+            None => unreachable!(),
+        }
+    }
+
+    /// A slot's base as a new trace in front of trace p, or behind the last. Where memory is
+    /// refused, nothing is changed.
+    pub fn insert(
+        &mut self,
+        alloc: Global,
+        p: u32,
+        base: Base,
+        payload: T,
+    ) -> Result<(), OutOfMemory>
+        requires first { 1 ≤ p }
+        requires last { p ≤ length (traces_of self.old) + 1 }
+        requires few { length (traces_of self.old) + 1 < 2 ^ 32 }
+        requires inside { IsInside self.old.loaded.items base }
+        requires whole { IsTrace self.old.head (base_of self.old.loaded.items base) }
+        ensures head { self.new.head ≡ self.old.head }
+        ensures loaded { self.new.loaded ≡ self.old.loaded }
+        ensures ok { OnOk result (traces_of self.new ≡ insert (traces_of self.old) (p - 1)
+            (base_of self.old.loaded.items base)) }
+        ensures err { OnErr result (traces_of self.new ≡ traces_of self.old) }
+        ensures put { OnOk result (payloads_of self.new ≡ insert (payloads_of self.old) (p - 1)
+            payload) }
+        ensures payloads { OnErr result (payloads_of self.new ≡ payloads_of self.old) }
+        ensures bases { OnErr result (bases_of self.new ≡ bases_of self.old) }
+        ensures room { OnErr result (self.old.order.spare ≤ self.new.order.spare) }
+    {
+        self.slots.reserve(1)?;
+        let id = self.slots.insert_reserved(Slot {
+            base,
+            runs: Vec::new(alloc),
+            payload,
+        });
+        // The id is below the capacity, which is a usize.
+        let _capacity = self.slots.capacity();
+        if self.order.reserve_one(alloc, id).is_err() {
+            let _ = self.slots.remove(id);
+            return Err(OutOfMemory);
+        }
+        self.order.insert(p, id);
+        Ok(())
+    }
+
+    /// Takes trace p out, and frees its slot.
+    pub fn delete(&mut self, p: u32) -> T
+        requires first { 1 ≤ p }
+        requires last { p ≤ length (traces_of self.old) }
+        ensures head { self.new.head ≡ self.old.head }
+        ensures loaded { self.new.loaded ≡ self.old.loaded }
+        ensures traces { traces_of self.new ≡ remove (traces_of self.old) (p - 1) }
+        ensures payloads { payloads_of self.new ≡ remove (payloads_of self.old) (p - 1) }
+        ensures payload { slice_get (payloads_of self.old) (p - 1) ≡ Some result }
+    {
+        let id = self.id(p);
+        self.order.remove(p);
+        self.slots.remove(id).payload
+    }
+
+    // Takes trace a out, and puts it in again so that it is trace b.
+    fn move_to(&mut self, a: u32, b: u32)
+        requires from_first { 1 ≤ a }
+        requires from_last { a ≤ length (traces_of self.old) }
+        requires to_first { 1 ≤ b }
+        requires to_last { b ≤ length (traces_of self.old) }
+        requires room { 1 ≤ self.old.order.spare }
+        ensures head { self.new.head ≡ self.old.head }
+        ensures loaded { self.new.loaded ≡ self.old.loaded }
+        ensures traces { traces_of self.new ≡ traces_moved (traces_of self.old) a b }
+        ensures payloads { payloads_of self.new ≡ payloads_moved (payloads_of self.old) a b }
+    {
+        self.order.move_to(a, b);
+    }
+
+    /// Makes the base the whole of trace p, without runs.
+    pub fn replace(&mut self, alloc: Global, p: u32, base: Base, payload: T)
+        requires first { 1 ≤ p }
+        requires last { p ≤ length (traces_of self.old) }
+        requires inside { IsInside self.old.loaded.items base }
+        requires whole { IsTrace self.old.head (base_of self.old.loaded.items base) }
+        ensures head { self.new.head ≡ self.old.head }
+        ensures loaded { self.new.loaded ≡ self.old.loaded }
+        ensures traces { traces_of self.new ≡ slice_set (traces_of self.old) (p - 1)
+            (base_of self.old.loaded.items base) }
+        ensures payloads { payloads_of self.new ≡ slice_set (payloads_of self.old) (p - 1) payload }
+    {
+        let id = self.id(p);
+        let fresh = Slot {
+            base,
+            runs: Vec::new(alloc),
+            payload,
+        };
+        match self.slots.get_mut(id) {
+            Some(slot) => *slot = fresh,
+            None => unreachable!(),
+        }
+    }
+}
+
+// Part k of bytes that are cut into parts of one size, counted from 0.
+fn part(bytes: &[u8], size: u32, k: usize) -> &[u8]
+    requires some { 0 < size }
+    requires within { k < length bytes.now / size }
+    ensures part { result.now ≡ part_of bytes.now size k }
+    ensures length { length result.now ≡ size }
+{
+    let start = k * size as usize;
+    &bytes[start..start + size as usize]
+}

@@ -1,6 +1,8 @@
 pub mod Loading
 pub mod Saving
 pub mod Held
+pub mod HeldLoading
 pub mod CountedVolume
+pub mod LoadedVolume
 pub mod Looks
 pub mod Passes

@@ -29,6 +29,7 @@
 #![tactic(auto)]
 
 mod bytes;
+mod loading;
 mod overlay;
 mod pass;
 mod reading_in;
@@ -36,7 +37,8 @@ mod save_fault;
 mod waiting;
 mod writing_out;
 
+pub use crate::loading::Loading;
 pub use crate::overlay::Overlay;
 pub use crate::pass::Pass;
 pub use crate::save_fault::SaveFault;
-pub use trace_store::{OutOfMemory, Rows, Views};
+pub use trace_store::{OutOfMemory, Payloads, Rows};

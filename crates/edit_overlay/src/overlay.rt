@@ -1,32 +1,28 @@
 ghost use Rattle.std.specs.Prelude.{ℕ, ◌≡◌, ◌⊎◌, ◌↔◌, ◌+◌, ◌-◌, ◌/◌, ◌%◌, ◌≤◌, ◌<◌, ◌^◌, [], length, slice_index_or, option_map, slice_get, slice_set, map, Some, IfOk, IfErr, IfSome, IsSome, IsTrue, OnOk, OnErr, MatchResult};
 ghost use Rattle.std.specs.Borrow.{sem};
-ghost use Rattle.std.specs.Io.KnownBytes.{Consumes, IsAtEnd};
 ghost use Rattle.device_io.specs.Failures.{CountsFailure};
-ghost use Rattle.frame_cut.specs.Cuts.{IsCut, IsRefused, IsTrace};
+ghost use Rattle.frame_cut.specs.Cuts.{IsTrace};
 ghost use Rattle.frame_cut.specs.Splice.{splice};
 ghost use Rattle.frame_cut.specs.Traces.{count_of, is_trace, trace_at, with_trace};
 ghost use Rattle.frame_cut.specs.Volume.{bytes_of};
-ghost use Rattle.frame_cut.specs.declared.load_fault.LoadFault.TheVariants.{OutOfMemory as no_memory};
 ghost use Rattle.trace_store.specs.Each.{part_of};
-ghost use Rattle.edit_overlay.specs.Loading.{IsLoadFault, FailuresAfterRefusal};
 ghost use Rattle.edit_overlay.specs.CountedVolume.{with_prepared, with_table, with_table_prepared, with_volume};
-ghost use Rattle.trace_store.specs.Stores.{payloads_moved};
-ghost use Rattle.std.specs.List.{insert, remove, zip};
+ghost use Rattle.trace_store.specs.Stores.{payloads_moved, payloads_of};
+ghost use Rattle.std.specs.List.{insert, remove};
 ghost use Rattle.frame_cut.specs.Parts.{block_of, trailer_of, with_line, with_header_bytes, with_each, with_inserted, without, with_moved};
 ghost use Rattle.edit_overlay.specs.Saving.{Saves};
 
 use crate::bytes::{array_at, overwrite};
 use crate::pass::Pass;
-use crate::reading_in::read_file;
 use crate::save_fault::SaveFault;
 use crate::writing_out::write_volume;
-use device_io::{Sink, Source};
-use frame_cut::{BINARY_HEADER_BYTES, FILE_HEADER_BYTES, Head, Limits, LoadFault, Reading, cut};
+use device_io::Sink;
+use frame_cut::{BINARY_HEADER_BYTES, FILE_HEADER_BYTES, Head};
 use std::alloc::Global;
-use std::io::{Read, Write};
+use std::io::Write;
 use std::marker::Model;
 use text_block::TEXT_BLOCK_BYTES;
-use trace_store::{Base, OutOfMemory, Prepared, Rows, TraceStore, Views};
+use trace_store::{Base, OutOfMemory, Payloads, Prepared, Rows, TraceStore};
 use trace_view::TraceView;
 
 /// A volume under edits: one SEG-Y file in its parts. The bytes that were loaded never change:
@@ -55,69 +51,33 @@ impl<T: Copy> Model for Overlay<T> {
 
 impl<T: Copy> Overlay<T> {
     ghost use Rattle.edit_overlay.specs.CountedVolume.{IsViewOf};
+    ghost use Rattle.edit_overlay.specs.Held.{volume_with, HasEnds};
     ghost use Rattle.edit_overlay.specs.Looks.{EndsLooked, EndsPassed};
-    ghost use Rattle.edit_overlay.specs.Passes.{volume_of};
-    ghost use Rattle.trace_store.specs.Shown.{shown_traces};
+    ghost use Rattle.edit_overlay.specs.Passes.{volume_of, payloads_of as payloads_of_pass, rows_of};
 
-    /// Reads a whole file and cuts it. Takes memory. Refused: L01 where a read failed in this call,
-    /// L02 to L15 for the first reason that the file gives, L16 where a growth was refused.
-    pub fn load<R: Read>(
-        alloc: Global,
-        reader: &mut Source<R>,
-        reading: Reading,
-        limits: Limits,
-        blank: T,
-    ) -> Result<Overlay<T>, LoadFault>
-        ensures taken { IfOk result (λ o. Consumes (R.remaining reader.old.inner)
-            (R.remaining reader.new.inner) (bytes_of o.volume)) }
-        ensures all { IfOk result (λ _. IsAtEnd (R.remaining reader.new.inner)) }
-        ensures cut { IfOk result (λ o. IsCut (bytes_of o.volume) reading limits o.volume) }
-        ensures payloads { IfOk result (λ o. o.payloads ≡ map (λ _. blank) o.volume.traces) }
-        ensures prepared { IfOk result (λ o. o.prepared ≡ o.volume) }
-        ensures looks { IfOk result (λ o. o.looks ≡ 0) }
-        ensures refused { IfErr result (λ fault. IsLoadFault (R.remaining reader.old.inner) reading
-            limits fault) }
-        ensures failures { MatchResult result (λ _. reader.new.failures ≡ reader.old.failures)
-            (λ fault. FailuresAfterRefusal fault reader.old.failures reader.new.failures) }
+    // An overlay of the store of a loaded file, with its headers, and how often traces were looked
+    // at.
+    pub(crate) fn new(
+        text: [u8; TEXT_BLOCK_BYTES],
+        bin: [u8; BINARY_HEADER_BYTES],
+        store: TraceStore<T>,
+        looks: u64,
+    ) -> Overlay<T>
+        requires ends { HasEnds store }
+        requires joined { bytes_of (volume_with text bin store) ≡ store.loaded.items }
+        ensures { result ≡ record { volume = volume_with text bin store; prepared = volume_with text
+            bin store; looks = looks; payloads = payloads_of store;
+            payloads_prepared = payloads_of store } }
     {
-        let bytes = read_file(alloc, reader, limits)?;
-        Overlay::from_bytes(alloc, bytes, reading, limits, blank)
-    }
-
-    /// Cuts a file that is in memory. Takes memory for the list of traces. Refused: L02 to L15 for
-    /// the first reason that the file gives, L16 where a growth was refused; the bytes are then
-    /// dropped.
-    pub fn from_bytes(
-        alloc: Global,
-        bytes: Vec<u8>,
-        reading: Reading,
-        limits: Limits,
-        blank: T,
-    ) -> Result<Overlay<T>, LoadFault>
-        ensures cut { IfOk result (λ o. IsCut bytes.items reading limits o.volume) }
-        ensures payloads { IfOk result (λ o. o.payloads ≡ map (λ _. blank) o.volume.traces) }
-        ensures prepared { IfOk result (λ o. o.prepared ≡ o.volume) }
-        ensures looks { IfOk result (λ o. o.looks ≡ 0) }
-        ensures refused { IfErr result (λ fault. (fault ≡ no_memory) ⊎
-            IsRefused bytes.items reading limits fault) }
-    {
-        let cut = cut(alloc, bytes.as_slice(), reading, limits)?;
-        let head = cut.head();
-        let extents = cut.into_extents();
-        let text = *array_at::<TEXT_BLOCK_BYTES>(bytes.as_slice(), 0);
-        let bin = *array_at::<BINARY_HEADER_BYTES>(bytes.as_slice(), TEXT_BLOCK_BYTES);
-        let length = bytes.len() as u64;
-        let Ok(store) = TraceStore::new(alloc, bytes, head, extents, blank) else {
-            return Err(LoadFault::OutOfMemory);
-        };
-        Ok(Overlay {
+        let length = store.loaded.len() as u64;
+        Overlay {
             text,
             bin,
             store,
             prepared: None,
             length,
-            looks: 0,
-        })
+            looks,
+        }
     }
 
     /// What the headers say of the file's frame.
@@ -191,53 +151,33 @@ impl<T: Copy> Overlay<T> {
         self.store.view(p)
     }
 
-    /// A pass over all traces as they are now, in order, and one look more for each. The looks are
-    /// counted where the pass is made, however far it goes. Takes no memory.
-    pub fn pass(&mut self) -> Pass<'_, T>
-        ensures* counts { sem 𝓛 (EndsPassed T.row self.entry) }
-        ensures volume { volume_of result ≡ self.old.volume }
-    {
-        self.counted_pass(None)
-    }
-
-    /// A pass as `pass` makes it, for a caller that needs of each trace what stands near byte `at`,
-    /// counted from 0 in the trace: it is faster, since those bytes of the next traces are read
-    /// together, and shows the same. A trace need not have the byte. Takes no memory.
+    /// A pass over all traces as they are now with their payloads, in order, and one look more for
+    /// each. The looks are counted where the pass is made, however far it goes. It is for a caller
+    /// that needs of each trace what stands near byte `at`, counted from 0 in the trace: those bytes
+    /// of the next traces are read together, which is faster, and shows the same. A trace need not
+    /// have the byte. Takes no memory.
     pub fn pass_near(&mut self, at: u64) -> Pass<'_, T>
         ensures* counts { sem 𝓛 (EndsPassed T.row self.entry) }
         ensures volume { volume_of result ≡ self.old.volume }
-    {
-        self.counted_pass(Some(at))
-    }
-
-    // A pass, and one look more for each trace.
-    fn counted_pass(&mut self, near: Option<u64>) -> Pass<'_, T>
-        ensures* counts { sem 𝓛 (EndsPassed T.row self.entry) }
-        ensures volume { volume_of result ≡ self.old.volume }
+        ensures payloads { payloads_of_pass result ≡ self.old.payloads }
     {
         self.looks = self.looks.saturating_add(u64::from(self.count()));
-        Pass::new(self, near)
+        Pass::new(self, at)
     }
 
-    // All traces in order.
-    pub(crate) fn views(&self) -> Views<'_, T>
-        ensures { result ≡ shown_traces self.now.volume }
+    // All traces with their payloads in order, where byte `at` of each, counted from 0, is read
+    // ahead.
+    pub(crate) fn rows(&self, at: u64) -> Rows<'_, T>
+        ensures { result ≡ rows_of self.now.volume self.now.payloads }
     {
-        Views::new(&self.store)
+        Rows::near(&self.store, at)
     }
 
-    // All traces with their payloads, in order.
-    pub fn rows(&self) -> Rows<'_, T>
-        ensures { result ≡ zip (shown_traces self.now.volume) self.now.payloads }
+    /// The payloads of all traces, in order. Looks at no trace, and takes no memory.
+    pub fn payloads(&self) -> Payloads<'_, T>
+        ensures { result ≡ self.now.payloads }
     {
-        Rows::new(&self.store)
-    }
-
-    // All traces in order, where byte `at` of each, counted from 0, is read ahead.
-    pub(crate) fn views_near(&self, at: u64) -> Views<'_, T>
-        ensures { result ≡ shown_traces self.now.volume }
-    {
-        Views::near(&self.store, at)
+        Payloads::new(&self.store)
     }
 
     /// Trace p, counted from 1, as it would be with the edit that is prepared, and one look more;
@@ -422,6 +362,20 @@ impl<T: Copy> Overlay<T> {
     {
         if let Some(prepared) = self.prepared.take() {
             self.store.commit(prepared);
+        }
+    }
+
+    /// Makes the edit that is prepared, if one is, and gives trace p, counted from 1, this payload
+    /// then. Takes no memory.
+    pub fn commit_with(&mut self, p: u32, payload: T)
+        requires first { 1 ≤ p }
+        requires last { p ≤ count_of self.old.volume }
+        ensures { self.new ≡ with_table self.old self.old.prepared
+            (slice_set self.old.payloads_prepared (p - 1) payload) }
+    {
+        match self.prepared.take() {
+            Some(prepared) => self.store.commit_with(prepared, p, payload),
+            None => self.store.set_payload(p, payload),
         }
     }
 

@@ -9,7 +9,7 @@ use Rattle.frame_cut.specs.Splice.{splice}
 use Rattle.trace_view.specs.declared.run.Run.{Run}
 use Rattle.trace_view.specs.Runs.{bytes_with_runs}
 use Rattle.trace_store.specs.declared.prepared.Prepared.{Prepared}
-use Rattle.trace_store.specs.declared.prepared.Prepared.TheVariants.{Runs, Move}
+use Rattle.trace_store.specs.declared.prepared.Prepared.TheVariants.{Put, Runs, Move}
 use Rattle.trace_store.specs.declared.store.TraceStore.{TraceStore}
 use Rattle.trace_store.specs.Ahead.{traces_ahead, traces_then, traces_with, AreRunsFrom, AreRunsOf, IsReady, IsReadyIfSome}
 use Rattle.trace_store.specs.Each.{part_of, ArePutEach, ArePutRuns}
@@ -33,6 +33,7 @@ length-with bases ts place (runs ∷ lists) = length-with bases (slice_set ts pl
 module _ {T : Type 0} where
   pub length-ahead : (s : TraceStore T) (prepared : Option Prepared) → IsReadyIfSome s prepared → length (traces_ahead s prepared) ≡ length (traces_of s)
   length-ahead s None ready = refl
+  length-ahead s (Some (Put put)) ready = length-with (bases_of s) (traces_of s) put.place (put.runs ∷ [])
   length-ahead s (Some (Runs runs)) ready = length-with (bases_of s) (traces_of s) runs.place runs.lists.items
   length-ahead s (Some (Move m)) ready = length-moved (traces_of s) m.from m.to (record { from_first = ready.fit.from_first; from_last = ready.fit.from_last; to_first = ready.fit.to_first; to_last = ready.fit.to_last })
 
@@ -75,16 +76,16 @@ with-at h bases ts place j (suc k) (first ∷ lists) runs all same within is e =
 -- ---- runs for one trace
 
 module _ {T : Type 0} where
-  pub ready_one : (s : TraceStore T) (place at : ℕ) (bytes : List ℕ) (lists : Vec (Vec Run Global) Global) (runs : Vec Run Global) → lists.items ≡ runs ∷ [] → place < length (traces_of s)
+  pub ready_one : (s : TraceStore T) (place at : ℕ) (bytes : List ℕ) (runs : Vec Run Global) → place < length (traces_of s)
       → at + length bytes ≤ length (slice_index_or (traces_of s) place []) → IsTrace s.head (splice (slice_index_or (traces_of s) place []) at (length bytes) bytes)
-      → ArePutRuns (slice_index_or (bases_of s) place []) (slice_index_or (traces_of s) place []) at bytes runs.items → IsReady s (Runs (record { place = place; lists = lists }))
-  ready_one s place at bytes lists runs is there inside whole put =
+      → ArePutRuns (slice_index_or (bases_of s) place []) (slice_index_or (traces_of s) place []) at bytes runs.items → IsReady s (Put (record { place = place; runs = runs }))
+  ready_one s place at bytes runs there inside whole put =
       let ts : List (List ℕ) = traces_of s in
       let t : List ℕ = slice_index_or ts place [] in
       let one : AreRunsOf s.head (bases_of s) place runs.items = record { there = omega (arith, there, length-bases s); fit = put.fit; whole = rw put.shows whole } in
-      let then_is : traces_with (bases_of s) ts place lists.items ≡ slice_set ts place (splice t at (length bytes) bytes) = rw is (ap (λ (x : List ℕ). slice_set ts place x) put.shows) in
+      let then_is : traces_with (bases_of s) ts place (runs ∷ []) ≡ slice_set ts place (splice t at (length bytes) bytes) = ap (λ (x : List ℕ). slice_set ts place x) put.shows in
       record {
-        fit = subst (λ (xs : List (Vec Run Global)). AreRunsFrom s.head (bases_of s) place xs) (sym is) (one, tt);
+        fit = (one, tt);
         length = omega (arith, ap total then_is, total-set ts place (splice t at (length bytes) bytes) there, length-splice t at bytes inside);
       }
 
@@ -164,12 +165,17 @@ module _ {T : Type 0} where
 module _ {T : Type 0} where
   pub ahead_kept : (s t : TraceStore T) (prepared : Option Prepared) → IsSame s t → traces_ahead t prepared ≡ traces_ahead s prepared
   ahead_kept s t None same = same.traces
+  ahead_kept s t (Some (Put put)) same = rw (same.bases, same.traces) refl
   ahead_kept s t (Some (Runs runs)) same = rw (same.bases, same.traces) refl
   ahead_kept s t (Some (Move m)) same = rw same.traces refl
 
 module _ {T : Type 0} where
   pub ready_kept : (s t : TraceStore T) (prepared : Option Prepared) → IsSame s t → IsReadyIfSome s prepared → IsReadyIfSome t prepared
   ready_kept s t None same ready = tt
+  ready_kept s t (Some (Put put)) same ready = record {
+    fit = rw (same.head, same.bases) ready.fit;
+    length = rw (same.bases, same.traces) ready.length;
+  }
   ready_kept s t (Some (Runs runs)) same ready = record {
     fit = rw (same.head, same.bases) ready.fit;
     length = rw (same.bases, same.traces) ready.length;

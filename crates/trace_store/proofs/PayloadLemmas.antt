@@ -1,9 +1,9 @@
 -- The payloads of a store: what a change of one slot, or of the order, does to them.
-use Rattle.std.proofs.Common.{◌≡◌, ◌≢◌, ℕ, zero, suc, ◌+◌, ◌-◌, ◌<◌, ◌≤◌, List, [], ◌∷◌, ◌++◌, length, map, take, drop, refl, sym, ap, ◌∙◌, subst, arith, Option, Some, None, inl, inr}
+use Rattle.std.proofs.Common.{◌≡◌, ℕ, zero, suc, ◌-◌, ◌<◌, List, [], ◌∷◌, ◌++◌, length, map, take, drop, refl, sym, ap, ◌∙◌, arith, Option, Some, None, inl, inr}
 use Rattle.std.specs.Prelude.{slice_get, slice_index, slice_set, option_map, IsSomeAnd}
 use Rattle.std.specs.List.{insert, remove}
 use Rattle.std.proofs.lemmas.Bool.{cases_eq}
-use Rattle.std.proofs.lemmas.List.{map-append, take-map, drop-map}
+use Rattle.std.proofs.lemmas.List.{length-map, map-append, take-map, drop-map}
 use Rattle.std.proofs.lemmas.Option.{slice_get-map, slice_get-get_or}
 use Rattle.slab.specs.Slab.{Slab, get, Updates, SameValues}
 use Rattle.frame_cut.specs.declared.file_head.Head.{Head}
@@ -72,6 +72,10 @@ module _ {T : Type 0} (loaded : List ℕ) (h : Head) (ids : List ℕ) (slots : S
   all-there : map (payload_under slots) ids ≡ map some ps
   all-there = each-there (payload_under slots) ids (λ id there. payload-in loaded h (get slots id) (held id there))
 
+  -- each trace has one
+  pub payloads-counted : length ps ≡ length ids
+  payloads-counted = sym (length-map ps some) ∙ (ap (λ (os : List (Option T)). length os) (sym all-there) ∙ length-map ids (payload_under slots))
+
   -- the payload at a place
   pub payload-found : (p id : ℕ) (slot : Slot T) → id_at ids p ≡ Some id → get slots id ≡ Some slot → slice_get ps (p - 1) ≡ Some slot.payload
   payload-found p id slot at found =
@@ -135,20 +139,3 @@ module _ {T : Type 0} where
 
   pub payloads-same : (ids : List ℕ) (old new : Slab (Slot T)) → SameValues old new → map (payload_under new) ids ≡ map (payload_under old) ids
   payloads-same ids old new same = map-alike (payload_under new) (payload_under old) ids (λ k. ap (λ (x : Option (Slot T)). option_map (λ (slot : Slot T). slot.payload) x) (same k))
-
--- ---- one payload for all
-
-module _ {T E : Type 0} (b : T) where
-  blanks : (es : List E) (k : ℕ) → k < length es → insert (map (λ (e : E). b) (take k es)) k b ≡ map (λ (e : E). b) (take (suc k) es)
-  blanks [] k short = absurd (omega arith)
-  blanks (e ∷ es) zero short = refl
-  blanks (e ∷ es) (suc k) short = let less : k < length es = omega arith in ap (λ (l : List T). b ∷ l) (blanks es k less)
-
-  pub blanks-more : (es : List E) (k n : ℕ) (old new : List T) → k < length es → n ≡ k → old ≡ map (λ (e : E). b) (take k es) → new ≡ insert old n b → new ≡ map (λ (e : E). b) (take (k + 1) es)
-  blanks-more es k n old new short same was is =
-      let next : suc k ≡ k + 1 = omega arith in
-      is ∙ (ap (λ (l : List T). insert l n b) was ∙ (ap (λ (i : ℕ). insert (map (λ (e : E). b) (take k es)) i b) same ∙ (blanks es k short ∙ ap (λ (i : ℕ). map (λ (e : E). b) (take i es)) next)))
-
-pub blanks-mapped : {T E X : Type 0} (b : T) (f : E → X) (es : List E) → map (λ (e : E). b) es ≡ map (λ (x : X). b) (map f es)
-blanks-mapped b f [] = refl
-blanks-mapped b f (e ∷ es) = ap (λ l. b ∷ l) (blanks-mapped b f es)

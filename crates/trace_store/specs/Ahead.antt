@@ -7,7 +7,7 @@ use Rattle.frame_cut.specs.Cuts.{IsTrace}
 use Rattle.trace_view.specs.declared.run.Run.{Run}
 use Rattle.trace_view.specs.Runs.{Fit, bytes_with_runs}
 use Rattle.trace_store.specs.declared.prepared.Prepared.{Prepared}
-use Rattle.trace_store.specs.declared.prepared.Prepared.TheVariants.{Runs, Move}
+use Rattle.trace_store.specs.declared.prepared.Prepared.TheVariants.{Put, Runs, Move}
 use Rattle.trace_store.specs.declared.prepared.TraceMove.{TraceMove}
 use Rattle.trace_store.specs.declared.store.TraceStore.{TraceStore}
 use Rattle.trace_store.specs.Stores.{bases_of, traces_of}
@@ -43,11 +43,13 @@ pub record MayMove {T : Type 0} (s : TraceStore T) (m : TraceMove) : Type 0 wher
 
 -- the traces of the store as they would be
 abbrev pub traces_then : {T : Type 0} → TraceStore T → Prepared → List (List ℕ)
+traces_then s (Put put) = traces_with (bases_of s) (traces_of s) put.place (put.runs ∷ [])
 traces_then s (Runs runs) = traces_with (bases_of s) (traces_of s) runs.place runs.lists.items
 traces_then s (Move m) = traces_moved (traces_of s) m.from m.to
 
 -- what is prepared fits the store
 abbrev pub IsFit : {T : Type 0} → TraceStore T → Prepared → Type 0
+IsFit s (Put put) = AreRunsFrom s.head (bases_of s) put.place (put.runs ∷ [])
 IsFit s (Runs runs) = AreRunsFrom s.head (bases_of s) runs.place runs.lists.items
 IsFit s (Move m) = MayMove s m
 

@@ -6,7 +6,7 @@ use Rattle.frame_cut.specs.Volume.{Volume}
 use Rattle.trace_view.specs.declared.view.TraceView.{TraceView}
 use Rattle.trace_view.specs.Shown.{head_of, bytes_of}
 use Rattle.trace_store.specs.Slots.{bytes_under}
-use Rattle.trace_store.specs.Stores.{payload_under, somes}
+use Rattle.trace_store.specs.Stores.{payloads_under}
 use Rattle.trace_store.specs.declared.store.TraceStore.{TraceStore}
 
 -- what a view shows: a trace, under the head of its file
@@ -32,4 +32,4 @@ shown_under s ids = shown_each s.head (map (bytes_under s.loaded.items s.slots) 
 
 -- the same, each with its payload
 abbrev pub rows_under : {T : Type 0} → TraceStore T → List ℕ → List (ShownTrace × T)
-rows_under s ids = zip (shown_under s ids) (somes (map (payload_under s.slots) ids))
+rows_under s ids = zip (shown_under s ids) (payloads_under s.slots ids)

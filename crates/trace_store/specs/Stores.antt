@@ -4,7 +4,7 @@ use Rattle.std.specs.List.{insert, remove}
 use Rattle.slab.specs.Slab.{Slab, get}
 use Rattle.trace_store.specs.Slots.{base_under, bytes_under}
 use Rattle.trace_store.specs.declared.prepared.Prepared.{Prepared}
-use Rattle.trace_store.specs.declared.prepared.Prepared.TheVariants.{Runs, Move}
+use Rattle.trace_store.specs.declared.prepared.Prepared.TheVariants.{Put, Runs, Move}
 use Rattle.trace_store.specs.declared.slot.Slot.{Slot}
 use Rattle.trace_store.specs.declared.store.TraceStore.{TraceStore}
 
@@ -26,9 +26,13 @@ somes (Some x ∷ os) = x ∷ somes os
 abbrev pub payload_under : {T : Type 0} → Slab (Slot T) → ℕ → Option T
 payload_under slots id = option_map (λ slot. slot.payload) (get slots id)
 
+-- the payloads under these ids
+abbrev pub payloads_under : {T : Type 0} → Slab (Slot T) → List ℕ → List T
+payloads_under slots ids = somes (map (payload_under slots) ids)
+
 -- the payload of each trace, in order
 abbrev pub payloads_of : {T : Type 0} → TraceStore T → List T
-payloads_of s = somes (map (payload_under s.slots) s.order.ids)
+payloads_of s = payloads_under s.slots s.order.ids
 
 -- the list with an item, if there is one, put in at a place
 abbrev pub put_back : {T : Type 0} → Option T → List T → ℕ → List T
@@ -41,6 +45,7 @@ payloads_moved ps a b = put_back (slice_get ps (a - 1)) (remove ps (a - 1)) (b -
 
 -- the payloads as they would be with the edit that is prepared
 abbrev pub payloads_then : {T : Type 0} → List T → Prepared → List T
+payloads_then ps (Put put) = ps
 payloads_then ps (Runs runs) = ps
 payloads_then ps (Move m) = payloads_moved ps m.from m.to
 

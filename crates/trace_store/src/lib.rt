@@ -8,21 +8,21 @@
 //! bytes of a trace from 0.
 //!
 //! An edit has two parts: what is [`Prepared`] takes all the memory and changes nothing, and
-//! `commit`, which takes none and cannot fail, makes the edit. [`Views`] and [`Rows`] go over all
-//! traces in order, without a search. The only error is `OutOfMemory`, and then nothing is changed.
+//! `commit`, which takes none and cannot fail, makes the edit. [`Rows`] go over all traces with
+//! their payloads, [`Payloads`] over these alone, in order and without a search. The only error is `OutOfMemory`, and then nothing is changed.
 #![tactic(auto)]
 
 mod ahead;
 mod out_of_memory;
+mod payloads;
 mod prepared;
 mod rows;
 mod slot;
 mod store;
-mod views;
 
 pub use crate::out_of_memory::OutOfMemory;
-pub use crate::prepared::{Prepared, TraceMove, TraceRuns};
+pub use crate::payloads::Payloads;
+pub use crate::prepared::{Prepared, TraceMove, TracePut, TraceRuns};
 pub use crate::rows::Rows;
 pub use crate::slot::{Base, Slot};
 pub use crate::store::TraceStore;
-pub use crate::views::Views;

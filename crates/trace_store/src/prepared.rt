@@ -3,11 +3,20 @@ ghost use Rattle.std.specs.Prelude.{◌≡◌, ◌+◌, ◌-◌, ◌<◌, ◌≤
 
 use trace_view::Run;
 
-/// Runs over traces that follow one another, or a trace that is to stand elsewhere.
+/// Runs over one trace or over traces that follow one another, or a trace that is to stand
+/// elsewhere.
 #[derive(Drop)]
 pub enum Prepared {
+    Put(TracePut),
     Runs(TraceRuns),
     Move(TraceMove),
+}
+
+/// Runs for the trace at `place`, counted from 0.
+#[derive(Drop)]
+pub struct TracePut {
+    pub place: u32,
+    pub runs: Vec<Run>,
 }
 
 /// A list of runs for each of these traces, of which the first is at `place`, counted from 0.

@@ -71,7 +71,7 @@ impl<T: Copy> Slot<T> {
 }
 
 // The bytes of an extent.
-fn piece(bytes: &[u8], extent: Extent) -> &[u8]
+pub(crate) fn piece(bytes: &[u8], extent: Extent) -> &[u8]
     requires { extent.start + extent.length ≤ length bytes.now }
     ensures { result.now ≡ bytes_at bytes.now extent }
 {

@@ -1,8 +1,8 @@
 // The traces of a volume: an order of ids, and a slot under each.
-ghost use Rattle.std.specs.Prelude.{All, ◌≡◌, ℕ, ◌+◌, ◌-◌, ◌/◌, ◌%◌, ◌^◌, ◌<◌, ◌≤◌, [], length, Some, slice_index_or, slice_set, IfOk, OnOk, OnErr, slice_get, map};
+ghost use Rattle.std.specs.Prelude.{◌≡◌, ℕ, ◌+◌, ◌-◌, ◌/◌, ◌%◌, ◌^◌, ◌<◌, ◌≤◌, [], ◌∷◌, length, Some, slice_index_or, slice_set, IfOk, OnOk, OnErr, slice_get};
 ghost use Rattle.std.specs.List.{insert, remove};
 ghost use Rattle.frame_cut.specs.Cuts.{IsTrace};
-ghost use Rattle.frame_cut.specs.Layout.{bytes_at, pieces};
+ghost use Rattle.frame_cut.specs.Layout.{bytes_at};
 ghost use Rattle.frame_cut.specs.Splice.{splice};
 ghost use Rattle.trace_seq.specs.Order.{id_at};
 ghost use Rattle.trace_view.specs.Runs.{Fit, bytes_with_runs};
@@ -13,8 +13,8 @@ ghost use Rattle.trace_store.specs.Each.{part_of, ArePutRuns, ArePutEach};
 ghost use Rattle.trace_store.specs.OneProof.{IsStore-prop};
 
 use crate::out_of_memory::OutOfMemory;
-use crate::prepared::{Prepared, TraceMove, TraceRuns};
-use crate::slot::{Base, Slot};
+use crate::prepared::{Prepared, TraceMove, TracePut, TraceRuns};
+use crate::slot::{Base, Slot, piece};
 use frame_cut::{Extent, Head};
 use slab::Slab;
 use std::alloc::Global;
@@ -36,39 +36,31 @@ impl<T: Copy> TraceStore<T> {
     ghost use Rattle.trace_store.specs.Ahead.{traces_moved, traces_then, traces_with, AreRunsFrom, AreRunsOf, IsReady};
     ghost use Rattle.trace_store.specs.Stores.{bases_of, payload_under, traces_of, payloads_of, payloads_moved, payloads_then};
 
-    /// The store of a loaded file whose traces lie at these extents. Refused for want of memory
+    /// No traces yet over a loaded file, with room for so many slots. Refused for want of memory
     /// alone.
     pub fn new(
         alloc: Global,
         loaded: Vec<u8>,
         head: Head,
-        extents: Vec<Extent>,
-        blank: T,
+        room: usize,
     ) -> Result<TraceStore<T>, OutOfMemory>
-        requires few { length extents.items < 2 ^ 32 }
-        requires inside { All (λ e. e.start + e.length ≤ length loaded.items) extents.items }
-        requires whole { All (λ e. IsTrace head (bytes_at loaded.items e)) extents.items }
         ensures head { IfOk result (λ s. s.head ≡ head) }
-        ensures loaded { IfOk result (λ s. s.loaded.items ≡ loaded.items) }
-        ensures traces { IfOk result (λ s. traces_of s ≡ pieces loaded.items extents.items) }
-        ensures payloads { IfOk result (λ s. payloads_of s ≡ map (λ _. blank) extents.items) }
+        ensures loaded { IfOk result (λ s. s.loaded ≡ loaded) }
+        ensures traces { IfOk result (λ s. traces_of s ≡ []) }
+        ensures payloads { IfOk result (λ s. payloads_of s ≡ []) }
     {
-        let mut store = TraceStore {
+        Ok(TraceStore {
             loaded,
             head,
             order: ChunkSeq::new(alloc),
-            slots: Slab::with_capacity(alloc, extents.len())?,
-        };
-        for extent in extents.as_slice() {
-            let last = store.count() + 1;
-            store.insert(alloc, last, Base::Loaded(*extent), blank)?;
-        }
-        Ok(store)
+            slots: Slab::with_capacity(alloc, room)?,
+        })
     }
 
     /// The number of traces.
     pub fn count(&self) -> u32
-        ensures { result ≡ length (traces_of self.now) }
+        ensures traces { result ≡ length (traces_of self.now) }
+        ensures payloads { result ≡ length (payloads_of self.now) }
     {
         self.order.len()
     }
@@ -153,6 +145,17 @@ impl<T: Copy> TraceStore<T> {
         }
     }
 
+    /// The trace that lies at an extent of the loaded file.
+    pub fn view_loaded(&self, extent: Extent) -> TraceView<'_>
+        requires inside { extent.start + extent.length ≤ length self.now.loaded.items }
+        requires whole { IsTrace self.now.head (bytes_at self.now.loaded.items extent) }
+        ensures head { head_of result ≡ self.now.head }
+        ensures bytes { bytes_of result ≡ bytes_at self.now.loaded.items extent }
+    {
+        let bytes = piece(self.loaded.as_slice(), extent);
+        TraceView::new(&self.head, bytes, &[])
+    }
+
     // Trace p with these runs in place of its own.
     fn view_with<'a>(&'a self, p: u32, runs: &'a [Run]) -> TraceView<'a>
         requires first { 1 ≤ p }
@@ -181,8 +184,26 @@ impl<T: Copy> TraceStore<T> {
             [] }
     {
         match prepared {
+            Prepared::Put(put) => self.view_put(p, put),
             Prepared::Runs(runs) => self.view_laid(p, runs),
             Prepared::Move(places) => self.view(places.origin(p)),
+        }
+    }
+
+    // Trace p as it would be with the prepared runs of one trace.
+    fn view_put<'a>(&'a self, p: u32, prepared: &'a TracePut) -> TraceView<'a>
+        requires runs { AreRunsFrom self.now.head (bases_of self.now) prepared.now.place
+            (prepared.now.runs ∷ []) }
+        requires first { 1 ≤ p }
+        requires last { p ≤ length (traces_of self.now) }
+        ensures head { head_of result ≡ self.now.head }
+        ensures bytes { bytes_of result ≡ slice_index_or (traces_with (bases_of self.now)
+            (traces_of self.now) prepared.now.place (prepared.now.runs ∷ [])) (p - 1) [] }
+    {
+        if p - 1 == prepared.place {
+            self.view_with(p, prepared.runs.as_slice())
+        } else {
+            self.view(p)
         }
     }
 
@@ -239,9 +260,7 @@ impl<T: Copy> TraceStore<T> {
             }));
         }
         let runs = self.runs_with(alloc, p, at, bytes)?;
-        let mut lists = Vec::with_capacity(alloc, 1)?;
-        lists.push(runs)?;
-        Ok(Prepared::Runs(TraceRuns { place, lists }))
+        Ok(Prepared::Put(TracePut { place, runs }))
     }
 
     /// The runs that lay the bytes, `size` of them over each trace, over the traces from `a` on, in
@@ -308,8 +327,53 @@ impl<T: Copy> TraceStore<T> {
         ensures payloads { payloads_of self.new ≡ payloads_then (payloads_of self.old) prepared }
     {
         match prepared {
+            Prepared::Put(put) => self.set_runs(put.place + 1, put.runs),
             Prepared::Runs(runs) => self.lay(runs),
             Prepared::Move(places) => self.move_to(places.from, places.to),
+        }
+    }
+
+    /// Makes the edit that is prepared, and gives trace p this payload then.
+    pub fn commit_with(&mut self, prepared: Prepared, p: u32, payload: T)
+        requires ready { IsReady self.old prepared }
+        requires first { 1 ≤ p }
+        requires last { p ≤ length (traces_of self.old) }
+        ensures head { self.new.head ≡ self.old.head }
+        ensures loaded { self.new.loaded ≡ self.old.loaded }
+        ensures traces { traces_of self.new ≡ traces_then self.old prepared }
+        ensures payloads { payloads_of self.new
+            ≡ slice_set (payloads_then (payloads_of self.old) prepared) (p - 1) payload }
+    {
+        match prepared {
+            Prepared::Put(put) => self.put_with(put, p, payload),
+            Prepared::Runs(runs) => {
+                self.lay(runs);
+                self.set_payload(p, payload);
+            }
+            Prepared::Move(places) => {
+                self.move_to(places.from, places.to);
+                self.set_payload(p, payload);
+            }
+        }
+    }
+
+    // Gives a trace the prepared runs, and trace p, which is mostly the same, this payload.
+    fn put_with(&mut self, prepared: TracePut, p: u32, payload: T)
+        requires runs { AreRunsFrom self.old.head (bases_of self.old) prepared.place
+            (prepared.runs ∷ []) }
+        requires first { 1 ≤ p }
+        requires last { p ≤ length (traces_of self.old) }
+        ensures head { self.new.head ≡ self.old.head }
+        ensures loaded { self.new.loaded ≡ self.old.loaded }
+        ensures traces { traces_of self.new ≡ traces_with (bases_of self.old) (traces_of self.old)
+            prepared.place (prepared.runs ∷ []) }
+        ensures payloads { payloads_of self.new ≡ slice_set (payloads_of self.old) (p - 1) payload }
+    {
+        if prepared.place == p - 1 {
+            self.set_slot(p, prepared.runs, payload);
+        } else {
+            self.set_runs(prepared.place + 1, prepared.runs);
+            self.set_payload(p, payload);
         }
     }
 
@@ -396,6 +460,26 @@ impl<T: Copy> TraceStore<T> {
         let id = self.id(p);
         match self.slots.get_mut(id) {
             Some(slot) => slot.runs = runs,
+            None => unreachable!(),
+        }
+    }
+
+    // Gives trace p these runs in place of those that it has, and this payload.
+    fn set_slot(&mut self, p: u32, runs: Vec<Run>, payload: T)
+        requires first { 1 ≤ p }
+        requires runs { AreRunsOf self.old.head (bases_of self.old) (p - 1) runs.items }
+        ensures head { self.new.head ≡ self.old.head }
+        ensures loaded { self.new.loaded ≡ self.old.loaded }
+        ensures traces { traces_of self.new ≡ slice_set (traces_of self.old) (p - 1)
+            (bytes_with_runs (slice_index_or (bases_of self.old) (p - 1) []) runs.items) }
+        ensures payloads { payloads_of self.new ≡ slice_set (payloads_of self.old) (p - 1) payload }
+    {
+        let id = self.id(p);
+        match self.slots.get_mut(id) {
+            Some(slot) => {
+                slot.runs = runs;
+                slot.payload = payload;
+            }
             None => unreachable!(),
         }
     }

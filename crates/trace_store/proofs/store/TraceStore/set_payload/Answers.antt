@@ -1,10 +1,7 @@
-use Rattle.std.proofs.Common.{◌∙◌, ◌-◌, [], ℕ, List, Some, length, refl, sym, ap}
-use Rattle.std.specs.Prelude.{slice_index_or, slice_set}
-use Rattle.std.proofs.lemmas.List.{set-get_or}
+use Rattle.std.proofs.Common.{Some, length, refl, sym}
 use Rattle.slab.specs.Slab.{with_value, Updates}
 use Rattle.trace_store.specs.declared.slot.Slot.{Slot}
 use Rattle.trace_store.specs.Slots.{IsSlot}
-use Rattle.trace_store.specs.Stores.{traces_of}
 use Rattle.trace_store.proofs.SlotLemmas.{slot-found, slot-missed, bases-kept, traces-kept, write-updates, write-counts, held-changed}
 use Rattle.trace_store.proofs.PayloadLemmas.{payloads-changed}
 use Rattle.trace_store.proofs.store.TraceStore.set_payload.Goals as goal

@@ -5,7 +5,7 @@ use Rattle.frame_cut.specs.declared.load_fault.LoadFault.TheVariants.{OutOfMemor
 use Rattle.frame_cut.specs.Cuts.{IsRefused}
 use Rattle.edit_overlay.specs.Loading.{IsLoadFault}
 use Rattle.edit_overlay.proofs.FaultLemmas.{kept_failures, load_fault}
-use Rattle.edit_overlay.proofs.overlay.Overlay.load.Goals as goal
+use Rattle.edit_overlay.proofs.loading.Loading.load.Goals as goal
 
 pub returns-clause-refused : goal.returns-clause-refused
 returns-clause-refused g c =

@@ -65,9 +65,14 @@ impl<T: Copy> Overlay<T> {
     ) -> Overlay<T>
         requires ends { HasEnds store }
         requires joined { bytes_of (volume_with text bin store) ≡ store.loaded.items }
-        ensures { result ≡ record { volume = volume_with text bin store; prepared = volume_with text
-            bin store; looks = looks; payloads = payloads_of store;
-            payloads_prepared = payloads_of store } }
+        ensures { result ≡ record {
+          volume = volume_with text bin store;
+          prepared = volume_with text
+              bin store;
+          looks = looks;
+          payloads = payloads_of store;
+          payloads_prepared = payloads_of store;
+        } }
     {
         let length = store.loaded.len() as u64;
         Overlay {

@@ -1,7 +1,14 @@
+use Rattle.std.proofs.Common.{◌∙◌, ℕ, Vec, Global, ap, rules}
 use Rattle.std.proofs.lemmas.Result.{err_from_is_err_and}
+use Rattle.edit_overlay.proofs.LoadingLemmas.{just_cut}
 use Rattle.edit_overlay.proofs.loading.Loading.from_bytes.Goals as goal
 
 pub returns-in_err-cut-clause-refused : goal.returns-in_err-cut-clause-refused
 returns-in_err-cut-clause-refused g c =
     let p = err_from_is_err_and c.from_residual.result c.from_residual.ensures.1 in
     rw p.1 (rw (← p.2, c.as_slice.ensures.value) at c.in_err-cut.ensures.refused)
+
+pub invariant_of-result : goal.invariant_of-result
+invariant_of-result g c =
+    just_cut _ c.args.bytes.items c.args.reading c.args.limits c.in_ok-cut.cut.0 c.in_ok-cut.cut.1 (rw c.as_slice.ensures.value at c.in_ok-cut.ensures.ok) (rw c.as_slice.ensures.value at c.in_ok-cut.ensures.laid) (search rules)
+    (ap (λ (v : Vec ℕ Global). v.items) c.in-Ok.ensures.loaded) (c.in-Ok.ensures.head ∙ c.head-head.ensures) c.into_extents-extents.ensures c.in-Ok.ensures.traces

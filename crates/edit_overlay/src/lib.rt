@@ -43,4 +43,4 @@ pub use crate::loading::Loading;
 pub use crate::overlay::Overlay;
 pub use crate::pass::Pass;
 pub use crate::save_fault::SaveFault;
-pub use trace_store::{OutOfMemory, Payloads, Rows};
+pub use trace_store::{Column, OutOfMemory, Payloads, Rows};

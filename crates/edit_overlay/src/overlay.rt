@@ -22,7 +22,7 @@ use std::alloc::Global;
 use std::io::Write;
 use std::marker::Model;
 use text_block::TEXT_BLOCK_BYTES;
-use trace_store::{Base, OutOfMemory, Payloads, Prepared, Rows, TraceStore};
+use trace_store::{Base, Column, OutOfMemory, Prepared, Rows, TraceStore};
 use trace_view::TraceView;
 
 /// A volume under edits: one SEG-Y file in its parts. The bytes that were loaded never change:
@@ -179,10 +179,10 @@ impl<T: Copy> Overlay<T> {
     }
 
     /// The payloads of all traces, in order. Looks at no trace, and takes no memory.
-    pub fn payloads(&self) -> Payloads<'_, T>
+    pub fn payloads(&self) -> Column<'_, T>
         ensures { result ≡ self.now.payloads }
     {
-        Payloads::new(&self.store)
+        Column::new(&self.store)
     }
 
     /// Trace p, counted from 1, as it would be with the edit that is prepared, and one look more;

@@ -9,10 +9,11 @@
 //!
 //! An edit has two parts: what is [`Prepared`] takes all the memory and changes nothing, and
 //! `commit`, which takes none and cannot fail, makes the edit. [`Rows`] go over all traces with
-//! their payloads, [`Payloads`] over these alone, in order and without a search. The only error is `OutOfMemory`, and then nothing is changed.
+//! their payloads, in order and without a search; a [`Column`] lends the payloads alone. The only error is `OutOfMemory`, and then nothing is changed.
 #![tactic(auto)]
 
 mod ahead;
+mod column;
 mod out_of_memory;
 mod payloads;
 mod prepared;
@@ -20,6 +21,7 @@ mod rows;
 mod slot;
 mod store;
 
+pub use crate::column::Column;
 pub use crate::out_of_memory::OutOfMemory;
 pub use crate::payloads::Payloads;
 pub use crate::prepared::{Prepared, TraceMove, TracePut, TraceRuns};

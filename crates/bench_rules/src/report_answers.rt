@@ -23,7 +23,8 @@ use fault_live::{Faults, HeadFacts};
 use grid_live::Grid;
 use range_stats::{Quantity, Ranges, Totals};
 use std::alloc::Global;
-use trace_record::{Record, Records, Statistics};
+use record_table::Records;
+use trace_record::{Record, Statistics};
 
 /// Where the trace of this record lies. Takes no memory.
 pub fn geometry(trace: &Record) -> Answer

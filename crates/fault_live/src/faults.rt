@@ -14,7 +14,8 @@ use crate::{Fault, HeadFacts, OutOfMemory};
 use key_counts::Counts;
 use std::alloc::Global;
 use std::collections::BTreeMap;
-use trace_record::{Record, Records, Running};
+use record_table::{Records, Running};
+use trace_record::Record;
 
 /// How often inline, crossline and offset stand together, over traces that come and go.
 #[derive(Drop)]
@@ -38,7 +39,7 @@ impl Running for Faults {
         }
     }
 
-    fn from_records(alloc: Global, records: &Records) -> Result<Faults, trace_record::OutOfMemory> {
+    fn from_records(alloc: Global, records: &Records) -> Result<Faults, record_table::OutOfMemory> {
         let keys = keys_of(alloc, records)?;
         Ok(Faults {
             records: records.len() as u64,
@@ -46,7 +47,7 @@ impl Running for Faults {
         })
     }
 
-    fn add(&mut self, trace: &Record) -> Result<(), trace_record::OutOfMemory> {
+    fn add(&mut self, trace: &Record) -> Result<(), record_table::OutOfMemory> {
         self.triples
             .raise((trace.inline, trace.crossline, trace.offset))?;
         self.records += 1;

@@ -6,7 +6,8 @@ ghost use Rattle.fault_live.specs.OfFaults.{triple_cmp};
 use crate::OutOfMemory;
 use std::alloc::{AllocError, Global};
 use std::collections::BTreeMap;
-use trace_record::{Record, Records};
+use record_table::Records;
+use trace_record::Record;
 
 // Inline, crossline and offset together.
 pub(crate) fn key_of(trace: &Record) -> (i32, i32, i32)

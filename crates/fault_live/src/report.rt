@@ -8,7 +8,8 @@ use crate::checks::{
     has_the_units, push_unless,
 };
 use crate::{Fault, HeadFacts, OutOfMemory};
-use trace_record::{Record, Records};
+use record_table::Records;
+use trace_record::Record;
 
 // The coordinate units of the first trace.
 pub(crate) fn units_of_first(records: &Records) -> i16

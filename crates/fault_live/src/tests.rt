@@ -6,7 +6,8 @@ use crate::{Fault, Faults, HeadFacts};
 use key_counts::Ratio;
 use std::alloc::Global;
 use std::test::Fail;
-use trace_record::{OutOfMemory, Record, Records, Running};
+use record_table::{OutOfMemory, Records, Running};
+use trace_record::Record;
 
 fn there_and_back(alloc: Global, trace: &Record) -> Result<Faults, OutOfMemory> {
     let mut faults = Faults::new(alloc);

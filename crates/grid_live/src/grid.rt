@@ -5,7 +5,8 @@ use crate::lists::{histogram_of_cells, lines_of};
 use crate::{Cell, FoldCount, Line, OutOfMemory};
 use key_counts::{Counts, raise_both};
 use std::alloc::Global;
-use trace_record::{Record, Records, Running};
+use record_table::{Records, Running};
+use trace_record::Record;
 
 /// How many traces each cell, inline and crossline has, over traces that come and go. It keeps its
 /// allocator.
@@ -98,7 +99,7 @@ impl Running for Grid {
         }
     }
 
-    fn from_records(alloc: Global, records: &Records) -> Result<Grid, trace_record::OutOfMemory> {
+    fn from_records(alloc: Global, records: &Records) -> Result<Grid, record_table::OutOfMemory> {
         let cells = Counts::from_keys(alloc, cell_keys(alloc, records)?)?;
         let inlines = Counts::from_keys(alloc, inline_keys(alloc, records)?)?;
         let crosslines = Counts::from_keys(alloc, crossline_keys(alloc, records)?)?;
@@ -110,7 +111,7 @@ impl Running for Grid {
         })
     }
 
-    fn add(&mut self, trace: &Record) -> Result<(), trace_record::OutOfMemory> {
+    fn add(&mut self, trace: &Record) -> Result<(), record_table::OutOfMemory> {
         raise_both(
             &mut self.inlines,
             trace.inline,
@@ -125,7 +126,7 @@ impl Running for Grid {
             Err(refused) => {
                 self.inlines.lower(&trace.inline);
                 self.crosslines.lower(&trace.crossline);
-                Err(trace_record::OutOfMemory::from(refused))
+                Err(record_table::OutOfMemory::from(refused))
             }
         }
     }

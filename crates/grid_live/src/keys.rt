@@ -3,7 +3,7 @@ ghost use Rattle.std.specs.Prelude.{◌≡◌, IfOk, All, FitsSigned, map};
 ghost use Rattle.std.specs.Int.{w32};
 
 use std::alloc::{AllocError, Global};
-use trace_record::Records;
+use record_table::Records;
 
 pub(crate) fn cell_keys(alloc: Global, records: &Records) -> Result<Vec<(i32, i32)>, AllocError>
     ensures keys { IfOk result (λ keys. keys.items ≡

@@ -3,7 +3,8 @@ use crate::{Cell, FoldCount, Grid, Line};
 use key_counts::Ratio;
 use std::alloc::Global;
 use std::test::Fail;
-use trace_record::{OutOfMemory, Record, Running};
+use record_table::{OutOfMemory, Running};
+use trace_record::Record;
 
 // The grid of the second trace, once the first came and went.
 fn second_alone(alloc: Global, first: &Record, second: &Record) -> Result<Grid, OutOfMemory> {

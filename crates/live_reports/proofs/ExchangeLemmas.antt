@@ -1,7 +1,7 @@
 -- What the running values have counted while new records come to stand in for others.
 use Rattle.std.specs.Prelude.{◌≡◌, ℕ, zero, suc, ◌+◌, ◌<◌, ◌≤◌, Bool, true, false, not, ◌&&◌, List, [], ◌∷◌, ◌++◌, length, take, drop, map, sum_by, slice_get, slice_set, get_or, All, IfSome, Option, None, Some, Result, Ok, Err, OnOk, refl}
 use Rattle.std.proofs.Common.{arith, sym, ap, ap₂, ◌∙◌, subst}
-use Rattle.std.proofs.lemmas.List.{length-append, length-drop, length-set, map-append, append_assoc, append-nil, drop_more, drop_all, drop-set-lt, take_more_set, take-append-drop}
+use Rattle.std.proofs.lemmas.List.{length-append, length-drop, length-set, length-take-le, map-append, append_assoc, append-nil, drop_more, drop_all, drop-set-lt, take_more_set, take-append-drop}
 use Rattle.std.proofs.lemmas.List.Elements.{All-get_or}
 use Rattle.std.proofs.lemmas.List.Sums.{sum_by-cons, sum_by-append}
 use Rattle.std.proofs.lemmas.Option.{get_or_from_slice_get, slice_get_within}
@@ -22,7 +22,7 @@ use Rattle.live_reports.specs.Tallies.{Tallies, tallies_of_records, plus_each, m
 use Rattle.live_reports.specs.Where.{plus_where, minus_where, SmallWhere, HeldWhere, HasKeysWhere}
 use Rattle.live_reports.proofs.AlikeLemmas.{in_grid, in_ranges, in_totals, in_faults}
 use Rattle.live_reports.proofs.ChangeLemmas.{AreAlike, held, fits, counted}
-use Rattle.live_reports.proofs.ListLemmas.{stands_at}
+use Rattle.live_reports.proofs.ListLemmas.{stands_at, get_behind, set_behind}
 use Rattle.live_reports.proofs.SmallLemmas.{small_within}
 
 -- the number of samples of records
@@ -415,3 +415,48 @@ holds_there P rs k all = side (slice_get rs k) refl where
   side : (o : Option Record) → slice_get rs k ≡ o → IfSome o P
   side None e = tt
   side (Some r) e = subst P (get_or_from_slice_get rs k r r e) (All-get_or P rs k r (slice_get_within rs k r e) all)
+
+-- ---- the records in whose places the first new ones stand
+
+take-one_more : (new : List Record) (k : ℕ) (n : Record) → k < length new → n ≡ get_or new k n → take (k + 1) new ≡ take k new ++ n ∷ []
+take-one_more [] k n within is = absurd (omega arith)
+take-one_more (x ∷ xs) zero n within is = ap (λ (y : Record). y ∷ []) (sym is)
+take-one_more (x ∷ xs) (suc k) n within is =
+    let next : suc k + 1 ≡ suc (k + 1) = omega arith in
+    ap (λ i. take i (x ∷ xs)) next ∙ ap (λ (l : List Record). x ∷ l) (take-one_more xs k n (omega arith) is)
+
+module _ (rs : List Record) (at k : ℕ) (new : List Record) (o n : Record) (there : slice_get rs (at + k) ≡ Some o) (within : k < length new) (is : n ≡ get_or new k n) where
+  abbrev passed : List Record
+  passed = take at rs ++ take k new
+
+  length-passed : length passed ≡ at + k
+  length-passed =
+      let inside : at + k < length rs = slice_get_within rs (at + k) o there in
+      omega (arith, length-append (take at rs) (take k new), length-take-le at rs (omega arith), length-take-le k new (omega arith))
+
+  so_far : with_records rs at (take k new) ≡ passed ++ o ∷ drop (at + (k + 1)) rs
+  so_far =
+      let count : at + length (take k new) ≡ at + k = omega (arith, length-take-le k new (omega arith)) in
+      ap (λ (l : List Record). take at rs ++ take k new ++ l) (ap (λ i. drop i rs) count ∙ old_ones rs at k new o n there within is)
+      ∙ sym (append_assoc (take at rs) (take k new) (o ∷ drop (at + (k + 1)) rs))
+
+  -- the old one at the place of new record k is there still
+  pub still_there : slice_get (with_records rs at (take k new)) (at + k) ≡ Some o
+  still_there = ap (λ (l : List Record). slice_get l (at + k)) so_far ∙ get_behind passed o (drop (at + (k + 1)) rs) (at + k) length-passed
+
+  -- and then new record k stands in its place
+  pub one_further : slice_set (with_records rs at (take k new)) (at + k) n ≡ with_records rs at (take (k + 1) new)
+  one_further =
+      let count : at + length (take (k + 1) new) ≡ at + (k + 1) = omega (arith, length-take-le (k + 1) new (omega arith)) in
+      let more : take (k + 1) new ≡ take k new ++ n ∷ [] = take-one_more new k n within is in
+      ap (λ (l : List Record). slice_set l (at + k) n) so_far
+      ∙ set_behind passed o (drop (at + (k + 1)) rs) (at + k) n length-passed
+      ∙ append_assoc (take at rs) (take k new) (n ∷ drop (at + (k + 1)) rs)
+      ∙ ap (λ (l : List Record). take at rs ++ l) (sym (append_assoc (take k new) (n ∷ []) (drop (at + (k + 1)) rs)))
+      ∙ ap₂ (λ (l : List Record) i. take at rs ++ l ++ drop i rs) (sym more) (sym count)
+
+-- with none they are as they stand
+pub none_yet : (rs : List Record) (at : ℕ) → with_records rs at [] ≡ rs
+none_yet rs at =
+    let same : at + 0 ≡ at = omega arith in
+    ap (λ i. take at rs ++ drop i rs) same ∙ take-append-drop at rs

@@ -43,3 +43,31 @@ pub item_at : {T : Type 0} (xs : List T) (p : ℕ) → p < length xs → ItemAt 
 item_at [] p h = absurd (omega arith)
 item_at (x ∷ xs) zero h = record { item = x; is = refl }
 item_at (x ∷ xs) (suc p) h = let i = item_at xs p (omega arith) in record { item = i.item; is = i.is }
+
+-- ---- an item that is put in
+
+-- it stands there
+pub get_inserted : {T : Type 0} (xs : List T) (p : ℕ) (x : T) → p ≤ length xs → slice_get (insert xs p x) p ≡ Some x
+get_inserted xs zero x h = refl
+get_inserted [] (suc p) x h = absurd (omega arith)
+get_inserted (y ∷ ys) (suc p) x h = get_inserted ys p x (omega arith)
+
+-- and leaves the list as it was where it is taken out again
+pub remove_inserted : {T : Type 0} (xs : List T) (p : ℕ) (x : T) → p ≤ length xs → remove (insert xs p x) p ≡ xs
+remove_inserted xs zero x h = refl
+remove_inserted [] (suc p) x h = absurd (omega arith)
+remove_inserted (y ∷ ys) (suc p) x h = ap (λ l. y ∷ l) (remove_inserted ys p x (omega arith))
+
+-- ---- an item behind others
+
+pub get_behind : {T : Type 0} (xs : List T) (y : T) (ys : List T) (i : ℕ) → length xs ≡ i → slice_get (xs ++ y ∷ ys) i ≡ Some y
+get_behind [] y ys zero e = refl
+get_behind [] y ys (suc i) e = absurd (omega (arith, e))
+get_behind (x ∷ xs) y ys zero e = absurd (omega (arith, e))
+get_behind (x ∷ xs) y ys (suc i) e = get_behind xs y ys i (omega (arith, e))
+
+pub set_behind : {T : Type 0} (xs : List T) (y : T) (ys : List T) (i : ℕ) (z : T) → length xs ≡ i → slice_set (xs ++ y ∷ ys) i z ≡ xs ++ z ∷ ys
+set_behind [] y ys zero z e = refl
+set_behind [] y ys (suc i) z e = absurd (omega (arith, e))
+set_behind (x ∷ xs) y ys zero z e = absurd (omega (arith, e))
+set_behind (x ∷ xs) y ys (suc i) z e = ap (λ l. x ∷ l) (set_behind xs y ys i z (omega (arith, e)))

@@ -3,3 +3,4 @@ pub mod Alike
 pub mod Tallies
 pub mod Reports
 pub mod Exchanged
+pub mod OfRecords

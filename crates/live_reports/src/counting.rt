@@ -4,7 +4,8 @@ ghost use Rattle.trace_record.specs.Facts.{facts_of};
 ghost use Rattle.trace_record.specs.Tally.{plus, minus, Same, HasKeys, Holds, IsSmall};
 ghost use Rattle.live_reports.specs.Where.{plus_where, minus_where, SmallWhere, HeldWhere, HasKeysWhere};
 
-use trace_record::{OutOfMemory, Record, Running};
+use record_table::{OutOfMemory, Running};
+use trace_record::Record;
 
 // Counts the trace, where the test holds.
 fn add_where<V: Running>(value: &mut V, counts: bool, trace: &Record) -> Result<(), OutOfMemory>

@@ -1,6 +1,6 @@
 // Records that stand in for as many others, from a place on: first the new ones are counted beside
 // the old ones, since that may be refused, and then the old ones are counted no longer.
-ghost use Rattle.std.specs.Prelude.{◌≡◌, ◌+◌, ◌<◌, ◌≤◌, length, map, drop, slice_get, All, IfSome, OnOk, OnErr, IsOk};
+ghost use Rattle.std.specs.Prelude.{◌+◌, ◌<◌, ◌≤◌, length, map, take, drop, slice_get, All, IfSome, OnOk, OnErr, IsOk};
 ghost use Rattle.trace_record.specs.Facts.{facts_of};
 ghost use Rattle.live_reports.specs.Exchanged.{with_records, tallies_with_new, AreFewTogether};
 ghost use Rattle.live_reports.specs.Reports.{HasEachKey};
@@ -8,7 +8,8 @@ ghost use Rattle.live_reports.specs.Tallies.{tallies_of, tallies_of_records, Sam
 
 use crate::changes::changes_between;
 use crate::values::Values;
-use trace_record::{OutOfMemory, Record, Records};
+use record_table::{OutOfMemory, Records};
+use trace_record::Record;
 
 // Counts the new records beside the others, or none of them where a growth is refused.
 pub(crate) fn add_each(
@@ -91,39 +92,37 @@ fn remove_at(values: &mut Values, records: &Records, place: usize, new: &[Record
     values.remove(changes_between(&old, &record), &record);
 }
 
-// Puts the new records, which are counted, where the others stand, and no longer counts those.
-pub(crate) fn put_each(values: &mut Values, records: &mut Records, place: usize, new: &[Record])
-    requires place { place + length new.now ≤ length records.old }
-    requires few { AreFewTogether records.old new.now }
+// No longer counts the records in whose places the new ones, which are counted, come to stand.
+pub(crate) fn drop_each(values: &mut Values, records: &Records, place: usize, new: &[Record])
+    requires place { place + length new.now ≤ length records.now }
+    requires few { AreFewTogether records.now new.now }
     requires counted { SameEach (tallies_of values.old)
-        (tallies_with_new records.old place new.now 0) }
-    ensures counted { SameEach (tallies_of values.new)
-        (tallies_of_records (map facts_of records.new)) }
-    ensures records { records.new ≡ with_records records.old place new.now }
+        (tallies_with_new records.now place new.now 0) }
+    ensures { SameEach (tallies_of values.new)
+        (tallies_of_records (map facts_of (with_records records.now place new.now))) }
 {
     for k in 0..new.len() {
-        put_at(values, records, place, new, k);
+        drop_at(values, records, place, new, k);
     }
 }
 
-// Puts new record k in its place, and no longer counts the one that stood there.
-fn put_at(values: &mut Values, records: &mut Records, place: usize, new: &[Record], k: usize)
+// No longer counts the record in whose place new record k comes to stand, as those in front of it
+// do already.
+fn drop_at(values: &mut Values, records: &Records, place: usize, new: &[Record], k: usize)
     requires there { k < length new.now }
-    requires place { place + length new.now ≤ length records.old }
-    requires few { AreFewTogether records.old (drop k new.now) }
+    requires place { place + length new.now ≤ length records.now }
+    requires few { AreFewTogether (with_records records.now place (take k new.now))
+        (drop k new.now) }
     requires counted { SameEach (tallies_of values.old)
-        (tallies_with_new records.old place new.now k) }
-    ensures few { AreFewTogether records.new (drop (k + 1) new.now) }
-    ensures counted { SameEach (tallies_of values.new)
-        (tallies_with_new records.new place new.now (k + 1)) }
-    ensures length { length records.new ≡ length records.old }
-    ensures records { with_records records.new (place + (k + 1)) (drop (k + 1) new.now) ≡
-        with_records records.old (place + k) (drop k new.now) }
+        (tallies_with_new (with_records records.now place (take k new.now)) place new.now k) }
+    ensures few { AreFewTogether (with_records records.now place (take (k + 1) new.now))
+        (drop (k + 1) new.now) }
+    ensures counted { SameEach (tallies_of values.new) (tallies_with_new
+        (with_records records.now place (take (k + 1) new.now)) place new.now (k + 1)) }
 {
     let Some(old) = records.get(place + k) else {
         unreachable!()
     };
     let record = new[k];
     values.remove(changes_between(&old, &record), &old);
-    records.set(place + k, record);
 }

@@ -1,11 +1,12 @@
-//! The records of a volume's traces, in order, with the reports that run with them: `LiveReports`,
-//! seen as the list of its records. Whatever was exchanged, inserted, removed or moved, its `Grid`,
-//! `Ranges`, `Totals` and `Faults` have counted exactly the records that it then holds. It knows
-//! nothing of bytes.
+//! The reports that run with the records of a volume's traces: `LiveReports`, the `Grid`, `Ranges`,
+//! `Totals` and `Faults` of a list of records, of which it holds none. The list stands in the table of
+//! traces. Each call that changes what is counted is lent the list as it is, is told which record is
+//! exchanged, comes or goes, and has then counted exactly the list as it will be. A record that
+//! moves changes nothing. It knows nothing of bytes.
 //!
 //! Places count from 0. There are fewer than 2^32 records, with at most 2^40 samples together.
 //! Calls that may take memory answer `OutOfMemory` where a growth is refused, and then nothing has
-//! changed; `remove` and the calls that lend take none.
+//! changed; `remove`, `take_back` and the calls that lend take none.
 #![tactic(auto)]
 
 mod changes;
@@ -15,5 +16,5 @@ mod live_reports;
 mod out_of_memory;
 mod values;
 
-pub use crate::live_reports::LiveReports;
+pub use crate::live_reports::{LiveReports, same_cells};
 pub use crate::out_of_memory::OutOfMemory;

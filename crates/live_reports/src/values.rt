@@ -8,7 +8,8 @@ use fault_live::Faults;
 use grid_live::Grid;
 use range_stats::{Ranges, Totals};
 use std::alloc::Global;
-use trace_record::{OutOfMemory, Record, Records, Running};
+use record_table::{OutOfMemory, Records, Running};
+use trace_record::Record;
 
 // The four running values.
 #[derive(Drop)]

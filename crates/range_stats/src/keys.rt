@@ -4,7 +4,7 @@ ghost use Rattle.key_counts.specs.Packed.{ratio_in};
 
 use key_counts::PackedRatio;
 use std::alloc::{AllocError, Global};
-use trace_record::Records;
+use record_table::Records;
 
 pub(crate) fn inline_keys(alloc: Global, records: &Records) -> Result<Vec<i32>, AllocError>
     ensures { IfOk result (λ keys. keys.items ≡ map (λ r. r.inline) records.now) }

@@ -10,7 +10,8 @@ use crate::counted::span;
 use crate::keys::{crossline_keys, inline_keys, offset_keys, x_keys, y_keys};
 use key_counts::{Counts, OutOfMemory, Ratio, raise_both};
 use std::alloc::Global;
-use trace_record::{Record, Records, Running};
+use record_table::{Records, Running};
+use trace_record::Record;
 
 /// The least and the greatest inline, crossline, offset, x and y of traces that come and go. Adding
 /// or removing a trace takes time by the logarithm of the number of traces.
@@ -43,7 +44,7 @@ impl Running for Ranges {
         }
     }
 
-    fn from_records(alloc: Global, records: &Records) -> Result<Ranges, trace_record::OutOfMemory> {
+    fn from_records(alloc: Global, records: &Records) -> Result<Ranges, record_table::OutOfMemory> {
         let inlines = Counts::from_keys(alloc, inline_keys(alloc, records)?)?;
         let crosslines = Counts::from_keys(alloc, crossline_keys(alloc, records)?)?;
         let offsets = Counts::from_keys(alloc, offset_keys(alloc, records)?)?;
@@ -59,7 +60,7 @@ impl Running for Ranges {
         })
     }
 
-    fn add(&mut self, trace: &Record) -> Result<(), trace_record::OutOfMemory> {
+    fn add(&mut self, trace: &Record) -> Result<(), record_table::OutOfMemory> {
         raise_lines(
             &mut self.inlines,
             &mut self.crosslines,
@@ -77,7 +78,7 @@ impl Running for Ranges {
                 &mut self.offsets,
                 trace,
             );
-            return Err(trace_record::OutOfMemory::from(error));
+            return Err(record_table::OutOfMemory::from(error));
         }
         self.records += 1;
         Ok(())

@@ -3,7 +3,7 @@ ghost use Rattle.trace_record.specs.Facts.{facts_of};
 ghost use Rattle.trace_record.specs.Tally.{tally_of, IsSmall};
 ghost use Rattle.range_stats.specs.TotalKeys.{keys_of_totals};
 
-use trace_record::Records;
+use record_table::Records;
 
 // The number of samples of traces, and their sum.
 #[derive(Clone, Copy)]

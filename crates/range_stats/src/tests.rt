@@ -7,7 +7,8 @@ use crate::{Quantity, Ranges, Totals};
 use key_counts::Ratio;
 use std::alloc::Global;
 use std::test::Fail;
-use trace_record::{OutOfMemory, Record, Running};
+use record_table::{OutOfMemory, Running};
+use trace_record::Record;
 
 fn both<R: Running>(alloc: Global, first: &Record, second: &Record) -> Result<R, OutOfMemory>
     requires one { IsSmall (tally_of R.counted (facts_of first.now ∷ [])) }

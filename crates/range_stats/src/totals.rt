@@ -7,7 +7,8 @@ use crate::keys::{greatest_keys, least_keys};
 use crate::sums::sums_of;
 use key_counts::{Counts, OutOfMemory, raise_both};
 use std::alloc::Global;
-use trace_record::{Record, Records, Running};
+use record_table::{Records, Running};
+use trace_record::Record;
 
 /// The least, the greatest, the sum and the number of the samples of traces that come and go. A
 /// trace without samples has no part in the least and the greatest. Adding or removing a trace
@@ -39,7 +40,7 @@ impl Running for Totals {
         }
     }
 
-    fn from_records(alloc: Global, records: &Records) -> Result<Totals, trace_record::OutOfMemory> {
+    fn from_records(alloc: Global, records: &Records) -> Result<Totals, record_table::OutOfMemory> {
         let least_samples = Counts::from_keys(alloc, least_keys(alloc, records)?)?;
         let greatest_samples = Counts::from_keys(alloc, greatest_keys(alloc, records)?)?;
         let sums = sums_of(records);
@@ -52,7 +53,7 @@ impl Running for Totals {
         })
     }
 
-    fn add(&mut self, trace: &Record) -> Result<(), trace_record::OutOfMemory> {
+    fn add(&mut self, trace: &Record) -> Result<(), record_table::OutOfMemory> {
         raise_ends(&mut self.least_samples, &mut self.greatest_samples, trace)?;
         self.records += 1;
         self.number += u64::from(trace.number);

@@ -14,7 +14,7 @@ use sample_codes::Format;
 use std::alloc::Global;
 use std::marker::Model;
 use std::mem::size_of;
-use trace_record::Records;
+use record_table::Records;
 
 // The position of a row, and its sample as a number of 8 bytes: 12 bytes in all.
 #[derive(Clone, Copy)]

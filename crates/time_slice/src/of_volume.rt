@@ -14,7 +14,8 @@ use edit_overlay::Overlay;
 use field_map::TRACE_HEADER_BYTES;
 use frame_cut::Head;
 use std::alloc::Global;
-use trace_record::{Record, Records};
+use record_table::Records;
+use trace_record::Record;
 use trace_view::TraceView;
 
 /// Slice k, counted from 0: a row for each trace that has sample k, in rising order by inline,

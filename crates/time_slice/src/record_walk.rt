@@ -3,7 +3,8 @@ ghost use Rattle.std.specs.Prelude.{◌≡◌, slice_get};
 
 use crate::records_ahead::RecordsAhead;
 use std::marker::Model;
-use trace_record::{Record, Records, RecordsIter};
+use record_table::{Records, RecordsIter};
+use trace_record::Record;
 
 // Records, seen as their list, and the place behind those that were asked for from the first on.
 // The record there is not searched for.

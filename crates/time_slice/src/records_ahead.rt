@@ -1,4 +1,4 @@
-use trace_record::RecordsIter;
+use record_table::RecordsIter;
 
 // How many records are read ahead at once.
 const AHEAD: usize = 32;

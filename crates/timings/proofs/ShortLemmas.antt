@@ -5,7 +5,7 @@ use Rattle.std.specs.List.{insert, remove}
 use Rattle.std.proofs.lemmas.List.{length-append, length-take, length-drop}
 use Rattle.std.proofs.lemmas.List.Elements.{All-append, All-cons, All-drop, All-get_or, All-set, All-take}
 use Rattle.std.proofs.lemmas.Option.{get_or_from_slice_get, slice_get_within}
-use Rattle.record_list.specs.Order.{put_back, with_moved}
+use Rattle.trace_store.specs.Moved.{put_back, with_moved}
 use Rattle.trace_record.specs.declared.record.Record.{Record}
 
 -- the record has at most 4 samples

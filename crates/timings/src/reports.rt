@@ -10,7 +10,8 @@ use key_counts::Ratio;
 use live_reports::LiveReports;
 use range_stats::{Quantity, Ranges, Totals};
 use std::alloc::Global;
-use trace_record::{Record, Records, Running};
+use record_table::{Records, Running};
+use trace_record::Record;
 
 // A record of a survey with a thousand traces on each inline, on a grid turned by 23 degrees.
 pub(crate) fn make(i: u32) -> Record

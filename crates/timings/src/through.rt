@@ -3,7 +3,8 @@ ghost use Rattle.std.specs.Prelude.{ℕ, ◌≤◌, OnOk, length, map, take};
 ghost use Rattle.trace_record.specs.Facts.{facts_of};
 ghost use Rattle.trace_record.specs.Tally.{Same, IsSmall, tally_of, empty_tally};
 
-use trace_record::{OutOfMemory, Record, Running};
+use record_table::{OutOfMemory, Running};
+use trace_record::Record;
 
 // Counts all the records.
 pub fn fill<R: Running>(value: &mut R, records: &[Record]) -> Result<(), OutOfMemory>

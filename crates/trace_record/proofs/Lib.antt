@@ -2,7 +2,6 @@ pub mod AddedLemmas
 pub mod FactsLemmas
 pub mod GeometryLemmas
 pub mod HeaderLemmas
-pub mod ListLemmas
 pub mod LoadLemmas
 pub mod PackedLemmas
 pub mod PartLemmas

@@ -1,14 +1,10 @@
 //! What the reports need of one trace. `Record` is a trace's own numbers, which `record_of` takes
-//! from a view of the trace, and `record_with_samples_of` from its headers alone; `Records` holds
-//! those of many traces in order, each in 72 bytes. `Statistics` is the least, greatest, sum and
-//! number of samples. A `Running` value counts traces, seen as their tally. The calls that are named
-//! for a law do nothing: their contract is the law.
+//! from a view of the trace, and `record_with_samples_of` from its headers alone; `PackedRecord` is
+//! the same in 72 bytes. `Statistics` is the least, greatest, sum and number of samples. What many
+//! traces have together is their tally. The calls that are named for a law do nothing: their
+//! contract is the law.
 //!
-//! `Running::add` takes memory only for a key that is not held; where a growth is refused it leaves
-//! all as it was. `Running::from_records` counts all at once, and takes memory for what it makes.
-//! `Records::from_slice`, `push`, `insert` and `move_to` may take memory, and leave the records as
-//! they were where it is refused. No other call takes memory. Bytes of headers count from 1, as in
-//! the standard.
+//! No call takes memory. Bytes of headers count from 1, as in the standard.
 #![tactic(auto)]
 
 mod header_fields;
@@ -16,13 +12,9 @@ mod laws;
 mod narrow;
 mod of_samples;
 mod of_trace;
-mod out_of_memory;
 mod packed_record;
 mod reads_sample;
 mod record;
-mod records;
-mod records_iter;
-mod running;
 mod statistics;
 mod unsigned;
 mod wide;
@@ -33,9 +25,6 @@ pub use crate::laws::{
     tally_of_one_more,
 };
 pub use crate::of_trace::{record_of, record_with_samples_of};
-pub use crate::out_of_memory::OutOfMemory;
+pub use crate::packed_record::PackedRecord;
 pub use crate::record::Record;
-pub use crate::records::Records;
-pub use crate::records_iter::RecordsIter;
-pub use crate::running::Running;
 pub use crate::statistics::Statistics;

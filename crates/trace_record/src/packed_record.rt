@@ -50,6 +50,7 @@ impl PackedRecord {
     ghost use Rattle.std.specs.Prelude.{◌≡◌};
     ghost use Rattle.trace_record.specs.Packed.{record_in};
 
+    /// The record in 72 bytes.
     pub fn of(trace: Record) -> PackedRecord
         ensures { record_in result ≡ trace }
     {
@@ -73,6 +74,7 @@ impl PackedRecord {
         }
     }
 
+    /// The record.
     #[inline]
     pub fn record(self) -> Record
         ensures { result ≡ record_in self }

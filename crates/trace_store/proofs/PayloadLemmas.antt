@@ -11,7 +11,8 @@ use Rattle.trace_seq.specs.Order.{times, id_at, with_id_moved, AreDistinct}
 use Rattle.trace_seq.proofs.TimeLemmas.{times-self}
 use Rattle.trace_store.specs.declared.slot.Slot.{Slot}
 use Rattle.trace_store.specs.Slots.{AreHeld, IsSlot}
-use Rattle.trace_store.specs.Stores.{somes, payload_under, payloads_moved, put_back}
+use Rattle.trace_store.specs.Moved.{put_back}
+use Rattle.trace_store.specs.Stores.{somes, payload_under, payloads_moved}
 use Rattle.trace_store.proofs.OrderLemmas.{place-of, held-at_place, map-alike, map-others, map-changed, map-insert, map-remove}
 
 module _ {T : Type 0} where

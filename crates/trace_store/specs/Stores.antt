@@ -1,7 +1,7 @@
 -- The traces of a store.
-use Rattle.std.specs.Prelude.{ℕ, ◌-◌, List, [], ◌∷◌, map, slice_get, Option, Some, None, option_map}
-use Rattle.std.specs.List.{insert, remove}
+use Rattle.std.specs.Prelude.{ℕ, ◌-◌, List, [], ◌∷◌, map, Option, Some, None, option_map}
 use Rattle.slab.specs.Slab.{Slab, get}
+use Rattle.trace_store.specs.Moved.{with_moved}
 use Rattle.trace_store.specs.Slots.{base_under, bytes_under}
 use Rattle.trace_store.specs.declared.prepared.Prepared.{Prepared}
 use Rattle.trace_store.specs.declared.prepared.Prepared.TheVariants.{Put, Runs, Move}
@@ -34,14 +34,9 @@ payloads_under slots ids = somes (map (payload_under slots) ids)
 abbrev pub payloads_of : {T : Type 0} → TraceStore T → List T
 payloads_of s = payloads_under s.slots s.order.ids
 
--- the list with an item, if there is one, put in at a place
-abbrev pub put_back : {T : Type 0} → Option T → List T → ℕ → List T
-put_back None ps at = ps
-put_back (Some t) ps at = insert ps at t
-
--- the list with item a taken out, and put in again so that it is item b
+-- the payloads with that of trace a taken out, and put in again so that it is that of trace b
 abbrev pub payloads_moved : {T : Type 0} → List T → ℕ → ℕ → List T
-payloads_moved ps a b = put_back (slice_get ps (a - 1)) (remove ps (a - 1)) (b - 1)
+payloads_moved ps a b = with_moved ps (a - 1) (b - 1)
 
 -- the payloads as they would be with the edit that is prepared
 abbrev pub payloads_then : {T : Type 0} → List T → Prepared → List T

@@ -3,7 +3,7 @@ use Rattle.std.proofs.Common.{◌≡◌, ℕ, ◌-◌, ◌≤◌, List, sym, ap,
 use Rattle.std.specs.Prelude.{map, slice_set}
 use Rattle.std.specs.List.{insert, remove}
 use Rattle.std.proofs.lemmas.List.{map-set}
-use Rattle.record_list.specs.Order.{put_back, with_moved as records_moved}
+use Rattle.trace_store.specs.Moved.{put_back, with_moved as records_moved}
 use Rattle.field_map.specs.Pairs.{Pairs}
 use Rattle.frame_cut.specs.Parts.{with_inserted, without, with_moved, with_line, with_header_bytes}
 use Rattle.frame_cut.specs.Traces.{count_of, trace_at, with_trace}
@@ -12,7 +12,7 @@ use Rattle.trace_record.specs.Facts.{Facts, facts_of}
 use Rattle.trace_record.specs.OfTrace.{record_of}
 use Rattle.trace_record.specs.declared.record.Record.{Record}
 use Rattle.volume_records.specs.OfVolume.{records_of}
-use Rattle.trace_record.proofs.ListLemmas.{map-insert, map-remove}
+use Rattle.record_table.proofs.ListLemmas.{map-insert, map-remove}
 use Rattle.volume_records.proofs.RecordLemmas.{has_record}
 
 -- with another trace p

@@ -11,7 +11,8 @@ use edit_overlay::Overlay;
 use field_map::FieldMap;
 use live_reports::LiveReports;
 use std::alloc::Global;
-use trace_record::{Record, Records, record_of};
+use record_table::Records;
+use trace_record::{Record, record_of};
 use trace_view::TraceView;
 
 /// The reports of a volume that is the cut of a file, under a map for the file: the record of each

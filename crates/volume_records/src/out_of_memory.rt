@@ -18,8 +18,8 @@ impl<T: Drop> From<AllocFailed<T>> for OutOfMemory {
     }
 }
 
-impl From<trace_record::OutOfMemory> for OutOfMemory {
-    fn from(_error: trace_record::OutOfMemory) -> OutOfMemory {
+impl From<record_table::OutOfMemory> for OutOfMemory {
+    fn from(_error: record_table::OutOfMemory) -> OutOfMemory {
         OutOfMemory
     }
 }

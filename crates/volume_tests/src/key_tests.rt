@@ -6,7 +6,8 @@ use std::collections::HashMap;
 use std::mem::size_of;
 use std::process::Abort;
 use std::test::Fail;
-use trace_record::{Record, Records};
+use record_table::Records;
+use trace_record::Record;
 
 #[test]
 fn scales_coordinates(rt: HostRuntime) {

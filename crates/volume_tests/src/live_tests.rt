@@ -11,7 +11,8 @@ use range_stats::Quantity;
 use std::alloc::Global;
 use std::process::Abort;
 use std::test::Fail;
-use trace_record::{Record, Records};
+use record_table::Records;
+use trace_record::Record;
 
 // A trace with two samples at this crossline of inline 10.
 #[tactic(auto, unfolding(trace_record::specs::Parts::IsPackable))]

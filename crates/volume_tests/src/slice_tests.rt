@@ -12,7 +12,8 @@ use std::alloc::Global;
 use std::process::Abort;
 use std::test::Fail;
 use time_slice::{Row, SliceCache, rows};
-use trace_record::{Record, Records};
+use record_table::Records;
+use trace_record::Record;
 
 #[tactic(auto, unfolding(trace_record::specs::Parts::IsPackable))]
 fn record_at(inline: i32, crossline: i32) -> Record {

@@ -1,25 +1,13 @@
-use Rattle.std.proofs.Common.{sym, subst}
-use Rattle.std.specs.Prelude.{List}
-use Rattle.trace_record.specs.declared.record.Record.{Record}
-use Rattle.live_reports.specs.Reports.{HaveCounted}
-use Rattle.live_reports.proofs.EditLemmas.{room_for_insert, insert_counts, insert_undone}
+use Rattle.live_reports.proofs.EditLemmas.{room_for_insert, insert_counts}
 use Rattle.live_reports.proofs.SmallLemmas.{small_each, AreSmall-Same}
 use Rattle.live_reports.proofs.live_reports.LiveReports.insert.Goals as goal
 
 pub add-requires-clause-small : goal.add-requires-clause-small
-add-requires-clause-small c = AreSmall-Same _ _ c.self.invariant.counted (small_each c.self.inside.records c.self.invariant.few)
+add-requires-clause-small c = AreSmall-Same _ _ c.requires.counted.counted (small_each c.args.records.now c.requires.counted.few)
 
 pub add-requires-clause-room : goal.add-requires-clause-room
-add-requires-clause-room c =
-    room_for_insert c.self.inside.records c.args.place c.args.added.now (rw (← c.self.view_is) at c.requires.place) c.self.inside.values c.self.invariant (rw (← c.self.view_is) at c.requires.few)
+add-requires-clause-room c = room_for_insert c.args.records.now c.args.place c.args.added.now c.requires.place c.args.self.now.values c.requires.counted c.requires.few
 
-pub remove-requires-clause-small : goal.remove-requires-clause-small
-remove-requires-clause-small c =
-    insert_undone c.self.inside.records c.args.place c.args.added.now (rw (← c.self.view_is) at c.requires.place) c.self.inside.values c.self.invariant (rw (← c.self.view_is) at c.requires.few)
-    c.all_changes.result c.all_changes.ensures c.add.new.self c.in_ok-add.ensures.ok c.all_changes-in-Err.result
-
-pub invariant_of-self-in_default : goal.invariant_of-self-in_default
-invariant_of-self-in_default c =
-    subst (λ (l : List Record). HaveCounted c.add.new.self l) (sym c.in_default.ensures.ok)
-    (insert_counts c.self.inside.records c.args.place c.args.added.now (rw (← c.self.view_is) at c.requires.place) c.self.inside.values c.self.invariant (rw (← c.self.view_is) at c.requires.few)
-    c.all_changes.result c.all_changes.ensures c.add.new.self c.in_ok-add.ensures.ok)
+pub returns-clause-ok : goal.returns-clause-ok
+returns-clause-ok c =
+    insert_counts c.args.records.now c.args.place c.args.added.now c.requires.place c.args.self.now.values c.requires.counted c.requires.few c.all_changes.result c.all_changes.ensures c.add.new.self c.in_ok-add.ensures.ok

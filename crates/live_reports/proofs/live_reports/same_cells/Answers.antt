@@ -1,0 +1,24 @@
+use Rattle.std.proofs.Common.{◌≡◌, ◌∙◌, sym, ap, ◌+◌, ◌&&◌, Bool, true, false, drop}
+use Rattle.live_reports.specs.Alike.{same_cell}
+use Rattle.live_reports.specs.Exchanged.{same_cells}
+use Rattle.live_reports.proofs.ExchangeLemmas.{cells_from, no_cells}
+use Rattle.live_reports.proofs.live_reports.same_cells.Goals as goal
+
+pub returns-then-not-has_same_cell : goal.returns-then-not-has_same_cell
+returns-then-not-has_same_cell c =
+    let rest : Bool = same_cells (drop (c.args.place + (c.loop-k.k + 1)) c.args.records.now) (drop (c.loop-k.k + 1) c.args.new.now) in
+    let other : same_cell c.in-Some.held c.index-new-k.result ≡ false = sym c.has_same_cell.ensures ∙ c.if-not-has_same_cell.true in
+    sym (ap (λ b. b && rest) other)
+    ∙ sym (cells_from c.args.records.now c.args.place c.loop-k.k c.args.new.now c.in-Some.held c.index-new-k.result (sym c.get.ensures ∙ c.in-Some.is) c.loop-k-test.true c.index-new-k.is)
+    ∙ c.loop-k.invariant
+
+pub loop-k-preserved : goal.loop-k-preserved
+loop-k-preserved c =
+    let rest : Bool = same_cells (drop (c.args.place + (c.loop-k.k + 1)) c.args.records.now) (drop (c.loop-k.k + 1) c.args.new.now) in
+    let same : same_cell c.in-Some.held c.index-new-k.result ≡ true = sym c.has_same_cell.ensures ∙ c.if-not-has_same_cell.false in
+    sym (ap (λ b. b && rest) same)
+    ∙ sym (cells_from c.args.records.now c.args.place c.loop-k.k c.args.new.now c.in-Some.held c.index-new-k.result (sym c.get.ensures ∙ c.in-Some.is) c.loop-k-test.true c.index-new-k.is)
+    ∙ c.loop-k.invariant
+
+pub returns : goal.returns
+returns c = sym (no_cells (drop (c.args.place + c.loop-k.k) c.args.records.now) c.args.new.now c.loop-k.k c.loop-k-test.false) ∙ c.loop-k.invariant

@@ -1,0 +1,18 @@
+//! The records of the traces of a volume, in order, as they stand in the table of traces: `Records`
+//! lends them from the column of payloads, each of 72 bytes. A `Running` value counts records as
+//! they come and go, seen as their tally.
+//!
+//! `Running::add` takes memory only for a key that is not held; where a growth is refused it leaves
+//! all as it was. `Running::from_records` counts all at once, and takes memory for what it makes. No
+//! other call takes memory. Places count from 0.
+#![tactic(auto)]
+
+mod out_of_memory;
+mod records;
+mod records_iter;
+mod running;
+
+pub use crate::out_of_memory::OutOfMemory;
+pub use crate::records::Records;
+pub use crate::records_iter::RecordsIter;
+pub use crate::running::Running;

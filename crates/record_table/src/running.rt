@@ -1,0 +1,46 @@
+ghost use Rattle.std.specs.Prelude.{◌≡◌, OnOk, OnErr, IsOk, IfOk, map};
+
+use crate::{OutOfMemory, Records};
+use std::alloc::Global;
+use trace_record::Record;
+
+/// A value that runs with the traces of a volume, and is seen as their tally: it counts each trace
+/// that is added, and no longer counts one that is removed, whatever the order.
+pub trait Running: Drop {
+    ghost use Rattle.trace_record.specs.Facts.{facts_of};
+    ghost use Rattle.trace_record.specs.Keys.{Counted};
+    ghost use Rattle.trace_record.specs.Tally.{Tally, empty_tally, tally_of, plus, minus, Same, HasKeys, Holds, IsSmall};
+    ghost use Rattle.trace_record.specs.declared.record.Record.{Record};
+
+    // What the value counts of a trace.
+    ghost counted: { Counted };
+
+    ghost tally: { Self → Tally };
+
+    /// Counts nothing. Takes no memory.
+    fn new(alloc: Global) -> Self
+        ensures { Same (tally result) empty_tally };
+
+    /// The value that counted these traces, made all at once from sorted keys. Takes memory for
+    /// what it holds and, while it is made, for a list of keys and one of their runs; refused for
+    /// want of it alone.
+    fn from_records(alloc: Global, records: &Records<'_>) -> Result<Self, OutOfMemory>
+        requires { IsSmall (tally_of counted (map facts_of records.now)) }
+        ensures { IfOk result (λ value.
+            Same (tally value) (tally_of counted (map facts_of records.now))) };
+
+    /// Counts the trace. Takes memory for a key that is not held, and leaves all as it was where a
+    /// growth is refused.
+    fn add(&mut self, trace: &Record) -> Result<(), OutOfMemory>
+        requires { IsSmall (plus counted (tally self.old) (facts_of trace.now)) }
+        ensures ok { OnOk result
+            (Same (tally self.new) (plus counted (tally self.old) (facts_of trace.now))) }
+        ensures err { OnErr result (Same (tally self.new) (tally self.old)) }
+        ensures held { HasKeys counted (tally self.old) (facts_of trace.now) → IsOk result };
+
+    /// No longer counts the trace. Takes no memory.
+    fn remove(&mut self, trace: &Record)
+        requires held { Holds counted (tally self.old) (facts_of trace.now) }
+        requires small { IsSmall (minus counted (tally self.old) (facts_of trace.now)) }
+        ensures { Same (tally self.new) (minus counted (tally self.old) (facts_of trace.now)) };
+}

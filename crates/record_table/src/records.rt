@@ -31,7 +31,7 @@ impl<'a> Model for Records<'a> {
 impl<'a> Records<'a> {
     /// The records that the payloads are.
     pub fn new(column: Column<'a, PackedRecord>) -> Records<'a>
-        ensures { result ≡ map record_in column }
+        ensures { result ≡ map record_in column.entry }
     {
         Records { column }
     }

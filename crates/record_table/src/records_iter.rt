@@ -28,7 +28,7 @@ impl<'a> Model for RecordsIter<'a> {
 
 impl<'a> RecordsIter<'a> {
     pub(crate) fn new(payloads: Payloads<'a, PackedRecord>) -> RecordsIter<'a>
-        ensures { result ≡ map record_in payloads }
+        ensures { result ≡ map record_in payloads.entry }
     {
         RecordsIter { payloads }
     }

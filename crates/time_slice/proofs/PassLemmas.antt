@@ -1,20 +1,20 @@
 -- The pass that makes the rows, and the slice that records give.
-use Rattle.std.specs.Prelude.{◌≡◌, ℕ, ℤ, ◌+◌, ◌*◌, ◌-◌, ◌<◌, IsTrue, List, [], ◌∷◌, ◌++◌, All, map, take, slice_index_or, slice_range, Option, Some, None, IfSome, refl, length}
-use Rattle.std.proofs.Common.{arith, sym, ap, ◌∙◌, append_assoc, append-nil, drop, drop-cons, drop-drop, add-one}
+use Rattle.std.specs.Prelude.{◌≡◌, ℕ, ℤ, ◌+◌, ◌*◌, ◌-◌, ◌<◌, ◌≤◌, IsTrue, List, [], ◌∷◌, ◌++◌, All, map, take, slice_range, Option, Some, None, IfSome, refl, length}
+use Rattle.std.proofs.Common.{arith, sym, ap, ◌∙◌, append_assoc, append-nil, drop, drop-drop}
 use Rattle.std.proofs.lemmas.Bool.{lt-ltb}
 use Rattle.std.proofs.lemmas.List.Elements.{All-nil, All-cons, All-append, All-same}
 use Rattle.std.specs.List.{zip}
 use Rattle.field_map.specs.Pairs.{Pairs}
 use Rattle.frame_cut.specs.declared.file_head.Head.{Head}
 use Rattle.frame_cut.specs.Frames.{extensions_of, sample_count}
-use Rattle.frame_cut.specs.Traces.{count_of, trace_at}
-use Rattle.frame_cut.specs.Volume.{Volume}
 use Rattle.sample_codes.specs.declared.format.Format.{Format}
 use Rattle.sample_codes.specs.Formats.{width, sample_value, sample_fits}
 use Rattle.trace_view.specs.Values.{sample_of}
 use Rattle.trace_record.specs.Facts.{Facts, facts_of}
 use Rattle.trace_record.specs.OfTrace.{record_of}
-use Rattle.trace_record.specs.declared.record.Record.{Record}
+use Rattle.trace_record.specs.Packed.{record_in}
+use Rattle.trace_record.specs.declared.packed_record.PackedRecord.{PackedRecord}
+use Rattle.trace_store.specs.Shown.{ShownTrace, shown_each}
 use Rattle.time_slice.specs.declared.row.Row.{Row}
 use Rattle.time_slice.specs.Laws.{RowsAreOfTraces}
 use Rattle.time_slice.specs.OfRecords.{with_sample_of}
@@ -40,25 +40,42 @@ fits_more f old new p facts s grew fits all = All-same (λ r. IsTrue (sample_fit
     by None fits = All-nil (λ r. IsTrue (sample_fits f r.value))
     by (Some v) fits = All-cons (λ r. IsTrue (sample_fits f r.value)) (record { inline = facts.inline; crossline = facts.crossline; position = p; value = v }) [] fits (All-nil (λ r. IsTrue (sample_fits f r.value)))
 
+-- the facts and sample k of a trace that is shown with its record
+abbrev pub sampled : ℕ → ShownTrace × PackedRecord → Facts × Option ℤ
+sampled k r = (facts_of (record_in r.1), sample_of r.0.head r.0.bytes k)
+
+-- those of all traces that are shown
+pub sampled_each : (h : Head) (k : ℕ) (ts : List (List ℕ)) (ps : List PackedRecord) → map (sampled k) (zip (shown_each h ts) ps) ≡ with_sample_of h k (map record_in ps) ts
+sampled_each h k [] [] = refl
+sampled_each h k [] (p ∷ ps) = refl
+sampled_each h k (t ∷ ts) [] = refl
+sampled_each h k (t ∷ ts) (p ∷ ps) = ap (λ (l : List (Facts × Option ℤ)). (facts_of (record_in p), sample_of h t k) ∷ l) (sampled_each h k ts ps)
+
+-- they are shown under one head
+pub shown_under_head : (h : Head) (ts : List (List ℕ)) (ps : List PackedRecord) → All (λ (r : ShownTrace × PackedRecord). r.0.head ≡ h) (zip (shown_each h ts) ps)
+shown_under_head h [] ps = All-nil (λ (r : ShownTrace × PackedRecord). r.0.head ≡ h)
+shown_under_head h (t ∷ ts) [] = All-nil (λ (r : ShownTrace × PackedRecord). r.0.head ≡ h)
+shown_under_head h (t ∷ ts) (p ∷ ps) = All-cons (λ (r : ShownTrace × PackedRecord). r.0.head ≡ h) (record { head = h; bytes = t }, p) (zip (shown_each h ts) ps) refl (shown_under_head h ts ps)
+
+-- and are no more than the traces
+pub shown_at_most : (h : Head) (ts : List (List ℕ)) (ps : List PackedRecord) → length (zip (shown_each h ts) ps) ≤ length ts
+shown_at_most h [] ps = omega arith
+shown_at_most h (t ∷ ts) [] = omega arith
+shown_at_most h (t ∷ ts) (p ∷ ps) = omega (arith, shown_at_most h ts ps)
+
 -- what is written and what is left are the whole, before and after one trace
-pub row_is_written : (v : Volume) (k i : ℕ) (r : Record) (rs : List Record) (s : Option ℤ) (old new all : List Row) → i < count_of v
-    → s ≡ sample_of v.head (trace_at v (i + 1)) k → new ≡ old ++ row_of (i + 1) (facts_of r) s
-    → old ++ rows_from (i + 1) (with_sample_of v.head k (r ∷ rs) (drop i v.traces)) ≡ all
-    → new ++ rows_from (i + 1 + 1) (with_sample_of v.head k rs (drop (i + 1) v.traces)) ≡ all
-row_is_written v k i r rs s old new all there seen grew told =
-    let rest = rows_from (i + 1 + 1) (with_sample_of v.head k rs (drop (i + 1) v.traces)) in
-    let place : i + 1 - 1 ≡ i = omega arith in
-    let sample : s ≡ sample_of v.head (slice_index_or v.traces i []) k = seen ∙ ap (λ j. sample_of v.head (slice_index_or v.traces j []) k) place in
-    let first : drop i v.traces ≡ slice_index_or v.traces i [] ∷ drop (i + 1) v.traces = drop-cons v.traces i [] there ∙ ap (λ n. slice_index_or v.traces i [] ∷ drop n v.traces) (sym (add-one i)) in
-    ap (λ l. l ++ rest) (grew ∙ ap (λ o. old ++ row_of (i + 1) (facts_of r) o) sample)
-    ∙ append_assoc old (row_of (i + 1) (facts_of r) (sample_of v.head (slice_index_or v.traces i []) k)) rest
-    ∙ ap (λ ts. old ++ rows_from (i + 1) (with_sample_of v.head k (r ∷ rs) ts)) (sym first)
+pub row_is_written : (k i : ℕ) (old new all : List Row) (r : ShownTrace × PackedRecord) (left rest : List (ShownTrace × PackedRecord)) → left ≡ r ∷ rest
+    → new ≡ old ++ row_of (i + 1) (facts_of (record_in r.1)) (sample_of r.0.head r.0.bytes k)
+    → old ++ rows_from (i + 1) (map (sampled k) left) ≡ all → new ++ rows_from (i + 1 + 1) (map (sampled k) rest) ≡ all
+row_is_written k i old new all r left rest is grew told =
+    ap (λ (rows : List Row). rows ++ rows_from (i + 1 + 1) (map (sampled k) rest)) grew
+    ∙ append_assoc old (row_of (i + 1) (facts_of (record_in r.1)) (sample_of r.0.head r.0.bytes k)) (rows_from (i + 1 + 1) (map (sampled k) rest))
+    ∙ ap (λ (l : List (ShownTrace × PackedRecord)). old ++ rows_from (i + 1) (map (sampled k) l)) (sym is)
     ∙ told
 
--- where no record is left, the whole is written
-pub all_written : (h : Head) (k i : ℕ) (rs : List Record) (ts : List (List ℕ)) (rows all : List Row) → length rs ≡ 0 → rows ++ rows_from (i + 1) (with_sample_of h k rs ts) ≡ all → rows ≡ all
-all_written h k i [] ts rows all none told = sym (append-nil rows) ∙ told
-all_written h k i (r ∷ rs) ts rows all none told = absurd (omega (arith, none))
+-- where no trace is left, the whole is written
+pub all_written : (k i : ℕ) (rows all : List Row) (left : List (ShownTrace × PackedRecord)) → left ≡ [] → rows ++ rows_from (i + 1) (map (sampled k) left) ≡ all → rows ≡ all
+all_written k i rows all left none told = sym (append-nil rows) ∙ ap (λ (l : List (ShownTrace × PackedRecord)). rows ++ rows_from (i + 1) (map (sampled k) l)) (sym none) ∙ told
 
 -- facts beside the samples of their own traces
 pub beside_own : (h : Head) (fields : Pairs) (k : ℕ) (traces : List (List ℕ)) → zip (map (record_of h fields) traces) (map (λ t. sample_of h t k) traces) ≡ with_sample h fields k traces

@@ -1,44 +1,44 @@
-ghost use Rattle.std.specs.Prelude.{◌≡◌, ◌++◌, length, All, IfOk, IfSome, OnOk, IsTrue};
+ghost use Rattle.std.specs.Prelude.{◌≡◌, ◌++◌, length, map, All, IfOk, IfSome, OnOk, IsTrue};
 ghost use Rattle.frame_cut.specs.Traces.{count_of};
 ghost use Rattle.sample_codes.specs.Formats.{width, sample_value, sample_fits};
 ghost use Rattle.trace_view.specs.Shown.{head_of, bytes_of};
 ghost use Rattle.trace_view.specs.Values.{sample_of};
 ghost use Rattle.trace_record.specs.Facts.{facts_of};
+ghost use Rattle.trace_record.specs.Packed.{record_in};
 ghost use Rattle.edit_overlay.specs.CountedVolume.{RisesAtMost};
 ghost use Rattle.time_slice.specs.OfRecords.{with_sample_of};
 ghost use Rattle.time_slice.specs.Slices.{row_of, rows_from, slice_rows};
 
-use crate::records_ahead::RecordsAhead;
 use crate::{OutOfMemory, Row};
 use edit_overlay::Overlay;
 use field_map::TRACE_HEADER_BYTES;
 use frame_cut::Head;
 use std::alloc::Global;
-use record_table::Records;
-use trace_record::Record;
+use trace_record::{PackedRecord, Record};
 use trace_view::TraceView;
 
 /// Slice k, counted from 0: a row for each trace that has sample k, in rising order by inline,
-/// crossline and position. There are as many records as traces, and inline and crossline are those
-/// of the record at the trace's place. One pass over them, with one look at each trace, which reads
-/// the one sample by its place; then the rows are sorted where they stand. Takes memory for a row
-/// for each trace; refused for want of it alone, and the volume stays as it is in any case.
+/// crossline and position. Inline and crossline are those of the record that stands beside the
+/// trace. One pass over them, with one look at each trace, which reads the one sample by its place;
+/// then the rows are sorted where they stand. Takes memory for a row for each trace; refused for
+/// want of it alone, and the volume stays as it is in any case.
 pub fn rows(
     alloc: Global,
-    overlay: &mut Overlay,
-    records: &Records,
+    overlay: &mut Overlay<PackedRecord>,
     k: u32,
 ) -> Result<Vec<Row>, OutOfMemory>
-    requires { length records.now ≡ count_of overlay.old.volume }
     ensures rows { IfOk result (λ v. v.items ≡ slice_rows (with_sample_of
-        overlay.old.volume.head k records.now overlay.old.volume.traces)) }
+        overlay.old.volume.head k (map record_in overlay.old.payloads)
+        overlay.old.volume.traces)) }
     ensures fits { IfOk result (λ v.
         All (λ r. IsTrue (sample_fits overlay.old.volume.head.format r.value)) v.items) }
     ensures volume { overlay.new.volume ≡ overlay.old.volume }
     ensures prepared { overlay.new.prepared ≡ overlay.old.prepared }
+    ensures payloads { overlay.new.payloads ≡ overlay.old.payloads }
+    ensures payloads_prepared { overlay.new.payloads_prepared ≡ overlay.old.payloads_prepared }
     ensures looks { RisesAtMost overlay.old.looks overlay.new.looks (count_of overlay.old.volume) }
 {
-    let mut rows = rows_in_place(alloc, overlay, records, k)?;
+    let mut rows = rows_in_place(alloc, overlay, k)?;
     rows.sort_unstable();
     Ok(rows)
 }
@@ -46,17 +46,18 @@ pub fn rows(
 // A row for each trace that has sample k, in the order of the traces.
 fn rows_in_place(
     alloc: Global,
-    overlay: &mut Overlay,
-    records: &Records,
+    overlay: &mut Overlay<PackedRecord>,
     k: u32,
 ) -> Result<Vec<Row>, OutOfMemory>
-    requires { length records.now ≡ count_of overlay.old.volume }
     ensures rows { IfOk result (λ v. v.items ≡ rows_from 1 (with_sample_of
-        overlay.old.volume.head k records.now overlay.old.volume.traces)) }
+        overlay.old.volume.head k (map record_in overlay.old.payloads)
+        overlay.old.volume.traces)) }
     ensures fits { IfOk result (λ v.
         All (λ r. IsTrue (sample_fits overlay.old.volume.head.format r.value)) v.items) }
     ensures volume { overlay.new.volume ≡ overlay.old.volume }
     ensures prepared { overlay.new.prepared ≡ overlay.old.prepared }
+    ensures payloads { overlay.new.payloads ≡ overlay.old.payloads }
+    ensures payloads_prepared { overlay.new.payloads_prepared ≡ overlay.old.payloads_prepared }
     ensures looks { RisesAtMost overlay.old.looks overlay.new.looks (count_of overlay.old.volume) }
 {
     // Room for all at once: a list that grows is copied again and again, each time to fresh memory.
@@ -64,12 +65,10 @@ fn rows_in_place(
     let mut rows = Vec::with_capacity(alloc, count as usize)?;
     let mut position = 0;
     let near = usual_place(overlay.head(), k);
-    let mut ahead = RecordsAhead::new(records.iter());
-    for (record, trace) in records.iter().zip(overlay.pass_near(near)) {
+    for (trace, packed) in overlay.pass_near(near) {
         position += 1;
-        ahead.step();
         let sample = sample_that_fits(&trace, k);
-        push_row(&mut rows, &record, position, sample)?;
+        push_row(&mut rows, &packed.record(), position, sample)?;
     }
     Ok(rows)
 }

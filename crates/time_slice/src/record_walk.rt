@@ -10,7 +10,7 @@ use trace_record::Record;
 // The record there is not searched for.
 #[derive(Drop)]
 pub(crate) struct RecordWalk<'a> {
-    records: &'a Records,
+    records: &'a Records<'a>,
     ahead: RecordsAhead<'a>,
     left: RecordsIter<'a>,
     place: usize,
@@ -34,7 +34,7 @@ impl<'a> Model for RecordWalk<'a> {
 impl<'a> RecordWalk<'a> {
     ghost use Rattle.std.specs.Prelude.{◌≡◌, slice_get};
 
-    pub(crate) fn new(records: &'a Records) -> RecordWalk<'a>
+    pub(crate) fn new(records: &'a Records<'a>) -> RecordWalk<'a>
         ensures { result ≡ records.now }
     {
         RecordWalk {

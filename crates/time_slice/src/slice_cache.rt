@@ -2,6 +2,7 @@ ghost use Rattle.std.specs.Prelude.{◌≡◌, ◌≤◌, ◌∷◌, [], ◌++�
 ghost use Rattle.frame_cut.specs.Traces.{count_of};
 ghost use Rattle.sample_codes.specs.Formats.{sample_fits};
 ghost use Rattle.trace_record.specs.Facts.{facts_of};
+ghost use Rattle.trace_record.specs.Packed.{record_in};
 ghost use Rattle.edit_overlay.specs.CountedVolume.{RisesAtMost};
 ghost use Rattle.lru.specs.LruCache.{lru_cache};
 ghost use Rattle.time_slice.specs.OfRecords.{with_sample_of};
@@ -16,6 +17,7 @@ use sample_codes::Format;
 use std::alloc::Global;
 use std::marker::Model;
 use std::num::NonZeroUsize;
+use trace_record::PackedRecord;
 use record_table::Records;
 
 /// The slices that were asked last, of a volume under edits. Of each row only its position and its
@@ -58,34 +60,37 @@ impl SliceCache {
     }
 
     /// Slice k, counted from 0, as [`rows`] gives it, which is kept then and comes first. A slice
-    /// that is kept already is answered without a look, any other with one at each trace. There are
-    /// as many records as traces, and each kept slice is the one that they give. Takes memory for
+    /// that is kept already is answered without a look, any other with one at each trace. Each kept
+    /// slice is the one that the volume and the records beside its traces give. Takes memory for
     /// the rows and for what is kept of them; refused for want of it alone, and then the same
     /// slices are kept, in the same order. The volume stays as it is in any case.
     pub fn slice(
         &mut self,
         alloc: Global,
-        overlay: &mut Overlay,
-        records: &Records,
+        overlay: &mut Overlay<PackedRecord>,
         k: u32,
     ) -> Result<Vec<Row>, OutOfMemory>
-        requires count { length records.now ≡ count_of overlay.old.volume }
-        requires right { AreRightOf overlay.old.volume.head records.now overlay.old.volume.traces
-            self.old.entries }
+        requires { AreRightOf overlay.old.volume.head (map record_in overlay.old.payloads)
+            overlay.old.volume.traces self.old.entries }
         ensures rows { IfOk result (λ v. v.items ≡ slice_rows (with_sample_of
-            overlay.old.volume.head k records.now overlay.old.volume.traces)) }
+            overlay.old.volume.head k (map record_in overlay.old.payloads)
+            overlay.old.volume.traces)) }
         ensures ok { OnOk result (self.new ≡ after_slice self.old k (slice_rows (with_sample_of
-            overlay.old.volume.head k records.now overlay.old.volume.traces))) }
+            overlay.old.volume.head k (map record_in overlay.old.payloads)
+            overlay.old.volume.traces))) }
         ensures err { OnErr result (self.new ≡ self.old) }
         ensures volume { overlay.new.volume ≡ overlay.old.volume }
         ensures prepared { overlay.new.prepared ≡ overlay.old.prepared }
+        ensures payloads { overlay.new.payloads ≡ overlay.old.payloads }
+        ensures payloads_prepared { overlay.new.payloads_prepared
+            ≡ overlay.old.payloads_prepared }
         ensures looks { RisesAtMost overlay.old.looks overlay.new.looks
             (if keeps k self.old.entries then 0 else count_of overlay.old.volume) }
     {
         if self.cached(k) {
-            return self.answer_kept(alloc, records, k);
+            return self.answer_kept(alloc, &Records::new(overlay.payloads()), k);
         }
-        let rows = rows(alloc, overlay, records, k)?;
+        let rows = rows(alloc, overlay, k)?;
         self.keep(alloc, k, rows.as_slice(), overlay.head().format)?;
         Ok(rows)
     }

@@ -8,12 +8,12 @@ ghost use Rattle.edit_overlay.specs.CountedVolume.{with_one_look};
 use edit_overlay::Overlay;
 use field_map::FieldMap;
 use frame_cut::Head;
-use trace_record::{Record, record_of, record_with_samples_of};
+use trace_record::{PackedRecord, Record, record_of, record_with_samples_of};
 use trace_view::TraceView;
 
 /// The record of trace p, counted from 1, as it would be with the edit that is prepared, under a
 /// map for the file. One look. Takes no memory.
-pub fn prepared_record(overlay: &mut Overlay, fields: &FieldMap, p: u32) -> Record
+pub fn prepared_record(overlay: &mut Overlay<PackedRecord>, fields: &FieldMap, p: u32) -> Record
     requires trace { IsTrue (is_trace overlay.old.prepared p) }
     requires fields { fields.now.extensions ≡ overlay.old.prepared.head.extensions }
     ensures record { facts_of result ≡ record_of_trace overlay.old.prepared.head fields.now.pairs
@@ -31,7 +31,7 @@ pub fn prepared_record(overlay: &mut Overlay, fields: &FieldMap, p: u32) -> Reco
 /// the least, greatest, sum and number of its samples, which are those of another record. For an
 /// edit of headers alone. One look, which reads no sample. Takes no memory.
 pub fn prepared_headers(
-    overlay: &mut Overlay,
+    overlay: &mut Overlay<PackedRecord>,
     fields: &FieldMap,
     p: u32,
     samples: &Record,

@@ -1,6 +1,7 @@
 ghost use Rattle.std.specs.Prelude.{◌≡◌, ◌+◌, ◌-◌, ◌≤◌, IfOk, length, map, take, drop};
 ghost use Rattle.frame_cut.specs.Traces.{count_of};
 ghost use Rattle.trace_record.specs.Facts.{facts_of};
+ghost use Rattle.trace_record.specs.Packed.{record_in};
 ghost use Rattle.edit_overlay.specs.CountedVolume.{RisesAtMost};
 ghost use Rattle.volume_records.specs.OfVolume.{headers_of};
 
@@ -8,39 +9,37 @@ use crate::OutOfMemory;
 use crate::of_trace::prepared_headers;
 use edit_overlay::Overlay;
 use field_map::FieldMap;
-use live_reports::LiveReports;
 use std::alloc::Global;
-use trace_record::Record;
+use trace_record::{PackedRecord, Record};
 
 /// The records of so many traces from trace a on, counted from 1, as they would be with the edit
 /// that is prepared, but for the least, greatest, sum and number of their samples, which are those
-/// of the records that are held at their places. For an edit of headers alone. One look at each of
+/// of the records that stand beside them now. For an edit of headers alone. One look at each of
 /// them, which reads no sample. Takes memory for the records; refused for want of it alone, and the
 /// volume and what is prepared stay as they are in any case.
 pub fn prepared_records(
     alloc: Global,
-    overlay: &mut Overlay,
+    overlay: &mut Overlay<PackedRecord>,
     fields: &FieldMap,
-    reports: &LiveReports,
     a: u32,
     count: u32,
 ) -> Result<Vec<Record>, OutOfMemory>
     requires first { 1 ≤ a }
     requires last { a - 1 + count ≤ count_of overlay.old.prepared }
-    requires held { a - 1 + count ≤ length reports.now }
+    requires held { a - 1 + count ≤ count_of overlay.old.volume }
     requires fields { fields.now.extensions ≡ overlay.old.prepared.head.extensions }
     ensures records { IfOk result (λ records. map facts_of records.items ≡ take count (drop (a - 1)
-        (headers_of overlay.old.prepared fields.now.pairs (map facts_of reports.now)))) }
+        (headers_of overlay.old.prepared fields.now.pairs
+        (map facts_of (map record_in overlay.old.payloads))))) }
     ensures volume { overlay.new.volume ≡ overlay.old.volume }
     ensures prepared { overlay.new.prepared ≡ overlay.old.prepared }
+    ensures payloads { overlay.new.payloads ≡ overlay.old.payloads }
+    ensures payloads_prepared { overlay.new.payloads_prepared ≡ overlay.old.payloads_prepared }
     ensures looks { RisesAtMost overlay.old.looks overlay.new.looks count }
 {
-    let held = reports.records();
     let mut records = Vec::with_capacity(alloc, count as usize)?;
     for k in 0..count {
-        let Some(known) = held.get((a - 1 + k) as usize) else {
-            unreachable!()
-        };
+        let known = overlay.payload(a + k).record();
         let record = prepared_headers(overlay, fields, a + k, &known);
         records.push(record)?;
     }

@@ -1,52 +1,80 @@
-ghost use Rattle.std.specs.Prelude.{◌≡◌, IfOk, map};
-ghost use Rattle.frame_cut.specs.Traces.{count_of};
-ghost use Rattle.trace_view.specs.Shown.{head_of, bytes_of};
+ghost use Rattle.std.specs.Prelude.{◌≡◌, ◌<◌, ◌+◌, ◌^◌, [], IfOk, OnOk, length, map};
+ghost use Rattle.frame_cut.specs.Traces.{count_of, trace_at};
 ghost use Rattle.trace_record.specs.Facts.{facts_of};
 ghost use Rattle.trace_record.specs.OfTrace.{record_of as record_of_trace};
+ghost use Rattle.trace_record.specs.Packed.{record_in};
 ghost use Rattle.edit_overlay.specs.CountedVolume.{RisesAtMost};
+ghost use Rattle.edit_overlay.specs.LoadedVolume.{with_next_look};
+ghost use Rattle.live_reports.specs.OfRecords.{AreReportsOf};
 ghost use Rattle.volume_records.specs.OfVolume.{IsOfFile, records_of};
 
 use crate::OutOfMemory;
-use edit_overlay::Overlay;
+use edit_overlay::{Loading, Overlay};
 use field_map::FieldMap;
 use live_reports::LiveReports;
-use std::alloc::Global;
 use record_table::Records;
-use trace_record::{Record, record_of};
-use trace_view::TraceView;
+use std::alloc::Global;
+use trace_record::{PackedRecord, Record, record_of};
 
-/// The reports of a volume that is the cut of a file, under a map for the file: the record of each
-/// of its traces, in order, and the running values that have counted them. One pass over the
-/// traces, with one look at each. Takes memory for the records and for what the values hold;
-/// refused for want of it alone, and the volume stays as it is in any case.
-pub fn reports(
+/// The volume of a file that is being loaded, of which no trace has a record yet, under a map for
+/// the file: the record of each of its traces stands beside the trace then, and the reports have
+/// counted them. One look at each trace. Takes memory for the order of the traces and for what the
+/// reports hold; refused for want of it alone.
+pub fn with_records(
     alloc: Global,
-    overlay: &mut Overlay,
+    loading: Loading<PackedRecord>,
     fields: &FieldMap,
-) -> Result<LiveReports, OutOfMemory>
-    requires file { IsOfFile overlay.old.volume }
-    requires fields { fields.now.extensions ≡ overlay.old.volume.head.extensions }
-    ensures records { IfOk result (λ r. map facts_of r ≡
-        records_of overlay.old.volume fields.now.pairs) }
-    ensures volume { overlay.new.volume ≡ overlay.old.volume }
-    ensures prepared { overlay.new.prepared ≡ overlay.old.prepared }
-    ensures looks { RisesAtMost overlay.old.looks overlay.new.looks (count_of overlay.old.volume) }
+) -> Result<(Overlay<PackedRecord>, LiveReports), OutOfMemory>
+    requires file { IsOfFile loading.volume }
+    requires none { loading.payloads ≡ [] }
+    requires fields { fields.now.extensions ≡ loading.volume.head.extensions }
+    ensures records { IfOk result (λ r. map facts_of (map record_in r.0.payloads) ≡
+        records_of loading.volume fields.now.pairs) }
+    ensures reports { IfOk result (λ r. AreReportsOf r.1 (map record_in r.0.payloads)) }
+    ensures volume { IfOk result (λ r. r.0.volume ≡ loading.volume) }
+    ensures prepared { IfOk result (λ r. r.0.prepared ≡ loading.volume) }
+    ensures looks { IfOk result
+        (λ r. RisesAtMost loading.looks r.0.looks (count_of loading.volume)) }
 {
-    // Read for the proof alone, which learns that the traces are counted in 32 bits.
-    let _count = overlay.count();
-    let mut records = Records::new(alloc);
-    for trace in overlay.pass() {
-        records.push(alloc, record_in_file(&trace, fields))?;
-    }
-    Ok(LiveReports::from_records(alloc, records)?)
+    let mut loading = loading;
+    push_records(alloc, &mut loading, fields)?;
+    let overlay = loading.finish();
+    let reports = LiveReports::from_records(alloc, &Records::new(overlay.payloads()))?;
+    Ok((overlay, reports))
 }
 
-// The record of a trace of a file that the map is for.
-fn record_in_file(trace: &TraceView<'_>, fields: &FieldMap) -> Record
-    requires { fields.now.extensions ≡ (head_of trace.now).extensions }
-    ensures { facts_of result ≡ record_of_trace (head_of trace.now) fields.now.pairs
-        (bytes_of trace.now) }
+// Gives each trace its record.
+fn push_records(
+    alloc: Global,
+    loading: &mut Loading<PackedRecord>,
+    fields: &FieldMap,
+) -> Result<(), OutOfMemory>
+    requires none { loading.old.payloads ≡ [] }
+    requires fields { fields.now.extensions ≡ loading.old.volume.head.extensions }
+    ensures records { OnOk result (map facts_of (map record_in loading.new.payloads) ≡
+        records_of loading.old.volume fields.now.pairs) }
+    ensures few { count_of loading.old.volume < 2 ^ 32 }
+    ensures volume { loading.new.volume ≡ loading.old.volume }
+    ensures looks { RisesAtMost loading.old.looks loading.new.looks (count_of loading.old.volume) }
+{
+    for _ in 0..loading.count() {
+        let record = next_record(loading, fields);
+        loading.push(alloc, PackedRecord::of(record))?;
+    }
+    Ok(())
+}
+
+// The record of the first trace that has none yet.
+fn next_record(loading: &mut Loading<PackedRecord>, fields: &FieldMap) -> Record
+    requires left { length loading.old.payloads < count_of loading.old.volume }
+    requires fields { fields.now.extensions ≡ loading.old.volume.head.extensions }
+    ensures record { facts_of result ≡ record_of_trace loading.old.volume.head fields.now.pairs
+        (trace_at loading.old.volume (length loading.old.payloads + 1)) }
+    ensures loading { loading.new ≡ with_next_look loading.old }
 {
     fields.geometry_stands();
-    record_of(trace, fields)
+    let Some(trace) = loading.next_trace() else {
+        unreachable!()
+    };
+    record_of(&trace, fields)
 }

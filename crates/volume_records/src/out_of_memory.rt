@@ -18,8 +18,8 @@ impl<T: Drop> From<AllocFailed<T>> for OutOfMemory {
     }
 }
 
-impl From<record_table::OutOfMemory> for OutOfMemory {
-    fn from(_error: record_table::OutOfMemory) -> OutOfMemory {
+impl From<edit_overlay::OutOfMemory> for OutOfMemory {
+    fn from(_error: edit_overlay::OutOfMemory) -> OutOfMemory {
         OutOfMemory
     }
 }

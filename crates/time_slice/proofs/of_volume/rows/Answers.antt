@@ -1,7 +1,8 @@
-use Rattle.std.proofs.Common.{subst, List, IsTrue}
+use Rattle.std.proofs.Common.{subst, List, map, IsTrue}
 use Rattle.std.proofs.lemmas.List.Sorted.{All-permutation}
 use Rattle.std.specs.List.Sorted.{IsPermutation}
 use Rattle.sample_codes.specs.Formats.{sample_fits}
+use Rattle.trace_record.specs.Packed.{record_in}
 use Rattle.time_slice.specs.OfRecords.{with_sample_of}
 use Rattle.time_slice.specs.declared.row.Row.{Row}
 use Rattle.time_slice.proofs.OrderLemmas.{slice_from_sorted}
@@ -11,7 +12,7 @@ pub returns-clause-rows : goal.returns-clause-rows
 returns-clause-rows c =
     let v = c.args.overlay.now.volume in
     let sorted = c.sort_unstable.new.self.items in
-    slice_from_sorted (with_sample_of v.head c.args.k c.args.records.now v.traces) sorted
+    slice_from_sorted (with_sample_of v.head c.args.k (map record_in c.args.overlay.now.payloads) v.traces) sorted
     (subst (λ (rows : List Row). IsPermutation rows sorted) c.in_ok-rows.ensures.rows c.sort_unstable.ensures.permutation)
     c.sort_unstable.ensures.sorted
 

@@ -2,6 +2,7 @@ use Rattle.std.proofs.Common.{sym, subst, ◌≡◌, List, ℕ, map, IfOk}
 use Rattle.trace_record.specs.Facts.{facts_of}
 use Rattle.trace_view.specs.Values.{sample_of}
 use Rattle.time_slice.specs.Cache.{kept_of}
+use Rattle.trace_record.specs.Packed.{record_in}
 use Rattle.time_slice.specs.OfRecords.{with_sample_of}
 use Rattle.time_slice.specs.Slices.{slice_rows}
 use Rattle.time_slice.specs.declared.row.Row.{Row}
@@ -12,13 +13,13 @@ use Rattle.time_slice.proofs.slice_cache.SliceCache.slice.Goals as goal
 pub returns-then-cached-clause-rows : goal.returns-then-cached-clause-rows
 returns-then-cached-clause-rows c =
     let v = c.args.overlay.now.volume in
-    let rows : ℕ → List Row = λ k. slice_rows (with_sample_of v.head k c.args.records.now v.traces) in
-    let kept = right_found (λ k. kept_of (rows k)) c.args.k c.args.self.now.entries c.requires.right (sym c.if-cached.ensures) in
-    let again = slice_again (map facts_of c.args.records.now) (map (λ t. sample_of v.head t c.args.k) v.traces) in
+    let rows : ℕ → List Row = λ k. slice_rows (with_sample_of v.head k (map record_in c.args.overlay.now.payloads) v.traces) in
+    let kept = right_found (λ k. kept_of (rows k)) c.args.k c.args.self.now.entries c.requires (sym c.if-cached.ensures) in
+    let again = slice_again (map facts_of (map record_in c.args.overlay.now.payloads)) (map (λ t. sample_of v.head t c.args.k) v.traces) in
     subst (λ (rs : List Row). IfOk c.answer_kept.result (λ w. w.items ≡ rs)) again (c.answer_kept.ensures.rows (rows c.args.k) kept)
 
 pub returns-then-cached-clause-ok : goal.returns-then-cached-clause-ok
 returns-then-cached-clause-ok c =
     let v = c.args.overlay.now.volume in
-    let rows : ℕ → List Row = λ k. slice_rows (with_sample_of v.head k c.args.records.now v.traces) in
-    c.answer_kept.ensures.ok (rows c.args.k) (right_found (λ k. kept_of (rows k)) c.args.k c.args.self.now.entries c.requires.right (sym c.if-cached.ensures))
+    let rows : ℕ → List Row = λ k. slice_rows (with_sample_of v.head k (map record_in c.args.overlay.now.payloads) v.traces) in
+    c.answer_kept.ensures.ok (rows c.args.k) (right_found (λ k. kept_of (rows k)) c.args.k c.args.self.now.entries c.requires (sym c.if-cached.ensures))

@@ -1,0 +1,16 @@
+use Rattle.std.proofs.Common.{◌≡◌, length, take}
+use Rattle.std.specs.Prelude.{map}
+use Rattle.trace_record.specs.Facts.{facts_of}
+use Rattle.trace_record.specs.Packed.{record_in}
+use Rattle.edit_overlay.specs.CountedVolume.{RisesAtMost}
+use Rattle.frame_cut.specs.Traces.{count_of}
+use Rattle.volume_records.specs.OfVolume.{records_of}
+use Rattle.volume_records.proofs.of_volume.push_records.Given as goal
+
+-- the first traces have their records, at a look each
+abbrev pub invariant-loop : goal.invariant-loop
+invariant-loop l = record {
+  made : map facts_of (map record_in l.loading.payloads) ≡ take (length l.loading.payloads) (records_of l.fn.loading.volume l.fn.fields.pairs);
+  volume : l.loading.volume ≡ l.fn.loading.volume;
+  looks : RisesAtMost l.fn.loading.looks l.loading.looks (length l.loading.payloads);
+}

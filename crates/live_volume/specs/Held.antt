@@ -1,5 +1,5 @@
 -- How a bench holds its state.
-use Rattle.std.specs.Prelude.{◌≡◌, ℕ, ◌+◌, ◌-◌, ◌*◌, Bool, not, List}
+use Rattle.std.specs.Prelude.{◌≡◌, ℕ, ◌+◌, ◌-◌, ◌*◌, Bool, not, List, map}
 use Rattle.std.specs.List.{list_any, range_with_len}
 use Rattle.field_map.specs.Pairs.{Pairs}
 use Rattle.frame_cut.specs.declared.file_head.Head.{Head}
@@ -10,9 +10,11 @@ use Rattle.sample_codes.specs.Formats.{width}
 use Rattle.trace_view.specs.Values.{samples_at}
 use Rattle.trace_record.specs.Facts.{facts_of, with_samples_of}
 use Rattle.trace_record.specs.OfTrace.{record_of}
+use Rattle.trace_record.specs.Packed.{record_in}
 use Rattle.trace_record.specs.declared.record.Record.{Record}
 use Rattle.bench_rules.specs.Kept.{same_cell}
 use Rattle.bench_rules.specs.Live.{AreRecordsOf}
+use Rattle.live_reports.specs.OfRecords.{AreReportsOf}
 use Rattle.bench_rules.specs.State.{State, Session}
 use Rattle.live_volume.specs.declared.live_volume.LiveVolume.TheInside.{Inside}
 
@@ -24,12 +26,19 @@ state_of b = record { volume = b.overlay.volume; fields = b.fields.pairs; readin
 abbrev pub session_of : Inside → Session
 session_of b = record { state = state_of b; looks = b.overlay.looks }
 
--- the parts of the volume are the one cut of its bytes, the field map is that of a file with as many header extensions
--- for a trace, and the reports hold the record of each trace
+-- the records that stand beside the traces
+abbrev pub records_in : Inside → List Record
+records_in b = map record_in b.overlay.payloads
+
+-- the parts of the volume are the one cut of its bytes, nothing is prepared over it, the field map is that of a file
+-- with as many header extensions for a trace, the record of each trace stands beside it, and the reports have counted
+-- these records
 pub record IsHeld (b : Inside) : Type 0 where
   pub cut : IsCut (bytes_of b.overlay.volume) b.reading b.limits b.overlay.volume
+  pub prepared : b.overlay.prepared ≡ b.overlay.volume
   pub extensions : b.fields.extensions ≡ b.overlay.volume.head.extensions
-  pub records : AreRecordsOf (state_of b) b.reports
+  pub records : AreRecordsOf (state_of b) (records_in b)
+  pub reports : AreReportsOf b.reports (records_in b)
 
 -- the state with another volume, read in the same way
 abbrev pub with_volume : State → Volume → State

@@ -55,6 +55,6 @@ impl LiveVolume {
             (if is_kept k (kept_numbers slices.old.entries) then 0
             else count_of self.old.state.volume) }
     {
-        slices.slice(alloc, &mut self.overlay, self.reports.records(), k)
+        slices.slice(alloc, &mut self.overlay, k)
     }
 }

@@ -24,7 +24,7 @@ use bench_rules::{
     binary_value, is_line, place_in_binary, set_bin_refusal, set_refusal, trace_sample,
 };
 use device_io::{Sink, Source};
-use edit_overlay::{Overlay, SaveFault};
+use edit_overlay::{Loading, Overlay, SaveFault};
 use field_map::{FieldMap, Place, is_geometry};
 use frame_cut::{Limits, LoadFault, Reading};
 use live_reports::LiveReports;
@@ -34,12 +34,13 @@ use std::alloc::Global;
 use std::io::{Read, Write};
 use std::marker::Model;
 use text_block::{TEXT_BLOCK_BYTES, code_of, encode_line, line};
-use volume_records::reports;
+use trace_record::PackedRecord;
+use volume_records::{remake, with_records};
 
 /// One volume: a file that was loaded, with the edits that were accepted since.
 #[derive(Drop)]
 pub struct LiveVolume {
-    pub(crate) overlay: Overlay,
+    pub(crate) overlay: Overlay<PackedRecord>,
     pub(crate) fields: FieldMap,
     reading: Reading,
     pub(crate) limits: Limits,
@@ -83,11 +84,11 @@ impl LiveVolume {
         ensures failures { MatchResult result (λ _. reader.new.failures ≡ reader.old.failures)
             (λ fault. FailuresAfterRefusal fault reader.old.failures reader.new.failures) }
     {
-        let mut overlay = Overlay::load(alloc, reader, reading, limits)?;
-        let Ok(fields) = FieldMap::standard(alloc, overlay.head().extensions) else {
+        let loading = Loading::load(alloc, reader, reading, limits)?;
+        let Ok(fields) = FieldMap::standard(alloc, loading.head().extensions) else {
             return Err(LoadFault::OutOfMemory);
         };
-        let Ok(reports) = reports(alloc, &mut overlay, &fields) else {
+        let Ok((overlay, reports)) = with_records(alloc, loading, &fields) else {
             return Err(LoadFault::OutOfMemory);
         };
         Ok(LiveVolume {
@@ -272,8 +273,8 @@ impl LiveVolume {
     }
 
     // A geometry name bound to the place, or the first refusal. Each trace is looked at for its new
-    // record, and the reports are made anew beside the old ones; where that is refused, the name
-    // gets its old place again, which takes no memory.
+    // record, and the reports are made anew beside the old ones; where that is refused, the records
+    // are as they were, and the name gets its old place again, which takes no memory.
     fn bind_geometry(&mut self, alloc: Global, name: &Text, place: Place) -> Result<(), Refusal>
         requires { is_geometry_name name.now ≡ true }
         ensures step { Step self.old.state (edits.Map name.now place) result self.new.state }
@@ -289,7 +290,7 @@ impl LiveVolume {
             unreachable!()
         };
         self.fields.set_geometry(text, place);
-        match reports(alloc, &mut self.overlay, &self.fields) {
+        match remake(alloc, &mut self.overlay, &self.fields) {
             Ok(reports) => {
                 self.reports = reports;
                 Ok(())

@@ -17,6 +17,7 @@ use bench_rules::{
 use fault_live::Faults;
 use grid_live::Grid;
 use range_stats::{Quantity, Ranges, Totals};
+use record_table::Records;
 use std::alloc::Global;
 use time_slice::rows;
 use trace_record::Record;
@@ -59,10 +60,10 @@ impl LiveVolume {
             (record_of self.now.state.volume.head self.now.state.fields)
             (trace_of self.now.state.volume p) }
     {
-        if p == 0 {
+        if !self.has_trace(p) {
             return None;
         }
-        self.reports.get(p as usize - 1)
+        Some(self.overlay.payload(p).record())
     }
 
     // Where trace p lies: E01.
@@ -141,7 +142,7 @@ impl LiveVolume {
         ensures looks { RisesAtMost self.old.looks self.new.looks
             (count_of self.old.state.volume) }
     {
-        let rows = rows(alloc, &mut self.overlay, self.reports.records(), k)?;
+        let rows = rows(alloc, &mut self.overlay, k)?;
         Ok(Answer::Slice(Items::new(rows)))
     }
 
@@ -150,6 +151,11 @@ impl LiveVolume {
         ensures { IsReply self.now.state queries.Faults result }
     {
         let head = head_facts(self.overlay.head(), self.overlay.text(), self.overlay.bin());
-        faults(alloc, self.triples(), self.reports.records(), &head)
+        faults(
+            alloc,
+            self.triples(),
+            &Records::new(self.overlay.payloads()),
+            &head,
+        )
     }
 }

@@ -13,6 +13,7 @@ use crate::live_volume::LiveVolume;
 use bench_rules::{
     Refusal, blank_length, joined, patch_refusal, sample_place, samples_bytes, zeros,
 };
+use record_table::Records;
 use std::alloc::Global;
 use volume_records::record_of_bytes;
 
@@ -213,9 +214,7 @@ impl LiveVolume {
             (self.new.state ≡ self.old.state)) }
         ensures looks { RisesAtMost self.old.looks self.new.looks 1 }
     {
-        let Some(trace) = self.reports.get(q as usize - 1) else {
-            unreachable!()
-        };
+        let trace = self.overlay.payload(q).record();
         let bytes = self.trace_bytes(alloc, q)?;
         self.insert(alloc, p, bytes, &trace)
     }
@@ -240,8 +239,9 @@ impl LiveVolume {
         ensures after { IsAfter self.old.state (edits.Delete p) self.new.state }
         ensures looks { self.new.looks ≡ self.old.looks }
     {
+        self.reports
+            .remove(&Records::new(self.overlay.payloads()), p as usize - 1);
         self.overlay.delete(p);
-        self.reports.remove(p as usize - 1);
     }
 
     // Trace a as trace b, or the first refusal: E01.
@@ -263,16 +263,7 @@ impl LiveVolume {
             (self.new.state ≡ self.old.state)) }
         ensures looks { self.new.looks ≡ self.old.looks }
     {
-        self.overlay.prepare_move(alloc, a, b)?;
-        match self.reports.move_to(alloc, a as usize - 1, b as usize - 1) {
-            Ok(()) => {
-                self.overlay.commit();
-                Ok(())
-            }
-            Err(_) => {
-                self.overlay.discard();
-                Err(Refusal::OutOfMemory)
-            }
-        }
+        self.overlay.move_to(alloc, a, b)?;
+        Ok(())
     }
 }

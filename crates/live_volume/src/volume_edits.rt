@@ -1,7 +1,7 @@
 // Changes of the volume and of the reports that hold the records of its traces: of both, or of
 // neither where memory is refused. What can be refused comes first, and what is done then takes no
 // memory.
-ghost use Rattle.std.specs.Prelude.{◌≡◌, ◌+◌, ◌-◌, ◌≤◌, ◌<◌, ◌^◌, ◌/◌, [], length, slice_index_or, slice_set, ℕ, IsTrue, IfSome, IfOk, OnOk, IfErr};
+ghost use Rattle.std.specs.Prelude.{◌≡◌, ◌+◌, ◌-◌, ◌≤◌, ◌<◌, ◌^◌, ◌/◌, [], length, map, slice_index_or, slice_set, ℕ, IsTrue, IfSome, IfOk, OnOk, IfErr};
 ghost use Rattle.frame_cut.specs.Cuts.{IsTrace};
 ghost use Rattle.frame_cut.specs.Parts.{with_each, with_inserted};
 ghost use Rattle.frame_cut.specs.Splice.{splice};
@@ -9,8 +9,10 @@ ghost use Rattle.frame_cut.specs.Traces.{count_of, is_trace, trace_at, with_trac
 ghost use Rattle.frame_cut.specs.Volume.{bytes_of};
 ghost use Rattle.trace_record.specs.Facts.{facts_of};
 ghost use Rattle.trace_record.specs.OfTrace.{record_of};
+ghost use Rattle.trace_record.specs.Packed.{record_in};
 ghost use Rattle.edit_overlay.specs.CountedVolume.{RisesAtMost, with_one_look, with_volume as with_counted_volume};
 ghost use Rattle.live_reports.specs.Exchanged.{with_records};
+ghost use Rattle.live_reports.specs.OfRecords.{AreReportsOf};
 ghost use Rattle.live_reports.specs.Reports.{AreFew};
 ghost use Rattle.bench_rules.specs.declared.refusal.Refusal.TheVariants.{OutOfMemory as no_memory};
 ghost use Rattle.volume_records.specs.OfVolume.{AreHeaderParts};
@@ -20,10 +22,11 @@ use crate::live_volume::LiveVolume;
 use bench_rules::Refusal;
 use edit_overlay::Overlay;
 use field_map::FieldMap;
-use live_reports::LiveReports;
+use live_reports::{LiveReports, same_cells};
+use record_table::Records;
 use std::alloc::Global;
-use trace_record::Record;
-use volume_records::{prepared_headers, prepared_record, prepared_records};
+use trace_record::{PackedRecord, Record};
+use volume_records::{prepared_headers, prepared_record, prepared_records, set_records};
 
 impl LiveVolume {
     // The record of trace p.
@@ -33,10 +36,7 @@ impl LiveVolume {
         ensures { facts_of result ≡ record_of self.now.state.volume.head self.now.state.fields
             (trace_at self.now.state.volume p) }
     {
-        let Some(trace) = self.reports.get(p as usize - 1) else {
-            unreachable!()
-        };
-        trace
+        self.overlay.payload(p).record()
     }
 
     // Lays the bytes over those of trace p from place `at` on, counted from 0 in the trace. The
@@ -96,13 +96,21 @@ impl LiveVolume {
             (self.new.state ≡ self.old.state)) }
         ensures looks { self.new.looks ≡ self.old.looks }
     {
-        let Ok(()) = self.reports.insert(alloc, p as usize - 1, trace) else {
+        let place = p as usize - 1;
+        let counted = self
+            .reports
+            .insert(&Records::new(self.overlay.payloads()), place, trace);
+        if counted.is_err() {
             return Err(Refusal::OutOfMemory);
-        };
-        match self.overlay.insert(alloc, p, bytes) {
+        }
+        match self
+            .overlay
+            .insert(alloc, p, bytes, PackedRecord::of(*trace))
+        {
             Ok(()) => Ok(()),
             Err(_) => {
-                self.reports.remove(p as usize - 1);
+                self.reports
+                    .take_back(&Records::new(self.overlay.payloads()), place, trace);
                 Err(Refusal::OutOfMemory)
             }
         }
@@ -129,10 +137,16 @@ impl LiveVolume {
             (self.new.state ≡ self.old.state)) }
         ensures looks { self.new.looks ≡ self.old.looks }
     {
-        let Ok(()) = self.reports.exchange(p as usize - 1, trace) else {
+        let counted = self.reports.exchange(
+            &Records::new(self.overlay.payloads()),
+            p as usize - 1,
+            trace,
+        );
+        if counted.is_err() {
             return Err(Refusal::OutOfMemory);
-        };
-        self.overlay.replace(alloc, p, bytes);
+        }
+        self.overlay
+            .replace(alloc, p, bytes, PackedRecord::of(*trace));
         Ok(())
     }
 
@@ -166,18 +180,15 @@ impl LiveVolume {
         ensures looks { RisesAtMost self.old.looks self.new.looks count }
     {
         self.overlay.prepare_put_each(alloc, a, at, size, bytes)?;
-        let Ok(records) = prepared_records(
-            alloc,
-            &mut self.overlay,
-            &self.fields,
-            &self.reports,
-            a,
-            count,
-        ) else {
+        let Ok(records) = prepared_records(alloc, &mut self.overlay, &self.fields, a, count) else {
             self.overlay.discard();
             return Err(Refusal::OutOfMemory);
         };
-        let stays = self.reports.same_cells(a as usize - 1, records.as_slice());
+        let stays = same_cells(
+            &Records::new(self.overlay.payloads()),
+            a as usize - 1,
+            records.as_slice(),
+        );
         exchange_each(&mut self.overlay, &mut self.reports, a, records.as_slice())?;
         Ok(!stays)
     }
@@ -185,7 +196,12 @@ impl LiveVolume {
 
 // The record of trace p with the prepared edit, in one look. No sample is read where a record is
 // known that has the same ones.
-fn new_record(overlay: &mut Overlay, fields: &FieldMap, p: u32, samples: Option<Record>) -> Record
+fn new_record(
+    overlay: &mut Overlay<PackedRecord>,
+    fields: &FieldMap,
+    p: u32,
+    samples: Option<Record>,
+) -> Record
     requires trace { IsTrue (is_trace overlay.old.prepared p) }
     requires fields { fields.now.extensions ≡ overlay.old.prepared.head.extensions }
     requires samples { IfSome samples (HasSamplesOf overlay.old.prepared.head fields.now.pairs
@@ -203,23 +219,30 @@ fn new_record(overlay: &mut Overlay, fields: &FieldMap, p: u32, samples: Option<
 // Makes the prepared edit of trace p, whose record is then this one, or drops it where memory is
 // refused.
 fn exchange(
-    overlay: &mut Overlay,
+    overlay: &mut Overlay<PackedRecord>,
     reports: &mut LiveReports,
     p: u32,
     trace: &Record,
 ) -> Result<(), Refusal>
     requires first { 1 ≤ p }
-    requires last { p ≤ length reports.old }
-    requires few { AreFew (slice_set reports.old (p - 1) trace.now) }
-    ensures ok { OnOk result ((overlay.new ≡ with_counted_volume overlay.old overlay.old.prepared)
-        × (reports.new ≡ slice_set reports.old (p - 1) trace.now)) }
+    requires last { p ≤ count_of overlay.old.volume }
+    requires held { p ≤ length overlay.old.payloads }
+    requires stay { overlay.old.payloads_prepared ≡ overlay.old.payloads }
+    requires counted { AreReportsOf reports.old (map record_in overlay.old.payloads) }
+    requires few { AreFew (slice_set (map record_in overlay.old.payloads) (p - 1) trace.now) }
+    ensures records { OnOk result (map record_in overlay.new.payloads ≡
+        slice_set (map record_in overlay.old.payloads) (p - 1) trace.now) }
+    ensures reports { OnOk result (AreReportsOf reports.new (map record_in overlay.new.payloads)) }
+    ensures volume { OnOk result (overlay.new.volume ≡ overlay.old.prepared) }
     ensures err { IfErr result (λ refusal. (refusal ≡ no_memory)
         × (overlay.new ≡ with_counted_volume overlay.old overlay.old.volume)
-        × (reports.new ≡ reports.old)) }
+        × AreReportsOf reports.new (map record_in overlay.old.payloads)) }
+    ensures prepared { overlay.new.prepared ≡ overlay.new.volume }
+    ensures looks { overlay.new.looks ≡ overlay.old.looks }
 {
-    match reports.exchange(p as usize - 1, trace) {
+    match reports.exchange(&Records::new(overlay.payloads()), p as usize - 1, trace) {
         Ok(()) => {
-            overlay.commit();
+            overlay.commit_with(p, PackedRecord::of(*trace));
             Ok(())
         }
         Err(_) => {
@@ -232,23 +255,32 @@ fn exchange(
 // Makes the prepared edit of as many traces as there are records, from trace a on, whose records
 // are then these, or drops it where memory is refused.
 fn exchange_each(
-    overlay: &mut Overlay,
+    overlay: &mut Overlay<PackedRecord>,
     reports: &mut LiveReports,
     a: u32,
     records: &[Record],
 ) -> Result<(), Refusal>
     requires first { 1 ≤ a }
-    requires last { a - 1 + length records.now ≤ length reports.old }
-    requires few { AreFew (with_records reports.old (a - 1) records.now) }
-    ensures ok { OnOk result ((overlay.new ≡ with_counted_volume overlay.old overlay.old.prepared)
-        × (reports.new ≡ with_records reports.old (a - 1) records.now)) }
+    requires last { a - 1 + length records.now ≤ count_of overlay.old.prepared }
+    requires held { a - 1 + length records.now ≤ length overlay.old.payloads }
+    requires stay { overlay.old.payloads_prepared ≡ overlay.old.payloads }
+    requires counted { AreReportsOf reports.old (map record_in overlay.old.payloads) }
+    requires few { AreFew (with_records (map record_in overlay.old.payloads) (a - 1)
+        records.now) }
+    ensures records { OnOk result (map record_in overlay.new.payloads ≡
+        with_records (map record_in overlay.old.payloads) (a - 1) records.now) }
+    ensures reports { OnOk result (AreReportsOf reports.new (map record_in overlay.new.payloads)) }
+    ensures volume { OnOk result (overlay.new.volume ≡ overlay.old.prepared) }
     ensures err { IfErr result (λ refusal. (refusal ≡ no_memory)
         × (overlay.new ≡ with_counted_volume overlay.old overlay.old.volume)
-        × (reports.new ≡ reports.old)) }
+        × AreReportsOf reports.new (map record_in overlay.old.payloads)) }
+    ensures prepared { overlay.new.prepared ≡ overlay.new.volume }
+    ensures looks { overlay.new.looks ≡ overlay.old.looks }
 {
-    match reports.exchange_each(a as usize - 1, records) {
+    match reports.exchange_each(&Records::new(overlay.payloads()), a as usize - 1, records) {
         Ok(()) => {
             overlay.commit();
+            set_records(overlay, a, records);
             Ok(())
         }
         Err(_) => {

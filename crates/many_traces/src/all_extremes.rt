@@ -13,13 +13,14 @@ use edit_overlay::Overlay;
 use field_map::Place;
 use std::alloc::Global;
 use trace_view::TraceView;
+use trace_record::PackedRecord;
 
 /// Each of the names whose numbers in traces a to b are not all 0, with the least, the greatest,
 /// the first and the last of those of the traces that have its place. Looks at each of the traces
 /// once. Refused: E11 alone.
 pub fn extremes(
     alloc: Global,
-    overlay: &mut Overlay,
+    overlay: &mut Overlay<PackedRecord>,
     a: u32,
     b: u32,
     names: Vec<(Text, Place)>,
@@ -31,6 +32,7 @@ pub fn extremes(
     ensures err { IfErr result (λ fault. fault ≡ no_memory) }
     ensures volume { overlay.new.volume ≡ overlay.old.volume }
     ensures prepared { overlay.new.prepared ≡ overlay.old.prepared }
+    ensures payloads { overlay.new.payloads ≡ overlay.old.payloads }
     ensures looks { RisesAtMost overlay.old.looks overlay.new.looks (b + 1 - a) }
 {
     let mut seen = nothing_seen(alloc, names.as_slice())?;
@@ -56,13 +58,14 @@ fn nothing_seen(alloc: Global, names: &[(Text, Place)]) -> Result<Vec<Seen>, Ask
 }
 
 // Sees the numbers of trace p, in one look.
-fn see_trace(overlay: &mut Overlay, p: u32, names: &[(Text, Place)], seen: &mut Vec<Seen>)
+fn see_trace(overlay: &mut Overlay<PackedRecord>, p: u32, names: &[(Text, Place)], seen: &mut Vec<Seen>)
     requires trace { IsTrue (is_trace overlay.old.volume p) }
     requires each { length seen.old.items ≡ length names.now }
     ensures seen { seen.new.items ≡ seen_each overlay.old.volume.head
         (trace_at overlay.old.volume p) names.now seen.old.items }
     ensures volume { overlay.new.volume ≡ overlay.old.volume }
     ensures prepared { overlay.new.prepared ≡ overlay.old.prepared }
+    ensures payloads { overlay.new.payloads ≡ overlay.old.payloads }
     ensures looks { RisesAtMost overlay.old.looks overlay.new.looks 1 }
 {
     let Some(trace) = overlay.look(p) else {

@@ -16,6 +16,7 @@ use edit_overlay::Overlay;
 use field_map::{FieldMap, Place};
 use num_order::{Kind, Order, write};
 use std::alloc::Global;
+use trace_record::PackedRecord;
 
 /// The bytes of the numbers that are computed for traces a to b over this place, one after another:
 /// of those of the place, or the first refusal of a set of them. Looks at each of the traces once
@@ -24,7 +25,7 @@ use std::alloc::Global;
 /// lowest trace that has one, E03, E13, E04 or E06; else E11 alone.
 pub fn computed_bytes(
     alloc: Global,
-    overlay: &mut Overlay,
+    overlay: &mut Overlay<PackedRecord>,
     map: &FieldMap,
     a: u32,
     b: u32,
@@ -43,6 +44,7 @@ pub fn computed_bytes(
         overlay.old.volume (formula_at map.now.pairs place source.now steps.now) a b)) }
     ensures volume { overlay.new.volume ≡ overlay.old.volume }
     ensures prepared { overlay.new.prepared ≡ overlay.old.prepared }
+    ensures payloads { overlay.new.payloads ≡ overlay.old.payloads }
     ensures looks { RisesAtMost overlay.old.looks overlay.new.looks
         (looks_at (formula_at map.now.pairs place source.now steps.now) (b + 1 - a)) }
 {
@@ -65,7 +67,7 @@ pub fn computed_bytes(
 
 // The bytes of the numbers of traces a to b, in this room, or the first refusal.
 fn filled(
-    overlay: &mut Overlay,
+    overlay: &mut Overlay<PackedRecord>,
     a: u32,
     b: u32,
     place: Place,
@@ -87,6 +89,7 @@ fn filled(
         ≡ Some refusal) }
     ensures volume { overlay.new.volume ≡ overlay.old.volume }
     ensures prepared { overlay.new.prepared ≡ overlay.old.prepared }
+    ensures payloads { overlay.new.payloads ≡ overlay.old.payloads }
     ensures looks { RisesAtMost overlay.old.looks overlay.new.looks (b + 1 - a) }
 {
     let order = overlay.head().order;
@@ -102,7 +105,7 @@ fn filled(
 
 // The number that is computed for trace p, or its first refusal, in one look.
 fn number_at(
-    overlay: &mut Overlay,
+    overlay: &mut Overlay<PackedRecord>,
     p: u32,
     place: Place,
     source: Term,
@@ -118,6 +121,7 @@ fn number_at(
         (record { place = place; source = source; steps = steps.now }) p ≡ Some refusal) }
     ensures volume { overlay.new.volume ≡ overlay.old.volume }
     ensures prepared { overlay.new.prepared ≡ overlay.old.prepared }
+    ensures payloads { overlay.new.payloads ≡ overlay.old.payloads }
     ensures looks { RisesAtMost overlay.old.looks overlay.new.looks 1 }
 {
     let order = overlay.head().order;
@@ -148,7 +152,7 @@ fn push_number(bytes: &mut Vec<u8>, order: Order, kind: Kind, number: i128)
 // Why there are no bytes where there is no room for them: the first refusal of traces a to b comes
 // before E11.
 fn without_memory(
-    overlay: &mut Overlay,
+    overlay: &mut Overlay<PackedRecord>,
     map: &FieldMap,
     a: u32,
     b: u32,
@@ -164,6 +168,7 @@ fn without_memory(
         (Some (record { place = place; source = source; steps = terms })) a b) }
     ensures volume { overlay.new.volume ≡ overlay.old.volume }
     ensures prepared { overlay.new.prepared ≡ overlay.old.prepared }
+    ensures payloads { overlay.new.payloads ≡ overlay.old.payloads }
     ensures looks { RisesAtMost overlay.old.looks overlay.new.looks (b + 1 - a) }
 {
     for k in 0..b - a + 1 {
@@ -178,7 +183,7 @@ fn without_memory(
 // The number that is computed for trace p, with the steps' fields found by name, or its first
 // refusal, in one look.
 fn number_by_names(
-    overlay: &mut Overlay,
+    overlay: &mut Overlay<PackedRecord>,
     map: &FieldMap,
     p: u32,
     place: Place,
@@ -194,6 +199,7 @@ fn number_by_names(
         (record { place = place; source = source; steps = terms }) p ≡ Some refusal) }
     ensures volume { overlay.new.volume ≡ overlay.old.volume }
     ensures prepared { overlay.new.prepared ≡ overlay.old.prepared }
+    ensures payloads { overlay.new.payloads ≡ overlay.old.payloads }
     ensures looks { RisesAtMost overlay.old.looks overlay.new.looks 1 }
 {
     let order = overlay.head().order;

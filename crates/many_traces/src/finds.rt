@@ -10,12 +10,13 @@ use bench_rules::{AskFault, Items};
 use edit_overlay::Overlay;
 use field_map::Place;
 use std::alloc::Global;
+use trace_record::PackedRecord;
 
 /// Those of traces a to b whose number at the place is from low to high, each with it. Looks at
 /// each of them once at most. Refused: E03 where one of them lacks the place, else E11 alone.
 pub fn find(
     alloc: Global,
-    overlay: &mut Overlay,
+    overlay: &mut Overlay<PackedRecord>,
     a: u32,
     b: u32,
     place: Place,
@@ -31,6 +32,7 @@ pub fn find(
         (found_of overlay.old.volume place low high a b)) }
     ensures volume { overlay.new.volume ≡ overlay.old.volume }
     ensures prepared { overlay.new.prepared ≡ overlay.old.prepared }
+    ensures payloads { overlay.new.payloads ≡ overlay.old.payloads }
     ensures looks { RisesAtMost overlay.old.looks overlay.new.looks (b + 1 - a) }
 {
     let mut found = Vec::new(alloc);
@@ -55,12 +57,13 @@ fn keep(found: &mut Vec<(u32, i128)>, p: u32, number: i128, low: i128, high: i12
 }
 
 // The number at the place of trace p, in one look.
-fn number_at(overlay: &mut Overlay, p: u32, place: Place) -> Option<i128>
+fn number_at(overlay: &mut Overlay<PackedRecord>, p: u32, place: Place) -> Option<i128>
     requires { IsTrue (is_trace overlay.old.volume p) }
     ensures number { result ≡ value_of overlay.old.volume.head (trace_at overlay.old.volume p)
         place }
     ensures volume { overlay.new.volume ≡ overlay.old.volume }
     ensures prepared { overlay.new.prepared ≡ overlay.old.prepared }
+    ensures payloads { overlay.new.payloads ≡ overlay.old.payloads }
     ensures looks { RisesAtMost overlay.old.looks overlay.new.looks 1 }
 {
     let Some(trace) = overlay.look(p) else {
@@ -71,12 +74,13 @@ fn number_at(overlay: &mut Overlay, p: u32, place: Place) -> Option<i128>
 
 // Why nothing is found where there is no room for trace p: E03, where a trace behind it up to trace
 // b lacks the place, comes before E11.
-fn without_memory(overlay: &mut Overlay, p: u32, b: u32, place: Place) -> AskFault
+fn without_memory(overlay: &mut Overlay<PackedRecord>, p: u32, b: u32, place: Place) -> AskFault
     requires range { p ≤ b }
     requires last { b ≤ count_of overlay.old.volume }
     ensures fault { result ≡ fault_of (column_of overlay.old.volume place (p + 1) b) }
     ensures volume { overlay.new.volume ≡ overlay.old.volume }
     ensures prepared { overlay.new.prepared ≡ overlay.old.prepared }
+    ensures payloads { overlay.new.payloads ≡ overlay.old.payloads }
     ensures looks { RisesAtMost overlay.old.looks overlay.new.looks (b - p) }
 {
     for k in 0..b - p {

@@ -11,11 +11,12 @@ use edit_overlay::Overlay;
 use field_map::Place;
 use std::alloc::Global;
 use trace_view::TraceView;
+use trace_record::PackedRecord;
 
 /// Each of the names whose place trace p has, with the number there. One look. Refused: E11 alone.
 pub fn header(
     alloc: Global,
-    overlay: &mut Overlay,
+    overlay: &mut Overlay<PackedRecord>,
     p: u32,
     names: Vec<(Text, Place)>,
 ) -> Result<Items<(Text, i128)>, AskFault>
@@ -25,6 +26,7 @@ pub fn header(
     ensures err { IfErr result (λ fault. fault ≡ no_memory) }
     ensures volume { overlay.new.volume ≡ overlay.old.volume }
     ensures prepared { overlay.new.prepared ≡ overlay.old.prepared }
+    ensures payloads { overlay.new.payloads ≡ overlay.old.payloads }
     ensures looks { RisesAtMost overlay.old.looks overlay.new.looks 1 }
 {
     let Some(trace) = overlay.look(p) else {

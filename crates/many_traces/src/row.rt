@@ -13,6 +13,7 @@ use bench_rules::Field;
 use edit_overlay::Overlay;
 use field_map::{FieldMap, Place};
 use trace_view::TraceView;
+use trace_record::PackedRecord;
 
 // Puts the numbers at the places of a trace behind others, for which there is room; false where the
 // trace lacks one of the places.
@@ -60,7 +61,7 @@ fn number_of(trace: &TraceView<'_>, map: &FieldMap, field: &Field) -> Option<i12
 
 /// Puts the numbers at the places of trace p behind others, for which there is room; false where
 /// the trace lacks one of the places. One look. Takes no memory.
-pub fn push_row(overlay: &mut Overlay, p: u32, places: &[Place], numbers: &mut Vec<i128>) -> bool
+pub fn push_row(overlay: &mut Overlay<PackedRecord>, p: u32, places: &[Place], numbers: &mut Vec<i128>) -> bool
     requires trace { IsTrue (is_trace overlay.old.volume p) }
     requires room { vec_len numbers.old + length places.now ≤ vec_capacity numbers.old }
     ensures there { result ≡ is_some (row_of overlay.old.volume.head places.now
@@ -73,6 +74,7 @@ pub fn push_row(overlay: &mut Overlay, p: u32, places: &[Place], numbers: &mut V
     ensures room { vec_capacity numbers.old ≤ vec_capacity numbers.new }
     ensures volume { overlay.new.volume ≡ overlay.old.volume }
     ensures prepared { overlay.new.prepared ≡ overlay.old.prepared }
+    ensures payloads { overlay.new.payloads ≡ overlay.old.payloads }
     ensures looks { RisesAtMost overlay.old.looks overlay.new.looks 1 }
 {
     let Some(trace) = overlay.look(p) else {
@@ -82,12 +84,13 @@ pub fn push_row(overlay: &mut Overlay, p: u32, places: &[Place], numbers: &mut V
 }
 
 /// Whether trace p has the places of all fields. One look. Takes no memory.
-pub fn has_row(overlay: &mut Overlay, map: &FieldMap, p: u32, fields: &[Field]) -> bool
+pub fn has_row(overlay: &mut Overlay<PackedRecord>, map: &FieldMap, p: u32, fields: &[Field]) -> bool
     requires { IsTrue (is_trace overlay.old.volume p) }
     ensures there { result ≡ is_some (each_of (number_in overlay.old.volume.head
         (trace_at overlay.old.volume p) map.now.pairs) fields.now) }
     ensures volume { overlay.new.volume ≡ overlay.old.volume }
     ensures prepared { overlay.new.prepared ≡ overlay.old.prepared }
+    ensures payloads { overlay.new.payloads ≡ overlay.old.payloads }
     ensures looks { RisesAtMost overlay.old.looks overlay.new.looks 1 }
 {
     let Some(trace) = overlay.look(p) else {

@@ -19,13 +19,14 @@ use bench_rules::{AskFault, Field, Table};
 use edit_overlay::Overlay;
 use field_map::{FieldMap, Place};
 use std::alloc::Global;
+use trace_record::PackedRecord;
 
 /// These fields of each of traces a to b. Looks at each of them once at most, and at none where a
 /// field has no place. Refused: E02, then E03 where one of the traces lacks a place, else E11
 /// alone.
 pub fn table(
     alloc: Global,
-    overlay: &mut Overlay,
+    overlay: &mut Overlay<PackedRecord>,
     map: &FieldMap,
     a: u32,
     b: u32,
@@ -40,6 +41,7 @@ pub fn table(
         (each_of (place_in_trace map.now.pairs) fields.now))) }
     ensures volume { overlay.new.volume ≡ overlay.old.volume }
     ensures prepared { overlay.new.prepared ≡ overlay.old.prepared }
+    ensures payloads { overlay.new.payloads ≡ overlay.old.payloads }
     ensures looks { RisesAtMost overlay.old.looks overlay.new.looks
         (looks_at (each_of (place_in_trace map.now.pairs) fields.now) (b + 1 - a)) }
 {
@@ -69,7 +71,7 @@ fn room(alloc: Global, count: u32, width: usize) -> Option<Vec<i128>>
 
 // The table of traces a to b, in this room.
 fn filled(
-    overlay: &mut Overlay,
+    overlay: &mut Overlay<PackedRecord>,
     a: u32,
     b: u32,
     places: &[Place],
@@ -85,6 +87,7 @@ fn filled(
         places.now a b ≡ None)) }
     ensures volume { overlay.new.volume ≡ overlay.old.volume }
     ensures prepared { overlay.new.prepared ≡ overlay.old.prepared }
+    ensures payloads { overlay.new.payloads ≡ overlay.old.payloads }
     ensures looks { RisesAtMost overlay.old.looks overlay.new.looks (b + 1 - a) }
 {
     let mut numbers = numbers;
@@ -98,7 +101,7 @@ fn filled(
 
 // Why the table of traces a to b is refused where there is no room for it: E03 comes before E11.
 fn without_memory(
-    overlay: &mut Overlay,
+    overlay: &mut Overlay<PackedRecord>,
     map: &FieldMap,
     a: u32,
     b: u32,
@@ -111,6 +114,7 @@ fn without_memory(
         ≡ Some places → result ≡ fault_of (table_of overlay.old.volume places a b) }
     ensures volume { overlay.new.volume ≡ overlay.old.volume }
     ensures prepared { overlay.new.prepared ≡ overlay.old.prepared }
+    ensures payloads { overlay.new.payloads ≡ overlay.old.payloads }
     ensures looks { RisesAtMost overlay.old.looks overlay.new.looks (b + 1 - a) }
 {
     for k in 0..b - a + 1 {

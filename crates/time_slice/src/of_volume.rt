@@ -35,7 +35,6 @@ pub fn rows(
     ensures volume { overlay.new.volume ≡ overlay.old.volume }
     ensures prepared { overlay.new.prepared ≡ overlay.old.prepared }
     ensures payloads { overlay.new.payloads ≡ overlay.old.payloads }
-    ensures payloads_prepared { overlay.new.payloads_prepared ≡ overlay.old.payloads_prepared }
     ensures looks { RisesAtMost overlay.old.looks overlay.new.looks (count_of overlay.old.volume) }
 {
     let mut rows = rows_in_place(alloc, overlay, k)?;
@@ -57,7 +56,6 @@ fn rows_in_place(
     ensures volume { overlay.new.volume ≡ overlay.old.volume }
     ensures prepared { overlay.new.prepared ≡ overlay.old.prepared }
     ensures payloads { overlay.new.payloads ≡ overlay.old.payloads }
-    ensures payloads_prepared { overlay.new.payloads_prepared ≡ overlay.old.payloads_prepared }
     ensures looks { RisesAtMost overlay.old.looks overlay.new.looks (count_of overlay.old.volume) }
 {
     // Room for all at once: a list that grows is copied again and again, each time to fresh memory.

@@ -82,8 +82,6 @@ impl SliceCache {
         ensures volume { overlay.new.volume ≡ overlay.old.volume }
         ensures prepared { overlay.new.prepared ≡ overlay.old.prepared }
         ensures payloads { overlay.new.payloads ≡ overlay.old.payloads }
-        ensures payloads_prepared { overlay.new.payloads_prepared
-            ≡ overlay.old.payloads_prepared }
         ensures looks { RisesAtMost overlay.old.looks overlay.new.looks
             (if keeps k self.old.entries then 0 else count_of overlay.old.volume) }
     {

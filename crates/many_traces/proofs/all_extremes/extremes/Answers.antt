@@ -19,6 +19,7 @@ loop-k-preserved c =
           ∙ trace_seen v c.args.a c.loop-k.k c.args.names.items;
       volume = search rules;
       prepared = search rules;
+      payloads = search rules;
       looks = search rules;
     }
 

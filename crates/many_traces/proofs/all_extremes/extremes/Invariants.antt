@@ -10,5 +10,6 @@ invariant-loop-k l = record {
   seen : l.seen.items ≡ map (λ e. seen_of (numbers_so_far l.fn.overlay.volume l.a l.k e.1)) l.names.items;
   volume : l.overlay.volume ≡ l.fn.overlay.volume;
   prepared : l.overlay.prepared ≡ l.fn.overlay.prepared;
+  payloads : l.overlay.payloads ≡ l.fn.overlay.payloads;
   looks : RisesAtMost l.fn.overlay.looks l.overlay.looks l.k;
 }

@@ -37,6 +37,7 @@ loop-k-preserved c =
       order = search rules;
       volume = search rules;
       prepared = search rules;
+      payloads = search rules;
       looks = search rules;
     }
 

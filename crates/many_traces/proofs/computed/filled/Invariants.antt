@@ -12,5 +12,6 @@ invariant-loop-k l = record {
   order : l.order ≡ l.fn.overlay.volume.head.order;
   volume : l.overlay.volume ≡ l.fn.overlay.volume;
   prepared : l.overlay.prepared ≡ l.fn.overlay.prepared;
+  payloads : l.overlay.payloads ≡ l.fn.overlay.payloads;
   looks : RisesAtMost l.fn.overlay.looks l.overlay.looks l.k;
 }

@@ -21,6 +21,7 @@ loop-k-preserved c = record {
       below_more (λ (i : ℕ). compute_refusal c.args.overlay.now.volume f (c.args.a + i) ≡ None) c.loop-k.k (c.loop-k.invariant.none terms known) none;
   volume = search rules;
   prepared = search rules;
+  payloads = search rules;
   looks = search rules;
 }
 

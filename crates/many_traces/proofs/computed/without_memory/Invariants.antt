@@ -12,5 +12,6 @@ invariant-loop-k l = record {
   none : (terms : List (Operator × Term)) → steps_of l.map.pairs l.steps ≡ Some terms → NoneRefused l.fn.overlay.volume (record { place = l.place; source = l.source; steps = terms }) l.a l.k;
   volume : l.overlay.volume ≡ l.fn.overlay.volume;
   prepared : l.overlay.prepared ≡ l.fn.overlay.prepared;
+  payloads : l.overlay.payloads ≡ l.fn.overlay.payloads;
   looks : RisesAtMost l.fn.overlay.looks l.overlay.looks l.k;
 }

@@ -37,5 +37,6 @@ loop-k-preserved c =
           (rw (to_z-of_z w128 c.args.low low, to_z-of_z w128 c.args.high high, to_z-of_z w128 c.in-Some.number fits) at kept) far);
       volume = search rules;
       prepared = search rules;
+      payloads = search rules;
       looks = search rules;
     }

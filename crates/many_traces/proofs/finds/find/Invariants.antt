@@ -9,5 +9,6 @@ invariant-loop-k l = record {
   found : IsFound l.fn.overlay.volume l.place l.low l.high l.a l.b l.k l.found.items;
   volume : l.overlay.volume ≡ l.fn.overlay.volume;
   prepared : l.overlay.prepared ≡ l.fn.overlay.prepared;
+  payloads : l.overlay.payloads ≡ l.fn.overlay.payloads;
   looks : RisesAtMost l.fn.overlay.looks l.overlay.looks l.k;
 }

@@ -14,5 +14,6 @@ loop-k-preserved c =
       left = c.loop-k.invariant.left ∙ behind_goes_on c.args.overlay.now.volume c.args.place c.args.p c.args.b c.loop-k.k c.number_at.result c.loop-k-test.true (rw (c.loop-k.invariant.volume) at number) c.if-is_none.ensures;
       volume = search rules;
       prepared = search rules;
+      payloads = search rules;
       looks = search rules;
     }

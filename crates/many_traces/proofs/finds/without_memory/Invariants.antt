@@ -13,5 +13,6 @@ invariant-loop-k l = record {
   left : fault_of (column_of l.fn.overlay.volume l.place (l.p + 1) l.b) ≡ fault_of (each_of (number_at l.fn.overlay.volume l.place) (range_with_len (l.p + 1 + l.k) (l.b - l.p - l.k)));
   volume : l.overlay.volume ≡ l.fn.overlay.volume;
   prepared : l.overlay.prepared ≡ l.fn.overlay.prepared;
+  payloads : l.overlay.payloads ≡ l.fn.overlay.payloads;
   looks : RisesAtMost l.fn.overlay.looks l.overlay.looks l.k;
 }

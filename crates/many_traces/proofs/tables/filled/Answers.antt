@@ -16,5 +16,6 @@ loop-k-preserved c =
       room = search rules;
       volume = search rules;
       prepared = search rules;
+      payloads = search rules;
       looks = search rules;
     }

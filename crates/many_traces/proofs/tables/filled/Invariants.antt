@@ -11,5 +11,6 @@ invariant-loop-k l = record {
   room : length l.places * (l.b + 1 - l.a) ≤ vec_capacity l.numbers;
   volume : l.overlay.volume ≡ l.fn.overlay.volume;
   prepared : l.overlay.prepared ≡ l.fn.overlay.prepared;
+  payloads : l.overlay.payloads ≡ l.fn.overlay.payloads;
   looks : RisesAtMost l.fn.overlay.looks l.overlay.looks l.k;
 }

@@ -18,5 +18,6 @@ loop-k-preserved c =
           ∙ left_goes_on c.args.overlay.now.volume c.args.map.now.pairs c.args.fields.now places c.args.a c.args.b c.loop-k.k known (omega (arith, c.loop-k-test.true, c.requires.range)) (rw (c.loop-k.invariant.volume) at there);
       volume = search rules;
       prepared = search rules;
+      payloads = search rules;
       looks = search rules;
     }

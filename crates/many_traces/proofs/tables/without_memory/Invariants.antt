@@ -15,5 +15,6 @@ invariant-loop-k l = record {
   left : (places : List Place) → each_of (place_in_trace l.map.pairs) l.fields ≡ Some places → is_some (table_of l.fn.overlay.volume places l.a l.b) ≡ is_some (each_of (row_at l.fn.overlay.volume places) (range_with_len (l.a + l.k) (l.b + 1 - l.a - l.k)));
   volume : l.overlay.volume ≡ l.fn.overlay.volume;
   prepared : l.overlay.prepared ≡ l.fn.overlay.prepared;
+  payloads : l.overlay.payloads ≡ l.fn.overlay.payloads;
   looks : RisesAtMost l.fn.overlay.looks l.overlay.looks l.k;
 }

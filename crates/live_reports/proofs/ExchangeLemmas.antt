@@ -437,8 +437,7 @@ module _ (rs : List Record) (at k : ℕ) (new : List Record) (o n : Record) (the
   so_far : with_records rs at (take k new) ≡ passed ++ o ∷ drop (at + (k + 1)) rs
   so_far =
       let count : at + length (take k new) ≡ at + k = omega (arith, length-take-le k new (omega arith)) in
-      ap (λ (l : List Record). take at rs ++ take k new ++ l) (ap (λ i. drop i rs) count ∙ old_ones rs at k new o n there within is)
-      ∙ sym (append_assoc (take at rs) (take k new) (o ∷ drop (at + (k + 1)) rs))
+      ap (λ (l : List Record). passed ++ l) (ap (λ i. drop i rs) count ∙ old_ones rs at k new o n there within is)
 
   -- the old one at the place of new record k is there still
   pub still_there : slice_get (with_records rs at (take k new)) (at + k) ≡ Some o
@@ -451,12 +450,11 @@ module _ (rs : List Record) (at k : ℕ) (new : List Record) (o n : Record) (the
       let more : take (k + 1) new ≡ take k new ++ n ∷ [] = take-one_more new k n within is in
       ap (λ (l : List Record). slice_set l (at + k) n) so_far
       ∙ set_behind passed o (drop (at + (k + 1)) rs) (at + k) n length-passed
-      ∙ append_assoc (take at rs) (take k new) (n ∷ drop (at + (k + 1)) rs)
-      ∙ ap (λ (l : List Record). take at rs ++ l) (sym (append_assoc (take k new) (n ∷ []) (drop (at + (k + 1)) rs)))
-      ∙ ap₂ (λ (l : List Record) i. take at rs ++ l ++ drop i rs) (sym more) (sym count)
+      ∙ sym (append_assoc passed (n ∷ []) (drop (at + (k + 1)) rs))
+      ∙ ap₂ (λ (l : List Record) i. l ++ drop i rs) (append_assoc (take at rs) (take k new) (n ∷ []) ∙ ap (λ (l : List Record). take at rs ++ l) (sym more)) (sym count)
 
 -- with none they are as they stand
 pub none_yet : (rs : List Record) (at : ℕ) → with_records rs at [] ≡ rs
 none_yet rs at =
     let same : at + 0 ≡ at = omega arith in
-    ap (λ i. take at rs ++ drop i rs) same ∙ take-append-drop at rs
+    ap₂ (λ (l : List Record) i. l ++ drop i rs) (append-nil (take at rs)) same ∙ take-append-drop at rs

@@ -172,6 +172,8 @@ pub fn same_cells(records: &Records, place: usize, new: &[Record]) -> bool
     requires { place + length new.now ≤ length records.now }
     ensures { result ≡ same_cells_of (drop place records.now) new.now }
 {
+    // Read for the proof alone, which learns that places fit a usize.
+    let _count = records.len();
     for (k, record) in new.iter().enumerate() {
         let Some(held) = records.get(place + k) else {
             unreachable!()

@@ -7,8 +7,8 @@ use crate::counting::{add_both, remove_both};
 use fault_live::Faults;
 use grid_live::Grid;
 use range_stats::{Ranges, Totals};
-use std::alloc::Global;
 use record_table::{OutOfMemory, Records, Running};
+use std::alloc::Global;
 use trace_record::Record;
 
 // The four running values.

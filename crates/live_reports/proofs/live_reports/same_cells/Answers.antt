@@ -1,8 +1,17 @@
-use Rattle.std.proofs.Common.{◌≡◌, ◌∙◌, sym, ap, ◌+◌, ◌&&◌, Bool, true, false, drop}
+use Rattle.std.proofs.Common.{arith, ◌≡◌, ◌∙◌, sym, ap, ◌+◌, ◌&&◌, Bool, true, false, drop}
 use Rattle.live_reports.specs.Alike.{same_cell}
 use Rattle.live_reports.specs.Exchanged.{same_cells}
 use Rattle.live_reports.proofs.ExchangeLemmas.{cells_from, no_cells}
+use Rattle.live_reports.proofs.ListLemmas.{item_at}
 use Rattle.live_reports.proofs.live_reports.same_cells.Goals as goal
+
+pub overflow_add-place : goal.overflow_add-place
+overflow_add-place c = omega (arith, c.requires, c.loop-k-test.true, c.len-count.ensures)
+
+pub unreachable-requires : goal.unreachable-requires
+unreachable-requires c =
+    let i = item_at c.args.records.now (c.args.place + c.loop-k.k) (omega (arith, c.requires, c.loop-k-test.true)) in
+    c.in_default.not-Some i.item (c.get.ensures ∙ i.is)
 
 pub returns-then-not-has_same_cell : goal.returns-then-not-has_same_cell
 returns-then-not-has_same_cell c =

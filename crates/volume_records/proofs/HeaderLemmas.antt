@@ -1,9 +1,8 @@
 -- Bytes over the headers of a trace that leave it whole leave its samples.
-use Rattle.std.proofs.Common.{◌≡◌, ◌⊎◌, ℕ, ◌+◌, ◌*◌, ◌-◌, ◌/◌, ◌<◌, ◌≤◌, Bool, true, false, leb, List, ◌++◌, length, take, drop, Option, Some, None, lit≤, refl, sym, ap, subst, ◌∙◌, arith, inl, inr}
+use Rattle.std.proofs.Common.{◌≡◌, ℕ, ◌+◌, ◌*◌, ◌-◌, ◌/◌, ◌<◌, ◌≤◌, List, ◌++◌, length, take, drop, Option, Some, None, lit≤, refl, sym, ap, subst, ◌∙◌, arith}
 use Rattle.std.specs.Prelude.{option_map, unwrap_or}
 use Rattle.std.proofs.Math.Nat.{mul-div_cancel_left}
 use Rattle.std.proofs.Math.Seq.{drop-append-add}
-use Rattle.std.proofs.lemmas.Bool.{leb-true, leb-false}
 use Rattle.std.proofs.lemmas.List.{length-append, length-take-le, drop-drop}
 use Rattle.sample_codes.specs.declared.format.Format.{Format}
 use Rattle.sample_codes.specs.declared.format.Format.TheVariants.{Signed32, Signed16, Signed24, Signed8, Signed64, Unsigned32, Unsigned16, Unsigned64, Unsigned24, Unsigned8}
@@ -11,7 +10,7 @@ use Rattle.sample_codes.specs.Formats.{width}
 use Rattle.field_map.specs.Pairs.{Pairs}
 use Rattle.frame_cut.specs.declared.file_head.Head.{Head}
 use Rattle.frame_cut.specs.Cuts.{IsTrace}
-use Rattle.frame_cut.specs.Frames.{header_bytes, extension_count, extensions_of, sample_count, trace_length, length_with}
+use Rattle.frame_cut.specs.Frames.{extension_count, extensions_of, sample_count, trace_length, length_with}
 use Rattle.frame_cut.specs.Splice.{splice}
 use Rattle.frame_cut.proofs.EditLemmas.{length-splice}
 use Rattle.frame_cut.proofs.ExtensionLemmas.{extensions_kept}

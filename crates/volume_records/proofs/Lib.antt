@@ -6,3 +6,4 @@ pub mod EditLemmas
 pub mod NameLemmas
 pub mod HeaderLemmas
 pub mod EachLemmas
+pub mod ItemLemmas

@@ -8,6 +8,8 @@ use Rattle.frame_cut.specs.Traces.{count_of, trace_at}
 use Rattle.frame_cut.specs.Volume.{Volume}
 use Rattle.trace_record.specs.Facts.{Facts, facts_of}
 use Rattle.trace_record.specs.OfTrace.{record_of}
+use Rattle.trace_record.specs.Packed.{record_in}
+use Rattle.trace_record.specs.declared.packed_record.PackedRecord.{PackedRecord}
 use Rattle.trace_record.specs.declared.record.Record.{Record}
 use Rattle.live_reports.proofs.ListLemmas.{item_at}
 use Rattle.volume_records.specs.OfVolume.{records_of}
@@ -42,3 +44,9 @@ has_record v fields rs p first last e =
     let there : p - 1 < length rs = omega (arith, length-records v fields rs e) in
     let i = item_at rs (p - 1) there in
     record { held = i.item; is = i.is; facts = record_at v fields rs p i.item first last e i.is }
+
+-- the record that stands beside a trace as its payload
+pub record_beside : (ps qs : List PackedRecord) (i j : ℕ) (packed : PackedRecord) (r : Record) → qs ≡ ps → j ≡ i → slice_get qs j ≡ Some packed → r ≡ record_in packed → slice_get (map record_in ps) i ≡ Some r
+record_beside ps qs i j packed r same place found is =
+    let here : slice_get ps i ≡ Some packed = ap (λ (xs : List PackedRecord). slice_get xs i) (sym same) ∙ (ap (λ (k : ℕ). slice_get qs k) (sym place) ∙ found) in
+    slice_get-map record_in ps i ∙ (ap (option_map record_in) here ∙ ap (λ (x : Record). let o : Option Record = Some x in o) (sym is))

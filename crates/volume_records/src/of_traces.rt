@@ -37,6 +37,8 @@ pub fn prepared_records(
     ensures payloads_prepared { overlay.new.payloads_prepared ≡ overlay.old.payloads_prepared }
     ensures looks { RisesAtMost overlay.old.looks overlay.new.looks count }
 {
+    // Read for the proof alone, which learns that the traces are counted in 32 bits.
+    let _count = overlay.count();
     let mut records = Vec::with_capacity(alloc, count as usize)?;
     for k in 0..count {
         let known = overlay.payload(a + k).record();

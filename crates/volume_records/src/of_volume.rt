@@ -57,7 +57,7 @@ fn push_records(
     ensures volume { loading.new.volume ≡ loading.old.volume }
     ensures looks { RisesAtMost loading.old.looks loading.new.looks (count_of loading.old.volume) }
 {
-    for _ in 0..loading.count() {
+    for _k in 0..loading.count() {
         let record = next_record(loading, fields);
         loading.push(alloc, PackedRecord::of(record))?;
     }

@@ -1,5 +1,5 @@
 // Other records beside the traces of a volume.
-ghost use Rattle.std.specs.Prelude.{◌≡◌, ◌+◌, ◌-◌, ◌≤◌, IfOk, OnOk, OnErr, IsTrue, length, map};
+ghost use Rattle.std.specs.Prelude.{◌≡◌, ◌+◌, ◌-◌, ◌^◌, ◌<◌, ◌≤◌, IfOk, OnOk, OnErr, IsTrue, length, map};
 ghost use Rattle.frame_cut.specs.Traces.{count_of, is_trace, trace_at};
 ghost use Rattle.trace_record.specs.Facts.{facts_of};
 ghost use Rattle.trace_record.specs.OfTrace.{record_of as record_of_trace};
@@ -30,6 +30,8 @@ pub fn set_records(overlay: &mut Overlay<PackedRecord>, a: u32, records: &[Recor
     ensures prepared { overlay.new.prepared ≡ overlay.old.volume }
     ensures looks { overlay.new.looks ≡ overlay.old.looks }
 {
+    // Read for the proof alone, which learns that the traces are counted in 32 bits.
+    let _count = overlay.count();
     for k in 0..records.len() {
         overlay.set_payload(a + k as u32, PackedRecord::of(records[k]));
     }
@@ -86,6 +88,7 @@ fn renew(overlay: &mut Overlay<PackedRecord>, fields: &FieldMap)
     requires fields { fields.now.extensions ≡ overlay.old.volume.head.extensions }
     ensures records { map facts_of (map record_in overlay.new.payloads) ≡
         records_of overlay.old.volume fields.now.pairs }
+    ensures few { count_of overlay.old.volume < 2 ^ 32 }
     ensures each { length overlay.new.payloads ≡ count_of overlay.old.volume }
     ensures volume { overlay.new.volume ≡ overlay.old.volume }
     ensures prepared { overlay.new.prepared ≡ overlay.old.volume }

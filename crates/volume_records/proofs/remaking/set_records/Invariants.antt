@@ -1,4 +1,4 @@
-use Rattle.std.proofs.Common.{◌≡◌, ◌-◌, length, take, map}
+use Rattle.std.proofs.Common.{◌≡◌, ◌-◌, take, map}
 use Rattle.trace_record.specs.Packed.{record_in}
 use Rattle.live_reports.specs.Exchanged.{with_records}
 use Rattle.volume_records.proofs.remaking.set_records.Given as goal

@@ -1,0 +1,44 @@
+use Rattle.std.proofs.Common.{◌≡◌, ◌+◌, ◌-◌, ◌<◌, ◌∙◌, List, [], length, map, get_or, sym, ap, arith, rules}
+use Rattle.std.specs.Prelude.{slice_set}
+use Rattle.std.proofs.lemmas.List.{length-map, length-set, map-set, get_or-map}
+use Rattle.frame_cut.specs.Traces.{count_of, trace_at}
+use Rattle.frame_cut.specs.Volume.{Volume}
+use Rattle.trace_record.specs.Facts.{Facts, facts_of}
+use Rattle.trace_record.specs.OfTrace.{record_of}
+use Rattle.trace_record.specs.Packed.{record_in}
+use Rattle.trace_record.specs.declared.packed_record.PackedRecord.{PackedRecord}
+use Rattle.trace_record.specs.declared.record.Record.{Record}
+use Rattle.volume_records.specs.OfVolume.{records_of}
+use Rattle.volume_records.proofs.ItemLemmas.{set_next}
+use Rattle.volume_records.proofs.remaking.renew.Goals as goal
+
+pub loop-k-preserved : goal.loop-k-preserved
+loop-k-preserved c =
+    let v : Volume = c.args.overlay.now.volume in
+    let fields = c.args.fields.now.pairs in
+    let k = c.loop-k.k in
+    let i = c.loop-k.invariant in
+    let ps = c.loop-k.overlay.payloads in
+    let seen = c.seen_record-record in
+    let old : List Facts = map facts_of (map record_in c.args.overlay.now.payloads) in
+    let many : length old ≡ count_of v = length-map (map record_in c.args.overlay.now.payloads) facts_of ∙ (length-map c.args.overlay.now.payloads record_in ∙ c.requires.each) in
+    let all : length (records_of v fields) ≡ count_of v = length-map v.traces (record_of v.head fields) in
+    let below : k < count_of v = omega (arith, c.loop-k-test.true, c.count-k-end.ensures) in
+    let place : k + 1 - 1 ≡ k = omega arith in
+    let is : facts_of seen.result ≡ get_or (records_of v fields) k (facts_of seen.result) =
+    seen.ensures.record ∙ (ap (λ (u : Volume). record_of u.head fields (trace_at u (k + 1))) i.volume
+    ∙ (ap (λ n. record_of v.head fields (get_or v.traces n [])) place ∙ sym (get_or-map (record_of v.head fields) v.traces k [] (facts_of seen.result) below))) in
+    let put : c.set_payload.new.self.payloads ≡ slice_set ps k c.of.result =
+    ap (λ o. o.payloads) c.set_payload.ensures ∙ (ap (λ n. slice_set c.seen_record-record.new.overlay.payloads n c.of.result) place ∙ ap (λ (xs : List PackedRecord). slice_set xs k c.of.result) (ap (λ o. o.payloads) seen.ensures.overlay)) in
+    record {
+      made = ap (λ (xs : List PackedRecord). map facts_of (map record_in xs)) put
+          ∙ (ap (λ (rs : List Record). map facts_of rs) (map-set record_in ps k c.of.result)
+          ∙ (map-set facts_of (map record_in ps) k (record_in c.of.result)
+          ∙ (ap (λ (r : Record). slice_set (map facts_of (map record_in ps)) k (facts_of r)) c.of.ensures
+          ∙ (ap (λ (fs : List Facts). slice_set fs k (facts_of seen.result)) i.made
+          ∙ set_next (records_of v fields) old k (facts_of seen.result) (omega (arith, below, all)) (omega (arith, below, many)) is))));
+      each = ap (λ (xs : List PackedRecord). length xs) put ∙ (length-set ps k c.of.result ∙ i.each);
+      volume = search rules;
+      prepared = search rules;
+      looks = search rules;
+    }

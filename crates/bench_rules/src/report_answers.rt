@@ -22,8 +22,8 @@ use crate::location::Location;
 use fault_live::{Faults, HeadFacts};
 use grid_live::Grid;
 use range_stats::{Quantity, Ranges, Totals};
-use std::alloc::Global;
 use record_table::Records;
+use std::alloc::Global;
 use trace_record::{Record, Statistics};
 
 /// Where the trace of this record lies. Takes no memory.

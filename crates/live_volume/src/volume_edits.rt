@@ -97,12 +97,12 @@ impl LiveVolume {
         ensures looks { self.new.looks ≡ self.old.looks }
     {
         let place = p as usize - 1;
-        let counted = self
+        let Ok(()) = self
             .reports
-            .insert(&Records::new(self.overlay.payloads()), place, trace);
-        if counted.is_err() {
+            .insert(&Records::new(self.overlay.payloads()), place, trace)
+        else {
             return Err(Refusal::OutOfMemory);
-        }
+        };
         match self
             .overlay
             .insert(alloc, p, bytes, PackedRecord::of(*trace))
@@ -137,14 +137,13 @@ impl LiveVolume {
             (self.new.state ≡ self.old.state)) }
         ensures looks { self.new.looks ≡ self.old.looks }
     {
-        let counted = self.reports.exchange(
-            &Records::new(self.overlay.payloads()),
-            p as usize - 1,
-            trace,
-        );
-        if counted.is_err() {
+        let place = p as usize - 1;
+        let Ok(()) =
+            self.reports
+                .exchange(&Records::new(self.overlay.payloads()), place, trace)
+        else {
             return Err(Refusal::OutOfMemory);
-        }
+        };
         self.overlay
             .replace(alloc, p, bytes, PackedRecord::of(*trace));
         Ok(())

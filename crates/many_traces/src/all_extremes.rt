@@ -12,8 +12,8 @@ use bench_rules::{AskFault, Extremes, Items, Text};
 use edit_overlay::Overlay;
 use field_map::Place;
 use std::alloc::Global;
-use trace_view::TraceView;
 use trace_record::PackedRecord;
+use trace_view::TraceView;
 
 /// Each of the names whose numbers in traces a to b are not all 0, with the least, the greatest,
 /// the first and the last of those of the traces that have its place. Looks at each of the traces
@@ -58,7 +58,12 @@ fn nothing_seen(alloc: Global, names: &[(Text, Place)]) -> Result<Vec<Seen>, Ask
 }
 
 // Sees the numbers of trace p, in one look.
-fn see_trace(overlay: &mut Overlay<PackedRecord>, p: u32, names: &[(Text, Place)], seen: &mut Vec<Seen>)
+fn see_trace(
+    overlay: &mut Overlay<PackedRecord>,
+    p: u32,
+    names: &[(Text, Place)],
+    seen: &mut Vec<Seen>,
+)
     requires trace { IsTrue (is_trace overlay.old.volume p) }
     requires each { length seen.old.items ≡ length names.now }
     ensures seen { seen.new.items ≡ seen_each overlay.old.volume.head

@@ -10,8 +10,8 @@ use bench_rules::{AskFault, Items, Text};
 use edit_overlay::Overlay;
 use field_map::Place;
 use std::alloc::Global;
-use trace_view::TraceView;
 use trace_record::PackedRecord;
+use trace_view::TraceView;
 
 /// Each of the names whose place trace p has, with the number there. One look. Refused: E11 alone.
 pub fn header(

@@ -12,8 +12,8 @@ use crate::places::place_in_trace;
 use bench_rules::Field;
 use edit_overlay::Overlay;
 use field_map::{FieldMap, Place};
-use trace_view::TraceView;
 use trace_record::PackedRecord;
+use trace_view::TraceView;
 
 // Puts the numbers at the places of a trace behind others, for which there is room; false where the
 // trace lacks one of the places.
@@ -61,7 +61,12 @@ fn number_of(trace: &TraceView<'_>, map: &FieldMap, field: &Field) -> Option<i12
 
 /// Puts the numbers at the places of trace p behind others, for which there is room; false where
 /// the trace lacks one of the places. One look. Takes no memory.
-pub fn push_row(overlay: &mut Overlay<PackedRecord>, p: u32, places: &[Place], numbers: &mut Vec<i128>) -> bool
+pub fn push_row(
+    overlay: &mut Overlay<PackedRecord>,
+    p: u32,
+    places: &[Place],
+    numbers: &mut Vec<i128>,
+) -> bool
     requires trace { IsTrue (is_trace overlay.old.volume p) }
     requires room { vec_len numbers.old + length places.now ≤ vec_capacity numbers.old }
     ensures there { result ≡ is_some (row_of overlay.old.volume.head places.now
@@ -84,7 +89,12 @@ pub fn push_row(overlay: &mut Overlay<PackedRecord>, p: u32, places: &[Place], n
 }
 
 /// Whether trace p has the places of all fields. One look. Takes no memory.
-pub fn has_row(overlay: &mut Overlay<PackedRecord>, map: &FieldMap, p: u32, fields: &[Field]) -> bool
+pub fn has_row(
+    overlay: &mut Overlay<PackedRecord>,
+    map: &FieldMap,
+    p: u32,
+    fields: &[Field],
+) -> bool
     requires { IsTrue (is_trace overlay.old.volume p) }
     ensures there { result ≡ is_some (each_of (number_in overlay.old.volume.head
         (trace_at overlay.old.volume p) map.now.pairs) fields.now) }

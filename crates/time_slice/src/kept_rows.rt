@@ -10,11 +10,11 @@ use crate::of_volume::push_row;
 use crate::record_walk::RecordWalk;
 use crate::{OutOfMemory, Row};
 use num_order::{Kind, Order};
+use record_table::Records;
 use sample_codes::Format;
 use std::alloc::Global;
 use std::marker::Model;
 use std::mem::size_of;
-use record_table::Records;
 
 // The position of a row, and its sample as a number of 8 bytes: 12 bytes in all.
 #[derive(Clone, Copy)]

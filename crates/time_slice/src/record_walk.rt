@@ -2,8 +2,8 @@
 ghost use Rattle.std.specs.Prelude.{◌≡◌, slice_get};
 
 use crate::records_ahead::RecordsAhead;
-use std::marker::Model;
 use record_table::{Records, RecordsIter};
+use std::marker::Model;
 use trace_record::Record;
 
 // Records, seen as their list, and the place behind those that were asked for from the first on.

@@ -13,12 +13,12 @@ use crate::kept_rows::KeptRows;
 use crate::{OutOfMemory, Row, rows};
 use edit_overlay::Overlay;
 use lru::LruCache;
+use record_table::Records;
 use sample_codes::Format;
 use std::alloc::Global;
 use std::marker::Model;
 use std::num::NonZeroUsize;
 use trace_record::PackedRecord;
-use record_table::Records;
 
 /// The slices that were asked last, of a volume under edits. Of each row only its position and its
 /// sample are kept, in 12 bytes. Contracts see the entries, the last asked first, each a number

@@ -13,7 +13,7 @@ use Rattle.bench_rules.proofs.HeaderEditLemmas.{after_cut}
 use Rattle.bench_rules.proofs.SetLemmas.{whole_trace}
 use Rattle.bench_rules.proofs.TraceStepLemmas.{copy_done}
 use Rattle.volume_records.proofs.RecordLemmas.{has_record, record_at}
-use Rattle.live_volume.specs.Held.{state_of, with_volume, IsCutAs}
+use Rattle.live_volume.specs.Held.{state_of, with_volume, IsCutAs, records_in}
 use Rattle.live_volume.proofs.HeldLemmas.{on_ok}
 use Rattle.live_volume.proofs.live_volume.LiveVolume.insert_copy.Goals as goal
 
@@ -22,7 +22,7 @@ unreachable-requires c =
     let s = state_of c.self.inside in
     let none = rw (← c.self.view_is) at c.requires in
     let a = copy_accepted s c.args.q c.args.p none in
-    let i = has_record s.volume s.fields c.self.inside.reports c.args.q a.source.first a.source.last c.self.invariant.records in
+    let i = has_record s.volume s.fields (records_in c.self.inside) c.args.q a.source.first a.source.last c.self.invariant.records in
     c.in_default.not-Some i.held (c.get.ensures ∙ i.is)
 
 pub insert-requires-clause-whole : goal.insert-requires-clause-whole
@@ -54,7 +54,7 @@ insert-requires-clause-record c =
     let st : c.trace_bytes.new.self.state ≡ s = c.in_ok-bytes.ensures.state ∙ sym (ap (λ (x : Session). x.state) c.self.view_is) in
     let copied : c.in_ok-bytes.bytes.items ≡ trace_at s.volume c.args.q = rw (← c.self.view_is) at c.in_ok-bytes.ensures.ok in
     subst (λ (u : State). facts_of c.in-Some.trace ≡ record_of u.volume.head u.fields c.in_ok-bytes.bytes.items) (sym st)
-    (record_at s.volume s.fields c.self.inside.reports c.args.q c.in-Some.trace a.source.first a.source.last c.self.invariant.records (sym c.get.ensures ∙ c.in-Some.is)
+    (record_at s.volume s.fields (records_in c.self.inside) c.args.q c.in-Some.trace a.source.first a.source.last c.self.invariant.records (sym c.get.ensures ∙ c.in-Some.is)
     ∙ ap (record_of s.volume.head s.fields) (sym copied))
 
 pub returns-clause-ok : goal.returns-clause-ok

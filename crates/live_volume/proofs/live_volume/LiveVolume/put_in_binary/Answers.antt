@@ -8,6 +8,7 @@ use Rattle.frame_cut.specs.Volume.{Volume}
 use Rattle.bench_rules.specs.declared.field.Field.TheVariants as field
 use Rattle.bench_rules.specs.declared.edit.Edit.TheVariants.{SetBin}
 use Rattle.edit_overlay.specs.CountedVolume.{CountedVolume}
+use Rattle.trace_record.specs.declared.packed_record.PackedRecord.{PackedRecord}
 use Rattle.volume_records.specs.OfVolume.{records_of}
 use Rattle.live_volume.specs.Held.{state_of}
 use Rattle.bench_rules.proofs.HeaderEditLemmas.{bin_accepted, bin_done, bin_room, after_cut}
@@ -29,11 +30,11 @@ pub invariant_of-self : goal.invariant_of-self
 invariant_of-self c =
     let fit : SFits w128 c.args.value = search rules in
     let new : c.write.new.bytes ≡ bytes c.self.inside.overlay.volume.head.order c.args.place.kind c.args.value = rw (c.head.ensures, to_z-of_z) at c.write.ensures in
-    let done = bin_done (state_of c.self.inside) c.args.place c.args.value c.put_head.new.self.volume c.from-2.result c.write.new.bytes c.self.invariant.cut c.requires (c.from-2.ensures ∙ c.binary_offset.ensures) new (ap (λ (o : CountedVolume). o.volume) c.put_head.ensures) in
+    let done = bin_done (state_of c.self.inside) c.args.place c.args.value c.put_head.new.self.volume c.from-2.result c.write.new.bytes c.self.invariant.cut c.requires (c.from-2.ensures ∙ c.binary_offset.ensures) new (ap (λ (o : CountedVolume PackedRecord). o.volume) c.put_head.ensures) in
     record {
       cut = after_cut (state_of c.self.inside) (SetBin (field.Place c.args.place) c.args.value) c.put_head.new.self.volume done;
-      extensions = c.self.invariant.extensions ∙ ap (λ (v : Volume). v.head.extensions) (sym (ap (λ (o : CountedVolume). o.volume) c.put_head.ensures));
-      records = c.self.invariant.records ∙ ap (λ (v : Volume). records_of v c.self.inside.fields.pairs) (sym (ap (λ (o : CountedVolume). o.volume) c.put_head.ensures));
+      extensions = c.self.invariant.extensions ∙ ap (λ (v : Volume). v.head.extensions) (sym (ap (λ (o : CountedVolume PackedRecord). o.volume) c.put_head.ensures));
+      records = c.self.invariant.records ∙ ap (λ (v : Volume). records_of v c.self.inside.fields.pairs) (sym (ap (λ (o : CountedVolume PackedRecord). o.volume) c.put_head.ensures));
     }
 
 pub returns-clause-after : goal.returns-clause-after
@@ -41,4 +42,4 @@ returns-clause-after c =
     let fit : SFits w128 c.args.value = search rules in
     let new : c.write.new.bytes ≡ bytes c.self.inside.overlay.volume.head.order c.args.place.kind c.args.value = rw (c.head.ensures, to_z-of_z) at c.write.ensures in
     rw (← c.self.view_is)
-    (bin_done (state_of c.self.inside) c.args.place c.args.value c.put_head.new.self.volume c.from-2.result c.write.new.bytes c.self.invariant.cut c.requires (c.from-2.ensures ∙ c.binary_offset.ensures) new (ap (λ (o : CountedVolume). o.volume) c.put_head.ensures))
+    (bin_done (state_of c.self.inside) c.args.place c.args.value c.put_head.new.self.volume c.from-2.result c.write.new.bytes c.self.invariant.cut c.requires (c.from-2.ensures ∙ c.binary_offset.ensures) new (ap (λ (o : CountedVolume PackedRecord). o.volume) c.put_head.ensures))

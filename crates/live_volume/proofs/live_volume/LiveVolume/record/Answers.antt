@@ -1,11 +1,11 @@
-use Rattle.std.proofs.Common.{◌∙◌, ap}
-use Rattle.std.specs.Prelude.{option_map}
-use Rattle.trace_record.specs.Facts.{facts_of}
-use Rattle.live_volume.proofs.HeldLemmas.{record_is}
+use Rattle.std.proofs.Common.{◌≡◌, ◌-◌, ◌∙◌, true, false, refl, sym, ap}
+use Rattle.std.specs.Prelude.{Option, option_map}
+use Rattle.frame_cut.specs.Traces.{is_trace}
+use Rattle.trace_record.specs.Facts.{Facts}
+use Rattle.bench_rules.proofs.AcceptedLemmas.{there_is}
+use Rattle.volume_records.proofs.RecordLemmas.{record_at, record_beside}
+use Rattle.live_volume.specs.Held.{records_in}
 use Rattle.live_volume.proofs.live_volume.LiveVolume.record.Goals as goal
 
 pub returns : goal.returns
-returns c =
-    rw (← c.self.view_is)
-    (ap (option_map facts_of) c.get.ensures
-    ∙ record_is c.self.inside.overlay.volume c.self.inside.fields.pairs c.self.inside.reports c.args.p c.if-p-eq0.false c.self.invariant.records)
+returns c = ?

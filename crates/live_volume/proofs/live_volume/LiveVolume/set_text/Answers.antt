@@ -5,6 +5,7 @@ use Rattle.text_block.specs.Lines.{text_fault, encoded_line}
 use Rattle.frame_cut.specs.Volume.{Volume}
 use Rattle.bench_rules.specs.declared.edit.Edit.TheVariants.{SetText}
 use Rattle.edit_overlay.specs.CountedVolume.{CountedVolume}
+use Rattle.trace_record.specs.declared.packed_record.PackedRecord.{PackedRecord}
 use Rattle.volume_records.specs.OfVolume.{records_of}
 use Rattle.live_volume.specs.Held.{state_of}
 use Rattle.bench_rules.specs.Refused.{is_line}
@@ -17,11 +18,11 @@ invariant_of-self c =
     let none : text_fault (code_of c.self.inside.overlay.volume.text) (chars c.args.text.now) ≡ None = rw (code, c.as_str.ensures) at c.in_ok-line.ensures.ok in
     let line : c.in_ok-line.line ≡ encoded_line (code_of c.self.inside.overlay.volume.text) (chars c.args.text.now) = rw (code, c.as_str.ensures) at c.in_ok-line.ensures.line in
     let there : is_line c.args.q ≡ true = sym c.is_line.ensures ∙ c.if-not-is_line.false in
-    let done = text_done (state_of c.self.inside) c.args.q c.args.text.now c.put_text.new.self.volume c.in_ok-line.line c.self.invariant.cut there none line (ap (λ (o : CountedVolume). o.volume) c.put_text.ensures) in
+    let done = text_done (state_of c.self.inside) c.args.q c.args.text.now c.put_text.new.self.volume c.in_ok-line.line c.self.invariant.cut there none line (ap (λ (o : CountedVolume PackedRecord). o.volume) c.put_text.ensures) in
     record {
       cut = after_cut (state_of c.self.inside) (SetText c.args.q c.args.text.now) c.put_text.new.self.volume done;
-      extensions = c.self.invariant.extensions ∙ ap (λ (v : Volume). v.head.extensions) (sym (ap (λ (o : CountedVolume). o.volume) c.put_text.ensures));
-      records = c.self.invariant.records ∙ ap (λ (v : Volume). records_of v c.self.inside.fields.pairs) (sym (ap (λ (o : CountedVolume). o.volume) c.put_text.ensures));
+      extensions = c.self.invariant.extensions ∙ ap (λ (v : Volume). v.head.extensions) (sym (ap (λ (o : CountedVolume PackedRecord). o.volume) c.put_text.ensures));
+      records = c.self.invariant.records ∙ ap (λ (v : Volume). records_of v c.self.inside.fields.pairs) (sym (ap (λ (o : CountedVolume PackedRecord). o.volume) c.put_text.ensures));
     }
 
 pub returns-clause-step : goal.returns-clause-step
@@ -31,4 +32,4 @@ returns-clause-step c =
     let line : c.in_ok-line.line ≡ encoded_line (code_of c.self.inside.overlay.volume.text) (chars c.args.text.now) = rw (code, c.as_str.ensures) at c.in_ok-line.ensures.line in
     let there : is_line c.args.q ≡ true = sym c.is_line.ensures ∙ c.if-not-is_line.false in
     rw (← c.self.view_is, text_refused_none (state_of c.self.inside) c.args.q c.args.text.now there none)
-    (text_done (state_of c.self.inside) c.args.q c.args.text.now c.put_text.new.self.volume c.in_ok-line.line c.self.invariant.cut there none line (ap (λ (o : CountedVolume). o.volume) c.put_text.ensures))
+    (text_done (state_of c.self.inside) c.args.q c.args.text.now c.put_text.new.self.volume c.in_ok-line.line c.self.invariant.cut there none line (ap (λ (o : CountedVolume PackedRecord). o.volume) c.put_text.ensures))

@@ -148,6 +148,6 @@ few_values s p k values cut none =
     omega (arith, a.inside, m.whole, there, least)
 
 -- a look leaves the volume
-pub same_volume : (view : Option TraceView) (old last : CountedVolume) → MatchOption view (last ≡ old) (λ _. last ≡ with_one_look old) → last.volume ≡ old.volume
-same_volume None old last e = ap (λ (o : CountedVolume). o.volume) e
-same_volume (Some view) old last e = ap (λ (o : CountedVolume). o.volume) e
+pub same_volume : {T : Type 0} (view : Option TraceView) (old last : CountedVolume T) → MatchOption view (last ≡ old) (λ _. last ≡ with_one_look old) → last.volume ≡ old.volume
+same_volume None old last e = ap (λ o. o.volume) e
+same_volume (Some view) old last e = ap (λ o. o.volume) e

@@ -1,10 +1,13 @@
-use Rattle.std.proofs.Common.{◌≡◌, ◌∙◌, sym, ap, subst, List, ℕ, true}
+use Rattle.std.proofs.Common.{◌≡◌, ◌∙◌, sym, ap, subst, List, ℕ, map, true, rules}
 use Rattle.std.specs.Prelude.{Some, None}
 use Rattle.field_map.specs.Binding.{is_geometry, bind_fault}
 use Rattle.field_map.specs.Pairs.{Pairs, bound, place_of}
 use Rattle.field_map.proofs.GeometryLemmas.{place-bindable, bound-back}
 use Rattle.frame_cut.specs.Cuts.{IsCut}
 use Rattle.frame_cut.specs.Volume.{Volume, bytes_of}
+use Rattle.trace_record.specs.Facts.{facts_of}
+use Rattle.trace_record.specs.declared.record.Record.{Record}
+use Rattle.live_reports.specs.OfRecords.{AreReportsOf}
 use Rattle.volume_records.specs.OfVolume.{records_of}
 use Rattle.live_volume.specs.Held.{state_of}
 use Rattle.live_volume.proofs.HeldLemmas.{map_wants_memory, same_state}
@@ -25,8 +28,10 @@ invariant_of-self-in-Err c =
     let same : c.set_geometry-in-Err.new.self.pairs ≡ old = c.set_geometry-in-Err.ensures.pairs ∙ ap (λ (ps : Pairs). bound ps name c.in-Some-place.old) c.set_geometry.ensures.pairs ∙ bound-back old name c.args.place c.in-Some-place.old there in
     record {
       cut = subst (λ (u : Volume). IsCut (bytes_of u) c.self.inside.reading c.self.inside.limits u) (sym c.in-Err.ensures.volume) c.self.invariant.cut;
+      prepared = search rules;
       extensions = c.set_geometry-in-Err.ensures.extensions ∙ c.set_geometry.ensures.extensions ∙ c.self.invariant.extensions ∙ ap (λ (u : Volume). u.head.extensions) (sym c.in-Err.ensures.volume);
-      records = c.self.invariant.records ∙ ap (λ (u : Volume). records_of u old) (sym c.in-Err.ensures.volume) ∙ ap (λ (ps : Pairs). records_of c.reports.new.overlay.volume ps) (sym same);
+      records = ap (map facts_of) c.in-Err.ensures.err ∙ c.self.invariant.records ∙ ap (λ (u : Volume). records_of u old) (sym c.in-Err.ensures.volume) ∙ ap (λ (ps : Pairs). records_of c.remake.new.overlay.volume ps) (sym same);
+      reports = subst (λ (l : List Record). AreReportsOf c.self.inside.reports l) (sym c.in-Err.ensures.err) c.self.invariant.reports;
     }
 
 pub returns-in-Err-clause-step : goal.returns-in-Err-clause-step
@@ -41,4 +46,4 @@ returns-in-Err-clause-step c =
     ap (λ n. bind_fault n old c.args.name.now c.args.place) (sym c.self.invariant.extensions)
     ∙ ap (λ (n : List ℕ). bind_fault c.self.inside.fields.extensions old n c.args.place) (sym c.as_str-text.ensures)
     ∙ sym c.binding_refusal.ensures ∙ c.in_default.is in
-    rw (← c.self.view_is) (map_wants_memory s _ c.args.name.now c.args.place none (same_state s c.reports.new.overlay.volume c.set_geometry-in-Err.new.self.pairs c.in-Err.ensures.volume same))
+    rw (← c.self.view_is) (map_wants_memory s _ c.args.name.now c.args.place none (same_state s c.remake.new.overlay.volume c.set_geometry-in-Err.new.self.pairs c.in-Err.ensures.volume same))

@@ -1,4 +1,4 @@
-use Rattle.std.proofs.Common.{◌≡◌, ◌∙◌, ap, sym, subst, refl, List, ℕ}
+use Rattle.std.proofs.Common.{◌≡◌, ◌∙◌, ◌-◌, ap, sym, subst, refl, List, ℕ}
 use Rattle.frame_cut.specs.Cuts.{IsTrace}
 use Rattle.frame_cut.specs.Parts.{with_inserted}
 use Rattle.frame_cut.specs.Traces.{trace_at}
@@ -12,18 +12,10 @@ use Rattle.bench_rules.proofs.AcceptedLemmas.{copy_accepted}
 use Rattle.bench_rules.proofs.HeaderEditLemmas.{after_cut}
 use Rattle.bench_rules.proofs.SetLemmas.{whole_trace}
 use Rattle.bench_rules.proofs.TraceStepLemmas.{copy_done}
-use Rattle.volume_records.proofs.RecordLemmas.{has_record, record_at}
+use Rattle.volume_records.proofs.RecordLemmas.{record_at, record_beside}
 use Rattle.live_volume.specs.Held.{state_of, with_volume, IsCutAs, records_in}
 use Rattle.live_volume.proofs.HeldLemmas.{on_ok}
 use Rattle.live_volume.proofs.live_volume.LiveVolume.insert_copy.Goals as goal
-
-pub unreachable-requires : goal.unreachable-requires
-unreachable-requires c =
-    let s = state_of c.self.inside in
-    let none = rw (← c.self.view_is) at c.requires in
-    let a = copy_accepted s c.args.q c.args.p none in
-    let i = has_record s.volume s.fields (records_in c.self.inside) c.args.q a.source.first a.source.last c.self.invariant.records in
-    c.in_default.not-Some i.held (c.get.ensures ∙ i.is)
 
 pub insert-requires-clause-whole : goal.insert-requires-clause-whole
 insert-requires-clause-whole c =
@@ -49,12 +41,13 @@ insert-requires-clause-cut c =
 pub insert-requires-clause-record : goal.insert-requires-clause-record
 insert-requires-clause-record c =
     let s = state_of c.self.inside in
+    let ps = c.self.inside.overlay.payloads in
     let none = rw (← c.self.view_is) at c.requires in
     let a = copy_accepted s c.args.q c.args.p none in
     let st : c.trace_bytes.new.self.state ≡ s = c.in_ok-bytes.ensures.state ∙ sym (ap (λ (x : Session). x.state) c.self.view_is) in
     let copied : c.in_ok-bytes.bytes.items ≡ trace_at s.volume c.args.q = rw (← c.self.view_is) at c.in_ok-bytes.ensures.ok in
-    subst (λ (u : State). facts_of c.in-Some.trace ≡ record_of u.volume.head u.fields c.in_ok-bytes.bytes.items) (sym st)
-    (record_at s.volume s.fields (records_in c.self.inside) c.args.q c.in-Some.trace a.source.first a.source.last c.self.invariant.records (sym c.get.ensures ∙ c.in-Some.is)
+    subst (λ (u : State). facts_of c.record-trace.result ≡ record_of u.volume.head u.fields c.in_ok-bytes.bytes.items) (sym st)
+    (record_at s.volume s.fields (records_in c.self.inside) c.args.q c.record-trace.result a.source.first a.source.last c.self.invariant.records (record_beside ps ps (c.args.q - 1) (c.args.q - 1) c.payload.result c.record-trace.result refl refl c.payload.ensures c.record-trace.ensures)
     ∙ ap (record_of s.volume.head s.fields) (sym copied))
 
 pub returns-clause-ok : goal.returns-clause-ok

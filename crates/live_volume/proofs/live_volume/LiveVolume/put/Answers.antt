@@ -1,4 +1,5 @@
-use Rattle.std.proofs.Common.{◌≡◌, ◌∙◌, ◌-◌, ◌≤◌, ℕ, List, ap, sym, arith, subst, length, true, rules}
+use Rattle.std.proofs.Common.{◌≡◌, ◌∙◌, ◌-◌, ◌≤◌, ℕ, List, map, ap, sym, arith, subst, length, true, rules}
+use Rattle.std.proofs.lemmas.List.{length-map}
 use Rattle.std.specs.Prelude.{slice_set, IfSome}
 use Rattle.field_map.specs.Pairs.{Pairs}
 use Rattle.frame_cut.specs.Cuts.{IsCut}
@@ -7,7 +8,11 @@ use Rattle.frame_cut.specs.Traces.{trace_at, is_trace, with_trace, count_of}
 use Rattle.frame_cut.specs.Volume.{Volume, bytes_of}
 use Rattle.trace_record.specs.Facts.{facts_of}
 use Rattle.trace_record.specs.OfTrace.{record_of}
-use Rattle.edit_overlay.specs.CountedVolume.{CountedVolume}
+use Rattle.trace_record.specs.Packed.{record_in}
+use Rattle.trace_record.specs.declared.record.Record.{Record}
+use Rattle.edit_overlay.specs.CountedVolume.{CountedVolume, with_one_look}
+use Rattle.live_reports.specs.OfRecords.{AreReportsOf}
+use Rattle.live_reports.specs.Reports.{AreFew}
 use Rattle.trace_record.specs.declared.packed_record.PackedRecord.{PackedRecord}
 use Rattle.volume_records.proofs.EditLemmas.{records-with_trace}
 use Rattle.volume_records.proofs.RecordLemmas.{length-records}
@@ -39,36 +44,62 @@ new_record-record-requires-clause-trace c =
 
 pub exchange-requires-clause-last : goal.exchange-requires-clause-last
 exchange-requires-clause-last c =
+    let over = c.new_record-record.ensures.overlay ∙ ap (λ (o : CountedVolume PackedRecord). with_one_look o) c.in_ok-prepare_put.ensures.ok in
+    let same : count_of c.new_record-record.new.overlay.volume ≡ count_of c.self.inside.overlay.volume = ap (λ (o : CountedVolume PackedRecord). count_of o.volume) over in
+    omega (arith, same, rw (← c.self.view_is) at c.requires.last)
+
+pub exchange-requires-clause-held : goal.exchange-requires-clause-held
+exchange-requires-clause-held c =
+    let over = c.new_record-record.ensures.overlay ∙ ap (λ (o : CountedVolume PackedRecord). with_one_look o) c.in_ok-prepare_put.ensures.ok in
     let many = length-records c.self.inside.overlay.volume c.self.inside.fields.pairs (records_in c.self.inside) c.self.invariant.records in
-    omega (arith, many, rw (← c.self.view_is) at c.requires.last)
+    omega (arith, ap (λ (o : CountedVolume PackedRecord). length o.payloads) over, length-map c.self.inside.overlay.payloads record_in, many, rw (← c.self.view_is) at c.requires.last)
+
+pub exchange-requires-clause-stay : goal.exchange-requires-clause-stay
+exchange-requires-clause-stay c =
+    let over = c.new_record-record.ensures.overlay ∙ ap (λ (o : CountedVolume PackedRecord). with_one_look o) c.in_ok-prepare_put.ensures.ok in
+    ap (λ (o : CountedVolume PackedRecord). o.payloads_prepared) over ∙ sym (ap (λ (o : CountedVolume PackedRecord). o.payloads) over)
+
+pub exchange-requires-clause-counted : goal.exchange-requires-clause-counted
+exchange-requires-clause-counted c =
+    let over = c.new_record-record.ensures.overlay ∙ ap (λ (o : CountedVolume PackedRecord). with_one_look o) c.in_ok-prepare_put.ensures.ok in
+    subst (λ (ps : List PackedRecord). AreReportsOf c.self.inside.reports (map record_in ps)) (sym (ap (λ (o : CountedVolume PackedRecord). o.payloads) over)) c.self.invariant.reports
 
 pub exchange-requires-clause-few : goal.exchange-requires-clause-few
 exchange-requires-clause-few c =
     let v : Volume = c.self.inside.overlay.volume in
     let fields : Pairs = c.self.inside.fields.pairs in
+    let rs : List Record = records_in c.self.inside in
     let t : List ℕ = splice (trace_at v c.args.p) c.args.at (length c.args.bytes.now) c.args.bytes.now in
     let w : Volume = with_trace v c.args.p t in
     let last : c.args.p ≤ count_of v = rw (← c.self.view_is) at c.requires.last in
     let prep : c.prepare_put.new.self.prepared ≡ w = ap (λ (o : CountedVolume PackedRecord). o.prepared) c.in_ok-prepare_put.ensures.ok in
+    let over = c.new_record-record.ensures.overlay ∙ ap (λ (o : CountedVolume PackedRecord). with_one_look o) c.in_ok-prepare_put.ensures.ok in
     let facts : facts_of c.new_record-record.result ≡ record_of v.head fields t =
     c.new_record-record.ensures.record ∙ ap (λ (u : Volume). record_of u.head fields (trace_at u c.args.p)) prep ∙ ap (record_of v.head fields) (trace_again v c.args.p t c.requires.first last) in
-    few_records c.self.inside.reading c.self.inside.limits w fields (slice_set (records_in c.self.inside) (c.args.p - 1) c.new_record-record.result) (rw (← c.self.view_is) at c.requires.cut) (search rules)
-    (records-with_trace v fields (records_in c.self.inside) c.args.p t c.new_record-record.result c.self.invariant.records facts)
+    subst (λ (ps : List PackedRecord). AreFew (slice_set (map record_in ps) (c.args.p - 1) c.new_record-record.result)) (sym (ap (λ (o : CountedVolume PackedRecord). o.payloads) over))
+    (few_records c.self.inside.reading c.self.inside.limits w fields (slice_set rs (c.args.p - 1) c.new_record-record.result) (rw (← c.self.view_is) at c.requires.cut) (search rules)
+    (records-with_trace v fields rs c.args.p t c.new_record-record.result c.self.invariant.records facts))
 
 pub invariant_of-self-2 : goal.invariant_of-self-2
 invariant_of-self-2 c =
     let v : Volume = c.self.inside.overlay.volume in
     let fields : Pairs = c.self.inside.fields.pairs in
+    let rs : List Record = records_in c.self.inside in
     let t : List ℕ = splice (trace_at v c.args.p) c.args.at (length c.args.bytes.now) c.args.bytes.now in
     let w : Volume = with_trace v c.args.p t in
     let last : c.args.p ≤ count_of v = rw (← c.self.view_is) at c.requires.last in
     let prep : c.prepare_put.new.self.prepared ≡ w = ap (λ (o : CountedVolume PackedRecord). o.prepared) c.in_ok-prepare_put.ensures.ok in
+    let over = c.new_record-record.ensures.overlay ∙ ap (λ (o : CountedVolume PackedRecord). with_one_look o) c.in_ok-prepare_put.ensures.ok in
     let facts : facts_of c.new_record-record.result ≡ record_of v.head fields t =
     c.new_record-record.ensures.record ∙ ap (λ (u : Volume). record_of u.head fields (trace_at u c.args.p)) prep ∙ ap (record_of v.head fields) (trace_again v c.args.p t c.requires.first last) in
-    let is : c.exchange.new.overlay.volume ≡ w = ap (λ (o : CountedVolume PackedRecord). o.volume) c.in_ok-exchange.ensures.ok.0 ∙ ap (λ (o : CountedVolume PackedRecord). o.prepared) c.new_record-record.ensures.overlay ∙ prep in
+    let is : c.exchange.new.overlay.volume ≡ w = c.in_ok-exchange.ensures.volume ∙ ap (λ (o : CountedVolume PackedRecord). o.prepared) c.new_record-record.ensures.overlay ∙ prep in
+    let put : map record_in c.exchange.new.overlay.payloads ≡ slice_set rs (c.args.p - 1) c.new_record-record.result =
+    c.in_ok-exchange.ensures.records ∙ ap (λ (o : CountedVolume PackedRecord). slice_set (map record_in o.payloads) (c.args.p - 1) c.new_record-record.result) over in
     record {
       cut = subst (λ (u : Volume). IsCut (bytes_of u) c.self.inside.reading c.self.inside.limits u) (sym is) (rw (← c.self.view_is) at c.requires.cut);
+      prepared = c.in_ok-exchange.ensures.prepared;
       extensions = c.self.invariant.extensions ∙ ap (λ (u : Volume). u.head.extensions) (sym is);
-      records = records_again w c.exchange.new.overlay.volume fields c.exchange.new.reports is
-          (rw c.in_ok-exchange.ensures.ok.1 (records-with_trace v fields (records_in c.self.inside) c.args.p t c.new_record-record.result c.self.invariant.records facts));
+      records = records_again w c.exchange.new.overlay.volume fields (map record_in c.exchange.new.overlay.payloads) is
+          (ap (map facts_of) put ∙ records-with_trace v fields rs c.args.p t c.new_record-record.result c.self.invariant.records facts);
+      reports = c.in_ok-exchange.ensures.reports;
     }

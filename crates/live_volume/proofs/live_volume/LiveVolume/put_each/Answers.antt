@@ -1,6 +1,6 @@
-use Rattle.std.proofs.Common.{◌≡◌, ◌∙◌, ◌+◌, ◌-◌, ◌≤◌, ℕ, List, ap, sym, subst, length, map, take, drop, rules, arith}
+use Rattle.std.proofs.Common.{◌≡◌, ◌∙◌, ◌+◌, ◌-◌, ◌≤◌, ℕ, List, ap, ap₂, sym, subst, length, map, take, drop, rules, arith}
 use Rattle.std.specs.Prelude.{not}
-use Rattle.std.proofs.lemmas.List.{drop-map, take-map}
+use Rattle.std.proofs.lemmas.List.{drop-map, take-map, length-map}
 use Rattle.field_map.specs.Pairs.{Pairs}
 use Rattle.frame_cut.specs.Cuts.{IsCut}
 use Rattle.frame_cut.specs.Parts.{with_each}
@@ -9,10 +9,13 @@ use Rattle.frame_cut.specs.Volume.{Volume, bytes_of}
 use Rattle.trace_record.specs.Facts.{Facts, facts_of}
 use Rattle.trace_record.specs.OfTrace.{record_of}
 use Rattle.trace_record.specs.declared.record.Record.{Record}
+use Rattle.trace_record.specs.Packed.{record_in}
 use Rattle.edit_overlay.specs.CountedVolume.{CountedVolume}
+use Rattle.live_reports.specs.OfRecords.{AreReportsOf}
+use Rattle.live_reports.specs.Reports.{AreFew}
 use Rattle.trace_record.specs.declared.packed_record.PackedRecord.{PackedRecord}
 use Rattle.live_reports.specs.Exchanged.{with_records, same_cells}
-use Rattle.volume_records.specs.OfVolume.{AreHeaderParts}
+use Rattle.volume_records.specs.OfVolume.{AreHeaderParts, headers_of}
 use Rattle.volume_records.proofs.EachLemmas.{length-put_each, made_so}
 use Rattle.volume_records.proofs.RecordLemmas.{length-records}
 use Rattle.live_volume.specs.Held.{state_of, records_in}
@@ -37,51 +40,104 @@ pub prepared_records-requires-clause-held : goal.prepared_records-requires-claus
 prepared_records-requires-clause-held c =
     let v : Volume = c.self.inside.overlay.volume in
     let parts : AreHeaderParts v c.args.a c.args.at c.args.size c.args.bytes.now = rw (← c.self.view_is) at c.requires.parts in
-    let many = length-records v c.self.inside.fields.pairs (records_in c.self.inside) c.self.invariant.records in
-    omega (arith, many, parts.last, c.requires.count)
+    omega (arith, ap (λ (o : CountedVolume PackedRecord). count_of o.volume) c.in_ok-prepare_put_each.ensures.ok, parts.last, c.requires.count)
 
 pub same_cells-stays-requires : goal.same_cells-stays-requires
 same_cells-stays-requires c =
-    let new = (their_records c.self.inside.overlay.volume _ c.self.inside.fields.pairs c.args.a c.args.count c.args.at c.args.size c.args.bytes.now (records_in c.self.inside) c.in-Ok.records.items
-    (rw (← c.self.view_is) at c.requires.parts) c.self.invariant.records (ap (λ (o : CountedVolume PackedRecord). o.prepared) c.in_ok-prepare_put_each.ensures.ok) c.requires.count c.in-Ok.ensures.records) in
-    rw c.as_slice.ensures.value new.room
+    let b = c.self.inside in
+    let ok = c.in_ok-prepare_put_each.ensures.ok in
+    let same : c.prepare_put_each.new.self.payloads ≡ b.overlay.payloads = ap (λ (o : CountedVolume PackedRecord). o.payloads) ok in
+    let ps : c.prepared_records.new.overlay.payloads ≡ b.overlay.payloads = c.in-Ok.ensures.payloads ∙ same in
+    let given = subst (λ (qs : List PackedRecord). map facts_of c.in-Ok.records.items ≡ take c.args.count (drop (c.args.a - 1) (headers_of c.prepare_put_each.new.self.prepared b.fields.pairs (map facts_of (map record_in qs))))) same c.in-Ok.ensures.records in
+    let found = their_records b.overlay.volume _ b.fields.pairs c.args.a c.args.count c.args.at c.args.size c.args.bytes.now (records_in b) c.in-Ok.records.items
+    (rw (← c.self.view_is) at c.requires.parts) c.self.invariant.records (ap (λ (o : CountedVolume PackedRecord). o.prepared) ok) c.requires.count given in
+    let list : c.new.result ≡ records_in b = c.new.ensures ∙ ap (λ (qs : List PackedRecord). map record_in qs) (c.payloads.ensures ∙ ps) in
+    rw (c.as_slice.ensures.value, list) found.room
 
 pub exchange_each-requires-clause-last : goal.exchange_each-requires-clause-last
 exchange_each-requires-clause-last c =
-    let new = (their_records c.self.inside.overlay.volume _ c.self.inside.fields.pairs c.args.a c.args.count c.args.at c.args.size c.args.bytes.now (records_in c.self.inside) c.in-Ok.records.items
-    (rw (← c.self.view_is) at c.requires.parts) c.self.invariant.records (ap (λ (o : CountedVolume PackedRecord). o.prepared) c.in_ok-prepare_put_each.ensures.ok) c.requires.count c.in-Ok.ensures.records) in
-    rw c.as_slice-2.ensures.value new.room
+    let b = c.self.inside in
+    let ok = c.in_ok-prepare_put_each.ensures.ok in
+    let same : c.prepare_put_each.new.self.payloads ≡ b.overlay.payloads = ap (λ (o : CountedVolume PackedRecord). o.payloads) ok in
+    let ps : c.prepared_records.new.overlay.payloads ≡ b.overlay.payloads = c.in-Ok.ensures.payloads ∙ same in
+    let given = subst (λ (qs : List PackedRecord). map facts_of c.in-Ok.records.items ≡ take c.args.count (drop (c.args.a - 1) (headers_of c.prepare_put_each.new.self.prepared b.fields.pairs (map facts_of (map record_in qs))))) same c.in-Ok.ensures.records in
+    let found = their_records b.overlay.volume _ b.fields.pairs c.args.a c.args.count c.args.at c.args.size c.args.bytes.now (records_in b) c.in-Ok.records.items
+    (rw (← c.self.view_is) at c.requires.parts) c.self.invariant.records (ap (λ (o : CountedVolume PackedRecord). o.prepared) ok) c.requires.count given in
+    let v : Volume = b.overlay.volume in
+    let w : Volume = with_each v c.args.a c.args.at c.args.size c.args.bytes.now in
+    let prep : c.prepared_records.new.overlay.prepared ≡ w = c.in-Ok.ensures.prepared ∙ ap (λ (o : CountedVolume PackedRecord). o.prepared) ok in
+    let many : count_of c.prepared_records.new.overlay.prepared ≡ count_of v = ap (λ (u : Volume). count_of u) prep ∙ length-put_each v.traces (c.args.a - 1) c.args.at c.args.size c.args.bytes.now in
+    rw c.as_slice-2.ensures.value (omega (arith, found.room, many, length-records v b.fields.pairs (records_in b) c.self.invariant.records))
+
+pub exchange_each-requires-clause-held : goal.exchange_each-requires-clause-held
+exchange_each-requires-clause-held c =
+    let b = c.self.inside in
+    let ok = c.in_ok-prepare_put_each.ensures.ok in
+    let same : c.prepare_put_each.new.self.payloads ≡ b.overlay.payloads = ap (λ (o : CountedVolume PackedRecord). o.payloads) ok in
+    let ps : c.prepared_records.new.overlay.payloads ≡ b.overlay.payloads = c.in-Ok.ensures.payloads ∙ same in
+    let given = subst (λ (qs : List PackedRecord). map facts_of c.in-Ok.records.items ≡ take c.args.count (drop (c.args.a - 1) (headers_of c.prepare_put_each.new.self.prepared b.fields.pairs (map facts_of (map record_in qs))))) same c.in-Ok.ensures.records in
+    let found = their_records b.overlay.volume _ b.fields.pairs c.args.a c.args.count c.args.at c.args.size c.args.bytes.now (records_in b) c.in-Ok.records.items
+    (rw (← c.self.view_is) at c.requires.parts) c.self.invariant.records (ap (λ (o : CountedVolume PackedRecord). o.prepared) ok) c.requires.count given in
+    rw c.as_slice-2.ensures.value (omega (arith, found.room, length-map b.overlay.payloads record_in, ap (λ (qs : List PackedRecord). length qs) ps))
+
+pub exchange_each-requires-clause-stay : goal.exchange_each-requires-clause-stay
+exchange_each-requires-clause-stay c =
+    let ok = c.in_ok-prepare_put_each.ensures.ok in
+    c.in-Ok.ensures.payloads_prepared ∙ (ap (λ (o : CountedVolume PackedRecord). o.payloads_prepared) ok ∙ (sym (ap (λ (o : CountedVolume PackedRecord). o.payloads) ok) ∙ sym c.in-Ok.ensures.payloads))
+
+pub exchange_each-requires-clause-counted : goal.exchange_each-requires-clause-counted
+exchange_each-requires-clause-counted c =
+    let ps = c.in-Ok.ensures.payloads ∙ ap (λ (o : CountedVolume PackedRecord). o.payloads) c.in_ok-prepare_put_each.ensures.ok in
+    subst (λ (qs : List PackedRecord). AreReportsOf c.self.inside.reports (map record_in qs)) (sym ps) c.self.invariant.reports
 
 pub exchange_each-requires-clause-few : goal.exchange_each-requires-clause-few
 exchange_each-requires-clause-few c =
-    let new = (their_records c.self.inside.overlay.volume _ c.self.inside.fields.pairs c.args.a c.args.count c.args.at c.args.size c.args.bytes.now (records_in c.self.inside) c.in-Ok.records.items
-    (rw (← c.self.view_is) at c.requires.parts) c.self.invariant.records (ap (λ (o : CountedVolume PackedRecord). o.prepared) c.in_ok-prepare_put_each.ensures.ok) c.requires.count c.in-Ok.ensures.records) in
+    let b = c.self.inside in
+    let ok = c.in_ok-prepare_put_each.ensures.ok in
+    let same : c.prepare_put_each.new.self.payloads ≡ b.overlay.payloads = ap (λ (o : CountedVolume PackedRecord). o.payloads) ok in
+    let ps : c.prepared_records.new.overlay.payloads ≡ b.overlay.payloads = c.in-Ok.ensures.payloads ∙ same in
+    let given = subst (λ (qs : List PackedRecord). map facts_of c.in-Ok.records.items ≡ take c.args.count (drop (c.args.a - 1) (headers_of c.prepare_put_each.new.self.prepared b.fields.pairs (map facts_of (map record_in qs))))) same c.in-Ok.ensures.records in
+    let found = their_records b.overlay.volume _ b.fields.pairs c.args.a c.args.count c.args.at c.args.size c.args.bytes.now (records_in b) c.in-Ok.records.items
+    (rw (← c.self.view_is) at c.requires.parts) c.self.invariant.records (ap (λ (o : CountedVolume PackedRecord). o.prepared) ok) c.requires.count given in
     rw c.as_slice-2.ensures.value
-    (few_records c.self.inside.reading c.self.inside.limits _ c.self.inside.fields.pairs _ (rw (← c.self.view_is) at c.requires.cut) (search rules) new.records)
+    (subst (λ (qs : List PackedRecord). AreFew (with_records (map record_in qs) (c.args.a - 1) c.in-Ok.records.items)) (sym ps)
+    (few_records b.reading b.limits _ b.fields.pairs _ (rw (← c.self.view_is) at c.requires.cut) (search rules) found.records))
 
 pub invariant_of-self-2 : goal.invariant_of-self-2
 invariant_of-self-2 c =
-    let new = (their_records c.self.inside.overlay.volume _ c.self.inside.fields.pairs c.args.a c.args.count c.args.at c.args.size c.args.bytes.now (records_in c.self.inside) c.in-Ok.records.items
-    (rw (← c.self.view_is) at c.requires.parts) c.self.invariant.records (ap (λ (o : CountedVolume PackedRecord). o.prepared) c.in_ok-prepare_put_each.ensures.ok) c.requires.count c.in-Ok.ensures.records) in
-    let w : Volume = with_each c.self.inside.overlay.volume c.args.a c.args.at c.args.size c.args.bytes.now in
-    let prepared : c.prepare_put_each.new.self.prepared ≡ w = ap (λ (o : CountedVolume PackedRecord). o.prepared) c.in_ok-prepare_put_each.ensures.ok in
-    let is : c.exchange_each.new.overlay.volume ≡ w = ap (λ (o : CountedVolume PackedRecord). o.volume) c.in_ok-exchange_each.ensures.ok.0 ∙ c.in-Ok.ensures.prepared ∙ prepared in
-    let put : c.exchange_each.new.reports ≡ with_records (records_in c.self.inside) (c.args.a - 1) c.in-Ok.records.items =
-    c.in_ok-exchange_each.ensures.ok.1 ∙ ap (with_records (records_in c.self.inside) (c.args.a - 1)) c.as_slice-2.ensures.value in
+    let b = c.self.inside in
+    let ok = c.in_ok-prepare_put_each.ensures.ok in
+    let same : c.prepare_put_each.new.self.payloads ≡ b.overlay.payloads = ap (λ (o : CountedVolume PackedRecord). o.payloads) ok in
+    let ps : c.prepared_records.new.overlay.payloads ≡ b.overlay.payloads = c.in-Ok.ensures.payloads ∙ same in
+    let given = subst (λ (qs : List PackedRecord). map facts_of c.in-Ok.records.items ≡ take c.args.count (drop (c.args.a - 1) (headers_of c.prepare_put_each.new.self.prepared b.fields.pairs (map facts_of (map record_in qs))))) same c.in-Ok.ensures.records in
+    let found = their_records b.overlay.volume _ b.fields.pairs c.args.a c.args.count c.args.at c.args.size c.args.bytes.now (records_in b) c.in-Ok.records.items
+    (rw (← c.self.view_is) at c.requires.parts) c.self.invariant.records (ap (λ (o : CountedVolume PackedRecord). o.prepared) ok) c.requires.count given in
+    let w : Volume = with_each b.overlay.volume c.args.a c.args.at c.args.size c.args.bytes.now in
+    let is : c.exchange_each.new.overlay.volume ≡ w = c.in_ok-exchange_each.ensures.volume ∙ c.in-Ok.ensures.prepared ∙ ap (λ (o : CountedVolume PackedRecord). o.prepared) ok in
+    let put : map record_in c.exchange_each.new.overlay.payloads ≡ with_records (records_in b) (c.args.a - 1) c.in-Ok.records.items =
+    c.in_ok-exchange_each.ensures.records ∙ (ap (λ (l : List Record). with_records (map record_in c.prepared_records.new.overlay.payloads) (c.args.a - 1) l) c.as_slice-2.ensures.value
+    ∙ ap (λ (qs : List PackedRecord). with_records (map record_in qs) (c.args.a - 1) c.in-Ok.records.items) ps) in
     record {
-      cut = subst (λ (u : Volume). IsCut (bytes_of u) c.self.inside.reading c.self.inside.limits u) (sym is) (rw (← c.self.view_is) at c.requires.cut);
+      cut = subst (λ (u : Volume). IsCut (bytes_of u) b.reading b.limits u) (sym is) (rw (← c.self.view_is) at c.requires.cut);
+      prepared = c.in_ok-exchange_each.ensures.prepared;
       extensions = c.self.invariant.extensions ∙ ap (λ (u : Volume). u.head.extensions) (sym is);
-      records = records_again w c.exchange_each.new.overlay.volume c.self.inside.fields.pairs c.exchange_each.new.reports is (rw put new.records);
+      records = records_again w c.exchange_each.new.overlay.volume b.fields.pairs (map record_in c.exchange_each.new.overlay.payloads) is (ap (map facts_of) put ∙ found.records);
+      reports = c.in_ok-exchange_each.ensures.reports;
     }
 
 pub returns-clause-moved : goal.returns-clause-moved
 returns-clause-moved c =
-    let found = (their_records c.self.inside.overlay.volume _ c.self.inside.fields.pairs c.args.a c.args.count c.args.at c.args.size c.args.bytes.now (records_in c.self.inside) c.in-Ok.records.items
-    (rw (← c.self.view_is) at c.requires.parts) c.self.invariant.records (ap (λ (o : CountedVolume PackedRecord). o.prepared) c.in_ok-prepare_put_each.ensures.ok) c.requires.count c.in-Ok.ensures.records) in
+    let b = c.self.inside in
+    let ok = c.in_ok-prepare_put_each.ensures.ok in
+    let same : c.prepare_put_each.new.self.payloads ≡ b.overlay.payloads = ap (λ (o : CountedVolume PackedRecord). o.payloads) ok in
+    let ps : c.prepared_records.new.overlay.payloads ≡ b.overlay.payloads = c.in-Ok.ensures.payloads ∙ same in
+    let given = subst (λ (qs : List PackedRecord). map facts_of c.in-Ok.records.items ≡ take c.args.count (drop (c.args.a - 1) (headers_of c.prepare_put_each.new.self.prepared b.fields.pairs (map facts_of (map record_in qs))))) same c.in-Ok.ensures.records in
+    let found = their_records b.overlay.volume _ b.fields.pairs c.args.a c.args.count c.args.at c.args.size c.args.bytes.now (records_in b) c.in-Ok.records.items
+    (rw (← c.self.view_is) at c.requires.parts) c.self.invariant.records (ap (λ (o : CountedVolume PackedRecord). o.prepared) ok) c.requires.count given in
     let s : State = state_of c.self.inside in
     let v : Volume = c.self.inside.overlay.volume in
     let fields : Pairs = c.self.inside.fields.pairs in
-    let rs : List Record = (records_in c.self.inside) in
+    let rs : List Record = records_in c.self.inside in
     let new : List Record = c.in-Ok.records.items in
     let parts : AreHeaderParts v c.args.a c.args.at c.args.size c.args.bytes.now = rw (← c.self.view_is) at c.requires.parts in
     let w : Volume = with_each v c.args.a c.args.at c.args.size c.args.bytes.now in
@@ -94,6 +150,7 @@ returns-clause-moved c =
     ∙ ap (λ (fs : List Facts). take c.args.count fs) (drop-map f at w.traces) ∙ take-map f c.args.count (drop at w.traces) in
     let inside : at + c.args.count ≤ length v.traces = omega (arith, parts.last, c.requires.count) in
     let within : at + c.args.count ≤ length w.traces = omega (arith, inside, length-put_each v.traces at c.args.at c.args.size c.args.bytes.now) in
+    let list : c.new.result ≡ records_in b = c.new.ensures ∙ ap (λ (qs : List PackedRecord). map record_in qs) (c.payloads.ensures ∙ ps) in
     rw (← c.self.view_is)
-    (ap not (c.same_cells-stays.ensures ∙ ap (λ (l : List Record). same_cells (drop at rs) l) c.as_slice.ensures.value)
+    (ap not (c.same_cells-stays.ensures ∙ ap₂ (λ (l k : List Record). same_cells (drop at l) k) list c.as_slice.ensures.value)
     ∙ cells_stay s w c.args.a c.args.count rs new c.requires.first inside within old_facts new_facts)

@@ -19,6 +19,3 @@ pub use crate::faults::Faults;
 pub use crate::head_facts::HeadFacts;
 pub use crate::laws::once_is_not_repeated;
 pub use crate::out_of_memory::OutOfMemory;
-
-#[cfg(test)]
-mod tests;

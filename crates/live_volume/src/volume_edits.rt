@@ -138,9 +138,9 @@ impl LiveVolume {
         ensures looks { self.new.looks ≡ self.old.looks }
     {
         let place = p as usize - 1;
-        let Ok(()) =
-            self.reports
-                .exchange(&Records::new(self.overlay.payloads()), place, trace)
+        let Ok(()) = self
+            .reports
+            .exchange(&Records::new(self.overlay.payloads()), place, trace)
         else {
             return Err(Refusal::OutOfMemory);
         };

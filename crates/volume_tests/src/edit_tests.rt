@@ -2,10 +2,14 @@
 // out: the check of a function that owns an overlay takes the longer the more it does, and that of
 // a borrower stays short. What it is lent to is a `dyn`: a type parameter would have it checked
 // anew for each test. A save that fails is tested through the bench.
+ghost use Rattle.std.specs.Prelude.{◌≡◌, ◌+◌, [], length, OnOk};
+ghost use Rattle.frame_cut.specs.Traces.{count_of};
+
 use crate::files::two_traces;
 use crate::puts::{is_trace, may_put, put};
+use crate::tables::volume_of;
 use device_io::{Sink, Source, StepReader};
-use edit_overlay::Overlay;
+use edit_overlay::{Loading, Overlay};
 use frame_cut::{Limits, LoadFault, Reading};
 use std::alloc::Global;
 use std::process::Abort;
@@ -33,15 +37,16 @@ fn limits() -> Result<Limits, Fail> {
     Ok(Limits::new(4088, 2).ok_or("limits")?)
 }
 
-fn volume(alloc: Global) -> Result<Overlay, Fail> {
+// The payloads of the two traces are their first positions.
+fn volume(alloc: Global) -> Result<Overlay<u32>, Fail> {
     let file = two_traces(alloc)?;
-    Ok(Overlay::from_bytes(alloc, file, Reading::AsWritten, limits()?)?)
+    volume_of(alloc, file, limits()?, &[1, 2])
 }
 
 // What the function answers of the small file and of an overlay over it.
 fn on_small(
     alloc: Global,
-    ask: &mut dyn FnMut(&[u8], &mut Overlay) -> Result<(), Fail>,
+    ask: &mut dyn FnMut(&[u8], &mut Overlay<u32>) -> Result<(), Fail>,
 ) -> Result<(), Fail>
     requires { IsAlwaysCallable ask.now }
 {
@@ -54,7 +59,7 @@ fn on_small(
 fn expect_saved(
     rt: &impl Abort,
     alloc: Global,
-    volume: &Overlay,
+    volume: &Overlay<u32>,
     parts: &[&[u8]],
 ) -> Result<(), Fail> {
     let mut expected = Vec::new(alloc);
@@ -70,11 +75,11 @@ fn expect_saved(
 }
 
 // Asserts that trace p has these bytes, at most 300.
-fn expect_trace(rt: &impl Abort, volume: &mut Overlay, p: u32, expected: &[u8]) {
+fn expect_trace(rt: &impl Abort, volume: &mut Overlay<u32>, p: u32, expected: &[u8]) {
     assert!(rt; shows(volume, p, expected));
 }
 
-fn shows(volume: &mut Overlay, p: u32, expected: &[u8]) -> bool {
+fn shows(volume: &mut Overlay<u32>, p: u32, expected: &[u8]) -> bool {
     match volume.look(p) {
         Some(view) => has_bytes(&view, expected),
         None => false,
@@ -91,19 +96,29 @@ fn has_bytes(view: &TraceView<'_>, expected: &[u8]) -> bool {
     *shown == *expected
 }
 
-// Asserts that a pass shows traces of these bytes, at most 300 each.
-fn expect_pass(rt: &impl Abort, volume: &mut Overlay, expected: &[&[u8]]) {
+// Asserts that a pass shows traces of these bytes, at most 300 each, beside these payloads.
+fn expect_pass(rt: &impl Abort, volume: &mut Overlay<u32>, expected: &[(&[u8], u32)]) {
     let mut passed = 0;
-    for view in volume.pass() {
+    for (view, payload) in volume.pass_near(240) {
         assert!(rt; passed < expected.len());
-        assert!(rt; has_bytes(&view, expected[passed]));
+        assert!(rt; has_bytes(&view, expected[passed].0));
+        assert_eq!(rt; payload, expected[passed].1);
         passed += 1;
     }
     assert_eq!(rt; passed, expected.len());
 }
 
+// Asserts that the traces have these payloads, in this order.
+fn expect_payloads(rt: &impl Abort, volume: &Overlay<u32>, expected: &[u32]) {
+    let mut payloads = volume.payloads().iter();
+    for payload in expected {
+        assert_eq!(rt; payloads.next(), Some(*payload));
+    }
+    assert_eq!(rt; payloads.next(), None);
+}
+
 // Lays two of the bytes over each of the first two traces.
-fn put_over_two(alloc: Global, volume: &mut Overlay, at: u64, bytes: &[u8; 4]) -> Result<(), Fail> {
+fn put_over_two(alloc: Global, volume: &mut Overlay<u32>, at: u64, bytes: &[u8; 4]) -> Result<(), Fail> {
     if !may_put(volume, 1, at, &bytes[..2]) {
         return Err(Fail::from("no place for the bytes"));
     }
@@ -114,7 +129,7 @@ fn put_over_two(alloc: Global, volume: &mut Overlay, at: u64, bytes: &[u8; 4]) -
     Ok(())
 }
 
-fn prepare(alloc: Global, volume: &mut Overlay, p: u32, at: u64, bytes: &[u8]) -> Result<(), Fail> {
+fn prepare(alloc: Global, volume: &mut Overlay<u32>, p: u32, at: u64, bytes: &[u8]) -> Result<(), Fail> {
     if !may_put(volume, p, at, bytes) {
         return Err(Fail::from("no place for the bytes"));
     }
@@ -125,7 +140,7 @@ fn prepare(alloc: Global, volume: &mut Overlay, p: u32, at: u64, bytes: &[u8]) -
 // Prepares two of the bytes over each of the first two traces.
 fn prepare_over_two(
     alloc: Global,
-    volume: &mut Overlay,
+    volume: &mut Overlay<u32>,
     at: u64,
     bytes: &[u8; 4],
 ) -> Result<(), Fail> {
@@ -140,7 +155,7 @@ fn prepare_over_two(
 }
 
 // Whether trace p, of 244 bytes, ends so as it would be.
-fn ends_ahead(volume: &mut Overlay, p: u32, end: &[u8]) -> bool {
+fn ends_ahead(volume: &mut Overlay<u32>, p: u32, end: &[u8]) -> bool {
     let Some(view) = volume.look_prepared(p) else {
         return false;
     };
@@ -152,7 +167,7 @@ fn ends_ahead(volume: &mut Overlay, p: u32, end: &[u8]) -> bool {
     *part(&room, 240, 244) == *end
 }
 
-fn prepare_move(alloc: Global, volume: &mut Overlay, a: u32, b: u32) -> Result<(), Fail> {
+fn prepare_move(alloc: Global, volume: &mut Overlay<u32>, a: u32, b: u32) -> Result<(), Fail> {
     let count = volume.count();
     if a == 0 || a > count || b == 0 || b > count {
         return Err(Fail::from("no such trace"));
@@ -161,7 +176,14 @@ fn prepare_move(alloc: Global, volume: &mut Overlay, a: u32, b: u32) -> Result<(
     Ok(())
 }
 
-fn insert(alloc: Global, volume: &mut Overlay, p: u32, bytes: &[u8]) -> Result<(), Fail> {
+// Puts a trace in front of trace p, with this payload.
+fn insert(
+    alloc: Global,
+    volume: &mut Overlay<u32>,
+    p: u32,
+    bytes: &[u8],
+    payload: u32,
+) -> Result<(), Fail> {
     if volume.count() > 10_000 || volume.length() > 10_000_000 || bytes.len() > 10_000 {
         return Err(Fail::from("too much"));
     }
@@ -171,11 +193,18 @@ fn insert(alloc: Global, volume: &mut Overlay, p: u32, bytes: &[u8]) -> Result<(
     if !is_trace(&volume.head(), bytes) {
         return Err(Fail::from("no trace"));
     }
-    volume.insert(alloc, p, Vec::from_slice(alloc, bytes)?)?;
+    volume.insert(alloc, p, Vec::from_slice(alloc, bytes)?, payload)?;
     Ok(())
 }
 
-fn replace(alloc: Global, volume: &mut Overlay, p: u32, bytes: &[u8]) -> Result<(), Fail> {
+// Puts a trace in place of trace p, with this payload.
+fn replace(
+    alloc: Global,
+    volume: &mut Overlay<u32>,
+    p: u32,
+    bytes: &[u8],
+    payload: u32,
+) -> Result<(), Fail> {
     if volume.length() > 10_000_000 || bytes.len() > 10_000 {
         return Err(Fail::from("too much"));
     }
@@ -185,19 +214,19 @@ fn replace(alloc: Global, volume: &mut Overlay, p: u32, bytes: &[u8]) -> Result<
     if !is_trace(&volume.head(), bytes) {
         return Err(Fail::from("no trace"));
     }
-    volume.replace(alloc, p, Vec::from_slice(alloc, bytes)?);
+    volume.replace(alloc, p, Vec::from_slice(alloc, bytes)?, payload);
     Ok(())
 }
 
-fn delete(volume: &mut Overlay, p: u32) -> Result<(), Fail> {
+// Takes trace p out, and answers its payload.
+fn delete(volume: &mut Overlay<u32>, p: u32) -> Result<u32, Fail> {
     if p == 0 || p > volume.count() {
         return Err(Fail::from("no such trace"));
     }
-    volume.delete(p);
-    Ok(())
+    Ok(volume.delete(p))
 }
 
-fn move_to(alloc: Global, volume: &mut Overlay, a: u32, b: u32) -> Result<(), Fail> {
+fn move_to(alloc: Global, volume: &mut Overlay<u32>, a: u32, b: u32) -> Result<(), Fail> {
     let count = volume.count();
     if a == 0 || a > count || b == 0 || b > count {
         return Err(Fail::from("no such trace"));
@@ -211,7 +240,7 @@ fn cuts_bytes_in_memory(rt: HostRuntime) -> Result<(), Fail> {
     let alloc = rt.alloc();
     on_small(
         alloc,
-        &mut |file: &[u8], volume: &mut Overlay| {
+        &mut |file: &[u8], volume: &mut Overlay<u32>| {
             assert_eq!(rt; volume.count(), 2);
             assert_eq!(rt; volume.length(), 4088);
             assert_eq!(rt; volume.head().samples, 2);
@@ -228,7 +257,7 @@ fn cuts_bytes_in_memory(rt: HostRuntime) -> Result<(), Fail> {
 fn counts_looks(rt: HostRuntime) -> Result<(), Fail> {
     on_small(
         rt.alloc(),
-        &mut |_: &[u8], volume: &mut Overlay| {
+        &mut |_: &[u8], volume: &mut Overlay<u32>| {
             assert_eq!(rt; volume.looks(), 0);
             assert!(rt; volume.look(1).is_some());
             assert!(rt; volume.look(2).is_some());
@@ -248,14 +277,14 @@ fn passes_over_all_traces(rt: HostRuntime) -> Result<(), Fail> {
     let new = trace(alloc, 1, 0x22)?;
     on_small(
         alloc,
-        &mut |file: &[u8], volume: &mut Overlay| {
+        &mut |file: &[u8], volume: &mut Overlay<u32>| {
             let (new, first) = (new.as_slice(), part(file, 3600, 3844));
-            expect_pass(&rt, volume, &[first, part(file, 3844, 4088)]);
+            expect_pass(&rt, volume, &[(first, 1), (part(file, 3844, 4088), 2)]);
             assert_eq!(rt; volume.looks(), 2);
             put(alloc, volume, 2, 0, part(file, 3600, 3844))?;
-            insert(alloc, volume, 1, new)?;
+            insert(alloc, volume, 1, new, 7)?;
             let before = volume.looks();
-            expect_pass(&rt, volume, &[new, first, first]);
+            expect_pass(&rt, volume, &[(new, 7), (first, 1), (first, 2)]);
             assert_eq!(rt; volume.looks(), before.saturating_add(3));
             Ok(())
         },
@@ -267,8 +296,8 @@ fn passes_over_all_traces(rt: HostRuntime) -> Result<(), Fail> {
 fn counts_a_pass_that_is_broken_off(rt: HostRuntime) -> Result<(), Fail> {
     on_small(
         rt.alloc(),
-        &mut |_: &[u8], volume: &mut Overlay| {
-            for view in volume.pass() {
+        &mut |_: &[u8], volume: &mut Overlay<u32>| {
+            for (view, _) in volume.pass_near(0) {
                 assert_eq!(rt; view.length(), 244);
                 break;
             }
@@ -281,19 +310,61 @@ fn counts_a_pass_that_is_broken_off(rt: HostRuntime) -> Result<(), Fail> {
 fn expect_as_loaded(
     rt: &impl Abort,
     alloc: Global,
-    loaded: &Overlay,
+    loaded: &Overlay<u32>,
     file: &[u8],
 ) -> Result<(), Fail> {
     assert_eq!(rt; loaded.count(), 2);
-    assert_eq!(rt; loaded.looks(), 0);
+    assert_eq!(rt; loaded.looks(), 2);
+    expect_payloads(rt, loaded, &[5, 6]);
     expect_saved(rt, alloc, loaded, &[file])
+}
+
+// Whether the next trace, which then gets this payload, has these bytes.
+fn shows_next(
+    alloc: Global,
+    loading: &mut Loading<u32>,
+    expected: &[u8],
+    payload: u32,
+) -> Result<bool, Fail>
+    ensures volume { loading.new.volume ≡ loading.old.volume }
+    ensures payloads { OnOk result
+        (length loading.new.payloads ≡ length loading.old.payloads + 1) }
+{
+    let Some(view) = loading.next_trace() else {
+        return Err(Fail::from("no trace more"));
+    };
+    let shown = has_bytes(&view, expected);
+    loading.push(alloc, payload)?;
+    Ok(shown)
+}
+
+// Gives the two traces their payloads, each once it was shown.
+fn give_payloads(
+    rt: &impl Abort,
+    alloc: Global,
+    loading: &mut Loading<u32>,
+    file: &[u8],
+) -> Result<(), Fail>
+    requires { loading.old.payloads ≡ [] }
+    ensures volume { loading.new.volume ≡ loading.old.volume }
+    ensures payloads { OnOk result
+        (length loading.new.payloads ≡ count_of loading.new.volume) }
+{
+    if loading.count() != 2 {
+        return Err(Fail::from("not two traces"));
+    }
+    assert!(rt; shows_next(alloc, loading, part(file, 3600, 3844), 5)?);
+    assert!(rt; shows_next(alloc, loading, part(file, 3844, 4088), 6)?);
+    assert!(rt; loading.next_trace().is_none());
+    Ok(())
 }
 
 fn load_in_steps(rt: &impl Abort, alloc: Global, file: &[u8]) -> Result<(), Fail> {
     let mut reader = Source::new(StepReader::new(file, 1, u64::MAX));
-    let loaded = Overlay::load(alloc, &mut reader, Reading::AsWritten, limits()?)?;
+    let mut loading = Loading::load(alloc, &mut reader, Reading::AsWritten, limits()?)?;
     assert_eq!(rt; reader.failures(), 0);
-    expect_as_loaded(rt, alloc, &loaded, file)
+    give_payloads(rt, alloc, &mut loading, file)?;
+    expect_as_loaded(rt, alloc, &loading.finish(), file)
 }
 
 #[test]
@@ -309,7 +380,7 @@ fn load_fault(
     reader: &mut Source<StepReader<'_>>,
     limits: Limits,
 ) -> Option<LoadFault> {
-    Overlay::load(alloc, reader, Reading::AsWritten, limits).err()
+    Loading::<u32>::load(alloc, reader, Reading::AsWritten, limits).err()
 }
 
 fn refuse_to_load(rt: &impl Abort, alloc: Global, file: &[u8]) -> Result<(), Fail> {
@@ -338,7 +409,7 @@ fn puts_and_saves(rt: HostRuntime) -> Result<(), Fail> {
     let alloc = rt.alloc();
     on_small(
         alloc,
-        &mut |file: &[u8], volume: &mut Overlay| {
+        &mut |file: &[u8], volume: &mut Overlay<u32>| {
             put(alloc, volume, 2, 240, &[1, 2])?;
             put(alloc, volume, 2, 241, &[3])?;
             put(alloc, volume, 2, 242, &[4, 5])?;
@@ -353,7 +424,7 @@ fn puts_text_and_head(rt: HostRuntime) -> Result<(), Fail> {
     let alloc = rt.alloc();
     on_small(
         alloc,
-        &mut |file: &[u8], volume: &mut Overlay| {
+        &mut |file: &[u8], volume: &mut Overlay<u32>| {
             volume.put_text(40, &[0xC3; 80]);
             volume.put_head(398, &[6, 7]);
             let text = part(file, 0, 3120);
@@ -374,7 +445,7 @@ fn puts_over_two_traces(rt: HostRuntime) -> Result<(), Fail> {
     let alloc = rt.alloc();
     on_small(
         alloc,
-        &mut |file: &[u8], volume: &mut Overlay| {
+        &mut |file: &[u8], volume: &mut Overlay<u32>| {
             put(alloc, volume, 2, 241, &[3])?;
             put_over_two(alloc, volume, 240, &[1, 2, 5, 6])?;
             let front = part(file, 0, 3840);
@@ -389,7 +460,7 @@ fn prepare_and_discard(
     rt: &impl Abort,
     alloc: Global,
     file: &[u8],
-    volume: &mut Overlay,
+    volume: &mut Overlay<u32>,
 ) -> Result<(), Fail> {
     let first = part(file, 3600, 3844);
     prepare_over_two(alloc, volume, 240, &[1, 2, 5, 6])?;
@@ -407,7 +478,7 @@ fn prepare_and_commit(
     rt: &impl Abort,
     alloc: Global,
     file: &[u8],
-    volume: &mut Overlay,
+    volume: &mut Overlay<u32>,
 ) -> Result<(), Fail> {
     prepare(alloc, volume, 2, 240, &[3, 4])?;
     assert!(rt; ends_ahead(volume, 1, &[0, 7, 0, 0]));
@@ -424,9 +495,37 @@ fn prepares_and_commits(rt: HostRuntime) -> Result<(), Fail> {
     let alloc = rt.alloc();
     on_small(
         alloc,
-        &mut |file: &[u8], volume: &mut Overlay| {
+        &mut |file: &[u8], volume: &mut Overlay<u32>| {
             prepare_and_discard(&rt, alloc, file, volume)?;
             prepare_and_commit(&rt, alloc, file, volume)
+        },
+    )
+}
+
+// Makes the prepared edit, and gives trace p this payload then.
+fn commit_with(volume: &mut Overlay<u32>, p: u32, payload: u32) -> Result<(), Fail> {
+    if p == 0 || p > volume.count() {
+        return Err(Fail::from("no such trace"));
+    }
+    volume.commit_with(p, payload);
+    Ok(())
+}
+
+// The payload is that of the trace that the bytes lie over, or of another.
+#[test]
+fn commits_with_a_payload(rt: HostRuntime) -> Result<(), Fail> {
+    let alloc = rt.alloc();
+    on_small(
+        alloc,
+        &mut |file: &[u8], volume: &mut Overlay<u32>| {
+            prepare(alloc, volume, 2, 240, &[3, 4])?;
+            expect_payloads(&rt, volume, &[1, 2]);
+            commit_with(volume, 2, 9)?;
+            expect_payloads(&rt, volume, &[1, 9]);
+            prepare(alloc, volume, 2, 240, &[5])?;
+            commit_with(volume, 1, 8)?;
+            expect_payloads(&rt, volume, &[8, 9]);
+            expect_saved(&rt, alloc, volume, &[part(file, 0, 4084), &[5, 4, 0, 9]])
         },
     )
 }
@@ -436,9 +535,10 @@ fn move_and_discard(
     alloc: Global,
     file: &[u8],
     last: &[u8],
-    volume: &mut Overlay,
+    volume: &mut Overlay<u32>,
 ) -> Result<(), Fail> {
     prepare_move(alloc, volume, 3, 1)?;
+    expect_payloads(rt, volume, &[1, 2, 3]);
     assert!(rt; ends_ahead(volume, 1, &[0x11; 4]));
     assert!(rt; ends_ahead(volume, 2, &[0, 7, 0, 0]));
     assert!(rt; ends_ahead(volume, 3, &[0, 0, 0, 9]));
@@ -452,7 +552,7 @@ fn move_and_commit(
     alloc: Global,
     file: &[u8],
     last: &[u8],
-    volume: &mut Overlay,
+    volume: &mut Overlay<u32>,
 ) -> Result<(), Fail> {
     prepare_move(alloc, volume, 1, 2)?;
     assert!(rt; ends_ahead(volume, 1, &[0, 0, 0, 9]));
@@ -461,6 +561,7 @@ fn move_and_commit(
     expect_saved(rt, alloc, volume, &[file, last])?;
     volume.commit();
     volume.commit();
+    expect_payloads(rt, volume, &[2, 1, 3]);
     let headers = part(file, 0, 3600);
     let first = part(file, 3600, 3844);
     let second = part(file, 3844, 4088);
@@ -474,8 +575,8 @@ fn prepares_and_commits_a_move(rt: HostRuntime) -> Result<(), Fail> {
     let last = trace(alloc, 2, 0x11)?;
     on_small(
         alloc,
-        &mut |file: &[u8], volume: &mut Overlay| {
-            insert(alloc, volume, 3, last.as_slice())?;
+        &mut |file: &[u8], volume: &mut Overlay<u32>| {
+            insert(alloc, volume, 3, last.as_slice(), 3)?;
             move_and_discard(&rt, alloc, file, last.as_slice(), volume)?;
             move_and_commit(&rt, alloc, file, last.as_slice(), volume)
         },
@@ -490,14 +591,16 @@ fn inserts_and_deletes(rt: HostRuntime) -> Result<(), Fail> {
     let last = trace(alloc, 1, 0x22)?;
     on_small(
         alloc,
-        &mut |file: &[u8], volume: &mut Overlay| {
+        &mut |file: &[u8], volume: &mut Overlay<u32>| {
             let (first, last) = (first.as_slice(), last.as_slice());
-            insert(alloc, volume, 1, first)?;
-            insert(alloc, volume, 4, last)?;
+            insert(alloc, volume, 1, first, 11)?;
+            insert(alloc, volume, 4, last, 22)?;
+            expect_payloads(&rt, volume, &[11, 1, 2, 22]);
             let headers = part(file, 0, 3600);
             let traces = part(file, 3600, 4088);
             expect_saved(&rt, alloc, volume, &[headers, first, traces, last])?;
-            delete(volume, 2)?;
+            assert_eq!(rt; delete(volume, 2)?, 1);
+            expect_payloads(&rt, volume, &[11, 2, 22]);
             let traces = part(file, 3844, 4088);
             expect_saved(&rt, alloc, volume, &[headers, first, traces, last])
         },
@@ -511,15 +614,16 @@ fn moves_traces(rt: HostRuntime) -> Result<(), Fail> {
     let new = trace(alloc, 3, 0x11)?;
     on_small(
         alloc,
-        &mut |file: &[u8], volume: &mut Overlay| {
+        &mut |file: &[u8], volume: &mut Overlay<u32>| {
             let new = new.as_slice();
-            insert(alloc, volume, 3, new)?;
+            insert(alloc, volume, 3, new, 3)?;
             let headers = part(file, 0, 3600);
             let first = part(file, 3600, 3844);
             let second = part(file, 3844, 4088);
             move_to(alloc, volume, 3, 1)?;
             expect_saved(&rt, alloc, volume, &[headers, new, first, second])?;
             move_to(alloc, volume, 2, 3)?;
+            expect_payloads(&rt, volume, &[3, 2, 1]);
             expect_saved(&rt, alloc, volume, &[headers, new, second, first])
         },
     )
@@ -532,11 +636,12 @@ fn replaces_a_trace(rt: HostRuntime) -> Result<(), Fail> {
     let longer = trace(alloc, 5, 0x33)?;
     on_small(
         alloc,
-        &mut |file: &[u8], volume: &mut Overlay| {
+        &mut |file: &[u8], volume: &mut Overlay<u32>| {
             let longer = longer.as_slice();
             put(alloc, volume, 1, 0, &[8])?;
-            replace(alloc, volume, 1, longer)?;
+            replace(alloc, volume, 1, longer, 33)?;
             expect_trace(&rt, volume, 1, longer);
+            expect_payloads(&rt, volume, &[33, 2]);
             put(alloc, volume, 1, 249, &[9])?;
             let headers = part(file, 0, 3600);
             let changed = part(longer, 0, 249);
@@ -547,17 +652,17 @@ fn replaces_a_trace(rt: HostRuntime) -> Result<(), Fail> {
 }
 
 // Inserts the trace so often in front of the first.
-fn insert_many(alloc: Global, volume: &mut Overlay, times: u32, new: &[u8]) -> Result<(), Fail> {
+fn insert_many(alloc: Global, volume: &mut Overlay<u32>, times: u32, new: &[u8]) -> Result<(), Fail> {
     for _ in 0..times {
-        insert(alloc, volume, 1, new)?;
+        insert(alloc, volume, 1, new, 0)?;
     }
     Ok(())
 }
 
 // Deletes the first trace so often.
-fn delete_many(volume: &mut Overlay, times: u32) -> Result<(), Fail> {
+fn delete_many(volume: &mut Overlay<u32>, times: u32) -> Result<(), Fail> {
     for _ in 0..times {
-        delete(volume, 1)?;
+        let _ = delete(volume, 1)?;
     }
     Ok(())
 }
@@ -568,11 +673,12 @@ fn is_as_loaded_after_many_inserts_and_deletes(rt: HostRuntime) -> Result<(), Fa
     let new = trace(alloc, 2, 0x44)?;
     on_small(
         alloc,
-        &mut |file: &[u8], volume: &mut Overlay| {
+        &mut |file: &[u8], volume: &mut Overlay<u32>| {
             insert_many(alloc, volume, 1200, new.as_slice())?;
             assert_eq!(rt; volume.count(), 1202);
             expect_trace(&rt, volume, 1201, part(file, 3600, 3844));
             delete_many(volume, 1200)?;
+            expect_payloads(&rt, volume, &[1, 2]);
             expect_saved(&rt, alloc, volume, &[file])
         },
     )

@@ -1,12 +1,15 @@
 //! Tests of one volume through the public calls of its crates: how a file is cut, one trace, the
-//! records of traces, the volume under edits, its reports and slices; over small files that are
-//! made by hand. They stand in a crate of their own, since a crate with tests is proved twice.
+//! records of traces and their table, the volume under edits, its reports, faults and slices; over
+//! small files that are made by hand. They stand in a crate of their own, since a crate with tests
+//! is proved twice.
 #![tactic(auto)]
 
 #[cfg(test)]
 mod cut_tests;
 #[cfg(test)]
 mod edit_tests;
+#[cfg(test)]
+mod fault_tests;
 #[cfg(test)]
 mod files;
 #[cfg(test)]
@@ -23,6 +26,10 @@ mod puts;
 mod record_tests;
 #[cfg(test)]
 mod slice_tests;
+#[cfg(test)]
+mod table_tests;
+#[cfg(test)]
+mod tables;
 #[cfg(test)]
 mod view_tests;
 #[cfg(test)]

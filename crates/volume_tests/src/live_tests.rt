@@ -1,18 +1,21 @@
 // Two traces of a small survey, and a third one that is exchanged for one of them or comes beside
-// them; what is told then is worked by hand. A test makes its reports and lends them to functions
-// that change them and look at them: the check of a function that owns reports takes the longer the
-// more it does.
+// them; what is told then is worked by hand. A test makes the tables of the records as they are
+// before and after, and lends them to functions that have reports counted: the check of a function
+// that owns tables or reports takes the longer the more it does.
 ghost use Rattle.std.specs.Prelude.{◌≡◌, ◌∷◌, [], length, IfOk, OnOk};
+ghost use Rattle.live_reports.specs.OfRecords.{AreReportsOf};
 
+use crate::tables::table_of;
 use fault_live::{Fault, HeadFacts};
 use key_counts::Ratio;
-use live_reports::LiveReports;
+use live_reports::{LiveReports, same_cells};
 use range_stats::Quantity;
+use record_table::Records;
 use std::alloc::Global;
 use std::process::Abort;
 use std::test::Fail;
-use record_table::Records;
 use trace_record::Record;
+use trace_store::Column;
 
 // A trace with two samples at this crossline of inline 10.
 #[tactic(auto, unfolding(trace_record::specs::Parts::IsPackable))]
@@ -63,103 +66,127 @@ fn deep_trace() -> Record
 }
 
 // The reports of two traces.
-fn pair(alloc: Global, first: &Record, second: &Record) -> Result<LiveReports, Fail>
+fn pair(
+    alloc: Global,
+    records: &Records,
+    first: &Record,
+    second: &Record,
+) -> Result<LiveReports, Fail>
+    requires pair { records.now ≡ first.now ∷ second.now ∷ [] }
     requires first { first.now.number ≡ 2 }
     requires second { second.now.number ≡ 2 }
-    ensures { IfOk result (λ reports. reports ≡ first.now ∷ second.now ∷ []) }
+    ensures { IfOk result (λ reports. AreReportsOf reports records.now) }
 {
-    let list = Records::from_slice(alloc, &[*first, *second])?;
-    Ok(LiveReports::from_records(alloc, list)?)
+    Ok(LiveReports::from_records(alloc, records)?)
 }
 
 // Another trace stands in for the second of two.
 fn exchange_second(
     reports: &mut LiveReports,
+    records: &Records,
     first: &Record,
     second: &Record,
     new: &Record,
 ) -> Result<(), Fail>
-    requires pair { reports.old ≡ first.now ∷ second.now ∷ [] }
+    requires counted { AreReportsOf reports.old records.now }
+    requires pair { records.now ≡ first.now ∷ second.now ∷ [] }
     requires first { first.now.number ≡ 2 }
     requires new { new.now.number ≡ 2 }
-    ensures { OnOk result (reports.new ≡ first.now ∷ new.now ∷ []) }
+    ensures { OnOk result (AreReportsOf reports.new (first.now ∷ new.now ∷ [])) }
 {
-    reports.exchange(1, new)?;
+    reports.exchange(records, 1, new)?;
     Ok(())
 }
 
 // Others stand in for both of two traces at once.
 fn exchange_both(
     reports: &mut LiveReports,
+    records: &Records,
     first: &Record,
     second: &Record,
     new_first: &Record,
     new_second: &Record,
 ) -> Result<(), Fail>
-    requires pair { reports.old ≡ first.now ∷ second.now ∷ [] }
+    requires counted { AreReportsOf reports.old records.now }
+    requires pair { records.now ≡ first.now ∷ second.now ∷ [] }
     requires new_first { new_first.now.number ≡ 2 }
     requires new_second { new_second.now.number ≡ 2 }
-    ensures { OnOk result (reports.new ≡ new_first.now ∷ new_second.now ∷ []) }
+    ensures { OnOk result (AreReportsOf reports.new (new_first.now ∷ new_second.now ∷ [])) }
 {
-    reports.exchange_each(0, &[*new_first, *new_second])?;
+    reports.exchange_each(records, 0, &[*new_first, *new_second])?;
     Ok(())
 }
 
 // No trace stands in for none, and then one for the second of two.
 fn exchange_behind(
     reports: &mut LiveReports,
+    records: &Records,
     first: &Record,
     second: &Record,
     new: &Record,
 ) -> Result<(), Fail>
-    requires pair { reports.old ≡ first.now ∷ second.now ∷ [] }
+    requires counted { AreReportsOf reports.old records.now }
+    requires pair { records.now ≡ first.now ∷ second.now ∷ [] }
     requires first { first.now.number ≡ 2 }
     requires second { second.now.number ≡ 2 }
     requires new { new.now.number ≡ 2 }
-    ensures { OnOk result (reports.new ≡ first.now ∷ new.now ∷ []) }
+    ensures { OnOk result (AreReportsOf reports.new (first.now ∷ new.now ∷ [])) }
 {
-    reports.exchange_each(1, &[])?;
-    reports.exchange_each(2, &[])?;
-    reports.exchange_each(1, &[*new])?;
+    reports.exchange_each(records, 1, &[])?;
+    reports.exchange_each(records, 2, &[])?;
+    reports.exchange_each(records, 1, &[*new])?;
     Ok(())
 }
 
 // A third trace comes between two.
 fn insert_between(
-    alloc: Global,
     reports: &mut LiveReports,
+    records: &Records,
     first: &Record,
     second: &Record,
     new: &Record,
 ) -> Result<(), Fail>
-    requires pair { reports.old ≡ first.now ∷ second.now ∷ [] }
+    requires counted { AreReportsOf reports.old records.now }
+    requires pair { records.now ≡ first.now ∷ second.now ∷ [] }
     requires first { first.now.number ≡ 2 }
     requires second { second.now.number ≡ 2 }
     requires new { new.now.number ≡ 2 }
+    ensures { OnOk result (AreReportsOf reports.new (first.now ∷ new.now ∷ second.now ∷ [])) }
 {
-    reports.insert(alloc, 1, new)?;
+    reports.insert(records, 1, new)?;
     Ok(())
 }
 
-// Two traces change places, and the one that was the first goes.
-fn leave_second_alone(alloc: Global, reports: &mut LiveReports) -> Result<(), Fail>
-    requires { length reports.old ≡ 2 }
+// A third trace comes between two, and is then taken back.
+fn insert_and_take_back(
+    reports: &mut LiveReports,
+    records: &Records,
+    first: &Record,
+    second: &Record,
+    new: &Record,
+) -> Result<(), Fail>
+    requires counted { AreReportsOf reports.old records.now }
+    requires pair { records.now ≡ first.now ∷ second.now ∷ [] }
+    requires first { first.now.number ≡ 2 }
+    requires second { second.now.number ≡ 2 }
+    requires new { new.now.number ≡ 2 }
+    ensures { OnOk result (AreReportsOf reports.new records.now) }
 {
-    reports.move_to(alloc, 0, 1)?;
-    let _ = reports.remove(1);
+    reports.insert(records, 1, new)?;
+    reports.take_back(records, 1, new);
     Ok(())
 }
 
-// Whether the record at the place has this sequence number.
-fn stands_at(reports: &LiveReports, place: usize, sequence: i32) -> bool {
-    match reports.get(place) {
-        Some(record) => record.sequence == sequence,
-        None => false,
-    }
+// The first of two traces goes.
+fn leave_second_alone(reports: &mut LiveReports, records: &Records)
+    requires counted { AreReportsOf reports.old records.now }
+    requires two { length records.now ≡ 2 }
+{
+    reports.remove(records, 0);
 }
 
 // The faults of the records in a file of revision 1.0.
-fn faults_of(alloc: Global, reports: &LiveReports) -> Result<Vec<Fault>, Fail> {
+fn faults_of(alloc: Global, reports: &LiveReports, records: &Records) -> Result<Vec<Fault>, Fail> {
     let head = HeadFacts {
         trace_count: 0,
         lines: 0,
@@ -167,13 +194,15 @@ fn faults_of(alloc: Global, reports: &LiveReports) -> Result<Vec<Fault>, Fail> {
         major: 1,
         minor: 0,
     };
-    let records = reports.records();
+    if records.len() > 3 {
+        return Err(Fail::from("too many records"));
+    }
     Ok(reports.triples().report(alloc, records, &head)?)
 }
 
 // How many faults there are, where the first of them, if any, is a repeat of trace 1 at trace 2.
-fn repeats_of(alloc: Global, reports: &LiveReports) -> Result<usize, Fail> {
-    let faults = faults_of(alloc, reports)?;
+fn repeats_of(alloc: Global, reports: &LiveReports, records: &Records) -> Result<usize, Fail> {
+    let faults = faults_of(alloc, reports, records)?;
     match faults.first() {
         Some(Fault::Repeated(2, 1)) => Ok(faults.len()),
         Some(_) => Ok(99),
@@ -196,11 +225,15 @@ fn ranges_over(reports: &LiveReports, least: Ratio, greatest: Ratio) -> bool {
     }
 }
 
-fn tells_of_two(rt: &impl Abort, alloc: Global, reports: &LiveReports) -> Result<(), Fail> {
-    assert_eq!(rt; repeats_of(alloc, reports)?, 0);
+fn tells_of_two(
+    rt: &impl Abort,
+    alloc: Global,
+    reports: &LiveReports,
+    records: &Records,
+) -> Result<(), Fail> {
+    assert_eq!(rt; repeats_of(alloc, reports, records)?, 0);
     assert!(rt; tells(reports, 1, -2, 4));
     assert!(rt; ranges_over(reports, Ratio::whole(1000), Ratio::whole(2000)));
-    assert!(rt; stands_at(reports, 1, 2));
     Ok(())
 }
 
@@ -208,12 +241,12 @@ fn tells_of_a_repeat(
     rt: &impl Abort,
     alloc: Global,
     reports: &LiveReports,
+    records: &Records,
     greatest: Ratio,
 ) -> Result<(), Fail> {
-    assert_eq!(rt; repeats_of(alloc, reports)?, 1);
+    assert_eq!(rt; repeats_of(alloc, reports, records)?, 1);
     assert!(rt; tells(reports, 2, -4, 4));
     assert!(rt; ranges_over(reports, Ratio::scaled(5, -2), greatest));
-    assert!(rt; stands_at(reports, 0, 1) && stands_at(reports, 1, 2));
     Ok(())
 }
 
@@ -221,24 +254,59 @@ fn tells_of_another_second(
     rt: &impl Abort,
     alloc: Global,
     reports: &LiveReports,
+    records: &Records,
 ) -> Result<(), Fail> {
-    assert_eq!(rt; repeats_of(alloc, reports)?, 0);
+    assert_eq!(rt; repeats_of(alloc, reports, records)?, 0);
     assert!(rt; tells(reports, 1, -2, 4));
     assert_eq!(rt; reports.grid().fold(10, 22), 0);
     assert_eq!(rt; reports.grid().fold(10, 23), 1);
     assert!(rt; ranges_over(reports, Ratio::whole(500), Ratio::whole(1000)));
-    assert!(rt; stands_at(reports, 0, 1) && stands_at(reports, 1, 2));
     Ok(())
 }
 
-fn tells_the_cells_of_two(rt: &impl Abort, reports: &LiveReports, moved: Record, second: Record)
-    requires { length reports.now ≡ 2 }
+// The cells of two records, compared with those of others.
+fn has_the_cells(rt: &impl Abort, records: &Records, moved: Record, second: Record)
+    requires { length records.now ≡ 2 }
 {
-    assert!(rt; reports.same_cells(0, &[moved, second]));
-    assert!(rt; reports.same_cells(0, &[deep_trace()]));
-    assert!(rt; reports.same_cells(2, &[]));
-    assert!(rt; !reports.same_cells(0, &[moved, deep_trace()]));
-    assert!(rt; !reports.same_cells(1, &[moved]));
+    assert!(rt; same_cells(records, 0, &[moved, second]));
+    assert!(rt; same_cells(records, 0, &[deep_trace()]));
+    assert!(rt; same_cells(records, 2, &[]));
+    assert!(rt; !same_cells(records, 0, &[moved, deep_trace()]));
+    assert!(rt; !same_cells(records, 1, &[moved]));
+}
+
+#[test]
+fn compares_cells(rt: HostRuntime) -> Result<(), Fail> {
+    let second = trace_at(2, 22, 200000);
+    let table = table_of(rt.alloc(), &[trace_at(1, 21, 100000), second])?;
+    let records = Records::new(Column::new(&table));
+    if records.len() != 2 {
+        return Err(Fail::from("not two records"));
+    }
+    has_the_cells(&rt, &records, trace_at(3, 21, 300000), second);
+    Ok(())
+}
+
+// A trace stands in for the second of two, so that it repeats the first.
+fn exchanges_one(
+    rt: &impl Abort,
+    alloc: Global,
+    old: &Records,
+    new: &Records,
+    first: &Record,
+    second: &Record,
+    deep: &Record,
+) -> Result<(), Fail>
+    requires old { old.now ≡ first.now ∷ second.now ∷ [] }
+    requires new { new.now ≡ first.now ∷ deep.now ∷ [] }
+    requires first { first.now.number ≡ 2 }
+    requires second { second.now.number ≡ 2 }
+    requires deep { deep.now.number ≡ 2 }
+{
+    let mut reports = pair(alloc, old, first, second)?;
+    tells_of_two(rt, alloc, &reports, old)?;
+    exchange_second(&mut reports, old, first, second, deep)?;
+    tells_of_a_repeat(rt, alloc, &reports, new, Ratio::whole(1000))
 }
 
 #[test]
@@ -246,11 +314,57 @@ fn another_trace_stands_in(rt: HostRuntime) -> Result<(), Fail> {
     let alloc = rt.alloc();
     let first = trace_at(1, 21, 100000);
     let second = trace_at(2, 22, 200000);
-    let mut reports = pair(alloc, &first, &second)?;
-    tells_of_two(&rt, alloc, &reports)?;
-    tells_the_cells_of_two(&rt, &reports, trace_at(3, 21, 300000), second);
-    exchange_second(&mut reports, &first, &second, &deep_trace())?;
-    tells_of_a_repeat(&rt, alloc, &reports, Ratio::whole(1000))
+    let deep = deep_trace();
+    let old = table_of(alloc, &[first, second])?;
+    let new = table_of(alloc, &[first, deep])?;
+    let old = Records::new(Column::new(&old));
+    let new = Records::new(Column::new(&new));
+    exchanges_one(&rt, alloc, &old, &new, &first, &second, &deep)
+}
+
+// A trace stands in for the second of two, so that nothing is repeated.
+fn exchanges_behind(
+    rt: &impl Abort,
+    alloc: Global,
+    old: &Records,
+    new: &Records,
+    first: &Record,
+    second: &Record,
+    third: &Record,
+) -> Result<LiveReports, Fail>
+    requires old { old.now ≡ first.now ∷ second.now ∷ [] }
+    requires new { new.now ≡ first.now ∷ third.now ∷ [] }
+    requires first { first.now.number ≡ 2 }
+    requires second { second.now.number ≡ 2 }
+    requires third { third.now.number ≡ 2 }
+    ensures { IfOk result (λ reports. AreReportsOf reports new.now) }
+{
+    let mut reports = pair(alloc, old, first, second)?;
+    insert_and_take_back(&mut reports, old, first, second, third)?;
+    exchange_behind(&mut reports, old, first, second, third)?;
+    tells_of_another_second(rt, alloc, &reports, new)?;
+    Ok(reports)
+}
+
+// Others stand in for both of two traces, so that the second repeats the first.
+fn exchanges_two(
+    rt: &impl Abort,
+    alloc: Global,
+    reports: &mut LiveReports,
+    old: &Records,
+    new: &Records,
+    first: &Record,
+    third: &Record,
+    moved: &Record,
+    deep: &Record,
+) -> Result<(), Fail>
+    requires counted { AreReportsOf reports.old old.now }
+    requires old { old.now ≡ first.now ∷ third.now ∷ [] }
+    requires moved { moved.now.number ≡ 2 }
+    requires deep { deep.now.number ≡ 2 }
+{
+    exchange_both(reports, old, first, third, moved, deep)?;
+    tells_of_a_repeat(rt, alloc, reports, new, Ratio::whole(3000))
 }
 
 #[test]
@@ -259,18 +373,36 @@ fn other_traces_stand_in(rt: HostRuntime) -> Result<(), Fail> {
     let first = trace_at(1, 21, 100000);
     let second = trace_at(2, 22, 200000);
     let third = trace_at(2, 23, 50000);
-    let mut reports = pair(alloc, &first, &second)?;
-    exchange_behind(&mut reports, &first, &second, &third)?;
-    tells_of_another_second(&rt, alloc, &reports)?;
-    let moved = trace_at(1, 21, 300000);
-    exchange_both(&mut reports, &first, &third, &moved, &deep_trace())?;
-    tells_of_a_repeat(&rt, alloc, &reports, Ratio::whole(3000))
+    let (moved, deep) = (trace_at(1, 21, 300000), deep_trace());
+    let loaded = table_of(alloc, &[first, second])?;
+    let changed = table_of(alloc, &[first, third])?;
+    let last = table_of(alloc, &[moved, deep])?;
+    let old = Records::new(Column::new(&loaded));
+    let new = Records::new(Column::new(&changed));
+    let mut reports = exchanges_behind(&rt, alloc, &old, &new, &first, &second, &third)?;
+    let last = Records::new(Column::new(&last));
+    exchanges_two(&rt, alloc, &mut reports, &new, &last, &first, &third, &moved, &deep)
 }
 
-fn tells_of_three(rt: &impl Abort, alloc: Global, reports: &LiveReports) -> Result<(), Fail> {
-    assert_eq!(rt; repeats_of(alloc, reports)?, 1);
-    assert!(rt; tells(reports, 2, -5, 6));
-    assert!(rt; stands_at(reports, 2, 3));
+// A third trace comes between two, so that it repeats the first.
+fn inserts_one(
+    rt: &impl Abort,
+    alloc: Global,
+    old: &Records,
+    new: &Records,
+    first: &Record,
+    second: &Record,
+    deep: &Record,
+) -> Result<(), Fail>
+    requires old { old.now ≡ first.now ∷ second.now ∷ [] }
+    requires first { first.now.number ≡ 2 }
+    requires second { second.now.number ≡ 2 }
+    requires deep { deep.now.number ≡ 2 }
+{
+    let mut reports = pair(alloc, old, first, second)?;
+    insert_between(&mut reports, old, first, second, deep)?;
+    assert_eq!(rt; repeats_of(alloc, &reports, new)?, 1);
+    assert!(rt; tells(&reports, 2, -5, 6));
     Ok(())
 }
 
@@ -279,23 +411,42 @@ fn a_trace_comes_between(rt: HostRuntime) -> Result<(), Fail> {
     let alloc = rt.alloc();
     let first = trace_at(1, 21, 100000);
     let second = trace_at(3, 22, 200000);
-    let mut reports = pair(alloc, &first, &second)?;
-    insert_between(alloc, &mut reports, &first, &second, &deep_trace())?;
-    tells_of_three(&rt, alloc, &reports)
+    let deep = deep_trace();
+    let old = table_of(alloc, &[first, second])?;
+    let new = table_of(alloc, &[first, deep, second])?;
+    let old = Records::new(Column::new(&old));
+    let new = Records::new(Column::new(&new));
+    inserts_one(&rt, alloc, &old, &new, &first, &second, &deep)
 }
 
-fn tells_of_the_second(rt: &impl Abort, alloc: Global, reports: &LiveReports) -> Result<(), Fail> {
-    assert_eq!(rt; repeats_of(alloc, reports)?, 0);
-    assert!(rt; tells(reports, 0, -1, 2));
-    assert!(rt; stands_at(reports, 0, 1));
+// The first of two traces goes.
+fn removes_one(
+    rt: &impl Abort,
+    alloc: Global,
+    old: &Records,
+    new: &Records,
+    first: &Record,
+    second: &Record,
+) -> Result<(), Fail>
+    requires old { old.now ≡ first.now ∷ second.now ∷ [] }
+    requires first { first.now.number ≡ 2 }
+    requires second { second.now.number ≡ 2 }
+{
+    let mut reports = pair(alloc, old, first, second)?;
+    leave_second_alone(&mut reports, old);
+    assert_eq!(rt; repeats_of(alloc, &reports, new)?, 0);
+    assert!(rt; tells(&reports, 0, -1, 2));
     Ok(())
 }
 
 #[test]
-fn a_trace_moves_and_goes(rt: HostRuntime) -> Result<(), Fail> {
+fn a_trace_goes(rt: HostRuntime) -> Result<(), Fail> {
     let alloc = rt.alloc();
+    let first = deep_trace();
     let second = trace_at(1, 22, 200000);
-    let mut reports = pair(alloc, &deep_trace(), &second)?;
-    leave_second_alone(alloc, &mut reports)?;
-    tells_of_the_second(&rt, alloc, &reports)
+    let old = table_of(alloc, &[first, second])?;
+    let new = table_of(alloc, &[second])?;
+    let old = Records::new(Column::new(&old));
+    let new = Records::new(Column::new(&new));
+    removes_one(&rt, alloc, &old, &new, &first, &second)
 }

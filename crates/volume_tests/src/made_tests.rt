@@ -1,20 +1,19 @@
 // The records of a small volume, with an edit prepared, and of a trace that no volume holds, with
 // values worked by hand.
-ghost use Rattle.std.specs.Prelude.{◌≡◌};
-ghost use Rattle.volume_records.specs.OfVolume.{IsOfFile};
+ghost use Rattle.std.specs.Prelude.{◌≡◌, IfOk};
 
 use crate::files::three_traces;
 use crate::heads::plain_head;
 use crate::puts::{is_trace, may_put};
-use edit_overlay::Overlay;
+use edit_overlay::{Loading, Overlay};
 use field_map::FieldMap;
 use frame_cut::{Limits, Reading};
-use live_reports::LiveReports;
+use record_table::Records;
 use std::alloc::Global;
 use std::test::Fail;
-use trace_record::Record;
+use trace_record::{PackedRecord, Record};
 use volume_records::{
-    prepared_headers, prepared_record, prepared_records, record_of_bytes, reports,
+    prepared_headers, prepared_record, prepared_records, record_of_bytes, with_records,
 };
 
 // Whether the record has this inline, and so many samples with this sum.
@@ -22,15 +21,15 @@ fn says(record: &Record, inline: i32, number: u32, sum: i128) -> bool {
     record.inline == inline && record.number == number && record.sum == sum
 }
 
-fn says_at(reports: &LiveReports, place: usize, inline: i32, number: u32, sum: i128) -> bool {
-    match reports.get(place) {
+fn says_at(records: &Records, place: usize, inline: i32, number: u32, sum: i128) -> bool {
+    match records.get(place) {
         Some(record) => says(&record, inline, number, sum),
         None => false,
     }
 }
 
-// Whether the reports are of the three traces.
-fn are_of_three(made: &LiveReports) -> bool {
+// Whether the records are those of the three traces.
+fn are_of_three(made: &Records) -> bool {
     says_at(made, 0, 10, 2, 12)
         && says_at(made, 1, 20, 1, 6)
         && says_at(made, 2, 30, 2, 262)
@@ -40,7 +39,7 @@ fn are_of_three(made: &LiveReports) -> bool {
 // The record of trace p with the bytes laid over it, and that of its headers with other samples.
 fn prepared(
     alloc: Global,
-    volume: &mut Overlay,
+    volume: &mut Overlay<PackedRecord>,
     fields: &FieldMap,
     p: u32,
     at: u64,
@@ -62,17 +61,13 @@ fn prepared(
 // records that are held.
 fn prepared_two(
     alloc: Global,
-    volume: &mut Overlay,
+    volume: &mut Overlay<PackedRecord>,
     fields: &FieldMap,
-    held: &LiveReports,
     at: u64,
     bytes: &[u8; 4],
 ) -> Result<Vec<Record>, Fail>
     requires { fields.now.extensions ≡ volume.old.volume.head.extensions }
 {
-    if held.records().len() < 3 {
-        return Err(Fail::from("no three records"));
-    }
     if !may_put(volume, 2, at, &bytes[..2]) {
         return Err(Fail::from("no place for the bytes"));
     }
@@ -80,23 +75,37 @@ fn prepared_two(
         return Err(Fail::from("no place for the bytes"));
     }
     volume.prepare_put_each(alloc, 2, at, 2, bytes)?;
-    Ok(prepared_records(alloc, volume, fields, held, 2, 2)?)
+    Ok(prepared_records(alloc, volume, fields, 2, 2)?)
 }
 
-// Whether the reports are told of all three traces, and the records of two, after a look at each of
-// the three for the reports, one at each of the two for their length, and one for its record.
-fn tells_two(alloc: Global, volume: &mut Overlay, fields: &FieldMap) -> Result<bool, Fail>
-    requires file { IsOfFile volume.old.volume }
-    requires fields { fields.now.extensions ≡ volume.old.volume.head.extensions }
+// The small volume beside whose traces their records stand, under the map at a load, and this map.
+fn small(alloc: Global) -> Result<(Overlay<PackedRecord>, FieldMap), Fail>
+    ensures { IfOk result (λ made. made.1.extensions ≡ made.0.volume.head.extensions) }
 {
-    let before = volume.looks();
-    let held = reports(alloc, volume, fields)?;
-    let two = prepared_two(alloc, volume, fields, &held, 190, &[1, 4, 2, 5])?;
+    let limits = Limits::new(4330, 3).ok_or("limits")?;
+    let file = three_traces(alloc)?;
+    let loading = Loading::from_bytes(alloc, file, Reading::AsWritten, limits)?;
+    let fields = FieldMap::standard(alloc, loading.head().extensions)?;
+    let (volume, _) = with_records(alloc, loading, &fields)?;
+    Ok((volume, fields))
+}
+
+// Whether the records of all three traces stand there, and those of two are told, after a look at
+// each of the three for the former, one at each of the two for their length, and one for its record.
+fn tells_two(
+    alloc: Global,
+    volume: &mut Overlay<PackedRecord>,
+    fields: &FieldMap,
+) -> Result<bool, Fail>
+    requires { fields.now.extensions ≡ volume.old.volume.head.extensions }
+{
+    let two = prepared_two(alloc, volume, fields, 190, &[1, 4, 2, 5])?;
     let is_told = match two.as_slice() {
         [second, third] => says(second, 260, 1, 6) && says(third, 517, 2, 262),
         _ => false,
     };
-    Ok(are_of_three(&held) && is_told && volume.looks().checked_sub(before) == Some(7))
+    let held = Records::new(volume.payloads());
+    Ok(are_of_three(&held) && is_told && volume.looks() == 7)
 }
 
 // The record of a trace in memory at inline 40, with two samples, 65 and 1.
@@ -129,10 +138,7 @@ fn other_record(alloc: Global) -> Result<Record, Fail> {
 #[test]
 fn makes_the_records_of_a_volume(rt: HostRuntime) -> Result<(), Fail> {
     let alloc = rt.alloc();
-    let limits = Limits::new(4330, 3).ok_or("limits")?;
-    let file = three_traces(alloc)?;
-    let mut volume = Overlay::from_bytes(alloc, file, Reading::AsWritten, limits)?;
-    let fields = FieldMap::standard(alloc, volume.head().extensions)?;
+    let (mut volume, fields) = small(alloc)?;
     assert!(rt; tells_two(alloc, &mut volume, &fields)?);
     Ok(())
 }
@@ -140,10 +146,7 @@ fn makes_the_records_of_a_volume(rt: HostRuntime) -> Result<(), Fail> {
 #[test]
 fn makes_prepared_records(rt: HostRuntime) -> Result<(), Fail> {
     let alloc = rt.alloc();
-    let limits = Limits::new(4330, 3).ok_or("limits")?;
-    let file = three_traces(alloc)?;
-    let mut volume = Overlay::from_bytes(alloc, file, Reading::AsWritten, limits)?;
-    let fields = FieldMap::standard(alloc, volume.head().extensions)?;
+    let (mut volume, fields) = small(alloc)?;
     let other = other_record(alloc)?;
     let (record, headers) = prepared(alloc, &mut volume, &fields, 2, 190, &[1, 4], &other)?;
     assert!(rt; says(&record, 260, 1, 6) && says(&headers, 260, 2, 66));

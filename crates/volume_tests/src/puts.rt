@@ -20,7 +20,7 @@ pub(crate) fn is_trace(head: &Head, bytes: &[u8]) -> bool
 }
 
 // Whether trace p is as long as its headers say with the bytes laid over it.
-pub(crate) fn may_put(volume: &mut Overlay, p: u32, at: u64, bytes: &[u8]) -> bool
+pub(crate) fn may_put<T: Copy>(volume: &mut Overlay<T>, p: u32, at: u64, bytes: &[u8]) -> bool
     ensures volume { volume.new.volume ≡ volume.old.volume }
     ensures inside { IsTrue result → at + length bytes.now ≤ length (trace_at volume.old.volume p) }
     ensures there { IsTrue result → IsTrue (has_trace volume.old.volume p) }
@@ -39,9 +39,9 @@ pub(crate) fn may_put(volume: &mut Overlay, p: u32, at: u64, bytes: &[u8]) -> bo
     view.changed_length(at, bytes) == Some(length)
 }
 
-pub(crate) fn put(
+pub(crate) fn put<T: Copy>(
     alloc: Global,
-    volume: &mut Overlay,
+    volume: &mut Overlay<T>,
     p: u32,
     at: u64,
     bytes: &[u8],

@@ -1,19 +1,20 @@
 // Slices of a small volume under edits, with values worked by hand. A test makes what it needs and
 // lends it: the check of a function that owns a volume takes the longer the more it does.
-ghost use Rattle.std.specs.Prelude.{◌≡◌, OnOk};
+ghost use Rattle.std.specs.Prelude.{◌≡◌, map, OnOk};
 ghost use Rattle.time_slice.specs.Cache.{AreRightOf};
+ghost use Rattle.trace_record.specs.Packed.{record_in};
 
 use crate::files::{three_traces, wide_trace};
 use crate::puts::put;
+use crate::tables::volume_of;
 use edit_overlay::Overlay;
-use frame_cut::{Limits, Reading};
+use frame_cut::Limits;
 use key_counts::Ratio;
 use std::alloc::Global;
 use std::process::Abort;
 use std::test::Fail;
 use time_slice::{Row, SliceCache, rows};
-use record_table::Records;
-use trace_record::Record;
+use trace_record::{PackedRecord, Record};
 
 #[tactic(auto, unfolding(trace_record::specs::Parts::IsPackable))]
 fn record_at(inline: i32, crossline: i32) -> Record {
@@ -45,39 +46,38 @@ fn row(inline: i32, crossline: i32, position: u32, value: i128) -> Row {
     }
 }
 
-// The records of traces at inlines 20, 10, 20 and crosslines 5, 7, 5.
-fn small_records(alloc: Global) -> Result<Records, Fail> {
-    let traces = [record_at(20, 5), record_at(10, 7), record_at(20, 5)];
-    Ok(Records::from_slice(alloc, &traces)?)
+fn packed_at(inline: i32, crossline: i32) -> PackedRecord {
+    PackedRecord::of(record_at(inline, crossline))
+}
+
+// Three traces at inlines 20, 10, 20 and crosslines 5, 7, 5.
+fn small_volume(alloc: Global) -> Result<Overlay<PackedRecord>, Fail> {
+    let limits = Limits::new(4330, 3).ok_or("limits")?;
+    let file = three_traces(alloc)?;
+    let records = [packed_at(20, 5), packed_at(10, 7), packed_at(20, 5)];
+    volume_of(alloc, file, limits, &records)
 }
 
 // Slice k of the cache, where each kept slice is right.
 fn ask(
     alloc: Global,
     cache: &mut SliceCache,
-    volume: &mut Overlay,
-    records: &Records,
+    volume: &mut Overlay<PackedRecord>,
     k: u32,
 ) -> Result<Vec<Row>, Fail>
-    requires { AreRightOf volume.old.volume.head records.now volume.old.volume.traces
-        cache.old.entries }
-    ensures { AreRightOf volume.new.volume.head records.now volume.new.volume.traces
-        cache.new.entries }
+    requires { AreRightOf volume.old.volume.head (map record_in volume.old.payloads)
+        volume.old.volume.traces cache.old.entries }
+    ensures { AreRightOf volume.new.volume.head (map record_in volume.new.payloads)
+        volume.new.volume.traces cache.new.entries }
 {
-    if records.len() != volume.count() as usize {
-        return Err(Fail::from("not a record for each trace"));
-    }
-    Ok(cache.slice(alloc, volume, records, k)?)
+    Ok(cache.slice(alloc, volume, k)?)
 }
 
 // Slice k as `rows` gives it.
-fn fresh(alloc: Global, volume: &mut Overlay, records: &Records, k: u32) -> Result<Vec<Row>, Fail>
+fn fresh(alloc: Global, volume: &mut Overlay<PackedRecord>, k: u32) -> Result<Vec<Row>, Fail>
     ensures { volume.new.volume ≡ volume.old.volume }
 {
-    if records.len() != volume.count() as usize {
-        return Err(Fail::from("not a record for each trace"));
-    }
-    Ok(rows(alloc, volume, records, k)?)
+    Ok(rows(alloc, volume, k)?)
 }
 
 // Asks for slices, each with how often traces are looked at, and asserts that they have the rows
@@ -86,20 +86,19 @@ fn expect_looks(
     rt: &impl Abort,
     alloc: Global,
     cache: &mut SliceCache,
-    volume: &mut Overlay,
-    records: &Records,
+    volume: &mut Overlay<PackedRecord>,
     asked: &[(u32, u64)],
 ) -> Result<(), Fail>
-    requires { AreRightOf volume.old.volume.head records.now volume.old.volume.traces
-        cache.old.entries }
-    ensures { OnOk result (AreRightOf volume.new.volume.head records.now volume.new.volume.traces
-        cache.new.entries) }
+    requires { AreRightOf volume.old.volume.head (map record_in volume.old.payloads)
+        volume.old.volume.traces cache.old.entries }
+    ensures { OnOk result (AreRightOf volume.new.volume.head (map record_in volume.new.payloads)
+        volume.new.volume.traces cache.new.entries) }
 {
     for (k, looks) in asked {
         let before = volume.looks();
-        let made = ask(alloc, cache, volume, records, *k)?;
+        let made = ask(alloc, cache, volume, *k)?;
         assert_eq!(rt; volume.looks().checked_sub(before), Some(*looks));
-        let fresh = fresh(alloc, volume, records, *k)?;
+        let fresh = fresh(alloc, volume, *k)?;
         assert!(rt; made == fresh);
     }
     Ok(())
@@ -110,29 +109,28 @@ fn expect_kept(
     rt: &impl Abort,
     alloc: Global,
     cache: &mut SliceCache,
-    volume: &mut Overlay,
-    records: &Records,
+    volume: &mut Overlay<PackedRecord>,
     k: u32,
     expected: &[Row],
 ) -> Result<(), Fail>
-    requires { AreRightOf volume.old.volume.head records.now volume.old.volume.traces
-        cache.old.entries }
+    requires { AreRightOf volume.old.volume.head (map record_in volume.old.payloads)
+        volume.old.volume.traces cache.old.entries }
 {
-    let made = ask(alloc, cache, volume, records, k)?;
+    let made = ask(alloc, cache, volume, k)?;
     assert!(rt; made.as_slice() == expected);
     let looks = volume.looks();
-    let kept = ask(alloc, cache, volume, records, k)?;
+    let kept = ask(alloc, cache, volume, k)?;
     assert!(rt; kept.as_slice() == expected);
     assert_eq!(rt; volume.looks(), looks);
     Ok(())
 }
 
 // Forgets, where each kept slice is right.
-fn forget(cache: &mut SliceCache, volume: &Overlay, records: &Records, k: u32, many: usize)
-    requires { AreRightOf volume.now.volume.head records.now volume.now.volume.traces
-        cache.old.entries }
-    ensures { AreRightOf volume.now.volume.head records.now volume.now.volume.traces
-        cache.new.entries }
+fn forget(cache: &mut SliceCache, volume: &Overlay<PackedRecord>, k: u32, many: usize)
+    requires { AreRightOf volume.now.volume.head (map record_in volume.now.payloads)
+        volume.now.volume.traces cache.old.entries }
+    ensures { AreRightOf volume.now.volume.head (map record_in volume.now.payloads)
+        volume.now.volume.traces cache.new.entries }
 {
     cache.forget(k, many);
 }
@@ -141,13 +139,12 @@ fn forget(cache: &mut SliceCache, volume: &Overlay, records: &Records, k: u32, m
 fn expect_rows(
     rt: &impl Abort,
     alloc: Global,
-    volume: &mut Overlay,
-    records: &Records,
+    volume: &mut Overlay<PackedRecord>,
     k: u32,
     expected: &[Row],
 ) -> Result<(), Fail> {
     let before = volume.looks();
-    let made = fresh(alloc, volume, records, k)?;
+    let made = fresh(alloc, volume, k)?;
     assert!(rt; made.as_slice() == expected);
     assert_eq!(rt; volume.looks().checked_sub(before), Some(3));
     Ok(())
@@ -158,27 +155,23 @@ fn expect_rows(
 fn makes_each(
     rt: &impl Abort,
     alloc: Global,
-    volume: &mut Overlay,
-    records: &Records,
+    volume: &mut Overlay<PackedRecord>,
 ) -> Result<(), Fail> {
     let loaded = [row(20, 5, 1, 7), row(20, 5, 3, 258)];
-    expect_rows(rt, alloc, volume, records, 1, &loaded)?;
+    expect_rows(rt, alloc, volume, 1, &loaded)?;
     put(alloc, volume, 1, 242, &[255, 249])?;
     let edited = [row(20, 5, 1, -7), row(20, 5, 3, 258)];
-    expect_rows(rt, alloc, volume, records, 1, &edited)?;
+    expect_rows(rt, alloc, volume, 1, &edited)?;
     let first = [row(10, 7, 2, 6), row(20, 5, 1, 5), row(20, 5, 3, 4)];
-    expect_rows(rt, alloc, volume, records, 0, &first)?;
-    expect_rows(rt, alloc, volume, records, 2, &[])
+    expect_rows(rt, alloc, volume, 0, &first)?;
+    expect_rows(rt, alloc, volume, 2, &[])
 }
 
 #[test]
 fn makes_rows(rt: HostRuntime) -> Result<(), Fail> {
     let alloc = rt.alloc();
-    let limits = Limits::new(4330, 3).ok_or("limits")?;
-    let file = three_traces(alloc)?;
-    let mut volume = Overlay::from_bytes(alloc, file, Reading::AsWritten, limits)?;
-    let records = small_records(alloc)?;
-    makes_each(&rt, alloc, &mut volume, &records)
+    let mut volume = small_volume(alloc)?;
+    makes_each(&rt, alloc, &mut volume)
 }
 
 // Of four slices three are kept, and one that is asked again comes first: no trace is looked at.
@@ -187,20 +180,19 @@ fn keeps_three(
     rt: &impl Abort,
     alloc: Global,
     cache: &mut SliceCache,
-    volume: &mut Overlay,
-    records: &Records,
+    volume: &mut Overlay<PackedRecord>,
 ) -> Result<(), Fail>
-    requires { AreRightOf volume.old.volume.head records.now volume.old.volume.traces
-        cache.old.entries }
-    ensures { OnOk result (AreRightOf volume.new.volume.head records.now volume.new.volume.traces
-        cache.new.entries) }
+    requires { AreRightOf volume.old.volume.head (map record_in volume.old.payloads)
+        volume.old.volume.traces cache.old.entries }
+    ensures { OnOk result (AreRightOf volume.new.volume.head (map record_in volume.new.payloads)
+        volume.new.volume.traces cache.new.entries) }
 {
     let asked = [(0, 3), (1, 3), (2, 3), (1, 0), (3, 3), (0, 3)];
-    expect_looks(rt, alloc, cache, volume, records, &asked)?;
+    expect_looks(rt, alloc, cache, volume, &asked)?;
     assert!(rt; cache.cached(0) && cache.cached(1) && cache.cached(3) && !cache.cached(2));
-    forget(cache, volume, records, 0, 1);
+    forget(cache, volume, 0, 1);
     volume.put_text(1, &[64; 80]);
-    expect_looks(rt, alloc, cache, volume, records, &[(1, 0), (3, 0), (0, 3)])
+    expect_looks(rt, alloc, cache, volume, &[(1, 0), (3, 0), (0, 3)])
 }
 
 // A sample below 0 comes back from what is kept. What was kept before the edit is forgotten.
@@ -208,25 +200,21 @@ fn keeps_a_negative_sample(
     rt: &impl Abort,
     alloc: Global,
     cache: &mut SliceCache,
-    volume: &mut Overlay,
-    records: &Records,
+    volume: &mut Overlay<PackedRecord>,
 ) -> Result<(), Fail> {
     put(alloc, volume, 1, 242, &[255, 249])?;
     cache.clear();
     let edited = [row(20, 5, 1, -7), row(20, 5, 3, 258)];
-    expect_kept(rt, alloc, cache, volume, records, 1, &edited)
+    expect_kept(rt, alloc, cache, volume, 1, &edited)
 }
 
 #[test]
 fn keeps_the_last_asked(rt: HostRuntime) -> Result<(), Fail> {
     let alloc = rt.alloc();
-    let limits = Limits::new(4330, 3).ok_or("limits")?;
-    let file = three_traces(alloc)?;
-    let mut volume = Overlay::from_bytes(alloc, file, Reading::AsWritten, limits)?;
-    let records = small_records(alloc)?;
+    let mut volume = small_volume(alloc)?;
     let mut cache = SliceCache::new(alloc, 3)?;
-    keeps_three(&rt, alloc, &mut cache, &mut volume, &records)?;
-    keeps_a_negative_sample(&rt, alloc, &mut cache, &mut volume, &records)
+    keeps_three(&rt, alloc, &mut cache, &mut volume)?;
+    keeps_a_negative_sample(&rt, alloc, &mut cache, &mut volume)
 }
 
 // The greatest sample of 64 bits comes back from what is kept.
@@ -235,9 +223,8 @@ fn keeps_the_greatest_sample(rt: HostRuntime) -> Result<(), Fail> {
     let alloc = rt.alloc();
     let limits = Limits::new(3848, 1).ok_or("limits")?;
     let file = wide_trace(alloc)?;
-    let mut volume = Overlay::from_bytes(alloc, file, Reading::AsWritten, limits)?;
-    let records = Records::from_slice(alloc, &[record_at(1, 2)])?;
+    let mut volume = volume_of(alloc, file, limits, &[packed_at(1, 2)])?;
     let mut cache = SliceCache::new(alloc, 1)?;
     let greatest = [row(1, 2, 1, 18446744073709551615)];
-    expect_kept(&rt, alloc, &mut cache, &mut volume, &records, 0, &greatest)
+    expect_kept(&rt, alloc, &mut cache, &mut volume, 0, &greatest)
 }

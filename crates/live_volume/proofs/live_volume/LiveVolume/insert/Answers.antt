@@ -60,13 +60,43 @@ invariant_of-self-in-Ok-insert c =
     }
 
 pub take_back-requires-clause-counted : goal.take_back-requires-clause-counted
-take_back-requires-clause-counted c = ?
+take_back-requires-clause-counted c =
+    let i = c.args.p - 1 in
+    let same : c.new.result ≡ records_in c.self.inside = c.new.ensures ∙ ap (λ (ps : List PackedRecord). map record_in ps) c.payloads.ensures in
+    let back : c.new-in-Err.result ≡ records_in c.self.inside =
+    c.new-in-Err.ensures
+    ∙ ap (λ (ps : List PackedRecord). map record_in ps) c.payloads-in-Err.ensures
+    ∙ ap (λ (o : CountedVolume PackedRecord). map record_in o.payloads) c.in-Err.ensures.err in
+    subst (λ (l : List Record). AreReportsOf c.insert.new.self (insert l i c.args.trace.now)) (same ∙ sym back) c.in-Ok.ensures.ok
 
 pub take_back-requires-clause-place : goal.take_back-requires-clause-place
-take_back-requires-clause-place c = ?
+take_back-requires-clause-place c =
+    let back : c.new-in-Err.result ≡ records_in c.self.inside =
+    c.new-in-Err.ensures
+    ∙ ap (λ (ps : List PackedRecord). map record_in ps) c.payloads-in-Err.ensures
+    ∙ ap (λ (o : CountedVolume PackedRecord). map record_in o.payloads) c.in-Err.ensures.err in
+    let many = length-records c.self.inside.overlay.volume c.self.inside.fields.pairs (records_in c.self.inside) c.self.invariant.records in
+    rw back (omega (arith, many, rw (← c.self.view_is) at c.requires.last))
 
 pub take_back-requires-clause-few : goal.take_back-requires-clause-few
-take_back-requires-clause-few c = ?
+take_back-requires-clause-few c =
+    let back : c.new-in-Err.result ≡ records_in c.self.inside =
+    c.new-in-Err.ensures
+    ∙ ap (λ (ps : List PackedRecord). map record_in ps) c.payloads-in-Err.ensures
+    ∙ ap (λ (o : CountedVolume PackedRecord). map record_in o.payloads) c.in-Err.ensures.err in
+    subst (λ (l : List Record). AreFew l) (sym back) c.self.invariant.reports.few
 
 pub invariant_of-self-in-Err : goal.invariant_of-self-in-Err
-invariant_of-self-in-Err c = ?
+invariant_of-self-in-Err c =
+    let v : Volume = c.self.inside.overlay.volume in
+    let fields : Pairs = c.self.inside.fields.pairs in
+    let is : c.insert-2.new.self.volume ≡ v = ap (λ (o : CountedVolume PackedRecord). o.volume) c.in-Err.ensures.err in
+    let stay : map record_in c.insert-2.new.self.payloads ≡ records_in c.self.inside = ap (λ (o : CountedVolume PackedRecord). map record_in o.payloads) c.in-Err.ensures.err in
+    let again : c.new-in-Err.result ≡ map record_in c.insert-2.new.self.payloads = c.new-in-Err.ensures ∙ ap (λ (ps : List PackedRecord). map record_in ps) c.payloads-in-Err.ensures in
+    record {
+      cut = subst (λ (u : Volume). IsCut (bytes_of u) c.self.inside.reading c.self.inside.limits u) (sym is) c.self.invariant.cut;
+      prepared = search rules;
+      extensions = c.self.invariant.extensions ∙ ap (λ (u : Volume). u.head.extensions) (sym is);
+      records = records_again v c.insert-2.new.self.volume fields (map record_in c.insert-2.new.self.payloads) is (ap (map facts_of) stay ∙ c.self.invariant.records);
+      reports = subst (λ (l : List Record). AreReportsOf c.take_back.new.self l) again c.take_back.ensures;
+    }

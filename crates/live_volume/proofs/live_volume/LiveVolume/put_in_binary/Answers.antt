@@ -1,4 +1,4 @@
-use Rattle.std.proofs.Common.{◌≡◌, ◌∙◌, refl, ap, sym, rules}
+use Rattle.std.proofs.Common.{◌≡◌, ◌∙◌, refl, ap, sym, rules, List, map, subst}
 use Rattle.std.proofs.lemmas.Int.{to_z-of_z}
 use Rattle.std.specs.Int.{w128}
 use mir.Val.{SFits}
@@ -9,6 +9,9 @@ use Rattle.bench_rules.specs.declared.field.Field.TheVariants as field
 use Rattle.bench_rules.specs.declared.edit.Edit.TheVariants.{SetBin}
 use Rattle.edit_overlay.specs.CountedVolume.{CountedVolume}
 use Rattle.trace_record.specs.declared.packed_record.PackedRecord.{PackedRecord}
+use Rattle.trace_record.specs.Facts.{facts_of}
+use Rattle.trace_record.specs.Packed.{record_in}
+use Rattle.live_reports.specs.OfRecords.{AreReportsOf}
 use Rattle.volume_records.specs.OfVolume.{records_of}
 use Rattle.live_volume.specs.Held.{state_of}
 use Rattle.bench_rules.proofs.HeaderEditLemmas.{bin_accepted, bin_done, bin_room, after_cut}
@@ -35,8 +38,8 @@ invariant_of-self c =
       cut = after_cut (state_of c.self.inside) (SetBin (field.Place c.args.place) c.args.value) c.put_head.new.self.volume done;
       prepared = search rules;
       extensions = c.self.invariant.extensions ∙ ap (λ (v : Volume). v.head.extensions) (sym (ap (λ (o : CountedVolume PackedRecord). o.volume) c.put_head.ensures));
-      records = c.self.invariant.records ∙ ap (λ (v : Volume). records_of v c.self.inside.fields.pairs) (sym (ap (λ (o : CountedVolume PackedRecord). o.volume) c.put_head.ensures));
-      reports = search rules;
+      records = ap (λ (o : CountedVolume PackedRecord). map facts_of (map record_in o.payloads)) c.put_head.ensures ∙ c.self.invariant.records ∙ ap (λ (v : Volume). records_of v c.self.inside.fields.pairs) (sym (ap (λ (o : CountedVolume PackedRecord). o.volume) c.put_head.ensures));
+      reports = subst (λ (ps : List PackedRecord). AreReportsOf c.self.inside.reports (map record_in ps)) (sym (ap (λ (o : CountedVolume PackedRecord). o.payloads) c.put_head.ensures)) c.self.invariant.reports;
     }
 
 pub returns-clause-after : goal.returns-clause-after

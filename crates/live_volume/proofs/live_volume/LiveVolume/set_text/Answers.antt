@@ -1,4 +1,4 @@
-use Rattle.std.proofs.Common.{◌≡◌, ◌∙◌, ap, sym, true, None}
+use Rattle.std.proofs.Common.{◌≡◌, ◌∙◌, ap, sym, true, None, rules, List, map, subst}
 use Rattle.std.specs.Str.{chars}
 use Rattle.text_block.specs.Blocks.{code_of}
 use Rattle.text_block.specs.Lines.{text_fault, encoded_line}
@@ -6,6 +6,9 @@ use Rattle.frame_cut.specs.Volume.{Volume}
 use Rattle.bench_rules.specs.declared.edit.Edit.TheVariants.{SetText}
 use Rattle.edit_overlay.specs.CountedVolume.{CountedVolume}
 use Rattle.trace_record.specs.declared.packed_record.PackedRecord.{PackedRecord}
+use Rattle.trace_record.specs.Facts.{facts_of}
+use Rattle.trace_record.specs.Packed.{record_in}
+use Rattle.live_reports.specs.OfRecords.{AreReportsOf}
 use Rattle.volume_records.specs.OfVolume.{records_of}
 use Rattle.live_volume.specs.Held.{state_of}
 use Rattle.bench_rules.specs.Refused.{is_line}
@@ -23,8 +26,8 @@ invariant_of-self c =
       cut = after_cut (state_of c.self.inside) (SetText c.args.q c.args.text.now) c.put_text.new.self.volume done;
       prepared = search rules;
       extensions = c.self.invariant.extensions ∙ ap (λ (v : Volume). v.head.extensions) (sym (ap (λ (o : CountedVolume PackedRecord). o.volume) c.put_text.ensures));
-      records = c.self.invariant.records ∙ ap (λ (v : Volume). records_of v c.self.inside.fields.pairs) (sym (ap (λ (o : CountedVolume PackedRecord). o.volume) c.put_text.ensures));
-      reports = search rules;
+      records = ap (λ (o : CountedVolume PackedRecord). map facts_of (map record_in o.payloads)) c.put_text.ensures ∙ c.self.invariant.records ∙ ap (λ (v : Volume). records_of v c.self.inside.fields.pairs) (sym (ap (λ (o : CountedVolume PackedRecord). o.volume) c.put_text.ensures));
+      reports = subst (λ (ps : List PackedRecord). AreReportsOf c.self.inside.reports (map record_in ps)) (sym (ap (λ (o : CountedVolume PackedRecord). o.payloads) c.put_text.ensures)) c.self.invariant.reports;
     }
 
 pub returns-clause-step : goal.returns-clause-step

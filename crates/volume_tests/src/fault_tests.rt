@@ -2,12 +2,14 @@
 // samples a trace.
 ghost use Rattle.std.specs.Prelude.{◌<◌, ◌^◌, length};
 
-use crate::{Fault, Faults, HeadFacts};
+use crate::tables::table_of;
+use fault_live::{Fault, Faults, HeadFacts};
 use key_counts::Ratio;
+use record_table::{OutOfMemory, Records, Running};
 use std::alloc::Global;
 use std::test::Fail;
-use record_table::{OutOfMemory, Records, Running};
 use trace_record::Record;
+use trace_store::Column;
 
 fn there_and_back(alloc: Global, trace: &Record) -> Result<Faults, OutOfMemory> {
     let mut faults = Faults::new(alloc);
@@ -44,7 +46,8 @@ fn counts_a_trace_and_forgets_it(rt: HostRuntime) -> Result<(), Fail> {
 fn report_of(alloc: Global, records: &[Record], head: &HeadFacts) -> Result<Vec<Fault>, Fail>
     requires { length records.now < 2 ^ 16 }
 {
-    let list = Records::from_slice(alloc, records)?;
+    let table = table_of(alloc, records)?;
+    let list = Records::new(Column::new(&table));
     let faults = Faults::from_records(alloc, &list)?;
     Ok(faults.report(alloc, &list, head)?)
 }

@@ -6,7 +6,7 @@ use Rattle.fault_live.specs.FaultKeys.{keys_of_faults}
 use Rattle.trace_record.specs.Tally.{Tally, plus, minus, empty_tally, Same, IsSmall}
 use Rattle.trace_record.proofs.TallyLemmas.{IsSmall-tally_of, IsSmall-Same, Holds-plus, tally-cons, plus-Same, minus-Same, minus-plus, Same-sym, Same-trans}
 use Rattle.fault_live.specs.OfFaults.{tally_of_faults}
-use Rattle.fault_live.proofs.tests.there_and_back.Goals as goal
+use Rattle.volume_tests.proofs.fault_tests.there_and_back.Goals as goal
 
 -- the tally of one trace is small
 one_small : (t : Tally) (f : Facts) → Same t empty_tally → IsSmall (plus keys_of_faults t f)

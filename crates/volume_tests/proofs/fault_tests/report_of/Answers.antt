@@ -4,7 +4,7 @@ use Rattle.trace_record.specs.Facts.{facts_of}
 use Rattle.trace_record.specs.declared.record.Record.{Record}
 use Rattle.trace_record.proofs.LoadLemmas.{IsSmall-uncounted}
 use Rattle.fault_live.specs.FaultKeys.{faults_has}
-use Rattle.fault_live.proofs.tests.report_of.Goals as goal
+use Rattle.volume_tests.proofs.fault_tests.report_of.Goals as goal
 
 pub from_records-requires : goal.from_records-requires
 from_records-requires c =

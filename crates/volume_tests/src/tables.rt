@@ -1,0 +1,83 @@
+// Tables that tests begin with: records beside traces of no interest, and small volumes with given
+// payloads.
+ghost use Rattle.std.specs.Prelude.{◌≡◌, [], length, map, IfOk, OnOk};
+ghost use Rattle.std.specs.List.{insert as inserted};
+ghost use Rattle.frame_cut.specs.Cuts.{IsCut};
+ghost use Rattle.frame_cut.specs.Traces.{count_of};
+ghost use Rattle.frame_cut.specs.declared.reading.Reading.TheVariants.{AsWritten};
+ghost use Rattle.trace_record.specs.Packed.{record_in};
+ghost use Rattle.trace_store.specs.Stores.{payloads_of};
+
+use crate::heads::plain_head;
+use crate::puts::is_trace;
+use edit_overlay::{Loading, Overlay};
+use frame_cut::{Limits, Reading};
+use std::alloc::Global;
+use std::test::Fail;
+use trace_record::{PackedRecord, Record};
+use trace_store::{Base, TraceStore};
+
+// The record beside a new trace in front of that at the place, or behind all.
+pub(crate) fn insert(
+    alloc: Global,
+    table: &mut TraceStore<PackedRecord>,
+    place: u32,
+    record: &Record,
+) -> Result<(), Fail>
+    ensures { OnOk result (map record_in (payloads_of table.new)
+        ≡ inserted (map record_in (payloads_of table.old)) place record.now) }
+{
+    if place > table.count() || table.count() > 9 {
+        return Err(Fail::from("no such place"));
+    }
+    let bytes = [0; 244];
+    if !is_trace(&table.head, &bytes) {
+        return Err(Fail::from("no whole trace"));
+    }
+    let base = Base::Added(Vec::from_slice(alloc, &bytes)?);
+    table.insert(alloc, place + 1, base, PackedRecord::of(*record))?;
+    Ok(())
+}
+
+// A table of these records.
+pub(crate) fn table_of(alloc: Global, records: &[Record]) -> Result<TraceStore<PackedRecord>, Fail>
+    ensures { IfOk result (λ table. map record_in (payloads_of table) ≡ records.now) }
+{
+    let mut table = TraceStore::new(alloc, Vec::new(alloc), plain_head(), records.len())?;
+    for record in records {
+        let count = table.count();
+        insert(alloc, &mut table, count, record)?;
+    }
+    Ok(table)
+}
+
+// The volume of the file, in which the traces have these payloads.
+pub(crate) fn volume_of<T: Copy>(
+    alloc: Global,
+    file: Vec<u8>,
+    limits: Limits,
+    payloads: &[T],
+) -> Result<Overlay<T>, Fail>
+    ensures cut { IfOk result (λ o. IsCut file.items AsWritten limits o.volume) }
+    ensures payloads { IfOk result (λ o. o.payloads ≡ payloads.now) }
+{
+    let mut loading = Loading::from_bytes(alloc, file, Reading::AsWritten, limits)?;
+    if payloads.len() != loading.count() as usize {
+        return Err(Fail::from("not a payload for each trace"));
+    }
+    push_each(alloc, &mut loading, payloads)?;
+    Ok(loading.finish())
+}
+
+// Gives each trace its payload.
+fn push_each<T: Copy>(alloc: Global, loading: &mut Loading<T>, payloads: &[T]) -> Result<(), Fail>
+    requires none { loading.old.payloads ≡ [] }
+    requires each { length payloads.now ≡ count_of loading.old.volume }
+    ensures volume { loading.new.volume ≡ loading.old.volume }
+    ensures payloads { OnOk result (loading.new.payloads ≡ payloads.now) }
+{
+    for payload in payloads {
+        loading.push(alloc, *payload)?;
+    }
+    Ok(())
+}

@@ -62,6 +62,11 @@ TABLE = [
     ("E08", "M05", SURVEY, {}, lambda v: v.unmap("inline"), "geometry"),
     ("E08", "M06", SURVEY, {}, lambda v: v.unmap("shot"), "unknown"),
     ("E08", "M07", SURVEY, {}, lambda v: v.map("delay", "@17:4"), "standard"),
+    ("S02", None, SURVEY, {}, lambda v: v.compute(1, 1, "inline", "cdp", "/"), "words"),
+    ("S03", None, SURVEY, {}, lambda v: v.compute(1, 1, "inline", "cdp ^ 2"), "number"),
+    ("E02", None, SURVEY, {}, lambda v: v.compute(1, 1, "inline", "colour"), "no field"),
+    ("E04", None, SURVEY, {}, lambda v: v.compute(1, 3, "scalar", "inline * 65536 * 65536"), "does not fit"),
+    ("E13", None, SURVEY, {}, lambda v: v.compute(2, 3, "inline", 7, "/", "delay"), "zero divisor trace 2"),
     ("E09", None, SURVEY, {"max_bytes": 4332}, lambda v: v.copy(1, 1), "too large"),
 ]
 FAKED = {"E10": "refused E10 too many traces", "E11": "refused E11 out of memory"}

@@ -1,4 +1,4 @@
-use Rattle.std.proofs.Common.{◌≡◌, ◌∙◌, sym, ap, subst, List, ℕ, true}
+use Rattle.std.proofs.Common.{◌≡◌, ◌∙◌, sym, ap, subst, List, ℕ, true, rules}
 use Rattle.std.specs.Prelude.{Some, None}
 use Rattle.field_map.specs.Binding.{is_geometry, bind_fault}
 use Rattle.field_map.specs.Pairs.{Pairs, bound, place_of}

@@ -1,4 +1,4 @@
-use Rattle.std.proofs.Common.{◌≡◌, ◌∙◌, refl, sym, ap}
+use Rattle.std.proofs.Common.{◌≡◌, ◌∙◌, refl, sym, ap, rules}
 use Rattle.field_map.specs.Pairs.{Pairs, bound}
 use Rattle.volume_records.specs.OfVolume.{records_of}
 use Rattle.volume_records.proofs.NameLemmas.{records-bound}

@@ -1,4 +1,4 @@
-use Rattle.std.proofs.Common.{◌≡◌, ◌∙◌, ap, sym, true, None}
+use Rattle.std.proofs.Common.{◌≡◌, ◌∙◌, ap, sym, true, None, rules}
 use Rattle.std.specs.Str.{chars}
 use Rattle.text_block.specs.Blocks.{code_of}
 use Rattle.text_block.specs.Lines.{text_fault, encoded_line}

@@ -1,4 +1,4 @@
-use Rattle.std.proofs.Common.{◌≡◌, ◌∙◌, sym, ap, false}
+use Rattle.std.proofs.Common.{◌≡◌, ◌∙◌, sym, ap, false, rules}
 use Rattle.field_map.specs.Binding.{is_geometry}
 use Rattle.field_map.specs.Pairs.{Pairs}
 use Rattle.volume_records.specs.OfVolume.{records_of}

@@ -7,3 +7,5 @@ pub mod RatioLemmas
 pub mod RisingLemmas
 pub mod RunLemmas
 pub mod ShownLemmas
+pub mod EndLemmas
+pub mod RaisedLemmas

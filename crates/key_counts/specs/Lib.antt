@@ -3,6 +3,8 @@ pub mod RatioOrder
 pub mod Coordinates
 pub mod Parts
 pub mod Packed
+pub mod Numbers
+pub mod Ends
 pub mod Counts
 pub mod Rising
 pub mod Runs

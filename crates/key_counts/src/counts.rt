@@ -1,13 +1,14 @@
-ghost use Rattle.std.specs.Prelude.{◌≡◌, ◌+◌, ◌-◌, ◌^◌, ◌<◌, ℕ, [], All, length, slice_get, option_map, OnOk, OnErr, IsOk, IfOk};
+ghost use Rattle.std.specs.Prelude.{◌≡◌, ◌==◌, ◌+◌, ◌-◌, ◌^◌, ◌<◌, ℕ, [], All, length, slice_get, map, option_map, OnOk, OnErr, IsOk, IfOk};
 ghost use Rattle.std.specs.List.Sorted.{IsStrictlySortedBy};
 ghost use Rattle.std.specs.Map.{keys_of, values_of};
 ghost use Rattle.std.specs.Map.Iter.{ShowsInOrder, deref_pair};
 ghost use Rattle.std.proofs.lemmas.Map.Lookups.{CmpEqualImpliesEq};
+ghost use Rattle.key_counts.specs.Ends.{IsLeast, IsGreatest, IsSpan};
 ghost use Rattle.key_counts.specs.Counts.{count_of, with_one_more, with_each_more, with_one_less, HasOneMore, HasSameCounts};
 ghost use Rattle.key_counts.specs.Rising.{Shows, times_in};
 
-use crate::OutOfMemory;
 use crate::runs::map_of_keys;
+use crate::{Counter, FromCount, OutOfMemory};
 use std::alloc::Global;
 use std::collections::BTreeMap;
 use std::collections::btree_map::Iter;
@@ -63,11 +64,20 @@ impl<K: Copy + Ord> Counts<K> {
         self.map.get(key).copied().unwrap_or(0)
     }
 
+    /// Whether no key is counted. Takes no memory.
+    pub fn is_empty(&self) -> bool
+        ensures { result ≡ (length self.now == 0) }
+    {
+        self.map.is_empty()
+    }
+
     /// The least key. Takes no memory.
     pub fn least(&self) -> Option<K>
-        ensures { result ≡ option_map (λ e. e.0) (slice_get self.now 0) }
+        ensures first { result ≡ option_map (λ e. e.0) (slice_get self.now 0) }
+        ensures least { IsLeast K.cmp (count_of K.cmp self.now) result }
     {
-        match self.map.first_key_value() {
+        let mut pairs = self.pairs();
+        match pairs.next() {
             Some((key, _)) => Some(*key),
             None => None,
         }
@@ -75,12 +85,23 @@ impl<K: Copy + Ord> Counts<K> {
 
     /// The greatest key. Takes no memory.
     pub fn greatest(&self) -> Option<K>
-        ensures { result ≡ option_map (λ e. e.0) (slice_get self.now (length self.now - 1)) }
+        ensures last { result ≡ option_map (λ e. e.0) (slice_get self.now (length self.now - 1)) }
+        ensures greatest { IsGreatest K.cmp (count_of K.cmp self.now) result }
     {
-        match self.map.last_key_value() {
+        let mut pairs = self.pairs();
+        match pairs.next_back() {
             Some((key, _)) => Some(*key),
             None => None,
         }
+    }
+
+    /// The least and the greatest key. Takes no memory.
+    pub fn span(&self) -> Option<(K, K)>
+        ensures { IsSpan K.cmp (count_of K.cmp self.now) result }
+    {
+        let least = self.least()?;
+        let greatest = self.greatest()?;
+        Some((least, greatest))
     }
 
     /// The keys with their numbers, rising. Takes no memory.
@@ -91,6 +112,19 @@ impl<K: Copy + Ord> Counts<K> {
         ensures positive { All (λ n. 0 < n) (values_of self.now) }
     {
         self.map.iter()
+    }
+
+    /// The keys with their numbers as a list, rising. Takes memory for the list.
+    pub fn list<T: FromCount<K>>(&self, alloc: Global) -> Result<Vec<T>, OutOfMemory>
+        ensures items { IfOk result (λ list. map T.count list.items ≡ self.now) }
+        ensures shows { IfOk result (λ list.
+            Shows K.cmp (count_of K.cmp self.now) (map T.count list.items)) }
+    {
+        let mut list = Vec::new(alloc);
+        for (key, number) in self.pairs() {
+            list.push(T::from_count(*key, *number))?;
+        }
+        Ok(list)
     }
 
     /// Counts the key once more. Takes memory for a key that is not held, and leaves all as it was
@@ -126,6 +160,26 @@ impl<K: Copy + Ord> Counts<K> {
             }
         }
     }
+}
+
+impl<K: Copy + Ord> Counter<K> for Counts<K> {
+    ghost cmp = { K.cmp };
+
+    ghost number = { λ es. count_of K.cmp es };
+
+    fn number_at(&self, key: K) -> u64 {
+        self.count(&key)
+    }
+
+    fn raise(&mut self, key: K) -> Result<(), OutOfMemory> {
+        Counts::raise(self, key)
+    }
+
+    fn lower(&mut self, key: K) {
+        Counts::lower(self, &key);
+    }
+
+    ghost total = { K.Ord.total };
 }
 
 /// Counts one key more in each of two counts, or in neither where a growth is refused. Takes memory

@@ -8,15 +8,21 @@
 //! what it makes. No other call takes memory.
 #![tactic(auto)]
 
+mod counter;
 mod counts;
+mod from_count;
 mod laws;
 mod out_of_memory;
 mod packed_ratio;
+mod raising;
 mod ratio;
 mod runs;
 
+pub use crate::counter::Counter;
 pub use crate::counts::{Counts, raise_both};
+pub use crate::from_count::FromCount;
 pub use crate::laws::equal_ratios_are_one;
 pub use crate::out_of_memory::OutOfMemory;
 pub use crate::packed_ratio::PackedRatio;
+pub use crate::raising::{lower_any, lower_two, raise_any, raise_two};
 pub use crate::ratio::Ratio;

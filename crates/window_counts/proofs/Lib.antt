@@ -1,0 +1,4 @@
+pub mod HeldLemmas
+pub mod PlaceLemmas
+pub mod SpanLemmas
+pub mod MergeLemmas

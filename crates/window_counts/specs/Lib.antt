@@ -1,0 +1,5 @@
+pub mod Held
+pub mod Window
+pub mod Places
+pub mod PlaceLaws
+pub mod Examples

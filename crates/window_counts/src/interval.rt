@@ -1,0 +1,124 @@
+ghost use Rattle.std.specs.Prelude.{◌≡◌, pos, ◌+ℤ◌, ◌-ℤ◌, ◌≤ℤ◌, ◌<ℤ◌, ◌^◌, ◌≤◌};
+ghost use Rattle.window_counts.specs.Places.{place_within, interval_key};
+
+use crate::window::{Extent, Window};
+
+/// So many whole numbers from the lowest one on, each with a place.
+#[derive(Clone, Copy)]
+pub struct Interval {
+    lowest: i32,
+    places: usize,
+    ghost fits: { (lowest +ℤ pos places) ≤ℤ pos (2 ^ 31) },
+}
+
+impl Window<i32> for Interval {
+    ghost use Rattle.window_counts.specs.Places.{interval_place, interval_key};
+    ghost use Rattle.window_counts.specs.PlaceLaws.{interval_placed};
+
+    type Extent = IntervalExtent;
+
+    ghost size = { λ w. w.places };
+
+    ghost place = { λ w. interval_place w.lowest w.places };
+
+    ghost key_of = { λ w. interval_key w.lowest };
+
+    fn none() -> Interval {
+        Interval {
+            lowest: 0,
+            places: 0,
+        }
+    }
+
+    fn over(extent: &IntervalExtent, keys: usize) -> Interval {
+        let places = extent.len();
+        if is_dense(places, keys) {
+            Interval {
+                lowest: extent.least,
+                places,
+            }
+        } else {
+            Interval::none()
+        }
+    }
+
+    fn len(&self) -> usize {
+        self.places
+    }
+
+    fn place_of(&self, key: i32) -> Option<usize> {
+        place_from(self.lowest, self.places, key)
+    }
+
+    fn key_at(&self, at: usize) -> i32 {
+        key_from(self.lowest, at)
+    }
+
+    ghost placed = { λ w. interval_placed w.lowest w.places };
+}
+
+/// The least and the greatest of whole numbers.
+#[derive(Clone, Copy)]
+pub struct IntervalExtent {
+    least: i32,
+    greatest: i32,
+}
+
+impl Extent<i32> for IntervalExtent {
+    fn none() -> IntervalExtent {
+        IntervalExtent {
+            least: i32::MAX,
+            greatest: i32::MIN,
+        }
+    }
+
+    fn include(&mut self, key: i32) {
+        self.least = self.least.min(key);
+        self.greatest = self.greatest.max(key);
+    }
+}
+
+impl IntervalExtent {
+    // The least, of none the greatest number that there is.
+    pub(crate) fn least(&self) -> i32
+        ensures { result ≡ self.now.least }
+    {
+        self.least
+    }
+
+    // How many whole numbers there are from the least to the greatest.
+    pub(crate) fn len(&self) -> usize
+        ensures fits { (self.now.least +ℤ pos result) ≤ℤ pos (2 ^ 31) }
+        ensures small { result ≤ 2 ^ 32 }
+    {
+        if self.greatest < self.least {
+            return 0;
+        }
+        (i64::from(self.greatest) - i64::from(self.least) + 1) as usize
+    }
+}
+
+// Whether so many places are at most 2 for each of so many keys, and 1,024: they then take no more
+// memory than counts in order, but for 8 KiB.
+pub(crate) fn is_dense(places: usize, keys: usize) -> bool {
+    places / 2 <= keys.saturating_add(512)
+}
+
+// The place of a whole number among so many from the lowest on.
+pub(crate) fn place_from(lowest: i32, places: usize, key: i32) -> Option<usize>
+    ensures { result ≡ place_within places (key -ℤ lowest) }
+{
+    if key < lowest {
+        return None;
+    }
+    let place = (i64::from(key) - i64::from(lowest)) as usize;
+    if place < places { Some(place) } else { None }
+}
+
+// The whole number of a place.
+pub(crate) fn key_from(lowest: i32, place: usize) -> i32
+    requires { (lowest +ℤ pos place) <ℤ pos (2 ^ 31) }
+    ensures { result ≡ interval_key lowest place }
+{
+    (i64::from(lowest) + place as i64) as i32
+}

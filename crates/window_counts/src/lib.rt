@@ -1,0 +1,23 @@
+//! How often keys were counted that lie densely, as those of a survey do. `WindowCounts` has one
+//! number for each place of a window, and counts in order for the keys outside it; a key in the
+//! window is raised, lowered and read by one access. A `Window` is an `Interval` of whole numbers, a
+//! `Rectangle` of inlines and crosslines, or an `OffsetRectangle` of them at one offset.
+//!
+//! `raise` takes memory only for a key outside the window that is not held, and leaves all as it was
+//! where the growth is refused; `from_keys` takes it for what it makes, and `list` for the list. No
+//! other call takes memory.
+#![tactic(auto)]
+
+mod interval;
+mod listing;
+mod offset_rectangle;
+mod rectangle;
+mod slots;
+mod window;
+mod window_counts;
+
+pub use crate::interval::{Interval, IntervalExtent};
+pub use crate::offset_rectangle::{OffsetExtent, OffsetRectangle};
+pub use crate::rectangle::{Rectangle, RectangleExtent};
+pub use crate::window::{Extent, Window};
+pub use crate::window_counts::{CellCounts, LineCounts, TripleCounts, WindowCounts};

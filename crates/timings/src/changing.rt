@@ -1,26 +1,33 @@
-// Changes of live reports at places that a generator of numbers gives.
-ghost use Rattle.std.specs.Prelude.{◌+◌, ◌<◌, ◌≤◌, ◌^◌, All, length};
+// Changes of records and of their live reports, at places that a generator of numbers gives.
+ghost use Rattle.std.specs.Prelude.{◌+◌, ◌<◌, ◌≤◌, ◌^◌, length, OnOk};
+ghost use Rattle.live_reports.specs.OfRecords.{AreReportsOf};
+ghost use Rattle.timings.specs.Tables.{records_in, AreShort};
 
 use crate::out_of_memory::OutOfMemory;
 use crate::reports::make;
+use crate::table::{exchange, put_in, shift, take_out};
 use live_reports::LiveReports;
 use std::alloc::Global;
+use trace_record::PackedRecord;
+use trace_store::TraceStore;
 
 // So many changes of the kind that the word names.
 pub(crate) fn change(
     alloc: Global,
+    table: &mut TraceStore<PackedRecord>,
     reports: &mut LiveReports,
     times: u32,
     word: &str,
 ) -> Result<(), OutOfMemory>
-    requires few { length reports.old ≤ 2 ^ 24 }
-    requires times { times < length reports.old }
-    requires short { All (λ r. r.number ≤ 4) reports.old }
+    requires counted { AreReportsOf reports.old (records_in table.old) }
+    requires few { length (records_in table.old) ≤ 2 ^ 24 }
+    requires times { times < length (records_in table.old) }
+    requires short { AreShort (records_in table.old) }
 {
     let mut number = 1;
     for _done in 0..times {
         number = next(number);
-        change_one(alloc, reports, number, word)?;
+        change_one(alloc, table, reports, number, word)?;
     }
     Ok(())
 }
@@ -29,27 +36,32 @@ pub(crate) fn change(
 // gives: a record exchanged, put in, taken out, or else moved.
 fn change_one(
     alloc: Global,
+    table: &mut TraceStore<PackedRecord>,
     reports: &mut LiveReports,
     number: u64,
     word: &str,
 ) -> Result<(), OutOfMemory>
-    requires some { 0 < length reports.old }
-    requires few { length reports.old ≤ 2 ^ 25 }
-    requires short { All (λ r. r.number ≤ 4) reports.old }
-    ensures short { All (λ r. r.number ≤ 4) reports.new }
-    ensures most { length reports.new ≤ length reports.old + 1 }
-    ensures least { length reports.old ≤ length reports.new + 1 }
+    requires counted { AreReportsOf reports.old (records_in table.old) }
+    requires some { 0 < length (records_in table.old) }
+    requires few { length (records_in table.old) ≤ 2 ^ 25 }
+    requires short { AreShort (records_in table.old) }
+    ensures counted { OnOk result (AreReportsOf reports.new (records_in table.new)) }
+    ensures short { OnOk result (AreShort (records_in table.new)) }
+    ensures most { OnOk result
+        (length (records_in table.new) ≤ length (records_in table.old) + 1) }
+    ensures least { OnOk result
+        (length (records_in table.old) ≤ length (records_in table.new) + 1) }
 {
-    let count = reports.records().len();
+    let count = table.count();
     let place = place_of(number, count);
     if word == "exchange" {
-        reports.exchange(place, &make(record_of(number)))?;
+        exchange(table, reports, place, &make(record_of(number)))?;
     } else if word == "insert" {
-        reports.insert(alloc, place, &make(record_of(number)))?;
+        put_in(alloc, table, reports, place, &make(record_of(number)))?;
     } else if word == "erase" {
-        let _record = reports.remove(place);
+        take_out(table, reports, place);
     } else {
-        reports.move_to(alloc, place, place_of(next(number), count))?;
+        shift(alloc, table, place, place_of(next(number), count))?;
     }
     Ok(())
 }
@@ -62,11 +74,11 @@ fn next(number: u64) -> u64 {
 }
 
 // A place among so many, from a number of the generator.
-fn place_of(number: u64, count: usize) -> usize
+fn place_of(number: u64, count: u32) -> u32
     requires { 0 < count }
     ensures { result < count }
 {
-    (number / 0x8000_0000) as usize % count
+    (number / 0x8000_0000 % u64::from(count)) as u32
 }
 
 // Which record a number of the generator stands for.

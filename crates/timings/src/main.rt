@@ -10,8 +10,8 @@
 //!
 //! `reports`: made records in the running reports. Then how many records, at most 16777216;
 //! `make`, which only makes them, `add`, which adds them too, `report`, which makes every report of
-//! them too, `remove`, which adds them and takes them out again, `list`, which makes them in a list
-//! in chunks, or `load`, which then makes the live reports of all of them at once; or, behind which
+//! them too, `remove`, which adds them and takes them out again, `list`, which makes them in a
+//! table, or `load`, which then makes the live reports of all of them at once; or, behind which
 //! one more argument says how often, fewer times than there are records, `exchange`, `insert`,
 //! `erase` or `move`, which then changes the live reports so at random places. It prints the number
 //! of records.
@@ -21,6 +21,7 @@ mod changing;
 mod orders;
 mod out_of_memory;
 mod reports;
+mod table;
 mod through;
 mod traces;
 

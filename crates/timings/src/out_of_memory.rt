@@ -16,6 +16,12 @@ impl<T: Drop> From<AllocFailed<T>> for OutOfMemory {
     }
 }
 
+impl From<trace_store::OutOfMemory> for OutOfMemory {
+    fn from(_error: trace_store::OutOfMemory) -> OutOfMemory {
+        OutOfMemory
+    }
+}
+
 impl From<record_table::OutOfMemory> for OutOfMemory {
     fn from(_error: record_table::OutOfMemory) -> OutOfMemory {
         OutOfMemory

@@ -1,17 +1,20 @@
 // Records that are made, counted in the running reports, and taken out again.
 ghost use Rattle.std.specs.Prelude.{◌≡◌, ◌<◌, ◌≤◌, ◌^◌, All, IfOk, length};
+ghost use Rattle.timings.specs.Tables.{records_in, AreShort};
 
 use crate::changing::change;
 use crate::out_of_memory::OutOfMemory;
+use crate::table::{empty_table, insert, records as records_of};
 use crate::through::{drain, fill};
 use fault_live::{Faults, HeadFacts};
 use grid_live::Grid;
 use key_counts::Ratio;
 use live_reports::LiveReports;
 use range_stats::{Quantity, Ranges, Totals};
+use record_table::Running;
 use std::alloc::Global;
-use record_table::{Records, Running};
-use trace_record::Record;
+use trace_record::{PackedRecord, Record};
+use trace_store::TraceStore;
 
 // A record of a survey with a thousand traces on each inline, on a grid turned by 23 degrees.
 pub(crate) fn make(i: u32) -> Record
@@ -52,37 +55,63 @@ fn make_all(alloc: Global, count: u32) -> Result<Vec<Record>, OutOfMemory>
     Ok(records)
 }
 
-fn make_list(alloc: Global, count: u32) -> Result<Records, OutOfMemory>
+fn make_table(alloc: Global, count: u32) -> Result<TraceStore<PackedRecord>, OutOfMemory>
     requires { count ≤ 2 ^ 24 }
-    ensures few { IfOk result (λ list. length list ≤ 2 ^ 24) }
-    ensures short { IfOk result (λ list. All (λ r. r.number ≤ 4) list) }
+    ensures few { IfOk result (λ table. length (records_in table) ≤ 2 ^ 24) }
+    ensures short { IfOk result (λ table. AreShort (records_in table)) }
 {
-    let mut records = Records::new(alloc);
+    let mut table = empty_table(alloc, count as usize)?;
     for i in 0..count {
-        records.push(alloc, make(i))?;
+        insert(alloc, &mut table, i, &make(i))?;
     }
-    Ok(records)
+    Ok(table)
 }
 
-// The live reports of the records, made of all of them at once.
-fn load(alloc: Global, records: Records) -> Result<usize, OutOfMemory>
-    requires few { length records ≤ 2 ^ 24 }
-    requires short { All (λ r. r.number ≤ 4) records }
+// The number of records, once their live reports were made of all of them at once.
+fn load(alloc: Global, table: &TraceStore<PackedRecord>) -> Result<usize, OutOfMemory>
+    requires few { length (records_in table.now) ≤ 2 ^ 24 }
+    requires short { AreShort (records_in table.now) }
 {
-    let reports = LiveReports::from_records(alloc, records)?;
-    Ok(reports.records().len())
+    let records = records_of(table);
+    let _reports = LiveReports::from_records(alloc, &records)?;
+    Ok(records.len())
 }
 
-// The live reports of so many records, changed so often at random places.
-fn change_all(alloc: Global, count: u32, word: &str, times: u32) -> Result<usize, OutOfMemory>
+// The number of records, once their live reports were made, and so many changes of the kind that
+// the word names.
+fn change_all(
+    alloc: Global,
+    table: &mut TraceStore<PackedRecord>,
+    word: &str,
+    times: u32,
+) -> Result<usize, OutOfMemory>
+    requires few { length (records_in table.old) ≤ 2 ^ 24 }
+    requires short { AreShort (records_in table.old) }
+{
+    let mut reports = LiveReports::from_records(alloc, &records_of(table))?;
+    if times < table.count() {
+        change(alloc, table, &mut reports, times, word)?;
+    }
+    Ok(table.count() as usize)
+}
+
+// What is done to the records of a table: they are only made, reported, or changed.
+fn count_table(
+    alloc: Global,
+    count: u32,
+    then: &str,
+    times: u32,
+) -> Result<usize, OutOfMemory>
     requires { count ≤ 2 ^ 24 }
 {
-    let records = make_list(alloc, count)?;
-    let mut reports = LiveReports::from_records(alloc, records)?;
-    if (times as usize) < reports.records().len() {
-        change(alloc, &mut reports, times, word)?;
+    let mut table = make_table(alloc, count)?;
+    if then == "list" {
+        return Ok(table.count() as usize);
     }
-    Ok(reports.records().len())
+    if then == "load" {
+        return load(alloc, &table);
+    }
+    change_all(alloc, &mut table, then, times)
 }
 
 // Whether the word names a kind of change.
@@ -144,6 +173,18 @@ fn count_totals(alloc: Global, records: &[Record], then: &str) -> Result<(), Out
     Ok(())
 }
 
+// The records in a table.
+fn table_of(alloc: Global, records: &[Record]) -> Result<TraceStore<PackedRecord>, OutOfMemory>
+    requires { length records.now ≤ 2 ^ 24 }
+    ensures { IfOk result (λ table. length (records_in table) ≤ 2 ^ 24) }
+{
+    let mut table = empty_table(alloc, records.len())?;
+    for i in 0..records.len() {
+        insert(alloc, &mut table, i as u32, &records[i])?;
+    }
+    Ok(table)
+}
+
 // Headers that have no fault themselves.
 fn sound_head() -> HeadFacts {
     HeadFacts {
@@ -164,8 +205,8 @@ fn count_faults(alloc: Global, records: &[Record], then: &str) -> Result<(), Out
     fill(&mut faults, records)?;
     if then == "report" {
         let head = sound_head();
-        let list = Records::from_slice(alloc, records)?;
-        let _faults = faults.report(alloc, &list, &head)?;
+        let table = table_of(alloc, records)?;
+        let _faults = faults.report(alloc, &records_of(&table), &head)?;
     }
     if then == "remove" {
         drain(&mut faults, records, 0);
@@ -183,15 +224,8 @@ pub(crate) fn count_after(
 ) -> Result<usize, OutOfMemory>
     requires { count ≤ 2 ^ 24 }
 {
-    if is_change(then) {
-        return change_all(alloc, count, then, times);
-    }
-    if then == "list" || then == "load" {
-        let records = make_list(alloc, count)?;
-        if then == "list" {
-            return Ok(records.len());
-        }
-        return load(alloc, records);
+    if then == "list" || then == "load" || is_change(then) {
+        return count_table(alloc, count, then, times);
     }
     let records = make_all(alloc, count)?;
     if then != "make" {

@@ -2,12 +2,13 @@
 ghost use Rattle.std.specs.Prelude.{◌≡◌};
 
 use device_io::Source;
-use edit_overlay::Overlay;
+use edit_overlay::Loading;
 use field_map::FieldMap;
 use frame_cut::{Limits, Reading};
+use std::alloc::Global;
 use std::fs;
 use std::rt::Files;
-use trace_record::record_of;
+use trace_record::{Record, record_of};
 
 // What the records of all traces say together.
 #[derive(Clone, Copy)]
@@ -19,8 +20,8 @@ pub(crate) struct Total {
 }
 
 // Looks at each trace and makes its record.
-fn total_of(overlay: &mut Overlay, fields: &FieldMap) -> Total
-    requires { fields.now.extensions ≡ overlay.old.volume.head.extensions }
+fn total_of(alloc: Global, loading: &mut Loading<()>, fields: &FieldMap) -> Option<Total>
+    requires { fields.now.extensions ≡ loading.old.volume.head.extensions }
 {
     let mut total = Total {
         samples: 0,
@@ -28,16 +29,24 @@ fn total_of(overlay: &mut Overlay, fields: &FieldMap) -> Total
         greatest: 0,
         sum: 0,
     };
-    for before in 0..overlay.count() {
-        if let Some(view) = overlay.look(before + 1) {
-            let record = record_of(&view, fields);
-            total.samples = total.samples.saturating_add(u64::from(record.number));
-            total.least = total.least.min(record.least);
-            total.greatest = total.greatest.max(record.greatest);
-            total.sum = total.sum.saturating_add(record.sum);
-        }
+    for _before in 0..loading.count() {
+        let record = next_record(alloc, loading, fields)?;
+        total.samples = total.samples.saturating_add(u64::from(record.number));
+        total.least = total.least.min(record.least);
+        total.greatest = total.greatest.max(record.greatest);
+        total.sum = total.sum.saturating_add(record.sum);
     }
-    total
+    Some(total)
+}
+
+// The record of the next trace, if there is one and memory for its place.
+fn next_record(alloc: Global, loading: &mut Loading<()>, fields: &FieldMap) -> Option<Record>
+    requires { fields.now.extensions ≡ loading.old.volume.head.extensions }
+    ensures { loading.new.volume ≡ loading.old.volume }
+{
+    let record = record_of(&loading.next_trace()?, fields);
+    loading.push(alloc, ()).ok()?;
+    Some(record)
 }
 
 // The number of traces of the file, and what their records say where they are to be made.
@@ -48,14 +57,14 @@ pub(crate) fn count_records<R: Files + AllocGlobal>(
 ) -> Option<(u32, Total)> {
     let limits = Limits::new(1 << 40, u32::MAX)?;
     let file = fs::open(rt, path).ok()?;
-    let mut overlay = Overlay::load(
+    let mut loading: Loading<()> = Loading::load(
         rt.alloc(),
         &mut Source::new(file),
         Reading::AsWritten,
         limits,
     )
     .ok()?;
-    let fields = FieldMap::standard(rt.alloc(), overlay.head().extensions).ok()?;
+    let fields = FieldMap::standard(rt.alloc(), loading.head().extensions).ok()?;
     let mut total = Total {
         samples: 0,
         least: 0,
@@ -63,7 +72,7 @@ pub(crate) fn count_records<R: Files + AllocGlobal>(
         sum: 0,
     };
     if records {
-        total = total_of(&mut overlay, &fields);
+        total = total_of(rt.alloc(), &mut loading, &fields)?;
     }
-    Some((overlay.count(), total))
+    Some((loading.count(), total))
 }

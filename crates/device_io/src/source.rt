@@ -1,5 +1,5 @@
 // A reader that counts its failures.
-ghost use Rattle.std.specs.Prelude.{◌≡◌, ◌≤◌, length, IfOk, IfErr, MatchResult};
+ghost use Rattle.std.specs.Prelude.{◌≡◌, ◌≤◌, [], length, IfOk, IfErr, MatchResult};
 ghost use Rattle.std.specs.Io.{ReadsAtMost};
 ghost use Rattle.std.specs.Io.KnownBytes.{ReadConsumes};
 ghost use Rattle.device_io.specs.Failures.{CountsFailure};
@@ -19,6 +19,7 @@ const CHUNK: usize = 65536;
 pub struct Source<R> {
     inner: R,
     failures: u64,
+    expected: u64,
 }
 
 impl<R> Model for Source<R> {
@@ -34,7 +35,20 @@ impl<R: Read> Source<R> {
     pub fn new(inner: R) -> Source<R>
         ensures { result ≡ record { inner = inner; failures = 0 } }
     {
-        Source { inner, failures: 0 }
+        Source::expecting(inner, 0)
+    }
+
+    /// The reader, with no failure yet, of which so many bytes are expected: `read_up_to` then asks
+    /// for the memory of them first, and once. They need not come, and no answer depends on them.
+    /// Takes no memory.
+    pub fn expecting(inner: R, bytes: u64) -> Source<R>
+        ensures { result ≡ record { inner = inner; failures = 0 } }
+    {
+        Source {
+            inner,
+            failures: 0,
+            expected: bytes,
+        }
     }
 
     /// One read, by the reader itself: it gives some of the next bytes, and 0 of them only at the
@@ -68,7 +82,7 @@ impl<R: Read> Source<R> {
             (λ fault. FailuresAfter fault self.old.failures self.new.failures) }
     {
         let most = limit as usize;
-        let mut bytes = Vec::new(alloc);
+        let mut bytes = room_for(alloc, self.expected.min(limit));
         let mut chunk = [0u8; CHUNK];
         'turns: while bytes.len() <= most {
             let want = CHUNK.min((most - bytes.len()).saturating_add(1));
@@ -98,6 +112,16 @@ impl<R: Read> Source<R> {
         ensures { result ≡ self.inner }
     {
         self.inner
+    }
+}
+
+// No bytes yet, and room for so many, where memory gives it.
+fn room_for(alloc: Global, count: u64) -> Vec<u8>
+    ensures { result.items ≡ [] }
+{
+    match Vec::with_capacity(alloc, count as usize) {
+        Ok(bytes) => bytes,
+        Err(_) => Vec::new(alloc),
     }
 }
 
@@ -145,12 +169,29 @@ mod tests {
         Ok(())
     }
 
+    // What is expected changes the room alone: fewer bytes, as many, more, and more than there is
+    // memory for.
+    #[test]
+    fn reads_what_comes(rt: HostRuntime) -> Result<(), Fail> {
+        let alloc = rt.alloc();
+        for expected in [2, 6, 9, u64::MAX] {
+            let mut source = Source::expecting(StepReader::new(b"segywb", 4, 9), expected);
+            let bytes = source.read_up_to(alloc, u64::MAX)?;
+            assert_eq!(rt; bytes.as_slice(), b"segywb".as_slice());
+        }
+        let mut source = Source::expecting(StepReader::new(b"segywb", 4, 9), 6);
+        let bytes = source.read_up_to(alloc, 1 << 40)?;
+        assert_eq!(rt; bytes.capacity(), 6);
+        Ok(())
+    }
+
     #[test]
     fn the_count_stays_at_its_top(rt: HostRuntime) {
         let inner = StepReader::new(b"", 1, 0);
         let mut source = Source {
             inner,
             failures: u64::MAX,
+            expected: 0,
         };
         assert_eq!(rt; source.read(&mut [0]), Err(Failed));
         assert_eq!(rt; source.failures(), u64::MAX);

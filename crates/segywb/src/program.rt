@@ -90,16 +90,19 @@ where
         let _ = eprintln!(rt; "segywb: cannot open {file}");
         return 3;
     };
-    let original = match volume.metadata() {
-        Ok(about) => Original::new(file, &about),
-        Err(_) => None,
+    let (original, bytes) = match volume.metadata() {
+        Ok(about) => (Original::new(file, &about), about.len()),
+        Err(_) => (None, 0),
     };
     let lines = match lines_of(rt, arguments) {
         Ok(lines) => lines,
         Err(status) => return status,
     };
     match target_of(rt, arguments, original) {
-        Ok(target) => run_to(rt, arguments, original, volume, lines, target),
+        Ok(target) => {
+            let volume = Source::expecting(volume, bytes);
+            run_to(rt, arguments, original, volume, lines, target)
+        }
         Err(refusal) => refused_out(rt, arguments.out.unwrap_or(""), &refusal),
     }
 }
@@ -128,7 +131,7 @@ fn run_to<'a, R: Files + AllocGlobal + Print + Eprint + Input>(
     rt: &'a R,
     arguments: &Arguments<'a>,
     original: Option<Original<'a>>,
-    volume: R::File,
+    mut volume: Source<R::File>,
     lines: Lines<R::File>,
     target: Target<'a, R>,
 ) -> u8
@@ -144,8 +147,7 @@ where
     };
     let mut out = Sink::new(out);
     let mut notes = Notes::new();
-    let volume = &mut Source::new(volume);
-    let end = answer(rt, volume, lines, &mut out, options(arguments), &mut notes);
+    let end = answer(rt, &mut volume, lines, &mut out, options(arguments), &mut notes);
     finish(rt, arguments, original, end, out.into_inner(), mode, &notes)
 }
 

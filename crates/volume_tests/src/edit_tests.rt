@@ -110,7 +110,8 @@ fn expect_pass(rt: &impl Abort, volume: &mut Overlay<u32>, expected: &[(&[u8], u
 
 // Asserts that the traces have these payloads, in this order.
 fn expect_payloads(rt: &impl Abort, volume: &Overlay<u32>, expected: &[u32]) {
-    let mut payloads = volume.payloads().iter();
+    let column = volume.payloads();
+    let mut payloads = column.iter();
     for payload in expected {
         assert_eq!(rt; payloads.next(), Some(*payload));
     }

@@ -1,4 +1,4 @@
-ghost use Rattle.std.specs.Prelude.{◌≡◌};
+ghost use Rattle.std.specs.Prelude.{◌≡◌, IfSome};
 
 use crate::format_fault::FormatFault;
 use crate::integer_format::IntegerFormat;
@@ -14,7 +14,7 @@ pub enum Format {
 }
 
 impl Format {
-    ghost use Rattle.sample_codes.specs.Formats.{code_of, width as width_of, values as values_of, format_of};
+    ghost use Rattle.sample_codes.specs.Formats.{code_of, integer_width, width as width_of, values as values_of, format_of};
 
     /// The format with this code, where the opaque formats count only if they are asked for. Else
     /// their codes are refused: 1, 5 and 6 are `Float`, 4 is `Gain`. A code that the standard leaves
@@ -59,7 +59,8 @@ impl Format {
 
     /// How samples are read, where they have values. Takes no memory.
     pub fn values(self) -> Option<IntegerFormat>
-        ensures { result ≡ values_of self }
+        ensures values { result ≡ values_of self }
+        ensures width { IfSome result (λ format. integer_width format ≡ width_of self) }
     {
         match self {
             Format::Integer(format) => Some(format),

@@ -1,6 +1,7 @@
 -- Why a load is refused.
 use Rattle.std.proofs.Common.{◌≡◌, ◌≢◌, ℕ, Bool, true, false, cond, List, ◌++◌, [], length, take, drop, Option, Some, None, Result, Ok, Err, IfSome, IfErr, MatchResult, ◌⊎◌, inl, inr, refl, ap, sym, subst, ◌∙◌, append-nil}
 use Rattle.std.specs.Io.KnownBytes.{Consumes, IsAtEnd}
+use Rattle.num_order.specs.declared.order.Order.{Order}
 use Rattle.sample_codes.specs.declared.format.Format.{Format}
 use Rattle.sample_codes.specs.declared.format_fault.FormatFault.{FormatFault}
 use Rattle.sample_codes.specs.declared.format_fault.FormatFault.TheVariants.{Float, Gain, Unknown}
@@ -10,8 +11,8 @@ use Rattle.frame_cut.specs.declared.limits.Limits.{Limits}
 use Rattle.frame_cut.specs.declared.reading.Reading.{Reading}
 use Rattle.frame_cut.specs.declared.load_fault.LoadFault.{LoadFault}
 use Rattle.frame_cut.specs.declared.load_fault.LoadFault.TheVariants.{ReadFailed, OutOfMemory}
-use Rattle.frame_cut.specs.BinaryHeader.{text_count, format_code}
-use Rattle.frame_cut.specs.Heads.{blocks_for, with_blocks, with_format, head_of}
+use Rattle.frame_cut.specs.BinaryHeader.{order_of, text_count, format_code}
+use Rattle.frame_cut.specs.Heads.{blocks_for, with_blocks, with_format, head_from, head_of}
 use Rattle.frame_cut.specs.Frames.{trace_length}
 use Rattle.frame_cut.specs.Cuts.{IsRefused, refusal_by_length, trace_refusal}
 use Rattle.edit_overlay.specs.Loading.{IsLoadFault, FailuresAfterRefusal}
@@ -44,18 +45,23 @@ both_false : (b : Bool) → cond b false false ≡ false
 both_false true = refl
 both_false false = refl
 
-blocks-told : (reading : Reading) (bin rest : List ℕ) (format : Format) (blocks : Option ℕ) → says (with_blocks reading bin rest format blocks) ≡ false
-blocks-told reading bin rest format None = refl
-blocks-told reading bin rest format (Some n) = simp (says-cond, both_false) refl
+blocks-told : (reading : Reading) (o : Order) (bin rest : List ℕ) (format : Format) (blocks : Option ℕ) → says (with_blocks reading o bin rest format blocks) ≡ false
+blocks-told reading o bin rest format None = refl
+blocks-told reading o bin rest format (Some n) = simp (says-cond, both_false) refl
 
-format-told : (reading : Reading) (bin rest : List ℕ) (f : Result Format FormatFault) → says (with_format reading bin rest f) ≡ false
-format-told reading bin rest (Err Float) = refl
-format-told reading bin rest (Err Gain) = refl
-format-told reading bin rest (Err Unknown) = refl
-format-told reading bin rest (Ok format) = blocks-told reading bin rest format (blocks_for (text_count bin) rest)
+format-told : (reading : Reading) (o : Order) (bin rest : List ℕ) (f : Result Format FormatFault) → says (with_format reading o bin rest f) ≡ false
+format-told reading o bin rest (Err Float) = refl
+format-told reading o bin rest (Err Gain) = refl
+format-told reading o bin rest (Err Unknown) = refl
+format-told reading o bin rest (Ok format) = blocks-told reading o bin rest format (blocks_for (text_count o bin) rest)
+
+head_from-told : (reading : Reading) (o : Order) (bin rest : List ℕ) → o ≡ order_of reading bin → says (head_from reading bin rest) ≡ false
+head_from-told reading o bin rest is = rw (sym is) (simp (says-cond, format-told reading o bin rest (format_of reading.opaque (format_code o bin)), both_false) refl)
 
 head_of-told : (file : List ℕ) (reading : Reading) (limits : Limits) → says (head_of file reading limits) ≡ false
-head_of-told file reading limits = simp (says-cond, format-told reading (take 400 (drop 3200 file)) (drop 3600 file) (format_of (format_code (take 400 (drop 3200 file)))), both_false) refl
+head_of-told file reading limits =
+    let bin : List ℕ = take 400 (drop 3200 file) in
+    simp (says-cond, head_from-told reading (order_of reading bin) bin (drop 3600 file) refl, both_false) refl
 
 length-told : (limits : Limits) (p left : ℕ) (n : Option ℕ) → says_it (refusal_by_length limits p left n) ≡ false
 length-told limits p left None = refl

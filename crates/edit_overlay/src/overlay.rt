@@ -62,7 +62,7 @@ impl Overlay {
     ghost use Rattle.edit_overlay.specs.Shown.{shown_traces};
 
     /// Reads a whole file and cuts it. Takes memory. Refused: L01 where a read failed in this call,
-    /// L02 to L15 for the first reason that the file gives, L16 where a growth was refused.
+    /// L02 to L15 or L17 for the first reason that the file gives, L16 where no memory was.
     pub fn load<R: Read>(
         alloc: Global,
         reader: &mut Source<R>,

@@ -22,7 +22,7 @@ use Rattle.frame_cut.proofs.EditLemmas.{length-splice}
 use Rattle.trace_view.specs.Values.{value_at, samples_at, sample_of}
 use Rattle.trace_record.specs.Facts.{Facts}
 use Rattle.trace_record.specs.OfTrace.{bound_value, record_of}
-use Rattle.trace_record.specs.Rising.{rising}
+use Rattle.key_counts.specs.Rising.{rising}
 use Rattle.time_slice.specs.declared.row.Row.{Row}
 use Rattle.time_slice.specs.Cache.{is_from}
 use Rattle.time_slice.specs.Slices.{row_cmp, row_of, rows_from, with_sample, slice_of}

@@ -8,7 +8,7 @@ use Rattle.grid_live.specs.GridKeys.{keys_of_grid}
 use Rattle.range_stats.specs.RangeKeys.{keys_of_ranges}
 use Rattle.range_stats.specs.TotalKeys.{keys_of_totals}
 use Rattle.trace_record.specs.Tally.{tally_of, Same}
-use Rattle.trace_record.specs.declared.ratio.Ratio.{Ratio}
+use Rattle.key_counts.specs.declared.ratio.Ratio.{Ratio}
 use Rattle.grid_live.specs.OfGrid.{tally_of_grid}
 use Rattle.grid_live.specs.OfTally.{ShowsCells, ShowsInlines, ShowsCrosslines, ShowsHistogram}
 use Rattle.grid_live.specs.declared.cell.Cell.{Cell}

@@ -3,7 +3,7 @@ use Rattle.std.specs.Prelude.{◌≡◌, [], ◌∷◌, pos, negsuc, Some, Ok, E
 use Rattle.field_map.specs.Binding.{geometry_at_load}
 use Rattle.frame_cut.specs.declared.reading.Reading.TheVariants.{AsWritten}
 use Rattle.frame_cut.specs.SmallFiles.{wide_limits, volume_plain}
-use Rattle.trace_record.specs.Coordinates.{under_scalar}
+use Rattle.key_counts.specs.Coordinates.{under_scalar}
 use Rattle.trace_record.specs.SmallSurvey.{survey, trace_2}
 use Rattle.bench_rules.specs.Reports.{records, head_facts, faults_in, geometry_in, location_of}
 use Rattle.bench_rules.specs.Answer.{answer}

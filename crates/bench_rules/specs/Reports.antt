@@ -10,7 +10,7 @@ use Rattle.trace_view.specs.Values.{samples_of}
 use Rattle.trace_record.specs.Facts.{Facts}
 use Rattle.trace_record.specs.OfTrace.{record_of}
 use Rattle.trace_record.specs.Statistics.{statistics_of}
-use Rattle.trace_record.specs.declared.ratio.Ratio.{Ratio}
+use Rattle.key_counts.specs.declared.ratio.Ratio.{Ratio}
 use Rattle.trace_record.specs.declared.statistics.Statistics.{Statistics}
 use Rattle.grid_live.specs.Cells.{fold_of, cells, inlines, crosslines, histogram}
 use Rattle.grid_live.specs.declared.cell.Cell.{Cell}

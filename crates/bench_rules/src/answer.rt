@@ -7,9 +7,10 @@ use crate::text::Text;
 use fault_live::Fault;
 use field_map::Place;
 use grid_live::{Cell, FoldCount};
+use key_counts::Ratio;
 use text_block::Code;
 use time_slice::Row;
-use trace_record::{Ratio, Statistics};
+use trace_record::Statistics;
 
 /// The answer to a query.
 #[derive(Drop)]

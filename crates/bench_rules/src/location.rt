@@ -1,4 +1,4 @@
-use trace_record::Ratio;
+use key_counts::Ratio;
 
 /// Where a trace lies: its numbers as they stand, and its coordinates under its scalar.
 #[derive(Debug, Clone, Copy, PartialEq, Eq)]

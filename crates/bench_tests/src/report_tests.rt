@@ -3,12 +3,12 @@ use crate::tests::{meets, on_file, put_bytes, sample_file, signed};
 use bench_core::{Answer, AskFault, Bench, Edit, Field, Query, Text};
 use field_map::Place;
 use frame_cut::Reading;
+use key_counts::Ratio;
 use num_order::Kind;
 use range_stats::Quantity;
 use std::alloc::Global;
 use std::process::Abort;
 use std::test::Fail;
-use trace_record::Ratio;
 
 // What the function answers of the small file: its traces on crosslines 21, 22 and 23, and with
 // samples 1 and -2, 3 and 4, -5 and 6.

@@ -6,12 +6,12 @@ use Rattle.std.specs.Ordering.{int_cmp}
 use Rattle.trace_record.specs.Facts.{facts_of}
 use Rattle.fault_live.specs.FaultKeys.{faults_has, keys_of_faults}
 use Rattle.trace_record.specs.Keys.{cell, inline, crossline, offset, coordinate_x, coordinate_y, least, greatest, triple}
-use Rattle.trace_record.specs.Rising.{Shows, times_in}
+use Rattle.key_counts.specs.Rising.{Shows, times_in}
 use Rattle.trace_record.specs.Tally.{Same, tally_of}
 use Rattle.trace_record.specs.declared.record.Record.{Record}
-use Rattle.trace_record.proofs.KeyLemmas.{is_eq-triple}
+use Rattle.key_counts.proofs.KeyLemmas.{is_eq-triple}
 use Rattle.trace_record.proofs.LoadLemmas.{sum_by-zero, int_sum-zero, map-facts}
-use Rattle.trace_record.proofs.ShownLemmas.{times_in-map}
+use Rattle.key_counts.proofs.ShownLemmas.{times_in-map}
 use Rattle.fault_live.specs.OfFaults.{triple_cmp, tally_of_faults}
 use Rattle.fault_live.proofs.FirstLemmas.{key}
 use Rattle.fault_live.specs.declared.faults.Faults.{Faults}

@@ -11,7 +11,7 @@ use Rattle.trace_record.specs.Facts.{Facts}
 use Rattle.trace_record.specs.Keys.{triple}
 use Rattle.fault_live.specs.FaultKeys.{faults_has, keys_of_faults}
 use Rattle.trace_record.specs.Tally.{tally_of}
-use Rattle.trace_record.proofs.KeyLemmas.{int_eq-itself}
+use Rattle.key_counts.proofs.KeyLemmas.{int_eq-itself}
 use Rattle.fault_live.specs.Faults.{same_triple, repeat_fault}
 use Rattle.fault_live.specs.declared.fault.Fault.TheVariants.{Repeated}
 use Rattle.fault_live.specs.Laws.{OnceIsNotRepeated}

@@ -2,7 +2,7 @@
 use Rattle.std.specs.Prelude.{◌≡◌, ◌&&◌, zero, suc, ℤ, Bool, if◌then◌else◌}
 use Rattle.std.proofs.Common.{ap, ap₂, int_cmp}
 use Rattle.std.specs.Ordering.{is_eq}
-use Rattle.trace_record.proofs.KeyLemmas.{is_eq-triple, int_eq-itself}
+use Rattle.key_counts.proofs.KeyLemmas.{is_eq-triple, int_eq-itself}
 use Rattle.trace_record.specs.Facts.{Facts}
 use Rattle.trace_record.specs.Keys.{triple}
 use Rattle.fault_live.specs.FaultKeys.{keys_of_faults}

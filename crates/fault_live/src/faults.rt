@@ -1,7 +1,7 @@
 ghost use Rattle.std.specs.Prelude.{◌≡◌, ℤ, OnOk, IfOk, Some, unwrap_or, cond, nat_lt, ◌<◌, ◌^◌, length, map, ◌&&◌};
 ghost use Rattle.std.specs.Ordering.{is_eq};
 ghost use Rattle.std.specs.BTreeMap.{get};
-ghost use Rattle.trace_record.specs.Counts.{count_of};
+ghost use Rattle.key_counts.specs.Counts.{count_of};
 ghost use Rattle.trace_record.specs.Facts.{facts_of};
 ghost use Rattle.fault_live.specs.FaultKeys.{keys_of_faults};
 ghost use Rattle.trace_record.specs.Tally.{Same, tally_of};
@@ -11,9 +11,10 @@ ghost use Rattle.fault_live.specs.Faults.{faults_of};
 use crate::firsts::{first_place, key_of, keys_of};
 use crate::report::{push_head, push_trace, units_of_first};
 use crate::{Fault, HeadFacts, OutOfMemory};
+use key_counts::Counts;
 use std::alloc::Global;
 use std::collections::BTreeMap;
-use trace_record::{Counts, Record, Records, Running};
+use trace_record::{Record, Records, Running};
 
 /// How often inline, crossline and offset stand together, over traces that come and go.
 #[derive(Drop)]

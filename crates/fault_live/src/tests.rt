@@ -3,9 +3,10 @@
 ghost use Rattle.std.specs.Prelude.{◌<◌, ◌^◌, length};
 
 use crate::{Fault, Faults, HeadFacts};
+use key_counts::Ratio;
 use std::alloc::Global;
 use std::test::Fail;
-use trace_record::{OutOfMemory, Ratio, Record, Records, Running};
+use trace_record::{OutOfMemory, Record, Records, Running};
 
 fn there_and_back(alloc: Global, trace: &Record) -> Result<Faults, OutOfMemory> {
     let mut faults = Faults::new(alloc);

@@ -6,7 +6,7 @@ use mir.Val.{to_z, of_z}
 use Rattle.std.proofs.lemmas.Int.{to_z-of_z}
 use Rattle.std.specs.Ordering.{is_eq}
 use Rattle.std.specs.Cmp.{Equal-is}
-use Rattle.trace_record.specs.Counts.{count_of}
+use Rattle.key_counts.specs.Counts.{count_of}
 use Rattle.grid_live.specs.Cells.{cell_cmp}
 use Rattle.grid_live.specs.Fitting.{CellsFit}
 use Rattle.grid_live.proofs.GridLemmas.{exact_cells}

@@ -4,14 +4,14 @@ use Rattle.std.proofs.Common.{sym, ap, ◌∙◌, subst}
 use Rattle.std.proofs.lemmas.Map.Lookups.{CmpEqualImpliesEq, exact_signed, exact_unsigned, exact_pairs}
 use Rattle.std.specs.Ordering.{int_cmp, int_eq, nat_cmp}
 use Rattle.std.proofs.lemmas.Cmp.{nat_cmp_total}
-use Rattle.trace_record.specs.Counts.{count_of}
+use Rattle.key_counts.specs.Counts.{count_of}
 use Rattle.std.specs.Cmp.{IsTotalOrder, int_cmp_total, then_total, on_total}
 use Rattle.trace_record.specs.Keys.{cell, inline, crossline}
 use Rattle.grid_live.specs.GridKeys.{keys_of_grid}
-use Rattle.trace_record.specs.Rising.{Shows, times_in}
+use Rattle.key_counts.specs.Rising.{Shows, times_in}
 use Rattle.trace_record.specs.Tally.{Tally, tally_of}
-use Rattle.trace_record.proofs.KeyLemmas.{is_eq-pair}
-use Rattle.trace_record.proofs.ShownLemmas.{Shows-same, Shows-occurrences, one_shown, times_in-map}
+use Rattle.key_counts.proofs.KeyLemmas.{is_eq-pair}
+use Rattle.key_counts.proofs.ShownLemmas.{Shows-same, Shows-occurrences, one_shown, times_in-map}
 use Rattle.grid_live.specs.declared.cell.Cell.{Cell}
 use Rattle.grid_live.specs.declared.line.Line.{Line}
 use Rattle.grid_live.specs.declared.fold_count.FoldCount.{FoldCount}

@@ -10,12 +10,12 @@ use Rattle.std.specs.Cmp.{Equal-is}
 use Rattle.trace_record.specs.Facts.{facts_of}
 use Rattle.grid_live.specs.GridKeys.{grid_has, keys_of_grid}
 use Rattle.trace_record.specs.Keys.{cell, inline, crossline, offset, coordinate_x, coordinate_y, least, greatest, triple}
-use Rattle.trace_record.specs.Rising.{Shows, times_in}
+use Rattle.key_counts.specs.Rising.{Shows, times_in}
 use Rattle.trace_record.specs.Tally.{Same, tally_of}
 use Rattle.trace_record.specs.declared.record.Record.{Record}
-use Rattle.trace_record.proofs.KeyLemmas.{is_eq-pair}
+use Rattle.key_counts.proofs.KeyLemmas.{is_eq-pair}
 use Rattle.trace_record.proofs.LoadLemmas.{sum_by-zero, int_sum-zero, map-facts}
-use Rattle.trace_record.proofs.ShownLemmas.{times_in-map}
+use Rattle.key_counts.proofs.ShownLemmas.{times_in-map}
 use Rattle.grid_live.specs.Cells.{cell_cmp}
 use Rattle.grid_live.specs.Fitting.{CellsFit}
 use Rattle.grid_live.specs.OfGrid.{tally_of_grid}

@@ -1,7 +1,7 @@
 -- Cells whose inline and crossline fit 32 bits.
 use Rattle.std.specs.Prelude.{ℕ, ℤ, ◌<◌, List, FitsSigned}
 use Rattle.std.specs.Int.{w32}
-use Rattle.trace_record.specs.Counts.{count_of}
+use Rattle.key_counts.specs.Counts.{count_of}
 use Rattle.grid_live.specs.Cells.{cell_cmp}
 
 -- each counted cell fits

@@ -3,7 +3,7 @@ use Rattle.std.specs.Prelude.{◌≡◌, List, map}
 use Rattle.std.specs.Ordering.{int_cmp}
 use Rattle.trace_record.specs.Keys.{cell, inline, crossline}
 use Rattle.trace_record.specs.Tally.{Tally}
-use Rattle.trace_record.specs.Rising.{Shows}
+use Rattle.key_counts.specs.Rising.{Shows}
 use Rattle.grid_live.specs.Cells.{cell_cmp, histogram_of}
 use Rattle.grid_live.specs.declared.cell.Cell.{Cell}
 use Rattle.grid_live.specs.declared.line.Line.{Line}

@@ -3,8 +3,9 @@ ghost use Rattle.grid_live.specs.Fitting.{CellsFit};
 use crate::keys::{cell_keys, crossline_keys, inline_keys};
 use crate::lists::{histogram_of_cells, lines_of};
 use crate::{Cell, FoldCount, Line, OutOfMemory};
+use key_counts::{Counts, raise_both};
 use std::alloc::Global;
-use trace_record::{Counts, Record, Records, Running, raise_both};
+use trace_record::{Record, Records, Running};
 
 /// How many traces each cell, inline and crossline has, over traces that come and go. It keeps its
 /// allocator.
@@ -124,7 +125,7 @@ impl Running for Grid {
             Err(refused) => {
                 self.inlines.lower(&trace.inline);
                 self.crosslines.lower(&trace.crossline);
-                Err(refused)
+                Err(trace_record::OutOfMemory::from(refused))
             }
         }
     }

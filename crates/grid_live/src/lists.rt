@@ -1,13 +1,13 @@
 // Lists made of counts.
 ghost use Rattle.std.specs.Prelude.{◌≡◌, IfOk, map};
 ghost use Rattle.std.specs.Ordering.{int_cmp, nat_cmp};
-ghost use Rattle.trace_record.specs.Counts.{count_of};
-ghost use Rattle.trace_record.specs.Rising.{Shows, times_in};
+ghost use Rattle.key_counts.specs.Counts.{count_of};
+ghost use Rattle.key_counts.specs.Rising.{Shows, times_in};
 ghost use Rattle.grid_live.specs.Cells.{histogram_of};
 
 use crate::{Cell, FoldCount, Line, OutOfMemory};
+use key_counts::Counts;
 use std::alloc::Global;
-use trace_record::Counts;
 
 // The counted lines with their numbers of traces.
 pub fn lines_of(alloc: Global, counts: &Counts<i32>) -> Result<Vec<Line>, OutOfMemory>

@@ -1,8 +1,9 @@
 // Traces that are counted and no longer are, with values worked by hand.
 use crate::{Cell, FoldCount, Grid, Line};
+use key_counts::Ratio;
 use std::alloc::Global;
 use std::test::Fail;
-use trace_record::{OutOfMemory, Ratio, Record, Running};
+use trace_record::{OutOfMemory, Record, Running};
 
 // The grid of the second trace, once the first came and went.
 fn second_alone(alloc: Global, first: &Record, second: &Record) -> Result<Grid, OutOfMemory> {

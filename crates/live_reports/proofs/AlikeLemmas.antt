@@ -7,8 +7,8 @@ use Rattle.std.proofs.lemmas.Bool.Decides.{nat_tests}
 use Rattle.std.proofs.lemmas.Map.Lookups.{exact_signed}
 use Rattle.trace_record.specs.Facts.{facts_of}
 use Rattle.trace_record.specs.Keys.{cell, inline, crossline, offset, coordinate_x, coordinate_y, least, greatest, triple}
-use Rattle.trace_record.specs.RatioOrder.{ratio_cmp, exact_ratios}
-use Rattle.trace_record.specs.declared.ratio.Ratio.{Ratio}
+use Rattle.key_counts.specs.RatioOrder.{ratio_cmp, exact_ratios}
+use Rattle.key_counts.specs.declared.ratio.Ratio.{Ratio}
 use Rattle.trace_record.specs.declared.record.Record.{Record}
 use Rattle.fault_live.specs.FaultKeys.{keys_of_faults}
 use Rattle.grid_live.specs.GridKeys.{keys_of_grid}

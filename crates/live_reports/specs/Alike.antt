@@ -1,7 +1,7 @@
 -- Records that a running value counts alike: they have the same keys, number and sum of samples there.
 use Rattle.std.specs.Prelude.{Bool, ◌&&◌, ◌==◌}
 use Rattle.std.specs.Ordering.{is_eq, int_eq}
-use Rattle.trace_record.specs.RatioOrder.{ratio_cmp}
+use Rattle.key_counts.specs.RatioOrder.{ratio_cmp}
 use Rattle.trace_record.specs.declared.record.Record.{Record}
 
 -- the grid counts both records alike: they have the same inline and crossline

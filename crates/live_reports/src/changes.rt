@@ -1,7 +1,7 @@
 // Which running values a record changes where it stands in for another.
 ghost use Rattle.std.specs.Prelude.{◌≡◌, true, not, ◌&&◌, ◌==◌};
 ghost use Rattle.std.specs.Ordering.{is_eq, int_eq};
-ghost use Rattle.trace_record.specs.RatioOrder.{ratio_cmp};
+ghost use Rattle.key_counts.specs.RatioOrder.{ratio_cmp};
 ghost use Rattle.live_reports.specs.Alike.{same_cell, same_places, same_samples, same_triple};
 
 use trace_record::Record;

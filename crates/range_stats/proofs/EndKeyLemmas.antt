@@ -1,7 +1,7 @@
 -- The least and the greatest sample of a trace among those that are counted.
 use Rattle.std.specs.Prelude.{◌≡◌, ◌&&◌, ◌<◌, ℕ, zero, suc, nat_lt, true, Bool, if◌then◌else◌, refl}
 use Rattle.std.proofs.Common.{arith, ap, ap₂}
-use Rattle.trace_record.proofs.KeyLemmas.{int_eq-itself}
+use Rattle.key_counts.proofs.KeyLemmas.{int_eq-itself}
 use Rattle.trace_record.specs.Facts.{Facts}
 use Rattle.trace_record.specs.Keys.{least, greatest}
 use Rattle.range_stats.specs.TotalKeys.{keys_of_totals}

@@ -12,7 +12,7 @@ use Rattle.std.specs.declared.cmp.Ordering.TheVariants.{Less, Equal, Greater}
 use Rattle.std.proofs.lemmas.Map.{lookup-none}
 use Rattle.std.proofs.lemmas.Map.Entries.{lookup_head, none_below_head}
 use Rattle.std.proofs.lemmas.List.Elements.{All-head, All-tail}
-use Rattle.trace_record.specs.Counts.{count_of}
+use Rattle.key_counts.specs.Counts.{count_of}
 use Rattle.range_stats.specs.Extremes.{IsLeastKey, IsGreatestKey}
 
 flipped : (r : Ordering) → is_gt r ≡ true → ordering_reverse r ≡ Less

@@ -6,15 +6,15 @@ use Rattle.std.proofs.lemmas.List.Sums.{sum_by-cons}
 use Rattle.std.specs.Ordering.{int_cmp, int_eq, is_eq}
 use Rattle.trace_record.specs.Facts.{Facts, facts_of}
 use Rattle.range_stats.specs.RangeKeys.{ranges_has, keys_of_ranges}
-use Rattle.trace_record.specs.Counts.{count_of}
-use Rattle.trace_record.specs.declared.ratio.Ratio.{Ratio}
+use Rattle.key_counts.specs.Counts.{count_of}
+use Rattle.key_counts.specs.declared.ratio.Ratio.{Ratio}
 use Rattle.trace_record.specs.Keys.{cell, inline, crossline, offset, coordinate_x, coordinate_y, least, greatest, triple}
-use Rattle.trace_record.specs.RatioOrder.{ratio_cmp}
-use Rattle.trace_record.specs.Rising.{Shows, times_in}
+use Rattle.key_counts.specs.RatioOrder.{ratio_cmp}
+use Rattle.key_counts.specs.Rising.{Shows, times_in}
 use Rattle.trace_record.specs.Tally.{Same, tally_of}
 use Rattle.trace_record.specs.declared.record.Record.{Record}
 use Rattle.trace_record.proofs.LoadLemmas.{sum_by-zero, int_sum-zero, map-facts}
-use Rattle.trace_record.proofs.ShownLemmas.{times_in-map}
+use Rattle.key_counts.proofs.ShownLemmas.{times_in-map}
 use Rattle.range_stats.specs.OfRanges.{tally_of_ranges}
 use Rattle.range_stats.specs.OfTotals.{tally_of_totals}
 use Rattle.range_stats.specs.TotalKeys.{keys_of_totals}

@@ -3,11 +3,11 @@ use Rattle.std.specs.Prelude.{◌≡◌, zero, suc, Bool, if◌then◌else◌, r
 use Rattle.std.proofs.Common.{ap}
 use Rattle.std.specs.Ordering.{is_eq}
 use Rattle.std.specs.Cmp.{tied_itself}
-use Rattle.trace_record.proofs.KeyLemmas.{int_eq-itself}
+use Rattle.key_counts.proofs.KeyLemmas.{int_eq-itself}
 use Rattle.trace_record.specs.Facts.{Facts}
 use Rattle.trace_record.specs.Keys.{inline, crossline, offset, coordinate_x, coordinate_y}
 use Rattle.range_stats.specs.RangeKeys.{keys_of_ranges}
-use Rattle.trace_record.specs.RatioOrder.{ratio_total}
+use Rattle.key_counts.specs.RatioOrder.{ratio_total}
 use Rattle.trace_record.specs.Tally.{times}
 
 pub times-inline : (f : Facts) → times keys_of_ranges f (inline f.inline) ≡ 1

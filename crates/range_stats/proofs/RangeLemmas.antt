@@ -7,8 +7,8 @@ use Rattle.std.specs.declared.cmp.Ordering.{Ordering}
 use Rattle.std.specs.declared.cmp.Ordering.TheVariants.{Less, Equal, Greater}
 use Rattle.std.proofs.lemmas.List.Elements.{All-cons, All-nil, All-weaker, All-contains, Contains-append_left, Contains-append_right, Contains-push, All-same}
 use Rattle.trace_record.specs.Facts.{Facts}
-use Rattle.trace_record.specs.RatioOrder.{ratio_cmp, ratio_total, exact_ratios}
-use Rattle.trace_record.specs.declared.ratio.Ratio.{Ratio}
+use Rattle.key_counts.specs.RatioOrder.{ratio_cmp, ratio_total, exact_ratios}
+use Rattle.key_counts.specs.declared.ratio.Ratio.{Ratio}
 use Rattle.range_stats.specs.declared.quantity.Quantity.{Quantity}
 use Rattle.range_stats.specs.Ranges.{value_under, Spans, IsRangeOf, IsRange, range_with, range_over, range_of}
 use Rattle.range_stats.specs.Laws.{AtMostOneRange}

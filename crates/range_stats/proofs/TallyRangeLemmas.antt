@@ -10,11 +10,11 @@ use Rattle.trace_record.specs.Facts.{Facts}
 use Rattle.trace_record.specs.Keys.{inline, crossline, offset, coordinate_x, coordinate_y}
 use Rattle.range_stats.specs.RangeKeys.{keys_of_ranges}
 use Rattle.trace_record.specs.Tally.{Tally, tally_of, Same}
-use Rattle.trace_record.specs.Rising.{times_in}
-use Rattle.trace_record.specs.Coordinates.{whole}
-use Rattle.trace_record.specs.RatioOrder.{ratio_cmp, ratio_total, ratio_ties, exact_ratios}
-use Rattle.trace_record.specs.declared.ratio.Ratio.{Ratio}
-use Rattle.trace_record.proofs.ShownLemmas.{times_in-map}
+use Rattle.key_counts.specs.Rising.{times_in}
+use Rattle.key_counts.specs.Coordinates.{whole}
+use Rattle.key_counts.specs.RatioOrder.{ratio_cmp, ratio_total, ratio_ties, exact_ratios}
+use Rattle.key_counts.specs.declared.ratio.Ratio.{Ratio}
+use Rattle.key_counts.proofs.ShownLemmas.{times_in-map}
 use Rattle.range_stats.specs.declared.quantity.Quantity.{Quantity}
 use Rattle.range_stats.specs.declared.quantity.Quantity.TheVariants.{Inline, Crossline, Offset, X, Y}
 use Rattle.range_stats.specs.Ranges.{value_under, IsRangeOf, range_of}

@@ -9,11 +9,11 @@ use Rattle.std.specs.Ordering.{is_eq, int_cmp, int_eq}
 use Rattle.std.specs.Cmp.{Equal-is}
 use Rattle.trace_record.specs.Facts.{Facts, with_samples}
 use Rattle.trace_record.specs.Keys.{least, greatest}
-use Rattle.trace_record.specs.Rising.{times_in}
+use Rattle.key_counts.specs.Rising.{times_in}
 use Rattle.trace_record.specs.Statistics.{least_of, greatest_of, int_sum, statistics_of}
 use Rattle.trace_record.specs.declared.statistics.Statistics.{Statistics}
-use Rattle.trace_record.proofs.KeyLemmas.{int_eq-itself}
-use Rattle.trace_record.proofs.ShownLemmas.{times_in-map}
+use Rattle.key_counts.proofs.KeyLemmas.{int_eq-itself}
+use Rattle.key_counts.proofs.ShownLemmas.{times_in-map}
 use Rattle.trace_record.proofs.StatisticsLemmas.{least_of-append, greatest_of-append, int_sum-append}
 use Rattle.range_stats.specs.Totals.{traces_with_samples, totals_over}
 use Rattle.range_stats.specs.OfTally.{IsLeastOf, IsGreatestOf, statistics_from}

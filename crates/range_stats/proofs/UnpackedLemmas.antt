@@ -6,13 +6,13 @@ use Rattle.std.specs.Cmp.{Equal-is}
 use Rattle.std.specs.Map.{lookup}
 use Rattle.std.specs.BTreeMap.{is_at}
 use Rattle.std.specs.Ordering.{is_eq, is_gt}
-use Rattle.trace_record.specs.Counts.{count_of, HasOneMore}
-use Rattle.trace_record.specs.Packed.{ratio_in, packed_cmp}
-use Rattle.trace_record.specs.RatioOrder.{ratio_cmp, exact_ratios}
-use Rattle.trace_record.specs.Rising.{times_in}
-use Rattle.trace_record.specs.declared.packed_ratio.PackedRatio.{PackedRatio}
-use Rattle.trace_record.specs.declared.ratio.Ratio.{Ratio}
-use Rattle.trace_record.proofs.ShownLemmas.{times_in-map}
+use Rattle.key_counts.specs.Counts.{count_of, HasOneMore}
+use Rattle.key_counts.specs.Packed.{ratio_in, packed_cmp}
+use Rattle.key_counts.specs.RatioOrder.{ratio_cmp, exact_ratios}
+use Rattle.key_counts.specs.Rising.{times_in}
+use Rattle.key_counts.specs.declared.packed_ratio.PackedRatio.{PackedRatio}
+use Rattle.key_counts.specs.declared.ratio.Ratio.{Ratio}
+use Rattle.key_counts.proofs.ShownLemmas.{times_in-map}
 use Rattle.range_stats.specs.Extremes.{IsBetween, IsSpan}
 use Rattle.range_stats.specs.Unpacked.{with_ratios}
 

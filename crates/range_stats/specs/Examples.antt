@@ -1,10 +1,10 @@
 -- Ranges and totals, worked by hand.
 use Rattle.std.specs.Prelude.{◌≡◌, ℕ, ℤ, pos, negsuc, [], ◌∷◌, Option, Some, None, option_map, refl}
 use Rattle.trace_record.specs.Facts.{with_samples}
-use Rattle.trace_record.specs.Coordinates.{under_scalar, over, greatest_divisor}
-use Rattle.trace_record.specs.RatioOrder.{fraction_of}
+use Rattle.key_counts.specs.Coordinates.{under_scalar, over, greatest_divisor}
+use Rattle.key_counts.specs.RatioOrder.{fraction_of}
 use Rattle.trace_record.specs.SmallSurvey.{trace_1, trace_2, survey}
-use Rattle.trace_record.specs.declared.ratio.Ratio.{Ratio}
+use Rattle.key_counts.specs.declared.ratio.Ratio.{Ratio}
 use Rattle.range_stats.specs.declared.quantity.Quantity.TheVariants.{Inline, X}
 use Rattle.range_stats.specs.Ranges.{range_over, range_of}
 use Rattle.range_stats.specs.Totals.{totals_of}

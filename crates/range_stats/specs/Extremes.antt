@@ -2,8 +2,8 @@
 use Rattle.std.specs.Prelude.{◌≡◌, ◌==◌, ℕ, ℤ, ◌<◌, false, if◌then◌else◌, List, Option, Some, None}
 use Rattle.std.specs.Ordering.{is_gt, int_cmp}
 use Rattle.std.specs.declared.cmp.Ordering.{Ordering}
-use Rattle.trace_record.specs.Counts.{count_of}
-use Rattle.trace_record.specs.declared.ratio.Ratio.{Ratio}
+use Rattle.key_counts.specs.Counts.{count_of}
+use Rattle.key_counts.specs.declared.ratio.Ratio.{Ratio}
 
 -- a counted key that is above no counted key, and none where none is counted
 abbrev pub IsLeastKey : {K : Type 0} → (K → K → Ordering) → List (K × ℕ) → Option K → Type 0

@@ -5,7 +5,7 @@ use Rattle.range_stats.specs.RangeKeys.{keys_of_ranges}
 use Rattle.range_stats.specs.TotalKeys.{keys_of_totals}
 use Rattle.trace_record.specs.Tally.{Tally, tally_of, Same}
 use Rattle.trace_record.specs.Statistics.{statistics_of}
-use Rattle.trace_record.specs.declared.ratio.Ratio.{Ratio}
+use Rattle.key_counts.specs.declared.ratio.Ratio.{Ratio}
 use Rattle.range_stats.specs.declared.quantity.Quantity.{Quantity}
 use Rattle.range_stats.specs.Ranges.{IsRange, range_of}
 use Rattle.range_stats.specs.Totals.{totals_of}

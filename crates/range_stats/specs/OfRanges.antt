@@ -1,9 +1,9 @@
 -- The tally that a `Ranges` shows.
 use Rattle.std.specs.Prelude.{ℕ, pos}
 use Rattle.std.specs.Ordering.{int_cmp}
-use Rattle.trace_record.specs.Counts.{count_of}
+use Rattle.key_counts.specs.Counts.{count_of}
 use Rattle.trace_record.specs.Keys.{Key, cell, inline, crossline, offset, coordinate_x, coordinate_y, least, greatest, triple}
-use Rattle.trace_record.specs.RatioOrder.{ratio_cmp}
+use Rattle.key_counts.specs.RatioOrder.{ratio_cmp}
 use Rattle.trace_record.specs.Tally.{Tally}
 use Rattle.range_stats.specs.declared.ranges.Ranges.{Ranges}
 

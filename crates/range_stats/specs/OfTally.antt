@@ -2,8 +2,8 @@
 use Rattle.std.specs.Prelude.{◌≡◌, ◌==◌, ℕ, ℤ, ◌<◌, ◌≤ℤ◌, if◌then◌else◌, Option, Some, None}
 use Rattle.trace_record.specs.Keys.{inline, crossline, offset, coordinate_x, coordinate_y, least, greatest}
 use Rattle.trace_record.specs.Tally.{Tally}
-use Rattle.trace_record.specs.RatioOrder.{ratio_cmp}
-use Rattle.trace_record.specs.declared.ratio.Ratio.{Ratio}
+use Rattle.key_counts.specs.RatioOrder.{ratio_cmp}
+use Rattle.key_counts.specs.declared.ratio.Ratio.{Ratio}
 use Rattle.trace_record.specs.declared.statistics.Statistics.{Statistics}
 use Rattle.range_stats.specs.Extremes.{IsSpan}
 use Rattle.range_stats.specs.declared.quantity.Quantity.{Quantity}

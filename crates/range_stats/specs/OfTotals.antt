@@ -1,7 +1,7 @@
 -- The tally that a `Totals` shows.
 use Rattle.std.specs.Prelude.{ℕ}
 use Rattle.std.specs.Ordering.{int_cmp}
-use Rattle.trace_record.specs.Counts.{count_of}
+use Rattle.key_counts.specs.Counts.{count_of}
 use Rattle.trace_record.specs.Keys.{Key, cell, inline, crossline, offset, coordinate_x, coordinate_y, least, greatest, triple}
 use Rattle.trace_record.specs.Tally.{Tally}
 use Rattle.range_stats.specs.declared.totals.Totals.{Totals}

@@ -3,7 +3,7 @@ use Rattle.std.specs.Prelude.{pos, Bool, false}
 use Rattle.std.specs.Ordering.{is_eq, int_eq}
 use Rattle.trace_record.specs.Facts.{Facts}
 use Rattle.trace_record.specs.Keys.{Key, Counted, inline, crossline, offset, coordinate_x, coordinate_y}
-use Rattle.trace_record.specs.RatioOrder.{ratio_cmp}
+use Rattle.key_counts.specs.RatioOrder.{ratio_cmp}
 
 -- the ranges count the value of each quantity that has a range
 abbrev pub ranges_has : Facts → Key → Bool

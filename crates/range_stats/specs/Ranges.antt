@@ -2,9 +2,9 @@
 use Rattle.std.specs.Prelude.{◌≡◌, false, List, [], ◌∷◌, map, All, Contains, Option, Some, None}
 use Rattle.std.specs.Ordering.{is_gt, ord_min, ord_max}
 use Rattle.trace_record.specs.Facts.{Facts}
-use Rattle.trace_record.specs.Coordinates.{whole}
-use Rattle.trace_record.specs.RatioOrder.{ratio_cmp}
-use Rattle.trace_record.specs.declared.ratio.Ratio.{Ratio}
+use Rattle.key_counts.specs.Coordinates.{whole}
+use Rattle.key_counts.specs.RatioOrder.{ratio_cmp}
+use Rattle.key_counts.specs.declared.ratio.Ratio.{Ratio}
 use Rattle.range_stats.specs.declared.quantity.Quantity.{Quantity}
 use Rattle.range_stats.specs.declared.quantity.Quantity.TheVariants.{Inline, Crossline, Offset, X, Y}
 

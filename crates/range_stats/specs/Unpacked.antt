@@ -1,8 +1,8 @@
 -- Counts of packed coordinates, seen as counts of the coordinates.
 use Rattle.std.specs.Prelude.{ℕ, List, map}
-use Rattle.trace_record.specs.Packed.{ratio_in}
-use Rattle.trace_record.specs.declared.packed_ratio.PackedRatio.{PackedRatio}
-use Rattle.trace_record.specs.declared.ratio.Ratio.{Ratio}
+use Rattle.key_counts.specs.Packed.{ratio_in}
+use Rattle.key_counts.specs.declared.packed_ratio.PackedRatio.{PackedRatio}
+use Rattle.key_counts.specs.declared.ratio.Ratio.{Ratio}
 
 -- each coordinate with its number
 abbrev pub with_ratios : List (PackedRatio × ℕ) → List (Ratio × ℕ)

@@ -1,14 +1,14 @@
 ghost use Rattle.std.specs.Prelude.{◌≡◌, ◌+◌, ◌<◌, ◌^◌, [], map, OnOk, OnErr, IsOk, IfOk};
-ghost use Rattle.trace_record.specs.Counts.{count_of, HasOneMore, HasSameCounts};
-ghost use Rattle.trace_record.specs.Packed.{ratio_in};
-ghost use Rattle.trace_record.specs.RatioOrder.{ratio_cmp};
-ghost use Rattle.trace_record.specs.Rising.{times_in};
+ghost use Rattle.key_counts.specs.Counts.{count_of, HasOneMore, HasSameCounts};
+ghost use Rattle.key_counts.specs.Packed.{ratio_in};
+ghost use Rattle.key_counts.specs.RatioOrder.{ratio_cmp};
+ghost use Rattle.key_counts.specs.Rising.{times_in};
 ghost use Rattle.range_stats.specs.Extremes.{IsSpan};
 
 use crate::counted::span;
+use key_counts::{Counts, OutOfMemory, PackedRatio, Ratio};
 use std::alloc::Global;
 use std::marker::Model;
-use trace_record::{Counts, OutOfMemory, PackedRatio, Ratio};
 
 /// How often each coordinate was counted, with 8 bytes for a key, seen as the list of the
 /// coordinates with their numbers.
@@ -20,8 +20,8 @@ pub struct CoordinateCounts {
 impl Model for CoordinateCounts {
     ghost use Rattle.std.specs.Prelude.{ℕ, List};
     ghost use Rattle.std.specs.Coded.{codes};
-    ghost use Rattle.trace_record.specs.contracts.ratio.Ratio as ratio_contract;
-    ghost use Rattle.trace_record.specs.declared.ratio.Ratio.{Ratio};
+    ghost use Rattle.key_counts.specs.contracts.ratio.Ratio as ratio_contract;
+    ghost use Rattle.key_counts.specs.declared.ratio.Ratio.{Ratio};
     ghost use Rattle.range_stats.specs.Unpacked.{with_ratios};
 
     ghost Value = { List (Ratio × ℕ) };

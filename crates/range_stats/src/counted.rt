@@ -1,8 +1,8 @@
 // The ends of what is counted.
-ghost use Rattle.trace_record.specs.Counts.{count_of};
+ghost use Rattle.key_counts.specs.Counts.{count_of};
 ghost use Rattle.range_stats.specs.Extremes.{IsLeastKey, IsGreatestKey, IsSpan};
 
-use trace_record::Counts;
+use key_counts::Counts;
 
 // The least key that is counted. Takes no memory.
 pub(crate) fn least_key<K: Copy + Ord>(counts: &Counts<K>) -> Option<K>

@@ -1,9 +1,10 @@
 // The keys of records that ranges count, in their order.
 ghost use Rattle.std.specs.Prelude.{◌≡◌, IfOk, map, filter, nat_lt};
-ghost use Rattle.trace_record.specs.Packed.{ratio_in};
+ghost use Rattle.key_counts.specs.Packed.{ratio_in};
 
+use key_counts::PackedRatio;
 use std::alloc::{AllocError, Global};
-use trace_record::{PackedRatio, Records};
+use trace_record::Records;
 
 pub(crate) fn inline_keys(alloc: Global, records: &Records) -> Result<Vec<i32>, AllocError>
     ensures { IfOk result (λ keys. keys.items ≡ map (λ r. r.inline) records.now) }
@@ -26,13 +27,13 @@ pub(crate) fn offset_keys(alloc: Global, records: &Records) -> Result<Vec<i32>, 
 pub(crate) fn x_keys(alloc: Global, records: &Records) -> Result<Vec<PackedRatio>, AllocError>
     ensures { IfOk result (λ keys. map ratio_in keys.items ≡ map (λ r. r.x) records.now) }
 {
-    records.iter().map(|r| PackedRatio::x_of(&r)).collect(alloc)
+    records.iter().map(|r| r.packed_x()).collect(alloc)
 }
 
 pub(crate) fn y_keys(alloc: Global, records: &Records) -> Result<Vec<PackedRatio>, AllocError>
     ensures { IfOk result (λ keys. map ratio_in keys.items ≡ map (λ r. r.y) records.now) }
 {
-    records.iter().map(|r| PackedRatio::y_of(&r)).collect(alloc)
+    records.iter().map(|r| r.packed_y()).collect(alloc)
 }
 
 // The least samples of the traces that have samples.

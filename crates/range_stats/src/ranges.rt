@@ -1,15 +1,16 @@
 ghost use Rattle.std.specs.Prelude.{◌+◌, ◌^◌, ◌<◌, OnOk, OnErr, IsOk};
 ghost use Rattle.std.specs.Ordering.{int_cmp};
-ghost use Rattle.trace_record.specs.Counts.{count_of, HasOneMore, HasSameCounts};
-ghost use Rattle.trace_record.specs.RatioOrder.{ratio_cmp};
+ghost use Rattle.key_counts.specs.Counts.{count_of, HasOneMore, HasSameCounts};
+ghost use Rattle.key_counts.specs.RatioOrder.{ratio_cmp};
 ghost use Rattle.range_stats.specs.Extremes.{IsSpan, whole_count};
 
 use crate::Quantity;
 use crate::coordinate_counts::CoordinateCounts;
 use crate::counted::span;
 use crate::keys::{crossline_keys, inline_keys, offset_keys, x_keys, y_keys};
+use key_counts::{Counts, OutOfMemory, Ratio, raise_both};
 use std::alloc::Global;
-use trace_record::{Counts, OutOfMemory, PackedRatio, Ratio, Record, Records, Running, raise_both};
+use trace_record::{Record, Records, Running};
 
 /// The least and the greatest inline, crossline, offset, x and y of traces that come and go. Adding
 /// or removing a trace takes time by the logarithm of the number of traces.
@@ -42,7 +43,7 @@ impl Running for Ranges {
         }
     }
 
-    fn from_records(alloc: Global, records: &Records) -> Result<Ranges, OutOfMemory> {
+    fn from_records(alloc: Global, records: &Records) -> Result<Ranges, trace_record::OutOfMemory> {
         let inlines = Counts::from_keys(alloc, inline_keys(alloc, records)?)?;
         let crosslines = Counts::from_keys(alloc, crossline_keys(alloc, records)?)?;
         let offsets = Counts::from_keys(alloc, offset_keys(alloc, records)?)?;
@@ -58,7 +59,7 @@ impl Running for Ranges {
         })
     }
 
-    fn add(&mut self, trace: &Record) -> Result<(), OutOfMemory> {
+    fn add(&mut self, trace: &Record) -> Result<(), trace_record::OutOfMemory> {
         raise_lines(
             &mut self.inlines,
             &mut self.crosslines,
@@ -76,7 +77,7 @@ impl Running for Ranges {
                 &mut self.offsets,
                 trace,
             );
-            return Err(error);
+            return Err(trace_record::OutOfMemory::from(error));
         }
         self.records += 1;
         Ok(())
@@ -89,8 +90,8 @@ impl Running for Ranges {
             &mut self.offsets,
             trace,
         );
-        self.coordinates_x.lower(PackedRatio::x_of(trace));
-        self.coordinates_y.lower(PackedRatio::y_of(trace));
+        self.coordinates_x.lower(trace.packed_x());
+        self.coordinates_y.lower(trace.packed_y());
         self.records -= 1;
     }
 }
@@ -188,9 +189,9 @@ fn raise_coordinates(
     ensures held { 0 < count_of ratio_cmp coordinates_x.old trace.now.x →
         0 < count_of ratio_cmp coordinates_y.old trace.now.y → IsOk result }
 {
-    let x = PackedRatio::x_of(trace);
+    let x = trace.packed_x();
     coordinates_x.raise(x)?;
-    if let Err(error) = coordinates_y.raise(PackedRatio::y_of(trace)) {
+    if let Err(error) = coordinates_y.raise(trace.packed_y()) {
         coordinates_x.lower(x);
         return Err(error);
     }

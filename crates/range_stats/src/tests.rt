@@ -4,9 +4,10 @@ ghost use Rattle.trace_record.specs.Facts.{facts_of};
 ghost use Rattle.trace_record.specs.Tally.{tally_of, IsSmall};
 
 use crate::{Quantity, Ranges, Totals};
+use key_counts::Ratio;
 use std::alloc::Global;
 use std::test::Fail;
-use trace_record::{OutOfMemory, Ratio, Record, Running};
+use trace_record::{OutOfMemory, Record, Running};
 
 fn both<R: Running>(alloc: Global, first: &Record, second: &Record) -> Result<R, OutOfMemory>
     requires one { IsSmall (tally_of R.counted (facts_of first.now ∷ [])) }

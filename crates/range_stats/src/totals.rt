@@ -1,12 +1,13 @@
 ghost use Rattle.std.specs.Prelude.{◌≡◌, ◌+◌, ◌^◌, ◌<◌, nat_lt, OnOk, OnErr, IsOk};
 ghost use Rattle.std.specs.Ordering.{int_cmp};
-ghost use Rattle.trace_record.specs.Counts.{count_of, HasOneMoreWhere, HasSameCounts};
+ghost use Rattle.key_counts.specs.Counts.{count_of, HasOneMoreWhere, HasSameCounts};
 
 use crate::counted::{greatest_key, least_key};
 use crate::keys::{greatest_keys, least_keys};
 use crate::sums::sums_of;
+use key_counts::{Counts, OutOfMemory, raise_both};
 use std::alloc::Global;
-use trace_record::{Counts, OutOfMemory, Record, Records, Running, raise_both};
+use trace_record::{Record, Records, Running};
 
 /// The least, the greatest, the sum and the number of the samples of traces that come and go. A
 /// trace without samples has no part in the least and the greatest. Adding or removing a trace
@@ -38,7 +39,7 @@ impl Running for Totals {
         }
     }
 
-    fn from_records(alloc: Global, records: &Records) -> Result<Totals, OutOfMemory> {
+    fn from_records(alloc: Global, records: &Records) -> Result<Totals, trace_record::OutOfMemory> {
         let least_samples = Counts::from_keys(alloc, least_keys(alloc, records)?)?;
         let greatest_samples = Counts::from_keys(alloc, greatest_keys(alloc, records)?)?;
         let sums = sums_of(records);
@@ -51,7 +52,7 @@ impl Running for Totals {
         })
     }
 
-    fn add(&mut self, trace: &Record) -> Result<(), OutOfMemory> {
+    fn add(&mut self, trace: &Record) -> Result<(), trace_record::OutOfMemory> {
         raise_ends(&mut self.least_samples, &mut self.greatest_samples, trace)?;
         self.records += 1;
         self.number += u64::from(trace.number);

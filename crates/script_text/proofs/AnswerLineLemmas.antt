@@ -11,7 +11,7 @@ use Rattle.text_block.specs.declared.code.Code.TheVariants.{Ebcdic, Ascii}
 use Rattle.text_block.specs.Lines.{without_blanks}
 use Rattle.field_map.specs.declared.place.Place.{Place}
 use Rattle.sample_codes.specs.Formats.{code_of}
-use Rattle.trace_record.specs.declared.ratio.Ratio.{Ratio}
+use Rattle.key_counts.specs.declared.ratio.Ratio.{Ratio}
 use Rattle.trace_record.specs.declared.statistics.Statistics.{Statistics}
 use Rattle.grid_live.specs.declared.cell.Cell.{Cell}
 use Rattle.grid_live.specs.declared.line.Line.{Line}

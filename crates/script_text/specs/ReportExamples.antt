@@ -2,7 +2,7 @@
 use Rattle.std.specs.Prelude.{◌≡◌, pos, negsuc, [], ◌∷◌, codes, Some, None, refl}
 use Rattle.std.specs.Fmt.{digits}
 use Rattle.frame_cut.specs.declared.load_fault.LoadFault.TheVariants.{TextCount}
-use Rattle.trace_record.specs.Coordinates.{under_scalar, over, greatest_divisor}
+use Rattle.key_counts.specs.Coordinates.{under_scalar, over, greatest_divisor}
 use Rattle.fault_live.specs.declared.fault.Fault.TheVariants.{Repeated, Scalar, Samples}
 use Rattle.bench_rules.specs.declared.answer.Answer.TheVariants as answers
 use Rattle.script_text.specs.AnswerTexts.{answer_text}

@@ -1,7 +1,7 @@
 -- What is printed for the reports.
 use Rattle.std.specs.Prelude.{ℕ, ◌==◌, List, [], ◌∷◌, ◌++◌, decimal, codes, Option, Some, None, if◌then◌else◌}
 use Rattle.std.specs.Fmt.{signed_decimal}
-use Rattle.trace_record.specs.declared.ratio.Ratio.{Ratio}
+use Rattle.key_counts.specs.declared.ratio.Ratio.{Ratio}
 use Rattle.trace_record.specs.declared.statistics.Statistics.{Statistics}
 use Rattle.grid_live.specs.declared.cell.Cell.{Cell}
 use Rattle.grid_live.specs.declared.line.Line.{Line}

@@ -10,8 +10,9 @@ use bench_rules::Location;
 use fault_live::Fault;
 use grid_live::{Cell, FoldCount, Line};
 use itoa::Integer;
+use key_counts::Ratio;
 use time_slice::Row;
-use trace_record::{Ratio, Statistics};
+use trace_record::Statistics;
 
 /// The line of where a trace lies.
 pub(crate) fn location_line(location: Location) -> TextBuffer

@@ -12,7 +12,7 @@ use Rattle.frame_cut.specs.declared.file_head.Head.{Head}
 use Rattle.trace_view.specs.Values.{sample_of}
 use Rattle.trace_record.specs.Facts.{Facts, facts_of}
 use Rattle.trace_record.specs.OfTrace.{record_of}
-use Rattle.trace_record.specs.Rising.{rising}
+use Rattle.key_counts.specs.Rising.{rising}
 use Rattle.trace_record.specs.declared.record.Record.{Record}
 use Rattle.time_slice.specs.declared.row.Row.{Row}
 use Rattle.time_slice.specs.OfRecords.{with_sample_of}

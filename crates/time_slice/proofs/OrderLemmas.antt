@@ -12,8 +12,8 @@ use Rattle.std.proofs.lemmas.Map.Lookups.{CmpEqualImpliesEq}
 use Rattle.std.specs.declared.cmp.Ordering.{Ordering}
 use Rattle.std.specs.declared.cmp.Ordering.TheVariants.{Less, Equal, Greater}
 use Rattle.trace_record.specs.Facts.{Facts}
-use Rattle.trace_record.specs.Rising.{rising}
-use Rattle.trace_record.proofs.RisingLemmas.{below_all, IsRisingOf-rising, one_rising}
+use Rattle.key_counts.specs.Rising.{rising}
+use Rattle.key_counts.proofs.RisingLemmas.{below_all, IsRisingOf-rising, one_rising}
 use Rattle.time_slice.specs.declared.row.Row.{Row}
 use Rattle.time_slice.specs.Slices.{row_cmp, row_of, rows_from, slice_rows}
 use Rattle.time_slice.proofs.SliceLemmas.{row_total, exact_rows}

@@ -6,7 +6,7 @@ use Rattle.std.specs.declared.cmp.Ordering.{Ordering}
 use Rattle.std.specs.declared.cmp.Ordering.TheVariants.{Less, Equal, Greater}
 use Rattle.std.proofs.lemmas.Map.Lookups.{CmpEqualImpliesEq, exact_signed, exact_unsigned}
 use Rattle.trace_record.specs.Facts.{Facts}
-use Rattle.trace_record.proofs.RisingLemmas.{IsRisingOf-rising, one_rising}
+use Rattle.key_counts.proofs.RisingLemmas.{IsRisingOf-rising, one_rising}
 use Rattle.time_slice.specs.declared.row.Row.{Row}
 use Rattle.time_slice.specs.Slices.{row_cmp, rows_from, slice_rows, IsSlice}
 

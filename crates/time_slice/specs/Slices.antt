@@ -7,7 +7,7 @@ use Rattle.frame_cut.specs.declared.file_head.Head.{Head}
 use Rattle.trace_view.specs.Values.{sample_of}
 use Rattle.trace_record.specs.Facts.{Facts}
 use Rattle.trace_record.specs.OfTrace.{record_of}
-use Rattle.trace_record.specs.Rising.{rising, IsRisingOf}
+use Rattle.key_counts.specs.Rising.{rising, IsRisingOf}
 use Rattle.time_slice.specs.declared.row.Row.{Row}
 
 -- rows by inline, crossline, position and value

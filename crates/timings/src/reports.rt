@@ -6,10 +6,11 @@ use crate::out_of_memory::OutOfMemory;
 use crate::through::{drain, fill};
 use fault_live::{Faults, HeadFacts};
 use grid_live::Grid;
+use key_counts::Ratio;
 use live_reports::LiveReports;
 use range_stats::{Quantity, Ranges, Totals};
 use std::alloc::Global;
-use trace_record::{Ratio, Record, Records, Running};
+use trace_record::{Record, Records, Running};
 
 // A record of a survey with a thousand traces on each inline, on a grid turned by 23 degrees.
 pub(crate) fn make(i: u32) -> Record

@@ -9,7 +9,7 @@ use Rattle.frame_cut.specs.Frames.{header_unsigned}
 use Rattle.trace_view.specs.Values.{samples_of}
 use Rattle.trace_record.specs.Facts.{Facts, with_statistics}
 use Rattle.trace_record.specs.OfTrace.{record_of, bound_value, signed_value, has_known_name_of}
-use Rattle.trace_record.specs.Coordinates.{under_scalar}
+use Rattle.key_counts.specs.Coordinates.{under_scalar}
 use Rattle.trace_record.specs.declared.statistics.Statistics.{Statistics}
 use Rattle.trace_record.specs.Statistics.{least_of, greatest_of, int_sum}
 

@@ -1,13 +1,9 @@
--- Parts of a word, and numbers without their signs.
-use Rattle.std.specs.Prelude.{◌≡◌, ℕ, ℤ, unsigned_abs}
-use Rattle.std.proofs.Common.{arith, subst}
-use Rattle.std.specs.Int.{IsGcd, int_min, int_max}
+-- The less and the greater of two samples.
+use Rattle.std.specs.Prelude.{ℤ}
+use Rattle.std.proofs.Common.{arith}
+use Rattle.std.specs.Int.{int_min, int_max}
 use Rattle.std.proofs.lemmas.Int.{ints, clamps}
 use Rattle.trace_record.specs.Parts.{FitsSample}
-
--- in lowest terms, whatever the parts are called
-pub same_lowest : (n m : ℤ) (d e : ℕ) → n ≡ m → d ≡ e → IsGcd (unsigned_abs n) d 1 → IsGcd (unsigned_abs m) e 1
-same_lowest n m d e p q h = subst (λ (z : ℤ). IsGcd (unsigned_abs z) e 1) p (subst (λ (k : ℕ). IsGcd (unsigned_abs n) k 1) q h)
 
 -- the less of two samples is one, and so is the greater
 pub fits_min : (a b : ℤ) → FitsSample a → FitsSample b → FitsSample (int_min a b)

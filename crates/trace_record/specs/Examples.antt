@@ -1,28 +1,13 @@
--- Coordinates under their scalars, statistics and records, worked by hand.
+-- Statistics and records, worked by hand.
 use Rattle.std.specs.Prelude.{◌≡◌, pos, negsuc, [], ◌∷◌, Some, None, false, true, codes, refl}
 use Rattle.field_map.specs.Binding.{geometry_at_load}
 use Rattle.field_map.specs.Pairs.{bound, signed_at}
 use Rattle.frame_cut.specs.SmallFiles.{head_plain, trace_plain_1, trace_plain_3, with_bytes_at}
-use Rattle.trace_record.specs.RatioOrder.{fraction_of}
-use Rattle.trace_record.specs.Coordinates.{under_scalar, over, greatest_divisor}
+use Rattle.key_counts.specs.RatioOrder.{fraction_of}
+use Rattle.key_counts.specs.Coordinates.{under_scalar}
 use Rattle.trace_record.specs.Statistics.{statistics_of}
 use Rattle.trace_record.specs.OfTrace.{record_of, has_geometry}
 use Rattle.trace_record.specs.SmallSurvey.{trace_1, trace_3}
-
--- 3 under the scalar 100 is 300
-pub under_scalar-times : fraction_of (under_scalar (pos 3) (pos 100)) ≡ (pos 300, 1)
-unfolding under_scalar
-under_scalar-times = refl
-
--- -250 under the scalar -100 is -5/2
-pub under_scalar-over : fraction_of (under_scalar (negsuc 249) (negsuc 99)) ≡ (negsuc 4, 2)
-unfolding under_scalar over greatest_divisor
-under_scalar-over = refl
-
--- the least coordinate under the least scalar is -65536
-pub under_scalar-least : fraction_of (under_scalar (negsuc 2147483647) (negsuc 32767)) ≡ (negsuc 65535, 1)
-unfolding under_scalar over greatest_divisor
-under_scalar-least = refl
 
 pub statistics-two : statistics_of (negsuc 4 ∷ pos 6 ∷ []) ≡ Some (record { least = negsuc 4; greatest = pos 6; sum = pos 1; number = 2 })
 statistics-two = refl

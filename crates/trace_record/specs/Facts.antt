@@ -1,7 +1,7 @@
 -- What the reports need of one trace.
 use Rattle.std.specs.Prelude.{ℕ, ℤ, Bool, List, length}
 use Rattle.trace_record.specs.Statistics.{least_of, greatest_of, int_sum}
-use Rattle.trace_record.specs.declared.ratio.Ratio.{Ratio}
+use Rattle.key_counts.specs.declared.ratio.Ratio.{Ratio}
 use Rattle.trace_record.specs.declared.record.Record.{Record}
 use Rattle.trace_record.specs.declared.statistics.Statistics.{Statistics}
 

@@ -1,7 +1,7 @@
 -- What a running value counts of a trace.
 use Rattle.std.specs.Prelude.{ℕ, ℤ, Bool}
 use Rattle.trace_record.specs.Facts.{Facts}
-use Rattle.trace_record.specs.declared.ratio.Ratio.{Ratio}
+use Rattle.key_counts.specs.declared.ratio.Ratio.{Ratio}
 
 -- a key of a trace; keys of different kinds differ
 pub data Key : Type 0 where

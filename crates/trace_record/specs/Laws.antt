@@ -1,12 +1,9 @@
--- Laws of statistics, ratios and tallies, whatever traces they are of.
+-- Laws of statistics and tallies, whatever traces they are of.
 use Rattle.std.specs.Prelude.{◌≡◌, ℕ, ℤ, true, List, ◌∷◌, ◌++◌, IsPermutation}
-use Rattle.std.specs.declared.cmp.Ordering.TheVariants.{Equal}
 use Rattle.field_map.specs.Pairs.{Pairs}
 use Rattle.field_map.specs.Binding.{HasGeometry}
 use Rattle.frame_cut.specs.declared.file_head.Head.{Head}
 use Rattle.frame_cut.specs.Cuts.{IsTrace}
-use Rattle.trace_record.specs.declared.ratio.Ratio.{Ratio}
-use Rattle.trace_record.specs.RatioOrder.{ratio_cmp}
 use Rattle.trace_record.specs.Statistics.{statistics_of, statistics_of_both}
 use Rattle.trace_record.specs.Facts.{Facts}
 use Rattle.trace_record.specs.Keys.{Counted}
@@ -16,10 +13,6 @@ use Rattle.trace_record.specs.Tally.{Tally, tally_of, plus, minus, Same, Holds}
 -- the statistics of two lists one after the other are those of both together
 abbrev pub StatisticsOfJoined : Type 0
 StatisticsOfJoined = (xs ys : List ℤ) → statistics_of (xs ++ ys) ≡ statistics_of_both (statistics_of xs) (statistics_of ys)
-
--- ratios of one value are one ratio
-abbrev pub EqualRatiosAreOne : Type 0
-EqualRatiosAreOne = (x y : Ratio) → ratio_cmp x y ≡ Equal → x ≡ y
 
 -- the tally does not depend on the order of the traces
 abbrev pub TallyInAnyOrder : Type 0

@@ -1,6 +1,3 @@
-pub mod FractionLaws
-pub mod RatioOrder
-pub mod Coordinates
 pub mod Parts
 pub mod Packed
 pub mod Statistics
@@ -8,11 +5,8 @@ pub mod Narrow
 pub mod Unsigned
 pub mod Facts
 pub mod OfTrace
-pub mod Counts
 pub mod Keys
 pub mod Tally
-pub mod Rising
-pub mod Runs
 pub mod Laws
 pub mod SmallSurvey
 pub mod Examples

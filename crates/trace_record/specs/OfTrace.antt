@@ -10,7 +10,7 @@ use Rattle.frame_cut.specs.Frames.{header_bytes, header_unsigned}
 use Rattle.trace_view.specs.Values.{value_at, has_place, samples_of}
 use Rattle.std.specs.Prelude.{false}
 use Rattle.trace_record.specs.Facts.{Facts, with_samples}
-use Rattle.trace_record.specs.Coordinates.{under_scalar}
+use Rattle.key_counts.specs.Coordinates.{under_scalar}
 
 -- the value at the place that the map gives the name, and 0 of a name without one
 abbrev pub bound_value : Head → Pairs → List ℕ → List ℕ → ℤ

@@ -1,30 +1,10 @@
--- The fraction and the record that packed ones stand for, and the order of packed fractions.
+-- The record that a packed one stands for.
 use Rattle.std.specs.Prelude.{◌+◌, ◌*◌, ◌^◌, refl}
-use Rattle.std.specs.Cmp.{IsTotalOrder, on_total}
-use Rattle.std.specs.declared.cmp.Ordering.{Ordering}
-use Rattle.trace_record.specs.RatioOrder.{ratio_cmp, ratio_total}
-use Rattle.trace_record.specs.Parts.{signed_of, first_flag, second_flag, numerator_in, denominator_in, denominator_in-positive, fits_in_word, small_parts}
-use Rattle.trace_record.specs.declared.packed_ratio.PackedRatio.{PackedRatio}
+use Rattle.key_counts.specs.Parts.{first_flag, second_flag, fits_in_word}
+use Rattle.key_counts.specs.Packed.{ratio_in}
+use Rattle.trace_record.specs.Parts.{signed_of, small_parts}
 use Rattle.trace_record.specs.declared.packed_record.PackedRecord.{PackedRecord}
-use Rattle.trace_record.specs.declared.ratio.Ratio.{Ratio}
 use Rattle.trace_record.specs.declared.record.Record.{Record}
-
--- the fraction in a word
-abbrev pub ratio_in : PackedRatio → Ratio
-ratio_in p = record {
-  num = numerator_in p.bits;
-  den = denominator_in p.bits;
-  positive = denominator_in-positive p.bits;
-  lowest = p.lowest;
-}
-
--- which of two packed fractions is less, by value, whatever their flags are
-abbrev pub packed_cmp : PackedRatio → PackedRatio → Ordering
-packed_cmp p q = ratio_cmp (ratio_in p) (ratio_in q)
-
--- it is a total order
-pub packed_total : IsTotalOrder packed_cmp
-packed_total = on_total ratio_in ratio_total
 
 -- the record, its least, greatest and sum with their signs from the flags
 abbrev pub record_in : PackedRecord → Record

@@ -1,7 +1,7 @@
 -- Three traces of a small survey, for worked examples.
 use Rattle.std.specs.Prelude.{ℤ, pos, negsuc, List, [], ◌∷◌, true}
 use Rattle.trace_record.specs.Facts.{Facts, with_samples}
-use Rattle.trace_record.specs.Coordinates.{whole}
+use Rattle.key_counts.specs.Coordinates.{whole}
 
 -- a trace at this inline and crossline, with this offset, x and sequence number, and two samples
 abbrev pub made : ℤ → ℤ → ℤ → ℤ → ℤ → ℤ → ℤ → Facts

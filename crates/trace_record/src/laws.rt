@@ -1,14 +1,9 @@
 // Laws, each the contract of a call that does nothing.
-ghost use Rattle.trace_record.specs.Laws.{StatisticsOfJoined, EqualRatiosAreOne, TallyInAnyOrder, TallyOfOneMore, TallyOfOneLess, TallyHoldsEach, PlusInAnyOrder, MinusUndoesPlus, PlusUndoesMinus, GeometryOfEachTrace};
+ghost use Rattle.trace_record.specs.Laws.{StatisticsOfJoined, TallyInAnyOrder, TallyOfOneMore, TallyOfOneLess, TallyHoldsEach, PlusInAnyOrder, MinusUndoesPlus, PlusUndoesMinus, GeometryOfEachTrace};
 
 /// The statistics of two lists one after the other are those of both together.
 pub fn statistics_of_joined()
     ensures { StatisticsOfJoined }
-{}
-
-/// Ratios of one value are one ratio.
-pub fn equal_ratios_are_one()
-    ensures { EqualRatiosAreOne }
 {}
 
 /// The tally does not depend on the order of the traces.

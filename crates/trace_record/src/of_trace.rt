@@ -9,8 +9,9 @@ use crate::header_fields::{
     has_known_name, has_number, i16_at, i32_at, short_at, signed_at, u16_at,
 };
 use crate::of_samples::statistics_of;
-use crate::{Ratio, Record, Statistics};
+use crate::{Record, Statistics};
 use field_map::FieldMap;
+use key_counts::Ratio;
 use trace_view::TraceView;
 
 /// The record of a trace: its inline, crossline, offset, x, y and scalar at the places that the map

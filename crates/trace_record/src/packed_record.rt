@@ -1,8 +1,9 @@
 ghost use Rattle.std.specs.Prelude.{◌≡◌, ◌+◌, ◌*◌, ◌^◌, ◌<◌, ◌≤ℤ◌, pos, neg_ℤ, int_lt};
-ghost use Rattle.trace_record.specs.Parts.{FitsSample, FitsSum, signed_of, first_flag, second_flag};
+ghost use Rattle.key_counts.specs.Parts.{first_flag, second_flag};
+ghost use Rattle.trace_record.specs.Parts.{FitsSample, FitsSum, signed_of};
 
 use crate::Record;
-use crate::packed_ratio::PackedRatio;
+use key_counts::PackedRatio;
 use std::mem::size_of;
 
 // How many numbers the low 64 bits of a sample hold.

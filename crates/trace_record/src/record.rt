@@ -1,7 +1,7 @@
 ghost use Rattle.std.specs.Prelude.{◌*◌, ◌^◌, ◌≤ℤ◌, pos, neg_ℤ};
 ghost use Rattle.trace_record.specs.Parts.{IsPackable, IsPackable-prop};
 
-use crate::Ratio;
+use key_counts::{PackedRatio, Ratio};
 
 /// What the reports need of one trace. `x` and `y` are under the trace's coordinate
 /// scalar. Without samples `number`, `least`, `greatest` and `sum` are 0.
@@ -32,4 +32,23 @@ pub struct Record {
     pub ghost small: { IsPackable least greatest x y } by { IsPackable-prop least greatest x y },
     pub ghost sum_low: { neg_ℤ (pos (2 ^ 63 * number)) ≤ℤ sum },
     pub ghost sum_high: { sum ≤ℤ pos (2 ^ 64 * number) },
+}
+
+impl Record {
+    ghost use Rattle.std.specs.Prelude.{◌≡◌};
+    ghost use Rattle.key_counts.specs.Packed.{ratio_in};
+
+    /// The x in 8 bytes, without flags. Takes no memory.
+    pub fn packed_x(&self) -> PackedRatio
+        ensures { ratio_in result ≡ self.now.x }
+    {
+        PackedRatio::of(self.x, false, false)
+    }
+
+    /// The y in 8 bytes, without flags. Takes no memory.
+    pub fn packed_y(&self) -> PackedRatio
+        ensures { ratio_in result ≡ self.now.y }
+    {
+        PackedRatio::of(self.y, false, false)
+    }
 }

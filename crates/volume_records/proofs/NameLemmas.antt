@@ -10,7 +10,7 @@ use Rattle.field_map.proofs.GeometryLemmas.{place-bound, place-removed}
 use Rattle.frame_cut.specs.declared.file_head.Head.{Head}
 use Rattle.frame_cut.specs.Volume.{Volume}
 use Rattle.trace_view.specs.Values.{value_at, samples_of}
-use Rattle.trace_record.specs.Coordinates.{under_scalar}
+use Rattle.key_counts.specs.Coordinates.{under_scalar}
 use Rattle.trace_record.specs.Facts.{Facts}
 use Rattle.trace_record.specs.OfTrace.{record_of, bound_value}
 use Rattle.trace_record.specs.Statistics.{least_of, greatest_of, int_sum}

@@ -1,11 +1,12 @@
 // Coordinates under their scalars, counts of keys, and records in a list, with values worked by
 // hand. A test makes what it needs and lends it.
+use key_counts::{Counts, OutOfMemory, Ratio};
 use std::alloc::Global;
 use std::collections::HashMap;
 use std::mem::size_of;
 use std::process::Abort;
 use std::test::Fail;
-use trace_record::{Counts, OutOfMemory, Ratio, Record, Records};
+use trace_record::{Record, Records};
 
 #[test]
 fn scales_coordinates(rt: HostRuntime) {

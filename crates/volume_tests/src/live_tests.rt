@@ -5,12 +5,13 @@
 ghost use Rattle.std.specs.Prelude.{◌≡◌, ◌∷◌, [], length, IfOk, OnOk};
 
 use fault_live::{Fault, HeadFacts};
+use key_counts::Ratio;
 use live_reports::LiveReports;
 use range_stats::Quantity;
 use std::alloc::Global;
 use std::process::Abort;
 use std::test::Fail;
-use trace_record::{Ratio, Record, Records};
+use trace_record::{Record, Records};
 
 // A trace with two samples at this crossline of inline 10.
 #[tactic(auto, unfolding(trace_record::specs::Parts::IsPackable))]

@@ -8,12 +8,13 @@ use crate::heads::{head_of, plain_head, run};
 use crate::views::view;
 use field_map::{FieldMap, Place};
 use frame_cut::Head;
+use key_counts::Ratio;
 use num_order::{Kind, Order};
 use sample_codes::Format;
 use std::alloc::Global;
 use std::process::Abort;
 use std::test::Fail;
-use trace_record::{Ratio, Record, record_of, record_with_samples_of};
+use trace_record::{Record, record_of, record_with_samples_of};
 use trace_view::Run;
 
 // The record of the trace, where it has the length that its headers give it.

@@ -7,11 +7,12 @@ use crate::files::{three_traces, wide_trace};
 use crate::puts::put;
 use edit_overlay::Overlay;
 use frame_cut::{Limits, Reading};
+use key_counts::Ratio;
 use std::alloc::Global;
 use std::process::Abort;
 use std::test::Fail;
 use time_slice::{Row, SliceCache, rows};
-use trace_record::{Ratio, Record, Records};
+use trace_record::{Record, Records};
 
 #[tactic(auto, unfolding(trace_record::specs::Parts::IsPackable))]
 fn record_at(inline: i32, crossline: i32) -> Record {

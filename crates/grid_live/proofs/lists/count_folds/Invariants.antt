@@ -1,8 +1,8 @@
 use Rattle.std.proofs.Common.{◌≡◌, map, ℕ}
 use Rattle.std.specs.Prelude.{take}
 use Rattle.std.specs.Ordering.{nat_cmp}
-use Rattle.trace_record.specs.Counts.{count_of}
-use Rattle.trace_record.specs.Rising.{times_in}
+use Rattle.key_counts.specs.Counts.{count_of}
+use Rattle.key_counts.specs.Rising.{times_in}
 use Rattle.grid_live.proofs.lists.count_folds.Given as goal
 
 -- the folds of the cells so far are counted

@@ -1,7 +1,7 @@
 use Rattle.std.proofs.Common.{ap, ◌∙◌, map, refl, rules, ◌≡◌, int_cmp}
 use Rattle.std.specs.Map.Iter.{deref_pair}
 use Rattle.std.proofs.lemmas.Map.Iter.{iter_end}
-use Rattle.trace_record.specs.Counts.{count_of}
+use Rattle.key_counts.specs.Counts.{count_of}
 use Rattle.grid_live.specs.Cells.{line_with}
 use Rattle.grid_live.proofs.GridLemmas.{lines-shown}
 use Rattle.grid_live.proofs.lists.lines_of.Goals as goal

@@ -2,7 +2,7 @@ use Rattle.std.proofs.Common.{ap, ◌∙◌, map, refl, rules, ◌≡◌}
 use Rattle.std.specs.Ordering.{nat_cmp}
 use Rattle.std.specs.Map.Iter.{deref_pair}
 use Rattle.std.proofs.lemmas.Map.Iter.{iter_end}
-use Rattle.trace_record.specs.Counts.{count_of}
+use Rattle.key_counts.specs.Counts.{count_of}
 use Rattle.grid_live.specs.Cells.{fold_count_of}
 use Rattle.grid_live.proofs.GridLemmas.{times-shown}
 use Rattle.grid_live.proofs.lists.times_of.Goals as goal

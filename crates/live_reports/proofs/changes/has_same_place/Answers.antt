@@ -1,6 +1,6 @@
 use Rattle.std.proofs.Common.{◌≡◌, Bool, true, false, ◌&&◌, sym, ap, ◌∙◌}
 use Rattle.std.specs.Ordering.{is_eq}
-use Rattle.trace_record.specs.RatioOrder.{ratio_cmp, ratio_ties}
+use Rattle.key_counts.specs.RatioOrder.{ratio_cmp, ratio_ties}
 use Rattle.live_reports.proofs.changes.has_same_place.Goals as goal
 
 pub returns-then-eq : goal.returns-then-eq

@@ -1,7 +1,7 @@
 use Rattle.std.proofs.Common.{List, rules}
 use Rattle.std.proofs.lemmas.Iterator.{YieldsList-from_map_by}
 use Rattle.std.proofs.lemmas.Iterator.Consumers.{map_from_collect, YieldsList-at, YieldsList-from_first}
-use Rattle.trace_record.specs.Packed.{ratio_in}
+use Rattle.key_counts.specs.Packed.{ratio_in}
 use Rattle.trace_record.specs.declared.record.Record.{Record}
 use Rattle.range_stats.proofs.keys.x_keys.Goals as goal
 

@@ -2,7 +2,7 @@ use Rattle.std.proofs.Common.{rules, ◌≡◌, SFits, refl, sym, subst, ap₂, 
 use Rattle.std.specs.Int.{w16, w32, w128}
 use Rattle.std.proofs.lemmas.Int.{ints, to_z-of_z}
 use Rattle.trace_view.specs.Shown.{bytes_of, head_of}
-use Rattle.trace_record.specs.Coordinates.{under_scalar}
+use Rattle.key_counts.specs.Coordinates.{under_scalar}
 use Rattle.trace_record.specs.Parts.{FitsSample, small_parts}
 use Rattle.trace_record.proofs.FactsLemmas.{kept, facts_with}
 use Rattle.trace_record.proofs.GeometryLemmas.{names}

@@ -2,7 +2,7 @@ use Rattle.std.proofs.Common.{◌≡◌, ◌<◌, ◌+◌, ◌++◌, length, map
 use Rattle.std.specs.Prelude.{flat_map}
 use Rattle.std.specs.List.{enumerate_from}
 use Rattle.std.specs.BTreeMap.{get}
-use Rattle.trace_record.specs.Counts.{count_of}
+use Rattle.key_counts.specs.Counts.{count_of}
 use Rattle.trace_record.specs.Facts.{Facts, facts_of}
 use Rattle.trace_record.specs.Tally.{Same, tally_of}
 use Rattle.fault_live.specs.FaultKeys.{keys_of_faults}

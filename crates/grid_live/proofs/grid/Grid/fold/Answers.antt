@@ -2,7 +2,7 @@ use Rattle.std.proofs.Common.{◌≡◌, ℤ, ap₂, ◌∙◌, sym, subst, Fits
 use mir.Syntax.{w32, w128}
 use mir.Val.{to_z, of_z}
 use Rattle.std.proofs.lemmas.Int.{to_z-of_z}
-use Rattle.trace_record.specs.Counts.{count_of}
+use Rattle.key_counts.specs.Counts.{count_of}
 use Rattle.grid_live.specs.Cells.{cell_cmp}
 use Rattle.grid_live.proofs.grid.Grid.fold.Goals as goal
 

@@ -1,8 +1,8 @@
 use Rattle.std.proofs.Common.{◌<◌, ◌+◌, ◌^◌, ℕ, List, subst, sym}
-use Rattle.trace_record.specs.Counts.{count_of, HasOneMore}
-use Rattle.trace_record.specs.Packed.{ratio_in}
-use Rattle.trace_record.specs.RatioOrder.{ratio_cmp}
-use Rattle.trace_record.specs.declared.ratio.Ratio.{Ratio}
+use Rattle.key_counts.specs.Counts.{count_of, HasOneMore}
+use Rattle.key_counts.specs.Packed.{ratio_in}
+use Rattle.key_counts.specs.RatioOrder.{ratio_cmp}
+use Rattle.key_counts.specs.declared.ratio.Ratio.{Ratio}
 use Rattle.range_stats.specs.Unpacked.{with_ratios}
 use Rattle.range_stats.proofs.UnpackedLemmas.{count_unpacked, one_more_unpacked}
 use Rattle.range_stats.proofs.coordinate_counts.CoordinateCounts.raise.Goals as goal

@@ -1,8 +1,8 @@
 use Rattle.std.proofs.Common.{ℕ, List, Option, None, subst, sym}
-use Rattle.trace_record.specs.Counts.{count_of}
-use Rattle.trace_record.specs.Packed.{ratio_in}
-use Rattle.trace_record.specs.RatioOrder.{ratio_cmp}
-use Rattle.trace_record.specs.declared.ratio.Ratio.{Ratio}
+use Rattle.key_counts.specs.Counts.{count_of}
+use Rattle.key_counts.specs.Packed.{ratio_in}
+use Rattle.key_counts.specs.RatioOrder.{ratio_cmp}
+use Rattle.key_counts.specs.declared.ratio.Ratio.{Ratio}
 use Rattle.range_stats.specs.Extremes.{IsBetween, IsSpan}
 use Rattle.range_stats.proofs.UnpackedLemmas.{none_unpacked, between_unpacked}
 use Rattle.range_stats.proofs.coordinate_counts.CoordinateCounts.span.Goals as goal

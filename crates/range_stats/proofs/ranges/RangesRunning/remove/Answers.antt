@@ -26,10 +26,10 @@ pub lower-requires : goal.lower-requires
 lower-requires c =
     let there = c.requires.held.keys (coordinate_x c.args.trace.now.x) in
     let own = times-x (facts_of c.args.trace.now) in
-    rw (c.x_of.ensures) (omega arith)
+    rw (c.packed_x.ensures) (omega arith)
 
 pub lower-requires-2 : goal.lower-requires-2
 lower-requires-2 c =
     let there = c.requires.held.keys (coordinate_y c.args.trace.now.y) in
     let own = times-y (facts_of c.args.trace.now) in
-    rw (c.y_of.ensures) (omega arith)
+    rw (c.packed_y.ensures) (omega arith)

@@ -1,7 +1,8 @@
 use Rattle.std.proofs.Common.{◌*◌, ◌^◌, ◌<◌, ◌≤ℤ◌, pos, neg_ℤ, ℤ, rules, arith, refl, sym, subst, SFits}
 use Rattle.std.specs.Int.{w16, w32, w128}
 use Rattle.std.proofs.lemmas.Int.{ints, to_z-of_z}
-use Rattle.trace_record.specs.Parts.{FitsSample, FitsCoordinate, each_fits}
+use Rattle.key_counts.specs.Parts.{FitsCoordinate}
+use Rattle.trace_record.specs.Parts.{FitsSample, each_fits}
 use Rattle.trace_record.specs.declared.record.Record.{Record}
 use Rattle.trace_record.proofs.PackedLemmas.{same_record, kept_sample, kept_sum}
 use Rattle.trace_record.proofs.packed_record.PackedRecord.of.Goals as goal

@@ -1,8 +1,10 @@
 use Rattle.std.proofs.Common.{◌+◌, ◌*◌, ◌^◌, ◌≤ℤ◌, pos, neg_ℤ, ℤ, Bool, rules, refl, sym, ap, subst, ◌∙◌, SFits}
 use Rattle.std.specs.Int.{w16, w32, w128}
 use Rattle.std.proofs.lemmas.Int.{to_z-of_z}
-use Rattle.trace_record.specs.Packed.{record_in, ratio_in}
-use Rattle.trace_record.specs.Parts.{FitsSample, FitsCoordinate, signed_of, fits_in_word, small_parts}
+use Rattle.key_counts.specs.Packed.{ratio_in}
+use Rattle.trace_record.specs.Packed.{record_in}
+use Rattle.key_counts.specs.Parts.{FitsCoordinate, fits_in_word}
+use Rattle.trace_record.specs.Parts.{FitsSample, signed_of, small_parts}
 use Rattle.trace_record.proofs.FactsLemmas.{kept}
 use Rattle.trace_record.proofs.PackedLemmas.{same_record}
 use Rattle.trace_record.proofs.packed_record.PackedRecord.record.Goals as goal

@@ -1,0 +1,9 @@
+pub mod KeyLemmas
+pub mod OneMoreLemmas
+pub mod PartLemmas
+pub mod ProductLemmas
+pub mod EachMoreLemmas
+pub mod RatioLemmas
+pub mod RisingLemmas
+pub mod RunLemmas
+pub mod ShownLemmas

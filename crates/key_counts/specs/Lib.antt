@@ -1,0 +1,10 @@
+pub mod FractionLaws
+pub mod RatioOrder
+pub mod Coordinates
+pub mod Parts
+pub mod Packed
+pub mod Counts
+pub mod Rising
+pub mod Runs
+pub mod Laws
+pub mod Examples

@@ -1,0 +1,153 @@
+ghost use Rattle.std.specs.Prelude.{◌≡◌, ◌+◌, ◌-◌, ◌^◌, ◌<◌, ℕ, [], All, length, slice_get, option_map, OnOk, OnErr, IsOk, IfOk};
+ghost use Rattle.std.specs.List.Sorted.{IsStrictlySortedBy};
+ghost use Rattle.std.specs.Map.{keys_of, values_of};
+ghost use Rattle.std.specs.Map.Iter.{ShowsInOrder, deref_pair};
+ghost use Rattle.std.proofs.lemmas.Map.Lookups.{CmpEqualImpliesEq};
+ghost use Rattle.key_counts.specs.Counts.{count_of, with_one_more, with_each_more, with_one_less, HasOneMore, HasSameCounts};
+ghost use Rattle.key_counts.specs.Rising.{Shows, times_in};
+
+use crate::OutOfMemory;
+use crate::runs::map_of_keys;
+use std::alloc::Global;
+use std::collections::BTreeMap;
+use std::collections::btree_map::Iter;
+use std::marker::Model;
+
+/// How often each key was counted, seen as the list of the keys with their numbers, rising. A key
+/// with the number 0 is left out. It keeps its allocator.
+#[derive(Drop)]
+pub struct Counts<K: Copy + Ord> {
+    map: BTreeMap<K, u64>,
+}
+
+impl<K: Copy + Ord> Model for Counts<K> {
+    ghost use Rattle.std.specs.Prelude.{ℕ, ◌<◌, List, All};
+    ghost use Rattle.std.specs.BTreeMap.{values};
+
+    ghost Value = { List (K × ℕ) };
+
+    ghost view = { λ a. a.map.entries };
+
+    ghost invariant = { λ a. All (λ n. 0 < n) (values a.map) };
+}
+
+impl<K: Copy + Ord> Counts<K> {
+    /// No key. Takes no memory.
+    pub fn new(alloc: Global) -> Counts<K>
+        ensures { result ≡ [] }
+    {
+        Counts {
+            map: BTreeMap::new(alloc),
+        }
+    }
+
+    /// How often each of these keys occurs among them, as if each were raised once. The keys are
+    /// sorted, which is one pass where they rise already, and then the map is made in one go. Takes
+    /// memory for the map and, while it is made, for a list of its pairs; refused for want of it
+    /// alone.
+    pub fn from_keys(alloc: Global, keys: Vec<K>) -> Result<Counts<K>, OutOfMemory>
+        ensures shows { IfOk result (Shows K.cmp (times_in K.cmp keys.items)) }
+
+        // Where keys that compare equal are one key, it is what raising each makes.
+        ensures each { IfOk result (λ v. CmpEqualImpliesEq K.cmp →
+            v ≡ with_each_more K.cmp [] keys.items) }
+    {
+        let map = map_of_keys(alloc, keys)?;
+        Ok(Counts { map })
+    }
+
+    /// The number at the key, 0 where it has none. Takes no memory.
+    pub fn count(&self, key: &K) -> u64
+        ensures { result ≡ count_of K.cmp self.now key.now }
+    {
+        self.map.get(key).copied().unwrap_or(0)
+    }
+
+    /// The least key. Takes no memory.
+    pub fn least(&self) -> Option<K>
+        ensures { result ≡ option_map (λ e. e.0) (slice_get self.now 0) }
+    {
+        match self.map.first_key_value() {
+            Some((key, _)) => Some(*key),
+            None => None,
+        }
+    }
+
+    /// The greatest key. Takes no memory.
+    pub fn greatest(&self) -> Option<K>
+        ensures { result ≡ option_map (λ e. e.0) (slice_get self.now (length self.now - 1)) }
+    {
+        match self.map.last_key_value() {
+            Some((key, _)) => Some(*key),
+            None => None,
+        }
+    }
+
+    /// The keys with their numbers, rising. Takes no memory.
+    pub fn pairs(&self) -> Iter<'_, K, u64>
+        ensures rest { result ≡ self.now }
+        ensures runs { ShowsInOrder (deref_pair {K = K} {X = ℕ}) }
+        ensures rising { IsStrictlySortedBy K.cmp (keys_of self.now) }
+        ensures positive { All (λ n. 0 < n) (values_of self.now) }
+    {
+        self.map.iter()
+    }
+
+    /// Counts the key once more. Takes memory for a key that is not held, and leaves all as it was
+    /// where the growth is refused. A held key takes one look-up.
+    pub fn raise(&mut self, key: K) -> Result<(), OutOfMemory>
+        requires { count_of K.cmp self.old key + 1 < 2 ^ 64 }
+        ensures ok { OnOk result (self.new ≡ with_one_more K.cmp self.old key) }
+        ensures err { OnErr result (self.new ≡ self.old) }
+        ensures each { OnOk result (HasOneMore K.cmp self.old self.new key) }
+        ensures held { 0 < count_of K.cmp self.old key → IsOk result }
+    {
+        if let Some(held) = self.map.get_mut(&key) {
+            *held += 1;
+            return Ok(());
+        }
+        self.map.insert(key, 1)?;
+        Ok(())
+    }
+
+    /// Counts the key once less, and leaves it out at 0; one look-up, or two where it leaves it
+    /// out. Takes no memory.
+    pub fn lower(&mut self, key: &K)
+        requires { 0 < count_of K.cmp self.old key.now }
+        ensures less { self.new ≡ with_one_less K.cmp self.old key.now }
+        ensures each { HasOneMore K.cmp self.new self.old key.now }
+    {
+        if let Some(held) = self.map.get_mut(key) {
+            let stays = *held > 1;
+            if stays {
+                *held -= 1;
+            } else {
+                self.map.remove(key);
+            }
+        }
+    }
+}
+
+/// Counts one key more in each of two counts, or in neither where a growth is refused. Takes memory
+/// for a key that is not held.
+pub fn raise_both<A: Copy + Ord, B: Copy + Ord>(
+    first: &mut Counts<A>,
+    a: A,
+    second: &mut Counts<B>,
+    b: B,
+) -> Result<(), OutOfMemory>
+    requires first { count_of A.cmp first.old a + 1 < 2 ^ 64 }
+    requires second { count_of B.cmp second.old b + 1 < 2 ^ 64 }
+    ensures ok_first { OnOk result (HasOneMore A.cmp first.old first.new a) }
+    ensures ok_second { OnOk result (HasOneMore B.cmp second.old second.new b) }
+    ensures err_first { OnErr result (HasSameCounts A.cmp first.old first.new) }
+    ensures err_second { OnErr result (HasSameCounts B.cmp second.old second.new) }
+    ensures held { 0 < count_of A.cmp first.old a → 0 < count_of B.cmp second.old b → IsOk result }
+{
+    first.raise(a)?;
+    if let Err(error) = second.raise(b) {
+        first.lower(&a);
+        return Err(error);
+    }
+    Ok(())
+}

@@ -1,5 +1,0 @@
-use Rattle.trace_record.specs.Parts.{each_fits}
-use Rattle.trace_record.proofs.packed_ratio.PackedRatio.x_of.Goals as goal
-
-pub of-requires : goal.of-requires
-of-requires c = (each_fits _ _ _ _ c.args.trace.now.small).2

@@ -1,7 +1,7 @@
 //! What the reports need of one trace. `Record` is a trace's own numbers, which `record_of` takes
 //! from a view of the trace, and `record_with_samples_of` from its headers alone; `Records` holds
-//! those of many traces in order, each in 72 bytes. `Statistics` is the least, greatest, sum and
-//! number of samples. A `Running` value counts traces, seen as their tally. The calls that are named
+//! those of many traces in order, each in 72 bytes. `Amplitudes` is the least, greatest and sum of
+//! samples, where they have values, and `Statistics` these with their number. A `Running` value counts traces, seen as their tally. The calls that are named
 //! for a law do nothing: their contract is the law.
 //!
 //! `Running::add` takes memory only for a key that is not held; where a growth is refused it leaves
@@ -11,6 +11,7 @@
 //! the standard.
 #![tactic(auto)]
 
+mod amplitudes;
 mod header_fields;
 mod laws;
 mod narrow;
@@ -27,6 +28,7 @@ mod statistics;
 mod unsigned;
 mod wide;
 
+pub use crate::amplitudes::Amplitudes;
 pub use crate::laws::{
     geometry_of_each_trace, minus_undoes_plus, plus_in_any_order, plus_undoes_minus,
     statistics_of_joined, tally_holds_each, tally_in_any_order, tally_of_one_less,

@@ -1,5 +1,6 @@
 -- What the reports need of one trace.
-use Rattle.std.specs.Prelude.{ℕ, ℤ, Bool, List, length, Option, option_map}
+use Rattle.std.specs.Prelude.{ℕ, ℤ, pos, Bool, List, length, Option, option_map}
+use Rattle.std.specs.Option.{option_map_or}
 use Rattle.trace_record.specs.Statistics.{amplitudes_of, statistics_with}
 use Rattle.trace_record.specs.declared.amplitudes.Amplitudes.{Amplitudes}
 use Rattle.key_counts.specs.declared.ratio.Ratio.{Ratio}
@@ -50,6 +51,14 @@ facts_of r = record {
 -- the statistics of the trace's samples, none without any and none where they have no values
 abbrev pub statistics_in : Facts → Option Statistics
 statistics_in f = option_map (λ a. statistics_with a f.number) f.amplitudes
+
+-- how many of the trace's samples have values
+abbrev pub number_of_values : Facts → ℕ
+number_of_values f = option_map_or (λ a. f.number) f.amplitudes 0
+
+-- the sum of these values
+abbrev pub sum_of_values : Facts → ℤ
+sum_of_values f = option_map_or (λ a. a.sum) f.amplitudes (pos 0)
 
 -- the same facts with these amplitudes of so many samples
 abbrev pub with_amplitudes : Facts → Option Amplitudes → ℕ → Facts

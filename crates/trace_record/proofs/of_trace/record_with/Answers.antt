@@ -1,4 +1,4 @@
-use Rattle.std.proofs.Common.{rules, ◌≡◌, SFits, refl, ap₂, ◌∙◌, arith}
+use Rattle.std.proofs.Common.{rules, SFits, refl, ap₂, ◌∙◌, arith}
 use Rattle.std.specs.Int.{w16, w32}
 use Rattle.trace_view.specs.Shown.{bytes_of, head_of}
 use Rattle.key_counts.specs.Coordinates.{under_scalar}

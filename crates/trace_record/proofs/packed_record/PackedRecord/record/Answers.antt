@@ -1,4 +1,4 @@
-use Rattle.std.proofs.Common.{ℕ, Option, rules, refl, sym, subst, SFits}
+use Rattle.std.proofs.Common.{Option, rules, refl, sym, subst, SFits}
 use Rattle.std.specs.Int.{w16, w32}
 use Rattle.std.proofs.lemmas.Int.{to_z-of_z}
 use Rattle.key_counts.specs.Packed.{ratio_in}

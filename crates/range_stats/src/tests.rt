@@ -7,7 +7,7 @@ use crate::{Quantity, Ranges, Totals};
 use key_counts::Ratio;
 use std::alloc::Global;
 use std::test::Fail;
-use trace_record::{OutOfMemory, Record, Running};
+use trace_record::{Amplitudes, OutOfMemory, Record, Running};
 
 fn both<R: Running>(alloc: Global, first: &Record, second: &Record) -> Result<R, OutOfMemory>
     requires one { IsSmall (tally_of R.counted (facts_of first.now ∷ [])) }
@@ -35,14 +35,16 @@ fn second_alone<R: Running>(
     Ok(running)
 }
 
-#[tactic(auto, unfolding(trace_record::specs::Parts::IsPackable))]
+#[tactic(auto, unfolding(trace_record::specs::Packable::IsPackable, trace_record::specs::Packable::HaveRange))]
 fn first_trace() -> Record
     ensures { result.number ≡ 2 }
 {
     Record {
-        least: -2,
-        greatest: 1,
-        sum: -1,
+        amplitudes: Some(Amplitudes {
+            least: -2,
+            greatest: 1,
+            sum: -1,
+        }),
         x: Ratio::scaled(250, -100),
         y: Ratio::whole(500),
         inline: 10,
@@ -58,14 +60,16 @@ fn first_trace() -> Record
     }
 }
 
-#[tactic(auto, unfolding(trace_record::specs::Parts::IsPackable))]
+#[tactic(auto, unfolding(trace_record::specs::Packable::IsPackable, trace_record::specs::Packable::HaveRange))]
 fn second_trace() -> Record
     ensures { result.number ≡ 2 }
 {
     Record {
-        least: 3,
-        greatest: 4,
-        sum: 7,
+        amplitudes: Some(Amplitudes {
+            least: 3,
+            greatest: 4,
+            sum: 7,
+        }),
         x: Ratio::whole(40),
         y: Ratio::whole(500),
         inline: 9,

@@ -6,7 +6,7 @@ use crate::{Fault, Faults, HeadFacts};
 use key_counts::Ratio;
 use std::alloc::Global;
 use std::test::Fail;
-use trace_record::{OutOfMemory, Record, Records, Running};
+use trace_record::{Amplitudes, OutOfMemory, Record, Records, Running};
 
 fn there_and_back(alloc: Global, trace: &Record) -> Result<Faults, OutOfMemory> {
     let mut faults = Faults::new(alloc);
@@ -16,12 +16,14 @@ fn there_and_back(alloc: Global, trace: &Record) -> Result<Faults, OutOfMemory> 
 }
 
 #[test]
-#[tactic(auto, unfolding(trace_record::specs::Parts::IsPackable))]
+#[tactic(auto, unfolding(trace_record::specs::Packable::IsPackable, trace_record::specs::Packable::HaveRange))]
 fn counts_a_trace_and_forgets_it(rt: HostRuntime) -> Result<(), Fail> {
     let trace = Record {
-        least: -2,
-        greatest: 1,
-        sum: -1,
+        amplitudes: Some(Amplitudes {
+            least: -2,
+            greatest: 1,
+            sum: -1,
+        }),
         x: Ratio::whole(1000),
         y: Ratio::whole(500),
         inline: 10,
@@ -48,12 +50,14 @@ fn report_of(alloc: Global, records: &[Record], head: &HeadFacts) -> Result<Vec<
     Ok(faults.report(alloc, &list, head)?)
 }
 
-#[tactic(auto, unfolding(trace_record::specs::Parts::IsPackable))]
+#[tactic(auto, unfolding(trace_record::specs::Packable::IsPackable, trace_record::specs::Packable::HaveRange))]
 fn trace_at(sequence: i32, crossline: i32, offset: i32) -> Record {
     Record {
-        least: -2,
-        greatest: 1,
-        sum: -1,
+        amplitudes: Some(Amplitudes {
+            least: -2,
+            greatest: 1,
+            sum: -1,
+        }),
         x: Ratio::whole(1000),
         y: Ratio::whole(500),
         inline: 10,

@@ -10,7 +10,7 @@ use key_counts::Ratio;
 use live_reports::LiveReports;
 use range_stats::{Quantity, Ranges, Totals};
 use std::alloc::Global;
-use trace_record::{Record, Records, Running};
+use trace_record::{Amplitudes, Record, Records, Running};
 
 // A record of a survey with a thousand traces on each inline, on a grid turned by 23 degrees.
 pub(crate) fn make(i: u32) -> Record
@@ -21,9 +21,11 @@ pub(crate) fn make(i: u32) -> Record
     let crossline = (i % 1000) as i32;
     let swing = i128::from(i % 24001);
     Record {
-        least: -swing,
-        greatest: swing,
-        sum: 0,
+        amplitudes: Some(Amplitudes {
+            least: -swing,
+            greatest: swing,
+            sum: 0,
+        }),
         x: Ratio::scaled(45000000 + 2301 * inline - 488 * crossline, -100),
         y: Ratio::scaled(60000000 + 977 * inline + 1151 * crossline, -100),
         inline,

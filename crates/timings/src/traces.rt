@@ -32,9 +32,11 @@ fn total_of(overlay: &mut Overlay, fields: &FieldMap) -> Total
         if let Some(view) = overlay.look(before + 1) {
             let record = record_of(&view, fields);
             total.samples = total.samples.saturating_add(u64::from(record.number));
-            total.least = total.least.min(record.least);
-            total.greatest = total.greatest.max(record.greatest);
-            total.sum = total.sum.saturating_add(record.sum);
+            if let Some(amplitudes) = record.amplitudes {
+                total.least = total.least.min(amplitudes.least);
+                total.greatest = total.greatest.max(amplitudes.greatest);
+                total.sum = total.sum.saturating_add(amplitudes.sum);
+            }
         }
     }
     total
@@ -48,13 +50,12 @@ pub(crate) fn count_records<R: Files + AllocGlobal>(
 ) -> Option<(u32, Total)> {
     let limits = Limits::new(1 << 40, u32::MAX)?;
     let file = fs::open(rt, path).ok()?;
-    let mut overlay = Overlay::load(
-        rt.alloc(),
-        &mut Source::new(file),
-        Reading::AsWritten,
-        limits,
-    )
-    .ok()?;
+    let reading = Reading {
+        fixed: false,
+        opaque: true,
+        order: None,
+    };
+    let mut overlay = Overlay::load(rt.alloc(), &mut Source::new(file), reading, limits).ok()?;
     let fields = FieldMap::standard(rt.alloc(), overlay.head().extensions).ok()?;
     let mut total = Total {
         samples: 0,

@@ -1,7 +1,7 @@
 use Rattle.std.proofs.Common.{◌≡◌, ◌+◌, ◌++◌, ◌∙◌, ◌≤◌, List, length, drop, ap, subst, sym, arith, add-one, inl, inr, IfSome, IsTrue}
 use Rattle.frame_cut.specs.declared.file_head.Head.{Head}
 use Rattle.frame_cut.specs.Traces.{count_of}
-use Rattle.sample_codes.specs.Formats.{sample_fits}
+use Rattle.time_slice.specs.Fitting.{value_fits}
 use Rattle.trace_view.specs.Shown.{bytes_of}
 use Rattle.trace_view.specs.Values.{sample_of}
 use Rattle.trace_record.specs.Facts.{facts_of}
@@ -39,7 +39,7 @@ loop-record-preserved c =
       traces_left = next.left;
       few = told.few;
       fits = fits_more v.head.format rows c.push_row.new.rows.items (i + 1) (facts_of c.in-Some.record) sample.result c.in_ok-push_row.ensures
-          (subst (λ (h : Head). IfSome sample.result (λ s. IsTrue (sample_fits h.format s))) next.shows.0 sample.ensures.fits)
+          (subst (λ (h : Head). IfSome sample.result (λ s. IsTrue (value_fits h.format s))) next.shows.0 sample.ensures.fits)
           told.fits;
     }
 

@@ -1,5 +1,5 @@
 use Rattle.std.proofs.Common.{◌≡◌, ◌+◌, ◌++◌, length, drop, All, IsTrue}
-use Rattle.sample_codes.specs.Formats.{sample_fits}
+use Rattle.time_slice.specs.Fitting.{value_fits}
 use Rattle.frame_cut.specs.Traces.{count_of}
 use Rattle.edit_overlay.specs.Shown.{shown_each}
 use Rattle.time_slice.specs.OfRecords.{with_sample_of}
@@ -15,5 +15,5 @@ invariant-loop-record l =
       records_left : l.position + length l.record-iterator.a ≡ count_of v;
       traces_left : l.record-iterator.b ≡ shown_each v.head (drop l.position v.traces);
       few : l.count ≡ count_of v;
-      fits : All (λ r. IsTrue (sample_fits v.head.format r.value)) l.rows.items;
+      fits : All (λ r. IsTrue (value_fits v.head.format r.value)) l.rows.items;
     }

@@ -1,17 +1,16 @@
 -- Bytes over the headers of a trace that leave it whole leave its samples.
-use Rattle.std.proofs.Common.{◌≡◌, ◌⊎◌, ℕ, ◌+◌, ◌*◌, ◌-◌, ◌/◌, ◌<◌, ◌≤◌, Bool, true, false, leb, List, [], ◌++◌, length, take, drop, Option, Some, None, refl, sym, ap, ap₂, subst, ◌∙◌, arith, inl, inr}
+use Rattle.std.proofs.Common.{◌≡◌, ℕ, ◌+◌, ◌*◌, ◌-◌, ◌/◌, ◌<◌, ◌≤◌, List, [], ◌++◌, length, take, drop, Option, Some, None, refl, sym, ap, ap₂, subst, ◌∙◌, arith}
 use Rattle.std.specs.Prelude.{option_map, unwrap_or}
 use Rattle.std.specs.Option.{option_map_or}
 use Rattle.std.proofs.Math.Nat.{mul-div_cancel_left}
 use Rattle.std.proofs.Math.Seq.{drop-append-add}
-use Rattle.std.proofs.lemmas.Bool.{leb-true, leb-false}
 use Rattle.std.proofs.lemmas.List.{length-append, length-take-le, drop-drop}
 use Rattle.sample_codes.specs.Formats.{width, values}
 use Rattle.sample_codes.proofs.WidthLemmas.{width-positive}
 use Rattle.field_map.specs.Pairs.{Pairs}
 use Rattle.frame_cut.specs.declared.file_head.Head.{Head}
 use Rattle.frame_cut.specs.Cuts.{IsTrace}
-use Rattle.frame_cut.specs.Frames.{header_bytes, extension_count, extensions_of, sample_count, trace_length, length_with}
+use Rattle.frame_cut.specs.Frames.{extension_count, extensions_of, sample_count, trace_length, length_with}
 use Rattle.frame_cut.specs.Splice.{splice}
 use Rattle.frame_cut.proofs.EditLemmas.{length-splice}
 use Rattle.frame_cut.proofs.ExtensionLemmas.{extensions_kept}

@@ -1,4 +1,4 @@
-use Rattle.std.proofs.Common.{◌≡◌, ◌+◌, ◌<◌, ◌≤◌, ◌^◌, ◌∙◌, List, length, drop, sym, ap, arith}
+use Rattle.std.proofs.Common.{◌≡◌, ◌+◌, ◌<◌, ◌^◌, ◌∙◌, List, length, sym, ap, arith}
 use Rattle.std.specs.Prelude.{map}
 use Rattle.std.proofs.lemmas.List.{length_push}
 use Rattle.frame_cut.specs.Traces.{count_of}
@@ -6,9 +6,7 @@ use Rattle.frame_cut.specs.declared.file_head.Head.{Head}
 use Rattle.trace_record.specs.Facts.{facts_of}
 use Rattle.trace_record.specs.OfTrace.{record_of}
 use Rattle.trace_record.specs.declared.record.Record.{Record}
-use Rattle.edit_overlay.specs.Shown.{shown_each}
-use Rattle.edit_overlay.proofs.PassLemmas.{all_shown, next_shown, IsNextShown}
-use Rattle.volume_records.specs.OfVolume.{records_of}
+use Rattle.edit_overlay.proofs.PassLemmas.{all_shown, next_shown}
 use Rattle.volume_records.proofs.FewLemmas.{cut_is_few}
 use Rattle.volume_records.proofs.PassLemmas.{all_records, one_record_more}
 use Rattle.volume_records.proofs.SeenLemmas.{of_view, same_extensions}

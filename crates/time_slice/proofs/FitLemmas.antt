@@ -62,4 +62,4 @@ integer_in_8 Unsigned8 v h = (grind (arith, nat_tests, ints), grind (arith, nat_
 -- a number that the format has is one of 8 bytes with the format's sign
 pub fits_in_8 : (f : Format) (v : ℤ) → IsTrue (value_fits f v) → IsBetween (has_signs f) 8 v
 fits_in_8 (Integer f) v h = integer_in_8 f v h
-fits_in_8 (Opaque f) v h = absurd h
+fits_in_8 (Opaque f) v h = absurd cc

@@ -137,6 +137,7 @@ fn edit_hint(words: &Words, refusal: Refusal) -> Hint {
         Refusal::Frame => frame(words),
         Refusal::Map(fault) => map_hint(words, fault),
         Refusal::TooLarge => Hint::Text("--max-bytes N raises the limit"),
+        Refusal::NoValues => Hint::Text(NO_VALUES),
         Refusal::ZeroDivisor(_) => Hint::Text("find tells the traces where a FIELD is 0: leave them out"),
         _ => Hint::None,
     }
@@ -149,6 +150,7 @@ fn query_hint(words: &Words, fault: AskFault) -> Hint {
         AskFault::NoField => no_field(words),
         AskFault::NoPlace => no_place(words),
         AskFault::NoSample(k, count) if k == count => Hint::Text("samples count from 0"),
+        AskFault::NoValues => Hint::Text(NO_VALUES),
         _ => Hint::None,
     }
 }

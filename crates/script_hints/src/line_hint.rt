@@ -13,6 +13,9 @@ use field_map::{MapFault, is_geometry, named};
 use script_words::LineFault;
 use std::str;
 
+// Of a line that needs the values of samples that have none.
+const NO_VALUES: &str = "floats and samples with a gain are bytes here, without a value";
+
 /// What may be meant by a refused line.
 pub(crate) fn hint_of(note: &Note) -> Hint {
     let bytes = note.bytes();
@@ -138,7 +141,9 @@ fn edit_hint(words: &Words, refusal: Refusal) -> Hint {
         Refusal::Map(fault) => map_hint(words, fault),
         Refusal::TooLarge => Hint::Text("--max-bytes N raises the limit"),
         Refusal::NoValues => Hint::Text(NO_VALUES),
-        Refusal::ZeroDivisor(_) => Hint::Text("find tells the traces where a FIELD is 0: leave them out"),
+        Refusal::ZeroDivisor(_) => Hint::Text(
+            "find tells the traces where a FIELD is 0: leave them out",
+        ),
         _ => Hint::None,
     }
 }
@@ -169,7 +174,10 @@ fn no_trace(words: &Words, p: u32, count: u32) -> Hint {
 
 // Whether the command is one of the traces from P to Q.
 fn is_of_range(command: &[u8]) -> bool {
-    matches!(command, b"renumber" | b"compute" | b"table" | b"find" | b"extremes")
+    matches!(
+        command,
+        b"renumber" | b"compute" | b"table" | b"find" | b"extremes"
+    )
 }
 
 // Of a name that is no field.

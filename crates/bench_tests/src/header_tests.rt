@@ -59,12 +59,7 @@ fn shown(bench: &mut Bench, alloc: Global, name: &str) -> Result<Option<i128>, F
 }
 
 // The positions that are found.
-fn positions(
-    bench: &mut Bench,
-    alloc: Global,
-    low: i128,
-    high: i128,
-) -> Result<Vec<u32>, Fail> {
+fn positions(bench: &mut Bench, alloc: Global, low: i128, high: i128) -> Result<Vec<u32>, Fail> {
     let mut all = Vec::new(alloc);
     let query = Query::Find(1, 3, signed(0, 193, 4), low, high);
     match bench.ask(alloc, &query)? {
@@ -81,9 +76,15 @@ fn positions(
 fn ask_before_and_after(rt: &impl Abort, alloc: Global, bench: &mut Bench) -> Result<(), Fail> {
     let looks = bench.looks();
     let fields = vec![in alloc; signed(0, 193, 4), signed(0, 193, 2)]?;
-    assert_eq!(rt; rows(bench, alloc, 2, 3, fields)?.as_slice(), [2, 22, 0, 3, 23, 0].as_slice());
+    assert_eq!(rt;
+        rows(bench, alloc, 2, 3, fields)?.as_slice(),
+        [2, 22, 0, 3, 23, 0].as_slice()
+    );
     assert_eq!(rt; bench.looks(), looks + 2);
-    assert_eq!(rt; positions(bench, alloc, 22, 1 << 100)?.as_slice(), [2, 3].as_slice());
+    assert_eq!(rt;
+        positions(bench, alloc, 22, 1 << 100)?.as_slice(),
+        [2, 3].as_slice()
+    );
     assert_eq!(rt; positions(bench, alloc, 23, 22)?.len(), 0);
     assert_eq!(rt; bench.looks(), looks + 8);
     assert_eq!(rt; shown(bench, alloc, "crossline_number")?, Some(22));
@@ -91,8 +92,19 @@ fn ask_before_and_after(rt: &impl Abort, alloc: Global, bench: &mut Bench) -> Re
     assert_eq!(rt; extremes_of(bench, alloc, "day")?, None);
     bench.apply(alloc, &Edit::Set(1, signed(0, 193, 4), 40))?;
     let found = extremes_of(bench, alloc, "crossline")?;
-    assert!(rt; found == Some(Extremes { least: 22, greatest: 40, first: 40, last: 23 }));
-    assert_eq!(rt; positions(bench, alloc, 22, 39)?.as_slice(), [2, 3].as_slice());
+    assert!(rt;
+        found
+            == Some(Extremes {
+                least: 22,
+                greatest: 40,
+                first: 40,
+                last: 23
+            })
+    );
+    assert_eq!(rt;
+        positions(bench, alloc, 22, 39)?.as_slice(),
+        [2, 3].as_slice()
+    );
     Ok(())
 }
 
@@ -126,10 +138,16 @@ fn refuse_ranges(rt: &impl Abort, alloc: Global, bench: &mut Bench) -> Result<()
     assert_eq!(rt; table, Some(AskFault::NoPlace));
     let found = bench.ask(alloc, &Query::Find(3, 2, absent(), 0, 0)).err();
     assert_eq!(rt; found, Some(AskFault::NoTrace(2, 3)));
-    assert_eq!(rt; bench.ask(alloc, &Query::Header(0)).err(), Some(AskFault::NoTrace(0, 3)));
+    assert_eq!(rt;
+        bench.ask(alloc, &Query::Header(0)).err(),
+        Some(AskFault::NoTrace(0, 3))
+    );
     let extremes = bench.ask(alloc, &Query::Extremes(4, 4)).err();
     assert_eq!(rt; extremes, Some(AskFault::NoTrace(4, 3)));
-    assert_eq!(rt; bench.ask(alloc, &Query::Lines(1)).err(), Some(AskFault::NoPlace));
+    assert_eq!(rt;
+        bench.ask(alloc, &Query::Lines(1)).err(),
+        Some(AskFault::NoPlace)
+    );
     let lines = match bench.ask(alloc, &Query::Lines(0))? {
         Answer::Lines(lines) => lines.as_slice().len(),
         _ => 0,

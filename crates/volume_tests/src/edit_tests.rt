@@ -35,7 +35,7 @@ fn limits() -> Result<Limits, Fail> {
 
 fn volume(alloc: Global) -> Result<Overlay, Fail> {
     let file = two_traces(alloc)?;
-    Ok(Overlay::from_bytes(alloc, file, Reading::AsWritten, limits()?)?)
+    Ok(Overlay::from_bytes(alloc, file, Reading::as_written(), limits()?)?)
 }
 
 // What the function answers of the small file and of an overlay over it.
@@ -291,7 +291,7 @@ fn expect_as_loaded(
 
 fn load_in_steps(rt: &impl Abort, alloc: Global, file: &[u8]) -> Result<(), Fail> {
     let mut reader = Source::new(StepReader::new(file, 1, u64::MAX));
-    let loaded = Overlay::load(alloc, &mut reader, Reading::AsWritten, limits()?)?;
+    let loaded = Overlay::load(alloc, &mut reader, Reading::as_written(), limits()?)?;
     assert_eq!(rt; reader.failures(), 0);
     expect_as_loaded(rt, alloc, &loaded, file)
 }
@@ -309,7 +309,7 @@ fn load_fault(
     reader: &mut Source<StepReader<'_>>,
     limits: Limits,
 ) -> Option<LoadFault> {
-    Overlay::load(alloc, reader, Reading::AsWritten, limits).err()
+    Overlay::load(alloc, reader, Reading::as_written(), limits).err()
 }
 
 fn refuse_to_load(rt: &impl Abort, alloc: Global, file: &[u8]) -> Result<(), Fail> {

@@ -19,7 +19,10 @@ use volume_records::{
 
 // Whether the record has this inline, and so many samples with this sum.
 fn says(record: &Record, inline: i32, number: u32, sum: i128) -> bool {
-    record.inline == inline && record.number == number && record.sum == sum
+    let Some(amplitudes) = record.amplitudes else {
+        return false;
+    };
+    record.inline == inline && record.number == number && amplitudes.sum == sum
 }
 
 fn says_at(reports: &LiveReports, place: usize, inline: i32, number: u32, sum: i128) -> bool {
@@ -131,7 +134,7 @@ fn makes_the_records_of_a_volume(rt: HostRuntime) -> Result<(), Fail> {
     let alloc = rt.alloc();
     let limits = Limits::new(4330, 3).ok_or("limits")?;
     let file = three_traces(alloc)?;
-    let mut volume = Overlay::from_bytes(alloc, file, Reading::AsWritten, limits)?;
+    let mut volume = Overlay::from_bytes(alloc, file, Reading::as_written(), limits)?;
     let fields = FieldMap::standard(alloc, volume.head().extensions)?;
     assert!(rt; tells_two(alloc, &mut volume, &fields)?);
     Ok(())
@@ -142,7 +145,7 @@ fn makes_prepared_records(rt: HostRuntime) -> Result<(), Fail> {
     let alloc = rt.alloc();
     let limits = Limits::new(4330, 3).ok_or("limits")?;
     let file = three_traces(alloc)?;
-    let mut volume = Overlay::from_bytes(alloc, file, Reading::AsWritten, limits)?;
+    let mut volume = Overlay::from_bytes(alloc, file, Reading::as_written(), limits)?;
     let fields = FieldMap::standard(alloc, volume.head().extensions)?;
     let other = other_record(alloc)?;
     let (record, headers) = prepared(alloc, &mut volume, &fields, 2, 190, &[1, 4], &other)?;

@@ -173,7 +173,7 @@ fn makes_rows(rt: HostRuntime) -> Result<(), Fail> {
     let alloc = rt.alloc();
     let limits = Limits::new(4330, 3).ok_or("limits")?;
     let file = three_traces(alloc)?;
-    let mut volume = Overlay::from_bytes(alloc, file, Reading::AsWritten, limits)?;
+    let mut volume = Overlay::from_bytes(alloc, file, Reading::as_written(), limits)?;
     let records = small_records(alloc)?;
     makes_each(&rt, alloc, &mut volume, &records)
 }
@@ -219,7 +219,7 @@ fn keeps_the_last_asked(rt: HostRuntime) -> Result<(), Fail> {
     let alloc = rt.alloc();
     let limits = Limits::new(4330, 3).ok_or("limits")?;
     let file = three_traces(alloc)?;
-    let mut volume = Overlay::from_bytes(alloc, file, Reading::AsWritten, limits)?;
+    let mut volume = Overlay::from_bytes(alloc, file, Reading::as_written(), limits)?;
     let records = small_records(alloc)?;
     let mut cache = SliceCache::new(alloc, 3)?;
     keeps_three(&rt, alloc, &mut cache, &mut volume, &records)?;
@@ -232,7 +232,7 @@ fn keeps_the_greatest_sample(rt: HostRuntime) -> Result<(), Fail> {
     let alloc = rt.alloc();
     let limits = Limits::new(3848, 1).ok_or("limits")?;
     let file = wide_trace(alloc)?;
-    let mut volume = Overlay::from_bytes(alloc, file, Reading::AsWritten, limits)?;
+    let mut volume = Overlay::from_bytes(alloc, file, Reading::as_written(), limits)?;
     let records = Records::from_slice(alloc, &[record_at(1, 2)])?;
     let mut cache = SliceCache::new(alloc, 1)?;
     let greatest = [row(1, 2, 1, 18446744073709551615)];

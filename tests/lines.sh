@@ -1,10 +1,12 @@
 #!/usr/bin/env bash
-# No line of a .rt file is longer than 100 columns, but for the lines that import words of specifications.
+# No line of code in a .rt file is longer than 100 columns. Lines that import words of specifications may be; comments, clauses
+# and the rows of tables with their meanings have up to 132.
 set -u
 cd "$(dirname "$0")/.."
-long=$(git ls-files 'crates/*.rt' 2>/dev/null | xargs -r env LC_ALL=C.UTF-8 grep -nE '^.{101,}' | grep -v 'ghost use')
+long=$(git ls-files 'crates/*.rt' 2>/dev/null | xargs -r env LC_ALL=C.UTF-8 grep -nE '^.{101,}' | grep -v 'ghost use' |
+    grep -vE '^[^:]*:[0-9]*:( *//| *(ensures|requires) | *\(".*\), // ).{0,125}$')
 if [ -n "$long" ]; then
     printf 'lines of more than 100 columns:\n%s\n' "$long"
     exit 1
 fi
-echo 'lines: none of more than 100 columns'
+echo 'lines: no code of more than 100 columns'

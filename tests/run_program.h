@@ -77,11 +77,11 @@ static void write_path(const char *path, const void *bytes, size_t length) {
 /* Whether a line of standard error tells a refused line or file, which the answers tell too: `segywb: PATH:3: E01 ..`, `segywb: PATH: L14 ..`,
    how many more there are, or a save without them. */
 static int tells_refusal(const char *line, size_t length) {
-    static const char head[] = "segywb: ", saved[] = "saved without ", more[] = " refused, not told here";
+    static const char head[] = "segywb: ", saved[] = "saved without ", more[] = ".. and ";
     size_t at = sizeof head - 1;
     if (length < at || memcmp(line, head, at) != 0) return 0;
     if (length >= at + sizeof saved - 1 && memcmp(line + at, saved, sizeof saved - 1) == 0) return 1;
-    if (length >= at + sizeof more - 1 && memcmp(line + length - (sizeof more - 1), more, sizeof more - 1) == 0) return 1;
+    if (length >= at + sizeof more - 1 && memcmp(line + at, more, sizeof more - 1) == 0) return 1;
     for (; at + 6 <= length; at++)
         if (line[at] == ':' && line[at + 1] == ' ')
             return strchr("LSE", line[at + 2]) && line[at + 3] >= '0' && line[at + 3] <= '9' && line[at + 4] >= '0' && line[at + 4] <= '9' && line[at + 5] == ' ';

@@ -152,19 +152,17 @@ if command -v cc > /dev/null && cc -O1 -shared -fPIC -o refuse_growth.so "$here/
             2 | 4) [ ! -e o.sgy ] || outcome="growth $n: status $got, and a file" ; continue ;;
             3) [ "$(cat answers)" = 'load refused L16 out of memory' ] || outcome="growth $n: $(head -c 100 answers)" ; continue ;;
         esac
+        [ "$(grep -c '^$' answers)" = ${#script[@]} ] || outcome="growth $n: not one empty line for each line"
         : > fewer
         : > wanted
         {
             for line in "${script[@]}"; do
-                # a note has no answer, but E11 where no memory holds it
-                IFS= read -r told
-                if [ -n "$told" ]; then
-                    IFS= read -r empty
-                    [ -z "$empty" ] || outcome="growth $n: $empty"
-                fi
-                if [ "$told" = 'refused E11 out of memory' ]; then refused=$((refused + 1)); continue; fi
+                # the lines of an answer, up to the empty one; a note has none, but E11 where no memory holds it
+                block=()
+                while IFS= read -r told && [ -n "$told" ]; do block+=("$told"); done
+                if [ "${block[*]}" = 'refused E11 out of memory' ]; then refused=$((refused + 1)); continue; fi
                 printf '%s\n' "$line" >> fewer
-                [ -z "$told" ] || printf '%s\n' "$told" >> wanted
+                [ ${#block[@]} = 0 ] || printf '%s\n' "${block[@]}" >> wanted
             done
         } < answers
         "$program" s.sgy --script fewer --out fewer.sgy > told 2> /dev/null

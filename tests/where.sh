@@ -38,6 +38,9 @@ told 'a near name of a field without a binding' 'get 1 total_statics' 'E02 no fi
 told 'a near name of an extension' 'get 1 ext_nanosecond' 'E02 no field: get 1 ext_nanosecond (did you mean ext_nanoseconds?)'
 told 'a near name of a table' 'table 1 3 @189:4 sx inlin crosslin' 'E02 no field: table 1 3 @189:4 sx inlin crosslin (did you mean inline?)'
 told 'a name of the binary header in a table' 'table 1 3 inline job' 'E02 no field: table 1 3 inline job (a field of the binary header: bin and getbin)'
+told 'a near name behind a bound one' 'table 1 3 my_shot inlin' 'E02 no field: table 1 3 my_shot inlin (did you mean inline?)'
+told 'a note behind a table' 'table 1 3 inline # why' 'E02 no field: table 1 3 inline # why (a note stands on a line of its own)'
+told 'a word of Seismic Unix in capitals' 'get 1 FLDR' 'E02 no field: get 1 FLDR (names have small letters; those of segyio alone are found in any case)'
 told 'a near name of a search' 'find 1 3 crosline 1 2' 'E02 no field: find 1 3 crosline 1 2 (did you mean crossline?)'
 told 'no near name' 'get 1 z' 'E02 no field: get 1 z'
 told 'a hexadecimal number' 'set 1 inline 0x7' 'S03 number: set 1 inline 0x7 (numbers are decimal)'
@@ -118,7 +121,7 @@ for many in 20 21 25; do
     "$program" s.sgy --script script > answers 2> errors
     got=$?
     { for n in $(seq 20); do echo "segywb: script:$n: E01 no trace 9 of 3: get 9 @$n:1"; done
-      case $many in 21) echo 'segywb: 1 more line refused, not told here' ;; 25) echo 'segywb: 5 more lines refused, not told here' ;; esac; } > wanted
+      case $many in 21) echo 'segywb: .. and 1 more refused line' ;; 25) echo 'segywb: .. and 5 more refused lines' ;; esac; } > wanted
     if [ $got = 1 ] && cmp -s wanted errors && [ "$(grep -c '^refused E01' answers)" = $many ]; then tell "$many refused lines" ok; else tell "$many refused lines" "status $got: $(tail -n 3 errors)"; fi
 done
 

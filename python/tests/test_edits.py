@@ -18,6 +18,9 @@ EDITS = [
     (lambda v: v.set(2, 115, 2), "set 2 @115:2u 2"),
     (lambda v: v.renumber(1, 3, "crossline", 100, -5), "renumber 1 3 crossline 100 -5"),
     (lambda v: v.renumber(1, 3, "x", 4), "renumber 1 3 x 4 0"),
+    (lambda v: v.compute(1, 3, "inline", "crossline * 1000 + inline"), "compute 1 3 inline crossline * 1000 + inline"),
+    (lambda v: v.compute(2, 3, TraceField.CDP, TraceField.INLINE_3D, "%", np.int32(7)), "compute 2 3 @21:4 @189:4 % 7"),
+    (lambda v: v.compute(1, 2, "offset", -5), "compute 1 2 offset -5"),
     (lambda v: v.map("shot", "@17:4"), "map shot @17:4"),
     (lambda v: v.map("inline", TraceField.CDP), "map inline @21:4"),
     (lambda v: v.unmap("name"), "unmap name"),
@@ -52,6 +55,17 @@ def test_resize(opened, tmp_path):
     volume.resize(1, 4)
     assert volume.edits == ["resize 1 4"]
     assert list(volume.samples(1)) == [2**64 - 1, 0, 0, 0]
+
+
+def test_compute(opened):
+    volume = opened("cube")
+    volume.compute(1, 4, "crossline", "inline - 200 / 7")
+    assert list(volume.headers("crossline", traces=slice(1, 5))["crossline"]) == [-15] * 4
+    with pytest.raises(TypeError):
+        volume.compute(1, 4, "crossline")
+    with pytest.raises(TypeError):
+        volume.compute(1, 4, "crossline", "inline", "/", 7.0)
+    assert volume.edits == ["compute 1 4 crossline inline - 200 / 7"]
 
 
 @pytest.mark.parametrize("values", [

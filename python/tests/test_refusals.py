@@ -62,6 +62,11 @@ TABLE = [
     ("E08", "M05", SURVEY, {}, lambda v: v.unmap("inline"), "geometry"),
     ("E08", "M06", SURVEY, {}, lambda v: v.unmap("shot"), "unknown"),
     ("E08", "M07", SURVEY, {}, lambda v: v.map("delay", "@17:4"), "standard"),
+    ("S02", None, SURVEY, {}, lambda v: v.compute(1, 1, "inline", "cdp", "/"), "words"),
+    ("S03", None, SURVEY, {}, lambda v: v.compute(1, 1, "inline", "cdp ^ 2"), "number"),
+    ("E02", None, SURVEY, {}, lambda v: v.compute(1, 1, "inline", "colour"), "no field"),
+    ("E04", None, SURVEY, {}, lambda v: v.compute(1, 3, "scalar", "inline * 65536 * 65536"), "does not fit"),
+    ("E13", None, SURVEY, {}, lambda v: v.compute(2, 3, "inline", 7, "/", "delay"), "zero divisor trace 2"),
     ("E09", None, SURVEY, {"max_bytes": 4332}, lambda v: v.copy(1, 1), "too large"),
 ]
 FAKED = {"E10": "refused E10 too many traces", "E11": "refused E11 out of memory"}
@@ -100,7 +105,7 @@ def test_every_refusal_of_the_manual_is_tried():
     codes = {(code, second or None) for code, second in re.findall(r"^\| ([SE]\d\d) \| `(?:([TM]\d\d) )?", part, re.M)}
     tried = {(code, second) for code, second, *_ in TABLE} | {(code, None) for code in FAKED}
     # words that the program gains later are tried where they are made
-    later = {("S05", None), ("E12", None), ("E13", None), ("E14", None), ("E15", None)}
+    later = {("S05", None), ("E12", None), ("E14", None), ("E15", None)}
     assert codes - later == tried
 
 

@@ -57,6 +57,9 @@ def lines_of(chance, count):
             last = chance.randint(one, count)
             made.append(f"renumber {one} {last} {chance.choice(['inline', 'ensemble', '@193:4', 'y'])} {chance.randint(-5, 50)} {chance.randint(-2, 2)}")
         elif chance.random() < 0.3:
+            last = chance.randint(one, count)
+            made.append(f"compute {one} {last} {chance.choice(['inline', 'crossline', 'x', '@193:4', 'ensemble'])} {chance.choice(['44 - crossline', 'inline * 2', 'x + 1000', 'y % 7', '9'])}")
+        elif chance.random() < 0.3:
             made.append(f"copy {one} {chance.randint(1, count + 1)}")
             count += 1
         elif chance.random() < 0.4:

@@ -1,7 +1,7 @@
 ghost use Rattle.std.specs.Prelude.{◌≡◌, ◌≤◌, length, IfOk, IfErr, MatchResult};
 ghost use Rattle.std.specs.Io.KnownBytes.{Consumes, IsAtEnd};
 ghost use Rattle.device_io.specs.Failures.{CountsFailure};
-ghost use Rattle.field_map.specs.Binding.{geometry_at_load};
+ghost use Rattle.field_map.specs.Binding.{geometry_at_load, HasGeometry};
 ghost use Rattle.frame_cut.specs.Cuts.{IsCut};
 ghost use Rattle.frame_cut.specs.Traces.{count_of};
 ghost use Rattle.frame_cut.specs.Volume.{bytes_of};
@@ -80,6 +80,18 @@ impl Bench {
             return Err(LoadFault::OutOfMemory);
         };
         Ok(Bench { volume, slices })
+    }
+
+    /// The parts of the volume are the one cut of its own bytes under the reading and the limits of
+    /// the load, and its field map binds each geometry name to a place that each trace has: what
+    /// the laws of `bench_laws` ask of a state. Does nothing: its contract is the law.
+    pub fn stands(&self)
+        ensures cut { IsCut (bytes_of self.now.state.volume) self.now.state.reading
+            self.now.state.limits self.now.state.volume }
+        ensures geometry { HasGeometry self.now.state.volume.head.extensions
+            self.now.state.fields }
+    {
+        self.volume.stands();
     }
 
     /// One edit: done whole, and the reports follow it; or refused, and all is as it was, after one

@@ -9,3 +9,4 @@ mod KeptSetLemmas
 mod KeptNumberLemmas
 pub mod KeptSliceLemmas
 mod OneNumberLemmas
+mod TotalLemmas

@@ -1,3 +1,4 @@
 pub mod EditLaws
 pub mod NumberLaws
 pub mod KeptLaws
+pub mod ReportLaws

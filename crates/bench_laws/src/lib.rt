@@ -12,7 +12,7 @@ pub use crate::kept_laws::kept_slices_stay;
 pub use crate::laws::{
     answers_from_scratch, reads_what_was_set, set_leaves_the_rest, stays_cut, steps_stay_cut,
 };
-pub use crate::live_laws::running_values_show_the_reports;
+pub use crate::live_laws::{running_values_show_the_reports, totals_are_of_all_samples};
 pub use crate::number_laws::{
     compute_is_its_sets, compute_of_a_number_is_renumber, renumber_is_its_sets, resize_keeps_bytes,
     resize_keeps_samples, resize_leaves_the_rest,

@@ -1,4 +1,5 @@
-// What running values show of a volume, as the contract of a call that does nothing.
+// What running values and reports show of a volume, each the contract of a call that does nothing.
+ghost use Rattle.bench_laws.specs.ReportLaws.{TotalsAreOfAllSamples};
 ghost use Rattle.bench_rules.specs.Live.{ShowsFolds, ShowsTheCells, ShowsTheInlines, ShowsTheCrosslines, ShowsTheHistogram, ShowsRanges, ShowsTotals, ShowsFaults};
 
 /// What is read from running values that have counted the records of a volume's traces is what the
@@ -13,4 +14,10 @@ pub fn running_values_show_the_reports()
     ensures ranges { ShowsRanges }
     ensures totals { ShowsTotals }
     ensures faults { ShowsFaults }
+{}
+
+/// The totals of a volume are the statistics of the samples of all its traces, one trace after
+/// another.
+pub fn totals_are_of_all_samples()
+    ensures { TotalsAreOfAllSamples }
 {}

@@ -1,9 +1,9 @@
 -- All named numbers of the headers of a trace, and the extremes of each over many traces. Traces are counted from 1.
-use Rattle.std.specs.Prelude.{ℕ, ℤ, pos, Bool, not, List, [], ◌∷◌, ◌++◌, filter_map, Option, Some, None, option_map, if◌then◌else◌}
+use Rattle.std.specs.Prelude.{ℕ, ℤ, pos, Bool, not, List, [], ◌∷◌, ◌++◌, map, filter_map, unwrap_or, Option, Some, None, option_map, if◌then◌else◌}
 use Rattle.std.specs.List.{list_any}
 use Rattle.std.specs.Ordering.{int_eq}
 use Rattle.field_map.specs.declared.place.Place.{Place}
-use Rattle.field_map.specs.Pairs.{Pairs}
+use Rattle.field_map.specs.Pairs.{Pairs, place_of}
 use Rattle.field_map.specs.HeaderNames.{header_names}
 use Rattle.frame_cut.specs.declared.file_head.Head.{Head}
 use Rattle.frame_cut.specs.Traces.{trace_at}
@@ -13,9 +13,17 @@ use Rattle.trace_record.specs.Statistics.{least_of, greatest_of}
 use Rattle.bench_rules.specs.declared.extremes.Extremes.{Extremes}
 use Rattle.bench_rules.specs.ManyTraces.{positions}
 
--- the names of the standard's trace header, in the order of bytes, then the bound names in the map's order
+-- a name of the trace header with its place: the one that it is bound to, where it is, else the standard's
+abbrev pub meant : Pairs → List ℕ × Place → List ℕ × Place
+meant fields e = (e.0, unwrap_or (place_of fields e.0) e.1)
+
+-- the names of the standard's trace header, in the order of bytes
+unfoldable pub header_places : Pairs → Pairs
+header_places fields = map (meant fields) header_names
+
+-- these, then the bound names in the map's order
 unfoldable pub named_places : Pairs → Pairs
-named_places fields = header_names ++ fields
+named_places fields = header_places fields ++ fields
 
 -- a name with what there is for it
 abbrev pub with_name : {X : Type 0} → List ℕ → Option X → Option (List ℕ × X)

@@ -24,10 +24,11 @@ state_of b = record { volume = b.overlay.volume; fields = b.fields.pairs; readin
 abbrev pub session_of : Inside → Session
 session_of b = record { state = state_of b; looks = b.overlay.looks }
 
--- the parts of the volume are the one cut of its bytes, the field map is that of a file with as many header extensions
--- for a trace, and the reports hold the record of each trace
+-- the parts of the volume are the one cut of its bytes, nothing is prepared over it, the field map is that of a file
+-- with as many header extensions for a trace, and the reports hold the record of each trace
 pub record IsHeld (b : Inside) : Type 0 where
   pub cut : IsCut (bytes_of b.overlay.volume) b.reading b.limits b.overlay.volume
+  pub prepared : b.overlay.prepared ≡ b.overlay.volume
   pub extensions : b.fields.extensions ≡ b.overlay.volume.head.extensions
   pub records : AreRecordsOf (state_of b) b.reports
 

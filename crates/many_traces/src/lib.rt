@@ -3,8 +3,8 @@
 //! the bytes of a number that is computed for each.
 //!
 //! Traces count from 1. Each call looks once at each trace that it is asked about, and leaves the
-//! volume and what is prepared as they are. Each takes memory in step with its answer, once, and is
-//! refused for want of it, E11, only where nothing else refuses it.
+//! volume and what is prepared as they are. Each takes memory in step with its answer (`find` grows
+//! its list by doubling), and is refused for want of it, E11, only where nothing else refuses it.
 #![tactic(auto)]
 
 mod all_extremes;

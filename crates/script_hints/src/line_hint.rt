@@ -180,9 +180,10 @@ fn is_of_range(command: &[u8]) -> bool {
     )
 }
 
-// Of a name that is no field.
+// Of a name that is no field. Where a command takes any number of names, those of a note are some.
 fn no_field(words: &Words) -> Hint {
     match words.at(0) {
+        b"table" | b"compute" if words.has_note() => note_behind(),
         b"bin" | b"getbin" => {
             let other = "a field of the trace headers: set and get";
             field_hint(words.at(1), &BINARY_NAMES, &TRACE_NAMES, other)
@@ -197,11 +198,14 @@ fn no_field(words: &Words) -> Hint {
     }
 }
 
-// Of the first word from this one on that is no place and no name that is always there.
+// Of the first word from this one on that is no place, no name that is always there, and like one.
 fn first_unknown(words: &Words, from: usize) -> Hint {
     for word in words.as_slice().iter().skip(from) {
         if word.first().is_some_and(u8::is_ascii_alphabetic) && !is_trace_name(word) {
-            return trace_field(word);
+            match trace_field(word) {
+                Hint::None => {}
+                hint => return hint,
+            }
         }
     }
     Hint::None
@@ -216,7 +220,24 @@ fn is_trace_name(word: &[u8]) -> bool {
 
 fn trace_field(word: &[u8]) -> Hint {
     let other = "a field of the binary header: bin and getbin";
-    field_hint(word, &TRACE_NAMES, &BINARY_NAMES, other)
+    match field_hint(word, &TRACE_NAMES, &BINARY_NAMES, other) {
+        Hint::None if is_name_in_capitals(word) => {
+            Hint::Text("names have small letters; those of segyio alone are found in any case")
+        }
+        hint => hint,
+    }
+}
+
+// Whether the word is a name of the trace header but for its capital letters.
+fn is_name_in_capitals(word: &[u8]) -> bool {
+    let mut small = [0u8; 24];
+    if word.len() > small.len() {
+        return false;
+    }
+    for i in 0..word.len() {
+        small[i] = word[i].to_ascii_lowercase();
+    }
+    is_trace_name(&small[..word.len()])
 }
 
 // The name that is meant, or that it is one of the other header.

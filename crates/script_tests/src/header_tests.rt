@@ -74,7 +74,8 @@ fn refuses_lines_of_headers(rt: HostRuntime) {
     let cases: [(&[u8], LineFault); 16] = [
         (b"table 1 3", LineFault::Words),
         (
-            b"table 1 1 a a a a a a a a a a a a a a a a a a a a a a a a a a a a a a a a a a a a a a a a a a a a a a a a a a a a a a a a a a a a a a a a @1",
+            b"table 1 1 a a a a a a a a a a a a a a a a a a a a a a a a a a a a a a a a a \
+              a a a a a a a a a a a a a a a a a a a a a a a a a a a a a a a @1",
             LineFault::Words,
         ),
         (b"table 1 3 @1 sx", LineFault::Number),

@@ -44,7 +44,7 @@ use Rattle.bench_rules.specs.Places.{place_in_trace, place_in_binary, is_in_bina
 use Rattle.bench_rules.specs.Refused.{is_line}
 use Rattle.bench_rules.specs.Reports.{geometry_in, totals_in, slice_in}
 use Rattle.bench_rules.specs.State.{State}
-use Rattle.bench_rules.specs.Headers.{with_name, header_of, extremes_in, named_places, numbers_at, extremes_unless_zero}
+use Rattle.bench_rules.specs.Headers.{with_name, header_of, extremes_in, header_places, named_places, numbers_at, extremes_unless_zero}
 use Rattle.bench_rules.specs.Tables.{table_of, found_of}
 use Rattle.bench_rules.specs.Answer.{Reply, IsReply, or_fault, of_trace, of_values, of_traces, trace_value, trace_sample, binary_value, line_answer, lines_answer, table_answer, found_answer, text_blocks, numbered_stanzas, stanzas_from, answer}
 use Rattle.script_words.specs.declared.line_fault.LineFault.{LineFault}
@@ -195,8 +195,8 @@ plain_names of (e ∷ es) h =
     with_plain_name e.0 (of e) (filter_map (λ g. with_name g.0 (of g)) es) both.0 (plain_names of es both.1)
 
 plain_places : (fields : Pairs) → HasPlainNames fields → HasPlainNames (named_places fields)
-unfolding named_places
-plain_places fields h = list_all-append (λ f. is_plain f.0) header_names fields ∙ and_both (list_all (λ f. is_plain f.0) header_names) (list_all (λ f. is_plain f.0) fields) refl h
+unfolding named_places header_places
+plain_places fields h = list_all-append (λ f. is_plain f.0) (header_places fields) fields ∙ and_both (list_all (λ f. is_plain f.0) (header_places fields)) (list_all (λ f. is_plain f.0) fields) refl h
 
 plain_lines : (block : List ℕ) (qs : List ℕ) → list_all is_plain (map (shown_line block) qs) ≡ true
 plain_lines block [] = refl

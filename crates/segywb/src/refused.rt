@@ -28,10 +28,10 @@ pub fn tell_refused<R: Eprint>(
     let more = notes.left_out();
     if more > 0 {
         let lines = lines_of(more);
-        let _ = eprintln!(rt; "segywb: {more} more {lines} refused, not told here");
+        let _ = eprintln!(rt; "segywb: .. and {more} more refused {lines}");
     }
     let refused = notes.refused();
-    if refused > 0 && save == SaveEnd::Saved {
+    if refused > 0 && (save == SaveEnd::Saved || save == SaveEnd::Unsettled) {
         let lines = lines_of(refused);
         let _ = eprintln!(rt;
             "segywb: saved without {refused} refused {lines}; with --stop nothing is saved then"

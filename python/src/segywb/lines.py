@@ -33,6 +33,13 @@ def field(name: Field) -> str:
     return word(name) if isinstance(name, str) else trace_place(TraceField(operator.index(name)))
 
 
+def term(part: Field) -> str:
+    """A part of a computation: a text as it stands (a field, a sign, or all of ``cdp / 1000``), a ``TraceField``, or a whole number."""
+    if isinstance(part, str):
+        return word(part)
+    return trace_place(part) if isinstance(part, TraceField) else number(part)
+
+
 def binary_field(name: Field) -> str:
     """The word for a field of the binary header: a name, a place, a ``BinField`` or the number of its first byte."""
     return word(name) if isinstance(name, str) else binary_place(BinField(operator.index(name)))

@@ -148,6 +148,16 @@ class Volume:
         """Writes ``first``, ``first + step``, .. into the traces from ``first_trace`` to ``last_trace``, all or none."""
         self._edit("renumber", number(first_trace), number(last_trace), field(name), number(first), number(step))
 
+    def compute(self, first_trace: int, last_trace: int, name: Field, *formula: Field) -> None:
+        """Computes a field of the traces from ``first_trace`` to ``last_trace``, all or none.
+
+        The formula is a text, as ``"cdp / 1000"``, or its parts, as ``TraceField.CDP, "/", 1000``: a field or a number, and then up to eight times
+        one of ``+ - * / %`` with a field or a number, strictly from left to right, on whole numbers of the same trace as it was before.
+        """
+        if not formula:
+            raise TypeError("a computation wants a field or a number to begin with")
+        self._edit("compute", number(first_trace), number(last_trace), field(name), *map(lines.term, formula))
+
     def map(self, name: str, place: Field) -> None:
         """Binds a name to a place of trace headers. The file is not changed."""
         self._edit("map", lines.word(name), field(place))

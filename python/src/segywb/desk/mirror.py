@@ -134,7 +134,7 @@ class Plan:
         self.flush()
         if word == "set" and self._touches(words[2]):
             self.stale[int(words[1]) - 1] = True
-        elif word == "renumber" and self._touches(words[3]):
+        elif word in ("renumber", "compute") and self._touches(words[3]):
             self.stale[int(words[1]) - 1:int(words[2])] = True
         elif word == "map" and words[1] in SIX:
             self.bound.append(words[1])

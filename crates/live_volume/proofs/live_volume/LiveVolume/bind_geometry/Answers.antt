@@ -1,4 +1,4 @@
-use Rattle.std.proofs.Common.{◌≡◌, ◌∙◌, sym, ap, subst, List, ℕ, true}
+use Rattle.std.proofs.Common.{◌≡◌, ◌∙◌, sym, ap, subst, List, ℕ, true, rules}
 use Rattle.std.specs.Prelude.{Some, None}
 use Rattle.field_map.specs.Binding.{is_geometry, bind_fault}
 use Rattle.field_map.specs.Pairs.{Pairs, bound, place_of}
@@ -25,6 +25,7 @@ invariant_of-self-in-Err c =
     let same : c.set_geometry-in-Err.new.self.pairs ≡ old = c.set_geometry-in-Err.ensures.pairs ∙ ap (λ (ps : Pairs). bound ps name c.in-Some-place.old) c.set_geometry.ensures.pairs ∙ bound-back old name c.args.place c.in-Some-place.old there in
     record {
       cut = subst (λ (u : Volume). IsCut (bytes_of u) c.self.inside.reading c.self.inside.limits u) (sym c.in-Err.ensures.volume) c.self.invariant.cut;
+      prepared = search rules;
       extensions = c.set_geometry-in-Err.ensures.extensions ∙ c.set_geometry.ensures.extensions ∙ c.self.invariant.extensions ∙ ap (λ (u : Volume). u.head.extensions) (sym c.in-Err.ensures.volume);
       records = c.self.invariant.records ∙ ap (λ (u : Volume). records_of u old) (sym c.in-Err.ensures.volume) ∙ ap (λ (ps : Pairs). records_of c.reports.new.overlay.volume ps) (sym same);
     }

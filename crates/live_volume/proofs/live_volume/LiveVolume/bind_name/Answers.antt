@@ -1,4 +1,4 @@
-use Rattle.std.proofs.Common.{◌≡◌, ◌∙◌, refl, sym, ap}
+use Rattle.std.proofs.Common.{◌≡◌, ◌∙◌, refl, sym, ap, rules}
 use Rattle.field_map.specs.Pairs.{Pairs, bound}
 use Rattle.volume_records.specs.OfVolume.{records_of}
 use Rattle.volume_records.proofs.NameLemmas.{records-bound}
@@ -19,6 +19,7 @@ invariant_of-self-2 c =
     let new : c.bind.new.self.pairs ≡ bound old c.args.name.now c.args.place = c.in_ok-bind.ensures.ok.1 ∙ ap (λ n. bound old n c.args.place) c.as_str.ensures in
     record {
       cut = c.self.invariant.cut;
+      prepared = search rules;
       extensions = c.in_ok-bind.ensures.extensions ∙ c.self.invariant.extensions;
       records = c.self.invariant.records ∙ sym (ap (λ (ps : Pairs). records_of v ps) new ∙ records-bound v old c.args.name.now c.args.place c.requires);
     }

@@ -31,6 +31,7 @@ invariant_of-self-in-Ok-insert c =
     let is : c.insert-2.new.self.volume ≡ w = ap (λ (o : CountedVolume). o.volume) c.in-Ok-insert.ensures.ok in
     record {
       cut = subst (λ (u : Volume). IsCut (bytes_of u) c.self.inside.reading c.self.inside.limits u) (sym is) (rw (← c.self.view_is) at c.requires.cut);
+      prepared = search rules;
       extensions = c.self.invariant.extensions ∙ ap (λ (u : Volume). u.head.extensions) (sym is);
       records = records_again w c.insert-2.new.self.volume fields c.insert.new.self is
           (rw c.in-Ok.ensures.ok (records-with_inserted v fields c.self.inside.reports c.args.p c.args.bytes.items c.args.trace.now c.self.invariant.records (rw (← c.self.view_is) at c.requires.record)));
@@ -52,6 +53,7 @@ invariant_of-self-in-Err c =
     let back : c.remove.new.self ≡ c.self.inside.reports = c.remove.ensures.records ∙ ap (λ rs. remove rs (c.args.p - 1)) c.in-Ok.ensures.ok ∙ remove_inserted c.self.inside.reports (c.args.p - 1) c.args.trace.now inside in
     record {
       cut = subst (λ (u : Volume). IsCut (bytes_of u) c.self.inside.reading c.self.inside.limits u) (sym is) c.self.invariant.cut;
+      prepared = search rules;
       extensions = c.self.invariant.extensions ∙ ap (λ (u : Volume). u.head.extensions) (sym is);
       records = records_again v c.insert-2.new.self.volume fields c.remove.new.self is (rw back c.self.invariant.records);
     }

@@ -67,6 +67,7 @@ invariant_of-self-2 c =
     let is : c.exchange.new.overlay.volume ≡ w = ap (λ (o : CountedVolume). o.volume) c.in_ok-exchange.ensures.ok.0 ∙ ap (λ (o : CountedVolume). o.prepared) c.new_record-record.ensures.overlay ∙ prep in
     record {
       cut = subst (λ (u : Volume). IsCut (bytes_of u) c.self.inside.reading c.self.inside.limits u) (sym is) (rw (← c.self.view_is) at c.requires.cut);
+      prepared = search rules;
       extensions = c.self.invariant.extensions ∙ ap (λ (u : Volume). u.head.extensions) (sym is);
       records = records_again w c.exchange.new.overlay.volume fields c.exchange.new.reports is
           (rw c.in_ok-exchange.ensures.ok.1 (records-with_trace v fields c.self.inside.reports c.args.p t c.new_record-record.result c.self.invariant.records facts));

@@ -69,6 +69,7 @@ invariant_of-self-2 c =
     c.in_ok-exchange_each.ensures.ok.1 ∙ ap (with_records c.self.inside.reports (c.args.a - 1)) c.as_slice-2.ensures.value in
     record {
       cut = subst (λ (u : Volume). IsCut (bytes_of u) c.self.inside.reading c.self.inside.limits u) (sym is) (rw (← c.self.view_is) at c.requires.cut);
+      prepared = search rules;
       extensions = c.self.invariant.extensions ∙ ap (λ (u : Volume). u.head.extensions) (sym is);
       records = records_again w c.exchange_each.new.overlay.volume c.self.inside.fields.pairs c.exchange_each.new.reports is (rw put new.records);
     }

@@ -1,4 +1,4 @@
-use Rattle.std.proofs.Common.{◌≡◌, ◌∙◌, ap, sym, arith}
+use Rattle.std.proofs.Common.{◌≡◌, ◌∙◌, ap, sym, arith, rules}
 use Rattle.field_map.specs.Pairs.{Pairs}
 use Rattle.frame_cut.specs.Parts.{with_moved}
 use Rattle.frame_cut.specs.Volume.{Volume}
@@ -33,6 +33,7 @@ invariant_of-self-in-Ok c =
     let is : c.commit.new.self.volume ≡ w = ap (λ (o : CountedVolume). o.volume) c.commit.ensures ∙ ap (λ (o : CountedVolume). o.prepared) c.in_ok-prepare_move.ensures.ok in
     record {
       cut = after_cut (state_of c.self.inside) (Move c.args.a c.args.b) c.commit.new.self.volume (move_done (state_of c.self.inside) c.args.a c.args.b c.commit.new.self.volume c.self.invariant.cut none is);
+      prepared = search rules;
       extensions = c.self.invariant.extensions ∙ ap (λ (u : Volume). u.head.extensions) (sym is);
       records = records_again w c.commit.new.self.volume fields c.move_to.new.self is
           (rw c.in-Ok.ensures.ok (records-with_moved v fields c.self.inside.reports c.args.a c.args.b m.source.first m.source.last c.self.invariant.records));

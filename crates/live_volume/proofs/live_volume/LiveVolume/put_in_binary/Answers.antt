@@ -32,6 +32,7 @@ invariant_of-self c =
     let done = bin_done (state_of c.self.inside) c.args.place c.args.value c.put_head.new.self.volume c.from-2.result c.write.new.bytes c.self.invariant.cut c.requires (c.from-2.ensures ∙ c.binary_offset.ensures) new (ap (λ (o : CountedVolume). o.volume) c.put_head.ensures) in
     record {
       cut = after_cut (state_of c.self.inside) (SetBin (field.Place c.args.place) c.args.value) c.put_head.new.self.volume done;
+      prepared = search rules;
       extensions = c.self.invariant.extensions ∙ ap (λ (v : Volume). v.head.extensions) (sym (ap (λ (o : CountedVolume). o.volume) c.put_head.ensures));
       records = c.self.invariant.records ∙ ap (λ (v : Volume). records_of v c.self.inside.fields.pairs) (sym (ap (λ (o : CountedVolume). o.volume) c.put_head.ensures));
     }

@@ -30,6 +30,7 @@ invariant_of-self-2 c =
     let is : c.replace.new.self.volume ≡ w = ap (λ (o : CountedVolume). o.volume) c.replace.ensures in
     record {
       cut = subst (λ (u : Volume). IsCut (bytes_of u) c.self.inside.reading c.self.inside.limits u) (sym is) (rw (← c.self.view_is) at c.requires.cut);
+      prepared = search rules;
       extensions = c.self.invariant.extensions ∙ ap (λ (u : Volume). u.head.extensions) (sym is);
       records = records_again w c.replace.new.self.volume fields c.exchange.new.self is
           (rw c.in-Ok.ensures.ok (records-with_trace v fields c.self.inside.reports c.args.p c.args.bytes.items c.args.trace.now c.self.invariant.records (rw (← c.self.view_is) at c.requires.record)));

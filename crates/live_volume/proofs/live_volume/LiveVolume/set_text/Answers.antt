@@ -1,4 +1,4 @@
-use Rattle.std.proofs.Common.{◌≡◌, ◌∙◌, ap, sym, true, None}
+use Rattle.std.proofs.Common.{◌≡◌, ◌∙◌, ap, sym, true, None, rules}
 use Rattle.std.specs.Str.{chars}
 use Rattle.text_block.specs.Blocks.{code_of}
 use Rattle.text_block.specs.Lines.{text_fault, encoded_line}
@@ -20,6 +20,7 @@ invariant_of-self c =
     let done = text_done (state_of c.self.inside) c.args.q c.args.text.now c.put_text.new.self.volume c.in_ok-line.line c.self.invariant.cut there none line (ap (λ (o : CountedVolume). o.volume) c.put_text.ensures) in
     record {
       cut = after_cut (state_of c.self.inside) (SetText c.args.q c.args.text.now) c.put_text.new.self.volume done;
+      prepared = search rules;
       extensions = c.self.invariant.extensions ∙ ap (λ (v : Volume). v.head.extensions) (sym (ap (λ (o : CountedVolume). o.volume) c.put_text.ensures));
       records = c.self.invariant.records ∙ ap (λ (v : Volume). records_of v c.self.inside.fields.pairs) (sym (ap (λ (o : CountedVolume). o.volume) c.put_text.ensures));
     }

@@ -1,4 +1,4 @@
-use Rattle.std.proofs.Common.{◌≡◌, ◌∙◌, ap, sym, arith}
+use Rattle.std.proofs.Common.{◌≡◌, ◌∙◌, ap, sym, arith, rules}
 use Rattle.frame_cut.specs.Parts.{without}
 use Rattle.frame_cut.specs.Volume.{Volume}
 use Rattle.bench_rules.specs.declared.edit.Edit.TheVariants.{Delete}
@@ -24,6 +24,7 @@ invariant_of-self c =
     let done = delete_done (state_of c.self.inside) c.args.p c.delete.new.self.volume c.self.invariant.cut (rw (← c.self.view_is) at c.requires) is in
     record {
       cut = after_cut (state_of c.self.inside) (Delete c.args.p) c.delete.new.self.volume done;
+      prepared = search rules;
       extensions = c.self.invariant.extensions ∙ ap (λ (u : Volume). u.head.extensions) (sym is);
       records = records_again (without v c.args.p) c.delete.new.self.volume c.self.inside.fields.pairs c.remove.new.self is
           (rw c.remove.ensures.records (records-without v c.self.inside.fields.pairs c.self.inside.reports c.args.p c.self.invariant.records));

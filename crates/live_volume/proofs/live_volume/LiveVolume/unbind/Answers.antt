@@ -1,4 +1,4 @@
-use Rattle.std.proofs.Common.{◌≡◌, ◌∙◌, sym, ap, false}
+use Rattle.std.proofs.Common.{◌≡◌, ◌∙◌, sym, ap, false, rules}
 use Rattle.field_map.specs.Binding.{is_geometry}
 use Rattle.field_map.specs.Pairs.{Pairs}
 use Rattle.volume_records.specs.OfVolume.{records_of}
@@ -13,6 +13,7 @@ invariant_of-self-2 c =
     let other : is_geometry c.as_str.result.now ≡ false = past _ _ _ c.in_ok-unbind.ensures.ok.0 in
     record {
       cut = c.self.invariant.cut;
+      prepared = search rules;
       extensions = c.in_ok-unbind.ensures.extensions ∙ c.self.invariant.extensions;
       records = c.self.invariant.records ∙ sym (ap (λ (ps : Pairs). records_of v ps) c.in_ok-unbind.ensures.ok.1 ∙ records-unbound v old c.as_str.result.now other);
     }

@@ -4,9 +4,10 @@ _segywb() {
     case $before in
         --script | --out) compopt -o filenames 2> /dev/null; mapfile -t COMPREPLY < <(compgen -f -- "$word") ;;
         --max-bytes) COMPREPLY=() ;;
+        --order) mapfile -t COMPREPLY < <(compgen -W 'big little' -- "$word") ;;
         *)
             if [[ $word == -* ]]; then
-                mapfile -t COMPREPLY < <(compgen -W '--script --session --out --in-place --fixed --max-bytes --stop --quiet --help --version' -- "$word")
+                mapfile -t COMPREPLY < <(compgen -W '--script --session --out --in-place --fixed --opaque-samples --order --max-bytes --stop --quiet --help --version' -- "$word")
             else
                 compopt -o filenames 2> /dev/null
                 mapfile -t COMPREPLY < <(compgen -f -- "$word")

@@ -2,12 +2,13 @@
 _segywb_tool() {
     local tool=${COMP_WORDS[0]##*/} word=${COMP_WORDS[COMP_CWORD]} before=${COMP_WORDS[COMP_CWORD - 1]} words='' pictures=''
     case $tool in
-        segywb-plot) words='--script --fixed --max-bytes --clip --all --inlines --crosslines --size --help' pictures='fold slice coordinates histogram' ;;
-        segywb-report) words='--fixed --max-bytes --no-pictures --help' ;;
-        segywb-desk) words='--out --port --no-browser --fixed --max-bytes --help' ;;
+        segywb-plot) words='--script --fixed --opaque-samples --order --max-bytes --clip --all --inlines --crosslines --size --help' pictures='fold slice coordinates histogram' ;;
+        segywb-report) words='--fixed --opaque-samples --order --max-bytes --no-pictures --help' ;;
+        segywb-desk) words='--out --port --no-browser --fixed --order --max-bytes --help' ;;
     esac
     case $before in
         --max-bytes | --clip | --inlines | --crosslines | --size | --port | slice) COMPREPLY=(); return ;;
+        --order) mapfile -t COMPREPLY < <(compgen -W 'big little' -- "$word"); return ;;
         --script | --out) pictures='' ;;
         *) if [[ $word == -* ]]; then mapfile -t COMPREPLY < <(compgen -W "$words" -- "$word"); return; fi ;;
     esac

@@ -7,12 +7,15 @@
 . "$here/framed.sh"
 compiled hostile_files
 number=2000
-bases=(s.sgy s.sgy x.sgy x.sgy t.sgy deep.sgy deep.sgy ended.sgy ebcdic.sgy tail.sgy tail.sgy none.sgy v.sgy)
+# untold.sgy: the little-endian file, with nothing that tells its order
+cp t.sgy untold.sgy
+put untold.sgy 3296 00000000
+bases=(s.sgy s.sgy x.sgy x.sgy t.sgy untold.sgy deep.sgy deep.sgy ended.sgy ebcdic.sgy tail.sgy tail.sgy none.sgy v.sgy)
 ./hostile_files "$program" "${SEED:-1}" $number "${bases[@]}" > told && tell 'hostile files' ok || tell 'hostile files' "$(grep -c '^FAILED' told) of $number: $(grep -m 5 '^FAILED' told)"
 runs=$number
 sort told | grep -v '^FAILED' | tr '\n' ' '
 echo
-for code in L02 L03 L04 L05 L06 L07 L08 L09 L10 L11 L12 L13 L14 accepted; do
+for code in L02 L03 L04 L05 L06 L07 L08 L09 L10 L11 L12 L13 L14 L17 accepted; do
     if grep -q "^$code " told; then tell "some files are $code" ok; else tell "some files are $code" 'none is'; fi
 done
 

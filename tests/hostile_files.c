@@ -1,8 +1,8 @@
 /* Makes hostile SEG-Y files and runs the program on each: it loads the file, answers queries and saves it.
    usage: hostile_files PROGRAM SEED NUMBER FILE..
    Each of the NUMBER variants is one of the FILEs, cut, with a tail, or with bytes changed where the frame is steered, as the
-   numbers drawn from SEED say. Whether it is refused, with which text, and the number of its traces are worked out here a second
-   time, from the manual's words. A file that is refused gives that text alone and saves nothing; of one that is accepted no query
+   numbers drawn from SEED say; --fixed, --opaque-samples and --order are drawn too. Whether it is refused, with which text, and the
+   number of its traces are worked out here a second time, from the manual's words. A file that is refused gives that text alone and saves nothing; of one that is accepted no query
    is refused, and it is saved byte for byte.
    Prints the variants that went otherwise, and how often each refusal came. */
 #include "run_program.h"
@@ -27,7 +27,9 @@ static uint64_t draw(uint64_t below) {
 struct volume {
     const byte *bytes;
     size_t length, most;
-    int little, fixed_reading;
+    int little, fixed_reading, opaque_reading;
+    const char *order; /* that is asked for, or NULL */
+    int is_opaque; /* its samples have no values */
 };
 
 static uint64_t field(const struct volume *file, size_t place, int size) {
@@ -81,8 +83,17 @@ static int64_t blocks_of(const struct volume *file, int64_t count) {
 }
 
 static int width_of(uint64_t format) {
-    static const int widths[] = {0, 0, 4, 2, 0, 0, 0, 3, 1, 8, 4, 2, 8, 0, 0, 3, 1};
+    static const int widths[] = {0, 4, 4, 2, 4, 4, 8, 3, 1, 8, 4, 2, 8, 0, 0, 3, 1};
     return format < 17 ? widths[format] : 0;
+}
+
+/* Whether bytes 3297-3300 tell an order that is not the one asked for; else `little` says which it is. */
+static int orders_differ(struct volume *file) {
+    const byte *told = file->bytes + 3296;
+    int is_little = !memcmp(told, "\4\3\2\1", 4), is_told = is_little || !memcmp(told, "\1\2\3\4", 4);
+    int asks_little = file->order && !strcmp(file->order, "little");
+    file->little = is_told ? is_little : asks_little;
+    return file->order && is_told && is_little != asks_little;
 }
 
 struct frame {
@@ -119,17 +130,21 @@ static void judge(struct volume *file, char *text) {
     int64_t blocks, count, trailer = 0;
     struct frame frame;
     int major, second;
-    file->little = 0;
+    file->little = file->is_opaque = 0;
     if (file->length > file->most) { strcpy(text, "L02 too large"); return; }
     if (file->length < 3600) { sprintf(text, "L03 short %zu", file->length); return; }
     if (!memcmp(order, "\2\1\4\3", 4)) { strcpy(text, "L04 pair swapped"); return; }
-    file->little = !memcmp(order, "\4\3\2\1", 4);
+    if (orders_differ(file)) { strcpy(text, "L17 other byte order"); return; }
     major = file->bytes[3500];
     second = major == 2;
     if (major > 2 || (second && file->bytes[3501])) { sprintf(text, "L05 revision %d.%d", major, file->bytes[3501]); return; }
     format = field(file, 3224, 2);
-    if (format == 1 || format == 5 || format == 6) { sprintf(text, "L06 float format %d", (int)format); return; }
-    if (format == 4) { strcpy(text, "L07 gain format"); return; }
+    file->is_opaque = format == 1 || format == 4 || format == 5 || format == 6;
+    if (file->is_opaque && !file->opaque_reading) {
+        if (format == 4) strcpy(text, "L07 gain format");
+        else sprintf(text, "L06 float format %d", (int)format);
+        return;
+    }
     frame.width = width_of(format);
     if (!frame.width) { sprintf(text, "L08 unknown format %d", (int)format); return; }
     count = major ? signed_field(file, 3504, 2) : 0;
@@ -202,7 +217,7 @@ static void change(byte *bytes, size_t length) {
             bytes[draw(length)] = draw(256);
             break;
         case 2: /* the byte order */
-            memcpy(bytes + 3296, draw(3) ? draw(2) ? "\4\3\2\1" : "\1\2\3\4" : "\2\1\4\3", 4);
+            memcpy(bytes + 3296, draw(3) ? draw(3) ? draw(2) ? "\4\3\2\1" : "\1\2\3\4" : "\0\0\0\0" : "\2\1\4\3", 4);
             break;
         case 3: /* the revision */
             bytes[3500] = draw(4);
@@ -260,12 +275,13 @@ static void count_as(const char *text) {
     met[at].met++;
 }
 
-/* The queries: those of traces where there are traces, from the first to the last of them. */
-static void ask(const char *text) {
-    static const char always[] = "count\ninfo\nfaults\ntotals\nrange x\ngrid\nhistogram\nslice 0\nslice 1\nstanzas\nline 0 1\nfields\nlines 0\n";
+/* The queries: those of traces where there are traces, from the first to the last of them, and those of values where samples have them. */
+static void ask(const char *text, int is_opaque) {
+    static const char always[] = "count\ninfo\nfaults\nrange x\ngrid\nhistogram\nstanzas\nline 0 1\nfields\nlines 0\n";
     char queries[1000];
     unsigned long traces = 0;
     strcpy(queries, always);
+    if (!is_opaque) strcat(queries, "totals\nslice 0\nslice 1\n");
     if (sscanf(text, "traces %lu", &traces) == 1 && traces)
         sprintf(queries + strlen(queries), "header 1\nheader %lu\nextremes 1 %lu\ntable 1 %lu inline @1:8 samples\nfind 1 %lu crossline -5 30\n", traces, traces, traces, traces);
     write_path("queries", queries, strlen(queries));
@@ -274,17 +290,21 @@ static void ask(const char *text) {
 /* Runs one variant; whether it went as it has to. */
 static int run(char *program, long number, byte *bytes) {
     extern char **environ;
-    struct volume file = {bytes, vary(bytes), 4294967296, 0, draw(4) == 0};
+    struct volume file = {bytes, vary(bytes), 4294967296, 0, draw(4) == 0, draw(3) == 0, NULL, 0};
     char text[80], wanted[100], limit[30];
-    char *words[] = {program, "variant.sgy", "--script", "queries", "--out", "saved.sgy", "--max-bytes", limit, file.fixed_reading ? "--fixed" : NULL, NULL};
+    char *words[14] = {program, "variant.sgy", "--script", "queries", "--out", "saved.sgy", "--max-bytes", limit}, **word = words + 8;
     struct ended ended;
     struct text saved;
     int well, is_accepted;
     if (draw(20) == 0 && file.length > 2) file.most = file.length - 2 + draw(4);
     sprintf(limit, "%zu", file.most);
+    if (draw(5) == 0) file.order = draw(2) ? "big" : "little";
+    if (file.fixed_reading) *word++ = "--fixed";
+    if (file.opaque_reading) *word++ = "--opaque-samples";
+    if (file.order) *word++ = "--order", *word++ = (char *)file.order;
     judge(&file, text);
     is_accepted = text[0] == 't';
-    ask(text);
+    ask(text, file.is_opaque);
     sprintf(wanted, is_accepted ? "%s\n" : "load refused %s\n", text);
     write_path("variant.sgy", bytes, file.length);
     unlink("saved.sgy");
@@ -295,7 +315,8 @@ static int run(char *program, long number, byte *bytes) {
         && (is_accepted || ended.answers.length == strlen(wanted))
         && (is_accepted ? saved.bytes && saved.length == file.length && !memcmp(saved.bytes, bytes, file.length) : !saved.bytes);
     if (!well) {
-        printf("FAILED variant %ld of %zu bytes, limit %s%s: ", number, file.length, limit, file.fixed_reading ? ", fixed" : "");
+        printf("FAILED variant %ld of %zu bytes, limit %s%s%s%s%s: ", number, file.length, limit, file.fixed_reading ? ", fixed" : "", file.opaque_reading ? ", opaque" : "",
+            file.order ? ", " : "", file.order ? file.order : "");
         say_end(&ended);
         printf(saved.bytes ? ", saved %zu bytes" : ", nothing saved", saved.length);
         printf("; wanted %s", wanted);

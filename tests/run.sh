@@ -224,8 +224,9 @@ head -c 3599 s.sgy > bad.sgy; refused 'short' 'L03 short 3599' bad.sgy
 { cat s.sgy; printf 'x'; } > bad.sgy; refused 'one byte more' 'L14 truncated trace 4' bad.sgy
 cp s.sgy bad.sgy; put bad.sgy 3296 02010403; refused 'pairs' 'L04 pair swapped' bad.sgy
 cp s.sgy bad.sgy; put bad.sgy 3500 0201; refused 'revision' 'L05 revision 2.1' bad.sgy
-cp s.sgy bad.sgy; put bad.sgy 3224 0001; refused 'float' 'L06 float format 1' bad.sgy
-cp s.sgy bad.sgy; put bad.sgy 3224 0004; refused 'gain' 'L07 gain format' bad.sgy
+opaque='segywb: with --opaque-samples the file is read all the same, its samples as bytes without a value\n'
+cp s.sgy bad.sgy; put bad.sgy 3224 0001; expect 'float' 3 'load refused L06 float format 1\n' "$opaque" bad.sgy --script script --out o.sgy
+cp s.sgy bad.sgy; put bad.sgy 3224 0004; expect 'gain' 3 'load refused L07 gain format\n' "$opaque" bad.sgy --script script --out o.sgy
 cp s.sgy bad.sgy; put bad.sgy 3224 000d; refused 'format' 'L08 unknown format 13' bad.sgy
 cp s.sgy bad.sgy; put bad.sgy 3504 fffe; refused 'text count' 'L09 text count -2' bad.sgy
 cp s.sgy bad.sgy; put bad.sgy 3504 ffff; refused 'no end of text' 'L09 text count -1' bad.sgy
@@ -275,6 +276,8 @@ line 'two files' s.sgy x.sgy --script script
 line 'a limit of 0' s.sgy --script script --max-bytes 0
 line 'a limit above 2^40' s.sgy --script script --max-bytes 1099511627777
 line 'a limit that is no number' s.sgy --script script --max-bytes many
+line 'an order that is none' s.sgy --script script --order middle
+line 'no order' s.sgy --script script --order
 expect 'the greatest limit' 0 'ok\n' '' s.sgy --script script --max-bytes 1099511627776
 
 . "$here/where.sh" || tell 'where.sh' 'did not run to its end'
@@ -282,6 +285,8 @@ expect 'the greatest limit' 0 'ok\n' '' s.sgy --script script --max-bytes 109951
 . "$here/reports.sh" || tell 'reports.sh' 'did not run to its end'
 
 . "$here/edits.sh" || tell 'edits.sh' 'did not run to its end'
+
+. "$here/opaque.sh" || tell 'opaque.sh' 'did not run to its end'
 
 . "$here/headers.sh" || tell 'headers.sh' 'did not run to its end'
 . "$here/computed.sh" || tell 'computed.sh' 'did not run to its end'

@@ -51,6 +51,12 @@ def cube(path, inlines=3, crosslines=4, samples=3):
     return write(path, header(), binary(samples=samples), *traces)
 
 
+def floats(path, form=5, traces=3):
+    """Traces of two IEEE or IBM floats, 1.0 and -2.0."""
+    samples = {1: (0x41100000, 0xC1200000), 5: (0x3F800000, 0xC0000000)}[form]
+    return write(path, header(), binary(form=form), *(trace(n, 1, n, samples, size=4, signed=False) for n in range(1, traces + 1)))
+
+
 def varying(path):
     """Traces of 1, 2 and 3 samples of 8 unsigned bytes."""
     traces = [trace(n, n, 1, [2**64 - k - 1 for k in range(n)], size=8, signed=False) for n in (1, 2, 3)]

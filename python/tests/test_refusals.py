@@ -105,8 +105,30 @@ def test_every_refusal_of_the_manual_is_tried():
     codes = {(code, second or None) for code, second in re.findall(r"^\| ([SE]\d\d) \| `(?:([TM]\d\d) )?", part, re.M)}
     tried = {(code, second) for code, second, *_ in TABLE} | {(code, None) for code in FAKED}
     # words that the program gains later are tried where they are made
-    later = {("S05", None), ("E12", None), ("E14", None), ("E15", None)}
-    assert codes - later == tried
+    later = {("S05", None), ("E14", None), ("E15", None)}
+    assert codes - later == tried | {("E12", None)}
+
+
+@pytest.mark.parametrize("call", [
+    lambda v: v.sample(1, 0), lambda v: v.sample(1, 9), lambda v: v.patch(1, 0, [1]), lambda v: v.patch(1, 9, [2**70]), lambda v: v.stat(2),
+    lambda v: v.totals(), lambda v: v.slice(0),
+], ids=["sample", "no sample", "patch", "a number that fits nowhere", "stat", "totals", "slice"])
+def test_samples_without_values(tmp_path, call):
+    path = files.floats(tmp_path / "float.sgy")
+    volume = segywb.open(path, opaque_samples=True)
+    with pytest.raises(Refused) as refusal:
+        call(volume)
+    assert (refusal.value.code, refusal.value.text) == ("E12", "samples have no value")
+    volume.save(tmp_path / "saved.sgy")
+    assert (tmp_path / "saved.sgy").read_bytes() == path.read_bytes()
+
+
+def test_no_trace_is_told_before_no_value(tmp_path):
+    volume = segywb.open(files.floats(tmp_path / "float.sgy"), opaque_samples=True)
+    for call in (lambda: volume.sample(9, 0), lambda: volume.patch(9, 0, [1]), lambda: volume.stat(9)):
+        with pytest.raises(Refused) as refusal:
+            call()
+        assert refusal.value.code == "E01"
 
 
 LOADS = {
@@ -123,6 +145,7 @@ LOADS = {
     "L12": (lambda p: files.write(p, files.header(), files.binary(major=2, at3521=(8, 7))), {}, "first trace 7"),
     "L13": (lambda p: extra(p), {}, "extension count trace 1"),
     "L14": (lambda p: files.write(p, files.cube(p).read_bytes()[:-1]), {}, "truncated trace 12"),
+    "L17": (lambda p: files.write(p, files.header(), files.binary(at3297=(4, 0x01020304))), {"order": "little"}, "other byte order"),
 }
 FAKED_LOADS = {"L01": "read failed", "L15": "too many traces", "L16": "out of memory"}
 
@@ -141,7 +164,7 @@ def test_load_refused(tmp_path, code):
     with pytest.raises(segywb.LoadRefused) as refusal:
         segywb.open(path, **options)
     assert (refusal.value.code, refusal.value.text, refusal.value.status, refusal.value.path) == (code, text, 3, str(path))
-    words = [f"--max-bytes={options['max_bytes']}"] if options else []
+    words = [f"--{name.replace('_', '-')}={value}" for name, value in options.items()]
     assert run(path, ["count"], *words) == (f"{refusal.value.answer}\n", 3)
 
 

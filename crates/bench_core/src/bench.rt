@@ -52,8 +52,8 @@ impl Model for Bench {
 impl Bench {
     /// Reads a whole file and cuts it; the field map is then the six geometry names at their
     /// standard places, and no slice is kept. Looks at each trace once at most, for its record.
-    /// Takes memory. Refused: L01 where a read failed in this call, L02 to L15 for the first reason
-    /// that the file gives, L16 where a growth was refused.
+    /// Takes memory. Refused: L01 where a read failed in this call, L02 to L15 or L17 for the first
+    /// reason that the file gives, L16 where a growth was refused.
     pub fn load<R: Read>(
         alloc: Global,
         reader: &mut Source<R>,
@@ -128,7 +128,7 @@ impl Bench {
         self.volume.ask(alloc, query)
     }
 
-    // Sample k of each trace that has it.
+    // Sample k of each trace that has it: E12.
     fn slice(&mut self, alloc: Global, k: u32) -> Result<Answer, AskFault>
         ensures reply { IsReply self.old.state (queries.Slice k) result }
         ensures unchanged { self.new.state ≡ self.old.state }
@@ -137,6 +137,9 @@ impl Bench {
         ensures kept { self.new.kept ≡ kept_after_reply result
             (kept_after_query (queries.Slice k) self.old.kept) self.old.kept }
     {
+        if self.volume.has_opaque_samples() {
+            return Err(AskFault::NoValues);
+        }
         let rows = self.volume.slice(alloc, &mut self.slices, k)?;
         Ok(Answer::Slice(Items::new(rows)))
     }

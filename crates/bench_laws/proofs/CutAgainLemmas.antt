@@ -12,6 +12,7 @@ use Rattle.bench_rules.specs.Refused.{with_value}
 use Rattle.bench_rules.specs.After.{bytes_after}
 use Rattle.frame_cut.specs.Parts.{with_inserted, without, with_moved}
 use Rattle.bench_rules.specs.WholeTraces.{blank_trace}
+use Rattle.bench_rules.proofs.AcceptedLemmas.{patch_accepted}
 use Rattle.bench_rules.proofs.PatchLemmas.{with_samples}
 use Rattle.bench_rules.proofs.TraceStepLemmas.{patch_is_after, blank_done, copy_done, delete_done, move_done}
 use Rattle.bench_rules.proofs.ManyValueLemmas.{with_traces}
@@ -42,8 +43,9 @@ stays_cut s (SetText q text) cut none = (with_text s.volume q text, (text_is_aft
 stays_cut s (Map name place) cut none = (s.volume, cut, refl)
 stays_cut s (Unmap name) cut none = (s.volume, cut, refl)
 stays_cut s (Patch p k values) cut none =
-    let w : Volume = with_trace s.volume p (with_samples s.volume.head (trace_at s.volume p) k values) in
-    (w, (patch_is_after s p k values cut none).volume, refl)
+    let a = patch_accepted s p k values none in
+    let w : Volume = with_trace s.volume p (with_samples s.volume.head a.format (trace_at s.volume p) k values) in
+    (w, (patch_is_after s a.format p k values a.reads cut none).volume, refl)
 stays_cut s (Blank p) cut none = (with_inserted s.volume p (blank_trace s.volume.head), (blank_done s p _ _ cut none refl refl).volume, refl)
 stays_cut s (Copy q p) cut none = (with_inserted s.volume p (trace_at s.volume q), (copy_done s q p _ _ cut none refl refl).volume, refl)
 stays_cut s (Delete p) cut none = (without s.volume p, (delete_done s p _ cut none refl).volume, refl)

@@ -70,17 +70,17 @@ kept_slices_stay old new (Unmap name) kept k cut has none after any =
 kept_slices_stay old new (Patch p first values) kept k cut has none after any =
     let h : Head = old.volume.head in
     let t : List ℕ = trace_at old.volume p in
-    let u : List ℕ = with_samples h t first values in
-    let w : Volume = with_trace old.volume p u in
     let a = patch_accepted old p first values none in
+    let u : List ℕ = with_samples h a.format t first values in
+    let w : Volume = with_trace old.volume p u in
     let is : IsTrace h t = whole_trace old p cut a.place.first a.place.last in
     let apart = kept_apart (λ j. is_from first (length values) j) kept k any in
-    let front = front_of-patched h t first values is a.inside in
-    slice_after old new k w (one_volume old new (Patch p first values) w after (patch_is_after old p first values cut none).volume) after.fields
+    let front = front_of-patched h a.format t first values is a.inside in
+    slice_after old new k w (one_volume old new (Patch p first values) w after (patch_is_after old a.format p first values a.reads cut none).volume) after.fields
     ∙ slice_of-set h old.fields k old.volume.traces (p - 1) u (record {
       inline = bound_value-front h old.fields t u (codes "inline") refl has front;
       crossline = bound_value-front h old.fields t u (codes "crossline") refl has front;
-      sample = sample_of-patched h t first values k is a.inside apart;
+      sample = sample_of-patched h a.format t first values k a.reads is a.inside apart;
     })
 kept_slices_stay old new (Blank p) kept k cut has none after any = absurd (none_kept k any)
 kept_slices_stay old new (Copy q p) kept k cut has none after any = absurd (none_kept k any)

@@ -1,15 +1,15 @@
 -- When a trace's row in a slice is as it was.
 use Rattle.std.proofs.Common.{◌≡◌, ◌⊎◌, ℕ, ℤ, zero, suc, ◌+◌, ◌*◌, ◌-◌, ◌/◌, ◌<◌, ◌≤◌, Bool, true, false, ◌||◌, ◌&&◌, cond, eqb, leb, ltb, List, [], ◌∷◌, ◌++◌, length, take, drop, set, get_or, Option, Some, None, pos, refl, sym, ap, ◌∙◌, arith, inl, inr}
-use Rattle.std.specs.Prelude.{codes, not, unwrap_or}
+use Rattle.std.specs.Prelude.{codes, not, option_map, unwrap_or}
 use Rattle.std.specs.Option.{option_map_or}
 use Rattle.std.proofs.Math.Nat.{mul-div_cancel_left, mul-le-mul_left}
 use Rattle.std.proofs.lemmas.Bool.{and_cases, leb-false, ltb-false, ltb-true}
 use Rattle.std.proofs.lemmas.List.{drop-drop}
 use Rattle.std.proofs.lemmas.Bool.Decides.{nat_tests}
-use Rattle.num_order.specs.declared.order.Order.{Order}
 use Rattle.num_order.specs.Number.{num}
-use Rattle.sample_codes.specs.declared.format.Format.{Format}
-use Rattle.sample_codes.specs.Formats.{width, sample_value, samples_bytes}
+use Rattle.sample_codes.specs.declared.integer_format.IntegerFormat.{IntegerFormat}
+use Rattle.sample_codes.specs.Formats.{width, values, sample_value, samples_bytes}
+use Rattle.sample_codes.proofs.WidthLemmas.{width-positive}
 use Rattle.field_map.specs.declared.place.Place.{Place}
 use Rattle.field_map.specs.Binding.{HasGeometry, is_geometry, is_geometry_place, is_geometry_kind}
 use Rattle.field_map.specs.Pairs.{Pairs, place_of}
@@ -26,11 +26,10 @@ use Rattle.key_counts.specs.Rising.{rising}
 use Rattle.time_slice.specs.declared.row.Row.{Row}
 use Rattle.time_slice.specs.Cache.{is_from}
 use Rattle.time_slice.specs.Slices.{row_cmp, row_of, rows_from, with_sample, slice_of}
-use Rattle.bench_rules.proofs.PatchLemmas.{measured, with_samples, length-samples, samples_inside}
+use Rattle.bench_rules.proofs.PatchLemmas.{measured, with_samples, length-values, samples_inside}
 use Rattle.frame_cut.proofs.ExtensionLemmas.{extensions_kept}
 use Rattle.bench_rules.proofs.ResizingLemmas.{SameFront, same_extensions, same_samples}
 use Rattle.frame_cut.proofs.BinEditLemmas.{apart}
-use Rattle.bench_rules.proofs.TraceStepLemmas.{width-pos}
 
 -- ---- rows
 
@@ -77,9 +76,9 @@ slice_of-bound h fields other k ts e d = ap (rising row_cmp) (rows-bound h field
 
 -- ---- samples
 
-sample-by : (b : Bool) (o : Order) (f : Format) (x y : List ℕ) → (b ≡ true → x ≡ y) → (let r : Option ℤ = cond b (Some (sample_value o f x)) None in r) ≡ cond b (Some (sample_value o f y)) None
-sample-by true o f x y e = ap (λ (s : List ℕ). let r : Option ℤ = Some (sample_value o f s) in r) (e refl)
-sample-by false o f x y e = refl
+sample-by : (b : Bool) (read : List ℕ → Option ℤ) (x y : List ℕ) → (b ≡ true → x ≡ y) → cond b (read x) None ≡ cond b (read y) None
+sample-by true read x y e = ap read (e refl)
+sample-by false read x y e = refl
 
 -- the bytes of sample k are the same, in as many headers and of as many samples
 sample_of-same : (h : Head) (t u : List ℕ) (k : ℕ) → extensions_of h u ≡ extensions_of h t → sample_count h u ≡ sample_count h t
@@ -87,10 +86,11 @@ sample_of-same : (h : Head) (t u : List ℕ) (k : ℕ) → extensions_of h u ≡
     → sample_of h u k ≡ sample_of h t k
 sample_of-same h t u k e c same =
     let w : ℕ = width h.format in
-    let at = λ (x n : ℕ). let r : Option ℤ = cond (ltb k n) (Some (sample_value h.order h.format (take w (drop (w * k) (drop (240 * (1 + x)) u))))) None in r in
+    let read = λ (bytes : List ℕ). option_map (λ f. sample_value h.order f bytes) (values h.format) in
+    let at = λ (x n : ℕ). let r : Option ℤ = cond (ltb k n) (read (take w (drop (w * k) (drop (240 * (1 + x)) u)))) None in r in
     ap (λ (x : ℕ). at x (sample_count h u)) e
     ∙ ap (at (extensions_of h t)) c
-    ∙ sample-by (ltb k (sample_count h t)) h.order h.format _ _
+    ∙ sample-by (ltb k (sample_count h t)) read _ _
     (λ inside. ap (take w) (drop-drop (w * k) (samples_at h t) u) ∙ same (ltb-true k (sample_count h t) inside) ∙ ap (take w) (sym (drop-drop (w * k) (samples_at h t) t)))
 
 times-cancel : (w a b : ℕ) → 0 < w → w * a ≡ w * b → a ≡ b
@@ -109,7 +109,7 @@ sample_of-header h t new at k is few front exact =
     let whole : IsTrace h u = record { whole = omega (arith, len, is.whole); exact = exact ∙ ap (λ (n : ℕ). let o : Option ℕ = Some n in o) (sym len) } in
     let now = measured h u whole in
     let starts : samples_at h u ≡ samples_at h t = ap (λ (x : ℕ). 240 * (1 + x)) extensions in
-    let counts : sample_count h u ≡ sample_count h t = times-cancel w _ _ (width-pos h.format) (omega (arith, now.whole, old.whole, starts, len)) in
+    let counts : sample_count h u ≡ sample_count h t = times-cancel w _ _ (width-positive h.format) (omega (arith, now.whole, old.whole, starts, len)) in
     sample_of-same h t u k extensions counts (λ there. apart t new at (samples_at h t + w * k) w inside (inr (omega (arith, front))))
 
 -- ---- samples that are patched, and headers in front of them
@@ -123,24 +123,24 @@ beside a w first many k at size e place sized = by (and_cases (leb first k) (ltb
     by (inr f) = let l : first + many ≤ k = ltb-false k (first + many) f in inr (omega (arith, mul-le-mul_left w l))
 
 -- values over the samples leave the front
-pub front_of-patched : (h : Head) (t : List ℕ) (first : ℕ) (xs : List ℤ) → IsTrace h t → first + length xs ≤ sample_count h t → SameFront h t (with_samples h t first xs)
-front_of-patched h t first xs is few j i le =
+pub front_of-patched : (h : Head) (f : IntegerFormat) (t : List ℕ) (first : ℕ) (xs : List ℤ) → IsTrace h t → first + length xs ≤ sample_count h t → SameFront h t (with_samples h f t first xs)
+front_of-patched h f t first xs is few j i le =
     let room = samples_inside h t first xs is few in
     let old = measured h t is in
-    slice_before t (samples_at h t + width h.format * first) (width h.format * length xs) (samples_bytes h.order h.format xs) j i (omega (arith, le, old.front)) (omega (arith, room))
+    slice_before t (samples_at h t + width h.format * first) (width h.format * length xs) (samples_bytes h.order f xs) j i (omega (arith, le, old.front)) (omega (arith, room))
 
 -- and each other sample
-pub sample_of-patched : (h : Head) (t : List ℕ) (first : ℕ) (xs : List ℤ) (k : ℕ) → IsTrace h t → first + length xs ≤ sample_count h t → is_from first (length xs) k ≡ false
-    → sample_of h (with_samples h t first xs) k ≡ sample_of h t k
-sample_of-patched h t first xs k is few apart_from =
+pub sample_of-patched : (h : Head) (f : IntegerFormat) (t : List ℕ) (first : ℕ) (xs : List ℤ) (k : ℕ) → values h.format ≡ Some f → IsTrace h t → first + length xs ≤ sample_count h t → is_from first (length xs) k ≡ false
+    → sample_of h (with_samples h f t first xs) k ≡ sample_of h t k
+sample_of-patched h f t first xs k reads is few apart_from =
     let w : ℕ = width h.format in
     let at : ℕ = samples_at h t + w * first in
-    let new : List ℕ = samples_bytes h.order h.format xs in
-    let u : List ℕ = with_samples h t first xs in
-    let size : length new ≡ w * length xs = length-samples h.order h.format xs in
+    let new : List ℕ = samples_bytes h.order f xs in
+    let u : List ℕ = with_samples h f t first xs in
+    let size : length new ≡ w * length xs = length-values h f xs reads in
     let same : u ≡ splice t at (length new) new = ap (λ (n : ℕ). splice t at n new) (sym size) in
     let inside : at + length new ≤ length t = omega (arith, size, samples_inside h t first xs is few) in
-    let front : SameFront h t u = front_of-patched h t first xs is few in
+    let front : SameFront h t u = front_of-patched h f t first xs is few in
     sample_of-same h t u k (ap (λ (o : Option ℕ). unwrap_or o 0) (same_extensions h t u front)) (same_samples h t u front)
     (λ there. ap (λ (s : List ℕ). take w (drop (samples_at h t + w * k) s)) same
     ∙ apart t new at (samples_at h t + w * k) w inside (beside (samples_at h t) w first (length xs) k at (length new) apart_from refl size))

@@ -1,22 +1,22 @@
 -- The totals of a volume are those of the samples of all its traces.
-use Rattle.std.proofs.Common.{◌≡◌, ℕ, ℤ, List, map, sym, ap, ◌∙◌}
-use Rattle.std.proofs.lemmas.Simd.{map-map}
-use Rattle.std.proofs.lemmas.List.Folds.{flat_map-map}
-use Rattle.trace_record.specs.Facts.{Facts, with_samples}
+use Rattle.std.proofs.Common.{◌≡◌, ℕ, List, [], ◌∷◌, map, refl, sym, ap₂, ◌∙◌}
+use Rattle.std.specs.List.{flat_map}
+use Rattle.field_map.specs.Pairs.{Pairs}
+use Rattle.frame_cut.specs.declared.file_head.Head.{Head}
 use Rattle.trace_record.specs.OfTrace.{record_of}
-use Rattle.trace_record.specs.Statistics.{statistics_of}
+use Rattle.trace_record.specs.Statistics.{statistics_of, statistics_of_both}
+use Rattle.trace_record.proofs.StatisticsLemmas.{statistics_of_joined}
 use Rattle.trace_view.specs.Values.{samples_of}
 use Rattle.range_stats.specs.Totals.{totals_of}
-use Rattle.range_stats.proofs.TotalsLemmas.{totals_are_of_samples}
 use Rattle.bench_rules.specs.State.{State}
+use Rattle.bench_rules.proofs.LiveLemmas.{stat_shown}
 use Rattle.bench_laws.specs.ReportLaws.{TotalsAreOfAllSamples}
 
--- the facts of a trace with its samples
-abbrev with_its_samples : State → List ℕ → Facts × List ℤ
-with_its_samples s t = (record_of s.volume.head s.fields t, samples_of s.volume.head t)
+totals_of_all : (h : Head) (fields : Pairs) (ts : List (List ℕ)) → totals_of (map (record_of h fields) ts) ≡ statistics_of (flat_map (samples_of h) ts)
+totals_of_all h fields [] = refl
+totals_of_all h fields (t ∷ ts) =
+    ap₂ statistics_of_both (stat_shown h fields t (record_of h fields t) refl) (totals_of_all h fields ts)
+    ∙ sym (statistics_of_joined (samples_of h t) (flat_map (samples_of h) ts))
 
 pub totals_are_of_all_samples : TotalsAreOfAllSamples
-totals_are_of_all_samples s =
-    ap totals_of (sym (map-map (λ (p : Facts × List ℤ). with_samples p.0 p.1) (with_its_samples s) s.volume.traces))
-    ∙ totals_are_of_samples (map (with_its_samples s) s.volume.traces)
-    ∙ ap statistics_of (flat_map-map (λ (p : Facts × List ℤ). p.1) (with_its_samples s) s.volume.traces)
+totals_are_of_all_samples s = totals_of_all s.volume.head s.fields s.volume.traces

@@ -1,10 +1,12 @@
 -- What holds of another number of samples of a trace, and of a field of many traces counted up or computed.
-use Rattle.std.specs.Prelude.{◌≡◌, ℕ, nat_abs, ◌-◌, ℤ, pos, List, [], ◌++◌, map, take, replicate, Option, Some, None, Result, Ok}
+use Rattle.std.specs.Prelude.{◌≡◌, ℕ, nat_abs, ◌-◌, ◌*◌, min, ℤ, pos, List, [], ◌++◌, map, take, replicate, Option, Some, None, Result, Ok}
+use Rattle.sample_codes.specs.declared.integer_format.IntegerFormat.{IntegerFormat}
+use Rattle.sample_codes.specs.Formats.{width, values}
 use Rattle.frame_cut.specs.Cuts.{IsCut}
 use Rattle.frame_cut.specs.Frames.{sample_count}
 use Rattle.frame_cut.specs.Traces.{trace_at}
 use Rattle.frame_cut.specs.Volume.{Volume, bytes_of}
-use Rattle.trace_view.specs.Values.{samples_of}
+use Rattle.trace_view.specs.Values.{sample_bytes, samples_of}
 use Rattle.bench_rules.specs.declared.edit.Edit.{Edit}
 use Rattle.bench_rules.specs.declared.edit.Edit.TheVariants.{Set, Resize, Renumber, Compute}
 use Rattle.bench_rules.specs.declared.field.Field.{Field}
@@ -26,9 +28,20 @@ use Rattle.bench_rules.specs.TraceEdits.{numbers}
 abbrev pub samples_up_to : ℕ → ℕ → List ℤ → List ℤ
 samples_up_to n m xs = take m xs ++ replicate (m - n) (pos 0)
 
--- after an edit that gives trace p m samples it has them: its first ones as they were, and zeros behind them
+-- the bytes of the first m of n samples of so many bytes each, and zero bytes behind them up to m
+abbrev pub bytes_up_to : ℕ → ℕ → ℕ → List ℕ → List ℕ
+bytes_up_to width n m bytes = take (width * min n m) bytes ++ replicate (width * (m - n)) 0
+
+-- after an edit that gives trace p m samples it has them, whatever their format is: the bytes of its first ones as they were, and zero bytes behind them
+abbrev pub ResizeKeepsBytes : Type 0
+ResizeKeepsBytes = (s : State) (p : ℕ) (m : ℤ) (v : Volume)
+    → IsCut (bytes_of s.volume) s.reading s.limits s.volume → first_refusal s (Resize p m) ≡ None → IsCut (bytes_after s.volume s.fields (Resize p m)) s.reading s.limits v
+    → sample_bytes v.head (trace_at v p) ≡ bytes_up_to (width s.volume.head.format) (sample_count s.volume.head (trace_at s.volume p)) (nat_abs m) (sample_bytes s.volume.head (trace_at s.volume p))
+
+-- and where samples have values, the values of its first ones are as they were, and zeros behind them
 abbrev pub ResizeKeepsSamples : Type 0
-ResizeKeepsSamples = (s : State) (p : ℕ) (m : ℤ) (v : Volume)
+ResizeKeepsSamples = (s : State) (p : ℕ) (m : ℤ) (v : Volume) (f : IntegerFormat)
+    → values s.volume.head.format ≡ Some f
     → IsCut (bytes_of s.volume) s.reading s.limits s.volume → first_refusal s (Resize p m) ≡ None → IsCut (bytes_after s.volume s.fields (Resize p m)) s.reading s.limits v
     → samples_of v.head (trace_at v p) ≡ samples_up_to (sample_count s.volume.head (trace_at s.volume p)) (nat_abs m) (samples_of s.volume.head (trace_at s.volume p))
 

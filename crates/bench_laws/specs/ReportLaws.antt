@@ -6,6 +6,7 @@ use Rattle.trace_view.specs.Values.{samples_of}
 use Rattle.bench_rules.specs.Reports.{totals_in}
 use Rattle.bench_rules.specs.State.{State}
 
--- the totals of a volume are the statistics of the samples of all its traces, one trace after another
+-- the totals of a volume are the statistics of the samples of all its traces, one trace after another; there are none
+-- where samples have no values
 abbrev pub TotalsAreOfAllSamples : Type 0
 TotalsAreOfAllSamples = (s : State) → totals_in s ≡ statistics_of (flat_map (samples_of s.volume.head) s.volume.traces)

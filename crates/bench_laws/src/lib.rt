@@ -14,6 +14,6 @@ pub use crate::laws::{
 };
 pub use crate::live_laws::{running_values_show_the_reports, totals_are_of_all_samples};
 pub use crate::number_laws::{
-    compute_is_its_sets, compute_of_a_number_is_renumber, renumber_is_its_sets,
+    compute_is_its_sets, compute_of_a_number_is_renumber, renumber_is_its_sets, resize_keeps_bytes,
     resize_keeps_samples, resize_leaves_the_rest,
 };

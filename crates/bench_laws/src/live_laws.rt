@@ -17,7 +17,7 @@ pub fn running_values_show_the_reports()
 {}
 
 /// The totals of a volume are the statistics of the samples of all its traces, one trace after
-/// another.
+/// another, and none where its samples have no values.
 pub fn totals_are_of_all_samples()
     ensures { TotalsAreOfAllSamples }
 {}

@@ -1,9 +1,16 @@
 // What holds of edits of numbers of samples and of fields of many traces, as contracts of calls
 // that do nothing.
-ghost use Rattle.bench_laws.specs.NumberLaws.{ResizeKeepsSamples, ResizeLeavesTheRest, RenumberIsItsSets, ComputeIsItsSets, ComputeOfANumberIsRenumber};
+ghost use Rattle.bench_laws.specs.NumberLaws.{ResizeKeepsBytes, ResizeKeepsSamples, ResizeLeavesTheRest, RenumberIsItsSets, ComputeIsItsSets, ComputeOfANumberIsRenumber};
 
-/// A trace that is given m samples has them in what reading the new bytes from scratch gives: its
-/// first ones as they were, and zeros behind them.
+/// A trace that is given m samples has them in what reading the new bytes from scratch gives,
+/// whatever the sample format is: the bytes of its first ones as they were, and zero bytes behind
+/// them.
+pub fn resize_keeps_bytes()
+    ensures { ResizeKeepsBytes }
+{}
+
+/// Where samples have values, those of the first ones are as they were too, and zeros stand behind
+/// them.
 pub fn resize_keeps_samples()
     ensures { ResizeKeepsSamples }
 {}

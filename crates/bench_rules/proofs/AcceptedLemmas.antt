@@ -2,14 +2,15 @@
 use Rattle.std.proofs.Common.{◌≡◌, ℕ, ◌+◌, ◌≤◌, Bool, true, false, ◌&&◌, cond, leb, ltb, List, length, Option, Some, None, ℤ, refl}
 use Rattle.std.specs.List.{list_all}
 use Rattle.std.proofs.lemmas.Bool.{leb-true, ltb-false}
-use Rattle.sample_codes.specs.Formats.{sample_fits}
+use Rattle.sample_codes.specs.declared.integer_format.IntegerFormat.{IntegerFormat}
+use Rattle.sample_codes.specs.Formats.{sample_fits, values as read_as}
 use Rattle.frame_cut.specs.declared.limits.Limits.{Limits}
 use Rattle.frame_cut.specs.Frames.{sample_count}
 use Rattle.frame_cut.specs.Traces.{count_of, is_trace, trace_at}
 use Rattle.frame_cut.specs.Volume.{Volume, bytes_of}
 use Rattle.bench_rules.specs.declared.edit.Edit.TheVariants.{Patch, Blank, Copy, Move}
 use Rattle.bench_rules.specs.declared.refusal.Refusal.TheVariants as refusals
-use Rattle.bench_rules.specs.Refused.{first_refusal, no_trace, insert_refusal}
+use Rattle.bench_rules.specs.Refused.{first_refusal, no_trace, insert_refusal, values_refusal}
 use Rattle.bench_rules.specs.State.{State}
 use Rattle.bench_rules.specs.WholeTraces.{blank_trace}
 use Rattle.bench_rules.proofs.SetLemmas.{unless, both, none_of_either}
@@ -81,18 +82,29 @@ move_accepted s a b e =
 
 pub record PatchAccepted (s : State) (p k : ℕ) (values : List ℤ) : Type 0 where
   pub place : IsWithin p (count_of s.volume)
-  pub fit : list_all (sample_fits s.volume.head.format) values ≡ true
+  pub format : IntegerFormat
+  pub reads : read_as s.volume.head.format ≡ Some format
+  pub fit : list_all (sample_fits format) values ≡ true
   pub inside : k + length values ≤ sample_count s.volume.head (trace_at s.volume p)
 
 pub patch_accepted : (s : State) (p k : ℕ) (values : List ℤ) → first_refusal s (Patch p k values) ≡ None → PatchAccepted s p k values
 patch_accepted s p k values e =
     let v : Volume = s.volume in
     let place = none_of_either _ (refusals.NoTrace p (count_of v)) _ e in
-    let fit = unless (list_all (sample_fits v.head.format) values) refusals.DoesNotFit _ place.1 in
-    let n : ℕ = sample_count v.head (trace_at v p) in
-    let inside = unless_so (ltb n (k + length values)) (refusals.NoSample _ n) None fit.1 in
-    record {
-      place = within p (count_of v) place.0;
-      fit = fit.0;
-      inside = ltb-false n (k + length values) inside.0;
-    }
+    by (read_as v.head.format) refl place.1
+  where
+    by : (o : Option IntegerFormat) → read_as s.volume.head.format ≡ o → values_refusal o s.volume.head (trace_at s.volume p) k values ≡ None → PatchAccepted s p k values
+    by None reads none = absurd cc
+    by (Some f) reads none =
+        let v : Volume = s.volume in
+        let place = none_of_either _ (refusals.NoTrace p (count_of v)) _ e in
+        let fit = unless (list_all (sample_fits f) values) refusals.DoesNotFit _ none in
+        let n : ℕ = sample_count v.head (trace_at v p) in
+        let inside = unless_so (ltb n (k + length values)) (refusals.NoSample _ n) None fit.1 in
+        record {
+          place = within p (count_of v) place.0;
+          format = f;
+          reads = reads;
+          fit = fit.0;
+          inside = ltb-false n (k + length values) inside.0;
+        }

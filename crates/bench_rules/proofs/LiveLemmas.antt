@@ -1,12 +1,18 @@
 -- What running values show is what the reports say of the volume.
-use Rattle.std.proofs.Common.{List, ap, ◌≡◌, ◌∙◌, ℕ, ℤ, [], ◌∷◌, length, inr, refl}
-use Rattle.std.specs.Prelude.{Option, Some, Ok, Err}
+use Rattle.std.proofs.Common.{List, ap, sym, ◌≡◌, ◌<◌, ◌∙◌, ℕ, ℤ, [], ◌∷◌, length, inr, refl, arith}
+use Rattle.std.specs.Prelude.{Option, Some, None, Ok, Err, option_map}
+use Rattle.std.specs.Option.{option_map_or}
 use Rattle.std.specs.Result.{IsErrAnd}
+use Rattle.num_order.specs.declared.order.Order.{Order}
+use Rattle.sample_codes.specs.declared.integer_format.IntegerFormat.{IntegerFormat}
+use Rattle.sample_codes.specs.Formats.{values}
 use Rattle.field_map.specs.Pairs.{Pairs}
 use Rattle.frame_cut.specs.declared.file_head.Head.{Head}
-use Rattle.trace_view.specs.Values.{samples_of}
+use Rattle.frame_cut.specs.Frames.{sample_count}
+use Rattle.trace_view.specs.Values.{samples_in, samples_of, sample_bytes}
 use Rattle.trace_record.specs.OfTrace.{record_of}
-use Rattle.trace_record.specs.Statistics.{least_of, greatest_of, int_sum, statistics_of}
+use Rattle.trace_record.specs.Statistics.{least_of, greatest_of, int_sum, statistics_of, statistics_with, amplitudes_of}
+use Rattle.trace_record.proofs.SampleLemmas.{length-samples_in}
 use Rattle.trace_record.specs.declared.statistics.Statistics.{Statistics}
 use Rattle.bench_rules.specs.declared.query.Query.TheVariants as queries
 use Rattle.bench_rules.specs.declared.ask_fault.AskFault.{AskFault}
@@ -21,7 +27,7 @@ use Rattle.range_stats.specs.OfRanges.{tally_of_ranges}
 use Rattle.range_stats.specs.OfTotals.{tally_of_totals}
 use Rattle.range_stats.proofs.TallyRangeLemmas.{range_of_tally}
 use Rattle.range_stats.proofs.TotalsLemmas.{totals_of_tally}
-use Rattle.trace_record.specs.Facts.{Facts}
+use Rattle.trace_record.specs.Facts.{Facts, statistics_in}
 use Rattle.fault_live.specs.Faults.{faults_of}
 use Rattle.bench_rules.specs.Reports.{records, head_facts, cells_in, inlines_in, crosslines_in, histogram_in}
 use Rattle.bench_rules.specs.Live.{ShowsTheCells, ShowsTheInlines, ShowsTheCrosslines, ShowsTheHistogram, ShowsRanges, ShowsTotals, ShowsFaults}
@@ -64,13 +70,17 @@ wants_memory s (Err fault) is = inr (ap (λ (f : AskFault). let r : Reply = Err 
 
 -- ---- statistics of one trace
 
-of_samples : (vs : List ℤ) → (length vs ≡ 0 → ⊥) → (let o : Option Statistics = Some (record { least = least_of vs; greatest = greatest_of vs; sum = int_sum vs; number = length vs }) in o) ≡ statistics_of vs
-of_samples [] some = absurd (some refl)
-of_samples (v ∷ vs) some = refl
+-- statistics without their number, and with it again
+again : (vs : List ℤ) (n : ℕ) → (0 < length vs → length vs ≡ n) → option_map (λ a. statistics_with a n) (amplitudes_of vs) ≡ statistics_of vs
+again [] n e = refl
+again (v ∷ vs) n e = ap (λ (m : ℕ). let o : Option Statistics = Some (record { least = least_of (v ∷ vs); greatest = greatest_of (v ∷ vs); sum = int_sum (v ∷ vs); number = m }) in o) (sym (e (omega arith)))
+
+-- where samples have values, there are as many values
+all_or_none : (o : Order) (f : Option IntegerFormat) (n : ℕ) (bytes : List ℕ) → 0 < length (option_map_or (λ g. samples_in o g n bytes) f []) → length (option_map_or (λ g. samples_in o g n bytes) f []) ≡ n
+all_or_none o None n bytes some = absurd (omega arith)
+all_or_none o (Some g) n bytes some = length-samples_in o g n bytes
 
 -- the statistics that a record holds are those of the trace's samples
-pub stat_shown : (h : Head) (fields : Pairs) (t : List ℕ) (f : Facts) → f ≡ record_of h fields t → (f.number ≡ 0 → ⊥)
-    → (let o : Option Statistics = Some (record { least = f.least; greatest = f.greatest; sum = f.sum; number = f.number }) in o) ≡ statistics_of (samples_of h t)
-stat_shown h fields t f is some =
-    ap (λ (g : Facts). let o : Option Statistics = Some (record { least = g.least; greatest = g.greatest; sum = g.sum; number = g.number }) in o) is
-    ∙ of_samples (samples_of h t) (λ none. some (ap (λ (g : Facts). g.number) is ∙ none))
+pub stat_shown : (h : Head) (fields : Pairs) (t : List ℕ) (f : Facts) → f ≡ record_of h fields t → statistics_in f ≡ statistics_of (samples_of h t)
+stat_shown h fields t f is =
+    ap statistics_in is ∙ again (samples_of h t) (sample_count h t) (all_or_none h.order (values h.format) (sample_count h t) (sample_bytes h t))

@@ -1,11 +1,11 @@
 -- Edits of samples and of whole traces that are done.
-use Rattle.std.proofs.Common.{◌≡◌, ℕ, ℤ, ◌+◌, ◌*◌, ◌^◌, ◌≤◌, true, List, length, Option, Some, None, refl, sym, ap, subst, ◌∙◌, arith, lit≤}
+use Rattle.std.proofs.Common.{◌≡◌, ℕ, ℤ, ◌+◌, ◌*◌, ◌^◌, ◌≤◌, true, List, length, Option, Some, None, refl, sym, ap, subst, ◌∙◌, arith}
 use Rattle.std.specs.Prelude.{MatchOption}
 use Rattle.std.proofs.Math.Nat.{mul-le-mul_right}
 use Rattle.std.proofs.lemmas.Bool.{leb-true, le-leb}
-use Rattle.sample_codes.specs.declared.format.Format.{Format}
-use Rattle.sample_codes.specs.declared.format.Format.TheVariants.{Signed32, Signed16, Signed24, Signed8, Signed64, Unsigned32, Unsigned16, Unsigned64, Unsigned24, Unsigned8}
-use Rattle.sample_codes.specs.Formats.{width, samples_bytes}
+use Rattle.sample_codes.specs.declared.integer_format.IntegerFormat.{IntegerFormat}
+use Rattle.sample_codes.specs.Formats.{width, values as read_as, samples_bytes}
+use Rattle.sample_codes.proofs.WidthLemmas.{width-positive}
 use Rattle.frame_cut.specs.declared.file_head.Head.{Head}
 use Rattle.frame_cut.specs.Cuts.{IsTrace, IsCut}
 use Rattle.frame_cut.specs.Frames.{trace_length, sample_count}
@@ -26,7 +26,7 @@ use Rattle.edit_overlay.specs.CountedVolume.{CountedVolume, with_one_look}
 use Rattle.frame_cut.specs.Parts.{with_inserted, without, with_moved}
 use Rattle.bench_rules.specs.WholeTraces.{blank_trace}
 use Rattle.bench_rules.proofs.AcceptedLemmas.{patch_accepted, blank_accepted, copy_accepted, there_is, move_accepted}
-use Rattle.bench_rules.proofs.PatchLemmas.{with_samples, samples_inside, cut_patched, length-samples, measured}
+use Rattle.bench_rules.proofs.PatchLemmas.{with_samples, samples_inside, cut_patched, length-values, measured}
 use Rattle.bench_rules.proofs.PlaceLemmas.{length_same}
 use Rattle.bench_rules.proofs.SetLemmas.{both, whole_trace}
 use Rattle.bench_rules.proofs.WholeTraceLemmas.{cut_inserted, cut_deleted, cut_moved, blank_is_trace, length-without}
@@ -68,38 +68,38 @@ move_done s a b w cut none is =
     let m = move_accepted s a b none in
     done s (Move a b) (with_moved s.volume a b) w (cut_moved s.reading s.limits s.volume a b cut m.source.first m.source.last) refl is
 
-pub patch_is_after : (s : State) (p k : ℕ) (values : List ℤ) → IsCut (bytes_of s.volume) s.reading s.limits s.volume → first_refusal s (Patch p k values) ≡ None
-    → IsAfter s (Patch p k values) (record s { volume = with_trace s.volume p (with_samples s.volume.head (trace_at s.volume p) k values) })
-patch_is_after s p k values cut none =
+pub patch_is_after : (s : State) (f : IntegerFormat) (p k : ℕ) (values : List ℤ) → read_as s.volume.head.format ≡ Some f → IsCut (bytes_of s.volume) s.reading s.limits s.volume → first_refusal s (Patch p k values) ≡ None
+    → IsAfter s (Patch p k values) (record s { volume = with_trace s.volume p (with_samples s.volume.head f (trace_at s.volume p) k values) })
+patch_is_after s f p k values reads cut none =
     let v : Volume = s.volume in
     let a = patch_accepted s p k values none in
-    let w : Volume = with_trace v p (with_samples v.head (trace_at v p) k values) in
-    done s (Patch p k values) w w (cut_patched s.reading s.limits v p k values cut a.place.first a.place.last a.inside) refl refl
+    let w : Volume = with_trace v p (with_samples v.head f (trace_at v p) k values) in
+    done s (Patch p k values) w w (cut_patched s.reading s.limits v f p k values reads cut a.place.first a.place.last a.inside) refl refl
 
 -- the values' bytes at their place in the trace
-pub patch_done : (s : State) (p k : ℕ) (values : List ℤ) (w : Volume) (at : ℕ) (new : List ℕ) → IsCut (bytes_of s.volume) s.reading s.limits s.volume → first_refusal s (Patch p k values) ≡ None
-    → at ≡ samples_at s.volume.head (trace_at s.volume p) + width s.volume.head.format * k → new ≡ samples_bytes s.volume.head.order s.volume.head.format values
+pub patch_done : (s : State) (f : IntegerFormat) (p k : ℕ) (values : List ℤ) (w : Volume) (at : ℕ) (new : List ℕ) → read_as s.volume.head.format ≡ Some f → IsCut (bytes_of s.volume) s.reading s.limits s.volume → first_refusal s (Patch p k values) ≡ None
+    → at ≡ samples_at s.volume.head (trace_at s.volume p) + width s.volume.head.format * k → new ≡ samples_bytes s.volume.head.order f values
     → w ≡ with_trace s.volume p (splice (trace_at s.volume p) at (length new) new) → IsAfter s (Patch p k values) (record s { volume = w })
-patch_done s p k values w at new cut none e f is =
+patch_done s f p k values w at new reads cut none e g is =
     let v : Volume = s.volume in
-    let size : length new ≡ width v.head.format * length values = ap (λ (u : List ℕ). length u) f ∙ length-samples v.head.order v.head.format values in
-    let same : w ≡ with_trace v p (with_samples v.head (trace_at v p) k values) = is ∙ rw (size, e, f) refl in
-    subst (λ (u : Volume). IsAfter s (Patch p k values) (record s { volume = u })) (sym same) (patch_is_after s p k values cut none)
+    let size : length new ≡ width v.head.format * length values = ap (λ (u : List ℕ). length u) g ∙ length-values v.head f values reads in
+    let same : w ≡ with_trace v p (with_samples v.head f (trace_at v p) k values) = is ∙ rw (size, e, g) refl in
+    subst (λ (u : Volume). IsAfter s (Patch p k values) (record s { volume = u })) (sym same) (patch_is_after s f p k values reads cut none)
 
 -- they lie inside the trace, and leave it a whole trace
 pub record IsPatch (h : Head) (t : List ℕ) (at : ℕ) (new : List ℕ) : Type 0 where
   pub inside : at + length new ≤ length t
   pub whole : IsTrace h (splice t at (length new) new)
 
-pub patch_fits : (s : State) (p k : ℕ) (values : List ℤ) (at : ℕ) (new : List ℕ) → IsCut (bytes_of s.volume) s.reading s.limits s.volume → first_refusal s (Patch p k values) ≡ None
-    → at ≡ samples_at s.volume.head (trace_at s.volume p) + width s.volume.head.format * k → new ≡ samples_bytes s.volume.head.order s.volume.head.format values
+pub patch_fits : (s : State) (f : IntegerFormat) (p k : ℕ) (values : List ℤ) (at : ℕ) (new : List ℕ) → read_as s.volume.head.format ≡ Some f → IsCut (bytes_of s.volume) s.reading s.limits s.volume → first_refusal s (Patch p k values) ≡ None
+    → at ≡ samples_at s.volume.head (trace_at s.volume p) + width s.volume.head.format * k → new ≡ samples_bytes s.volume.head.order f values
     → IsPatch s.volume.head (trace_at s.volume p) at new
-patch_fits s p k values at new cut none e f =
+patch_fits s f p k values at new reads cut none e g =
     let h : Head = s.volume.head in
     let t : List ℕ = trace_at s.volume p in
     let a = patch_accepted s p k values none in
     let is : IsTrace h t = whole_trace s p cut a.place.first a.place.last in
-    let size : length new ≡ width h.format * length values = ap (λ (u : List ℕ). length u) f ∙ length-samples h.order h.format values in
+    let size : length new ≡ width h.format * length values = ap (λ (u : List ℕ). length u) g ∙ length-values h f values reads in
     let inside : at + length new ≤ length t = omega (arith, size, e, samples_inside h t k values is a.inside) in
     let exact : trace_length h (splice t at (length new) new) ≡ Some (length t) = length_same h t at new is inside (omega (arith, e, (measured h t is).front)) in
     let len : length (splice t at (length new) new) ≡ length t = length-splice t at new inside in
@@ -124,18 +124,6 @@ length-trace s p cut there =
     omega (arith, whole, (has_head (bytes_of v) s.reading s.limits v.head cut.parts.head).small, s.limits.small)
 
 -- and has no more samples than bytes
-pub width-pos : (f : Format) → 1 ≤ width f
-width-pos Signed32 = lit≤ tt
-width-pos Signed16 = lit≤ tt
-width-pos Signed24 = lit≤ tt
-width-pos Signed8 = lit≤ tt
-width-pos Signed64 = lit≤ tt
-width-pos Unsigned32 = lit≤ tt
-width-pos Unsigned16 = lit≤ tt
-width-pos Unsigned64 = lit≤ tt
-width-pos Unsigned24 = lit≤ tt
-width-pos Unsigned8 = lit≤ tt
-
 pub few_values : (s : State) (p k : ℕ) (values : List ℤ) → IsCut (bytes_of s.volume) s.reading s.limits s.volume → first_refusal s (Patch p k values) ≡ None → length values ≤ 2 ^ 40
 few_values s p k values cut none =
     let h : Head = s.volume.head in
@@ -144,7 +132,7 @@ few_values s p k values cut none =
     let m = measured h t (whole_trace s p cut a.place.first a.place.last) in
     let there = length-trace s p cut (is_there s.volume p a.place.first a.place.last) in
     let n : ℕ = sample_count h t in
-    let least : 1 * n ≤ width h.format * n = mul-le-mul_right n (width-pos h.format) in
+    let least : 1 * n ≤ width h.format * n = mul-le-mul_right n (width-positive h.format) in
     omega (arith, a.inside, m.whole, there, least)
 
 -- a look leaves the volume

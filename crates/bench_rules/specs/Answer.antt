@@ -1,5 +1,5 @@
 -- The answer to every query, from a volume and its field map.
-use Rattle.std.specs.Prelude.{◌≡◌, ◌⊎◌, ℕ, ℤ, ◌&&◌, nat_le, max, not, List, ◌++◌, length, map, flat_map, Option, Some, None, Result, Ok, Err, IsOk, if◌then◌else◌}
+use Rattle.std.specs.Prelude.{◌≡◌, ◌⊎◌, ℕ, ℤ, ◌&&◌, nat_le, max, not, List, ◌++◌, length, map, flat_map, Option, Some, None, is_none, Result, Ok, Err, IsOk, if◌then◌else◌}
 use Rattle.std.specs.List.{enumerate_from, range_with_len}
 use Rattle.num_order.specs.Number.{num}
 use Rattle.text_block.specs.Blocks.{code_of}
@@ -11,19 +11,21 @@ use Rattle.frame_cut.specs.Traces.{count_of, is_trace, trace_at}
 use Rattle.frame_cut.specs.BinaryHeader.{bin_bytes}
 use Rattle.frame_cut.specs.Frames.{sample_count}
 use Rattle.frame_cut.specs.Volume.{Volume, bytes_of}
-use Rattle.trace_view.specs.Values.{value_of, sample_of}
+use Rattle.sample_codes.specs.Formats.{values}
+use Rattle.trace_view.specs.Values.{value_of, sample_of, samples_of}
+use Rattle.trace_record.specs.Statistics.{statistics_of}
 use Rattle.bench_rules.specs.declared.query.Query.{Query}
 use Rattle.bench_rules.specs.declared.query.Query.TheVariants as queries
 use Rattle.bench_rules.specs.declared.answer.Answer.{Answer}
 use Rattle.bench_rules.specs.declared.answer.Answer.TheVariants as answers
 use Rattle.bench_rules.specs.declared.ask_fault.AskFault.{AskFault}
-use Rattle.bench_rules.specs.declared.ask_fault.AskFault.TheVariants.{NoTrace, NoField, NoPlace, NoSample, OutOfMemory}
+use Rattle.bench_rules.specs.declared.ask_fault.AskFault.TheVariants.{NoTrace, NoField, NoPlace, NoSample, NoValues, OutOfMemory}
 use Rattle.bench_rules.specs.Places.{place_in_trace, place_in_binary, is_in_binary}
 use Rattle.bench_rules.specs.Refused.{is_line}
 use Rattle.bench_rules.specs.Headers.{named_places, header_of, extremes_in}
 use Rattle.bench_rules.specs.ManyTraces.{each_of}
 use Rattle.bench_rules.specs.Tables.{table_of, found_of}
-use Rattle.bench_rules.specs.Reports.{geometry_in, statistics_in, fold_in, cells_in, inlines_in, crosslines_in, histogram_in, range_in, totals_in, slice_in, faults_in}
+use Rattle.bench_rules.specs.Reports.{geometry_in, fold_in, cells_in, inlines_in, crosslines_in, histogram_in, range_in, totals_in, slice_in, faults_in}
 use Rattle.frame_cut.specs.Parts.{block_of}
 use Rattle.bench_rules.specs.State.{State}
 
@@ -45,9 +47,13 @@ abbrev pub trace_value : Head → List ℕ → Option Place → Reply
 trace_value h t None = Err NoField
 trace_value h t (Some place) = or_fault (value_of h t place) NoPlace answers.Value
 
+-- the reply to what needs the values of samples, where samples have any
+abbrev pub of_values : Head → Reply → Reply
+of_values h reply = if is_none (values h.format) then Err NoValues else reply
+
 -- sample k of a trace; the number named is at least the number of samples
 abbrev pub trace_sample : Head → List ℕ → ℕ → Reply
-trace_sample h t k = or_fault (sample_of h t k) (NoSample (max k (sample_count h t)) (sample_count h t)) answers.Value
+trace_sample h t k = of_values h (or_fault (sample_of h t k) (NoSample (max k (sample_count h t)) (sample_count h t)) answers.Value)
 
 -- the value of the binary header at the place of a field, if the field has one
 abbrev pub binary_value : Volume → Option Place → Reply
@@ -115,15 +121,15 @@ answer s queries.Stanzas = Ok (answers.Stanzas (all_stanzas s.volume))
 answer s queries.Fields = Ok (answers.Fields s.fields)
 answer s (queries.Sample p k) = of_trace s.volume p (λ t. trace_sample s.volume.head t k)
 answer s (queries.Geometry p) = or_no_trace s.volume p (geometry_in s p) answers.Geometry
-answer s (queries.Stat p) = or_no_trace s.volume p (statistics_in s p) answers.Stat
+answer s (queries.Stat p) = of_trace s.volume p (λ t. of_values s.volume.head (Ok (answers.Stat (statistics_of (samples_of s.volume.head t)))))
 answer s (queries.Fold i c) = Ok (answers.Fold (fold_in s i c))
 answer s queries.Grid = Ok (answers.Grid (cells_in s))
 answer s queries.Inlines = Ok (answers.Inlines (inlines_in s))
 answer s queries.Crosslines = Ok (answers.Crosslines (crosslines_in s))
 answer s queries.Histogram = Ok (answers.Histogram (histogram_in s))
 answer s (queries.Range quantity) = Ok (answers.Range (range_in s quantity))
-answer s queries.Totals = Ok (answers.Totals (totals_in s))
-answer s (queries.Slice k) = Ok (answers.Slice (slice_in s k))
+answer s queries.Totals = of_values s.volume.head (Ok (answers.Totals (totals_in s)))
+answer s (queries.Slice k) = of_values s.volume.head (Ok (answers.Slice (slice_in s k)))
 answer s queries.Faults = Ok (answers.Faults (faults_in s))
 answer s (queries.Lines b) = lines_answer (block_of s.volume b)
 answer s (queries.Table a b fields) = of_traces s.volume a b (table_answer s.volume a b (each_of (place_in_trace s.fields) fields))

@@ -3,7 +3,7 @@ use Rattle.std.specs.Prelude.{◌≡◌, ◌-◌, ◌^◌, pos, negsuc, [], ◌�
 use Rattle.field_map.specs.Binding.{geometry_at_load}
 use Rattle.field_map.specs.KnownNames.{named_place}
 use Rattle.field_map.specs.Pairs.{signed_at}
-use Rattle.frame_cut.specs.declared.reading.Reading.TheVariants.{AsWritten}
+use Rattle.frame_cut.specs.Readings.{as_written}
 use Rattle.frame_cut.specs.SmallFiles.{wide_limits, volume_plain, file_plain, with_bytes_at}
 use Rattle.bench_rules.specs.declared.edit.Edit.{Edit}
 use Rattle.bench_rules.specs.declared.edit.Edit.TheVariants.{Compute}
@@ -20,7 +20,7 @@ use Rattle.bench_rules.specs.State.{State}
 
 -- three traces of inline 10, crosslines 21 to 23 and offsets 100, 200 and 300
 abbrev loaded : State
-loaded = record { volume = volume_plain; fields = geometry_at_load; reading = AsWritten; limits = wide_limits }
+loaded = record { volume = volume_plain; fields = geometry_at_load; reading = as_written; limits = wide_limits }
 
 -- 7 / 2, -7 / 2, 7 / -2 and -7 / -2
 pub quotient-plus_plus : quotient (pos 7) (pos 2) ≡ pos 3

@@ -6,7 +6,7 @@ use Rattle.field_map.specs.Binding.{geometry_at_load}
 use Rattle.field_map.specs.KnownNames.{named_place}
 use Rattle.field_map.specs.Pairs.{unsigned_at}
 use Rattle.text_block.specs.declared.text_fault.TextFault.TheVariants as text_faults
-use Rattle.frame_cut.specs.declared.reading.Reading.TheVariants.{AsWritten}
+use Rattle.frame_cut.specs.Readings.{as_written}
 use Rattle.frame_cut.specs.SmallFiles.{with_bytes_at, wide_limits, file_plain, volume_plain, volume_extended, volume_counted}
 use Rattle.frame_cut.specs.Volume.{Volume}
 use Rattle.bench_rules.specs.declared.edit.Edit.TheVariants.{Set, SetBin, SetText, Unmap}
@@ -22,7 +22,7 @@ use Rattle.bench_rules.specs.State.{State}
 
 -- a volume as it was loaded
 abbrev loaded : Volume → State
-loaded v = record { volume = v; fields = geometry_at_load; reading = AsWritten; limits = wide_limits }
+loaded v = record { volume = v; fields = geometry_at_load; reading = as_written; limits = wide_limits }
 
 -- 07 in place of 0A at byte 4036 of the file: the inline number of trace 2
 pub set-inline : bytes_after volume_plain geometry_at_load (Set 2 (field.Name (codes "inline")) (pos 7)) ≡ with_bytes_at 4036 (7 ∷ []) file_plain

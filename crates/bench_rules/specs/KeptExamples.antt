@@ -2,7 +2,7 @@
 use Rattle.std.specs.Prelude.{◌≡◌, ℕ, List, [], ◌∷◌, pos, negsuc, codes, refl}
 use Rattle.field_map.specs.Binding.{geometry_at_load}
 use Rattle.field_map.specs.Pairs.{signed_at}
-use Rattle.frame_cut.specs.declared.reading.Reading.TheVariants.{AsWritten}
+use Rattle.frame_cut.specs.Readings.{as_written}
 use Rattle.frame_cut.specs.SmallFiles.{wide_limits, volume_plain}
 use Rattle.bench_rules.specs.declared.edit.Edit.TheVariants.{Set, Map, Patch, Delete, Renumber}
 use Rattle.bench_rules.specs.declared.field.Field.TheVariants as field
@@ -12,7 +12,7 @@ use Rattle.bench_rules.specs.State.{State}
 
 -- three traces, of inline 10 and crosslines 21 to 23
 abbrev loaded : State
-loaded = record { volume = volume_plain; fields = geometry_at_load; reading = AsWritten; limits = wide_limits }
+loaded = record { volume = volume_plain; fields = geometry_at_load; reading = as_written; limits = wide_limits }
 
 -- three kept slices
 abbrev three : List ℕ

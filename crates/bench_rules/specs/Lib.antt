@@ -26,3 +26,4 @@ pub mod Tables
 pub mod TraceEdits
 pub mod TraceExamples
 pub mod WholeTraces
+pub mod OpaqueExamples

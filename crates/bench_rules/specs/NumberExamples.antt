@@ -3,7 +3,7 @@ use Rattle.std.specs.Prelude.{◌≡◌, pos, Some, None, codes, refl}
 use Rattle.std.proofs.Common.{lit≤}
 use Rattle.field_map.specs.Binding.{geometry_at_load}
 use Rattle.frame_cut.specs.declared.limits.Limits.{Limits}
-use Rattle.frame_cut.specs.declared.reading.Reading.TheVariants.{AsWritten}
+use Rattle.frame_cut.specs.Readings.{as_written}
 use Rattle.frame_cut.specs.SmallFiles.{wide_limits, volume_plain, volume_counted}
 use Rattle.frame_cut.specs.Volume.{Volume}
 use Rattle.bench_rules.specs.declared.edit.Edit.TheVariants.{Resize, Renumber}
@@ -14,7 +14,7 @@ use Rattle.bench_rules.specs.State.{State}
 
 -- a volume as it was loaded under these limits
 abbrev under : Volume → Limits → State
-under v limits = record { volume = v; fields = geometry_at_load; reading = AsWritten; limits = limits }
+under v limits = record { volume = v; fields = geometry_at_load; reading = as_written; limits = limits }
 
 -- four samples in place of two make 4328 bytes of 4324: one byte too many, and just enough
 abbrev small_limits : Limits

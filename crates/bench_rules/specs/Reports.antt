@@ -6,10 +6,8 @@ use Rattle.frame_cut.specs.BinaryHeader.{bin_unsigned}
 use Rattle.frame_cut.specs.declared.file_head.Head.{Head}
 use Rattle.frame_cut.specs.Traces.{trace_of}
 use Rattle.frame_cut.specs.Volume.{Volume}
-use Rattle.trace_view.specs.Values.{samples_of}
 use Rattle.trace_record.specs.Facts.{Facts}
 use Rattle.trace_record.specs.OfTrace.{record_of}
-use Rattle.trace_record.specs.Statistics.{statistics_of}
 use Rattle.key_counts.specs.declared.ratio.Ratio.{Ratio}
 use Rattle.trace_record.specs.declared.statistics.Statistics.{Statistics}
 use Rattle.grid_live.specs.Cells.{fold_of, cells, inlines, crosslines, histogram}
@@ -44,9 +42,9 @@ lines_without_c block = count_by (is_without_c block) (range_with_len 1 40)
 -- what a head, a textual header and a binary header say to the faults
 abbrev pub facts_of_headers : Head → (text bin : List ℕ) → HeadFacts
 facts_of_headers h text bin = record {
-  trace_count = bin_unsigned 3513 8 bin;
+  trace_count = bin_unsigned h.order 3513 8 bin;
   lines = lines_without_c text;
-  interval = bin_unsigned 3217 2 bin;
+  interval = bin_unsigned h.order 3217 2 bin;
   major = h.major;
   minor = h.minor;
 }
@@ -86,10 +84,6 @@ range_in s w = range_of w (records s)
 -- the least, the greatest, the sum and the number of all samples
 abbrev pub totals_in : State → Option Statistics
 totals_in s = totals_of (records s)
-
--- the least, the greatest, the sum and the number of the samples of trace p, where there is one
-abbrev pub statistics_in : State → ℕ → Option (Option Statistics)
-statistics_in s p = option_map (λ t. statistics_of (samples_of s.volume.head t)) (trace_of s.volume p)
 
 -- where the trace of this record lies
 abbrev pub location_of : Facts → Location

@@ -22,6 +22,9 @@ pub enum AskFault {
     /// A growth was refused.
     #[error("E11 out of memory")]
     OutOfMemory,
+    /// The file's samples have no values.
+    #[error("E12 samples have no value")]
+    NoValues,
 }
 
 impl From<AllocError> for AskFault {

@@ -23,7 +23,7 @@ pub enum Edit {
     /// `Unmap(name)`: the name no longer bound. Refused: E08.
     Unmap(Text),
     /// `Patch(p, k, values)`: the values over samples k, k + 1 and so on of trace p. No values at a
-    /// k up to the number of samples change nothing. Refused, in this order: E01, E04, E05.
+    /// k up to the number of samples change nothing. Refused, in this order: E01, E12, E04, E05.
     Patch(u32, u32, Items<i128>),
     /// `Blank(p)`: a trace of zeros in front of trace p, or behind the last, with as many header
     /// extensions and samples as the binary header says. Refused, in this order: E01, E09, E10.

@@ -6,7 +6,7 @@ ghost use Rattle.bench_rules.specs.Letters.{letter_c as letter_c_of};
 ghost use Rattle.bench_rules.specs.Reports.{facts_of_headers, is_without_c, lines_without_c as lines_without_c_of};
 
 use fault_live::HeadFacts;
-use frame_cut::{BINARY_HEADER_BYTES, Head, order_of};
+use frame_cut::{BINARY_HEADER_BYTES, Head};
 use num_order::{u16_at, u64_at};
 use text_block::{Code, TEXT_BLOCK_BYTES, code_of};
 
@@ -20,7 +20,7 @@ pub fn head_facts(
 ) -> HeadFacts
     ensures { result ≡ facts_of_headers head text.now bin.now }
 {
-    let order = order_of(bin);
+    let order = head.order;
     HeadFacts {
         trace_count: u64_at(order, bin, 3513 - 3201),
         lines: lines_without_c(text),

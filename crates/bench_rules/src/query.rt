@@ -26,11 +26,11 @@ pub enum Query {
     Stanzas,
     /// The bound names with their places.
     Fields,
-    /// `Sample(p, k)`: sample k of trace p. Refused, in this order: E01, E05.
+    /// `Sample(p, k)`: sample k of trace p. Refused, in this order: E01, E12, E05.
     Sample(u32, u32),
     /// `Geometry(p)`: where trace p lies. Refused: E01.
     Geometry(u32),
-    /// `Stat(p)`: the statistics of the samples of trace p. Refused: E01.
+    /// `Stat(p)`: the statistics of the samples of trace p. Refused, in this order: E01, E12.
     Stat(u32),
     /// `Fold(i, c)`: how many traces have this inline and crossline, any two numbers.
     Fold(i128, i128),
@@ -44,9 +44,9 @@ pub enum Query {
     Histogram,
     /// The least and the greatest value of this kind.
     Range(Quantity),
-    /// The statistics of all samples.
+    /// The statistics of all samples. Refused: E12.
     Totals,
-    /// `Slice(k)`: sample k of each trace that has it.
+    /// `Slice(k)`: sample k of each trace that has it. Refused: E12.
     Slice(u32),
     /// What the headers contradict each other in, or the traces each other.
     Faults,

@@ -47,6 +47,9 @@ pub enum Refusal {
     /// A growth was refused.
     #[error("E11 out of memory")]
     OutOfMemory,
+    /// The file's samples have no values.
+    #[error("E12 samples have no value")]
+    NoValues,
     /// `ZeroDivisor(p)`: in trace p a computation divides by 0.
     #[error("E13 zero divisor trace {0}")]
     ZeroDivisor(u32),

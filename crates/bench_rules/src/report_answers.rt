@@ -12,7 +12,7 @@ ghost use Rattle.bench_rules.specs.declared.answer.Answer.TheVariants as answers
 ghost use Rattle.bench_rules.specs.declared.query.Query.TheVariants as queries;
 ghost use Rattle.bench_rules.specs.Answer.{answer, IsReply};
 ghost use Rattle.bench_rules.specs.Live.{AreRecordsOf, IsGridOf, AreRangesOf, AreTotalsOf, AreTriplesOf};
-ghost use Rattle.bench_rules.specs.Reports.{head_facts as head_facts_of, location_of};
+ghost use Rattle.bench_rules.specs.Reports.{head_facts as head_facts_of, location_of, totals_in};
 ghost use Rattle.bench_rules.specs.State.{State};
 
 use crate::answer::Answer;
@@ -39,19 +39,20 @@ pub fn geometry(trace: &Record) -> Answer
     })
 }
 
-/// The statistics of the samples of the trace of this record. Takes no memory.
+/// The statistics of the samples of the trace of this record, as far as they have values. Takes no
+/// memory.
 pub fn stat(trace: &Record) -> Answer
     ensures { (h : Heads) (fields : Pairs) (t : List ℕ) →
         facts_of trace.now ≡ record_of h fields t →
         result ≡ answers.Stat (statistics_of (samples_of h t)) }
 {
-    if trace.number == 0 {
+    let Some(amplitudes) = trace.amplitudes else {
         return Answer::Stat(None);
-    }
+    };
     Answer::Stat(Some(Statistics {
-        least: trace.least,
-        greatest: trace.greatest,
-        sum: trace.sum,
+        least: amplitudes.least,
+        greatest: amplitudes.greatest,
+        sum: amplitudes.sum,
         number: u64::from(trace.number),
     }))
 }
@@ -101,9 +102,9 @@ pub fn range(ranges: &Ranges, quantity: Quantity) -> Answer
     Answer::Range(ranges.range(quantity))
 }
 
-/// The statistics of all samples. Takes no memory.
+/// The statistics of all samples that have values. Takes no memory.
 pub fn totals(totals: &Totals) -> Answer
-    ensures { (s : State) → AreTotalsOf s totals.now → Ok result ≡ answer s queries.Totals }
+    ensures { (s : State) → AreTotalsOf s totals.now → result ≡ answers.Totals (totals_in s) }
 {
     let least = totals.least();
     let greatest = totals.greatest();

@@ -14,10 +14,14 @@ use field_map::TRACE_HEADER_BYTES;
 use sample_codes::Format;
 use trace_view::TraceView;
 
-/// The answer on sample k of the trace: E05 names the greater of k and the number of samples.
+/// The answer on sample k of the trace: E12 where samples have no values; E05 names the greater of k
+/// and the number of samples.
 pub fn trace_sample(trace: &TraceView<'_>, k: u32) -> Result<Answer, AskFault>
     ensures { result ≡ sample_reply (head_of trace.now) (bytes_of trace.now) k }
 {
+    if trace.head().format.values().is_none() {
+        return Err(AskFault::NoValues);
+    }
     match trace.sample(k) {
         Some(value) => Ok(Answer::Value(value)),
         None => {
@@ -37,7 +41,7 @@ pub fn sample_place(format: Format, trace: &TraceView<'_>, k: u32) -> u64
         + u64::from(format.width()) * u64::from(k)
 }
 
-/// The first refusal of values over the samples from sample k on: E04, E05.
+/// The first refusal of values over the samples from sample k on: E12, E04, E05.
 pub fn patch_refusal(
     format: Format,
     trace: &TraceView<'_>,
@@ -47,7 +51,10 @@ pub fn patch_refusal(
     requires { format ≡ (head_of trace.now).format }
     ensures { result ≡ refusal_of_patch (head_of trace.now) (bytes_of trace.now) k values.now }
 {
-    if !all_fit(format, values) {
+    let Some(numbers) = format.values() else {
+        return Some(Refusal::NoValues);
+    };
+    if !all_fit(numbers, values) {
         return Some(Refusal::DoesNotFit);
     }
     let count = trace.sample_count();

@@ -9,12 +9,13 @@ ghost use Rattle.bench_rules.specs.declared.refusal.Refusal.TheVariants.{OutOfMe
 use crate::refusal::Refusal;
 use field_map::TRACE_HEADER_BYTES;
 use frame_cut::Head;
-use sample_codes::Format;
+use num_order::Order;
+use sample_codes::IntegerFormat;
 use std::alloc::Global;
 use trace_view::TraceView;
 
 /// Whether the format has each of the values.
-pub fn all_fit(format: Format, values: &[i128]) -> bool
+pub fn all_fit(format: IntegerFormat, values: &[i128]) -> bool
     ensures { result ≡ list_all (sample_fits format) values.now }
 {
     for value in values {
@@ -26,19 +27,23 @@ pub fn all_fit(format: Format, values: &[i128]) -> bool
 }
 
 /// The bytes of the values as samples, one after another. Takes memory for all of them at once.
-pub fn samples_bytes(alloc: Global, head: &Head, values: &[i128]) -> Result<Vec<u8>, Refusal>
+pub fn samples_bytes(
+    alloc: Global,
+    order: Order,
+    format: IntegerFormat,
+    values: &[i128],
+) -> Result<Vec<u8>, Refusal>
     requires few { length values.now ≤ 2 ^ 40 }
-    requires fit { IsTrue (list_all (sample_fits head.now.format) values.now) }
-    ensures ok { IfOk result (λ bytes. bytes.items ≡ bytes_of_samples head.now.order head.now.format
-        values.now) }
+    requires fit { IsTrue (list_all (sample_fits format) values.now) }
+    ensures ok { IfOk result (λ bytes. bytes.items ≡ bytes_of_samples order format values.now) }
     ensures err { IfErr result (λ refusal. refusal ≡ no_memory) }
 {
-    let width = usize::from(head.format.width());
+    let width = usize::from(format.width());
     let mut bytes = Vec::with_capacity(alloc, width * values.len())?;
     let mut buffer = [0u8; 8];
     for value in values {
         let sample = &mut buffer[..width];
-        head.format.encode(head.order, *value, sample);
+        format.encode(order, *value, sample);
         bytes.extend_from_slice(sample)?;
     }
     Ok(bytes)

@@ -130,7 +130,7 @@ fn a_computation_changes_no_length(rt: HostRuntime) -> Result<(), Fail> {
     on_file(
         alloc,
         file.as_slice(),
-        Reading::AsWritten,
+        Reading::as_written(),
         (4334, 3),
         &mut |bench: &mut Bench| {
             let steps = Items::new(Vec::new(alloc));

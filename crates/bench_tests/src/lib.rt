@@ -9,6 +9,8 @@ mod header_tests;
 #[cfg(test)]
 mod number_tests;
 #[cfg(test)]
+mod opaque_tests;
+#[cfg(test)]
 mod report_tests;
 #[cfg(test)]
 mod slice_tests;

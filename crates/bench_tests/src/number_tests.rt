@@ -80,7 +80,7 @@ fn a_trace_has_another_number_of_samples(rt: HostRuntime) -> Result<(), Fail> {
     on_file(
         alloc,
         file.as_slice(),
-        Reading::AsWritten,
+        Reading::as_written(),
         (4334, 3),
         &mut |bench: &mut Bench| resize_one(&rt, alloc, bench),
     )

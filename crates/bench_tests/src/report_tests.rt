@@ -35,7 +35,7 @@ pub(crate) fn on_survey(
     on_file(
         alloc,
         file.as_slice(),
-        Reading::AsWritten,
+        Reading::as_written(),
         (1 << 20, 5),
         ask,
     )

@@ -77,7 +77,7 @@ fn on_small_with(
 fn on_small(alloc: Global, ask: &mut dyn FnMut(&mut Bench) -> Result<(), Fail>) -> Result<(), Fail>
     requires { IsAlwaysCallable ask.now }
 {
-    on_small_with(alloc, Reading::AsWritten, &[], ask)
+    on_small_with(alloc, Reading::as_written(), &[], ask)
 }
 
 fn place(extension: u16, byte: u16, size: u8) -> Place {
@@ -108,7 +108,7 @@ pub(crate) fn meets(
 }
 
 // The fault of a query, if it met one.
-fn fault(bench: &mut Bench, alloc: Global, query: Query) -> Option<AskFault> {
+pub(crate) fn fault(bench: &mut Bench, alloc: Global, query: Query) -> Option<AskFault> {
     bench.ask(alloc, &query).err()
 }
 
@@ -227,7 +227,7 @@ fn tells_counts(rt: HostRuntime) -> Result<(), Fail> {
     let bytes = [(3842, 0xff), (3843, 0xfe)];
     on_small_with(
         alloc,
-        Reading::AsWritten,
+        Reading::as_written(),
         &bytes,
         &mut |bench: &mut Bench| tell_counts(&rt, alloc, bench),
     )
@@ -253,7 +253,7 @@ fn tells_samples(rt: HostRuntime) -> Result<(), Fail> {
     let bytes = [(3842, 0xff), (3843, 0xfe)];
     on_small_with(
         alloc,
-        Reading::AsWritten,
+        Reading::as_written(),
         &bytes,
         &mut |bench: &mut Bench| tell_samples(&rt, alloc, bench),
     )
@@ -272,7 +272,7 @@ fn no_set_moves_the_end_of_a_trace(rt: HostRuntime) -> Result<(), Fail> {
     let alloc = rt.alloc();
     on_small_with(
         alloc,
-        Reading::AsWritten,
+        Reading::as_written(),
         &[(3503, 0)],
         &mut |bench: &mut Bench| set_around_the_length(&rt, alloc, bench),
     )
@@ -289,7 +289,11 @@ fn a_set_under_a_fixed_length_moves_no_end(rt: HostRuntime) -> Result<(), Fail> 
     let alloc = rt.alloc();
     on_small_with(
         alloc,
-        Reading::Fixed,
+        Reading {
+            fixed: true,
+            opaque: false,
+            order: None,
+        },
         &[(3503, 0)],
         &mut |bench: &mut Bench| set_the_length(&rt, alloc, bench),
     )

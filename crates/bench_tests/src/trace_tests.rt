@@ -24,7 +24,7 @@ fn on_numbered(
     on_file(
         alloc,
         file.as_slice(),
-        Reading::AsWritten,
+        Reading::as_written(),
         (1 << 20, 5),
         ask,
     )
@@ -152,7 +152,7 @@ fn puts_many_values_over_samples(rt: HostRuntime) -> Result<(), Fail> {
         on_file(
             alloc,
             file.as_slice(),
-            Reading::AsWritten,
+            Reading::as_written(),
             (1 << 20, 5),
             &mut |bench: &mut Bench| put_many(&rt, alloc, bench, *k, *count),
         )?;
@@ -252,7 +252,7 @@ fn on_extended(
     on_file(
         alloc,
         file.as_slice(),
-        Reading::AsWritten,
+        Reading::as_written(),
         (1 << 20, 9),
         ask,
     )
@@ -305,7 +305,13 @@ fn refused_within(alloc: Global, room: (u64, u32), edit: Edit) -> Result<Option<
         met = bench.apply(alloc, &edit).err();
         Ok(())
     };
-    on_file(alloc, file.as_slice(), Reading::AsWritten, room, &mut ask)?;
+    on_file(
+        alloc,
+        file.as_slice(),
+        Reading::as_written(),
+        room,
+        &mut ask,
+    )?;
     Ok(met)
 }
 

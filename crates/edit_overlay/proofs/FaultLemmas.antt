@@ -1,6 +1,8 @@
 -- Why a load is refused.
 use Rattle.std.proofs.Common.{◌≡◌, ◌≢◌, ℕ, Bool, true, false, cond, List, ◌++◌, [], length, take, drop, Option, Some, None, Result, Ok, Err, IfSome, IfErr, MatchResult, ◌⊎◌, inl, inr, refl, ap, sym, subst, ◌∙◌, append-nil}
+use Rattle.std.specs.Prelude.{nat_lt}
 use Rattle.std.specs.Io.KnownBytes.{Consumes, IsAtEnd}
+use Rattle.num_order.specs.declared.order.Order.{Order}
 use Rattle.sample_codes.specs.declared.format.Format.{Format}
 use Rattle.sample_codes.specs.declared.format_fault.FormatFault.{FormatFault}
 use Rattle.sample_codes.specs.declared.format_fault.FormatFault.TheVariants.{Float, Gain, Unknown}
@@ -9,9 +11,9 @@ use Rattle.frame_cut.specs.declared.file_head.Head.{Head}
 use Rattle.frame_cut.specs.declared.limits.Limits.{Limits}
 use Rattle.frame_cut.specs.declared.reading.Reading.{Reading}
 use Rattle.frame_cut.specs.declared.load_fault.LoadFault.{LoadFault}
-use Rattle.frame_cut.specs.declared.load_fault.LoadFault.TheVariants.{ReadFailed, OutOfMemory}
-use Rattle.frame_cut.specs.BinaryHeader.{text_count, format_code}
-use Rattle.frame_cut.specs.Heads.{blocks_for, with_blocks, with_format, head_of}
+use Rattle.frame_cut.specs.declared.load_fault.LoadFault.TheVariants.{ReadFailed, TooLarge, Short, PairSwapped, OtherOrder, Revision, OutOfMemory}
+use Rattle.frame_cut.specs.BinaryHeader.{order_of, told_order, is_other_order, is_pair_swapped, is_unknown_revision, major_of, minor_of, text_count, format_code}
+use Rattle.frame_cut.specs.Heads.{blocks_for, with_blocks, with_format, with_order, head_from, head_of}
 use Rattle.frame_cut.specs.Frames.{trace_length}
 use Rattle.frame_cut.specs.Cuts.{IsRefused, refusal_by_length, trace_refusal}
 use Rattle.edit_overlay.specs.Loading.{IsLoadFault, FailuresAfterRefusal}
@@ -44,18 +46,39 @@ both_false : (b : Bool) → cond b false false ≡ false
 both_false true = refl
 both_false false = refl
 
-blocks-told : (reading : Reading) (bin rest : List ℕ) (format : Format) (blocks : Option ℕ) → says (with_blocks reading bin rest format blocks) ≡ false
-blocks-told reading bin rest format None = refl
-blocks-told reading bin rest format (Some n) = simp (says-cond, both_false) refl
+blocks-told : (reading : Reading) (o : Order) (bin rest : List ℕ) (format : Format) (blocks : Option ℕ) → says (with_blocks reading o bin rest format blocks) ≡ false
+blocks-told reading o bin rest format None = refl
+blocks-told reading o bin rest format (Some n) = simp (says-cond, both_false) refl
 
-format-told : (reading : Reading) (bin rest : List ℕ) (f : Result Format FormatFault) → says (with_format reading bin rest f) ≡ false
-format-told reading bin rest (Err Float) = refl
-format-told reading bin rest (Err Gain) = refl
-format-told reading bin rest (Err Unknown) = refl
-format-told reading bin rest (Ok format) = blocks-told reading bin rest format (blocks_for (text_count bin) rest)
+format-told : (reading : Reading) (o : Order) (bin rest : List ℕ) (f : Result Format FormatFault) → says (with_format reading o bin rest f) ≡ false
+format-told reading o bin rest (Err Float) = refl
+format-told reading o bin rest (Err Gain) = refl
+format-told reading o bin rest (Err Unknown) = refl
+format-told reading o bin rest (Ok format) = blocks-told reading o bin rest format (blocks_for (text_count o bin) rest)
+
+-- a check that tells another fault
+behind : (b : Bool) (fault : LoadFault) (r : Result Head LoadFault) → is_read_failed fault ≡ false → says r ≡ false → says (cond b (Err fault) r) ≡ false
+behind true fault r e k = e
+behind false fault r e k = k
+
+order-told : (reading : Reading) (o : Order) (bin rest : List ℕ) → says (with_order reading o bin rest) ≡ false
+order-told reading o bin rest =
+    behind (is_unknown_revision o bin) (Revision (major_of o bin) (minor_of o bin)) (with_format reading o bin rest (format_of reading.opaque (format_code o bin))) refl
+    (format-told reading o bin rest (format_of reading.opaque (format_code o bin)))
+
+head_from-told : (reading : Reading) (bin rest : List ℕ) → says (head_from reading bin rest) ≡ false
+head_from-told reading bin rest =
+    let checked : Result Head LoadFault = with_order reading (order_of reading bin) bin rest in
+    let otherwise : Bool = is_other_order reading.order (told_order bin) in
+    behind (is_pair_swapped bin) PairSwapped (cond otherwise (Err OtherOrder) checked) refl
+    (behind otherwise OtherOrder checked refl (order-told reading (order_of reading bin) bin rest))
 
 head_of-told : (file : List ℕ) (reading : Reading) (limits : Limits) → says (head_of file reading limits) ≡ false
-head_of-told file reading limits = simp (says-cond, format-told reading (take 400 (drop 3200 file)) (drop 3600 file) (format_of (format_code (take 400 (drop 3200 file)))), both_false) refl
+head_of-told file reading limits =
+    let checked : Result Head LoadFault = head_from reading (take 400 (drop 3200 file)) (drop 3600 file) in
+    let short : Bool = nat_lt (length file) 3600 in
+    behind (nat_lt limits.bytes (length file)) TooLarge (cond short (Err (Short (length file))) checked) refl
+    (behind short (Short (length file)) checked refl (head_from-told reading (take 400 (drop 3200 file)) (drop 3600 file)))
 
 length-told : (limits : Limits) (p left : ℕ) (n : Option ℕ) → says_it (refusal_by_length limits p left n) ≡ false
 length-told limits p left None = refl

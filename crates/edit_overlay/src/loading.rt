@@ -48,7 +48,7 @@ impl<T: Copy> Loading<T> {
     ghost use Rattle.edit_overlay.specs.Looks.{EndsSeen};
 
     /// Reads a whole file and cuts it. Takes memory. Refused: L01 where a read failed in this call,
-    /// L02 to L15 for the first reason that the file gives, L16 where a growth was refused.
+    /// L02 to L15 or L17 for the first reason that the file gives, L16 where no memory was.
     pub fn load<R: Read>(
         alloc: Global,
         reader: &mut Source<R>,
@@ -71,7 +71,7 @@ impl<T: Copy> Loading<T> {
     }
 
     /// Cuts a file that is in memory. Takes memory for the list of traces, and for a slot for each.
-    /// Refused: L02 to L15 for the first reason that the file gives, L16 where a growth was
+    /// Refused: L02 to L15 or L17 for the first reason that the file gives, L16 where a growth was
     /// refused; the bytes are then dropped.
     pub fn from_bytes(
         alloc: Global,

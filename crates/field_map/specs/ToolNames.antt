@@ -53,7 +53,7 @@ unix_names =
     ∷ (codes "sfe", signed_at 129 2)
     ∷ (codes "slen", signed_at 131 2)
     ∷ (codes "styp", signed_at 133 2)
-    ∷ (codes "stat", signed_at 135 2)
+    ∷ (codes "stas", signed_at 135 2)
     ∷ (codes "stae", signed_at 137 2)
     ∷ (codes "tatyp", signed_at 139 2)
     ∷ (codes "afilf", signed_at 141 2)

@@ -6,8 +6,9 @@ ghost use Rattle.field_map.specs.StandardNames.{standard_place, binary_place};
 use crate::place::Place;
 use num_order::Kind;
 
-/// The place of a trace's field by a standard name, which is never bound anew: most of the trace
-/// header's fields of the standard, and two of its first extension. Takes no memory.
+/// The place of a trace's field by one of the product's own names, which is never bound anew: the
+/// fields of the trace header that repairs need most, and two of its first extension. Takes no
+/// memory.
 pub fn standard(name: &str) -> Option<Place>
     ensures { result ≡ standard_place name.now }
 {

@@ -198,7 +198,7 @@ pub(crate) static UNIX_NAMES: [(&str, Place); 71] = [
     ("sfe", signed!(129, 2)),
     ("slen", signed!(131, 2)),
     ("styp", signed!(133, 2)),
-    ("stat", signed!(135, 2)),
+    ("stas", signed!(135, 2)),
     ("stae", signed!(137, 2)),
     ("tatyp", signed!(139, 2)),
     ("afilf", signed!(141, 2)),

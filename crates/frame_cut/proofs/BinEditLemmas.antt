@@ -9,9 +9,8 @@ use Rattle.sample_codes.specs.Formats.{format_of}
 use Rattle.frame_cut.specs.declared.file_head.Head.{Head}
 use Rattle.frame_cut.specs.declared.limits.Limits.{Limits}
 use Rattle.frame_cut.specs.declared.reading.Reading.{Reading}
-use Rattle.frame_cut.specs.declared.reading.Reading.TheVariants.{AsWritten, Fixed}
 use Rattle.frame_cut.specs.declared.load_fault.LoadFault.{LoadFault}
-use Rattle.frame_cut.specs.declared.load_fault.LoadFault.TheVariants.{PairSwapped, Revision}
+use Rattle.frame_cut.specs.declared.load_fault.LoadFault.TheVariants.{PairSwapped, OtherOrder, Revision}
 use Rattle.std.proofs.lemmas.List.{length-append, length-take, drop-drop, drop_at, take-append-drop}
 use Rattle.frame_cut.specs.Splice.{splice}
 use Rattle.frame_cut.specs.Volume.{Volume, bytes_of}
@@ -19,8 +18,8 @@ use Rattle.frame_cut.specs.Cuts.{IsCut}
 use Rattle.frame_cut.proofs.BlockLemmas.{slice-append}
 use Rattle.frame_cut.proofs.HeadFrontLemmas.{head_of-bin}
 use Rattle.frame_cut.proofs.EditLemmas.{splice_inside}
-use Rattle.frame_cut.specs.BinaryHeader.{bin_bytes, order_of, is_pair_swapped, is_unknown_revision, major_of, minor_of, format_code, text_count, extensions_field, trailer_field, first_trace, samples_field, is_fixed}
-use Rattle.frame_cut.specs.Heads.{head_of, head_from, with_format, with_blocks, format_refusal, traces_at, blocks_for, head_in}
+use Rattle.frame_cut.specs.BinaryHeader.{bin_bytes, order_of, told_order, is_other_order, is_pair_swapped, is_unknown_revision, major_of, minor_of, format_code, text_count, extensions_field, trailer_field, first_trace, samples_field, is_fixed}
+use Rattle.frame_cut.specs.Heads.{head_of, head_from, with_order, with_format, with_blocks, format_refusal, traces_at, blocks_for, head_in}
 
 -- the fields that frame the file keep their bytes
 pub record SameFrame (bin other : List ℕ) : Type 0 where
@@ -38,42 +37,44 @@ pub record SameFrame (bin other : List ℕ) : Type 0 where
 
 -- ---- the fields have the same values
 
-order-same : (bin other : List ℕ) → SameFrame bin other → order_of other ≡ order_of bin
-order-same bin other s = rw s.order refl
+told-same : (bin other : List ℕ) → SameFrame bin other → told_order other ≡ told_order bin
+told-same bin other s = rw s.order refl
+
+order-same : (reading : Reading) (bin other : List ℕ) → SameFrame bin other → order_of reading other ≡ order_of reading bin
+order-same reading bin other s = rw s.order refl
 
 swapped-same : (bin other : List ℕ) → SameFrame bin other → is_pair_swapped other ≡ is_pair_swapped bin
 swapped-same bin other s = rw s.order refl
 
-major-same : (bin other : List ℕ) → SameFrame bin other → major_of other ≡ major_of bin
-major-same bin other s = rw (order-same bin other s, s.major) refl
+major-same : (o : Order) (bin other : List ℕ) → SameFrame bin other → major_of o other ≡ major_of o bin
+major-same o bin other s = rw s.major refl
 
-minor-same : (bin other : List ℕ) → SameFrame bin other → minor_of other ≡ minor_of bin
-minor-same bin other s = rw (order-same bin other s, s.minor) refl
+minor-same : (o : Order) (bin other : List ℕ) → SameFrame bin other → minor_of o other ≡ minor_of o bin
+minor-same o bin other s = rw s.minor refl
 
-format-same : (bin other : List ℕ) → SameFrame bin other → format_code other ≡ format_code bin
-format-same bin other s = rw (order-same bin other s, s.format) refl
+format-same : (o : Order) (bin other : List ℕ) → SameFrame bin other → format_code o other ≡ format_code o bin
+format-same o bin other s = rw s.format refl
 
-unknown-same : (bin other : List ℕ) → SameFrame bin other → is_unknown_revision other ≡ is_unknown_revision bin
-unknown-same bin other s = rw (major-same bin other s, minor-same bin other s) refl
+unknown-same : (o : Order) (bin other : List ℕ) → SameFrame bin other → is_unknown_revision o other ≡ is_unknown_revision o bin
+unknown-same o bin other s = rw (major-same o bin other s, minor-same o bin other s) refl
 
-samples-same : (bin other : List ℕ) → SameFrame bin other → samples_field other ≡ samples_field bin
-samples-same bin other s = rw (major-same bin other s, order-same bin other s, s.wide_samples, s.samples) refl
+samples-same : (o : Order) (bin other : List ℕ) → SameFrame bin other → samples_field o other ≡ samples_field o bin
+samples-same o bin other s = rw (major-same o bin other s, s.wide_samples, s.samples) refl
 
-fixed-same : (reading : Reading) (bin other : List ℕ) → SameFrame bin other → is_fixed reading other ≡ is_fixed reading bin
-fixed-same AsWritten bin other s = rw (major-same bin other s, order-same bin other s, s.flag) refl
-fixed-same Fixed bin other s = refl
+fixed-same : (reading : Reading) (o : Order) (bin other : List ℕ) → SameFrame bin other → is_fixed reading o other ≡ is_fixed reading o bin
+fixed-same reading o bin other s = rw (major-same o bin other s, s.flag) refl
 
-count-same : (bin other : List ℕ) → SameFrame bin other → text_count other ≡ text_count bin
-count-same bin other s = rw (major-same bin other s, order-same bin other s, s.text_count) refl
+count-same : (o : Order) (bin other : List ℕ) → SameFrame bin other → text_count o other ≡ text_count o bin
+count-same o bin other s = rw (major-same o bin other s, s.text_count) refl
 
-extensions-same : (bin other : List ℕ) → SameFrame bin other → extensions_field other ≡ extensions_field bin
-extensions-same bin other s = rw (major-same bin other s, order-same bin other s, s.extensions) refl
+extensions-same : (o : Order) (bin other : List ℕ) → SameFrame bin other → extensions_field o other ≡ extensions_field o bin
+extensions-same o bin other s = rw (major-same o bin other s, s.extensions) refl
 
-trailer-same : (bin other : List ℕ) → SameFrame bin other → trailer_field other ≡ trailer_field bin
-trailer-same bin other s = rw (major-same bin other s, order-same bin other s, s.trailer) refl
+trailer-same : (o : Order) (bin other : List ℕ) → SameFrame bin other → trailer_field o other ≡ trailer_field o bin
+trailer-same o bin other s = rw (major-same o bin other s, s.trailer) refl
 
-first-same : (bin other : List ℕ) → SameFrame bin other → first_trace other ≡ first_trace bin
-first-same bin other s = rw (major-same bin other s, order-same bin other s, s.first_trace) refl
+first-same : (o : Order) (bin other : List ℕ) → SameFrame bin other → first_trace o other ≡ first_trace o bin
+first-same o bin other s = rw (major-same o bin other s, s.first_trace) refl
 
 -- ---- the head
 
@@ -92,45 +93,60 @@ head_with order major minor format samples fixed extensions blocks trailer = rec
   traces_at = traces_at blocks;
 }
 
-head_in-is : (reading : Reading) (bin : List ℕ) (format : Format) (blocks : ℕ) → head_in reading bin format blocks ≡ head_with (order_of bin) (major_of bin) (minor_of bin) format (samples_field bin) (is_fixed reading bin) (extensions_field bin) blocks (trailer_field bin)
+head_in-is : (reading : Reading) (o : Order) (bin : List ℕ) (format : Format) (blocks : ℕ) → head_in reading o bin format blocks ≡ head_with o (major_of o bin) (minor_of o bin) format (samples_field o bin) (is_fixed reading o bin) (extensions_field o bin) blocks (trailer_field o bin)
 unfolding head_with
-head_in-is reading bin format blocks = refl
+head_in-is reading o bin format blocks = refl
 
-head_in-same : (reading : Reading) (bin other : List ℕ) (format : Format) (blocks : ℕ) → SameFrame bin other → head_in reading other format blocks ≡ head_in reading bin format blocks
-head_in-same reading bin other format blocks s =
-    head_in-is reading other format blocks
-    ∙ rw (fixed-same reading bin other s, extensions-same bin other s, trailer-same bin other s, samples-same bin other s, minor-same bin other s, major-same bin other s, order-same bin other s) refl
-    ∙ sym (head_in-is reading bin format blocks)
+head_in-same : (reading : Reading) (o : Order) (bin other : List ℕ) (format : Format) (blocks : ℕ) → SameFrame bin other → head_in reading o other format blocks ≡ head_in reading o bin format blocks
+head_in-same reading o bin other format blocks s =
+    head_in-is reading o other format blocks
+    ∙ rw (fixed-same reading o bin other s, extensions-same o bin other s, trailer-same o bin other s, samples-same o bin other s, minor-same o bin other s, major-same o bin other s) refl
+    ∙ sym (head_in-is reading o bin format blocks)
 
-with_blocks-same : (reading : Reading) (bin other rest : List ℕ) (format : Format) (o : Option ℕ) → SameFrame bin other → with_blocks reading other rest format o ≡ with_blocks reading bin rest format o
-with_blocks-same reading bin other rest format None s = rw (count-same bin other s) refl
-with_blocks-same reading bin other rest format (Some blocks) s =
-    rw (head_in-same reading bin other format blocks s, extensions-same bin other s, trailer-same bin other s, first-same bin other s) refl
+with_blocks-same : (reading : Reading) (o : Order) (bin other rest : List ℕ) (format : Format) (n : Option ℕ) → SameFrame bin other → with_blocks reading o other rest format n ≡ with_blocks reading o bin rest format n
+with_blocks-same reading o bin other rest format None s = rw (count-same o bin other s) refl
+with_blocks-same reading o bin other rest format (Some blocks) s =
+    rw (head_in-same reading o bin other format blocks s, extensions-same o bin other s, trailer-same o bin other s, first-same o bin other s) refl
 
-with_format-same : (reading : Reading) (bin other rest : List ℕ) (o : Result Format FormatFault) → SameFrame bin other → with_format reading other rest o ≡ with_format reading bin rest o
-with_format-same reading bin other rest (Err fault) s = ap (λ (code : ℕ). let r : Result Head LoadFault = Err (format_refusal fault code) in r) (format-same bin other s)
-with_format-same reading bin other rest (Ok format) s =
-    with_blocks-same reading bin other rest format (blocks_for (text_count other) rest) s
-    ∙ ap (λ (count : ℤ). with_blocks reading bin rest format (blocks_for count rest)) (count-same bin other s)
+with_format-same : (reading : Reading) (o : Order) (bin other rest : List ℕ) (f : Result Format FormatFault) → SameFrame bin other → with_format reading o other rest f ≡ with_format reading o bin rest f
+with_format-same reading o bin other rest (Err fault) s = ap (λ (code : ℕ). let r : Result Head LoadFault = Err (format_refusal fault code) in r) (format-same o bin other s)
+with_format-same reading o bin other rest (Ok format) s =
+    with_blocks-same reading o bin other rest format (blocks_for (text_count o other) rest) s
+    ∙ ap (λ (count : ℤ). with_blocks reading o bin rest format (blocks_for count rest)) (count-same o bin other s)
 
-by_revision : Bool → Bool → ℕ → ℕ → Result Head LoadFault → Result Head LoadFault
-by_revision swapped unknown major minor checked = if swapped then Err PairSwapped else if unknown then Err (Revision major minor) else checked
+by_revision : Bool → ℕ → ℕ → Result Head LoadFault → Result Head LoadFault
+by_revision unknown major minor checked = if unknown then Err (Revision major minor) else checked
 
-head_from-is : (reading : Reading) (bin rest : List ℕ) → head_from reading bin rest ≡ by_revision (is_pair_swapped bin) (is_unknown_revision bin) (major_of bin) (minor_of bin) (with_format reading bin rest (format_of (format_code bin)))
+with_order-is : (reading : Reading) (o : Order) (bin rest : List ℕ) → with_order reading o bin rest ≡ by_revision (is_unknown_revision o bin) (major_of o bin) (minor_of o bin) (with_format reading o bin rest (format_of reading.opaque (format_code o bin)))
 unfolding by_revision
+with_order-is reading o bin rest = refl
+
+with_order-same : (reading : Reading) (o : Order) (bin other rest : List ℕ) → SameFrame bin other → with_order reading o other rest ≡ with_order reading o bin rest
+with_order-same reading o bin other rest s =
+    let checked : with_format reading o other rest (format_of reading.opaque (format_code o other)) ≡ with_format reading o bin rest (format_of reading.opaque (format_code o bin)) =
+    with_format-same reading o bin other rest (format_of reading.opaque (format_code o other)) s ∙ ap (λ (code : ℕ). with_format reading o bin rest (format_of reading.opaque code)) (format-same o bin other s) in
+    with_order-is reading o other rest
+    ∙ ap (λ (b : Bool). by_revision b (major_of o other) (minor_of o other) (with_format reading o other rest (format_of reading.opaque (format_code o other)))) (unknown-same o bin other s)
+    ∙ ap (λ (n : ℕ). by_revision (is_unknown_revision o bin) n (minor_of o other) (with_format reading o other rest (format_of reading.opaque (format_code o other)))) (major-same o bin other s)
+    ∙ ap (λ (n : ℕ). by_revision (is_unknown_revision o bin) (major_of o bin) n (with_format reading o other rest (format_of reading.opaque (format_code o other)))) (minor-same o bin other s)
+    ∙ ap (by_revision (is_unknown_revision o bin) (major_of o bin) (minor_of o bin)) checked
+    ∙ sym (with_order-is reading o bin rest)
+
+by_order : Bool → Bool → Result Head LoadFault → Result Head LoadFault
+by_order swapped otherwise checked = if swapped then Err PairSwapped else if otherwise then Err OtherOrder else checked
+
+head_from-is : (reading : Reading) (bin rest : List ℕ) → head_from reading bin rest ≡ by_order (is_pair_swapped bin) (is_other_order reading.order (told_order bin)) (with_order reading (order_of reading bin) bin rest)
+unfolding by_order
 head_from-is reading bin rest = refl
 
 -- bytes of the binary header outside those fields do not count
 pub head_from-same : (reading : Reading) (bin other rest : List ℕ) → SameFrame bin other → head_from reading other rest ≡ head_from reading bin rest
 head_from-same reading bin other rest s =
-    let checked : with_format reading other rest (format_of (format_code other)) ≡ with_format reading bin rest (format_of (format_code bin)) =
-    with_format-same reading bin other rest (format_of (format_code other)) s ∙ ap (λ (code : ℕ). with_format reading bin rest (format_of code)) (format-same bin other s) in
     head_from-is reading other rest
-    ∙ ap (λ (b : Bool). by_revision b (is_unknown_revision other) (major_of other) (minor_of other) (with_format reading other rest (format_of (format_code other)))) (swapped-same bin other s)
-    ∙ ap (λ (b : Bool). by_revision (is_pair_swapped bin) b (major_of other) (minor_of other) (with_format reading other rest (format_of (format_code other)))) (unknown-same bin other s)
-    ∙ ap (λ (n : ℕ). by_revision (is_pair_swapped bin) (is_unknown_revision bin) n (minor_of other) (with_format reading other rest (format_of (format_code other)))) (major-same bin other s)
-    ∙ ap (λ (n : ℕ). by_revision (is_pair_swapped bin) (is_unknown_revision bin) (major_of bin) n (with_format reading other rest (format_of (format_code other)))) (minor-same bin other s)
-    ∙ ap (by_revision (is_pair_swapped bin) (is_unknown_revision bin) (major_of bin) (minor_of bin)) checked
+    ∙ ap (λ (b : Bool). by_order b (is_other_order reading.order (told_order other)) (with_order reading (order_of reading other) other rest)) (swapped-same bin other s)
+    ∙ ap (λ (told : Option Order). by_order (is_pair_swapped bin) (is_other_order reading.order told) (with_order reading (order_of reading other) other rest)) (told-same bin other s)
+    ∙ ap (λ (o : Order). by_order (is_pair_swapped bin) (is_other_order reading.order (told_order bin)) (with_order reading o other rest)) (order-same reading bin other s)
+    ∙ ap (by_order (is_pair_swapped bin) (is_other_order reading.order (told_order bin))) (with_order-same reading (order_of reading bin) bin other rest s)
     ∙ sym (head_from-is reading bin rest)
 
 -- ---- the file

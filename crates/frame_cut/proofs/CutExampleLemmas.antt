@@ -1,8 +1,8 @@
 -- Cuts of small files, worked by hand.
 use Rattle.std.proofs.Common.{◌≡◌, [], ◌∷◌, ◌++◌, length, refl, lit≤, lit<}
 use Rattle.std.proofs.lemmas.List.Elements.{All-nil, All-from_recursion}
-use Rattle.frame_cut.specs.declared.reading.Reading.TheVariants.{AsWritten}
 use Rattle.frame_cut.specs.declared.load_fault.LoadFault.TheVariants.{Truncated}
+use Rattle.frame_cut.specs.Readings.{as_written}
 use Rattle.frame_cut.specs.SmallFiles.{wide_limits, head_plain, head_counted, trace_plain_1, trace_plain_2, trace_plain_3, trace_counted, file_plain, file_counted, volume_plain, volume_counted}
 use Rattle.frame_cut.specs.Cuts.{IsTrace, AreBlocks, IsCut, IsStuck}
 
@@ -22,7 +22,7 @@ is_counted : IsTrace head_counted trace_counted
 is_counted = record { whole = lit≤ tt; exact = refl }
 
 -- the trace of `counted` has two of three header extensions, and its own number of samples
-pub cut-counted : IsCut file_counted AsWritten wide_limits volume_counted
+pub cut-counted : IsCut file_counted as_written wide_limits volume_counted
 cut-counted = record {
   joined = refl;
   parts = record {
@@ -37,7 +37,7 @@ cut-counted = record {
 }
 
 -- one more byte is a torn trace 4
-pub stuck-plain : IsStuck (file_plain ++ 7 ∷ []) AsWritten wide_limits volume_plain (7 ∷ []) (Truncated 4)
+pub stuck-plain : IsStuck (file_plain ++ 7 ∷ []) as_written wide_limits volume_plain (7 ∷ []) (Truncated 4)
 stuck-plain = record {
   joined = refl;
   parts = record {

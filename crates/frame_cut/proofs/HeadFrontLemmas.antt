@@ -5,6 +5,7 @@ use Rattle.std.proofs.lemmas.Bool.{ltb-false, le-ltb}
 use Rattle.std.proofs.lemmas.Bool.Decides.{nat_tests}
 use Rattle.std.proofs.lemmas.Int.{ints, to_z-of_z}
 use Rattle.std.proofs.lemmas.List.{length-append, length-drop, take_at, drop_at, take_rest}
+use Rattle.num_order.specs.declared.order.Order.{Order}
 use Rattle.sample_codes.specs.declared.format.Format.{Format}
 use Rattle.sample_codes.specs.declared.format_fault.FormatFault.{FormatFault}
 use Rattle.sample_codes.specs.Formats.{format_of}
@@ -12,9 +13,9 @@ use Rattle.frame_cut.specs.declared.file_head.Head.{Head}
 use Rattle.frame_cut.specs.declared.limits.Limits.{Limits}
 use Rattle.frame_cut.specs.declared.reading.Reading.{Reading}
 use Rattle.frame_cut.specs.declared.load_fault.LoadFault.{LoadFault}
-use Rattle.frame_cut.specs.declared.load_fault.LoadFault.TheVariants.{TooLarge, Short, PairSwapped, Revision, Extensions, Trailer, FirstTrace}
-use Rattle.frame_cut.specs.BinaryHeader.{major_of, minor_of, extensions_field, trailer_field, first_trace, text_count, format_code, is_pair_swapped, is_unknown_revision}
-use Rattle.frame_cut.specs.Heads.{head_of, head_from, with_format, with_blocks, blocks_for, head_in, is_trailer_refused, traces_at}
+use Rattle.frame_cut.specs.declared.load_fault.LoadFault.TheVariants.{TooLarge, Short, PairSwapped, OtherOrder, Revision, Extensions, Trailer, FirstTrace}
+use Rattle.frame_cut.specs.BinaryHeader.{order_of, told_order, is_other_order, major_of, minor_of, extensions_field, trailer_field, first_trace, text_count, format_code, is_pair_swapped, is_unknown_revision}
+use Rattle.frame_cut.specs.Heads.{head_of, head_from, with_order, with_format, with_blocks, blocks_for, head_in, is_trailer_refused, traces_at}
 use Rattle.frame_cut.proofs.BlockLemmas.{blocks_for-front, blocks_for-le}
 
 -- what is known of a file that has a head
@@ -49,82 +50,94 @@ extensions-le (negsuc n) e = absurd cc
 -- ---- the checks behind the number of blocks
 
 -- whether the place of the first trace is another one
-abbrev pub is_elsewhere : List ℕ → ℕ → Bool
-is_elsewhere bin n = not (first_trace bin == 0) && not (first_trace bin == traces_at n)
+abbrev pub is_elsewhere : Order → List ℕ → ℕ → Bool
+is_elsewhere o bin n = not (first_trace o bin == 0) && not (first_trace o bin == traces_at n)
 
 -- what was passed
-record Checked (reading : Reading) (bin rest : List ℕ) (format : Format) (n : ℕ) (h : Head) : Type 0 where
-  is : head_in reading bin format n ≡ h
-  extensions : (int_lt (extensions_field bin) (pos 0) || int_lt (pos 255) (extensions_field bin)) ≡ false
-  trailer : is_trailer_refused (trailer_field bin) (length rest - 3200 * n) ≡ false
-  first : is_elsewhere bin n ≡ false
+record Checked (reading : Reading) (o : Order) (bin rest : List ℕ) (format : Format) (n : ℕ) (h : Head) : Type 0 where
+  is : head_in reading o bin format n ≡ h
+  extensions : (int_lt (extensions_field o bin) (pos 0) || int_lt (pos 255) (extensions_field o bin)) ≡ false
+  trailer : is_trailer_refused (trailer_field o bin) (length rest - 3200 * n) ≡ false
+  first : is_elsewhere o bin n ≡ false
 
 ok_is : (a b : Head) → let ra : Result Head LoadFault = Ok a in let rb : Result Head LoadFault = Ok b in ra ≡ rb → a ≡ b
 ok_is a b e = cc
 
-checked : (reading : Reading) (bin rest : List ℕ) (format : Format) (n : ℕ) (h : Head) → with_blocks reading bin rest format (Some n) ≡ Ok h → Checked reading bin rest format n h
-checked reading bin rest format n h e =
-    let a = past (int_lt (extensions_field bin) (pos 0) || int_lt (pos 255) (extensions_field bin)) (Extensions (extensions_field bin)) _ h e in
-    let b = past (is_trailer_refused (trailer_field bin) (length rest - 3200 * n)) (Trailer (trailer_field bin)) _ h a.1 in
-    let c = past (is_elsewhere bin n) (FirstTrace (first_trace bin)) _ h b.1 in
-    record { is = ok_is (head_in reading bin format n) h c.1; extensions = a.0; trailer = b.0; first = c.0 }
+checked : (reading : Reading) (o : Order) (bin rest : List ℕ) (format : Format) (n : ℕ) (h : Head) → with_blocks reading o bin rest format (Some n) ≡ Ok h → Checked reading o bin rest format n h
+checked reading o bin rest format n h e =
+    let a = past (int_lt (extensions_field o bin) (pos 0) || int_lt (pos 255) (extensions_field o bin)) (Extensions (extensions_field o bin)) _ h e in
+    let b = past (is_trailer_refused (trailer_field o bin) (length rest - 3200 * n)) (Trailer (trailer_field o bin)) _ h a.1 in
+    let c = past (is_elsewhere o bin n) (FirstTrace (first_trace o bin)) _ h b.1 in
+    record { is = ok_is (head_in reading o bin format n) h c.1; extensions = a.0; trailer = b.0; first = c.0 }
 
-recheck : (reading : Reading) (bin rest other : List ℕ) (format : Format) (n : ℕ) (h : Head) → Checked reading bin rest format n h → 3200 * h.trailer ≤ length other - 3200 * n → with_blocks reading bin other format (Some n) ≡ Ok h
-recheck reading bin rest other format n h k le =
-    let trailer : nat_abs (trailer_field bin) ≡ h.trailer = ap (λ (x : Head). x.trailer) k.is in
-    let fits : is_trailer_refused (trailer_field bin) (length other - 3200 * n) ≡ false = trailer-fits (trailer_field bin) (length rest - 3200 * n) (length other - 3200 * n) k.trailer (omega arith) in
-    passed _ (Extensions (extensions_field bin)) _ h k.extensions
-    (passed _ (Trailer (trailer_field bin)) _ h fits
-    (passed _ (FirstTrace (first_trace bin)) _ h k.first
+recheck : (reading : Reading) (o : Order) (bin rest other : List ℕ) (format : Format) (n : ℕ) (h : Head) → Checked reading o bin rest format n h → 3200 * h.trailer ≤ length other - 3200 * n → with_blocks reading o bin other format (Some n) ≡ Ok h
+recheck reading o bin rest other format n h k le =
+    let trailer : nat_abs (trailer_field o bin) ≡ h.trailer = ap (λ (x : Head). x.trailer) k.is in
+    let fits : is_trailer_refused (trailer_field o bin) (length other - 3200 * n) ≡ false = trailer-fits (trailer_field o bin) (length rest - 3200 * n) (length other - 3200 * n) k.trailer (omega arith) in
+    passed _ (Extensions (extensions_field o bin)) _ h k.extensions
+    (passed _ (Trailer (trailer_field o bin)) _ h fits
+    (passed _ (FirstTrace (first_trace o bin)) _ h k.first
     (ap (λ (x : Head). let r : Result Head LoadFault = Ok x in r) k.is)))
 
 -- ---- with the number of blocks
 
-found : (reading : Reading) (bin rest : List ℕ) (format : Format) (o : Option ℕ) (h : Head) → with_blocks reading bin rest format o ≡ Ok h → (n : ℕ) × (o ≡ Some n) × Checked reading bin rest format n h
-found reading bin rest format None h e = absurd cc
-found reading bin rest format (Some n) h e = (n, refl, checked reading bin rest format n h e)
+found : (reading : Reading) (o : Order) (bin rest : List ℕ) (format : Format) (m : Option ℕ) (h : Head) → with_blocks reading o bin rest format m ≡ Ok h → (n : ℕ) × (m ≡ Some n) × Checked reading o bin rest format n h
+found reading o bin rest format None h e = absurd cc
+found reading o bin rest format (Some n) h e = (n, refl, checked reading o bin rest format n h e)
 
 -- the number of blocks is that of the head
-blocks_are : (reading : Reading) (bin rest : List ℕ) (format : Format) (n : ℕ) (h : Head) → Checked reading bin rest format n h → n ≡ h.blocks
-blocks_are reading bin rest format n h k = ap (λ (x : Head). x.blocks) k.is
+blocks_are : (reading : Reading) (o : Order) (bin rest : List ℕ) (format : Format) (n : ℕ) (h : Head) → Checked reading o bin rest format n h → n ≡ h.blocks
+blocks_are reading o bin rest format n h k = ap (λ (x : Head). x.blocks) k.is
 
-with_format-front : (reading : Reading) (bin front xs ys : List ℕ) (o : Result Format FormatFault) (h : Head) → length front ≡ 3200 * h.blocks → 3200 * h.trailer ≤ length ys
-    → with_format reading bin (front ++ xs) o ≡ Ok h → with_format reading bin (front ++ ys) o ≡ Ok h
-with_format-front reading bin front xs ys (Err fault) h len le e = absurd cc
-with_format-front reading bin front xs ys (Ok format) h len le e =
-    let at = found reading bin (front ++ xs) format (blocks_for (text_count bin) (front ++ xs)) h e in
-    let n : at.0 ≡ h.blocks = blocks_are reading bin (front ++ xs) format at.0 h at.2 in
-    let again : blocks_for (text_count bin) (front ++ ys) ≡ Some at.0 = blocks_for-front (text_count bin) at.0 front xs ys (omega (arith, n)) at.1 in
-    rw again (recheck reading bin (front ++ xs) (front ++ ys) format at.0 h at.2 (omega (arith, length-append front ys, n, len)))
+with_format-front : (reading : Reading) (o : Order) (bin front xs ys : List ℕ) (f : Result Format FormatFault) (h : Head) → length front ≡ 3200 * h.blocks → 3200 * h.trailer ≤ length ys
+    → with_format reading o bin (front ++ xs) f ≡ Ok h → with_format reading o bin (front ++ ys) f ≡ Ok h
+with_format-front reading o bin front xs ys (Err fault) h len le e = absurd cc
+with_format-front reading o bin front xs ys (Ok format) h len le e =
+    let at = found reading o bin (front ++ xs) format (blocks_for (text_count o bin) (front ++ xs)) h e in
+    let n : at.0 ≡ h.blocks = blocks_are reading o bin (front ++ xs) format at.0 h at.2 in
+    let again : blocks_for (text_count o bin) (front ++ ys) ≡ Some at.0 = blocks_for-front (text_count o bin) at.0 front xs ys (omega (arith, n)) at.1 in
+    rw again (recheck reading o bin (front ++ xs) (front ++ ys) format at.0 h at.2 (omega (arith, length-append front ys, n, len)))
 
-with_format-has : (reading : Reading) (bin rest : List ℕ) (o : Result Format FormatFault) (h : Head) → with_format reading bin rest o ≡ Ok h
+with_format-has : (reading : Reading) (o : Order) (bin rest : List ℕ) (f : Result Format FormatFault) (h : Head) → with_format reading o bin rest f ≡ Ok h
     → (3200 * h.blocks + 3200 * h.trailer ≤ length rest) × (h.traces_at ≡ 3600 + 3200 * h.blocks) × (h.extensions ≤ 255)
-with_format-has reading bin rest (Err fault) h e = absurd cc
-with_format-has reading bin rest (Ok format) h e =
-    let at = found reading bin rest format (blocks_for (text_count bin) rest) h e in
-    let k : Checked reading bin rest format at.0 h = at.2 in
-    let n : at.0 ≡ h.blocks = blocks_are reading bin rest format at.0 h k in
-    let inside : 3200 * at.0 ≤ length rest = blocks_for-le (text_count bin) at.0 rest at.1 in
-    let records : 3200 * nat_abs (trailer_field bin) ≤ length rest - 3200 * at.0 = trailer-le (trailer_field bin) (length rest - 3200 * at.0) k.trailer in
-    let trailer : nat_abs (trailer_field bin) ≡ h.trailer = ap (λ (x : Head). x.trailer) k.is in
+with_format-has reading o bin rest (Err fault) h e = absurd cc
+with_format-has reading o bin rest (Ok format) h e =
+    let at = found reading o bin rest format (blocks_for (text_count o bin) rest) h e in
+    let k : Checked reading o bin rest format at.0 h = at.2 in
+    let n : at.0 ≡ h.blocks = blocks_are reading o bin rest format at.0 h k in
+    let inside : 3200 * at.0 ≤ length rest = blocks_for-le (text_count o bin) at.0 rest at.1 in
+    let records : 3200 * nat_abs (trailer_field o bin) ≤ length rest - 3200 * at.0 = trailer-le (trailer_field o bin) (length rest - 3200 * at.0) k.trailer in
+    let trailer : nat_abs (trailer_field o bin) ≡ h.trailer = ap (λ (x : Head). x.trailer) k.is in
     let traces : traces_at at.0 ≡ h.traces_at = ap (λ (x : Head). x.traces_at) k.is in
-    let few : nat_abs (extensions_field bin) ≤ 255 = extensions-le (extensions_field bin) k.extensions in
-    let extensions : nat_abs (extensions_field bin) ≡ h.extensions = ap (λ (x : Head). x.extensions) k.is in
+    let few : nat_abs (extensions_field o bin) ≤ 255 = extensions-le (extensions_field o bin) k.extensions in
+    let extensions : nat_abs (extensions_field o bin) ≡ h.extensions = ap (λ (x : Head). x.extensions) k.is in
     (omega arith, omega arith, omega arith)
+
+with_order-front : (reading : Reading) (o : Order) (bin front xs ys : List ℕ) (h : Head) → length front ≡ 3200 * h.blocks → 3200 * h.trailer ≤ length ys → with_order reading o bin (front ++ xs) ≡ Ok h → with_order reading o bin (front ++ ys) ≡ Ok h
+with_order-front reading o bin front xs ys h len le e =
+    let a = past (is_unknown_revision o bin) (Revision (major_of o bin) (minor_of o bin)) _ h e in
+    passed _ (Revision (major_of o bin) (minor_of o bin)) _ h a.0
+    (with_format-front reading o bin front xs ys (format_of reading.opaque (format_code o bin)) h len le a.1)
+
+with_order-has : (reading : Reading) (o : Order) (bin rest : List ℕ) (h : Head) → with_order reading o bin rest ≡ Ok h
+    → (3200 * h.blocks + 3200 * h.trailer ≤ length rest) × (h.traces_at ≡ 3600 + 3200 * h.blocks) × (h.extensions ≤ 255)
+with_order-has reading o bin rest h e =
+    let a = past (is_unknown_revision o bin) (Revision (major_of o bin) (minor_of o bin)) _ h e in
+    with_format-has reading o bin rest (format_of reading.opaque (format_code o bin)) h a.1
 
 head_from-front : (reading : Reading) (bin front xs ys : List ℕ) (h : Head) → length front ≡ 3200 * h.blocks → 3200 * h.trailer ≤ length ys → head_from reading bin (front ++ xs) ≡ Ok h → head_from reading bin (front ++ ys) ≡ Ok h
 head_from-front reading bin front xs ys h len le e =
     let a = past (is_pair_swapped bin) PairSwapped _ h e in
-    let b = past (is_unknown_revision bin) (Revision (major_of bin) (minor_of bin)) _ h a.1 in
-    passed _ PairSwapped _ h a.0 (passed _ (Revision (major_of bin) (minor_of bin)) _ h b.0
-    (with_format-front reading bin front xs ys (format_of (format_code bin)) h len le b.1))
+    let b = past (is_other_order reading.order (told_order bin)) OtherOrder _ h a.1 in
+    passed _ PairSwapped _ h a.0 (passed _ OtherOrder _ h b.0
+    (with_order-front reading (order_of reading bin) bin front xs ys h len le b.1))
 
 head_from-has : (reading : Reading) (bin rest : List ℕ) (h : Head) → head_from reading bin rest ≡ Ok h
     → (3200 * h.blocks + 3200 * h.trailer ≤ length rest) × (h.traces_at ≡ 3600 + 3200 * h.blocks) × (h.extensions ≤ 255)
 head_from-has reading bin rest h e =
     let a = past (is_pair_swapped bin) PairSwapped _ h e in
-    let b = past (is_unknown_revision bin) (Revision (major_of bin) (minor_of bin)) _ h a.1 in
-    with_format-has reading bin rest (format_of (format_code bin)) h b.1
+    let b = past (is_other_order reading.order (told_order bin)) OtherOrder _ h a.1 in
+    with_order-has reading (order_of reading bin) bin rest h b.1
 
 -- ---- the whole file
 
@@ -182,12 +195,12 @@ head_of-bin reading l h text bin other rest a b c same e =
 -- ---- what the code tests
 
 -- all three tests passed
-pub checks_passed : (reading : Reading) (bin rest : List ℕ) (format : Format) (n : ℕ) → (int_lt (extensions_field bin) (pos 0) || int_lt (pos 255) (extensions_field bin)) ≡ false → is_trailer_refused (trailer_field bin) (length rest - 3200 * n) ≡ false
-    → is_elsewhere bin n ≡ false → with_blocks reading bin rest format (Some n) ≡ Ok (head_in reading bin format n)
-checks_passed reading bin rest format n e t f =
-    passed _ (Extensions (extensions_field bin)) _ (head_in reading bin format n) e
-    (passed _ (Trailer (trailer_field bin)) _ (head_in reading bin format n) t
-    (passed _ (FirstTrace (first_trace bin)) _ (head_in reading bin format n) f refl))
+pub checks_passed : (reading : Reading) (o : Order) (bin rest : List ℕ) (format : Format) (n : ℕ) → (int_lt (extensions_field o bin) (pos 0) || int_lt (pos 255) (extensions_field o bin)) ≡ false → is_trailer_refused (trailer_field o bin) (length rest - 3200 * n) ≡ false
+    → is_elsewhere o bin n ≡ false → with_blocks reading o bin rest format (Some n) ≡ Ok (head_in reading o bin format n)
+checks_passed reading o bin rest format n e t f =
+    passed _ (Extensions (extensions_field o bin)) _ (head_in reading o bin format n) e
+    (passed _ (Trailer (trailer_field o bin)) _ (head_in reading o bin format n) t
+    (passed _ (FirstTrace (first_trace o bin)) _ (head_in reading o bin format n) f refl))
 
 -- a test of a number of four bytes, made on a field's value
 pub test_of : (test : ℤ → Bool) (x field : ℤ) (b : Bool) → FitsSigned w32 x → x ≡ field → b ≡ test (to_z w32 (of_z w32 x)) → b ≡ false → test field ≡ false

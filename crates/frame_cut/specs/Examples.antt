@@ -1,35 +1,69 @@
 -- Heads, refusals and trace lengths of small files, worked by hand.
 use Rattle.std.specs.Prelude.{◌≡◌, [], ◌∷◌, take, false, Some, Ok, Err, negsuc, refl}
-use Rattle.frame_cut.specs.declared.reading.Reading.TheVariants.{AsWritten, Fixed}
-use Rattle.frame_cut.specs.declared.load_fault.LoadFault.TheVariants.{TextCount, Truncated}
-use Rattle.frame_cut.specs.SmallFiles.{with_bytes_at, put_bin, zeros, wide_limits, head_counted, head_little, bin_plain, trace_plain_3, trace_counted, file_counted, file_trailed, file_little, file_texted}
+use Rattle.num_order.specs.declared.order.Order.TheVariants.{Big, Little}
+use Rattle.sample_codes.specs.declared.format.Format.TheVariants.{Opaque}
+use Rattle.sample_codes.specs.declared.opaque_format.OpaqueFormat.TheVariants.{IeeeFloat64}
+use Rattle.frame_cut.specs.declared.load_fault.LoadFault.TheVariants.{PairSwapped, OtherOrder, FloatFormat, UnknownFormat, TextCount, Truncated}
+use Rattle.frame_cut.specs.Readings.{as_written, as_fixed, as_opaque}
+use Rattle.frame_cut.specs.SmallFiles.{with_bytes_at, put_bin, zeros, wide_limits, head_counted, head_little, head_untold, bin_plain, bin_little, trace_plain_3, trace_counted, trace_untold, file_counted, file_trailed, file_little, file_texted, file_untold}
 pub use Rattle.frame_cut.specs.SmallFiles.{head_plain, head_extended}
 use Rattle.frame_cut.specs.Heads.{head_of, head_from}
 use Rattle.frame_cut.specs.Frames.{trace_length, sample_count}
 use Rattle.frame_cut.specs.Cuts.{trace_refusal}
 
-pub head-texted : head_of file_texted AsWritten wide_limits ≡ Ok (record head_plain { blocks = 2; traces_at = 10000 })
+pub head-texted : head_of file_texted as_written wide_limits ≡ Ok (record head_plain { blocks = 2; traces_at = 10000 })
 head-texted = refl
 
-pub head-counted : head_of file_counted AsWritten wide_limits ≡ Ok head_counted
+pub head-counted : head_of file_counted as_written wide_limits ≡ Ok head_counted
 head-counted = refl
 
-pub head-trailed : head_of file_trailed AsWritten wide_limits ≡ Ok (record head_extended { trailer = 2 })
+pub head-trailed : head_of file_trailed as_written wide_limits ≡ Ok (record head_extended { trailer = 2 })
 head-trailed = refl
 
-pub head-little : head_of file_little AsWritten wide_limits ≡ Ok head_little
+pub head-little : head_of file_little as_written wide_limits ≡ Ok head_little
 head-little = refl
 
 -- no whole block ends the text
-pub text_count-minus_1 : head_from AsWritten (put_bin 3505 (0xFF ∷ 0xFF ∷ []) bin_plain) (zeros 732) ≡ Err (TextCount (negsuc 0))
+pub text_count-minus_1 : head_from as_written (put_bin 3505 (0xFF ∷ 0xFF ∷ []) bin_plain) (zeros 732) ≡ Err (TextCount (negsuc 0))
 text_count-minus_1 = refl
 
--- in revision 0 the fixed length flag does not count either, but the reading Fixed does
-pub revision_0 : head_from AsWritten (put_bin 3501 (0 ∷ []) bin_plain) [] ≡ Ok (record head_plain { major = 0; fixed = false })
+-- in revision 0 the fixed length flag does not count either, but the reading does
+pub revision_0 : head_from as_written (put_bin 3501 (0 ∷ []) bin_plain) [] ≡ Ok (record head_plain { major = 0; fixed = false })
 revision_0 = refl
 
-pub revision_0-fixed : head_from Fixed (put_bin 3501 (0 ∷ []) bin_plain) [] ≡ Ok (record head_plain { major = 0 })
+pub revision_0-fixed : head_from as_fixed (put_bin 3501 (0 ∷ []) bin_plain) [] ≡ Ok (record head_plain { major = 0 })
 revision_0-fixed = refl
+
+-- without its option a float format is refused; with it a sample is 8 bytes
+pub float : head_from as_written (put_bin 3225 (0 ∷ 6 ∷ []) bin_plain) [] ≡ Err (FloatFormat 6)
+float = refl
+
+pub float-opaque : head_from as_opaque (put_bin 3225 (0 ∷ 6 ∷ []) bin_plain) [] ≡ Ok (record head_plain { format = Opaque IeeeFloat64 })
+float-opaque = refl
+
+-- an integer format keeps its values
+pub integer-opaque : head_of file_little as_opaque wide_limits ≡ Ok head_little
+integer-opaque = refl
+
+-- without a byte-order constant the file is big-endian, where no order is asked for
+pub untold : head_of file_untold as_opaque wide_limits ≡ Err (UnknownFormat 256)
+untold = refl
+
+pub untold-little : head_of file_untold (record as_opaque { order = Some Little }) wide_limits ≡ Ok head_untold
+untold-little = refl
+
+pub length-untold : trace_length head_untold trace_untold ≡ Some 244
+length-untold = refl
+
+-- where the constant tells the order, the other one may not be asked for
+pub told : head_of file_little (record as_written { order = Some Little }) wide_limits ≡ Ok head_little
+told = refl
+
+pub told-otherwise : head_of file_little (record as_written { order = Some Big }) wide_limits ≡ Err OtherOrder
+told-otherwise = refl
+
+pub told-swapped : head_from (record as_written { order = Some Little }) (put_bin 3297 (2 ∷ 1 ∷ 4 ∷ 3 ∷ []) bin_little) [] ≡ Err PairSwapped
+told-swapped = refl
 
 -- of three header extensions it has two, and its own number of samples
 pub length-counted : trace_length head_counted trace_counted ≡ Some 724

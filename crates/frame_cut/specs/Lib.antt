@@ -1,3 +1,4 @@
+pub mod Readings
 pub mod Splice
 pub mod BinaryHeader
 pub mod Heads

@@ -7,7 +7,9 @@ use Rattle.frame_cut.specs.Splice.{splice}
 use Rattle.frame_cut.specs.Volume.{Volume}
 use Rattle.frame_cut.specs.declared.file_head.Head.{Head}
 use Rattle.num_order.specs.declared.order.Order.TheVariants.{Big, Little}
-use Rattle.sample_codes.specs.declared.format.Format.TheVariants.{Signed16, Signed24}
+use Rattle.sample_codes.specs.declared.format.Format.TheVariants.{Integer, Opaque}
+use Rattle.sample_codes.specs.declared.integer_format.IntegerFormat.TheVariants.{Signed16, Signed24}
+use Rattle.sample_codes.specs.declared.opaque_format.OpaqueFormat.TheVariants.{IbmFloat32}
 
 -- the bytes over those from this byte on, counted from 1
 abbrev pub with_bytes_at : ℕ → List ℕ → List ℕ → List ℕ
@@ -130,19 +132,34 @@ blocks_texted = (codes "((Acme: Note))" ++ replicate 3186 0x20) ∷ (codes "((Se
 abbrev pub file_texted : List ℕ
 file_texted = text_plain ++ bin_texted ++ concat blocks_texted ++ trace_plain_1 ++ trace_plain_2 ++ trace_plain_3
 
+-- ---- untold: revision 0, little-endian without a byte-order constant, IBM floats, one a trace, one trace
+
+abbrev pub bin_untold : List ℕ
+bin_untold = put_bin 3221 (1 ∷ 0 ∷ []) (put_bin 3225 (1 ∷ 0 ∷ []) (zeros 400))
+
+-- its sample is 118.625, with the bytes of the number turned round
+abbrev pub trace_untold : List ℕ
+trace_untold = zeros 240 ++ 0x00 ∷ 0xA0 ∷ 0x76 ∷ 0x42 ∷ []
+
+abbrev pub file_untold : List ℕ
+file_untold = replicate 3200 0x40 ++ bin_untold ++ trace_untold
+
 -- ---- what their headers say, and their parts
 
 abbrev pub head_plain : Head
-head_plain = record { order = Big; major = 1; minor = 0; format = Signed16; samples = 2; fixed = true; extensions = 0; blocks = 0; trailer = 0; traces_at = 3600 }
+head_plain = record { order = Big; major = 1; minor = 0; format = Integer Signed16; samples = 2; fixed = true; extensions = 0; blocks = 0; trailer = 0; traces_at = 3600 }
 
 abbrev pub head_extended : Head
-head_extended = record { order = Big; major = 2; minor = 0; format = Signed16; samples = 2; fixed = true; extensions = 1; blocks = 0; trailer = 0; traces_at = 3600 }
+head_extended = record { order = Big; major = 2; minor = 0; format = Integer Signed16; samples = 2; fixed = true; extensions = 1; blocks = 0; trailer = 0; traces_at = 3600 }
 
 abbrev pub head_counted : Head
 head_counted = record head_extended { fixed = false; extensions = 3 }
 
 abbrev pub head_little : Head
-head_little = record head_plain { order = Little; major = 2; format = Signed24 }
+head_little = record head_plain { order = Little; major = 2; format = Integer Signed24 }
+
+abbrev pub head_untold : Head
+head_untold = record { order = Little; major = 0; minor = 0; format = Opaque IbmFloat32; samples = 1; fixed = false; extensions = 0; blocks = 0; trailer = 0; traces_at = 3600 }
 
 abbrev pub volume_plain : Volume
 volume_plain = record { head = head_plain; text = text_plain; bin = bin_plain; blocks = []; traces = trace_plain_1 ∷ trace_plain_2 ∷ trace_plain_3 ∷ []; trailer = [] }

@@ -1,9 +1,9 @@
 // The fields of the binary file header (bytes 3201 to 3600 of a file) that say how the file is cut.
-// Each takes the header's bytes and their order, and those that count in some revisions alone its
-// major revision. A place is written as the field's first byte, counted from 1 over the file, less
-// the header's.
+// Each takes the order of bytes and the header's bytes, and those that count in some revisions alone
+// its major revision. A place is written as the field's first byte, counted from 1 over the file,
+// less the header's.
 ghost use Rattle.std.specs.Prelude.{◌≡◌, length};
-ghost use Rattle.frame_cut.specs.BinaryHeader.{order_of as order_in, is_pair_swapped as is_pair_swapped_in, major_of, minor_of, is_unknown_revision as is_unknown_in, format_code as format_code_in, text_count as text_count_in, extensions_field, trailer_field, first_trace as first_trace_in, wide_samples, samples_field, is_flag_set, is_fixed as is_fixed_in};
+ghost use Rattle.frame_cut.specs.BinaryHeader.{order_of as order_in, told_order as told_order_in, is_other_order as is_other_order_in, is_pair_swapped as is_pair_swapped_in, major_of, minor_of, format_code as format_code_in, text_count as text_count_in, extensions_field, trailer_field, first_trace as first_trace_in, samples_field, is_fixed as is_fixed_in};
 
 use crate::reading::Reading;
 use crate::sizes::BINARY_HEADER_BYTES;
@@ -16,48 +16,66 @@ pub(crate) fn is_pair_swapped(bin: &[u8]) -> bool
     bin[3297 - 3201..3301 - 3201] == [2, 1, 4, 3]
 }
 
-/// The order of bytes in a file with this binary header: little-endian where the byte-order
-/// constant, bytes 3297-3300 of the file, says so. Takes no memory.
-pub fn order_of(bin: &[u8]) -> Order
+// The order of bytes that the byte-order constant tells, where it tells one.
+pub(crate) fn told_order(bin: &[u8]) -> Option<Order>
     requires { length bin.now ≡ BINARY_HEADER_BYTES }
-    ensures { result ≡ order_in bin.now }
+    ensures { result ≡ told_order_in bin.now }
 {
     if bin[3297 - 3201..3301 - 3201] == [4, 3, 2, 1] {
-        Order::Little
+        Some(Order::Little)
+    } else if bin[3297 - 3201..3301 - 3201] == [1, 2, 3, 4] {
+        Some(Order::Big)
     } else {
-        Order::Big
+        None
+    }
+}
+
+// Whether one order is asked for, and the other is told.
+pub(crate) fn is_other_order(asked: Option<Order>, told: Option<Order>) -> bool
+    ensures { result ≡ is_other_order_in asked told }
+{
+    match (asked, told) {
+        (Some(Order::Big), Some(Order::Little)) | (Some(Order::Little), Some(Order::Big)) => true,
+        _ => false,
+    }
+}
+
+// The order of bytes under the reading: big-endian where none is told and none is asked for.
+pub(crate) fn order_of(reading: Reading, bin: &[u8]) -> Order
+    requires { length bin.now ≡ BINARY_HEADER_BYTES }
+    ensures { result ≡ order_in reading bin.now }
+{
+    match told_order(bin) {
+        Some(order) => order,
+        None => reading.order.unwrap_or(Order::Big),
     }
 }
 
 pub(crate) fn major(order: Order, bin: &[u8]) -> u8
-    requires whole { length bin.now ≡ BINARY_HEADER_BYTES }
-    requires order { order ≡ order_in bin.now }
-    ensures { result ≡ major_of bin.now }
+    requires { length bin.now ≡ BINARY_HEADER_BYTES }
+    ensures { result ≡ major_of order bin.now }
 {
     u8_at(order, bin, 3501 - 3201)
 }
 
 pub(crate) fn minor(order: Order, bin: &[u8]) -> u8
-    requires whole { length bin.now ≡ BINARY_HEADER_BYTES }
-    requires order { order ≡ order_in bin.now }
-    ensures { result ≡ minor_of bin.now }
+    requires { length bin.now ≡ BINARY_HEADER_BYTES }
+    ensures { result ≡ minor_of order bin.now }
 {
     u8_at(order, bin, 3502 - 3201)
 }
 
 pub(crate) fn format_code(order: Order, bin: &[u8]) -> u16
-    requires whole { length bin.now ≡ BINARY_HEADER_BYTES }
-    requires order { order ≡ order_in bin.now }
-    ensures { result ≡ format_code_in bin.now }
+    requires { length bin.now ≡ BINARY_HEADER_BYTES }
+    ensures { result ≡ format_code_in order bin.now }
 {
     u16_at(order, bin, 3225 - 3201)
 }
 
 pub(crate) fn text_count(order: Order, major: u8, bin: &[u8]) -> i16
     requires whole { length bin.now ≡ BINARY_HEADER_BYTES }
-    requires order { order ≡ order_in bin.now }
-    requires major { major ≡ major_of bin.now }
-    ensures { result ≡ text_count_in bin.now }
+    requires major { major ≡ major_of order bin.now }
+    ensures { result ≡ text_count_in order bin.now }
 {
     if major == 0 {
         0
@@ -68,9 +86,8 @@ pub(crate) fn text_count(order: Order, major: u8, bin: &[u8]) -> i16
 
 pub(crate) fn extensions(order: Order, major: u8, bin: &[u8]) -> i32
     requires whole { length bin.now ≡ BINARY_HEADER_BYTES }
-    requires order { order ≡ order_in bin.now }
-    requires major { major ≡ major_of bin.now }
-    ensures { result ≡ extensions_field bin.now }
+    requires major { major ≡ major_of order bin.now }
+    ensures { result ≡ extensions_field order bin.now }
 {
     if major == 2 {
         i32_at(order, bin, 3507 - 3201)
@@ -81,9 +98,8 @@ pub(crate) fn extensions(order: Order, major: u8, bin: &[u8]) -> i32
 
 pub(crate) fn trailer(order: Order, major: u8, bin: &[u8]) -> i32
     requires whole { length bin.now ≡ BINARY_HEADER_BYTES }
-    requires order { order ≡ order_in bin.now }
-    requires major { major ≡ major_of bin.now }
-    ensures { result ≡ trailer_field bin.now }
+    requires major { major ≡ major_of order bin.now }
+    ensures { result ≡ trailer_field order bin.now }
 {
     if major == 2 {
         i32_at(order, bin, 3529 - 3201)
@@ -94,9 +110,8 @@ pub(crate) fn trailer(order: Order, major: u8, bin: &[u8]) -> i32
 
 pub(crate) fn first_trace(order: Order, major: u8, bin: &[u8]) -> u64
     requires whole { length bin.now ≡ BINARY_HEADER_BYTES }
-    requires order { order ≡ order_in bin.now }
-    requires major { major ≡ major_of bin.now }
-    ensures { result ≡ first_trace_in bin.now }
+    requires major { major ≡ major_of order bin.now }
+    ensures { result ≡ first_trace_in order bin.now }
 {
     if major == 2 {
         u64_at(order, bin, 3521 - 3201)
@@ -107,9 +122,8 @@ pub(crate) fn first_trace(order: Order, major: u8, bin: &[u8]) -> u64
 
 pub(crate) fn samples(order: Order, major: u8, bin: &[u8]) -> u32
     requires whole { length bin.now ≡ BINARY_HEADER_BYTES }
-    requires order { order ≡ order_in bin.now }
-    requires major { major ≡ major_of bin.now }
-    ensures { result ≡ samples_field bin.now }
+    requires major { major ≡ major_of order bin.now }
+    ensures { result ≡ samples_field order bin.now }
 {
     let wide = if major == 2 {
         u32_at(order, bin, 3269 - 3201)
@@ -125,12 +139,8 @@ pub(crate) fn samples(order: Order, major: u8, bin: &[u8]) -> u32
 
 pub(crate) fn is_fixed(reading: Reading, order: Order, major: u8, bin: &[u8]) -> bool
     requires whole { length bin.now ≡ BINARY_HEADER_BYTES }
-    requires order { order ≡ order_in bin.now }
-    requires major { major ≡ major_of bin.now }
-    ensures { result ≡ is_fixed_in reading bin.now }
+    requires major { major ≡ major_of order bin.now }
+    ensures { result ≡ is_fixed_in reading order bin.now }
 {
-    match reading {
-        Reading::AsWritten => major != 0 && u16_at(order, bin, 3503 - 3201) != 0,
-        Reading::Fixed => true,
-    }
+    reading.fixed || (major != 0 && u16_at(order, bin, 3503 - 3201) != 0)
 }

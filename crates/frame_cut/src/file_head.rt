@@ -4,7 +4,8 @@ use sample_codes::Format;
 /// What the headers of a file say of its frame. Byte places count from 1 over the file.
 #[derive(Clone, Copy, Debug, PartialEq, Eq)]
 pub struct Head {
-    /// The order of the bytes of each number: little-endian where bytes 3297-3300 are 04 03 02 01.
+    /// The order of the bytes of each number: as bytes 3297-3300 tell it, else as the reading asks
+    /// for it, else big-endian.
     pub order: Order,
     /// The major revision (byte 3501).
     pub major: u8,

@@ -1,11 +1,11 @@
 // The head of a file: the checks of the file headers, in their order.
 ghost use Rattle.std.specs.Prelude.{◌≡◌, ◌≤◌, ◌*◌, ◌^◌, ◌||◌, ◌&&◌, ◌==◌, not, false, pos, int_lt, length};
-ghost use Rattle.frame_cut.specs.BinaryHeader.{order_of as order_in, major_of, is_unknown_revision as is_unknown_in, text_count as text_count_in, extensions_field, trailer_field};
-ghost use Rattle.frame_cut.specs.Heads.{head_of, head_from as head_from_parts, head_in as head_in_parts, with_blocks as with_blocks_found, blocks_for as blocks_in, format_refusal as format_refusal_of, is_trailer_refused as is_trailer_refused_at};
+ghost use Rattle.frame_cut.specs.BinaryHeader.{text_count as text_count_in, extensions_field, trailer_field};
+ghost use Rattle.frame_cut.specs.Heads.{head_of, head_from as head_from_parts, with_order as with_order_found, head_in as head_in_parts, with_blocks as with_blocks_found, blocks_for as blocks_in, format_refusal as format_refusal_of, is_trailer_refused as is_trailer_refused_at};
 
 use crate::binary_header::{
-    extensions, first_trace, format_code, is_fixed, is_pair_swapped, major, minor, order_of,
-    samples, text_count, trailer,
+    extensions, first_trace, format_code, is_fixed, is_other_order, is_pair_swapped, major, minor,
+    order_of, samples, text_count, told_order, trailer,
 };
 use crate::file_head::Head;
 use crate::limits::Limits;
@@ -17,13 +17,13 @@ use num_order::Order;
 use sample_codes::{Format, FormatFault};
 use text_block::TEXT_BLOCK_BYTES;
 
-/// The head of the file with these bytes, or the first of L02 to L12 that holds, in this order:
-/// more bytes than the limit (L02), no whole file headers (L03), swapped pairs of bytes (L04), an
-/// unknown revision (L05), a sample format that is no integer (L06, L07, L08), extended textual
-/// headers that are not there (L09), a number of trace header extensions outside 0 to 255 (L10),
-/// data trailer records that are not there (L11), another place of the first trace (L12). Reads the
-/// binary file header (bytes 3201 to 3600) alone and, where the extended textual headers end by
-/// themselves, those. Takes no memory.
+/// The head of the file with these bytes, or the first of these that holds, in this order: more
+/// bytes than the limit (L02), no whole file headers (L03), swapped pairs of bytes (L04), another
+/// order of bytes than the one asked for (L17), an unknown revision (L05), a sample format that is
+/// not read (L06, L07, L08), extended textual headers that are not there (L09), a number of trace
+/// header extensions outside 0 to 255 (L10), data trailer records that are not there (L11), another
+/// place of the first trace (L12). Reads the binary file header (bytes 3201 to 3600) alone and,
+/// where the extended textual headers end by themselves, those. Takes no memory.
 pub fn head(bytes: &[u8], reading: Reading, limits: Limits) -> Result<Head, LoadFault>
     ensures { result ≡ head_of bytes.now reading limits }
 {
@@ -50,14 +50,25 @@ fn head_from(reading: Reading, bin: &[u8], rest: &[u8]) -> Result<Head, LoadFaul
     if is_pair_swapped(bin) {
         return Err(LoadFault::PairSwapped);
     }
-    let order = order_of(bin);
+    if is_other_order(reading.order, told_order(bin)) {
+        return Err(LoadFault::OtherOrder);
+    }
+    with_order(reading, order_of(reading, bin), bin, rest)
+}
+
+// The checks behind the order of bytes.
+fn with_order(reading: Reading, order: Order, bin: &[u8], rest: &[u8]) -> Result<Head, LoadFault>
+    requires whole { length bin.now ≡ BINARY_HEADER_BYTES }
+    requires small { length rest.now ≤ 2 ^ 40 }
+    ensures { result ≡ with_order_found reading order bin.now rest.now }
+{
     let major = major(order, bin);
     let minor = minor(order, bin);
     if major > 2 || (major == 2 && minor != 0) {
         return Err(LoadFault::Revision(major, minor));
     }
     let code = format_code(order, bin);
-    match Format::of(code) {
+    match Format::of(code, reading.opaque) {
         Ok(format) => with_format(reading, order, bin, rest, format),
         Err(fault) => Err(format_refusal(fault, code)),
     }
@@ -83,10 +94,9 @@ fn with_format(
     format: Format,
 ) -> Result<Head, LoadFault>
     requires whole { length bin.now ≡ BINARY_HEADER_BYTES }
-    requires order { order ≡ order_in bin.now }
     requires small { length rest.now ≤ 2 ^ 40 }
-    ensures { result ≡ with_blocks_found reading bin.now rest.now format
-        (blocks_in (text_count_in bin.now) rest.now) }
+    ensures { result ≡ with_blocks_found reading order bin.now rest.now format
+        (blocks_in (text_count_in order bin.now) rest.now) }
 {
     let count = text_count(order, major(order, bin), bin);
     match blocks_for(count, rest) {
@@ -105,9 +115,8 @@ fn with_blocks(
     blocks: u32,
 ) -> Result<Head, LoadFault>
     requires whole { length bin.now ≡ BINARY_HEADER_BYTES }
-    requires order { order ≡ order_in bin.now }
     requires inside { TEXT_BLOCK_BYTES * blocks ≤ length rest.now }
-    ensures { result ≡ with_blocks_found reading bin.now rest.now format (Some blocks) }
+    ensures { result ≡ with_blocks_found reading order bin.now rest.now format (Some blocks) }
 {
     let major = major(order, bin);
     let extensions = extensions(order, major, bin);
@@ -163,11 +172,10 @@ fn head_in(
     records: i32,
 ) -> Head
     requires whole { length bin.now ≡ BINARY_HEADER_BYTES }
-    requires order { order ≡ order_in bin.now }
-    requires extensions { extensions ≡ extensions_field bin.now }
+    requires extensions { extensions ≡ extensions_field order bin.now }
     requires few { (int_lt extensions (pos 0) || int_lt (pos 255) extensions) ≡ false }
-    requires records { records ≡ trailer_field bin.now }
-    ensures { result ≡ head_in_parts reading bin.now format blocks }
+    requires records { records ≡ trailer_field order bin.now }
+    ensures { result ≡ head_in_parts reading order bin.now format blocks }
 {
     let major = major(order, bin);
     Head {

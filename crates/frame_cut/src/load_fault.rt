@@ -15,13 +15,16 @@ pub enum LoadFault {
     /// The byte-order constant (bytes 3297-3300) says that the bytes of each pair are swapped.
     #[error("L04 pair swapped")]
     PairSwapped,
+    /// The byte-order constant tells the order of bytes that is not the one asked for.
+    #[error("L17 other byte order")]
+    OtherOrder,
     /// A revision above 2.0: its major and minor number (bytes 3501 and 3502).
     #[error("L05 revision {0}.{1}")]
     Revision(u8, u8),
-    /// A sample format of floats: code 1, 5 or 6 (bytes 3225-3226).
+    /// A sample format of floats: code 1, 5 or 6 (bytes 3225-3226), where opaque ones are not read.
     #[error("L06 float format {0}")]
     FloatFormat(u16),
-    /// The sample format of fixed point with gain, code 4.
+    /// The sample format of fixed point with gain, code 4, where opaque ones are not read.
     #[error("L07 gain format")]
     GainFormat,
     /// A sample format code that the standard leaves unassigned.

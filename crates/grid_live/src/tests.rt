@@ -4,7 +4,7 @@ use key_counts::Ratio;
 use std::alloc::Global;
 use std::test::Fail;
 use record_table::{OutOfMemory, Running};
-use trace_record::Record;
+use trace_record::{Amplitudes, Record};
 
 // The grid of the second trace, once the first came and went.
 fn second_alone(alloc: Global, first: &Record, second: &Record) -> Result<Grid, OutOfMemory> {
@@ -16,12 +16,14 @@ fn second_alone(alloc: Global, first: &Record, second: &Record) -> Result<Grid, 
 }
 
 // A trace at this inline and crossline.
-#[tactic(auto, unfolding(trace_record::specs::Parts::IsPackable))]
+#[tactic(auto, unfolding(trace_record::specs::Packable::IsPackable, trace_record::specs::Packable::HaveRange))]
 fn trace_at(inline: i32, crossline: i32) -> Record {
     Record {
-        least: -2,
-        greatest: 1,
-        sum: -1,
+        amplitudes: Some(Amplitudes {
+            least: -2,
+            greatest: 1,
+            sum: -1,
+        }),
         x: Ratio::whole(1000),
         y: Ratio::whole(500),
         inline,

@@ -1,5 +1,6 @@
 -- Records with the same numbers are counted alike.
-use Rattle.std.specs.Prelude.{◌≡◌, ℕ, ℤ, Bool, true, false, not, ◌&&◌, ◌==◌, nat_lt, refl}
+use Rattle.std.specs.Prelude.{◌≡◌, ℕ, ℤ, pos, Bool, true, false, not, ◌&&◌, ◌==◌, Option, Some, None, refl}
+use Rattle.std.specs.Option.{option_map_or}
 use Rattle.std.proofs.Common.{arith, ap, ap₂}
 use Rattle.std.specs.Ordering.{is_eq, int_eq, int_cmp}
 use Rattle.std.specs.Cmp.{Equal-is}
@@ -9,12 +10,13 @@ use Rattle.trace_record.specs.Facts.{facts_of}
 use Rattle.trace_record.specs.Keys.{cell, inline, crossline, offset, coordinate_x, coordinate_y, least, greatest, triple}
 use Rattle.key_counts.specs.RatioOrder.{ratio_cmp, exact_ratios}
 use Rattle.key_counts.specs.declared.ratio.Ratio.{Ratio}
+use Rattle.trace_record.specs.declared.amplitudes.Amplitudes.{Amplitudes}
 use Rattle.trace_record.specs.declared.record.Record.{Record}
 use Rattle.fault_live.specs.FaultKeys.{keys_of_faults}
 use Rattle.grid_live.specs.GridKeys.{keys_of_grid}
 use Rattle.range_stats.specs.RangeKeys.{keys_of_ranges}
 use Rattle.range_stats.specs.TotalKeys.{keys_of_totals}
-use Rattle.live_reports.specs.Alike.{same_cell, same_triple, same_places, same_samples}
+use Rattle.live_reports.specs.Alike.{same_cell, same_triple, same_places, same_amplitudes, same_samples}
 use Rattle.live_reports.proofs.ChangeLemmas.{AreAlike}
 
 both : (a b : Bool) → (a && b) ≡ true → (a ≡ true) × (b ≡ true)
@@ -28,6 +30,18 @@ holds false e = cc
 
 equal : (a b : ℤ) → int_eq a b ≡ true → a ≡ b
 equal a b e = exact_signed a b ((Equal-is (int_cmp a b)).0 e)
+
+equal_amplitudes : (o p : Option Amplitudes) → same_amplitudes o p ≡ true → o ≡ p
+equal_amplitudes None None e = refl
+equal_amplitudes None (Some b) e = absurd cc
+equal_amplitudes (Some a) None e = absurd cc
+equal_amplitudes (Some a) (Some b) e =
+    let s = both _ _ e in
+    let q = both _ _ s.0 in
+    let sum = equal a.sum b.sum q.0 in
+    let least = equal a.least b.least q.1 in
+    let greatest = equal a.greatest b.greatest s.1 in
+    λ i. Some (record { least = least i; greatest = greatest i; sum = sum i })
 
 equal_ratio : (x y : Ratio) → is_eq (ratio_cmp x y) ≡ true → x ≡ y
 equal_ratio x y e = exact_ratios x y ((Equal-is (ratio_cmp x y)).0 e)
@@ -110,15 +124,11 @@ module _ (a b : Record) where
   pub in_totals : not (same_samples a b) ≡ false → AreAlike keys_of_totals (facts_of a) (facts_of b)
   in_totals h =
       let s = both _ _ (holds _ h) in
-      let q = both _ _ s.0 in
-      let p = both _ _ q.0 in
-      let n = same_number a.number b.number p.0 in
-      let v = equal a.sum b.sum p.1 in
-      let l = equal a.least b.least q.1 in
-      let g = equal a.greatest b.greatest s.1 in
+      let n = same_number a.number b.number s.0 in
+      let e = equal_amplitudes a.amplitudes b.amplitudes s.1 in
       record {
-        number = n;
-        sum = v;
+        number = ap₂ (λ (m : ℕ) (o : Option Amplitudes). option_map_or (λ x. m) o 0) n e;
+        sum = ap (λ (o : Option Amplitudes). option_map_or (λ x. x.sum) o (pos 0)) e;
         keys = elim [
           | cell j c ↦ refl
           | inline j ↦ refl
@@ -126,8 +136,8 @@ module _ (a b : Record) where
           | offset o ↦ refl
           | coordinate_x r ↦ refl
           | coordinate_y r ↦ refl
-          | least w ↦ ap₂ (λ (m : ℕ) u. nat_lt 0 m && int_eq u w) n l
-          | greatest w ↦ ap₂ (λ (m : ℕ) u. nat_lt 0 m && int_eq u w) n g
+          | least w ↦ ap (λ (o : Option Amplitudes). option_map_or (λ x. int_eq x.least w) o false) e
+          | greatest w ↦ ap (λ (o : Option Amplitudes). option_map_or (λ x. int_eq x.greatest w) o false) e
           | triple j c o ↦ refl
         ];
       }

@@ -1,9 +1,11 @@
 -- The tallies of few records are small, with one record more too.
-use Rattle.std.specs.Prelude.{◌≡◌, ◌≤◌, ◌^◌, List, [], ◌∷◌, ◌++◌, length, map, sum_by, refl}
+use Rattle.std.specs.Prelude.{◌≤◌, ◌^◌, ℕ, List, [], ◌∷◌, ◌++◌, length, map, sum_by, Option, Some, None}
+use Rattle.std.specs.Option.{option_map_or}
 use Rattle.std.proofs.Common.{arith}
 use Rattle.std.proofs.lemmas.List.{length-map}
 use Rattle.std.proofs.lemmas.List.Sums.{sum_by-cons}
-use Rattle.trace_record.specs.Facts.{Facts, facts_of}
+use Rattle.trace_record.specs.Facts.{facts_of, number_of_values}
+use Rattle.trace_record.specs.declared.amplitudes.Amplitudes.{Amplitudes}
 use Rattle.trace_record.specs.declared.record.Record.{Record}
 use Rattle.trace_record.proofs.LoadLemmas.{IsSmall-uncounted}
 use Rattle.trace_record.proofs.TallyLemmas.{IsSmall-tally_of, IsSmall-Same, Same-sym, Same-trans, plus-Same, tally-cons, sum-low, sum-high}
@@ -14,12 +16,17 @@ use Rattle.range_stats.specs.TotalKeys.{keys_of_totals}
 use Rattle.live_reports.specs.Reports.{AreFew}
 use Rattle.live_reports.specs.Tallies.{Tallies, tallies_of_records, plus_each, SameEach, AreSmall}
 
--- the samples of records are those of their facts
-samples-map : (rs : List Record) → sum_by (λ (f : Facts). f.number) (map facts_of rs) ≡ sum_by (λ (r : Record). r.number) rs
-samples-map [] = refl
+valued-le : (o : Option Amplitudes) (n : ℕ) → option_map_or (λ a. n) o 0 ≤ n
+valued-le None n = omega arith
+valued-le (Some a) n = omega arith
+
+-- the samples that have values are no more than all
+samples-map : (rs : List Record) → sum_by number_of_values (map facts_of rs) ≤ sum_by (λ (r : Record). r.number) rs
+samples-map [] = omega arith
 samples-map (r ∷ rs) =
-    let one = sum_by-cons (λ (f : Facts). f.number) (facts_of r) (map facts_of rs) in
+    let one = sum_by-cons number_of_values (facts_of r) (map facts_of rs) in
     let other = sum_by-cons (λ (q : Record). q.number) r rs in
+    let own = valued-le r.amplitudes r.number in
     let rest = samples-map rs in
     omega arith
 

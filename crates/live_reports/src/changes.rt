@@ -2,9 +2,9 @@
 ghost use Rattle.std.specs.Prelude.{◌≡◌, true, not, ◌&&◌, ◌==◌};
 ghost use Rattle.std.specs.Ordering.{is_eq, int_eq};
 ghost use Rattle.key_counts.specs.RatioOrder.{ratio_cmp};
-ghost use Rattle.live_reports.specs.Alike.{same_cell, same_places, same_samples, same_triple};
+ghost use Rattle.live_reports.specs.Alike.{same_amplitudes, same_cell, same_places, same_samples, same_triple};
 
-use trace_record::Record;
+use trace_record::{Amplitudes, Record};
 
 // For each running value, whether it counts anew.
 #[derive(Clone, Copy)]
@@ -62,8 +62,15 @@ fn has_same_place(old: &Record, new: &Record) -> bool
 fn has_same_samples(old: &Record, new: &Record) -> bool
     ensures { result ≡ same_samples old.now new.now }
 {
-    old.number == new.number
-        && old.sum == new.sum
-        && old.least == new.least
-        && old.greatest == new.greatest
+    old.number == new.number && has_same_amplitudes(&old.amplitudes, &new.amplitudes)
+}
+
+fn has_same_amplitudes(old: &Option<Amplitudes>, new: &Option<Amplitudes>) -> bool
+    ensures { result ≡ same_amplitudes old.now new.now }
+{
+    match (old, new) {
+        (Some(a), Some(b)) => a.sum == b.sum && a.least == b.least && a.greatest == b.greatest,
+        (None, None) => true,
+        _ => false,
+    }
 }

@@ -62,8 +62,8 @@ impl Model for LiveVolume {
 impl LiveVolume {
     /// Reads a whole file and cuts it; the field map is then the six geometry names at their
     /// standard places. Looks at each trace once at most, for its record. Takes memory. Refused:
-    /// L01 where a read failed in this call, L02 to L15 for the first reason that the file gives,
-    /// L16 where a growth was refused.
+    /// L01 where a read failed in this call, L02 to L15 or L17 for the first reason that the file
+    /// gives, L16 where a growth was refused.
     pub fn load<R: Read>(
         alloc: Global,
         reader: &mut Source<R>,
@@ -474,7 +474,7 @@ impl LiveVolume {
         }
     }
 
-    // Sample k of trace p: E01, E05.
+    // Sample k of trace p: E01, E12, E05.
     fn sample(&mut self, p: u32, k: u32) -> Result<Answer, AskFault>
         ensures reply { result ≡ answer self.old.state (queries.Sample p k) }
         ensures state { self.new.state ≡ self.old.state }

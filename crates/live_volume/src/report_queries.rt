@@ -1,6 +1,7 @@
 // Queries about the survey and its samples. All but slices are answered from the reports that run
 // with the volume: no trace is looked at.
-ghost use Rattle.std.specs.Prelude.{◌≡◌, option_map};
+ghost use Rattle.std.specs.Prelude.{◌≡◌, is_none, option_map};
+ghost use Rattle.sample_codes.specs.Formats.{values};
 ghost use Rattle.frame_cut.specs.Traces.{count_of, trace_of};
 ghost use Rattle.trace_record.specs.Facts.{facts_of};
 ghost use Rattle.trace_record.specs.OfTrace.{record_of};
@@ -66,6 +67,13 @@ impl LiveVolume {
         Some(self.overlay.payload(p).record())
     }
 
+    /// Whether the samples of the file have no values. Takes no memory and looks at no trace.
+    pub fn has_opaque_samples(&self) -> bool
+        ensures { result ≡ is_none (values self.now.state.volume.head.format) }
+    {
+        self.overlay.head().format.values().is_none()
+    }
+
     // Where trace p lies: E01.
     pub(crate) fn geometry_answer(&self, p: u32) -> Result<Answer, AskFault>
         ensures { result ≡ answer self.now.state (queries.Geometry p) }
@@ -76,14 +84,17 @@ impl LiveVolume {
         }
     }
 
-    // The statistics of the samples of trace p: E01.
+    // The statistics of the samples of trace p: E01, E12.
     pub(crate) fn stat_answer(&self, p: u32) -> Result<Answer, AskFault>
         ensures { result ≡ answer self.now.state (queries.Stat p) }
     {
-        match self.record(p) {
-            Some(trace) => Ok(stat(&trace)),
-            None => Err(AskFault::NoTrace(p, self.count())),
+        let Some(trace) = self.record(p) else {
+            return Err(AskFault::NoTrace(p, self.count()));
+        };
+        if self.has_opaque_samples() {
+            return Err(AskFault::NoValues);
         }
+        Ok(stat(&trace))
     }
 
     // How many traces have this inline and crossline.
@@ -128,20 +139,26 @@ impl LiveVolume {
         Ok(range(self.ranges(), quantity))
     }
 
-    // The statistics of all samples.
+    // The statistics of all samples: E12.
     pub(crate) fn totals_answer(&self) -> Result<Answer, AskFault>
         ensures { result ≡ answer self.now.state queries.Totals }
     {
+        if self.has_opaque_samples() {
+            return Err(AskFault::NoValues);
+        }
         Ok(totals(self.totals()))
     }
 
-    // Sample k of each trace that has it, in one look at each trace.
+    // Sample k of each trace that has it, in one look at each trace: E12.
     pub(crate) fn slice_answer(&mut self, alloc: Global, k: u32) -> Result<Answer, AskFault>
         ensures reply { IsReply self.old.state (queries.Slice k) result }
         ensures state { self.new.state ≡ self.old.state }
         ensures looks { RisesAtMost self.old.looks self.new.looks
             (count_of self.old.state.volume) }
     {
+        if self.has_opaque_samples() {
+            return Err(AskFault::NoValues);
+        }
         let rows = rows(alloc, &mut self.overlay, k)?;
         Ok(Answer::Slice(Items::new(rows)))
     }

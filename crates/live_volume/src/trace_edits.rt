@@ -97,7 +97,7 @@ impl LiveVolume {
     }
 
     // Where sample k of trace p begins in it, or the first refusal of values from there on: E01,
-    // E04, E05.
+    // E12, E04, E05.
     fn patch_place(&mut self, p: u32, k: u32, values: &[i128]) -> Result<u64, Refusal>
         ensures ok { OnOk result (first_refusal self.old.state (edits.Patch p k values.now)
             ≡ None) }
@@ -117,7 +117,8 @@ impl LiveVolume {
         }
     }
 
-    // The values over samples k, k + 1 and so on of trace p, or the first refusal: E01, E04, E05.
+    // The values over samples k, k + 1 and so on of trace p, or the first refusal: E01, E12, E04,
+    // E05.
     pub(crate) fn patch(
         &mut self,
         alloc: Global,
@@ -150,7 +151,10 @@ impl LiveVolume {
         ensures looks { RisesAtMost self.old.looks self.new.looks 1 }
     {
         let head = self.overlay.head();
-        let bytes = samples_bytes(alloc, &head, values)?;
+        let Some(format) = head.format.values() else {
+            unreachable!()
+        };
+        let bytes = samples_bytes(alloc, head.order, format, values)?;
         self.put(alloc, p, at, bytes.as_slice(), None)
     }
 

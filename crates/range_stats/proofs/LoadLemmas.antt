@@ -1,10 +1,10 @@
 -- The tally of records whose numbers were counted all at once.
-use Rattle.std.specs.Prelude.{◌≡◌, ℤ, ◌+◌, Bool, true, false, ◌&&◌, cond, List, [], ◌∷◌, length, map, filter, count_by, nat_lt, refl}
-use Rattle.std.proofs.Common.{arith, sym, ap, ◌∙◌}
+use Rattle.std.specs.Prelude.{◌≡◌, ℤ, false, List, length, map, filter_map, count_by, refl}
+use Rattle.std.specs.Option.{option_map_or}
+use Rattle.std.proofs.Common.{sym, ap, ◌∙◌}
 use Rattle.std.proofs.lemmas.List.{length-map}
-use Rattle.std.proofs.lemmas.List.Sums.{sum_by-cons}
-use Rattle.std.specs.Ordering.{int_cmp, int_eq, is_eq}
-use Rattle.trace_record.specs.Facts.{Facts, facts_of}
+use Rattle.std.specs.Ordering.{int_cmp, int_eq}
+use Rattle.trace_record.specs.Facts.{facts_of}
 use Rattle.range_stats.specs.RangeKeys.{ranges_has, keys_of_ranges}
 use Rattle.key_counts.specs.Counts.{count_of}
 use Rattle.key_counts.specs.declared.ratio.Ratio.{Ratio}
@@ -12,7 +12,9 @@ use Rattle.trace_record.specs.Keys.{cell, inline, crossline, offset, coordinate_
 use Rattle.key_counts.specs.RatioOrder.{ratio_cmp}
 use Rattle.key_counts.specs.Rising.{Shows, times_in}
 use Rattle.trace_record.specs.Tally.{Same, tally_of}
+use Rattle.trace_record.specs.declared.amplitudes.Amplitudes.{Amplitudes}
 use Rattle.trace_record.specs.declared.record.Record.{Record}
+use Rattle.range_stats.proofs.EndKeyLemmas.{counted_ends, amplitudes-facts}
 use Rattle.trace_record.proofs.LoadLemmas.{sum_by-zero, int_sum-zero, map-facts}
 use Rattle.key_counts.proofs.ShownLemmas.{times_in-map}
 use Rattle.range_stats.specs.OfRanges.{tally_of_ranges}
@@ -61,26 +63,17 @@ Same-loaded_ranges v rs n inlines crosslines offsets xs ys = record {
   ];
 }
 
--- an end of the traces that have samples occurs as often as traces have it
-times_in-sampled : (end : Facts → ℤ) (rs : List Record) (v : ℤ)
-    → times_in int_cmp (map (λ r. end (facts_of r)) (filter (λ r. nat_lt 0 r.number) rs)) v ≡ count_by (λ f. nat_lt 0 f.number && int_eq (end f) v) (map facts_of rs)
-times_in-sampled end [] v = refl
-times_in-sampled end (r ∷ rs) v =
-    by (nat_lt 0 r.number) (times_in-sampled end rs v)
-    ∙ sym (sum_by-cons (λ (f : Facts). cond (nat_lt 0 f.number && int_eq (end f) v) 1 0) (facts_of r) (map facts_of rs))
-  where
-    by : (b : Bool) → times_in int_cmp (map (λ q. end (facts_of q)) (filter (λ q. nat_lt 0 q.number) rs)) v ≡ count_by (λ f. nat_lt 0 f.number && int_eq (end f) v) (map facts_of rs)
-        → times_in int_cmp (map (λ q. end (facts_of q)) (cond b (r ∷ filter (λ q. nat_lt 0 q.number) rs) (filter (λ q. nat_lt 0 q.number) rs))) v
-        ≡ cond (b && int_eq (end (facts_of r)) v) 1 0 + count_by (λ f. nat_lt 0 f.number && int_eq (end f) v) (map facts_of rs)
-    by true i = sum_by-cons (λ q. cond (is_eq (int_cmp q v)) 1 0) (end (facts_of r)) (map (λ q. end (facts_of q)) (filter (λ q. nat_lt 0 q.number) rs)) ∙ ap (λ n. cond (int_eq (end (facts_of r)) v) 1 0 + n) i
-    by false i = i ∙ omega arith
+-- an end of the records whose samples have values occurs as often as traces have it
+times_in-valued : (end : Amplitudes → ℤ) (rs : List Record) (v : ℤ)
+    → times_in int_cmp (map end (filter_map (λ r. r.amplitudes) rs)) v ≡ count_by (λ f. option_map_or (λ a. int_eq (end a) v) f.amplitudes false) (map facts_of rs)
+times_in-valued end rs v = ap (λ (xs : List Amplitudes). times_in int_cmp (map end xs) v) (amplitudes-facts rs) ∙ sym (counted_ends end (map facts_of rs) v)
 
--- totals that counted the ends of the records that have samples, and their samples, show the records' tally
+-- totals that counted the ends of the records whose samples have values, and these samples, show the records' tally
 pub Same-loaded_totals : (t : Totals) (rs : List Record) → t.records ≡ length rs
     → t.number ≡ (tally_of keys_of_totals (map facts_of rs)).number
     → t.sum ≡ (tally_of keys_of_totals (map facts_of rs)).sum
-    → Shows int_cmp (times_in int_cmp (map (λ r. r.least) (filter (λ r. nat_lt 0 r.number) rs))) t.least_samples
-    → Shows int_cmp (times_in int_cmp (map (λ r. r.greatest) (filter (λ r. nat_lt 0 r.number) rs))) t.greatest_samples
+    → Shows int_cmp (times_in int_cmp (map (λ a. a.least) (filter_map (λ r. r.amplitudes) rs))) t.least_samples
+    → Shows int_cmp (times_in int_cmp (map (λ a. a.greatest) (filter_map (λ r. r.amplitudes) rs))) t.greatest_samples
     → Same (tally_of_totals t) (tally_of keys_of_totals (map facts_of rs))
 Same-loaded_totals t rs n number sum least_of greatest_of = record {
   records = n ∙ sym (length-map rs facts_of);
@@ -93,8 +86,8 @@ Same-loaded_totals t rs n number sum least_of greatest_of = record {
     | offset o ↦ sym (sum_by-zero (map facts_of rs))
     | coordinate_x r ↦ sym (sum_by-zero (map facts_of rs))
     | coordinate_y r ↦ sym (sum_by-zero (map facts_of rs))
-    | least v ↦ least_of.counts v ∙ times_in-sampled (λ f. f.least) rs v
-    | greatest v ↦ greatest_of.counts v ∙ times_in-sampled (λ f. f.greatest) rs v
+    | least v ↦ least_of.counts v ∙ times_in-valued (λ a. a.least) rs v
+    | greatest v ↦ greatest_of.counts v ∙ times_in-valued (λ a. a.greatest) rs v
     | triple i x o ↦ sym (sum_by-zero (map facts_of rs))
   ];
 }

@@ -1,19 +1,22 @@
--- The number of the samples of traces and their sum, trace by trace.
-use Rattle.std.specs.Prelude.{◌≡◌, ℕ, ℤ, pos, neg_ℤ, ◌+◌, ◌*◌, ◌^◌, ◌≤◌, ◌+ℤ◌, ◌≤ℤ◌, List, [], ◌∷◌, map, sum_by, refl}
-use Rattle.std.proofs.Common.{arith, SFits, to_z, of_z}
+-- The number of the samples of traces that have values and their sum, trace by trace.
+use Rattle.std.specs.Prelude.{◌≡◌, ℕ, ℤ, pos, neg_ℤ, ◌+◌, ◌*◌, ◌^◌, ◌≤◌, ◌+ℤ◌, ◌-ℤ◌, ◌≤ℤ◌, List, [], ◌∷◌, map, sum_by, Some, None, refl}
+use Rattle.std.proofs.Common.{arith, subst, SFits, to_z, of_z}
 use Rattle.std.specs.Int.{w128}
 use Rattle.std.proofs.lemmas.Int.{ints, to_z-of_z}
 use Rattle.std.proofs.lemmas.List.Sums.{sum_by-cons}
-use Rattle.trace_record.specs.Facts.{Facts, facts_of}
+use Rattle.trace_record.specs.Facts.{facts_of, number_of_values, sum_of_values}
 use Rattle.trace_record.specs.Statistics.{int_sum}
+use Rattle.trace_record.specs.declared.amplitudes.Amplitudes.{Amplitudes}
 use Rattle.trace_record.specs.declared.record.Record.{Record}
+use Rattle.trace_record.proofs.TallyLemmas.{own-low, own-high}
+use Rattle.range_stats.proofs.EndKeyLemmas.{number-of, sum-of}
 
 -- the number and the sum of the samples of traces
 abbrev pub number_of : List Record → ℕ
-number_of rs = sum_by (λ (f : Facts). f.number) (map facts_of rs)
+number_of rs = sum_by number_of_values (map facts_of rs)
 
 abbrev pub sum_of : List Record → ℤ
-sum_of rs = int_sum (map (λ (f : Facts). f.sum) (map facts_of rs))
+sum_of rs = int_sum (map sum_of_values (map facts_of rs))
 
 -- so many samples with this sum are those of all traces but the rest
 pub record AreOfFront (n : ℕ) (s : ℤ) (rest all : List Record) : Type 0 where
@@ -25,16 +28,32 @@ pub record AreOfFront (n : ℕ) (s : ℤ) (rest all : List Record) : Type 0 wher
 pub front_of_none : (all : List Record) → AreOfFront 0 (pos 0) all all
 front_of_none all = record { number = omega arith; sum = omega (arith, ints); low = omega (arith, ints); high = omega (arith, ints) }
 
-pub one_trace_more : (n : ℕ) (s : ℤ) (r : Record) (rest all : List Record) → AreOfFront n s (r ∷ rest) all → AreOfFront (n + r.number) (s +ℤ r.sum) rest all
+one_trace_more : (n : ℕ) (s : ℤ) (r : Record) (rest all : List Record) → AreOfFront n s (r ∷ rest) all → AreOfFront (n + number_of_values (facts_of r)) (s +ℤ sum_of_values (facts_of r)) rest all
 one_trace_more n s r rest all h =
-    let step = sum_by-cons (λ (f : Facts). f.number) (facts_of r) (map facts_of rest) in
+    let step = sum_by-cons number_of_values (facts_of r) (map facts_of rest) in
     let number = h.number in
     let sum = h.sum in
     let low = h.low in
     let high = h.high in
-    let own_low = r.sum_low in
-    let own_high = r.sum_high in
+    let here_low = own-low r in
+    let here_high = own-high r in
     record { number = omega arith; sum = omega (arith, ints); low = omega (arith, ints); high = omega (arith, ints) }
+
+-- one trace more whose samples have values
+pub valued_more : (n : ℕ) (s : ℤ) (r : Record) (a : Amplitudes) (rest all : List Record) → r.amplitudes ≡ Some a → AreOfFront n s (r ∷ rest) all → AreOfFront (n + r.number) (s +ℤ a.sum) rest all
+valued_more n s r a rest all e h =
+    subst (λ (m : ℕ). AreOfFront (n + m) (s +ℤ a.sum) rest all) (number-of (facts_of r) (Some a) e)
+    (subst (λ (t : ℤ). AreOfFront (n + number_of_values (facts_of r)) (s +ℤ t) rest all) (sum-of (facts_of r) (Some a) e) (one_trace_more n s r rest all h))
+
+-- and one whose samples have none
+pub opaque_more : (n : ℕ) (s : ℤ) (r : Record) (rest all : List Record) → r.amplitudes ≡ None → AreOfFront n s (r ∷ rest) all → AreOfFront n s rest all
+opaque_more n s r rest all e h =
+    let more = one_trace_more n s r rest all h in
+    let number = number-of (facts_of r) None e in
+    let sum = sum-of (facts_of r) None e in
+    let now = more.number in
+    let there = more.sum in
+    record { number = omega arith; sum = omega (arith, ints); low = h.low; high = h.high }
 
 -- the sum of at most 2^41 samples fits 128 bits
 pub sum_fits : (n : ℕ) (s : ℤ) (rest all : List Record) → AreOfFront n s rest all → number_of all ≤ 2 ^ 41 → SFits w128 s
@@ -43,6 +62,10 @@ sum_fits n s rest all h few = let number = h.number in let low = h.low in let hi
 -- a sum of numbers that fit is the sum of what their bits are
 pub sum_of_bits : (s r : ℤ) → SFits w128 s → SFits w128 r → SFits w128 (s +ℤ r) → to_z w128 (of_z w128 (to_z w128 (of_z w128 s) +ℤ to_z w128 (of_z w128 r))) ≡ s +ℤ r
 sum_of_bits s r fs fr f = rw (to_z-of_z w128 s fs, to_z-of_z w128 r fr, to_z-of_z w128 (s +ℤ r) f) refl
+
+-- and so is a difference
+pub difference_of_bits : (s r : ℤ) → SFits w128 s → SFits w128 r → SFits w128 (s -ℤ r) → to_z w128 (of_z w128 (to_z w128 (of_z w128 s) -ℤ to_z w128 (of_z w128 r))) ≡ s -ℤ r
+difference_of_bits s r fs fr f = rw (to_z-of_z w128 s fs, to_z-of_z w128 r fr, to_z-of_z w128 (s -ℤ r) f) refl
 
 -- with no trace left they are those of all
 pub none_left : (n : ℕ) (s : ℤ) (all : List Record) → AreOfFront n s [] all → (n ≡ number_of all) × (s ≡ sum_of all)

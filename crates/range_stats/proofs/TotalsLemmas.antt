@@ -1,110 +1,38 @@
 -- The totals of traces: of all their samples, and as they stand in a tally.
-use Rattle.std.specs.Prelude.{◌≡◌, ◌⊎◌, ℕ, suc, ℤ, pos, ◌+◌, ◌<◌, ◌+ℤ◌, ◌≤ℤ◌, unwrap_or, Bool, true, false, ◌&&◌, cond, if◌then◌else◌, List, [], ◌∷◌, ◌++◌, length, map, filter, flat_map, count_by, sum_by, nat_lt, Option, Some, None, refl}
-use Rattle.std.proofs.Common.{arith, sym, ap, ap₂, ◌∙◌, subst, length-append, inl, inr, ⊎_elim}
+use Rattle.std.specs.Prelude.{◌≡◌, ◌⊎◌, ℕ, ℤ, pos, ◌+◌, ◌<◌, ◌+ℤ◌, ◌≤ℤ◌, Bool, true, false, if◌then◌else◌, List, [], ◌∷◌, map, flat_map, sum_by, filter_map, Option, Some, None, option_map, refl}
+use Rattle.std.proofs.Common.{arith, sym, ap, ap₂, ◌∙◌, subst, inl, inr, ⊎_elim}
 use Rattle.std.proofs.lemmas.Int.{ints}
 use Rattle.std.proofs.lemmas.List.Sums.{sum_by-cons}
 use Rattle.std.proofs.lemmas.Map.Lookups.{exact_signed}
 use Rattle.std.specs.Int.{int_min, int_max}
-use Rattle.std.specs.Ordering.{is_eq, int_cmp, int_eq}
+use Rattle.std.specs.List.{cons_option}
+use Rattle.std.specs.Option.{option_map_or}
+use Rattle.std.specs.Ordering.{int_cmp, int_eq}
 use Rattle.std.specs.Cmp.{Equal-is}
-use Rattle.trace_record.specs.Facts.{Facts, with_samples}
+use Rattle.trace_record.specs.Facts.{Facts, with_samples, statistics_in, number_of_values, sum_of_values}
 use Rattle.trace_record.specs.Keys.{least, greatest}
 use Rattle.key_counts.specs.Rising.{times_in}
-use Rattle.trace_record.specs.Statistics.{least_of, greatest_of, int_sum, statistics_of}
+use Rattle.trace_record.specs.Statistics.{least_of, greatest_of, int_sum, statistics_of, statistics_of_both, statistics_with}
+use Rattle.trace_record.specs.declared.amplitudes.Amplitudes.{Amplitudes}
 use Rattle.trace_record.specs.declared.statistics.Statistics.{Statistics}
 use Rattle.key_counts.proofs.KeyLemmas.{int_eq-itself}
-use Rattle.key_counts.proofs.ShownLemmas.{times_in-map}
-use Rattle.trace_record.proofs.StatisticsLemmas.{least_of-append, greatest_of-append, int_sum-append}
-use Rattle.range_stats.specs.Totals.{traces_with_samples, totals_over}
+use Rattle.trace_record.proofs.StatisticsLemmas.{same_four, statistics_of_joined}
+use Rattle.range_stats.specs.Totals.{totals_of}
 use Rattle.range_stats.specs.OfTally.{IsLeastOf, IsGreatestOf, statistics_from}
-use Rattle.range_stats.specs.Laws.{TotalsAreOfSamples, TotalsOfTally, with_each}
-
-positive : (n : ℕ) → nat_lt 0 (suc n) ≡ true
-positive n = grind arith
-
-append-none : (vs : List ℤ) → vs ++ [] ≡ vs
-append-none [] = refl
-append-none (v ∷ vs) = ap (λ us. v ∷ us) (append-none vs)
-
--- the statistics of these four
-abbrev four : ℤ → ℤ → ℤ → ℕ → Option Statistics
-four l g s n = Some (record { least = l; greatest = g; sum = s; number = n })
-
-same_four : (l g s : ℤ) (n : ℕ) (m h t : ℤ) (k : ℕ) → l ≡ m → g ≡ h → s ≡ t → n ≡ k → four l g s n ≡ four m h t k
-same_four l g s n m h t k a b c d = λ i. four (a i) (b i) (c i) (d i)
-
-abbrev nothing : Statistics
-nothing = record { least = pos 0; greatest = pos 0; sum = pos 0; number = 0 }
+use Rattle.range_stats.specs.Laws.{TotalsAreOfSamples, TotalsOfTally}
+use Rattle.range_stats.proofs.EndKeyLemmas.{times_in-cons, ends, counted_ends}
 
 -- ---- the samples of all
 
-abbrev sum_over : List Facts → ℤ
-sum_over fs = int_sum (map (λ g. g.sum) fs)
-
-abbrev number_over : List Facts → ℕ
-number_over fs = sum_by (λ g. g.number) fs
-
--- one trace with samples in front of others
-in_front : (f : Facts) (v : ℤ) (vs : List ℤ) (gs : List Facts) (us : List ℤ) → totals_over gs gs ≡ statistics_of us
-    → totals_over (with_samples f (v ∷ vs) ∷ gs) (with_samples f (v ∷ vs) ∷ gs) ≡ statistics_of ((v ∷ vs) ++ us)
-in_front f v vs [] [] e =
-    same_four _ _ _ _ _ _ _ _ refl refl (omega (arith, ints)) (omega arith) ∙ ap statistics_of (sym (append-none (v ∷ vs)))
-in_front f v vs [] (u ∷ us) e = cc
-in_front f v vs (g ∷ gs) [] e = cc
-in_front f v vs (g ∷ gs) (u ∷ us) e =
-    let least = ap (λ o. (unwrap_or o nothing).least) e in
-    let greatest = ap (λ o. (unwrap_or o nothing).greatest) e in
-    let sum = ap (λ o. (unwrap_or o nothing).sum) e in
-    let number = ap (λ o. (unwrap_or o nothing).number) e in
-    same_four _ _ _ _ _ _ _ _
-    (ap (λ m. int_min (least_of (v ∷ vs)) m) least ∙ sym (least_of-append v vs u us))
-    (ap (λ m. int_max (greatest_of (v ∷ vs)) m) greatest ∙ sym (greatest_of-append v vs u us))
-    (ap (λ m. int_sum (v ∷ vs) +ℤ m) sum ∙ sym (int_sum-append (v ∷ vs) (u ∷ us)))
-    (sum_by-cons (λ (h : Facts). h.number) (with_samples f (v ∷ vs)) (g ∷ gs) ∙ ap (λ m. length (v ∷ vs) + m) number ∙ sym (length-append (v ∷ vs) (u ∷ us)))
-
--- traces with samples, alone
-of_sampled : (ps : List (Facts × List ℤ)) → totals_over (traces_with_samples (with_each ps)) (traces_with_samples (with_each ps)) ≡ statistics_of (flat_map (λ p. p.1) ps)
-of_sampled [] = refl
-of_sampled (p ∷ ps) = by p.0 p.1 (of_sampled ps)
-  where
-    by : (f : Facts) (vs : List ℤ) → totals_over (traces_with_samples (with_each ps)) (traces_with_samples (with_each ps)) ≡ statistics_of (flat_map (λ p. p.1) ps)
-        → totals_over (traces_with_samples (with_samples f vs ∷ with_each ps)) (traces_with_samples (with_samples f vs ∷ with_each ps)) ≡ statistics_of (vs ++ flat_map (λ p. p.1) ps)
-    by f [] e = e
-    by f (v ∷ vs) e =
-        ap (λ b. totals_over (cond b (with_samples f (v ∷ vs) ∷ traces_with_samples (with_each ps)) (traces_with_samples (with_each ps))) (cond b (with_samples f (v ∷ vs) ∷ traces_with_samples (with_each ps)) (traces_with_samples (with_each ps)))) (positive (length vs))
-        ∙ in_front f v vs (traces_with_samples (with_each ps)) (flat_map (λ p. p.1) ps) e
-
--- a trace without samples adds nothing
-sum-sampled : (ps : List (Facts × List ℤ)) → sum_over (with_each ps) ≡ sum_over (traces_with_samples (with_each ps))
-sum-sampled [] = refl
-sum-sampled (p ∷ ps) = by p.0 p.1 (sum-sampled ps)
-  where
-    by : (f : Facts) (vs : List ℤ) → sum_over (with_each ps) ≡ sum_over (traces_with_samples (with_each ps))
-        → sum_over (with_samples f vs ∷ with_each ps) ≡ sum_over (traces_with_samples (with_samples f vs ∷ with_each ps))
-    by f [] e = let z : sum_over (with_samples f [] ∷ with_each ps) ≡ sum_over (with_each ps) = omega (arith, ints) in z ∙ e
-    by f (v ∷ vs) e =
-        ap (λ z. int_sum (v ∷ vs) +ℤ z) e
-        ∙ ap (λ b. sum_over (cond b (with_samples f (v ∷ vs) ∷ traces_with_samples (with_each ps)) (traces_with_samples (with_each ps)))) (sym (positive (length vs)))
-
-number-sampled : (ps : List (Facts × List ℤ)) → number_over (with_each ps) ≡ number_over (traces_with_samples (with_each ps))
-number-sampled [] = refl
-number-sampled (p ∷ ps) = by p.0 p.1 (number-sampled ps)
-  where
-    by : (f : Facts) (vs : List ℤ) → number_over (with_each ps) ≡ number_over (traces_with_samples (with_each ps))
-        → number_over (with_samples f vs ∷ with_each ps) ≡ number_over (traces_with_samples (with_samples f vs ∷ with_each ps))
-    by f [] e = let z = sum_by-cons (λ (h : Facts). h.number) (with_samples f []) (with_each ps) in omega arith
-    by f (v ∷ vs) e =
-        sum_by-cons (λ (h : Facts). h.number) (with_samples f (v ∷ vs)) (with_each ps)
-        ∙ ap (λ n. length (v ∷ vs) + n) e
-        ∙ sym (sum_by-cons (λ (h : Facts). h.number) (with_samples f (v ∷ vs)) (traces_with_samples (with_each ps)))
-        ∙ ap (λ b. number_over (cond b (with_samples f (v ∷ vs) ∷ traces_with_samples (with_each ps)) (traces_with_samples (with_each ps)))) (sym (positive (length vs)))
-
-same_over : (gs hs fs : List Facts) → sum_over gs ≡ sum_over hs → number_over gs ≡ number_over hs → totals_over gs fs ≡ totals_over hs fs
-same_over gs hs [] s n = refl
-same_over gs hs (f ∷ fs) s n = same_four _ _ _ _ _ _ _ _ refl refl s n
+statistics_in-samples : (f : Facts) (vs : List ℤ) → statistics_in (with_samples f vs) ≡ statistics_of vs
+statistics_in-samples f [] = refl
+statistics_in-samples f (v ∷ vs) = refl
 
 pub totals_are_of_samples : TotalsAreOfSamples
-totals_are_of_samples ps = same_over (with_each ps) (traces_with_samples (with_each ps)) (traces_with_samples (with_each ps)) (sum-sampled ps) (number-sampled ps) ∙ of_sampled ps
+totals_are_of_samples [] = refl
+totals_are_of_samples (p ∷ ps) =
+    ap₂ statistics_of_both (statistics_in-samples p.0 p.1) (totals_are_of_samples ps)
+    ∙ sym (statistics_of_joined p.1 (flat_map (λ q. q.1) ps))
 
 -- ---- in a tally
 
@@ -116,9 +44,6 @@ least_option (v ∷ vs) = Some (least_of (v ∷ vs))
 abbrev greatest_option : List ℤ → Option ℤ
 greatest_option [] = None
 greatest_option (v ∷ vs) = Some (greatest_of (v ∷ vs))
-
-times_in-cons : (x : ℤ) (vs : List ℤ) (v : ℤ) → times_in int_cmp (x ∷ vs) v ≡ (if int_eq x v then 1 else 0) + times_in int_cmp vs v
-times_in-cons x vs v = sum_by-cons (λ q. cond (is_eq (int_cmp q v)) 1 0) x vs
 
 counted_first : (x : ℤ) (vs : List ℤ) (v : ℤ) → v ≡ x → 0 < times_in int_cmp (x ∷ vs) v
 counted_first x vs v e = let c = times_in-cons x vs v ∙ ap (λ (b : Bool). (if b then 1 else 0) + times_in int_cmp vs v) (int_eq-itself v x e) in omega arith
@@ -196,28 +121,55 @@ one_greatest c d same None (Some m) a b = none_occurs (c m) (d m) (same m) (a m)
 one_greatest c d same (Some l) None a b = none_occurs (d l) (c l) (sym (same l)) (b l) a.0
 one_greatest c d same (Some l) (Some m) a b = ap Some (one_bound l m (b.1 l (more (c l) (d l) (same l) a.0)) (a.1 m (more (d m) (c m) (sym (same m)) b.0)))
 
--- traces that pass both tests are those of the first that pass the second
-count_by-filter : (p q : Facts → Bool) (fs : List Facts) → count_by (λ f. p f && q f) fs ≡ count_by q (filter p fs)
-count_by-filter p q [] = refl
-count_by-filter p q (f ∷ fs) = sum_by-cons (λ g. cond (p g && q g) 1 0) f fs ∙ by (p f) (count_by-filter p q fs)
+-- ---- the totals from the ends, the number and the sum
+
+abbrev sum_over : List Facts → ℤ
+sum_over fs = int_sum (map sum_of_values fs)
+
+abbrev number_over : List Facts → ℕ
+number_over fs = sum_by number_of_values fs
+
+-- with one trace more in front
+joined : (x : Statistics) (xs : List Amplitudes) (s : ℤ) (n : ℕ) → (xs ≡ [] → (s ≡ pos 0) × (n ≡ 0))
+    → statistics_from (least_option (x.least ∷ map (λ a. a.least) xs)) (greatest_option (x.greatest ∷ map (λ a. a.greatest) xs)) (x.sum +ℤ s) (x.number + n)
+    ≡ statistics_of_both (Some x) (statistics_from (least_option (map (λ a. a.least) xs)) (greatest_option (map (λ a. a.greatest) xs)) s n)
+joined x [] s n z =
+    let none = z refl in
+    let sum : x.sum +ℤ s ≡ x.sum = let e = none.0 in omega (arith, ints) in
+    let number : x.number + n ≡ x.number = let e = none.1 in omega arith in
+    same_four _ _ _ _ _ _ _ _ refl refl sum number
+joined x (b ∷ bs) s n z = refl
+
+-- without values there is nothing to sum
+nothing_over : (fs : List Facts) → filter_map (λ f. f.amplitudes) fs ≡ [] → (sum_over fs ≡ pos 0) × (number_over fs ≡ 0)
+nothing_over [] e = (refl, refl)
+nothing_over (f ∷ fs) e = let r = by f.amplitudes e (nothing_over fs) in (r.0, sum_by-cons number_of_values f fs ∙ r.1)
   where
-    by : (b : Bool) → count_by (λ g. p g && q g) fs ≡ count_by q (filter p fs)
-        → cond (b && q f) 1 0 + count_by (λ g. p g && q g) fs ≡ count_by q (cond b (f ∷ filter p fs) (filter p fs))
-    by true e = ap (λ n. cond (q f) 1 0 + n) e ∙ sym (sum_by-cons (λ g. cond (q g) 1 0) f (filter p fs))
-    by false e = omega arith
+    by : (o : Option Amplitudes) → cons_option o (filter_map (λ g. g.amplitudes) fs) ≡ [] → (filter_map (λ g. g.amplitudes) fs ≡ [] → (sum_over fs ≡ pos 0) × (number_over fs ≡ 0))
+        → (option_map_or (λ a. a.sum) o (pos 0) +ℤ sum_over fs ≡ pos 0) × (option_map_or (λ a. f.number) o 0 + number_over fs ≡ 0)
+    by None e i = let r = i e in let s = r.0 in let n = r.1 in (omega (arith, ints), omega arith)
+    by (Some a) e i = absurd cc
 
--- the least ones that the tally counts are those of the traces with samples
-counted_sampled : (number : Facts → ℤ) (fs : List Facts) (v : ℤ) → count_by (λ f. nat_lt 0 f.number && int_eq (number f) v) fs ≡ times_in int_cmp (map number (traces_with_samples fs)) v
-counted_sampled number fs v =
-    count_by-filter (λ f. nat_lt 0 f.number) (λ f. int_eq (number f) v) fs ∙ sym (times_in-map int_cmp number (λ f q. int_eq (number f) q) (λ f q. refl) (traces_with_samples fs) v)
-
-from_options : (gs fs : List Facts) (s : ℤ) (n : ℕ) → s ≡ sum_over gs → n ≡ number_over gs
-    → statistics_from (least_option (map (λ g. g.least) fs)) (greatest_option (map (λ g. g.greatest) fs)) s n ≡ totals_over gs fs
-from_options gs [] s n es en = refl
-from_options gs (f ∷ fs) s n es en = same_four _ _ _ _ _ _ _ _ refl refl es en
+from_ends : (fs : List Facts) → statistics_from (least_option (ends (λ a. a.least) fs)) (greatest_option (ends (λ a. a.greatest) fs)) (sum_over fs) (number_over fs) ≡ totals_of fs
+from_ends [] = refl
+from_ends (f ∷ fs) =
+    ap (statistics_from (least_option (ends (λ a. a.least) (f ∷ fs))) (greatest_option (ends (λ a. a.greatest) (f ∷ fs))) (sum_over (f ∷ fs))) (sum_by-cons number_of_values f fs)
+    ∙ by f.amplitudes (from_ends fs)
+  where
+    by : (o : Option Amplitudes) → statistics_from (least_option (ends (λ a. a.least) fs)) (greatest_option (ends (λ a. a.greatest) fs)) (sum_over fs) (number_over fs) ≡ totals_of fs
+        → statistics_from (least_option (map (λ a. a.least) (cons_option o (filter_map (λ g. g.amplitudes) fs)))) (greatest_option (map (λ a. a.greatest) (cons_option o (filter_map (λ g. g.amplitudes) fs))))
+        (option_map_or (λ a. a.sum) o (pos 0) +ℤ sum_over fs) (option_map_or (λ a. f.number) o 0 + number_over fs)
+        ≡ statistics_of_both (option_map (λ a. statistics_with a f.number) o) (totals_of fs)
+    by None i =
+        let sum : pos 0 +ℤ sum_over fs ≡ sum_over fs = omega (arith, ints) in
+        let number : 0 + number_over fs ≡ number_over fs = omega arith in
+        ap₂ (λ s n. statistics_from (least_option (ends (λ a. a.least) fs)) (greatest_option (ends (λ a. a.greatest) fs)) s n) sum number ∙ i
+    by (Some a) i =
+        joined (statistics_with a f.number) (filter_map (λ g. g.amplitudes) fs) (sum_over fs) (number_over fs) (nothing_over fs)
+        ∙ ap (statistics_of_both (Some (statistics_with a f.number))) i
 
 pub totals_of_tally : TotalsOfTally
 totals_of_tally fs t l g p a b =
-    let low : l ≡ least_option (map (λ g. g.least) (traces_with_samples fs)) = one_least _ _ (λ v. p.count (least v) ∙ counted_sampled (λ f. f.least) fs v) l _ a (least_is (map (λ g. g.least) (traces_with_samples fs))) in
-    let high : g ≡ greatest_option (map (λ g. g.greatest) (traces_with_samples fs)) = one_greatest _ _ (λ v. p.count (greatest v) ∙ counted_sampled (λ f. f.greatest) fs v) g _ b (greatest_is (map (λ g. g.greatest) (traces_with_samples fs))) in
-    ap₂ (λ x y. statistics_from x y t.sum t.number) low high ∙ from_options fs (traces_with_samples fs) t.sum t.number p.sum p.number
+    let low : l ≡ least_option (ends (λ a. a.least) fs) = one_least _ _ (λ v. p.count (least v) ∙ counted_ends (λ a. a.least) fs v) l _ a (least_is (ends (λ a. a.least) fs)) in
+    let high : g ≡ greatest_option (ends (λ a. a.greatest) fs) = one_greatest _ _ (λ v. p.count (greatest v) ∙ counted_ends (λ a. a.greatest) fs v) g _ b (greatest_is (ends (λ a. a.greatest) fs)) in
+    ap₂ (λ x y. statistics_from x y t.sum t.number) low high ∙ ap₂ (λ s n. statistics_from (least_option (ends (λ a. a.least) fs)) (greatest_option (ends (λ a. a.greatest) fs)) s n) p.sum p.number ∙ from_ends fs

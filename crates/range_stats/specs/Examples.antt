@@ -1,6 +1,6 @@
 -- Ranges and totals, worked by hand.
 use Rattle.std.specs.Prelude.{◌≡◌, ℕ, ℤ, pos, negsuc, [], ◌∷◌, Option, Some, None, option_map, refl}
-use Rattle.trace_record.specs.Facts.{with_samples}
+use Rattle.trace_record.specs.Facts.{with_amplitudes, with_samples}
 use Rattle.key_counts.specs.Coordinates.{under_scalar, over, greatest_divisor}
 use Rattle.key_counts.specs.RatioOrder.{fraction_of}
 use Rattle.trace_record.specs.SmallSurvey.{trace_1, trace_2, survey}
@@ -38,6 +38,13 @@ totals-sampled = refl
 
 pub totals-none : totals_of (with_samples trace_1 [] ∷ []) ≡ None
 totals-none = refl
+
+-- nor has one whose two samples have no values
+pub totals-opaque : totals_of (with_amplitudes trace_1 None 2 ∷ trace_2 ∷ []) ≡ Some (record { least = pos 3; greatest = pos 4; sum = pos 7; number = 2 })
+totals-opaque = refl
+
+pub totals-opaque-alone : totals_of (with_amplitudes trace_1 None 2 ∷ []) ≡ None
+totals-opaque-alone = refl
 
 -- two traces with one sample each, the greatest of eight unsigned bytes
 pub totals-greatest : totals_of (with_samples trace_1 (pos 18446744073709551615 ∷ []) ∷ with_samples trace_2 (pos 18446744073709551615 ∷ []) ∷ [])

@@ -1,5 +1,5 @@
 // The keys of records that ranges count, in their order.
-ghost use Rattle.std.specs.Prelude.{◌≡◌, IfOk, map, filter, nat_lt};
+ghost use Rattle.std.specs.Prelude.{◌≡◌, IfOk, map, filter_map};
 ghost use Rattle.key_counts.specs.Packed.{ratio_in};
 
 use key_counts::PackedRatio;
@@ -36,26 +36,26 @@ pub(crate) fn y_keys(alloc: Global, records: &Records) -> Result<Vec<PackedRatio
     records.iter().map(|r| r.packed_y()).collect(alloc)
 }
 
-// The least samples of the traces that have samples.
+// The least samples of the traces whose samples have values.
 pub(crate) fn least_keys(alloc: Global, records: &Records) -> Result<Vec<i128>, AllocError>
     ensures { IfOk result (λ keys. keys.items ≡
-        map (λ r. r.least) (filter (λ r. nat_lt 0 r.number) records.now)) }
+        map (λ a. a.least) (filter_map (λ r. r.amplitudes) records.now)) }
 {
     records
         .iter()
-        .filter(|r| r.number > 0)
-        .map(|r| r.least)
+        .filter_map(|r| r.amplitudes)
+        .map(|a| a.least)
         .collect(alloc)
 }
 
-// The greatest samples of the traces that have samples.
+// The greatest samples of the traces whose samples have values.
 pub(crate) fn greatest_keys(alloc: Global, records: &Records) -> Result<Vec<i128>, AllocError>
     ensures { IfOk result (λ keys. keys.items ≡
-        map (λ r. r.greatest) (filter (λ r. nat_lt 0 r.number) records.now)) }
+        map (λ a. a.greatest) (filter_map (λ r. r.amplitudes) records.now)) }
 {
     records
         .iter()
-        .filter(|r| r.number > 0)
-        .map(|r| r.greatest)
+        .filter_map(|r| r.amplitudes)
+        .map(|a| a.greatest)
         .collect(alloc)
 }

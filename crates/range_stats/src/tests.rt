@@ -8,7 +8,7 @@ use key_counts::Ratio;
 use std::alloc::Global;
 use std::test::Fail;
 use record_table::{OutOfMemory, Running};
-use trace_record::Record;
+use trace_record::{Amplitudes, Record};
 
 fn both<R: Running>(alloc: Global, first: &Record, second: &Record) -> Result<R, OutOfMemory>
     requires one { IsSmall (tally_of R.counted (facts_of first.now ∷ [])) }
@@ -36,14 +36,16 @@ fn second_alone<R: Running>(
     Ok(running)
 }
 
-#[tactic(auto, unfolding(trace_record::specs::Parts::IsPackable))]
+#[tactic(auto, unfolding(trace_record::specs::Packable::IsPackable, trace_record::specs::Packable::HaveRange))]
 fn first_trace() -> Record
     ensures { result.number ≡ 2 }
 {
     Record {
-        least: -2,
-        greatest: 1,
-        sum: -1,
+        amplitudes: Some(Amplitudes {
+            least: -2,
+            greatest: 1,
+            sum: -1,
+        }),
         x: Ratio::scaled(250, -100),
         y: Ratio::whole(500),
         inline: 10,
@@ -59,14 +61,16 @@ fn first_trace() -> Record
     }
 }
 
-#[tactic(auto, unfolding(trace_record::specs::Parts::IsPackable))]
+#[tactic(auto, unfolding(trace_record::specs::Packable::IsPackable, trace_record::specs::Packable::HaveRange))]
 fn second_trace() -> Record
     ensures { result.number ≡ 2 }
 {
     Record {
-        least: 3,
-        greatest: 4,
-        sum: 7,
+        amplitudes: Some(Amplitudes {
+            least: 3,
+            greatest: 4,
+            sum: 7,
+        }),
         x: Ratio::whole(40),
         y: Ratio::whole(500),
         inline: 9,

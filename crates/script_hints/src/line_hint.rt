@@ -13,6 +13,9 @@ use field_map::{MapFault, is_geometry, named};
 use script_words::LineFault;
 use std::str;
 
+// Of a line that needs the values of samples that have none.
+const NO_VALUES: &str = "floats and samples with a gain are bytes here, without a value";
+
 /// What may be meant by a refused line.
 pub(crate) fn hint_of(note: &Note) -> Hint {
     let bytes = note.bytes();
@@ -137,6 +140,7 @@ fn edit_hint(words: &Words, refusal: Refusal) -> Hint {
         Refusal::Frame => frame(words),
         Refusal::Map(fault) => map_hint(words, fault),
         Refusal::TooLarge => Hint::Text("--max-bytes N raises the limit"),
+        Refusal::NoValues => Hint::Text(NO_VALUES),
         Refusal::ZeroDivisor(_) => Hint::Text(
             "find tells the traces where a FIELD is 0: leave them out",
         ),
@@ -151,6 +155,7 @@ fn query_hint(words: &Words, fault: AskFault) -> Hint {
         AskFault::NoField => no_field(words),
         AskFault::NoPlace => no_place(words),
         AskFault::NoSample(k, count) if k == count => Hint::Text("samples count from 0"),
+        AskFault::NoValues => Hint::Text(NO_VALUES),
         _ => Hint::None,
     }
 }

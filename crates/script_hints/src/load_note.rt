@@ -3,7 +3,7 @@ use frame_cut::LoadFault;
 use std::fmt;
 
 /// `segywb: FILE: REFUSAL (HINT)`, one line without its line feed: why the file is refused, and
-/// what to do.
+/// what to do. Where an option reads the file all the same, a second line names it.
 #[derive(Drop)]
 pub struct LoadNote<'a> {
     /// The path of the file.
@@ -22,7 +22,14 @@ impl fmt::Display for LoadNote<'_> {
             (None, LoadFault::UnknownFormat(code)) => unknown_format(f, code)?,
             (None, _) => frame_hint(f, fault)?,
         }
-        f.write_str(")")
+        f.write_str(")")?;
+        match fault {
+            LoadFault::FloatFormat(_) | LoadFault::GainFormat => f.write_str(
+                "\nsegywb: with --opaque-samples the file is read all the same, \
+                 its samples as bytes without a value",
+            ),
+            _ => Ok(()),
+        }
     }
 }
 
@@ -38,15 +45,18 @@ fn hint(fault: LoadFault) -> Option<&'static str> {
         ),
         LoadFault::Revision(..) => Some("bytes 3501-3502; revisions 0, 1 and 2.0 are read"),
         LoadFault::FloatFormat(_) => Some(
-            "bytes 3225-3226; formats 1, 5 and 6 are floats, which are not read yet: \
-             samples are whole numbers, in formats 2, 3, 7 to 12, 15 and 16",
+            "bytes 3225-3226; formats 1, 5 and 6 are floats: \
+             samples with a value are whole numbers, in formats 2, 3, 7 to 12, 15 and 16",
         ),
         LoadFault::GainFormat => Some(
-            "bytes 3225-3226; format 4 is fixed point with gain, which is not read: \
-             samples are whole numbers, in formats 2, 3, 7 to 12, 15 and 16",
+            "bytes 3225-3226; format 4 is fixed point with gain: \
+             samples with a value are whole numbers, in formats 2, 3, 7 to 12, 15 and 16",
         ),
         LoadFault::TooManyTraces => Some("a file has at most 4294967295 traces"),
         LoadFault::OutOfMemory => Some("the file must fit in memory"),
+        LoadFault::OtherOrder => {
+            Some("bytes 3297-3300 tell the order of bytes, which stands: leave out --order")
+        }
         _ => None,
     }
 }
@@ -57,8 +67,8 @@ fn unknown_format<W: fmt::Write>(f: &mut fmt::Formatter<W>, code: u16) -> fmt::R
     if 1 <= other && other <= 16 {
         write!(
             f,
-            "bytes 3225-3226; in the other byte order it is {other}: a little-endian file has \
-             04 03 02 01 in bytes 3297-3300"
+            "bytes 3225-3226; in the other byte order it is {other}: --order big or --order little \
+             says the order of a file whose bytes 3297-3300 do not tell it"
         )
     } else {
         f.write_str("bytes 3225-3226; formats 2, 3, 7 to 12, 15 and 16 are read")

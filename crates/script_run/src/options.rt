@@ -3,7 +3,7 @@ use frame_cut::{Limits, Reading};
 /// How a run goes.
 #[derive(Clone, Copy, Debug, PartialEq, Eq)]
 pub struct Options {
-    /// How the fixed length flag of the volume is taken.
+    /// What is asked for beside the bytes of the volume, when it is cut.
     pub reading: Reading,
     /// How large the volume may be.
     pub limits: Limits,

@@ -54,7 +54,7 @@ pub(crate) fn sample_file(alloc: Global) -> Result<Vec<u8>, Fail> {
 
 pub(crate) fn options(stop: bool, save: bool) -> Result<Options, Fail> {
     Ok(Options {
-        reading: Reading::AsWritten,
+        reading: Reading::as_written(),
         limits: Limits::new(1 << 32, u32::MAX).ok_or("limits")?,
         stop,
         save,

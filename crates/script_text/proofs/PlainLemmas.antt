@@ -1,6 +1,6 @@
 -- No answer has an empty line: names and texts have no line feed.
 use Rattle.std.proofs.Common.{◌≡◌, ◌&&◌, ◌==◌, ◌+◌, ℕ, ℤ, suc, zero, length, List, [], ◌∷◌, ◌++◌, map, drop, Bool, true, false, not, nat_lt, nat_le, bytes_eq, Option, Some, None, Result, Ok, Err, cond, refl, sym, ap, subst, ◌∙◌, arith, inl, inr}
-use Rattle.std.specs.Prelude.{⊤, codes, find, filter_map, option_map, decimal, max, ◌/◌, ◌%◌}
+use Rattle.std.specs.Prelude.{⊤, is_none, codes, find, filter_map, option_map, decimal, max, ◌/◌, ◌%◌}
 use Rattle.std.specs.List.{list_all, cons_option, prefix_len, range_with_len}
 use Rattle.std.specs.Char.{digit_char}
 use Rattle.std.proofs.lemmas.Bool.{eqb-true, ne_eqb}
@@ -27,12 +27,14 @@ use Rattle.frame_cut.specs.BinaryHeader.{bin_bytes}
 use Rattle.frame_cut.specs.Frames.{sample_count}
 use Rattle.frame_cut.specs.Parts.{block_of}
 use Rattle.frame_cut.specs.Volume.{Volume}
-use Rattle.trace_view.specs.Values.{value_of, sample_of}
+use Rattle.sample_codes.specs.Formats.{values}
+use Rattle.trace_view.specs.Values.{value_of, sample_of, samples_of}
+use Rattle.trace_record.specs.Statistics.{statistics_of}
 use Rattle.bench_rules.specs.declared.answer.Answer.{Answer}
 use Rattle.bench_rules.specs.declared.answer.Answer.TheVariants as answers
 use Rattle.bench_rules.specs.declared.ask_fault.AskFault.{AskFault}
 use Rattle.bench_rules.specs.declared.ask_fault.AskFault.TheVariants as ask_faults
-use Rattle.bench_rules.specs.declared.ask_fault.AskFault.TheVariants.{NoTrace, NoField, NoPlace, NoSample}
+use Rattle.bench_rules.specs.declared.ask_fault.AskFault.TheVariants.{NoTrace, NoField, NoPlace, NoSample, NoValues}
 use Rattle.bench_rules.specs.declared.query.Query.{Query}
 use Rattle.bench_rules.specs.declared.query.Query.TheVariants as queries
 use Rattle.bench_rules.specs.declared.refusal.Refusal.{Refusal}
@@ -40,11 +42,11 @@ use Rattle.bench_rules.specs.declared.refusal.Refusal.TheVariants as refusals
 use Rattle.bench_rules.specs.ManyTraces.{each_of}
 use Rattle.bench_rules.specs.Places.{place_in_trace, place_in_binary, is_in_binary}
 use Rattle.bench_rules.specs.Refused.{is_line}
-use Rattle.bench_rules.specs.Reports.{geometry_in, statistics_in}
+use Rattle.bench_rules.specs.Reports.{geometry_in, totals_in, slice_in}
 use Rattle.bench_rules.specs.State.{State}
 use Rattle.bench_rules.specs.Headers.{with_name, header_of, extremes_in, header_places, named_places, numbers_at, extremes_unless_zero}
 use Rattle.bench_rules.specs.Tables.{table_of, found_of}
-use Rattle.bench_rules.specs.Answer.{Reply, IsReply, or_fault, of_trace, of_traces, trace_value, trace_sample, binary_value, line_answer, lines_answer, table_answer, found_answer, text_blocks, numbered_stanzas, stanzas_from, answer}
+use Rattle.bench_rules.specs.Answer.{Reply, IsReply, or_fault, of_trace, of_values, of_traces, trace_value, trace_sample, binary_value, line_answer, lines_answer, table_answer, found_answer, text_blocks, numbered_stanzas, stanzas_from, answer}
 use Rattle.script_words.specs.declared.line_fault.LineFault.{LineFault}
 use Rattle.script_words.specs.declared.line_fault.LineFault.TheVariants as line_faults
 use Rattle.script_words.specs.Words.{is_line_feed}
@@ -214,6 +216,9 @@ plain_or_fault (Some x) fault f h = h x
 plain_of_trace : (v : Volume) (p : ℕ) (f : List ℕ → Reply) → ((t : List ℕ) → PlainReply (f t)) → PlainReply (of_trace v p f)
 plain_of_trace v p f h = elim (is_trace v p) as (λ b. PlainReply (cond b (f (trace_at v p)) (Err (NoTrace p (count_of v))))) [ true ↦ h (trace_at v p) | false ↦ tt ]
 
+plain_of_values : (h : Head) (reply : Reply) → PlainReply reply → PlainReply (of_values h reply)
+plain_of_values h reply fine = elim (is_none (values h.format)) as (λ b. PlainReply (cond b (Err NoValues) reply)) [ true ↦ tt | false ↦ fine ]
+
 plain_value : (h : Head) (t : List ℕ) (place : Option Place) → PlainReply (trace_value h t place)
 plain_value h t None = tt
 plain_value h t (Some place) = plain_or_fault (value_of h t place) NoPlace answers.Value (λ x. tt)
@@ -258,17 +263,21 @@ plain_answer s queries.Stanzas h = plain_stanzas_from 1 (text_blocks s.volume)
 plain_answer s queries.Fields h = h
 plain_answer s (queries.Sample p k) h =
     plain_of_trace s.volume p (λ t. trace_sample s.volume.head t k)
-    (λ t. plain_or_fault (sample_of s.volume.head t k) (NoSample (max k (sample_count s.volume.head t)) (sample_count s.volume.head t)) answers.Value (λ x. tt))
+    (λ t.
+    plain_of_values s.volume.head (or_fault (sample_of s.volume.head t k) (NoSample (max k (sample_count s.volume.head t)) (sample_count s.volume.head t)) answers.Value)
+    (plain_or_fault (sample_of s.volume.head t k) (NoSample (max k (sample_count s.volume.head t)) (sample_count s.volume.head t)) answers.Value (λ x. tt)))
 plain_answer s (queries.Geometry p) h = plain_or_fault (geometry_in s p) (NoTrace p (count_of s.volume)) answers.Geometry (λ x. tt)
-plain_answer s (queries.Stat p) h = plain_or_fault (statistics_in s p) (NoTrace p (count_of s.volume)) answers.Stat (λ x. tt)
+plain_answer s (queries.Stat p) h =
+    plain_of_trace s.volume p (λ t. of_values s.volume.head (Ok (answers.Stat (statistics_of (samples_of s.volume.head t)))))
+    (λ t. plain_of_values s.volume.head (Ok (answers.Stat (statistics_of (samples_of s.volume.head t)))) tt)
 plain_answer s (queries.Fold i c) h = tt
 plain_answer s queries.Grid h = tt
 plain_answer s queries.Inlines h = tt
 plain_answer s queries.Crosslines h = tt
 plain_answer s queries.Histogram h = tt
 plain_answer s (queries.Range quantity) h = tt
-plain_answer s queries.Totals h = tt
-plain_answer s (queries.Slice k) h = tt
+plain_answer s queries.Totals h = plain_of_values s.volume.head (Ok (answers.Totals (totals_in s))) tt
+plain_answer s (queries.Slice k) h = plain_of_values s.volume.head (Ok (answers.Slice (slice_in s k))) tt
 plain_answer s queries.Faults h = tt
 plain_answer s (queries.Lines b) h = plain_lines_answer (block_of s.volume b)
 plain_answer s (queries.Table a b fields) h =
@@ -327,6 +336,7 @@ plain_refusal (refusals.Map fault) = plain_map_fault fault
 plain_refusal refusals.TooLarge = refl
 plain_refusal refusals.TooManyTraces = refl
 plain_refusal refusals.OutOfMemory = refl
+plain_refusal refusals.NoValues = refl
 plain_refusal (refusals.ZeroDivisor p) = plain_words (word (codes "E13 zero divisor trace") refl (word (decimal p) (plain_decimal p) no_word))
 
 plain_ask_fault : (fault : AskFault) → is_plain (ask_fault_text fault) ≡ true
@@ -335,6 +345,7 @@ plain_ask_fault ask_faults.NoField = refl
 plain_ask_fault ask_faults.NoPlace = refl
 plain_ask_fault (ask_faults.NoSample k number) = plain_no_sample k number
 plain_ask_fault ask_faults.OutOfMemory = refl
+plain_ask_fault ask_faults.NoValues = refl
 
 pub nothing_full : IsFullLines (nothing.text)
 nothing_full = record { lines = []; text_is = refl; full = refl }

@@ -35,6 +35,7 @@ load_fault_text (load_faults.ExtensionCount trace) = codes "L13 extension count 
 load_fault_text (load_faults.Truncated trace) = codes "L14 truncated trace " ++ decimal trace
 load_fault_text load_faults.TooManyTraces = codes "L15 too many traces"
 load_fault_text load_faults.OutOfMemory = codes "L16 out of memory"
+load_fault_text load_faults.OtherOrder = codes "L17 other byte order"
 
 -- what is printed for a refused script, behind `script refused`
 abbrev pub script_fault_text : ScriptFault → List ℕ
@@ -88,6 +89,7 @@ refusal_text (refusals.Map fault) = map_fault_text fault
 refusal_text refusals.TooLarge = codes "E09 too large"
 refusal_text refusals.TooManyTraces = codes "E10 too many traces"
 refusal_text refusals.OutOfMemory = codes "E11 out of memory"
+refusal_text refusals.NoValues = codes "E12 samples have no value"
 refusal_text (refusals.ZeroDivisor p) = with_blanks (codes "E13 zero divisor trace" ∷ decimal p ∷ [])
 
 -- what is printed for a refused query
@@ -97,6 +99,7 @@ ask_fault_text ask_faults.NoField = codes "E02 no field"
 ask_fault_text ask_faults.NoPlace = codes "E03 no place"
 ask_fault_text (ask_faults.NoSample k number) = no_sample k number
 ask_fault_text ask_faults.OutOfMemory = codes "E11 out of memory"
+ask_fault_text ask_faults.NoValues = codes "E12 samples have no value"
 
 -- the line printed for an accepted edit
 abbrev pub accepted_line : List ℕ

@@ -72,6 +72,7 @@ pub(crate) fn refusal_line(refusal: Refusal) -> TextBuffer
         Refusal::TooLarge => line.push(b"E09 too large"),
         Refusal::TooManyTraces => line.push(b"E10 too many traces"),
         Refusal::OutOfMemory => line.push(b"E11 out of memory"),
+        Refusal::NoValues => line.push(b"E12 samples have no value"),
         Refusal::ZeroDivisor(p) => line.push_numbered(b"E13 zero divisor trace ", p),
     }
     line.push(b"\n");
@@ -90,6 +91,7 @@ pub(crate) fn ask_fault_line(fault: AskFault) -> TextBuffer
         AskFault::NoPlace => line.push(b"E03 no place"),
         AskFault::NoSample(k, number) => push_no_sample(&mut line, k, number),
         AskFault::OutOfMemory => line.push(b"E11 out of memory"),
+        AskFault::NoValues => line.push(b"E12 samples have no value"),
     }
     line.push(b"\n");
     line
@@ -175,5 +177,6 @@ fn push_load_fault(line: &mut TextBuffer, fault: LoadFault)
         LoadFault::Truncated(trace) => line.push_numbered(b"L14 truncated trace ", trace),
         LoadFault::TooManyTraces => line.push(b"L15 too many traces"),
         LoadFault::OutOfMemory => line.push(b"L16 out of memory"),
+        LoadFault::OtherOrder => line.push(b"L17 other byte order"),
     }
 }

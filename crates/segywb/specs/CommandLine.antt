@@ -1,5 +1,5 @@
 -- The command line of the program, as clap sees it.
-use Rattle.std.specs.Prelude.{◌≡◌, ℕ, Bool, true, false, List, map, Option, Some, None, codes, if◌then◌else◌}
+use Rattle.std.specs.Prelude.{◌≡◌, ◌⊎◌, ℕ, Bool, true, false, List, map, Option, Some, None, codes, if◌then◌else◌}
 use Rattle.std.specs.Str.{bytes_eq}
 use Rattle.std.specs.Str.Parse.{digits_value, without_leading_plus}
 use Rattle.std.specs.String.{string_bytes}
@@ -9,6 +9,8 @@ use Rattle.clap.specs.Simple.{on_top}
 use Rattle.clap.specs.Words.{is_simple, App, Row, Rule, first_of, one_of, matches_of, new_app, new_rule, with_rule}
 use Rattle.clap.specs.declared.builder.ArgAction.TheVariants.{Set, SetTrue}
 use Rattle.clap.specs.declared.builder.value_parser.ValueParser.TheVariants as vp
+use Rattle.num_order.specs.declared.order.Order.{Order}
+use Rattle.num_order.specs.declared.order.Order.TheVariants.{Big, Little}
 
 -- the argument `FILE`
 abbrev pub file_rule : Rule
@@ -30,6 +32,14 @@ in_place_rule = record (new_rule (codes "in-place")) { long = Some (codes "in-pl
 abbrev pub fixed_rule : Rule
 fixed_rule = record (new_rule (codes "fixed")) { long = Some (codes "fixed"); action = Some SetTrue }
 
+-- the flag `--opaque-samples`
+abbrev pub opaque_rule : Rule
+opaque_rule = record (new_rule (codes "opaque-samples")) { long = Some (codes "opaque-samples"); action = Some SetTrue }
+
+-- the argument `--order O`
+abbrev pub order_rule : Rule
+order_rule = record (new_rule (codes "order")) { long = Some (codes "order"); value_names = 1 }
+
 -- the argument `--max-bytes N`, N from 1 to 2^40
 abbrev pub limit_rule : Rule
 limit_rule = record (new_rule (codes "max-bytes")) { long = Some (codes "max-bytes"); parser = Some (vp.Unsigned 1 1099511627776); value_names = 1 }
@@ -46,13 +56,14 @@ session_rule = record (new_rule (codes "session")) { long = Some (codes "session
 abbrev pub quiet_rule : Rule
 quiet_rule = record (new_rule (codes "quiet")) { long = Some (codes "quiet"); action = Some SetTrue }
 
--- the program's name with a version, for which there is the flag `--version`
+-- the program's name with a version, for which there is the flag `--version`; an option may stand
+-- more than once, and the last one counts
 abbrev pub titled : App
-titled = on_top (λ s. record s { has_version = true }) (new_app (codes "segywb"))
+titled = on_top (λ s. record s { has_version = true; args_override_self = true }) (new_app (codes "segywb"))
 
--- `segywb FILE [--script S] [--session] [--out O] [--in-place] [--fixed] [--max-bytes N] [--stop] [--quiet]`
+-- `segywb FILE [--script S] [--session] [--out O] [--in-place] [--fixed] [--opaque-samples] [--order O] [--max-bytes N] [--stop] [--quiet]`
 unfoldable pub segywb : App
-segywb = with_rule (with_rule (with_rule (with_rule (with_rule (with_rule (with_rule (with_rule (with_rule titled file_rule) script_rule) out_rule) in_place_rule) fixed_rule) limit_rule) stop_rule) session_rule) quiet_rule
+segywb = with_rule (with_rule (with_rule (with_rule (with_rule (with_rule (with_rule (with_rule (with_rule (with_rule (with_rule titled file_rule) script_rule) out_rule) in_place_rule) fixed_rule) opaque_rule) order_rule) limit_rule) stop_rule) session_rule) quiet_rule
 
 -- what clap matches for the words
 abbrev pub matched : List (List ℕ) → List Row
@@ -66,6 +77,11 @@ ReadsFlag text b = (text ≡ Some (codes "true") → b ≡ true) × (text ≡ So
 abbrev pub ReadsLimit : Option (List ℕ) → Option ℕ → Type 0
 ReadsLimit None limit = limit ≡ None
 ReadsLimit (Some text) limit = limit ≡ Some (digits_value 10 (without_leading_plus text))
+
+-- the order of bytes that is asked for has one of two names, and there is none where clap keeps none
+abbrev pub ReadsOrder : Option (List ℕ) → Option Order → Type 0
+ReadsOrder None order = order ≡ None
+ReadsOrder (Some text) order = (text ≡ codes "big" × order ≡ Some Big) ⊎ (text ≡ codes "little" × order ≡ Some Little)
 
 -- the command is one of which clap's words give the matches
 pub segywb-is_simple : is_simple segywb ≡ true

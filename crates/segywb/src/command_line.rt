@@ -2,10 +2,11 @@
 ghost use Rattle.std.specs.Prelude.{◌≡◌, ◌≤◌, ℕ, List, Some, None, IfOk, IfSome, IfErr, codes, map, option_map, OnOk, true, false};
 ghost use Rattle.std.specs.String.{string_bytes};
 ghost use Rattle.clap.specs.Words.{app_of, first_of, one_of, is_simple, found_of, rows_of, first_value, one_text};
-ghost use Rattle.segywb.specs.CommandLine.{segywb, titled, matched, ReadsFlag, ReadsLimit};
+ghost use Rattle.segywb.specs.CommandLine.{segywb, titled, matched, ReadsFlag, ReadsLimit, ReadsOrder};
 
 use clap::error::ErrorKind;
 use clap::{ArgMatches, Command, Error};
+use num_order::Order;
 use std::alloc::{AllocError, Global};
 
 mod args;
@@ -33,7 +34,8 @@ const AFTER: &str = "Exit status:\n\
      \x20 echo info | segywb line.sgy --session\n\n\
      The script language: man 5 segywb-script, or docs/MANUAL.md.";
 
-// The program's name, with its version and what `--help` says above and below the arguments.
+// The program's name, with its version and what `--help` says above and below the arguments. An
+// option may stand more than once.
 fn titled_command<'a>(alloc: Global) -> Command<'a>
     ensures { app_of result ≡ titled }
 {
@@ -41,6 +43,7 @@ fn titled_command<'a>(alloc: Global) -> Command<'a>
         .version("0.1.0")
         .about(ABOUT)
         .after_help(AFTER)
+        .args_override_self(true)
 }
 
 fn command<'a>(alloc: Global) -> Result<Command<'a>, AllocError>
@@ -52,6 +55,8 @@ fn command<'a>(alloc: Global) -> Result<Command<'a>, AllocError>
         .arg(args::out(alloc))?
         .arg(args::in_place(alloc))?
         .arg(args::fixed(alloc))?
+        .arg(args::opaque(alloc))?
+        .arg(args::order(alloc))?
         .arg(args::limit(alloc))?
         .arg(args::stop(alloc))?
         .arg(args::session(alloc))?
@@ -73,8 +78,21 @@ fn max_bytes(matches: &ArgMatches) -> Option<Option<u64>>
     }
 }
 
+// The order of bytes that is asked for; `None` where the word names none.
+fn order(matches: &ArgMatches) -> Option<Option<Order>>
+    ensures { IfSome result
+        (λ order. ReadsOrder (first_value (found_of matches.now) (codes "order")) order) }
+{
+    match matches.get_str("order") {
+        None => Some(None),
+        Some("big") => Some(Some(Order::Big)),
+        Some("little") => Some(Some(Order::Little)),
+        Some(_) => None,
+    }
+}
+
 // `None` never comes where the matches are those of `command`.
-fn read_matches<'a>(matches: &ArgMatches<'a>) -> Option<Arguments<'a>>
+fn read_matches<'a>(matches: &ArgMatches<'a>, order: Option<Order>) -> Option<Arguments<'a>>
     ensures file { IfSome result (λ a. first_value (found_of matches.now) (codes "FILE") ≡ Some
         a.file.now) }
     ensures script { IfSome result
@@ -89,6 +107,9 @@ fn read_matches<'a>(matches: &ArgMatches<'a>) -> Option<Arguments<'a>>
     ensures range { IfSome result (λ a. IfSome a.max_bytes (λ n. (1 ≤ n) × (n ≤ 1099511627776))) }
     ensures fixed { IfSome result (λ a. ReadsFlag (one_text (found_of matches.now) (codes "fixed"))
         a.fixed) }
+    ensures opaque { IfSome result
+        (λ a. ReadsFlag (one_text (found_of matches.now) (codes "opaque-samples")) a.opaque) }
+    ensures order { IfSome result (λ a. a.order ≡ order) }
     ensures stop { IfSome result (λ a. ReadsFlag (one_text (found_of matches.now) (codes "stop"))
         a.stop) }
     ensures session { IfSome result
@@ -102,6 +123,7 @@ fn read_matches<'a>(matches: &ArgMatches<'a>) -> Option<Arguments<'a>>
     let in_place = matches.get_flag("in-place");
     let max_bytes = max_bytes(matches)?;
     let fixed = matches.get_flag("fixed");
+    let opaque = matches.get_flag("opaque-samples");
     let stop = matches.get_flag("stop");
     let session = matches.get_flag("session");
     let quiet = matches.get_flag("quiet");
@@ -112,6 +134,8 @@ fn read_matches<'a>(matches: &ArgMatches<'a>) -> Option<Arguments<'a>>
         in_place,
         max_bytes,
         fixed,
+        opaque,
+        order,
         stop,
         session,
         quiet,
@@ -119,9 +143,10 @@ fn read_matches<'a>(matches: &ArgMatches<'a>) -> Option<Arguments<'a>>
 }
 
 /// What the words of a command line say, the program's name first: `FILE --script S [--out O]
-/// [--in-place] [--fixed] [--max-bytes N] [--stop] [--quiet]`, N from 1 to 1099511627776. Refused
-/// with clap's text where they are not accepted, `--help` too, or where a growth was refused. Takes
-/// memory.
+/// [--in-place] [--fixed] [--opaque-samples] [--order big|little] [--max-bytes N] [--stop]
+/// [--quiet]`, N from 1 to 1099511627776; an option may stand more than once, and the last one
+/// counts. Refused with clap's text where they are not accepted, `--help` too, or where a growth
+/// was refused. Takes memory.
 pub fn arguments<'a>(alloc: Global, words: &'a [String]) -> Result<Arguments<'a>, Error>
     ensures file { IfOk result (λ a. first_of (codes "FILE") (matched (map string_bytes words.now))
         ≡ Some a.file.now) }
@@ -139,6 +164,12 @@ pub fn arguments<'a>(alloc: Global, words: &'a [String]) -> Result<Arguments<'a>
     ensures range { IfOk result (λ a. IfSome a.max_bytes (λ n. (1 ≤ n) × (n ≤ 1099511627776))) }
     ensures fixed { IfOk result
         (λ a. ReadsFlag (one_of (codes "fixed") (matched (map string_bytes words.now))) a.fixed) }
+    ensures opaque { IfOk result
+        (λ a. ReadsFlag (one_of (codes "opaque-samples") (matched (map string_bytes words.now)))
+        a.opaque) }
+    ensures order { IfOk result
+        (λ a. ReadsOrder (first_of (codes "order") (matched (map string_bytes words.now)))
+        a.order) }
     ensures stop { IfOk result
         (λ a. ReadsFlag (one_of (codes "stop") (matched (map string_bytes words.now))) a.stop) }
     ensures session { IfOk result
@@ -149,7 +180,10 @@ pub fn arguments<'a>(alloc: Global, words: &'a [String]) -> Result<Arguments<'a>
 {
     let mut command = command(alloc)?;
     let matches = command.try_get_matches_from_mut(words)?;
-    match read_matches(&matches) {
+    let Some(order) = order(&matches) else {
+        return Err(command.error(ErrorKind::InvalidValue, "--order is big or little")?);
+    };
+    match read_matches(&matches, order) {
         Some(read) => Ok(read),
         None => Err(command.error(ErrorKind::MissingRequiredArgument, "FILE")?),
     }

@@ -1,6 +1,5 @@
 // From the command line to the exit status.
-ghost use Rattle.std.specs.Prelude.{◌≡◌, ◌≤◌, IfSome, is_some, unwrap_or, if◌then◌else◌};
-ghost use Rattle.frame_cut.specs.declared.reading.Reading.TheVariants.{Fixed, AsWritten};
+ghost use Rattle.std.specs.Prelude.{◌≡◌, ◌≤◌, IfSome, is_some, unwrap_or};
 
 use crate::command_line::{Arguments, arguments};
 use crate::finish::{finish, refused_out};
@@ -195,16 +194,20 @@ fn answer<R: Files + AllocGlobal + Print + Input, O: Write>(
 // How the command line asks for the run.
 fn options(arguments: &Arguments) -> Options
     requires { IfSome arguments.now.max_bytes (λ n. n ≤ 1099511627776) }
-    ensures reading { result.reading ≡ if arguments.now.fixed then Fixed else AsWritten }
+    ensures reading { result.reading ≡ record {
+      fixed = arguments.now.fixed;
+      opaque = arguments.now.opaque;
+      order = arguments.now.order;
+    } }
     ensures bytes { result.limits.bytes ≡ unwrap_or arguments.now.max_bytes 4294967296 }
     ensures traces { result.limits.traces ≡ 4294967295 }
     ensures stop { result.stop ≡ arguments.now.stop }
     ensures save { result.save ≡ is_some arguments.now.out }
 {
-    let reading = if arguments.fixed {
-        Reading::Fixed
-    } else {
-        Reading::AsWritten
+    let reading = Reading {
+        fixed: arguments.fixed,
+        opaque: arguments.opaque,
+        order: arguments.order,
     };
     let limits = match Limits::new(arguments.max_bytes.unwrap_or(DEFAULT_LIMIT), u32::MAX) {
         Some(limits) => limits,

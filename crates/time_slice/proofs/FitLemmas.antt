@@ -8,15 +8,18 @@ use Rattle.num_order.specs.declared.order.Order.{Order}
 use Rattle.num_order.specs.Number.{unsigned, with_sign, IsBetween, is_between}
 use Rattle.num_order.proofs.SizeLemmas.{slice-lt}
 use Rattle.sample_codes.specs.declared.format.Format.{Format}
-use Rattle.sample_codes.specs.declared.format.Format.TheVariants.{Signed32, Signed16, Signed24, Signed8, Signed64, Unsigned32, Unsigned16, Unsigned64, Unsigned24, Unsigned8}
-use Rattle.sample_codes.specs.Formats.{width, is_signed, sample_value, sample_fits}
+use Rattle.sample_codes.specs.declared.format.Format.TheVariants.{Integer, Opaque}
+use Rattle.sample_codes.specs.declared.integer_format.IntegerFormat.{IntegerFormat}
+use Rattle.sample_codes.specs.declared.integer_format.IntegerFormat.TheVariants.{Signed32, Signed16, Signed24, Signed8, Signed64, Unsigned32, Unsigned16, Unsigned64, Unsigned24, Unsigned8}
+use Rattle.sample_codes.specs.Formats.{integer_width, is_signed, sample_value, sample_fits}
+use Rattle.time_slice.specs.Fitting.{value_fits, has_signs}
 
 -- ---- the number of a sample's bytes
 
 between_unsigned : (size n : ℕ) → n < 2 ^ (8 * size) → IsBetween false size (pos n)
 between_unsigned size n h = (omega (arith, ints), omega (arith, ints))
 
-in_format : (f : Format) (n : ℕ) → n < 256 ^ width f → IsBetween (is_signed f) (width f) (with_sign (is_signed f) (width f) n)
+in_format : (f : IntegerFormat) (n : ℕ) → n < 256 ^ integer_width f → IsBetween (is_signed f) (integer_width f) (with_sign (is_signed f) (integer_width f) n)
 in_format Signed32 n h = (grind (arith, nat_tests, ints), grind (arith, nat_tests, ints))
 in_format Signed16 n h = (grind (arith, nat_tests, ints), grind (arith, nat_tests, ints))
 in_format Signed24 n h = (grind (arith, nat_tests, ints), grind (arith, nat_tests, ints))
@@ -36,10 +39,27 @@ tested : (signed : Bool) (size : ℕ) (v : ℤ) → IsBetween signed size v → 
 tested false size v h = rw (holds _ h.0.le, holds _ h.1.lt) refl
 tested true size v h = rw (holds _ h.0.le, holds _ h.1.lt) refl
 
-pub fits_of_bytes : (o : Order) (f : Format) (bytes : List ℕ) → length bytes ≡ width f → ((i : ℕ) → Fits w8 (get_or bytes i 0)) → IsTrue (sample_fits f (sample_value o f bytes))
+pub fits_of_bytes : (o : Order) (f : IntegerFormat) (bytes : List ℕ) → length bytes ≡ integer_width f → ((i : ℕ) → Fits w8 (get_or bytes i 0)) → IsTrue (sample_fits f (sample_value o f bytes))
 fits_of_bytes o f bytes long each =
-    let small : unsigned o (take (width f) (drop 0 bytes)) < 256 ^ width f = slice-lt o 0 (width f) (width f) bytes refl (omega (arith, long)) each in
-    let whole : take (width f) bytes ≡ bytes = take_all (width f) bytes (omega (arith, long)) in
-    tested (is_signed f) (width f) (sample_value o f bytes) (in_format f (unsigned o bytes) (subst (λ (bs : List ℕ). unsigned o bs < 256 ^ width f) whole small))
+    let small : unsigned o (take (integer_width f) (drop 0 bytes)) < 256 ^ integer_width f = slice-lt o 0 (integer_width f) (integer_width f) bytes refl (omega (arith, long)) each in
+    let whole : take (integer_width f) bytes ≡ bytes = take_all (integer_width f) bytes (omega (arith, long)) in
+    tested (is_signed f) (integer_width f) (sample_value o f bytes) (in_format f (unsigned o bytes) (subst (λ (bs : List ℕ). unsigned o bs < 256 ^ integer_width f) whole small))
 
 -- ---- in 8 bytes
+
+integer_in_8 : (f : IntegerFormat) (v : ℤ) → IsTrue (sample_fits f v) → IsBetween (is_signed f) 8 v
+integer_in_8 Signed32 v h = (grind (arith, nat_tests, ints), grind (arith, nat_tests, ints))
+integer_in_8 Signed16 v h = (grind (arith, nat_tests, ints), grind (arith, nat_tests, ints))
+integer_in_8 Signed24 v h = (grind (arith, nat_tests, ints), grind (arith, nat_tests, ints))
+integer_in_8 Signed8 v h = (grind (arith, nat_tests, ints), grind (arith, nat_tests, ints))
+integer_in_8 Signed64 v h = (grind (arith, nat_tests, ints), grind (arith, nat_tests, ints))
+integer_in_8 Unsigned32 v h = (grind (arith, nat_tests, ints), grind (arith, nat_tests, ints))
+integer_in_8 Unsigned16 v h = (grind (arith, nat_tests, ints), grind (arith, nat_tests, ints))
+integer_in_8 Unsigned64 v h = (grind (arith, nat_tests, ints), grind (arith, nat_tests, ints))
+integer_in_8 Unsigned24 v h = (grind (arith, nat_tests, ints), grind (arith, nat_tests, ints))
+integer_in_8 Unsigned8 v h = (grind (arith, nat_tests, ints), grind (arith, nat_tests, ints))
+
+-- a number that the format has is one of 8 bytes with the format's sign
+pub fits_in_8 : (f : Format) (v : ℤ) → IsTrue (value_fits f v) → IsBetween (has_signs f) 8 v
+fits_in_8 (Integer f) v h = integer_in_8 f v h
+fits_in_8 (Opaque f) v h = absurd cc

@@ -1,5 +1,5 @@
 -- The pass that makes the rows, and the slice that records give.
-use Rattle.std.specs.Prelude.{◌≡◌, ℕ, ℤ, ◌+◌, ◌*◌, ◌-◌, ◌<◌, ◌≤◌, IsTrue, List, [], ◌∷◌, ◌++◌, All, map, take, slice_range, Option, Some, None, IfSome, refl, length}
+use Rattle.std.specs.Prelude.{◌≡◌, ℕ, ℤ, ◌+◌, ◌*◌, ◌-◌, ◌<◌, ◌≤◌, IsTrue, List, [], ◌∷◌, ◌++◌, All, map, take, slice_range, Option, Some, None, option_map, IfSome, refl, length}
 use Rattle.std.proofs.Common.{arith, sym, ap, ◌∙◌, append_assoc, append-nil, drop, drop-drop}
 use Rattle.std.proofs.lemmas.Bool.{lt-ltb}
 use Rattle.std.proofs.lemmas.List.Elements.{All-nil, All-cons, All-append, All-same}
@@ -8,37 +8,43 @@ use Rattle.field_map.specs.Pairs.{Pairs}
 use Rattle.frame_cut.specs.declared.file_head.Head.{Head}
 use Rattle.frame_cut.specs.Frames.{extensions_of, sample_count}
 use Rattle.sample_codes.specs.declared.format.Format.{Format}
-use Rattle.sample_codes.specs.Formats.{width, sample_value, sample_fits}
-use Rattle.trace_view.specs.Values.{sample_of}
+use Rattle.sample_codes.specs.declared.integer_format.IntegerFormat.{IntegerFormat}
+use Rattle.sample_codes.specs.Formats.{integer_width, width, values, sample_value}
+use Rattle.sample_codes.proofs.WidthLemmas.{width-values}
+use Rattle.trace_view.specs.Values.{bytes_of_sample, sample_of}
 use Rattle.trace_record.specs.Facts.{Facts, facts_of}
 use Rattle.trace_record.specs.OfTrace.{record_of}
 use Rattle.trace_record.specs.Packed.{record_in}
 use Rattle.trace_record.specs.declared.packed_record.PackedRecord.{PackedRecord}
 use Rattle.trace_store.specs.Shown.{ShownTrace, shown_each}
 use Rattle.time_slice.specs.declared.row.Row.{Row}
+use Rattle.time_slice.specs.Fitting.{value_fits}
 use Rattle.time_slice.specs.Laws.{RowsAreOfTraces}
 use Rattle.time_slice.specs.OfRecords.{with_sample_of}
 use Rattle.time_slice.specs.Slices.{row_of, rows_from, slice_rows, with_sample}
 
 -- the bytes of a sample at their place in the trace
-pub sample_at : (h : Head) (t : List ℕ) (k e w j : ℕ) (bytes : List ℕ) → k < sample_count h t → e ≡ extensions_of h t → w ≡ width h.format → j ≡ k
-    → bytes ≡ slice_range t (240 * (1 + e) + w * j) (240 * (1 + e) + w * j + w) → Some (sample_value h.order h.format bytes) ≡ sample_of h t k
-sample_at h t k e w j bytes there headers wide number here =
+pub sample_at : (h : Head) (f : IntegerFormat) (t : List ℕ) (k e w j : ℕ) (bytes : List ℕ) → values h.format ≡ Some f → k < sample_count h t → e ≡ extensions_of h t → w ≡ integer_width f → j ≡ k
+    → bytes ≡ slice_range t (240 * (1 + e) + w * j) (240 * (1 + e) + w * j + w) → Some (sample_value h.order f bytes) ≡ sample_of h t k
+sample_at h f t k e w j bytes reads there headers narrow number here =
+    let wide : w ≡ width h.format = narrow ∙ sym (width-values h.format f reads) in
     let place : ℕ = 240 * (1 + e) + w * j in
     let size : place + w - place ≡ w = omega arith in
     let at : drop place t ≡ drop (width h.format * k) (drop (240 * (1 + extensions_of h t)) t) =
     rw (headers, wide, number) (sym (drop-drop (width h.format * k) (240 * (1 + extensions_of h t)) t)) in
+    let bytes_are : bytes ≡ bytes_of_sample h t k = here ∙ ap (λ (n : ℕ). take n (drop place t)) (size ∙ wide) ∙ ap (λ (bs : List ℕ). take (width h.format) bs) at in
     rw (lt-ltb k (sample_count h t) there)
-    (ap (λ (bs : List ℕ). Some (sample_value h.order h.format bs)) (here ∙ ap (λ (n : ℕ). take n (drop place t)) (size ∙ wide) ∙ ap (λ (bs : List ℕ). take (width h.format) bs) at))
+    (ap (λ (bs : List ℕ). Some (sample_value h.order f bs)) bytes_are
+    ∙ ap (λ (o : Option IntegerFormat). option_map (λ g. sample_value h.order g (bytes_of_sample h t k)) o) (sym reads))
 
 -- a row more whose sample the format has
-pub fits_more : (f : Format) (old new : List Row) (p : ℕ) (facts : Facts) (s : Option ℤ) → new ≡ old ++ row_of p facts s → IfSome s (λ v. IsTrue (sample_fits f v))
-    → All (λ r. IsTrue (sample_fits f r.value)) old → All (λ r. IsTrue (sample_fits f r.value)) new
-fits_more f old new p facts s grew fits all = All-same (λ r. IsTrue (sample_fits f r.value)) new (old ++ row_of p facts s) grew (All-append (λ r. IsTrue (sample_fits f r.value)) old (row_of p facts s) all (by s fits))
+pub fits_more : (f : Format) (old new : List Row) (p : ℕ) (facts : Facts) (s : Option ℤ) → new ≡ old ++ row_of p facts s → IfSome s (λ v. IsTrue (value_fits f v))
+    → All (λ r. IsTrue (value_fits f r.value)) old → All (λ r. IsTrue (value_fits f r.value)) new
+fits_more f old new p facts s grew fits all = All-same (λ r. IsTrue (value_fits f r.value)) new (old ++ row_of p facts s) grew (All-append (λ r. IsTrue (value_fits f r.value)) old (row_of p facts s) all (by s fits))
   where
-    by : (s : Option ℤ) → IfSome s (λ v. IsTrue (sample_fits f v)) → All (λ r. IsTrue (sample_fits f r.value)) (row_of p facts s)
-    by None fits = All-nil (λ r. IsTrue (sample_fits f r.value))
-    by (Some v) fits = All-cons (λ r. IsTrue (sample_fits f r.value)) (record { inline = facts.inline; crossline = facts.crossline; position = p; value = v }) [] fits (All-nil (λ r. IsTrue (sample_fits f r.value)))
+    by : (s : Option ℤ) → IfSome s (λ v. IsTrue (value_fits f v)) → All (λ r. IsTrue (value_fits f r.value)) (row_of p facts s)
+    by None fits = All-nil (λ r. IsTrue (value_fits f r.value))
+    by (Some v) fits = All-cons (λ r. IsTrue (value_fits f r.value)) (record { inline = facts.inline; crossline = facts.crossline; position = p; value = v }) [] fits (All-nil (λ r. IsTrue (value_fits f r.value)))
 
 -- the facts and sample k of a trace that is shown with its record
 abbrev pub sampled : ℕ → ShownTrace × PackedRecord → Facts × Option ℤ

@@ -1,7 +1,7 @@
 -- Slices of a small survey, worked by hand.
 use Rattle.std.specs.Prelude.{◌≡◌, pos, negsuc, [], ◌∷◌, Some, None, refl}
 use Rattle.field_map.specs.Binding.{geometry_at_load}
-use Rattle.frame_cut.specs.SmallFiles.{head_plain, trace_plain_1}
+use Rattle.frame_cut.specs.SmallFiles.{head_plain, head_untold, trace_plain_1, trace_untold}
 use Rattle.trace_record.specs.Facts.{facts_of}
 use Rattle.trace_record.specs.SmallSurvey.{trace_1, trace_2, trace_3}
 use Rattle.trace_record.specs.declared.record.Record.{Record}
@@ -43,3 +43,7 @@ beside-plain_1 r = refl
 -- the trace has two samples, so that it has no row in slice 2
 pub beside-plain_2 : (r : Record) → slice_rows (with_sample_of head_plain 2 (r ∷ []) (trace_plain_1 ∷ [])) ≡ []
 beside-plain_2 r = refl
+
+-- the sample of an opaque format has no value, so that the slice has no row
+pub beside-untold : (r : Record) → with_sample_of head_untold 0 (r ∷ []) (trace_untold ∷ []) ≡ (facts_of r, None) ∷ []
+beside-untold r = refl

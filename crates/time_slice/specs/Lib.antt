@@ -6,3 +6,4 @@ pub mod Cache
 pub mod CacheExamples
 pub mod CacheLaws
 pub mod Shown
+pub mod Fitting

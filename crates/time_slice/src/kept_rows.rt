@@ -1,9 +1,9 @@
 // What is kept of the rows of a slice.
 ghost use Rattle.std.specs.Prelude.{◌≡◌, ◌++◌, map, All, IfOk, OnOk, IsTrue};
 ghost use Rattle.num_order.specs.Number.{IsBetween};
-ghost use Rattle.sample_codes.specs.Formats.{sample_fits};
 ghost use Rattle.trace_record.specs.Facts.{facts_of};
 ghost use Rattle.time_slice.specs.Cache.{kept_of, row_again, rows_again};
+ghost use Rattle.time_slice.specs.Fitting.{has_signs, value_fits};
 ghost use Rattle.time_slice.specs.Shown.{pair_of};
 
 use crate::of_volume::push_row;
@@ -72,10 +72,10 @@ impl Model for KeptRows {
 impl KeptRows {
     // What is kept of rows whose samples the format has.
     pub(crate) fn of(alloc: Global, rows: &[Row], format: Format) -> Result<KeptRows, OutOfMemory>
-        requires { All (λ r. IsTrue (sample_fits format r.value)) rows.now }
+        requires { All (λ r. IsTrue (value_fits format r.value)) rows.now }
         ensures { IfOk result (λ kept. kept ≡ kept_of rows.now) }
     {
-        let signed = format.kind().signed;
+        let signed = may_be_signed(format);
         let mut kept = Vec::with_capacity(alloc, rows.len())?;
         for row in rows {
             kept.push(KeptRow::of(*row, signed))?;
@@ -93,6 +93,16 @@ impl KeptRows {
             push_again(&mut rows, &mut walk, *kept, self.signed)?;
         }
         Ok(rows)
+    }
+}
+
+// Whether samples of the format may have values below zero.
+fn may_be_signed(format: Format) -> bool
+    ensures { result ≡ has_signs format }
+{
+    match format.values() {
+        Some(format) => format.kind().signed,
+        None => false,
     }
 }
 

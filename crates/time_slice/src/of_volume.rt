@@ -1,11 +1,12 @@
 ghost use Rattle.std.specs.Prelude.{◌≡◌, ◌++◌, length, map, All, IfOk, IfSome, OnOk, IsTrue};
 ghost use Rattle.frame_cut.specs.Traces.{count_of};
-ghost use Rattle.sample_codes.specs.Formats.{width, sample_value, sample_fits};
+ghost use Rattle.sample_codes.specs.Formats.{integer_width, sample_value, sample_fits};
 ghost use Rattle.trace_view.specs.Shown.{head_of, bytes_of};
 ghost use Rattle.trace_view.specs.Values.{sample_of};
 ghost use Rattle.trace_record.specs.Facts.{facts_of};
 ghost use Rattle.trace_record.specs.Packed.{record_in};
 ghost use Rattle.edit_overlay.specs.CountedVolume.{RisesAtMost};
+ghost use Rattle.time_slice.specs.Fitting.{value_fits};
 ghost use Rattle.time_slice.specs.OfRecords.{with_sample_of};
 ghost use Rattle.time_slice.specs.Slices.{row_of, rows_from, slice_rows};
 
@@ -13,15 +14,17 @@ use crate::{OutOfMemory, Row};
 use edit_overlay::Overlay;
 use field_map::TRACE_HEADER_BYTES;
 use frame_cut::Head;
+use num_order::Order;
+use sample_codes::IntegerFormat;
 use std::alloc::Global;
 use trace_record::{PackedRecord, Record};
 use trace_view::TraceView;
 
-/// Slice k, counted from 0: a row for each trace that has sample k, in rising order by inline,
-/// crossline and position. Inline and crossline are those of the record that stands beside the
-/// trace. One pass over them, with one look at each trace, which reads the one sample by its place;
-/// then the rows are sorted where they stand. Takes memory for a row for each trace; refused for
-/// want of it alone, and the volume stays as it is in any case.
+/// Slice k, counted from 0: a row for each trace that has sample k, where samples have values, in
+/// rising order by inline, crossline and position. Inline and crossline are those of the record that
+/// stands beside the trace. One pass over them, with one look at each trace, which reads the one
+/// sample by its place; then the rows are sorted where they stand. Takes memory for a row for each
+/// trace; refused for want of it alone, and the volume stays as it is in any case.
 pub fn rows(
     alloc: Global,
     overlay: &mut Overlay<PackedRecord>,
@@ -31,7 +34,7 @@ pub fn rows(
         overlay.old.volume.head k (map record_in overlay.old.payloads)
         overlay.old.volume.traces)) }
     ensures fits { IfOk result (λ v.
-        All (λ r. IsTrue (sample_fits overlay.old.volume.head.format r.value)) v.items) }
+        All (λ r. IsTrue (value_fits overlay.old.volume.head.format r.value)) v.items) }
     ensures volume { overlay.new.volume ≡ overlay.old.volume }
     ensures prepared { overlay.new.prepared ≡ overlay.old.prepared }
     ensures payloads { overlay.new.payloads ≡ overlay.old.payloads }
@@ -52,7 +55,7 @@ fn rows_in_place(
         overlay.old.volume.head k (map record_in overlay.old.payloads)
         overlay.old.volume.traces)) }
     ensures fits { IfOk result (λ v.
-        All (λ r. IsTrue (sample_fits overlay.old.volume.head.format r.value)) v.items) }
+        All (λ r. IsTrue (value_fits overlay.old.volume.head.format r.value)) v.items) }
     ensures volume { overlay.new.volume ≡ overlay.old.volume }
     ensures prepared { overlay.new.prepared ≡ overlay.old.prepared }
     ensures payloads { overlay.new.payloads ≡ overlay.old.payloads }
@@ -99,32 +102,34 @@ pub(crate) fn push_row(
     Ok(())
 }
 
-// Sample k of the trace. Read by its bytes, since they tell that its format has the number.
+// The value of sample k of the trace. Read by its bytes, since they tell that its format has the
+// number.
 fn sample_that_fits(trace: &TraceView<'_>, k: u32) -> Option<i128>
     ensures sample { result ≡ sample_of (head_of trace.now) (bytes_of trace.now) k }
-    ensures fits { IfSome result (λ v. IsTrue (sample_fits (head_of trace.now).format v)) }
+    ensures fits { IfSome result (λ v. IsTrue (value_fits (head_of trace.now).format v)) }
 {
     if k >= trace.sample_count() {
         return None;
     }
     let head = trace.head();
+    let format = head.format.values()?;
     let headers = TRACE_HEADER_BYTES as u64 * (1 + u64::from(trace.extension_count()));
-    let width = u64::from(head.format.width());
+    let width = u64::from(format.width());
     let at = headers + width * u64::from(k);
     if let Some(bytes) = trace.plain(at, at + width) {
-        return Some(number_of(head, bytes));
+        return Some(number_of(head.order, format, bytes));
     }
     let mut sample = [0; 8];
     let bytes = &mut sample[..width as usize];
     trace.read(at, bytes);
-    Some(number_of(head, bytes))
+    Some(number_of(head.order, format, bytes))
 }
 
 // The number of the bytes of a sample, which its format has.
-fn number_of(head: &Head, bytes: &[u8]) -> i128
-    requires { length bytes.now ≡ width head.now.format }
-    ensures value { result ≡ sample_value head.now.order head.now.format bytes.now }
-    ensures fits { IsTrue (sample_fits head.now.format result) }
+fn number_of(order: Order, format: IntegerFormat, bytes: &[u8]) -> i128
+    requires { length bytes.now ≡ integer_width format }
+    ensures value { result ≡ sample_value order format bytes.now }
+    ensures fits { IsTrue (sample_fits format result) }
 {
-    head.format.decode(head.order, bytes)
+    format.decode(order, bytes)
 }

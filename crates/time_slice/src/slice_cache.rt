@@ -1,10 +1,10 @@
 ghost use Rattle.std.specs.Prelude.{◌≡◌, ◌≤◌, ◌∷◌, [], ◌++◌, ℕ, ℤ, List, if◌then◌else◌, length, map, All, Some, IfOk, OnOk, OnErr, IsTrue, IsFalse};
 ghost use Rattle.frame_cut.specs.Traces.{count_of};
-ghost use Rattle.sample_codes.specs.Formats.{sample_fits};
 ghost use Rattle.trace_record.specs.Facts.{facts_of};
 ghost use Rattle.trace_record.specs.Packed.{record_in};
 ghost use Rattle.edit_overlay.specs.CountedVolume.{RisesAtMost};
 ghost use Rattle.lru.specs.LruCache.{lru_cache};
+ghost use Rattle.time_slice.specs.Fitting.{value_fits};
 ghost use Rattle.time_slice.specs.OfRecords.{with_sample_of};
 ghost use Rattle.time_slice.specs.Slices.{slice_rows};
 ghost use Rattle.time_slice.specs.Cache.{Cache, AreRightOf, keeps, kept_of, kept_rows, rows_again, is_from, cache_after_change, none_kept, after_slice, after_change};
@@ -141,7 +141,7 @@ impl SliceCache {
         format: Format,
     ) -> Result<(), OutOfMemory>
         requires new { IsFalse (keeps k self.old.entries) }
-        requires fits { All (λ r. IsTrue (sample_fits format r.value)) rows.now }
+        requires fits { All (λ r. IsTrue (value_fits format r.value)) rows.now }
         ensures ok { OnOk result (self.new ≡ after_slice self.old k rows.now) }
         ensures err { OnErr result (self.new ≡ self.old) }
     {

@@ -13,7 +13,7 @@ use live_reports::LiveReports;
 use range_stats::{Quantity, Ranges, Totals};
 use record_table::Running;
 use std::alloc::Global;
-use trace_record::{PackedRecord, Record};
+use trace_record::{Amplitudes, PackedRecord, Record};
 use trace_store::TraceStore;
 
 // A record of a survey with a thousand traces on each inline, on a grid turned by 23 degrees.
@@ -25,9 +25,11 @@ pub(crate) fn make(i: u32) -> Record
     let crossline = (i % 1000) as i32;
     let swing = i128::from(i % 24001);
     Record {
-        least: -swing,
-        greatest: swing,
-        sum: 0,
+        amplitudes: Some(Amplitudes {
+            least: -swing,
+            greatest: swing,
+            sum: 0,
+        }),
         x: Ratio::scaled(45000000 + 2301 * inline - 488 * crossline, -100),
         y: Ratio::scaled(60000000 + 977 * inline + 1151 * crossline, -100),
         inline,

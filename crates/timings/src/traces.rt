@@ -32,9 +32,11 @@ fn total_of(alloc: Global, loading: &mut Loading<()>, fields: &FieldMap) -> Opti
     for _before in 0..loading.count() {
         let record = next_record(alloc, loading, fields)?;
         total.samples = total.samples.saturating_add(u64::from(record.number));
-        total.least = total.least.min(record.least);
-        total.greatest = total.greatest.max(record.greatest);
-        total.sum = total.sum.saturating_add(record.sum);
+        if let Some(amplitudes) = record.amplitudes {
+            total.least = total.least.min(amplitudes.least);
+            total.greatest = total.greatest.max(amplitudes.greatest);
+            total.sum = total.sum.saturating_add(amplitudes.sum);
+        }
     }
     Some(total)
 }
@@ -57,13 +59,13 @@ pub(crate) fn count_records<R: Files + AllocGlobal>(
 ) -> Option<(u32, Total)> {
     let limits = Limits::new(1 << 40, u32::MAX)?;
     let file = fs::open(rt, path).ok()?;
-    let mut loading: Loading<()> = Loading::load(
-        rt.alloc(),
-        &mut Source::new(file),
-        Reading::AsWritten,
-        limits,
-    )
-    .ok()?;
+    let reading = Reading {
+        fixed: false,
+        opaque: true,
+        order: None,
+    };
+    let mut loading: Loading<()> =
+        Loading::load(rt.alloc(), &mut Source::new(file), reading, limits).ok()?;
     let fields = FieldMap::standard(rt.alloc(), loading.head().extensions).ok()?;
     let mut total = Total {
         samples: 0,

@@ -1,24 +1,30 @@
 -- Facts that are what the bytes of a trace say.
-use Rattle.std.proofs.Common.{◌≡◌, ℕ, List, ℤ, length, ◌∙◌, SFits, to_z, of_z}
+use Rattle.std.proofs.Common.{◌≡◌, ℕ, List, [], ℤ, Option, Some, None, ◌∙◌, SFits, to_z, of_z}
 use Rattle.std.specs.Prelude.{codes}
+use Rattle.std.specs.Option.{option_map_or}
 use Rattle.std.specs.Int.{Width}
 use Rattle.std.proofs.lemmas.Int.{to_z-of_z}
+use Rattle.num_order.specs.declared.order.Order.{Order}
+use Rattle.sample_codes.specs.declared.integer_format.IntegerFormat.{IntegerFormat}
 use Rattle.field_map.specs.Pairs.{Pairs}
 use Rattle.frame_cut.specs.declared.file_head.Head.{Head}
-use Rattle.frame_cut.specs.Frames.{header_unsigned}
-use Rattle.trace_view.specs.Values.{samples_of}
-use Rattle.trace_record.specs.Facts.{Facts, with_statistics}
+use Rattle.frame_cut.specs.Frames.{header_unsigned, sample_count}
+use Rattle.trace_view.specs.Values.{samples_in, samples_of}
+use Rattle.trace_record.specs.Facts.{Facts, with_amplitudes}
 use Rattle.trace_record.specs.OfTrace.{record_of, bound_value, signed_value, has_known_name_of}
 use Rattle.key_counts.specs.Coordinates.{under_scalar}
+use Rattle.trace_record.specs.declared.amplitudes.Amplitudes.{Amplitudes}
 use Rattle.trace_record.specs.declared.statistics.Statistics.{Statistics}
-use Rattle.trace_record.specs.Statistics.{least_of, greatest_of, int_sum}
+use Rattle.trace_record.specs.Statistics.{statistics_of, amplitudes_of}
+use Rattle.trace_record.proofs.StatisticsLemmas.{says}
+use Rattle.trace_record.proofs.SampleLemmas.{length-samples_in}
 
 -- a number that fits keeps its value
 pub kept : (w : Width) (z v : ℤ) → SFits w z → z ≡ v → to_z w (of_z w z) ≡ v
 kept w z v fits e = to_z-of_z w z fits ∙ e
 
--- each of the facts holds, with these statistics of the samples
-pub record IsOf (f : Facts) (h : Head) (fields : Pairs) (t : List ℕ) (s : Statistics) : Type 0 where
+-- each of the facts holds, with these amplitudes of so many samples
+pub record IsOf (f : Facts) (h : Head) (fields : Pairs) (t : List ℕ) (a : Option Amplitudes) (n : ℕ) : Type 0 where
   pub inline : f.inline ≡ bound_value h fields t (codes "inline")
   pub crossline : f.crossline ≡ bound_value h fields t (codes "crossline")
   pub offset : f.offset ≡ bound_value h fields t (codes "offset")
@@ -30,13 +36,11 @@ pub record IsOf (f : Facts) (h : Head) (fields : Pairs) (t : List ℕ) (s : Stat
   pub interval : f.interval ≡ header_unsigned h 0 117 2 t
   pub samples_field : f.samples_field ≡ header_unsigned h 0 115 2 t
   pub has_known_name : f.has_known_name ≡ has_known_name_of t
-  pub least : f.least ≡ s.least
-  pub greatest : f.greatest ≡ s.greatest
-  pub sum : f.sum ≡ s.sum
-  pub number : f.number ≡ s.number
+  pub amplitudes : f.amplitudes ≡ a
+  pub number : f.number ≡ n
 
-pub facts_with : (f : Facts) (h : Head) (fields : Pairs) (t : List ℕ) (s : Statistics) → IsOf f h fields t s → f ≡ with_statistics (record_of h fields t) s
-facts_with f h fields t s e = λ i. record {
+pub facts_with : (f : Facts) (h : Head) (fields : Pairs) (t : List ℕ) (a : Option Amplitudes) (n : ℕ) → IsOf f h fields t a n → f ≡ with_amplitudes (record_of h fields t) a n
+facts_with f h fields t a n e = λ i. record {
   inline = e.inline i;
   crossline = e.crossline i;
   offset = e.offset i;
@@ -48,13 +52,15 @@ facts_with f h fields t s e = λ i. record {
   interval = e.interval i;
   samples_field = e.samples_field i;
   has_known_name = e.has_known_name i;
-  least = e.least i;
-  greatest = e.greatest i;
-  sum = e.sum i;
+  amplitudes = e.amplitudes i;
   number = e.number i;
 }
 
--- the statistics of the trace's own samples make it the record of the trace
-pub with_own : (h : Head) (fields : Pairs) (t : List ℕ) (s : Statistics) → s.least ≡ least_of (samples_of h t) → s.greatest ≡ greatest_of (samples_of h t)
-    → s.sum ≡ int_sum (samples_of h t) → s.number ≡ length (samples_of h t) → with_statistics (record_of h fields t) s ≡ record_of h fields t
-with_own h fields t s least greatest sum number = λ i. record (record_of h fields t) { least = least i; greatest = greatest i; sum = sum i; number = number i }
+-- the amplitudes and the number of the trace's own samples make it the record of the trace
+pub with_own : (h : Head) (fields : Pairs) (t : List ℕ) (a : Option Amplitudes) (n : ℕ) → a ≡ amplitudes_of (samples_of h t) → n ≡ sample_count h t → with_amplitudes (record_of h fields t) a n ≡ record_of h fields t
+with_own h fields t a n amplitudes number = λ i. record (record_of h fields t) { amplitudes = amplitudes i; number = number i }
+
+-- where n samples have values, statistics of them are of n samples
+pub counted : (o : Order) (f : Option IntegerFormat) (n : ℕ) (bytes : List ℕ) (s : Statistics) → Some s ≡ statistics_of (option_map_or (λ g. samples_in o g n bytes) f []) → s.number ≡ n
+counted o None n bytes s e = absurd cc
+counted o (Some g) n bytes s e = (says s (samples_in o g n bytes) e).1.1.1 ∙ length-samples_in o g n bytes

@@ -1,27 +1,27 @@
 -- Records of the same fields are one record.
-use Rattle.std.specs.Prelude.{◌≡◌, ℕ, ℤ, Bool, pos, neg_ℤ, ◌+◌, ◌*◌, ◌/◌, ◌%◌, ◌^◌, ◌≤ℤ◌}
+use Rattle.std.specs.Prelude.{◌≡◌, ◌<◌, ℕ, ℤ, Bool, true, false, pos, neg_ℤ, ◌+◌, ◌*◌, ◌/◌, ◌%◌, ◌^◌, ◌==◌, ◌&&◌, Option, Some, None, unwrap_or, refl}
 use Rattle.std.proofs.Common.{arith, ap, ap₂, subst, ◌∙◌, SFits, to_z, of_z}
 use Rattle.std.specs.Int.{w128}
-use Rattle.std.proofs.lemmas.Int.{to_z-of_z}
-use denote.Struct.Props.{props}
-use Rattle.trace_record.specs.Parts.{IsPackable, IsPackable-prop, signed_of}
+use Rattle.std.proofs.lemmas.Bool.Decides.{nat_tests}
+use Rattle.std.proofs.lemmas.Int.{ints, to_z-of_z}
+use Rattle.key_counts.specs.Parts.{first_flag, second_flag}
+use Rattle.trace_record.specs.Parts.{FitsSample, FitsWord, FitsSum, signed_of}
+use Rattle.trace_record.specs.Packable.{HaveRange, IsPackable, IsPackable-prop, amplitudes_from}
 use Rattle.trace_record.specs.Facts.{Facts, facts_of}
+use Rattle.trace_record.specs.declared.amplitudes.Amplitudes.{Amplitudes}
 use Rattle.trace_record.specs.declared.record.Record.{Record}
 
 -- what is true of the facts of every record
 abbrev pub HasRoom : Facts → Type 0
-HasRoom f =
-    IsPackable f.least f.greatest f.x f.y × (neg_ℤ (pos (2 ^ 63 * f.number)) ≤ℤ f.sum) × (f.sum ≤ℤ pos (2 ^ 64 * f.number))
+HasRoom f = IsPackable f.amplitudes f.number f.x f.y
 
 HasRoom-prop : (f : Facts) → IsProp (HasRoom f)
-HasRoom-prop f = hlevel (IsPackable-prop, props)
+HasRoom-prop f = IsPackable-prop f.amplitudes f.number f.x f.y
 
 -- a record of its facts
 of_facts : (f : Facts) → HasRoom f → Record
 of_facts f h = record {
-  least = f.least;
-  greatest = f.greatest;
-  sum = f.sum;
+  amplitudes = f.amplitudes;
   x = f.x;
   y = f.y;
   inline = f.inline;
@@ -34,26 +34,19 @@ of_facts f h = record {
   interval = f.interval;
   samples_field = f.samples_field;
   has_known_name = f.has_known_name;
-  small = h.0;
-  sum_low = h.1;
-  sum_high = h.2;
+  small = h;
 }
 
-room_of : (r : Record) → HasRoom (facts_of r)
-room_of r = (r.small, r.sum_low, r.sum_high)
-
 pub same_facts : (a b : Record) → facts_of a ≡ facts_of b → a ≡ b
-unfolding of_facts room_of
+unfolding of_facts
 same_facts a b e =
-    let at : (h : HasRoom (facts_of b)) → of_facts (facts_of a) (room_of a) ≡ of_facts (facts_of b) h
-    = subst (λ (f : Facts). (h : HasRoom f) → of_facts (facts_of a) (room_of a) ≡ of_facts f h) e (λ h. ap (of_facts (facts_of a)) (HasRoom-prop (facts_of a) (room_of a) h)) in
-    at (room_of b)
+    let at : (h : HasRoom (facts_of b)) → of_facts (facts_of a) a.small ≡ of_facts (facts_of b) h
+    = subst (λ (f : Facts). (h : HasRoom f) → of_facts (facts_of a) a.small ≡ of_facts f h) e (λ h. ap (of_facts (facts_of a)) (HasRoom-prop (facts_of a) a.small h)) in
+    at b.small
 
 -- each field of one record is that of the other
 pub record SameFields (a b : Record) : Type 0 where
-  pub least : a.least ≡ b.least
-  pub greatest : a.greatest ≡ b.greatest
-  pub sum : a.sum ≡ b.sum
+  pub amplitudes : a.amplitudes ≡ b.amplitudes
   pub x : a.x ≡ b.x
   pub y : a.y ≡ b.y
   pub inline : a.inline ≡ b.inline
@@ -80,9 +73,7 @@ same_record a b e = same_facts a b (λ i. record {
   interval = e.interval i;
   samples_field = e.samples_field i;
   has_known_name = e.has_known_name i;
-  least = e.least i;
-  greatest = e.greatest i;
-  sum = e.sum i;
+  amplitudes = e.amplitudes i;
   number = e.number i;
 })
 
@@ -96,3 +87,63 @@ pub kept_sum : (flag sign : Bool) (v : ℤ) (low : ℕ) → SFits w128 v → fla
 kept_sum flag sign v low fits same is =
     let joined : low / 2 ^ 64 * 2 ^ 64 + low % 2 ^ 64 ≡ low = omega arith in
     ap₂ (λ (b : Bool) (n : ℕ). signed_of b (2 ^ 96) n) same joined ∙ is ∙ to_z-of_z w128 v fits
+
+-- ---- no amplitudes, and some
+
+-- what is kept where there are none
+abbrev pub kept_for_none : Amplitudes
+kept_for_none = record { least = neg_ℤ (pos (2 ^ 64)); greatest = pos 0; sum = pos 0 }
+
+stands_for_none : (flag : Bool) (low : ℕ) → signed_of flag (2 ^ 64) low ≡ neg_ℤ (pos (2 ^ 64)) → (flag && low == 0) ≡ true
+stands_for_none true low e = let none : low ≡ 0 = omega (arith, ints) in rw none refl
+stands_for_none false low e = absurd (omega (arith, ints))
+
+is_sample : (flag : Bool) (low : ℕ) (v : ℤ) → FitsSample v → signed_of flag (2 ^ 64) low ≡ v → (flag && low == 0) ≡ false
+is_sample true low v fits e = let l = fits.0 in grind (arith, nat_tests, ints)
+is_sample false low v fits e = refl
+
+-- the parts of amplitudes, or of what is kept for none, are them
+pub amplitudes_kept : (o : Option Amplitudes) (n : ℕ) (a : Amplitudes) (x y least greatest high low : ℕ) → HaveRange o n → a ≡ unwrap_or o kept_for_none
+    → signed_of (first_flag x) (2 ^ 64) least ≡ a.least → signed_of (second_flag x) (2 ^ 64) greatest ≡ a.greatest → signed_of (first_flag y) (2 ^ 96) (high * 2 ^ 64 + low) ≡ a.sum
+    → amplitudes_from x y least greatest high low ≡ o
+unfolding HaveRange
+amplitudes_kept None n a x y least greatest high low range is l g s =
+    let none = stands_for_none (first_flag x) least (l ∙ ap (λ (b : Amplitudes). b.least) is) in
+    rw none refl
+amplitudes_kept (Some v) n a x y least greatest high low range is l g s =
+    let some = is_sample (first_flag x) least v.least range.least (l ∙ ap (λ (b : Amplitudes). b.least) is) in
+    let least' = l ∙ ap (λ (b : Amplitudes). b.least) is in
+    let greatest' = g ∙ ap (λ (b : Amplitudes). b.greatest) is in
+    let sum' = s ∙ ap (λ (b : Amplitudes). b.sum) is in
+    rw some (λ i. Some (record { least = least' i; greatest = greatest' i; sum = sum' i }))
+
+-- the parts that are made of what is kept
+pub parts_kept : (o : Option Amplitudes) (n : ℕ) (a : Amplitudes) (x y least greatest sum : ℕ) (r s t : Bool) → HaveRange o n → a ≡ unwrap_or o kept_for_none
+    → SFits w128 a.least → SFits w128 a.greatest → SFits w128 a.sum → first_flag x ≡ r → second_flag x ≡ s → first_flag y ≡ t
+    → signed_of r (2 ^ 64) least ≡ to_z w128 (of_z w128 a.least) → signed_of s (2 ^ 64) greatest ≡ to_z w128 (of_z w128 a.greatest) → signed_of t (2 ^ 96) sum ≡ to_z w128 (of_z w128 a.sum)
+    → amplitudes_from x y least greatest (sum / 2 ^ 64) (sum % 2 ^ 64) ≡ o
+parts_kept o n a x y least greatest sum r s t range is fl fg fs er es et l g m =
+    amplitudes_kept o n a x y least greatest (sum / 2 ^ 64) (sum % 2 ^ 64) range is
+    (kept_sample (first_flag x) r a.least least fl er l)
+    (kept_sample (second_flag x) s a.greatest greatest fg es g)
+    (kept_sum (first_flag y) t a.sum sum fs et m)
+
+-- what is kept fits the parts
+pub kept_fits : (o : Option Amplitudes) (n : ℕ) (a : Amplitudes) → n < 2 ^ 32 → HaveRange o n → a ≡ unwrap_or o kept_for_none → FitsWord a.least × FitsWord a.greatest × FitsSum a.sum
+unfolding HaveRange
+kept_fits None n a few range is =
+    let least = ap (λ (b : Amplitudes). b.least) is in
+    let greatest = ap (λ (b : Amplitudes). b.greatest) is in
+    let sum = ap (λ (b : Amplitudes). b.sum) is in
+    ((omega (arith, ints), omega (arith, ints)), (omega (arith, ints), omega (arith, ints)), (omega (arith, ints), omega (arith, ints)))
+kept_fits (Some v) n a few range is =
+    let least = ap (λ (b : Amplitudes). b.least) is in
+    let greatest = ap (λ (b : Amplitudes). b.greatest) is in
+    let sum = ap (λ (b : Amplitudes). b.sum) is in
+    let l0 = range.least.0 in
+    let l1 = range.least.1 in
+    let g0 = range.greatest.0 in
+    let g1 = range.greatest.1 in
+    let low = range.low in
+    let high = range.high in
+    ((omega (arith, ints), omega (arith, ints)), (omega (arith, ints), omega (arith, ints)), (omega (arith, ints), omega (arith, ints)))

@@ -4,8 +4,8 @@ use Rattle.std.specs.Prelude.{Option, Some, IfSome}
 use Rattle.std.proofs.lemmas.Int.{ints}
 use Rattle.std.proofs.lemmas.List.{drop-drop, drop-take, take-take}
 use Rattle.num_order.specs.declared.order.Order.{Order}
-use Rattle.sample_codes.specs.declared.format.Format.{Format}
-use Rattle.sample_codes.specs.Formats.{width, sample_value}
+use Rattle.sample_codes.specs.declared.integer_format.IntegerFormat.{IntegerFormat}
+use Rattle.sample_codes.specs.Formats.{integer_width, sample_value}
 use Rattle.trace_view.specs.Values.{samples_in}
 use Rattle.trace_record.specs.declared.statistics.Statistics.{Statistics}
 use Rattle.trace_record.specs.Statistics.{statistics_of, statistics_of_both, one_sample, with_sample, least_of, greatest_of}
@@ -23,19 +23,19 @@ first_sample x [] = same_four _ _ _ _ _ _ _ _ refl refl (omega (arith, ints)) re
 first_sample x (y ∷ ys) = same_four _ _ _ _ _ _ _ _ refl refl refl (omega arith)
 
 -- the samples from number i on
-pub samples_in-more : (o : Order) (f : Format) (n i : ℕ) (bytes : List ℕ) → i < n
-    → samples_in o f (n - i) (drop (width f * i) bytes) ≡ sample_value o f (take (width f) (drop (width f * i) bytes)) ∷ samples_in o f (n - (i + 1)) (drop (width f * (i + 1)) bytes)
+pub samples_in-more : (o : Order) (f : IntegerFormat) (n i : ℕ) (bytes : List ℕ) → i < n
+    → samples_in o f (n - i) (drop (integer_width f * i) bytes) ≡ sample_value o f (take (integer_width f) (drop (integer_width f * i) bytes)) ∷ samples_in o f (n - (i + 1)) (drop (integer_width f * (i + 1)) bytes)
 samples_in-more o f n i bytes h =
     let e : n - i ≡ suc (n - (i + 1)) = omega arith in
-    let next : width f * i + width f ≡ width f * (i + 1) = omega arith in
-    rw (e, drop-drop (width f) (width f * i) bytes, next) refl
+    let next : integer_width f * i + integer_width f ≡ integer_width f * (i + 1) = omega arith in
+    rw (e, drop-drop (integer_width f) (integer_width f * i) bytes, next) refl
 
 -- a step of a loop over them
-pub sample_counted : (o : Order) (f : Format) (n i : ℕ) (bytes : List ℕ) (old new : Statistics) (x : ℤ) (goal : Option Statistics) → i < n → x ≡ sample_value o f (take (width f) (drop (width f * i) bytes)) → new ≡ with_sample old x
-    → statistics_of_both (Some old) (statistics_of (samples_in o f (n - i) (drop (width f * i) bytes))) ≡ goal
-    → statistics_of_both (Some new) (statistics_of (samples_in o f (n - (i + 1)) (drop (width f * (i + 1)) bytes))) ≡ goal
+pub sample_counted : (o : Order) (f : IntegerFormat) (n i : ℕ) (bytes : List ℕ) (old new : Statistics) (x : ℤ) (goal : Option Statistics) → i < n → x ≡ sample_value o f (take (integer_width f) (drop (integer_width f * i) bytes)) → new ≡ with_sample old x
+    → statistics_of_both (Some old) (statistics_of (samples_in o f (n - i) (drop (integer_width f * i) bytes))) ≡ goal
+    → statistics_of_both (Some new) (statistics_of (samples_in o f (n - (i + 1)) (drop (integer_width f * (i + 1)) bytes))) ≡ goal
 sample_counted o f n i bytes old new x goal h is counted rest =
-    let xs = samples_in o f (n - (i + 1)) (drop (width f * (i + 1)) bytes) in
+    let xs = samples_in o f (n - (i + 1)) (drop (integer_width f * (i + 1)) bytes) in
     ap (λ s. statistics_of_both (Some s) (statistics_of xs)) counted
     ∙ next_sample old x xs
     ∙ ap (λ y. statistics_of_both (Some old) (statistics_of (y ∷ xs))) is
@@ -43,28 +43,28 @@ sample_counted o f n i bytes old new x goal h is counted rest =
     ∙ rest
 
 -- and where it begins
-pub samples_begun : (o : Order) (f : Format) (n : ℕ) (bytes : List ℕ) (s : Statistics) (x : ℤ) → 0 < n → x ≡ sample_value o f (take (width f) (drop (width f * 0) bytes)) → s ≡ one_sample x
-    → statistics_of_both (Some s) (statistics_of (samples_in o f (n - 1) (drop (width f * 1) bytes))) ≡ statistics_of (samples_in o f n bytes)
+pub samples_begun : (o : Order) (f : IntegerFormat) (n : ℕ) (bytes : List ℕ) (s : Statistics) (x : ℤ) → 0 < n → x ≡ sample_value o f (take (integer_width f) (drop (integer_width f * 0) bytes)) → s ≡ one_sample x
+    → statistics_of_both (Some s) (statistics_of (samples_in o f (n - 1) (drop (integer_width f * 1) bytes))) ≡ statistics_of (samples_in o f n bytes)
 samples_begun o f n bytes s x h is begun =
-    let xs = samples_in o f (n - 1) (drop (width f * 1) bytes) in
+    let xs = samples_in o f (n - 1) (drop (integer_width f * 1) bytes) in
     ap (λ r. statistics_of_both (Some r) (statistics_of xs)) begun
     ∙ first_sample x xs
     ∙ ap (λ y. statistics_of (y ∷ xs)) is
     ∙ ap statistics_of (sym (samples_in-more o f n 0 bytes h))
     ∙ from_zero
   where
-    from_zero : statistics_of (samples_in o f (n - 0) (drop (width f * 0) bytes)) ≡ statistics_of (samples_in o f n bytes)
+    from_zero : statistics_of (samples_in o f (n - 0) (drop (integer_width f * 0) bytes)) ≡ statistics_of (samples_in o f n bytes)
     from_zero =
         let all : n - 0 ≡ n = omega arith in
-        let here : width f * 0 ≡ 0 = omega arith in
+        let here : integer_width f * 0 ≡ 0 = omega arith in
         rw (all, here) refl
 
 -- and where it ends
-pub samples_ended : (o : Order) (f : Format) (n i : ℕ) (bytes : List ℕ) (s : Statistics) (goal : Option Statistics) → n ≤ i
-    → statistics_of_both (Some s) (statistics_of (samples_in o f (n - i) (drop (width f * i) bytes))) ≡ goal → Some s ≡ goal
+pub samples_ended : (o : Order) (f : IntegerFormat) (n i : ℕ) (bytes : List ℕ) (s : Statistics) (goal : Option Statistics) → n ≤ i
+    → statistics_of_both (Some s) (statistics_of (samples_in o f (n - i) (drop (integer_width f * i) bytes))) ≡ goal → Some s ≡ goal
 samples_ended o f n i bytes s goal h rest =
     let none : n - i ≡ 0 = omega arith in
-    sym (ap (λ k. statistics_of_both (Some s) (statistics_of (samples_in o f k (drop (width f * i) bytes)))) none) ∙ rest
+    sym (ap (λ k. statistics_of_both (Some s) (statistics_of (samples_in o f k (drop (integer_width f * i) bytes)))) none) ∙ rest
 
 -- sample i lies inside
 pub sample_inside : (w n i len : ℕ) → i < n → w * n ≤ len → w * i + w ≤ len
@@ -78,42 +78,42 @@ sum_bounds i old new x l u e low high = (omega (arith, ints), omega (arith, ints
 -- ---- in parts
 
 -- there are as many as there should be
-pub length-samples_in : (o : Order) (f : Format) (n : ℕ) (bytes : List ℕ) → length (samples_in o f n bytes) ≡ n
+pub length-samples_in : (o : Order) (f : IntegerFormat) (n : ℕ) (bytes : List ℕ) → length (samples_in o f n bytes) ≡ n
 length-samples_in o f zero bytes = refl
-length-samples_in o f (suc n) bytes = let h = length-samples_in o f n (drop (width f) bytes) in omega (arith, h)
+length-samples_in o f (suc n) bytes = let h = length-samples_in o f n (drop (integer_width f) bytes) in omega (arith, h)
 
 -- samples one after the other
-pub samples_in-append : (o : Order) (f : Format) (a b : ℕ) (bytes : List ℕ) → samples_in o f (a + b) bytes ≡ samples_in o f a bytes ++ samples_in o f b (drop (width f * a) bytes)
+pub samples_in-append : (o : Order) (f : IntegerFormat) (a b : ℕ) (bytes : List ℕ) → samples_in o f (a + b) bytes ≡ samples_in o f a bytes ++ samples_in o f b (drop (integer_width f * a) bytes)
 samples_in-append o f zero b bytes =
     let all : 0 + b ≡ b = omega arith in
-    let here : width f * 0 ≡ 0 = omega arith in
+    let here : integer_width f * 0 ≡ 0 = omega arith in
     rw (all, here) refl
 samples_in-append o f (suc a) b bytes =
     let more : suc a + b ≡ suc (a + b) = omega arith in
-    let place : width f + width f * a ≡ width f * suc a = omega arith in
-    let dropped : drop (width f * a) (drop (width f) bytes) ≡ drop (width f * suc a) bytes = drop-drop (width f * a) (width f) bytes ∙ ap (λ k. drop k bytes) place in
-    rw more (ap (λ xs. sample_value o f (take (width f) bytes) ∷ xs) (samples_in-append o f a b (drop (width f) bytes) ∙ ap (λ bs. samples_in o f a (drop (width f) bytes) ++ samples_in o f b bs) dropped))
+    let place : integer_width f + integer_width f * a ≡ integer_width f * suc a = omega arith in
+    let dropped : drop (integer_width f * a) (drop (integer_width f) bytes) ≡ drop (integer_width f * suc a) bytes = drop-drop (integer_width f * a) (integer_width f) bytes ∙ ap (λ k. drop k bytes) place in
+    rw more (ap (λ xs. sample_value o f (take (integer_width f) bytes) ∷ xs) (samples_in-append o f a b (drop (integer_width f) bytes) ∙ ap (λ bs. samples_in o f a (drop (integer_width f) bytes) ++ samples_in o f b bs) dropped))
 
 -- samples of bytes that are cut off behind them
-pub samples_in-take : (o : Order) (f : Format) (n m : ℕ) (bytes : List ℕ) → width f * n ≤ m → samples_in o f n (take m bytes) ≡ samples_in o f n bytes
+pub samples_in-take : (o : Order) (f : IntegerFormat) (n m : ℕ) (bytes : List ℕ) → integer_width f * n ≤ m → samples_in o f n (take m bytes) ≡ samples_in o f n bytes
 samples_in-take o f zero m bytes h = refl
 samples_in-take o f (suc n) m bytes h =
-    let split : m ≡ width f + (m - width f) = omega arith in
-    let first : take (width f) (take m bytes) ≡ take (width f) bytes = take-take (width f) m bytes (omega arith) in
-    let rest : drop (width f) (take m bytes) ≡ take (m - width f) (drop (width f) bytes) = ap (λ k. drop (width f) (take k bytes)) split ∙ drop-take (width f) (m - width f) bytes in
-    let left : width f * n ≤ m - width f = omega arith in
-    rw (first, rest, samples_in-take o f n (m - width f) (drop (width f) bytes) left) refl
+    let split : m ≡ integer_width f + (m - integer_width f) = omega arith in
+    let first : take (integer_width f) (take m bytes) ≡ take (integer_width f) bytes = take-take (integer_width f) m bytes (omega arith) in
+    let rest : drop (integer_width f) (take m bytes) ≡ take (m - integer_width f) (drop (integer_width f) bytes) = ap (λ k. drop (integer_width f) (take k bytes)) split ∙ drop-take (integer_width f) (m - integer_width f) bytes in
+    let left : integer_width f * n ≤ m - integer_width f = omega arith in
+    rw (first, rest, samples_in-take o f n (m - integer_width f) (drop (integer_width f) bytes) left) refl
 
 -- the statistics of more samples
-pub joined_samples : (o : Order) (f : Format) (a b : ℕ) (bytes : List ℕ) (x y : Option Statistics) → x ≡ statistics_of (samples_in o f a bytes) → y ≡ statistics_of (samples_in o f b (drop (width f * a) bytes))
+pub joined_samples : (o : Order) (f : IntegerFormat) (a b : ℕ) (bytes : List ℕ) (x y : Option Statistics) → x ≡ statistics_of (samples_in o f a bytes) → y ≡ statistics_of (samples_in o f b (drop (integer_width f * a) bytes))
     → statistics_of_both x y ≡ statistics_of (samples_in o f (a + b) bytes)
 joined_samples o f a b bytes x y ex ey =
     ap₂ statistics_of_both ex ey
-    ∙ sym (statistics_of_joined (samples_in o f a bytes) (samples_in o f b (drop (width f * a) bytes)))
+    ∙ sym (statistics_of_joined (samples_in o f a bytes) (samples_in o f b (drop (integer_width f * a) bytes)))
     ∙ ap statistics_of (sym (samples_in-append o f a b bytes))
 
 -- how many samples they are of
-pub few_samples : (o : Order) (f : Format) (n m : ℕ) (bytes : List ℕ) (x : Option Statistics) → n ≤ m → x ≡ statistics_of (samples_in o f n bytes) → IfSome x (λ s. s.number ≤ m)
+pub few_samples : (o : Order) (f : IntegerFormat) (n m : ℕ) (bytes : List ℕ) (x : Option Statistics) → n ≤ m → x ≡ statistics_of (samples_in o f n bytes) → IfSome x (λ s. s.number ≤ m)
 few_samples o f n m bytes x h e = rw e (go (samples_in o f n bytes) (length-samples_in o f n bytes))
   where
     go : (xs : List ℤ) → length xs ≡ n → IfSome (statistics_of xs) (λ s. s.number ≤ m)
@@ -121,6 +121,6 @@ few_samples o f n m bytes x h e = rw e (go (samples_in o f n bytes) (length-samp
     go (v ∷ vs) l = omega arith
 
 -- samples at their place in the trace
-pub placed_samples : (o : Order) (f : Format) (n from at front : ℕ) (t : List ℕ) → at ≡ front + width f * from → samples_in o f n (drop at t) ≡ samples_in o f n (drop (width f * from) (drop front t))
+pub placed_samples : (o : Order) (f : IntegerFormat) (n from at front : ℕ) (t : List ℕ) → at ≡ front + integer_width f * from → samples_in o f n (drop at t) ≡ samples_in o f n (drop (integer_width f * from) (drop front t))
 placed_samples o f n from at front t place =
-    ap (λ k. samples_in o f n (drop k t)) place ∙ ap (samples_in o f n) (sym (drop-drop (width f * from) front t))
+    ap (λ k. samples_in o f n (drop k t)) place ∙ ap (samples_in o f n) (sym (drop-drop (integer_width f * from) front t))

@@ -1,10 +1,13 @@
 -- Laws of tallies: one record more, one less, and the order of records.
-use Rattle.std.specs.Prelude.{◌≡◌, ℕ, ℤ, pos, negsuc, suc, ◌+◌, ◌-◌, ◌+ℤ◌, ◌-ℤ◌, ◌*◌, ◌^◌, ◌≤◌, ◌≤ℤ◌, neg_ℤ, cond, List, [], ◌∷◌, ◌++◌, length, map, sum_by, IsPermutation, refl}
+use Rattle.std.specs.Prelude.{◌≡◌, ℕ, ℤ, pos, negsuc, suc, ◌+◌, ◌-◌, ◌+ℤ◌, ◌-ℤ◌, ◌*◌, ◌^◌, ◌≤◌, ◌≤ℤ◌, neg_ℤ, cond, List, [], ◌∷◌, ◌++◌, length, map, sum_by, IsPermutation, Option, Some, None, refl}
+use Rattle.std.specs.Option.{option_map_or}
 use Rattle.std.proofs.Common.{arith, sym, ap, ◌∙◌}
 use Rattle.std.proofs.lemmas.Int.{ints}
 use Rattle.std.proofs.lemmas.List.Sums.{sum_by-cons, count_by-le-length}
 use Rattle.std.proofs.lemmas.List.Sorted.{sum_by-IsPermutation, length_permutation, IsPermutation-to_front, IsPermutation-middle, IsPermutation-map}
-use Rattle.trace_record.specs.Facts.{Facts, facts_of}
+use Rattle.trace_record.specs.Facts.{Facts, facts_of, number_of_values, sum_of_values}
+use Rattle.trace_record.specs.Packable.{HaveRange, each_fits}
+use Rattle.trace_record.specs.declared.amplitudes.Amplitudes.{Amplitudes}
 use Rattle.trace_record.specs.declared.record.Record.{Record}
 use Rattle.trace_record.specs.Statistics.{int_sum}
 use Rattle.trace_record.specs.Keys.{Counted}
@@ -146,14 +149,31 @@ IsSmall-tally_of c fs few samples low high = record {
   count = λ k. let n = count_by-le-length (λ f. c.has f k) fs in omega arith;
 }
 
--- the sum of the samples of records lies between the least and the greatest that so many samples can have
-pub sum-low : (rs : List Record) → neg_ℤ (pos (2 ^ 63 * sum_by (λ f. f.number) (map facts_of rs))) ≤ℤ int_sum (map (λ f. f.sum) (map facts_of rs))
-sum-low [] = omega (arith, ints)
-sum-low (r ∷ rs) = let here = r.sum_low in let rest = sum-low rs in let n = sum_by-cons (λ (f : Facts). f.number) (facts_of r) (map facts_of rs) in omega (arith, ints)
+low_in : (o : Option Amplitudes) (n : ℕ) → HaveRange o n → neg_ℤ (pos (2 ^ 63 * option_map_or (λ a. n) o 0)) ≤ℤ option_map_or (λ a. a.sum) o (pos 0)
+unfolding HaveRange
+low_in None n h = omega (arith, ints)
+low_in (Some a) n h = h.low
 
-pub sum-high : (rs : List Record) → int_sum (map (λ f. f.sum) (map facts_of rs)) ≤ℤ pos (2 ^ 64 * sum_by (λ f. f.number) (map facts_of rs))
+high_in : (o : Option Amplitudes) (n : ℕ) → HaveRange o n → option_map_or (λ a. a.sum) o (pos 0) ≤ℤ pos (2 ^ 64 * option_map_or (λ a. n) o 0)
+unfolding HaveRange
+high_in None n h = omega (arith, ints)
+high_in (Some a) n h = h.high
+
+-- the sum of the values of a record's samples lies between the least and the greatest that so many can have
+pub own-low : (r : Record) → neg_ℤ (pos (2 ^ 63 * number_of_values (facts_of r))) ≤ℤ sum_of_values (facts_of r)
+own-low r = low_in r.amplitudes r.number (each_fits _ _ _ _ r.small).0
+
+pub own-high : (r : Record) → sum_of_values (facts_of r) ≤ℤ pos (2 ^ 64 * number_of_values (facts_of r))
+own-high r = high_in r.amplitudes r.number (each_fits _ _ _ _ r.small).0
+
+-- and so does that of records
+pub sum-low : (rs : List Record) → neg_ℤ (pos (2 ^ 63 * sum_by number_of_values (map facts_of rs))) ≤ℤ int_sum (map sum_of_values (map facts_of rs))
+sum-low [] = omega (arith, ints)
+sum-low (r ∷ rs) = let here = own-low r in let rest = sum-low rs in let n = sum_by-cons number_of_values (facts_of r) (map facts_of rs) in omega (arith, ints)
+
+pub sum-high : (rs : List Record) → int_sum (map sum_of_values (map facts_of rs)) ≤ℤ pos (2 ^ 64 * sum_by number_of_values (map facts_of rs))
 sum-high [] = omega (arith, ints)
-sum-high (r ∷ rs) = let here = r.sum_high in let rest = sum-high rs in let n = sum_by-cons (λ (f : Facts). f.number) (facts_of r) (map facts_of rs) in omega (arith, ints)
+sum-high (r ∷ rs) = let here = own-high r in let rest = sum-high rs in let n = sum_by-cons number_of_values (facts_of r) (map facts_of rs) in omega (arith, ints)
 
 -- a tally that says the same as a small one is small
 pub IsSmall-Same : (t u : Tally) → Same t u → IsSmall t → IsSmall u

@@ -2,7 +2,7 @@
 use Rattle.std.specs.Prelude.{◌≡◌, pos, negsuc, [], ◌∷◌, Some, None, false, true, codes, refl}
 use Rattle.field_map.specs.Binding.{geometry_at_load}
 use Rattle.field_map.specs.Pairs.{bound, signed_at}
-use Rattle.frame_cut.specs.SmallFiles.{head_plain, trace_plain_1, trace_plain_3, with_bytes_at}
+use Rattle.frame_cut.specs.SmallFiles.{head_plain, head_untold, trace_plain_1, trace_plain_3, trace_untold, with_bytes_at}
 use Rattle.key_counts.specs.RatioOrder.{fraction_of}
 use Rattle.key_counts.specs.Coordinates.{under_scalar}
 use Rattle.trace_record.specs.Statistics.{statistics_of}
@@ -23,6 +23,15 @@ record-plain_1 = refl
 pub record-plain_3 : record_of head_plain geometry_at_load trace_plain_3 ≡ trace_3
 unfolding under_scalar
 record-plain_3 = refl
+
+-- one float is a sample without a value
+pub amplitudes-untold : (record_of head_untold geometry_at_load trace_untold).amplitudes ≡ None
+unfolding under_scalar
+amplitudes-untold = refl
+
+pub number-untold : (record_of head_untold geometry_at_load trace_untold).number ≡ 1
+unfolding under_scalar
+number-untold = refl
 
 pub geometry-plain_1 : has_geometry head_plain geometry_at_load trace_plain_1 ≡ true
 geometry-plain_1 = refl

@@ -1,6 +1,8 @@
 -- What the reports need of one trace.
-use Rattle.std.specs.Prelude.{ℕ, ℤ, Bool, List, length}
-use Rattle.trace_record.specs.Statistics.{least_of, greatest_of, int_sum}
+use Rattle.std.specs.Prelude.{ℕ, ℤ, pos, Bool, List, length, Option, option_map}
+use Rattle.std.specs.Option.{option_map_or}
+use Rattle.trace_record.specs.Statistics.{amplitudes_of, statistics_with}
+use Rattle.trace_record.specs.declared.amplitudes.Amplitudes.{Amplitudes}
 use Rattle.key_counts.specs.declared.ratio.Ratio.{Ratio}
 use Rattle.trace_record.specs.declared.record.Record.{Record}
 use Rattle.trace_record.specs.declared.statistics.Statistics.{Statistics}
@@ -23,10 +25,9 @@ pub record Facts : Type 0 where
   pub samples_field : ℕ
   -- bytes 233-240 are zeros or `SEG00000`
   pub has_known_name : Bool
-  -- of the samples, 0 without any
-  pub least : ℤ
-  pub greatest : ℤ
-  pub sum : ℤ
+  -- of the samples, none without any and none where they have no values
+  pub amplitudes : Option Amplitudes
+  -- how many samples there are
   pub number : ℕ
 
 -- the facts that a record holds
@@ -43,20 +44,30 @@ facts_of r = record {
   interval = r.interval;
   samples_field = r.samples_field;
   has_known_name = r.has_known_name;
-  least = r.least;
-  greatest = r.greatest;
-  sum = r.sum;
+  amplitudes = r.amplitudes;
   number = r.number;
 }
 
--- the same facts with the statistics of these samples
-abbrev pub with_samples : Facts → List ℤ → Facts
-with_samples f vs = record f { least = least_of vs; greatest = greatest_of vs; sum = int_sum vs; number = length vs }
+-- the statistics of the trace's samples, none without any and none where they have no values
+abbrev pub statistics_in : Facts → Option Statistics
+statistics_in f = option_map (λ a. statistics_with a f.number) f.amplitudes
 
--- the same facts with these statistics of the samples
-abbrev pub with_statistics : Facts → Statistics → Facts
-with_statistics f s = record f { least = s.least; greatest = s.greatest; sum = s.sum; number = s.number }
+-- how many of the trace's samples have values
+abbrev pub number_of_values : Facts → ℕ
+number_of_values f = option_map_or (λ a. f.number) f.amplitudes 0
+
+-- the sum of these values
+abbrev pub sum_of_values : Facts → ℤ
+sum_of_values f = option_map_or (λ a. a.sum) f.amplitudes (pos 0)
+
+-- the same facts with these amplitudes of so many samples
+abbrev pub with_amplitudes : Facts → Option Amplitudes → ℕ → Facts
+with_amplitudes f a n = record f { amplitudes = a; number = n }
+
+-- the same facts with the amplitudes and the number of these samples
+abbrev pub with_samples : Facts → List ℤ → Facts
+with_samples f vs = with_amplitudes f (amplitudes_of vs) (length vs)
 
 -- the same facts with what other facts say of the samples
 abbrev pub with_samples_of : Facts → Facts → Facts
-with_samples_of f g = record f { least = g.least; greatest = g.greatest; sum = g.sum; number = g.number }
+with_samples_of f g = with_amplitudes f g.amplitudes g.number

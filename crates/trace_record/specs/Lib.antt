@@ -1,4 +1,5 @@
 pub mod Parts
+pub mod Packable
 pub mod Packed
 pub mod Statistics
 pub mod Narrow

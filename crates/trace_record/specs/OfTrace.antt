@@ -6,10 +6,11 @@ use Rattle.field_map.specs.declared.place.Place.{Place}
 use Rattle.field_map.specs.Pairs.{Pairs, place_of, signed_at}
 use Rattle.field_map.specs.Binding.{geometry_at_load, is_geometry_kind}
 use Rattle.frame_cut.specs.declared.file_head.Head.{Head}
-use Rattle.frame_cut.specs.Frames.{header_bytes, header_unsigned}
+use Rattle.frame_cut.specs.Frames.{header_bytes, header_unsigned, sample_count}
 use Rattle.trace_view.specs.Values.{value_at, has_place, samples_of}
 use Rattle.std.specs.Prelude.{false}
-use Rattle.trace_record.specs.Facts.{Facts, with_samples}
+use Rattle.trace_record.specs.Facts.{Facts}
+use Rattle.trace_record.specs.Statistics.{amplitudes_of}
 use Rattle.key_counts.specs.Coordinates.{under_scalar}
 
 -- the value at the place that the map gives the name, and 0 of a name without one
@@ -46,7 +47,7 @@ has_known_name_of t = list_any (bytes_eq (header_bytes 0 233 8 t)) known_names
 
 -- the record of a trace: the facts that its bytes give, its geometry names bound by the map
 abbrev pub record_of : Head → Pairs → List ℕ → Facts
-record_of h fields t = with_samples (record {
+record_of h fields t = record {
   inline = bound_value h fields t (codes "inline");
   crossline = bound_value h fields t (codes "crossline");
   offset = bound_value h fields t (codes "offset");
@@ -58,8 +59,6 @@ record_of h fields t = with_samples (record {
   interval = header_unsigned h 0 117 2 t;
   samples_field = header_unsigned h 0 115 2 t;
   has_known_name = has_known_name_of t;
-  least = pos 0;
-  greatest = pos 0;
-  sum = pos 0;
-  number = 0;
-}) (samples_of h t)
+  amplitudes = amplitudes_of (samples_of h t);
+  number = sample_count h t;
+}

@@ -1,5 +1,5 @@
 -- Three traces of a small survey, for worked examples.
-use Rattle.std.specs.Prelude.{ℤ, pos, negsuc, List, [], ◌∷◌, true}
+use Rattle.std.specs.Prelude.{ℤ, pos, negsuc, List, [], ◌∷◌, true, None}
 use Rattle.trace_record.specs.Facts.{Facts, with_samples}
 use Rattle.key_counts.specs.Coordinates.{whole}
 
@@ -18,9 +18,7 @@ made i c o x sequence v w =
       interval = 4000;
       samples_field = 2;
       has_known_name = true;
-      least = pos 0;
-      greatest = pos 0;
-      sum = pos 0;
+      amplitudes = None;
       number = 0;
     }) (v ∷ w ∷ [])
 

@@ -1,7 +1,8 @@
 -- The least, the greatest, the sum and the number of a list of samples.
-use Rattle.std.specs.Prelude.{ℤ, pos, neg_ℤ, ◌+◌, ◌*◌, ◌^◌, ◌+ℤ◌, ◌≤ℤ◌, List, [], ◌∷◌, length, Option, Some, None}
+use Rattle.std.specs.Prelude.{ℕ, ℤ, pos, neg_ℤ, ◌+◌, ◌*◌, ◌^◌, ◌+ℤ◌, ◌≤ℤ◌, List, [], ◌∷◌, length, Option, Some, None, option_map}
 use Rattle.std.specs.Int.{int_min, int_max}
 use Rattle.trace_record.specs.Parts.{FitsSample}
+use Rattle.trace_record.specs.declared.amplitudes.Amplitudes.{Amplitudes}
 use Rattle.trace_record.specs.declared.statistics.Statistics.{Statistics}
 
 -- the least of the numbers, and 0 of none
@@ -26,6 +27,18 @@ abbrev pub statistics_of : List ℤ → Option Statistics
 statistics_of [] = None
 statistics_of (v ∷ vs) =
     Some (record { least = least_of (v ∷ vs); greatest = greatest_of (v ∷ vs); sum = int_sum (v ∷ vs); number = length (v ∷ vs) })
+
+-- statistics but for the number
+abbrev pub amplitudes_in : Statistics → Amplitudes
+amplitudes_in s = record { least = s.least; greatest = s.greatest; sum = s.sum }
+
+-- and with it
+abbrev pub statistics_with : Amplitudes → ℕ → Statistics
+statistics_with a n = record { least = a.least; greatest = a.greatest; sum = a.sum; number = n }
+
+-- the least, the greatest and the sum, and none without samples
+abbrev pub amplitudes_of : List ℤ → Option Amplitudes
+amplitudes_of vs = option_map amplitudes_in (statistics_of vs)
 
 -- the statistics of two lists together
 abbrev pub statistics_of_both : Option Statistics → Option Statistics → Option Statistics

@@ -1,6 +1,6 @@
 // The statistics of the samples of a trace.
 ghost use Rattle.std.specs.Prelude.{◌≡◌, ◌+◌, ◌*◌, ◌≤◌, IfSome, length, drop};
-ghost use Rattle.sample_codes.specs.Formats.{width};
+ghost use Rattle.sample_codes.specs.Formats.{integer_width, width};
 ghost use Rattle.frame_cut.specs.Frames.{sample_count};
 ghost use Rattle.trace_view.specs.Shown.{bytes_of, head_of};
 ghost use Rattle.trace_view.specs.Values.{samples_in, samples_of, sample_bytes};
@@ -14,31 +14,33 @@ use crate::wide::wide_statistics;
 use byteorder::{BigEndian, LittleEndian};
 use field_map::TRACE_HEADER_BYTES;
 use num_order::Order;
-use sample_codes::Format;
+use sample_codes::IntegerFormat;
 use trace_view::TraceView;
 
 // Where a run lies in the samples, so many of them are gathered at a time.
 const BLOCK: u32 = 512;
 
-// The statistics of the trace's samples.
+// The statistics of the trace's samples. Where they have no values, none is read.
 pub(crate) fn statistics_of(view: &TraceView<'_>) -> Option<Statistics>
     ensures value { result ≡ statistics_of_samples
         (samples_of (head_of view.now) (bytes_of view.now)) }
     ensures range { IfSome result HasRange }
 {
+    let head = view.head();
+    let format = head.format.values()?;
     match view.plain_samples() {
-        Some(bytes) => {
-            let head = view.head();
-            slice_statistics(head.order, head.format, bytes, view.sample_count())
-        }
-        None => block_statistics(view),
+        Some(bytes) => slice_statistics(head.order, format, bytes, view.sample_count()),
+        None => block_statistics(view, format),
     }
 }
 
 // Of all samples, a block at a time.
-fn block_statistics(view: &TraceView<'_>) -> Option<Statistics>
+fn block_statistics(view: &TraceView<'_>, format: IntegerFormat) -> Option<Statistics>
+    requires { integer_width format ≡ width (head_of view.now).format }
     ensures value { result ≡ statistics_of_samples
-        (samples_of (head_of view.now) (bytes_of view.now)) }
+        (samples_in (head_of view.now).order format
+        (sample_count (head_of view.now) (bytes_of view.now))
+        (sample_bytes (head_of view.now) (bytes_of view.now))) }
     ensures range { IfSome result HasRange }
 {
     let count = view.sample_count();
@@ -46,28 +48,36 @@ fn block_statistics(view: &TraceView<'_>) -> Option<Statistics>
     let mut from = 0;
     while from < count {
         let number = BLOCK.min(count - from);
-        statistics = Statistics::joined(statistics, gathered_statistics(view, from, number));
+        let block = gathered_statistics(view, format, from, number);
+        statistics = Statistics::joined(statistics, block);
         from += number;
     }
     statistics
 }
 
 // Of so many samples, from this one on, gathered into one slice.
-fn gathered_statistics(view: &TraceView<'_>, from: u32, number: u32) -> Option<Statistics>
+fn gathered_statistics(
+    view: &TraceView<'_>,
+    format: IntegerFormat,
+    from: u32,
+    number: u32,
+) -> Option<Statistics>
+    requires width { integer_width format ≡ width (head_of view.now).format }
     requires inside { from + number ≤ sample_count (head_of view.now) (bytes_of view.now) }
     requires few { number ≤ 512 }
     ensures value { result ≡ statistics_of_samples
-        (samples_in (head_of view.now).order (head_of view.now).format number
-        (drop (width (head_of view.now).format * from)
+        (samples_in (head_of view.now).order format number
+        (drop (integer_width format * from)
         (sample_bytes (head_of view.now) (bytes_of view.now)))) }
     ensures range { IfSome result HasRange }
 {
-    let width = view.head().format.width();
+    let width = format.width();
     let samples_at = TRACE_HEADER_BYTES as u64 * (1 + u64::from(view.extension_count()));
     let at = samples_at + u64::from(width) * u64::from(from);
     let mut block = [0; 8 * BLOCK as usize];
     read_statistics(
         view,
+        format,
         at,
         &mut block[..width as usize * number as usize],
         number,
@@ -77,25 +87,29 @@ fn gathered_statistics(view: &TraceView<'_>, from: u32, number: u32) -> Option<S
 // Of so many samples, read from this place of the trace on into the slice.
 fn read_statistics(
     view: &TraceView<'_>,
+    format: IntegerFormat,
     at: u64,
     bytes: &mut [u8],
     number: u32,
 ) -> Option<Statistics>
     requires inside { at + length bytes.old ≤ length (bytes_of view.now) }
-    requires whole { width (head_of view.now).format * number ≤ length bytes.old }
+    requires whole { integer_width format * number ≤ length bytes.old }
     ensures value { result ≡ statistics_of_samples
-        (samples_in (head_of view.now).order (head_of view.now).format number
-        (drop at (bytes_of view.now))) }
+        (samples_in (head_of view.now).order format number (drop at (bytes_of view.now))) }
     ensures range { IfSome result HasRange }
 {
     view.read(at, bytes);
-    let head = view.head();
-    slice_statistics(head.order, head.format, bytes, number)
+    slice_statistics(view.head().order, format, bytes, number)
 }
 
 // Of the first samples of the bytes.
-fn slice_statistics(order: Order, format: Format, bytes: &[u8], number: u32) -> Option<Statistics>
-    requires { width format * number ≤ length bytes.now }
+fn slice_statistics(
+    order: Order,
+    format: IntegerFormat,
+    bytes: &[u8],
+    number: u32,
+) -> Option<Statistics>
+    requires { integer_width format * number ≤ length bytes.now }
     ensures value { result ≡ statistics_of_samples (samples_in order format number bytes.now) }
     ensures range { IfSome result HasRange }
 {
@@ -106,21 +120,25 @@ fn slice_statistics(order: Order, format: Format, bytes: &[u8], number: u32) -> 
 }
 
 // The same in the order O. Each format has a loop of its own.
-fn ordered_statistics<O: Ordered>(format: Format, bytes: &[u8], number: u32) -> Option<Statistics>
-    requires { width format * number ≤ length bytes.now }
+fn ordered_statistics<O: Ordered>(
+    format: IntegerFormat,
+    bytes: &[u8],
+    number: u32,
+) -> Option<Statistics>
+    requires { integer_width format * number ≤ length bytes.now }
     ensures value { result ≡ statistics_of_samples (samples_in O.order format number bytes.now) }
     ensures range { IfSome result HasRange }
 {
     match format {
-        Format::Signed8 => narrow_statistics::<i8, O>(bytes, number),
-        Format::Signed16 => narrow_statistics::<i16, O>(bytes, number),
-        Format::Signed24 => narrow_statistics::<I24, O>(bytes, number),
-        Format::Signed32 => narrow_statistics::<i32, O>(bytes, number),
-        Format::Signed64 => wide_statistics::<i64, O>(bytes, number),
-        Format::Unsigned8 => narrow_statistics::<u8, O>(bytes, number),
-        Format::Unsigned16 => narrow_statistics::<u16, O>(bytes, number),
-        Format::Unsigned24 => narrow_statistics::<U24, O>(bytes, number),
-        Format::Unsigned32 => unsigned_statistics::<O>(bytes, number),
-        Format::Unsigned64 => wide_statistics::<u64, O>(bytes, number),
+        IntegerFormat::Signed8 => narrow_statistics::<i8, O>(bytes, number),
+        IntegerFormat::Signed16 => narrow_statistics::<i16, O>(bytes, number),
+        IntegerFormat::Signed24 => narrow_statistics::<I24, O>(bytes, number),
+        IntegerFormat::Signed32 => narrow_statistics::<i32, O>(bytes, number),
+        IntegerFormat::Signed64 => wide_statistics::<i64, O>(bytes, number),
+        IntegerFormat::Unsigned8 => narrow_statistics::<u8, O>(bytes, number),
+        IntegerFormat::Unsigned16 => narrow_statistics::<u16, O>(bytes, number),
+        IntegerFormat::Unsigned24 => narrow_statistics::<U24, O>(bytes, number),
+        IntegerFormat::Unsigned32 => unsigned_statistics::<O>(bytes, number),
+        IntegerFormat::Unsigned64 => wide_statistics::<u64, O>(bytes, number),
     }
 }

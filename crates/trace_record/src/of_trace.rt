@@ -1,65 +1,65 @@
-ghost use Rattle.std.specs.Prelude.{◌≡◌, length, true, codes};
+ghost use Rattle.std.specs.Prelude.{◌≡◌, true, codes};
+ghost use Rattle.frame_cut.specs.Frames.{sample_count};
 ghost use Rattle.trace_view.specs.Shown.{bytes_of, head_of};
 ghost use Rattle.trace_view.specs.Values.{samples_of};
-ghost use Rattle.trace_record.specs.Facts.{facts_of, with_samples_of, with_statistics};
+ghost use Rattle.trace_record.specs.Facts.{facts_of, with_amplitudes, with_samples_of};
 ghost use Rattle.trace_record.specs.OfTrace.{record_of as record_of_trace, bound_value, has_named, has_geometry};
-ghost use Rattle.trace_record.specs.Statistics.{least_of, greatest_of, int_sum, HasRange};
+ghost use Rattle.trace_record.specs.Packable.{HaveRange};
+ghost use Rattle.trace_record.specs.Statistics.{amplitudes_of as amplitudes_of_samples};
 
 use crate::header_fields::{
     has_known_name, has_number, i16_at, i32_at, short_at, signed_at, u16_at,
 };
 use crate::of_samples::statistics_of;
-use crate::{Record, Statistics};
+use crate::{Amplitudes, Record};
 use field_map::FieldMap;
 use key_counts::Ratio;
 use trace_view::TraceView;
 
 /// The record of a trace: its inline, crossline, offset, x, y and scalar at the places that the map
 /// gives these names, x and y under the scalar, in the units that bytes 89-90 tell; other fields of
-/// the main header; and the least, greatest, sum and number of its samples, in one pass over them.
-/// Each of the six names is bound to a place in the trace, as by a map for the trace's file; of any
-/// other map the record tells nothing. Refuses nothing. Takes no memory.
+/// the main header; the number of its samples; and, where they have values, the least, greatest and
+/// sum of these, in one pass over them. Where they have none no sample is read. Each of the six
+/// names is bound to a place in the trace, as by a map for the trace's file; of any other map the
+/// record tells nothing. Refuses nothing. Takes no memory.
 pub fn record_of(view: &TraceView<'_>, fields: &FieldMap) -> Record
     ensures { has_geometry (head_of view.now) fields.now.pairs (bytes_of view.now) ≡ true →
         facts_of result ≡ record_of_trace (head_of view.now) fields.now.pairs (bytes_of view.now) }
 {
-    record_with(view, fields, &samples_statistics(view), view.sample_count())
+    record_with(view, fields, amplitudes_of(view), view.sample_count())
 }
 
-/// The record of a trace but for the least, greatest, sum and number of its samples, which are
-/// those of another record: that of the trace before its headers changed, say. Reads no sample.
-/// Each of the six names is bound to a place in the trace, as by a map for the trace's file; of any
-/// other map the record tells nothing. Refuses nothing. Takes no memory.
+/// The record of a trace but for the amplitudes and the number of its samples, which are those of
+/// another record: that of the trace before its headers changed, say. Reads no sample. Each of the
+/// six names is bound to a place in the trace, as by a map for the trace's file; of any other map
+/// the record tells nothing. Refuses nothing. Takes no memory.
 pub fn record_with_samples_of(view: &TraceView<'_>, fields: &FieldMap, samples: &Record) -> Record
     ensures { has_geometry (head_of view.now) fields.now.pairs (bytes_of view.now) ≡ true →
         facts_of result ≡ with_samples_of
         (record_of_trace (head_of view.now) fields.now.pairs (bytes_of view.now))
         (facts_of samples.now) }
 {
-    let statistics = Statistics {
-        least: samples.least,
-        greatest: samples.greatest,
-        sum: samples.sum,
-        number: u64::from(samples.number),
-    };
-    record_with(view, fields, &statistics, samples.number)
+    record_with(view, fields, samples.amplitudes, samples.number)
 }
 
-// What the headers give, with the statistics of so many samples.
-fn record_with(view: &TraceView<'_>, fields: &FieldMap, samples: &Statistics, number: u32) -> Record
-    requires number { samples.now.number ≡ number }
-    requires range { HasRange samples.now }
+// What the headers give, with the amplitudes of so many samples.
+fn record_with(
+    view: &TraceView<'_>,
+    fields: &FieldMap,
+    amplitudes: Option<Amplitudes>,
+    number: u32,
+) -> Record
+    requires { HaveRange amplitudes number }
     ensures { has_geometry (head_of view.now) fields.now.pairs (bytes_of view.now) ≡ true →
-        facts_of result ≡ with_statistics
-        (record_of_trace (head_of view.now) fields.now.pairs (bytes_of view.now)) samples.now }
+        facts_of result ≡ with_amplitudes
+        (record_of_trace (head_of view.now) fields.now.pairs (bytes_of view.now)) amplitudes
+        number }
 {
     let scalar = scalar_of(view, fields);
     let x = geometry_value(view, fields, "x");
     let y = geometry_value(view, fields, "y");
     Record {
-        least: samples.least,
-        greatest: samples.greatest,
-        sum: samples.sum,
+        amplitudes,
         x: Ratio::scaled(x, scalar),
         y: Ratio::scaled(y, scalar),
         inline: geometry_value(view, fields, "inline"),
@@ -99,22 +99,14 @@ fn scalar_of(view: &TraceView<'_>, fields: &FieldMap) -> i16
     }
 }
 
-// The statistics of the samples, and zeros of none.
-fn samples_statistics(view: &TraceView<'_>) -> Statistics
-    ensures least { result.least ≡ least_of (samples_of (head_of view.now) (bytes_of view.now)) }
-    ensures greatest { result.greatest ≡ greatest_of
+// The amplitudes of the samples, where they have values and there are any.
+fn amplitudes_of(view: &TraceView<'_>) -> Option<Amplitudes>
+    ensures value { result ≡ amplitudes_of_samples
         (samples_of (head_of view.now) (bytes_of view.now)) }
-    ensures sum { result.sum ≡ int_sum (samples_of (head_of view.now) (bytes_of view.now)) }
-    ensures number { result.number ≡ length (samples_of (head_of view.now) (bytes_of view.now)) }
-    ensures range { HasRange result }
+    ensures range { HaveRange result (sample_count (head_of view.now) (bytes_of view.now)) }
 {
     match statistics_of(view) {
-        Some(statistics) => statistics,
-        None => Statistics {
-            least: 0,
-            greatest: 0,
-            sum: 0,
-            number: 0,
-        },
+        Some(statistics) => Some(statistics.amplitudes()),
+        None => None,
     }
 }

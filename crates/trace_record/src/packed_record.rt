@@ -1,8 +1,8 @@
-ghost use Rattle.std.specs.Prelude.{◌≡◌, ◌+◌, ◌*◌, ◌^◌, ◌<◌, ◌≤ℤ◌, pos, neg_ℤ, int_lt};
-ghost use Rattle.key_counts.specs.Parts.{first_flag, second_flag};
-ghost use Rattle.trace_record.specs.Parts.{FitsSample, FitsSum, signed_of};
+ghost use Rattle.std.specs.Prelude.{◌≡◌, ◌+◌, ◌*◌, ◌^◌, ◌<◌, pos, int_lt};
+ghost use Rattle.trace_record.specs.Packable.{HaveRange, HaveRange-prop, amplitudes_from};
+ghost use Rattle.trace_record.specs.Parts.{FitsWord, FitsSum, signed_of};
 
-use crate::Record;
+use crate::{Amplitudes, Record};
 use key_counts::PackedRatio;
 use std::mem::size_of;
 
@@ -15,10 +15,17 @@ const SUM: i128 = 0x1_0000_0000_0000_0000_0000_0000;
 // How many of them the low 64 bits hold.
 const SUM_LOW: u128 = 0x1_0000_0000_0000_0000;
 
+// What stands for no amplitudes: no least sample is so small.
+const NONE: Amplitudes = Amplitudes {
+    least: -SAMPLE,
+    greatest: 0,
+    sum: 0,
+};
+
 /// A `Record` in 72 bytes. The least, the greatest and the sum are kept without their signs, which
 /// stand among the flags of `x` and `y`: the first flag of `x` is the sign of the least, the second
 /// that of the greatest, the first flag of `y` that of the sum; the second flag of `y` says whether
-/// the name is a known one.
+/// the name is a known one. A least of -2^64 stands for no amplitudes.
 #[derive(Clone, Copy)]
 pub struct PackedRecord {
     least: u64,
@@ -36,31 +43,30 @@ pub struct PackedRecord {
     units: i16,
     interval: u16,
     samples_field: u16,
-    pub ghost least_fits: { FitsSample (signed_of (first_flag x.bits) (2 ^ 64) least) },
-    pub ghost greatest_fits: { FitsSample (signed_of (second_flag x.bits) (2 ^ 64) greatest) },
-    pub ghost sum_low: { neg_ℤ (pos (2 ^ 63 * number)) ≤ℤ
-        signed_of (first_flag y.bits) (2 ^ 96) (sum_high * 2 ^ 64 + sum) },
-    pub ghost sum_top: { signed_of (first_flag y.bits) (2 ^ 96) (sum_high * 2 ^ 64 + sum) ≤ℤ
-        pos (2 ^ 64 * number) },
+    pub ghost range: { HaveRange
+        (amplitudes_from x.bits y.bits least greatest sum_high sum) number } by { HaveRange-prop (amplitudes_from x.bits y.bits least greatest sum_high sum) number },
 }
 
 const _: () = prove!(size_of::<PackedRecord>() == 72);
 
 impl PackedRecord {
     ghost use Rattle.std.specs.Prelude.{◌≡◌};
-    ghost use Rattle.trace_record.specs.Packed.{record_in};
+    ghost use Rattle.trace_record.specs.Packed.{amplitudes_in, record_in};
 
     /// The record in 72 bytes.
     pub fn of(trace: Record) -> PackedRecord
         ensures { record_in result ≡ trace }
     {
-        let sum = bits_of_sum(trace.sum);
+        let amplitudes = trace.amplitudes.unwrap_or(NONE);
+        let sum = bits_of_sum(amplitudes.sum);
         PackedRecord {
-            least: bits_of_sample(trace.least),
-            greatest: bits_of_sample(trace.greatest),
-            sum: (sum % SUM_LOW) as u64,
-            x: PackedRatio::of(trace.x, trace.least < 0, trace.greatest < 0),
-            y: PackedRatio::of(trace.y, trace.sum < 0, trace.has_known_name),
+            amplitudes: Some(Amplitudes {
+                least: bits_of_sample(amplitudes.least),
+                greatest: bits_of_sample(amplitudes.greatest),
+                sum: (sum % SUM_LOW) as u64,
+            }),
+            x: PackedRatio::of(trace.x, amplitudes.least < 0, amplitudes.greatest < 0),
+            y: PackedRatio::of(trace.y, amplitudes.sum < 0, trace.has_known_name),
             sum_high: (sum / SUM_LOW) as u32,
             inline: trace.inline,
             crossline: trace.crossline,
@@ -80,9 +86,7 @@ impl PackedRecord {
         ensures { result ≡ record_in self }
     {
         Record {
-            least: sample_of(self.x.first(), self.least),
-            greatest: sample_of(self.x.second(), self.greatest),
-            sum: sum_of(self.y.first(), self.sum_high, self.sum),
+            amplitudes: self.amplitudes(),
             x: self.x.ratio(),
             y: self.y.ratio(),
             inline: self.inline,
@@ -97,11 +101,25 @@ impl PackedRecord {
             has_known_name: self.y.second(),
         }
     }
+
+    #[inline]
+    fn amplitudes(self) -> Option<Amplitudes>
+        ensures { result ≡ amplitudes_in self }
+    {
+        if self.x.first() && self.least == 0 {
+            return None;
+        }
+        Some(Amplitudes {
+            least: sample_of(self.x.first(), self.least),
+            greatest: sample_of(self.x.second(), self.greatest),
+            sum: sum_of(self.y.first(), self.sum_high, self.sum),
+        })
+    }
 }
 
-// The low 64 bits of a sample.
+// The low 64 bits of a sample, or of -2^64.
 fn bits_of_sample(sample: i128) -> u64
-    requires { FitsSample sample }
+    requires { FitsWord sample }
     ensures { signed_of (int_lt sample (pos 0)) (2 ^ 64) result ≡ sample }
 {
     let from_zero = if sample < 0 { sample + SAMPLE } else { sample };

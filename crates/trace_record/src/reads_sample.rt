@@ -4,9 +4,9 @@ ghost use Rattle.num_order.specs.Number.{unsigned};
 ghost use Rattle.num_order.specs.declared.order.Order.{Order};
 ghost use Rattle.num_order.specs.declared.order.Order.TheVariants.{Big, Little};
 ghost use Rattle.num_order.proofs.NumberLemmas.{low_first-is, high_first-is};
-ghost use Rattle.sample_codes.specs.declared.format.Format.{Format};
-ghost use Rattle.sample_codes.specs.declared.format.Format.TheVariants.{Signed32, Signed24, Signed16, Signed8, Signed64, Unsigned24, Unsigned16, Unsigned8, Unsigned64};
-ghost use Rattle.sample_codes.specs.Formats.{width, sample_value};
+ghost use Rattle.sample_codes.specs.declared.integer_format.IntegerFormat.{IntegerFormat};
+ghost use Rattle.sample_codes.specs.declared.integer_format.IntegerFormat.TheVariants.{Signed32, Signed24, Signed16, Signed8, Signed64, Unsigned24, Unsigned16, Unsigned8, Unsigned64};
+ghost use Rattle.sample_codes.specs.Formats.{integer_width, sample_value};
 
 use byteorder::{BigEndian, ByteOrder, LittleEndian};
 
@@ -68,13 +68,13 @@ fn eight_bytes<O: Ordered>(bytes: &[u8], at: usize) -> u64
 
 // Samples of a format that fits an i32.
 pub(crate) trait ReadsSample {
-    ghost format: { Format };
+    ghost format: { IntegerFormat };
 
     // Sample i of the bytes, in the order O.
     fn at<O: Ordered>(bytes: &[u8], i: usize) -> i32
-        requires { width format * i + width format ≤ length bytes.now }
+        requires { integer_width format * i + integer_width format ≤ length bytes.now }
         ensures { result ≡ sample_value O.order format
-            (take (width format) (drop (width format * i) bytes.now)) };
+            (take (integer_width format) (drop (integer_width format * i) bytes.now)) };
 }
 
 impl ReadsSample for i16 {
@@ -153,13 +153,13 @@ impl ReadsSample for U24 {
 
 // Samples of 64 bits.
 pub(crate) trait ReadsWide {
-    ghost format: { Format };
+    ghost format: { IntegerFormat };
 
     // Sample i of the bytes, in the order O.
     fn at<O: Ordered>(bytes: &[u8], i: usize) -> i128
-        requires { width format * i + width format ≤ length bytes.now }
+        requires { integer_width format * i + integer_width format ≤ length bytes.now }
         ensures value { result ≡ sample_value O.order format
-            (take (width format) (drop (width format * i) bytes.now)) }
+            (take (integer_width format) (drop (integer_width format * i) bytes.now)) }
         ensures low { neg_ℤ (pos (2 ^ 63)) ≤ℤ result }
         ensures high { result <ℤ pos (2 ^ 64) };
 }

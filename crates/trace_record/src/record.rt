@@ -1,15 +1,14 @@
-ghost use Rattle.std.specs.Prelude.{◌*◌, ◌^◌, ◌≤ℤ◌, pos, neg_ℤ};
-ghost use Rattle.trace_record.specs.Parts.{IsPackable, IsPackable-prop};
+ghost use Rattle.trace_record.specs.Packable.{IsPackable, IsPackable-prop};
 
+use crate::Amplitudes;
 use key_counts::{PackedRatio, Ratio};
 
 /// What the reports need of one trace. `x` and `y` are under the trace's coordinate
-/// scalar. Without samples `number`, `least`, `greatest` and `sum` are 0.
+/// scalar.
 #[derive(Debug, Clone, Copy, PartialEq, Eq)]
 pub struct Record {
-    pub least: i128,
-    pub greatest: i128,
-    pub sum: i128,
+    /// Those of the samples; none without samples, and where samples have no values.
+    pub amplitudes: Option<Amplitudes>,
     pub x: Ratio,
     pub y: Ratio,
     pub inline: i32,
@@ -29,9 +28,7 @@ pub struct Record {
     pub samples_field: u16,
     /// Whether bytes 233-240 are zeros or `SEG00000`.
     pub has_known_name: bool,
-    pub ghost small: { IsPackable least greatest x y } by { IsPackable-prop least greatest x y },
-    pub ghost sum_low: { neg_ℤ (pos (2 ^ 63 * number)) ≤ℤ sum },
-    pub ghost sum_high: { sum ≤ℤ pos (2 ^ 64 * number) },
+    pub ghost small: { IsPackable amplitudes number x y } by { IsPackable-prop amplitudes number x y },
 }
 
 impl Record {

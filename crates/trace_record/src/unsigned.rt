@@ -1,6 +1,6 @@
 // The statistics of unsigned samples of 32 bits, in one slice.
 ghost use Rattle.std.specs.Prelude.{◌≡◌, ◌*◌, ◌≤◌, IfSome, length};
-ghost use Rattle.sample_codes.specs.declared.format.Format.TheVariants.{Unsigned32};
+ghost use Rattle.sample_codes.specs.declared.integer_format.IntegerFormat.TheVariants.{Unsigned32};
 ghost use Rattle.trace_view.specs.Values.{samples_in};
 ghost use Rattle.trace_record.specs.Statistics.{statistics_of, HasRange};
 

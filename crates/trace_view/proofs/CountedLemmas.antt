@@ -1,5 +1,5 @@
 -- Bytes over which the length of a trace stays.
-use Rattle.std.proofs.Common.{◌≡◌, ◌⊎◌, ℕ, ◌+◌, ◌-◌, ◌≤◌, Bool, true, false, List, length, take, drop, refl, ap, ◌∙◌, arith, inl, inr}
+use Rattle.std.proofs.Common.{◌≡◌, ◌⊎◌, ℕ, ◌+◌, ◌≤◌, Bool, true, false, List, length, refl, ap, ◌∙◌, inl, inr}
 use Rattle.std.specs.Prelude.{nat_le, ◌&&◌, ◌||◌, ◌==◌, Option, Some, option_map, if◌then◌else◌}
 use Rattle.std.proofs.lemmas.Bool.{leb-true}
 use Rattle.num_order.specs.Number.{unsigned}

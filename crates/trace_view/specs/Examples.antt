@@ -1,9 +1,9 @@
 -- Values and samples of small traces, worked by hand.
 use Rattle.std.specs.Prelude.{◌≡◌, ℕ, [], ◌∷◌, pos, negsuc, true, Some, None, refl}
 use Rattle.field_map.specs.declared.place.Place.{Place}
-use Rattle.frame_cut.specs.SmallFiles.{with_bytes_at, head_plain, head_extended, head_counted, head_little, trace_plain_2, trace_extended, trace_counted, trace_little}
+use Rattle.frame_cut.specs.SmallFiles.{with_bytes_at, head_plain, head_extended, head_counted, head_little, head_untold, trace_plain_2, trace_extended, trace_counted, trace_little, trace_untold}
 use Rattle.trace_view.specs.Runs.{bytes_with_runs}
-use Rattle.trace_view.specs.Values.{value_of, sample_of, samples_of}
+use Rattle.trace_view.specs.Values.{value_of, sample_bytes, sample_of, samples_of}
 
 -- the place of a signed number
 abbrev place : ℕ → ℕ → ℕ → Place
@@ -37,6 +37,16 @@ samples-little = refl
 
 pub sample-2-little : sample_of head_little trace_little 2 ≡ None
 sample-2-little = refl
+
+-- a float is bytes without a value
+pub bytes-untold : sample_bytes head_untold trace_untold ≡ 0x00 ∷ 0xA0 ∷ 0x76 ∷ 0x42 ∷ []
+bytes-untold = refl
+
+pub samples-untold : samples_of head_untold trace_untold ≡ []
+samples-untold = refl
+
+pub sample-0-untold : sample_of head_untold trace_untold 0 ≡ None
+sample-0-untold = refl
 
 -- a run in place of two of five bytes
 pub one_run : bytes_with_runs (1 ∷ 2 ∷ 3 ∷ 4 ∷ 5 ∷ []) (record { at = 1; bytes = record { items = 8 ∷ 9 ∷ []; capacity = 16 } } ∷ []) ≡ 1 ∷ 8 ∷ 9 ∷ 4 ∷ 5 ∷ []

@@ -1,7 +1,8 @@
 //! One trace of a SEG-Y file as a view: the bytes that it has in the file, with runs of changed
 //! bytes laid over them, borrowed in pieces and never joined. A `TraceView` gives the trace's
-//! length, its headers and its sample bytes as pieces, the number at a place of a header, and its
-//! samples. Where the trace has no such header, value or sample the answer is None.
+//! length, its headers and its sample bytes as pieces, the number at a place of a header, and the
+//! values of its samples. Where the trace has no such header or sample, or no value there, the
+//! answer is None.
 //! `changed_length` and `overlaid_length` tell the length that changed headers would give the
 //! trace. `put_run` lays one more run over others.
 //!

@@ -16,6 +16,7 @@ use crate::samples::Samples;
 use field_map::{Place, TRACE_HEADER_BYTES};
 use frame_cut::{Head, front_length, trace_length};
 use num_order::Kind;
+use sample_codes::IntegerFormat;
 
 /// A trace: the bytes that it has in its file, with runs laid over them.
 #[derive(Clone, Copy)]
@@ -214,27 +215,28 @@ impl<'a> TraceView<'a> {
         Some(self.number(place.kind, place.offset() as usize))
     }
 
-    /// Sample `k`, counted from 0; None where the trace has no such sample. Takes no memory.
+    /// The value of sample `k`, counted from 0; None where the trace has no such sample, or its
+    /// samples have no values. Takes no memory.
     pub fn sample(&self, k: u32) -> Option<i128>
         ensures { result ≡ sample_of (head_of self.now) (bytes_of self.now) k }
     {
         if k >= self.sample_count() {
             return None;
         }
-        let kind = self.head.format.kind();
+        let format = self.head.format.values()?;
+        let kind = format.kind();
         Some(self.number(kind, self.samples_at() + kind.size as usize * k as usize))
     }
 
-    /// The trace's samples, in order. Takes no memory.
+    /// The values of the trace's samples, in order; none where they have none. Takes no memory.
     pub fn samples(&self) -> Samples<'a>
         ensures { result ≡ samples_of (head_of self.now) (bytes_of self.now) }
     {
-        Samples::new(
-            self.head.order,
-            self.head.format,
-            self.sample_count(),
-            self.bytes.cursor(self.samples_at()),
-        )
+        let cursor = self.bytes.cursor(self.samples_at());
+        match self.head.format.values() {
+            Some(format) => { Samples::new(self.head.order, format, self.sample_count(), cursor) }
+            None => Samples::new(self.head.order, IntegerFormat::Signed8, 0, cursor),
+        }
     }
 }
 

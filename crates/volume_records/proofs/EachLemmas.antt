@@ -1,11 +1,10 @@
 -- The records of a volume after bytes were laid over the headers of traces that follow one another, so many over each.
-use Rattle.std.proofs.Common.{◌≡◌, ℕ, zero, suc, ◌+◌, ◌*◌, ◌-◌, ◌/◌, ◌%◌, ◌<◌, ◌≤◌, List, [], ◌∷◌, ◌++◌, length, take, drop, get_or, refl, sym, ap, ap₂, subst, ◌∙◌, arith}
-use Rattle.std.specs.Prelude.{map, sum, sum_by, slice_index_or, All}
+use Rattle.std.proofs.Common.{◌≡◌, ℕ, zero, suc, ◌+◌, ◌*◌, ◌-◌, ◌/◌, ◌<◌, ◌≤◌, List, [], ◌∷◌, ◌++◌, length, take, drop, get_or, refl, sym, ap, ap₂, subst, ◌∙◌, arith}
+use Rattle.std.specs.Prelude.{map}
 use Rattle.std.specs.List.{zip, AllByRecursion}
 use Rattle.std.proofs.Math.Nat.{mod-eq-sub-div-mul, div-mul-le_self}
 use Rattle.std.proofs.lemmas.List.{length-map, length-drop, length-take-le, map-append, append_assoc, take-map, drop-map, drop-drop, take-append-drop}
 use Rattle.std.proofs.lemmas.List.Elements.{recursion_from_All}
-use Rattle.std.proofs.lemmas.List.Sums.{sum-map}
 use Rattle.field_map.specs.Pairs.{Pairs}
 use Rattle.frame_cut.specs.declared.file_head.Head.{Head}
 use Rattle.frame_cut.specs.Cuts.{IsTrace}
@@ -19,7 +18,6 @@ use Rattle.trace_record.specs.Facts.{Facts, facts_of, with_samples_of}
 use Rattle.trace_record.specs.OfTrace.{record_of}
 use Rattle.trace_record.specs.declared.record.Record.{Record}
 use Rattle.live_reports.specs.Exchanged.{with_records}
-use Rattle.live_reports.specs.Reports.{AreFew}
 use Rattle.volume_records.specs.OfVolume.{records_of, headers_of, AreHeaderParts}
 use Rattle.volume_records.proofs.HeaderLemmas.{record-header}
 

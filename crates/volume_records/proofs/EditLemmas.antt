@@ -5,7 +5,7 @@ use Rattle.std.specs.List.{insert, remove}
 use Rattle.std.proofs.lemmas.List.{map-set}
 use Rattle.trace_store.specs.Moved.{put_back, with_moved as records_moved}
 use Rattle.field_map.specs.Pairs.{Pairs}
-use Rattle.frame_cut.specs.Parts.{with_inserted, without, with_moved, with_line, with_header_bytes}
+use Rattle.frame_cut.specs.Parts.{with_inserted, without, with_moved}
 use Rattle.frame_cut.specs.Traces.{count_of, trace_at, with_trace}
 use Rattle.frame_cut.specs.Volume.{Volume}
 use Rattle.trace_record.specs.Facts.{Facts, facts_of}

@@ -7,6 +7,7 @@ use Rattle.std.proofs.lemmas.List.{length-append}
 use Rattle.std.proofs.lemmas.List.Elements.{recursion_from_All}
 use Rattle.std.proofs.lemmas.List.Sums.{sum_by-cons}
 use Rattle.sample_codes.specs.Formats.{width}
+use Rattle.sample_codes.proofs.WidthLemmas.{width-positive}
 use Rattle.field_map.specs.Pairs.{Pairs}
 use Rattle.frame_cut.specs.declared.file_head.Head.{Head}
 use Rattle.frame_cut.specs.declared.limits.Limits.{Limits}
@@ -17,22 +18,20 @@ use Rattle.frame_cut.specs.Traces.{count_of}
 use Rattle.frame_cut.specs.Volume.{Volume, bytes_of}
 use Rattle.frame_cut.proofs.EditLemmas.{length-bytes}
 use Rattle.frame_cut.proofs.HeadFrontLemmas.{has_head}
-use Rattle.trace_view.specs.Values.{samples_of, sample_bytes}
 use Rattle.trace_record.specs.Facts.{Facts, facts_of}
 use Rattle.trace_record.specs.OfTrace.{record_of}
 use Rattle.trace_record.specs.declared.record.Record.{Record}
-use Rattle.trace_record.proofs.SampleLemmas.{length-samples_in}
 use Rattle.live_reports.specs.Reports.{AreFew}
 use Rattle.volume_records.specs.OfVolume.{records_of, IsOfFile}
-use Rattle.volume_records.proofs.HeaderLemmas.{measured, width-positive}
+use Rattle.volume_records.proofs.HeaderLemmas.{measured}
 use Rattle.volume_records.proofs.RecordLemmas.{length-records}
 
 -- a trace has no more samples than bytes
-pub samples_within : (h : Head) (t : List ℕ) → IsTrace h t → length (samples_of h t) ≤ length t
+pub samples_within : (h : Head) (t : List ℕ) → IsTrace h t → sample_count h t ≤ length t
 samples_within h t is =
     let n : ℕ = sample_count h t in
     let least : 1 * n ≤ width h.format * n = mul-le-mul_right n (width-positive h.format) in
-    omega (arith, least, (measured h t is).whole, length-samples_in h.order h.format n (sample_bytes h t))
+    omega (arith, least, (measured h t is).whole)
 
 -- nor have all traces together
 all_within : (h : Head) (fields : Pairs) (ts : List (List ℕ)) → AllByRecursion (IsTrace h) ts → sum_by (λ (f : Facts). f.number) (map (record_of h fields) ts) ≤ length (concat ts)

@@ -1,5 +1,5 @@
 -- Records under another map that binds the geometry names to the same places.
-use Rattle.std.proofs.Common.{◌≡◌, ℕ, ℤ, pos, Bool, true, false, List, [], ◌∷◌, length, Option, refl, sym, ap, ap₂, ◌∙◌}
+use Rattle.std.proofs.Common.{◌≡◌, ℕ, pos, Bool, true, false, List, [], ◌∷◌, Option, refl, sym, ap, ap₂, ◌∙◌}
 use Rattle.std.specs.Prelude.{bytes_eq, codes, map}
 use Rattle.std.specs.Option.{option_map_or}
 use Rattle.std.proofs.lemmas.Slice.Eq.{bytes_eq-Decides}
@@ -8,13 +8,13 @@ use Rattle.field_map.specs.Binding.{is_geometry}
 use Rattle.field_map.specs.Pairs.{Pairs, place_of, bound, unbound}
 use Rattle.field_map.proofs.GeometryLemmas.{place-bound, place-removed}
 use Rattle.frame_cut.specs.declared.file_head.Head.{Head}
+use Rattle.frame_cut.specs.Frames.{sample_count}
 use Rattle.frame_cut.specs.Volume.{Volume}
 use Rattle.trace_view.specs.Values.{value_at, samples_of}
 use Rattle.key_counts.specs.Coordinates.{under_scalar}
 use Rattle.trace_record.specs.Facts.{Facts}
 use Rattle.trace_record.specs.OfTrace.{record_of, bound_value}
-use Rattle.trace_record.specs.Statistics.{least_of, greatest_of, int_sum}
-use Rattle.trace_record.specs.declared.statistics.Statistics.{Statistics}
+use Rattle.trace_record.specs.Statistics.{amplitudes_of}
 use Rattle.trace_record.proofs.FactsLemmas.{facts_with, with_own}
 use Rattle.volume_records.specs.OfVolume.{records_of}
 
@@ -28,10 +28,8 @@ value-same h fields other t name g same = ap (λ (o : Option Place). option_map_
 -- a trace has the same record under both
 pub record-same : (h : Head) (fields other : Pairs) (t : List ℕ) → SamePlaces fields other → record_of h fields t ≡ record_of h other t
 record-same h fields other t same =
-    let vs : List ℤ = samples_of h t in
-    let s : Statistics = record { least = least_of vs; greatest = greatest_of vs; sum = int_sum vs; number = length vs } in
     let scalar = value-same h fields other t (codes "scalar") refl same in
-    facts_with (record_of h fields t) h other t s (record {
+    facts_with (record_of h fields t) h other t (amplitudes_of (samples_of h t)) (sample_count h t) (record {
       inline = value-same h fields other t (codes "inline") refl same;
       crossline = value-same h fields other t (codes "crossline") refl same;
       offset = value-same h fields other t (codes "offset") refl same;
@@ -43,12 +41,10 @@ record-same h fields other t same =
       interval = refl;
       samples_field = refl;
       has_known_name = refl;
-      least = refl;
-      greatest = refl;
-      sum = refl;
+      amplitudes = refl;
       number = refl;
     })
-    ∙ with_own h other t s refl refl refl refl
+    ∙ with_own h other t (amplitudes_of (samples_of h t)) (sample_count h t) refl refl
 
 all-same : (h : Head) (fields other : Pairs) (ts : List (List ℕ)) → SamePlaces fields other → map (record_of h fields) ts ≡ map (record_of h other) ts
 all-same h fields other [] same = refl

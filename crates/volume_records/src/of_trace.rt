@@ -28,7 +28,7 @@ pub fn prepared_record(overlay: &mut Overlay<PackedRecord>, fields: &FieldMap, p
 }
 
 /// The record of trace p, counted from 1, as it would be with the edit that is prepared, but for
-/// the least, greatest, sum and number of its samples, which are those of another record. For an
+/// the amplitudes and the number of its samples, which are those of another record. For an
 /// edit of headers alone. One look, which reads no sample. Takes no memory.
 pub fn prepared_headers(
     overlay: &mut Overlay<PackedRecord>,

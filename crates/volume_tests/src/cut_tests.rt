@@ -10,10 +10,24 @@ use frame_cut::{
     sample_count, trace_length,
 };
 use num_order::Order;
-use sample_codes::Format;
+use sample_codes::{Format, IntegerFormat, OpaqueFormat};
 use std::alloc::Global;
 use std::process::Abort;
 use std::test::Fail;
+
+// Each trace is read with the binary header's number of samples.
+const FIXED: Reading = Reading {
+    fixed: true,
+    opaque: false,
+    order: None,
+};
+
+// Samples may be bytes without a value.
+const OPAQUE: Reading = Reading {
+    fixed: false,
+    opaque: true,
+    order: None,
+};
 
 // Limits that no file here meets.
 fn wide(rt: &impl Abort) -> Limits {
@@ -22,9 +36,28 @@ fn wide(rt: &impl Abort) -> Limits {
 
 // The number of traces of the file, or why it is refused.
 fn traces(alloc: Global, bytes: &[u8], limits: Limits) -> Result<u32, LoadFault> {
-    match cut(alloc, bytes, Reading::AsWritten, limits) {
+    traces_by(alloc, bytes, Reading::as_written(), limits)
+}
+
+// The same under a reading.
+fn traces_by(
+    alloc: Global,
+    bytes: &[u8],
+    reading: Reading,
+    limits: Limits,
+) -> Result<u32, LoadFault> {
+    match cut(alloc, bytes, reading, limits) {
         Ok(cut) => Ok(cut.count()),
         Err(fault) => Err(fault),
+    }
+}
+
+// This order of bytes, where the file does not tell one.
+fn asked(order: Order) -> Reading {
+    Reading {
+        fixed: false,
+        opaque: false,
+        order: Some(order),
     }
 }
 
@@ -44,9 +77,9 @@ fn lie_at(extents: &[Extent], places: &[(u64, u64)]) -> bool {
 
 // Cuts the file into traces at these places, with these lengths.
 fn cuts_at(rt: &impl Abort, alloc: Global, file: &[u8], places: &[(u64, u64)]) -> Result<(), Fail> {
-    let cut = cut(alloc, file, Reading::AsWritten, wide(rt))?;
+    let cut = cut(alloc, file, Reading::as_written(), wide(rt))?;
     assert_eq!(rt; cut.count() as usize, places.len());
-    assert_eq!(rt; cut.head(), head(file, Reading::AsWritten, wide(rt))?);
+    assert_eq!(rt; cut.head(), head(file, Reading::as_written(), wide(rt))?);
     assert!(rt; lie_at(cut.extents(), places));
     assert!(rt; lie_at(&cut.into_extents(), places));
     Ok(())
@@ -83,7 +116,7 @@ fn reads_heads(rt: HostRuntime) -> Result<(), Fail> {
     let mut t = plain_head();
     t.order = Order::Little;
     t.major = 2;
-    t.format = Format::Signed24;
+    t.format = Format::Integer(IntegerFormat::Signed24);
     let mut counted = texted_file(alloc)?;
     put(&mut counted, 3505, &[0, 2]);
     let heads = [
@@ -94,7 +127,7 @@ fn reads_heads(rt: HostRuntime) -> Result<(), Fail> {
         (little_file(alloc)?, t),
     ];
     for (file, expected) in heads {
-        assert_eq!(rt; head(&file, Reading::AsWritten, wide(&rt))?, expected);
+        assert_eq!(rt; head(&file, Reading::as_written(), wide(&rt))?, expected);
     }
     Ok(())
 }
@@ -115,10 +148,10 @@ fn reads_heads_with_trace_header_extensions(rt: HostRuntime) -> Result<(), Fail>
         (counted_file(alloc)?, y),
         (trailed_file(alloc)?, z),
     ] {
-        assert_eq!(rt; head(&file, Reading::AsWritten, wide(&rt))?, expected);
+        assert_eq!(rt; head(&file, Reading::as_written(), wide(&rt))?, expected);
         let mut fixed = expected;
         fixed.fixed = true;
-        assert_eq!(rt; head(&file, Reading::Fixed, wide(&rt))?, fixed, "as fixed");
+        assert_eq!(rt; head(&file, FIXED, wide(&rt))?, fixed, "as fixed");
     }
     Ok(())
 }
@@ -139,7 +172,7 @@ fn reads_heads_of_revision_0(rt: HostRuntime) -> Result<(), Fail> {
     ] {
         put(&mut file, 3269, &[0, 0, 0, 9]);
         put(&mut file, 3501, &[0, 7]);
-        assert_eq!(rt; head(&file, Reading::AsWritten, wide(&rt))?, expected);
+        assert_eq!(rt; head(&file, Reading::as_written(), wide(&rt))?, expected);
     }
     Ok(())
 }
@@ -167,6 +200,101 @@ fn refuses_by_the_head(rt: HostRuntime) -> Result<(), Fail> {
         let mut file = plain_file(alloc)?;
         put(&mut file, byte, new);
         assert_eq!(rt; traces(alloc, &file, wide(&rt)), Err(fault), "at {byte}");
+    }
+    Ok(())
+}
+
+// One sample a trace, of so many bytes that the three traces stay as long as they are, or two of
+// them get as long.
+#[test]
+fn cuts_opaque_samples_by_their_width(rt: HostRuntime) -> Result<(), Fail> {
+    let alloc = rt.alloc();
+    let mut expected = plain_head();
+    expected.samples = 1;
+    for (code, format, length, count) in [
+        (1, OpaqueFormat::IbmFloat32, 4332, 3),
+        (4, OpaqueFormat::GainFixed32, 4332, 3),
+        (5, OpaqueFormat::IeeeFloat32, 4332, 3),
+        (6, OpaqueFormat::IeeeFloat64, 4096, 2),
+    ] {
+        let mut file = plain_file(alloc)?;
+        put(&mut file, 3221, &[0, 1, 0, 0, 0, code]);
+        expected.format = Format::Opaque(format);
+        assert_eq!(rt; head(&file, OPAQUE, wide(&rt))?, expected);
+        assert_eq!(rt;
+            traces_by(alloc, front(&file, length), OPAQUE, wide(&rt)),
+            Ok(count)
+        );
+        let short = traces_by(alloc, front(&file, length - 1), OPAQUE, wide(&rt));
+        assert_eq!(rt; short, Err(LoadFault::Truncated(count)));
+    }
+    Ok(())
+}
+
+#[test]
+fn refuses_unknown_formats_either_way(rt: HostRuntime) -> Result<(), Fail> {
+    let alloc = rt.alloc();
+    for code in [0, 13, 14, 17, 255] {
+        let mut file = plain_file(alloc)?;
+        put(&mut file, 3226, &[code]);
+        let fault = LoadFault::UnknownFormat(u16::from(code));
+        assert_eq!(rt; traces(alloc, &file, wide(&rt)), Err(fault));
+        assert_eq!(rt; traces_by(alloc, &file, OPAQUE, wide(&rt)), Err(fault));
+    }
+    Ok(())
+}
+
+// A little-endian file of revision 0, whose byte-order constant is not there.
+#[test]
+fn takes_the_order_asked_for(rt: HostRuntime) -> Result<(), Fail> {
+    let alloc = rt.alloc();
+    let mut file = little_file(alloc)?;
+    put(&mut file, 3297, &[0; 4]);
+    put(&mut file, 3501, &[0, 0, 0, 0]);
+    let unknown = Err(LoadFault::UnknownFormat(0x700));
+    assert_eq!(rt; traces(alloc, &file, wide(&rt)), unknown);
+    assert_eq!(rt;
+        traces_by(alloc, &file, asked(Order::Big), wide(&rt)),
+        unknown
+    );
+    let mut expected = plain_head();
+    expected.order = Order::Little;
+    expected.major = 0;
+    expected.fixed = false;
+    expected.format = Format::Integer(IntegerFormat::Signed24);
+    assert_eq!(rt; head(&file, asked(Order::Little), wide(&rt))?, expected);
+    assert_eq!(rt;
+        traces_by(alloc, &file, asked(Order::Little), wide(&rt)),
+        Ok(1)
+    );
+    Ok(())
+}
+
+// The word of a byte-order constant stands, and pairs that are swapped come first.
+#[test]
+fn refuses_the_other_order(rt: HostRuntime) -> Result<(), Fail> {
+    let alloc = rt.alloc();
+    let big = extended_file(alloc)?;
+    let little = little_file(alloc)?;
+    let other = Err(LoadFault::OtherOrder);
+    assert_eq!(rt;
+        traces_by(alloc, &big, asked(Order::Little), wide(&rt)),
+        other
+    );
+    assert_eq!(rt; traces_by(alloc, &big, asked(Order::Big), wide(&rt)), Ok(1));
+    assert_eq!(rt;
+        traces_by(alloc, &little, asked(Order::Big), wide(&rt)),
+        other
+    );
+    assert_eq!(rt;
+        traces_by(alloc, &little, asked(Order::Little), wide(&rt)),
+        Ok(1)
+    );
+    let mut swapped = plain_file(alloc)?;
+    put(&mut swapped, 3297, &[2, 1, 4, 3]);
+    for order in [Order::Big, Order::Little] {
+        let fault = traces_by(alloc, &swapped, asked(order), wide(&rt));
+        assert_eq!(rt; fault, Err(LoadFault::PairSwapped));
     }
     Ok(())
 }
@@ -334,7 +462,7 @@ fn measures_the_longest(rt: &impl Abort, mut head: Head, front: &[u8; 480]) {
     assert!(rt; head.extensions != 0);
     assert_eq!(rt; extension_count(&head, front), Some(1));
     assert_eq!(rt; trace_length(&head, front), Some(480 + 2 * 4294967295));
-    head.format = Format::Unsigned64;
+    head.format = Format::Integer(IntegerFormat::Unsigned64);
     assert_eq!(rt; trace_length(&head, front), Some(480 + 8 * 4294967295));
     head.order = Order::Little;
     assert_eq!(rt; extension_count(&head, front), None);
@@ -343,7 +471,7 @@ fn measures_the_longest(rt: &impl Abort, mut head: Head, front: &[u8; 480]) {
 
 #[test]
 fn measures_traces(rt: HostRuntime) -> Result<(), Fail> {
-    let head = head(&counted_file(rt.alloc())?, Reading::AsWritten, wide(&rt))?;
+    let head = head(&counted_file(rt.alloc())?, Reading::as_written(), wide(&rt))?;
     let mut front = [0u8; 480];
     assert_eq!(rt; front_length(&head), 480);
     assert!(rt; head.extensions != 0);
@@ -380,6 +508,7 @@ fn names_faults(rt: HostRuntime) -> Result<(), Fail> {
         (LoadFault::Truncated(3), "L14 truncated trace 3"),
         (LoadFault::TooManyTraces, "L15 too many traces"),
         (LoadFault::OutOfMemory, "L16 out of memory"),
+        (LoadFault::OtherOrder, "L17 other byte order"),
     ];
     for (fault, text) in faults {
         let printed = format!(in rt.alloc(); "{fault}")?;

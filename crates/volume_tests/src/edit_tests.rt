@@ -362,7 +362,7 @@ fn give_payloads(
 
 fn load_in_steps(rt: &impl Abort, alloc: Global, file: &[u8]) -> Result<(), Fail> {
     let mut reader = Source::new(StepReader::new(file, 1, u64::MAX));
-    let mut loading = Loading::load(alloc, &mut reader, Reading::AsWritten, limits()?)?;
+    let mut loading = Loading::load(alloc, &mut reader, Reading::as_written(), limits()?)?;
     assert_eq!(rt; reader.failures(), 0);
     give_payloads(rt, alloc, &mut loading, file)?;
     expect_as_loaded(rt, alloc, &loading.finish(), file)
@@ -381,7 +381,7 @@ fn load_fault(
     reader: &mut Source<StepReader<'_>>,
     limits: Limits,
 ) -> Option<LoadFault> {
-    Loading::<u32>::load(alloc, reader, Reading::AsWritten, limits).err()
+    Loading::<u32>::load(alloc, reader, Reading::as_written(), limits).err()
 }
 
 fn refuse_to_load(rt: &impl Abort, alloc: Global, file: &[u8]) -> Result<(), Fail> {

@@ -8,7 +8,7 @@ use key_counts::Ratio;
 use record_table::{OutOfMemory, Records, Running};
 use std::alloc::Global;
 use std::test::Fail;
-use trace_record::Record;
+use trace_record::{Amplitudes, Record};
 use trace_store::Column;
 
 fn there_and_back(alloc: Global, trace: &Record) -> Result<Faults, OutOfMemory> {
@@ -19,12 +19,14 @@ fn there_and_back(alloc: Global, trace: &Record) -> Result<Faults, OutOfMemory> 
 }
 
 #[test]
-#[tactic(auto, unfolding(trace_record::specs::Parts::IsPackable))]
+#[tactic(auto, unfolding(trace_record::specs::Packable::IsPackable, trace_record::specs::Packable::HaveRange))]
 fn counts_a_trace_and_forgets_it(rt: HostRuntime) -> Result<(), Fail> {
     let trace = Record {
-        least: -2,
-        greatest: 1,
-        sum: -1,
+        amplitudes: Some(Amplitudes {
+            least: -2,
+            greatest: 1,
+            sum: -1,
+        }),
         x: Ratio::whole(1000),
         y: Ratio::whole(500),
         inline: 10,
@@ -52,12 +54,14 @@ fn report_of(alloc: Global, records: &[Record], head: &HeadFacts) -> Result<Vec<
     Ok(faults.report(alloc, &list, head)?)
 }
 
-#[tactic(auto, unfolding(trace_record::specs::Parts::IsPackable))]
+#[tactic(auto, unfolding(trace_record::specs::Packable::IsPackable, trace_record::specs::Packable::HaveRange))]
 fn trace_at(sequence: i32, crossline: i32, offset: i32) -> Record {
     Record {
-        least: -2,
-        greatest: 1,
-        sum: -1,
+        amplitudes: Some(Amplitudes {
+            least: -2,
+            greatest: 1,
+            sum: -1,
+        }),
         x: Ratio::whole(1000),
         y: Ratio::whole(500),
         inline: 10,

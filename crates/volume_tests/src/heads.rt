@@ -3,7 +3,7 @@ ghost use Rattle.std.specs.Prelude.{◌≡◌, IfOk};
 
 use frame_cut::Head;
 use num_order::Order;
-use sample_codes::Format;
+use sample_codes::{Format, IntegerFormat};
 use smallvec::SmallVec;
 use std::alloc::{AllocError, Global};
 use trace_view::Run;
@@ -12,7 +12,7 @@ use trace_view::Run;
 pub(crate) fn plain_head() -> Head
     ensures { result.extensions ≡ 0 }
 {
-    head_of(Order::Big, Format::Signed16, 2)
+    head_of(Order::Big, Format::Integer(IntegerFormat::Signed16), 2)
 }
 
 // So many samples of this format a trace, and no header extensions.

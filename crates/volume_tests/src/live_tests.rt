@@ -14,18 +14,20 @@ use record_table::Records;
 use std::alloc::Global;
 use std::process::Abort;
 use std::test::Fail;
-use trace_record::Record;
+use trace_record::{Amplitudes, Record};
 use trace_store::Column;
 
 // A trace with two samples at this crossline of inline 10.
-#[tactic(auto, unfolding(trace_record::specs::Parts::IsPackable))]
+#[tactic(auto, unfolding(trace_record::specs::Packable::IsPackable, trace_record::specs::Packable::HaveRange))]
 fn trace_at(sequence: i32, crossline: i32, x: i32) -> Record
     ensures { result.number ≡ 2 }
 {
     Record {
-        least: -2,
-        greatest: 1,
-        sum: -1,
+        amplitudes: Some(Amplitudes {
+            least: -2,
+            greatest: 1,
+            sum: -1,
+        }),
         x: Ratio::scaled(x, -100),
         y: Ratio::whole(500),
         inline: 10,
@@ -42,14 +44,16 @@ fn trace_at(sequence: i32, crossline: i32, x: i32) -> Record
 }
 
 // A trace with two other samples at the first one's crossline.
-#[tactic(auto, unfolding(trace_record::specs::Parts::IsPackable))]
+#[tactic(auto, unfolding(trace_record::specs::Packable::IsPackable, trace_record::specs::Packable::HaveRange))]
 fn deep_trace() -> Record
     ensures { result.number ≡ 2 }
 {
     Record {
-        least: -9,
-        greatest: 6,
-        sum: -3,
+        amplitudes: Some(Amplitudes {
+            least: -9,
+            greatest: 6,
+            sum: -3,
+        }),
         x: Ratio::scaled(250, -100),
         y: Ratio::whole(500),
         inline: 10,

@@ -18,7 +18,10 @@ use volume_records::{
 
 // Whether the record has this inline, and so many samples with this sum.
 fn says(record: &Record, inline: i32, number: u32, sum: i128) -> bool {
-    record.inline == inline && record.number == number && record.sum == sum
+    let Some(amplitudes) = record.amplitudes else {
+        return false;
+    };
+    record.inline == inline && record.number == number && amplitudes.sum == sum
 }
 
 fn says_at(records: &Records, place: usize, inline: i32, number: u32, sum: i128) -> bool {
@@ -84,7 +87,7 @@ fn small(alloc: Global) -> Result<(Overlay<PackedRecord>, FieldMap), Fail>
 {
     let limits = Limits::new(4330, 3).ok_or("limits")?;
     let file = three_traces(alloc)?;
-    let loading = Loading::from_bytes(alloc, file, Reading::AsWritten, limits)?;
+    let loading = Loading::from_bytes(alloc, file, Reading::as_written(), limits)?;
     let fields = FieldMap::standard(alloc, loading.head().extensions)?;
     let (volume, _) = with_records(alloc, loading, &fields)?;
     Ok((volume, fields))

@@ -10,11 +10,11 @@ use field_map::{FieldMap, Place};
 use frame_cut::Head;
 use key_counts::Ratio;
 use num_order::{Kind, Order};
-use sample_codes::Format;
+use sample_codes::{Format, IntegerFormat, OpaqueFormat};
 use std::alloc::Global;
 use std::process::Abort;
 use std::test::Fail;
-use trace_record::{Record, record_of, record_with_samples_of};
+use trace_record::{Amplitudes, Record, record_of, record_with_samples_of};
 use trace_view::Run;
 
 // The record of the trace, where it has the length that its headers give it.
@@ -22,6 +22,15 @@ fn made(rt: &impl Abort, head: &Head, fields: &FieldMap, base: &[u8], runs: &[Ru
     requires fit { Fit runs.now (length base.now) }
 {
     record_of(&view(rt, head, base, runs), fields)
+}
+
+// What a record tells of the values of samples.
+fn amplitudes(least: i128, greatest: i128, sum: i128) -> Option<Amplitudes> {
+    Some(Amplitudes {
+        least,
+        greatest,
+        sum,
+    })
 }
 
 // The first trace of a small survey: inline 10, crossline 21, two 16-bit samples, 1 and -2.
@@ -58,7 +67,7 @@ fn with_standard(
 fn record_of_small(rt: &impl Abort, fields: &FieldMap) {
     let head = plain_head();
     let record = made(rt, &head, fields, &small_trace(), &[]);
-    assert_eq!(rt; (record.least, record.greatest, record.sum), (-2, 1, -1));
+    assert_eq!(rt; record.amplitudes, amplitudes(-2, 1, -1));
     assert_eq!(rt; record.x, Ratio::whole(1000));
     assert_eq!(rt; record.y, Ratio::whole(500));
     assert_eq!(rt; (record.inline, record.crossline), (10, 21));
@@ -145,30 +154,48 @@ fn samples_of_each_format(rt: &impl Abort, fields: &FieldMap) {
     base[240] = 0x80;
     base[262] = 0x01;
     base[263] = 0xFF;
-    let rows: [(Order, Format, u32, i128, i128); 16] = [
-        (Order::Big, Format::Signed16, 12, -32_768, 511),
-        (Order::Little, Format::Signed16, 12, 128, -255),
-        (Order::Big, Format::Unsigned16, 12, 32_768, 511),
-        (Order::Little, Format::Unsigned16, 12, 128, 65_281),
-        (Order::Big, Format::Signed24, 8, -8_388_608, 511),
-        (Order::Little, Format::Signed24, 8, 128, -65_280),
-        (Order::Big, Format::Unsigned24, 8, 8_388_608, 511),
-        (Order::Little, Format::Unsigned24, 8, 128, 0xFF_0100),
-        (Order::Big, Format::Signed32, 6, -0x8000_0000, 511),
-        (Order::Little, Format::Signed32, 6, 128, -16_711_680),
-        (Order::Big, Format::Unsigned32, 6, 0x8000_0000, 511),
-        (Order::Little, Format::Unsigned32, 6, 128, 0xFF01_0000),
-        (Order::Big, Format::Signed64, 3, -(1 << 63), 511),
-        (Order::Little, Format::Signed64, 3, 128, -(0xFF << 48)),
-        (Order::Big, Format::Unsigned64, 3, 1 << 63, 511),
-        (Order::Little, Format::Unsigned64, 3, 128, 0xFF01 << 48),
+    let rows: [(Order, IntegerFormat, u32, i128, i128); 16] = [
+        (Order::Big, IntegerFormat::Signed16, 12, -32_768, 511),
+        (Order::Little, IntegerFormat::Signed16, 12, 128, -255),
+        (Order::Big, IntegerFormat::Unsigned16, 12, 32_768, 511),
+        (Order::Little, IntegerFormat::Unsigned16, 12, 128, 65_281),
+        (Order::Big, IntegerFormat::Signed24, 8, -8_388_608, 511),
+        (Order::Little, IntegerFormat::Signed24, 8, 128, -65_280),
+        (Order::Big, IntegerFormat::Unsigned24, 8, 8_388_608, 511),
+        (Order::Little, IntegerFormat::Unsigned24, 8, 128, 0xFF_0100),
+        (Order::Big, IntegerFormat::Signed32, 6, -0x8000_0000, 511),
+        (Order::Little, IntegerFormat::Signed32, 6, 128, -16_711_680),
+        (Order::Big, IntegerFormat::Unsigned32, 6, 0x8000_0000, 511),
+        (
+            Order::Little,
+            IntegerFormat::Unsigned32,
+            6,
+            128,
+            0xFF01_0000,
+        ),
+        (Order::Big, IntegerFormat::Signed64, 3, -(1 << 63), 511),
+        (
+            Order::Little,
+            IntegerFormat::Signed64,
+            3,
+            128,
+            -(0xFF << 48),
+        ),
+        (Order::Big, IntegerFormat::Unsigned64, 3, 1 << 63, 511),
+        (
+            Order::Little,
+            IntegerFormat::Unsigned64,
+            3,
+            128,
+            0xFF01 << 48,
+        ),
     ];
     for (order, format, samples, first, last) in rows {
-        let head = head_of(order, format, samples);
+        let head = head_of(order, Format::Integer(format), samples);
         let record = made(rt, &head, fields, &base, &[]);
-        assert_eq!(rt; record.least, first.min(last).min(0));
-        assert_eq!(rt; record.greatest, first.max(last).max(0));
-        assert_eq!(rt; Some(record.sum), first.checked_add(last));
+        let (least, greatest) = (first.min(last).min(0), first.max(last).max(0));
+        let sum = first.saturating_add(last);
+        assert_eq!(rt; record.amplitudes, amplitudes(least, greatest, sum));
         assert_eq!(rt; record.number, samples);
     }
 }
@@ -190,15 +217,12 @@ fn samples_of_a_byte(rt: &impl Abort, fields: &FieldMap) {
     base[240] = 0x80;
     base[241] = 0x01;
     base[242] = 0xFF;
-    let head = head_of(Order::Big, Format::Signed8, 3);
+    let head = head_of(Order::Big, Format::Integer(IntegerFormat::Signed8), 3);
     let record = made(rt, &head, fields, &base, &[]);
-    assert_eq!(rt;
-        (record.least, record.greatest, record.sum),
-        (-128, 1, -128)
-    );
-    let head = head_of(Order::Little, Format::Unsigned8, 3);
+    assert_eq!(rt; record.amplitudes, amplitudes(-128, 1, -128));
+    let head = head_of(Order::Little, Format::Integer(IntegerFormat::Unsigned8), 3);
     let record = made(rt, &head, fields, &base, &[]);
-    assert_eq!(rt; (record.least, record.greatest, record.sum), (1, 255, 384));
+    assert_eq!(rt; record.amplitudes, amplitudes(1, 255, 384));
 }
 
 #[test]
@@ -216,14 +240,14 @@ fn takes_samples_of_a_byte(rt: HostRuntime) -> Result<(), Fail> {
 fn samples_under_a_run(rt: &impl Abort, fields: &FieldMap, runs: &[Run])
     requires fit { Fit runs.now 3240 }
 {
-    let head = head_of(Order::Big, Format::Signed24, 1000);
+    let head = head_of(Order::Big, Format::Integer(IntegerFormat::Signed24), 1000);
     let mut base = [0; 3240];
     base[240] = 0xFF;
     base[3239] = 0x05;
     let record = made(rt, &head, fields, &base, runs);
     assert_eq!(rt;
-        (record.least, record.greatest, record.sum),
-        (-8_388_608, 8_388_607, -65_532)
+        record.amplitudes,
+        amplitudes(-8_388_608, 8_388_607, -65_532)
     );
     base[1776] = 0x7F;
     base[1777] = 0xFF;
@@ -242,9 +266,9 @@ fn takes_samples_under_a_run(rt: HostRuntime) -> Result<(), Fail> {
 }
 
 fn record_without_samples(rt: &impl Abort, fields: &FieldMap) {
-    let head = head_of(Order::Little, Format::Signed32, 0);
+    let head = head_of(Order::Little, Format::Integer(IntegerFormat::Signed32), 0);
     let record = made(rt, &head, fields, &[0; 240], &[]);
-    assert_eq!(rt; (record.least, record.greatest, record.sum), (0, 0, 0));
+    assert_eq!(rt; record.amplitudes, None);
     assert_eq!(rt; (record.number, record.interval), (0, 0));
 }
 
@@ -259,14 +283,41 @@ fn takes_a_trace_without_samples(rt: HostRuntime) -> Result<(), Fail> {
     )
 }
 
+// Samples that are bytes without a value, of four and of eight bytes each.
+fn samples_without_values(rt: &impl Abort, fields: &FieldMap) {
+    let base = [0x41; 264];
+    for (format, samples) in [
+        (OpaqueFormat::IbmFloat32, 6),
+        (OpaqueFormat::GainFixed32, 6),
+        (OpaqueFormat::IeeeFloat32, 6),
+        (OpaqueFormat::IeeeFloat64, 3),
+    ] {
+        let head = head_of(Order::Big, Format::Opaque(format), samples);
+        let record = made(rt, &head, fields, &base, &[]);
+        assert_eq!(rt; record.number, samples);
+        assert_eq!(rt; record.amplitudes, None);
+    }
+}
+
+#[test]
+fn takes_samples_without_values(rt: HostRuntime) -> Result<(), Fail> {
+    with_standard(
+        rt.alloc(),
+        &mut |fields: &FieldMap| {
+            samples_without_values(&rt, fields);
+            Ok(())
+        },
+    )
+}
+
 // The headers of the trace, and four samples that its bytes have under another head.
 fn samples_of_another_record(rt: &impl Abort, fields: &FieldMap) {
-    let bytes = head_of(Order::Little, Format::Unsigned8, 4);
+    let bytes = head_of(Order::Little, Format::Integer(IntegerFormat::Unsigned8), 4);
     let other = made(rt, &bytes, fields, &small_trace(), &[]);
     let head = plain_head();
     let trace = small_trace();
     let record = record_with_samples_of(&view(rt, &head, &trace, &[]), fields, &other);
-    assert_eq!(rt; (record.least, record.greatest, record.sum), (0, 255, 510));
+    assert_eq!(rt; record.amplitudes, amplitudes(0, 255, 510));
     assert_eq!(rt; (record.number, record.samples_field), (4, 2));
     assert_eq!(rt; (record.inline, record.crossline), (10, 21));
     assert_eq!(rt; record.x, Ratio::whole(1000));

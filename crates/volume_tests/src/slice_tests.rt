@@ -16,12 +16,10 @@ use std::test::Fail;
 use time_slice::{Row, SliceCache, rows};
 use trace_record::{PackedRecord, Record};
 
-#[tactic(auto, unfolding(trace_record::specs::Parts::IsPackable))]
+#[tactic(auto, unfolding(trace_record::specs::Packable::IsPackable, trace_record::specs::Packable::HaveRange))]
 fn record_at(inline: i32, crossline: i32) -> Record {
     Record {
-        least: 0,
-        greatest: 0,
-        sum: 0,
+        amplitudes: None,
         x: Ratio::whole(0),
         y: Ratio::whole(0),
         inline,

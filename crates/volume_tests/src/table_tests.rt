@@ -6,16 +6,18 @@ use std::alloc::Global;
 use std::mem::size_of;
 use std::process::Abort;
 use std::test::Fail;
-use trace_record::{PackedRecord, Record};
+use trace_record::{Amplitudes, PackedRecord, Record};
 use trace_store::{Column, TraceStore};
 
 #[test]
-#[tactic(auto, unfolding(trace_record::specs::Parts::IsPackable))]
+#[tactic(auto, unfolding(trace_record::specs::Packable::IsPackable, trace_record::specs::Packable::HaveRange))]
 fn keeps_records_small(rt: HostRuntime) {
     let record = Record {
-        least: -2,
-        greatest: 1,
-        sum: -1,
+        amplitudes: Some(Amplitudes {
+            least: -2,
+            greatest: 1,
+            sum: -1,
+        }),
         x: Ratio::whole(1000),
         y: Ratio::whole(500),
         inline: 10,
@@ -45,12 +47,14 @@ fn comes_back(rt: &impl Abort, alloc: Global, trace: Record) -> Result<(), Fail>
 }
 
 #[test]
-#[tactic(auto, unfolding(trace_record::specs::Parts::IsPackable))]
+#[tactic(auto, unfolding(trace_record::specs::Packable::IsPackable, trace_record::specs::Packable::HaveRange))]
 fn packs_the_least_values(rt: HostRuntime) -> Result<(), Fail> {
     let least = Record {
-        least: -0x8000_0000_0000_0000,
-        greatest: -0x8000_0000_0000_0000,
-        sum: -0x7FFF_FFFF_8000_0000_0000_0000,
+        amplitudes: Some(Amplitudes {
+            least: -0x8000_0000_0000_0000,
+            greatest: -0x8000_0000_0000_0000,
+            sum: -0x7FFF_FFFF_8000_0000_0000_0000,
+        }),
         x: Ratio::scaled(i32::MIN, i16::MAX),
         y: Ratio::scaled(-1, i16::MIN),
         inline: i32::MIN,
@@ -68,12 +72,14 @@ fn packs_the_least_values(rt: HostRuntime) -> Result<(), Fail> {
 }
 
 #[test]
-#[tactic(auto, unfolding(trace_record::specs::Parts::IsPackable))]
+#[tactic(auto, unfolding(trace_record::specs::Packable::IsPackable, trace_record::specs::Packable::HaveRange))]
 fn packs_the_greatest_values(rt: HostRuntime) -> Result<(), Fail> {
     let greatest = Record {
-        least: 0xFFFF_FFFF_FFFF_FFFF,
-        greatest: 0xFFFF_FFFF_FFFF_FFFF,
-        sum: 0xFFFF_FFFE_FFFF_FFFF_0000_0001,
+        amplitudes: Some(Amplitudes {
+            least: 0xFFFF_FFFF_FFFF_FFFF,
+            greatest: 0xFFFF_FFFF_FFFF_FFFF,
+            sum: 0xFFFF_FFFE_FFFF_FFFF_0000_0001,
+        }),
         x: Ratio::scaled(i32::MAX, i16::MAX),
         y: Ratio::scaled(1, i16::MIN),
         inline: i32::MAX,
@@ -91,12 +97,14 @@ fn packs_the_greatest_values(rt: HostRuntime) -> Result<(), Fail> {
 }
 
 // A record whose parts differ in sign.
-#[tactic(auto, unfolding(trace_record::specs::Parts::IsPackable))]
+#[tactic(auto, unfolding(trace_record::specs::Packable::IsPackable, trace_record::specs::Packable::HaveRange))]
 fn mixed_record(inline: i32) -> Record {
     Record {
-        least: -1,
-        greatest: 0x7FFF_FFFF_FFFF_FFFF,
-        sum: -0x1_0000_0000_0000_0000,
+        amplitudes: Some(Amplitudes {
+            least: -1,
+            greatest: 0x7FFF_FFFF_FFFF_FFFF,
+            sum: -0x1_0000_0000_0000_0000,
+        }),
         x: Ratio::scaled(-2147483647, -32767),
         y: Ratio::scaled(2147483647, -32768),
         inline,

@@ -4,7 +4,7 @@ ghost use Rattle.std.specs.Prelude.{◌≡◌, [], length, map, IfOk, OnOk};
 ghost use Rattle.std.specs.List.{insert as inserted};
 ghost use Rattle.frame_cut.specs.Cuts.{IsCut};
 ghost use Rattle.frame_cut.specs.Traces.{count_of};
-ghost use Rattle.frame_cut.specs.declared.reading.Reading.TheVariants.{AsWritten};
+ghost use Rattle.frame_cut.specs.Readings.{as_written};
 ghost use Rattle.trace_record.specs.Packed.{record_in};
 ghost use Rattle.trace_store.specs.Stores.{payloads_of};
 
@@ -58,10 +58,10 @@ pub(crate) fn volume_of<T: Copy>(
     limits: Limits,
     payloads: &[T],
 ) -> Result<Overlay<T>, Fail>
-    ensures cut { IfOk result (λ o. IsCut file.items AsWritten limits o.volume) }
+    ensures cut { IfOk result (λ o. IsCut file.items as_written limits o.volume) }
     ensures payloads { IfOk result (λ o. o.payloads ≡ payloads.now) }
 {
-    let mut loading = Loading::from_bytes(alloc, file, Reading::AsWritten, limits)?;
+    let mut loading = Loading::from_bytes(alloc, file, Reading::as_written(), limits)?;
     if payloads.len() != loading.count() as usize {
         return Err(Fail::from("not a payload for each trace"));
     }

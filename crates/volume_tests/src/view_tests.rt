@@ -8,7 +8,7 @@ use crate::views::view;
 use field_map::Place;
 use frame_cut::Head;
 use num_order::{Kind, Order};
-use sample_codes::Format;
+use sample_codes::{Format, IntegerFormat, OpaqueFormat};
 use std::process::Abort;
 use std::test::Fail;
 use trace_view::{Pieces, TraceView, put_run};
@@ -65,7 +65,7 @@ fn expect_little_endian(rt: &impl Abort, view: &TraceView<'_>) {
 fn reads_little_endian_samples(rt: HostRuntime) {
     let mut head = plain_head();
     head.order = Order::Little;
-    head.format = Format::Signed24;
+    head.format = Format::Integer(IntegerFormat::Signed24);
     let mut base = [0; 246];
     base[240] = 0xFF;
     base[241] = 0xFF;
@@ -73,6 +73,19 @@ fn reads_little_endian_samples(rt: HostRuntime) {
     base[245] = 0x80;
     let view = view(&rt, &head, &base, &[]);
     expect_little_endian(&rt, &view);
+}
+
+// Two samples that are bytes without a value.
+#[test]
+fn reads_no_values_of_opaque_samples(rt: HostRuntime) {
+    let mut head = plain_head();
+    head.format = Format::Opaque(OpaqueFormat::IbmFloat32);
+    let base = [0x41; 248];
+    let view = view(&rt, &head, &base, &[]);
+    assert_eq!(rt; view.sample(0), None);
+    assert_eq!(rt; view.samples().next(), None);
+    assert_eq!(rt; view.sample_bytes().length(), 8);
+    assert_eq!(rt; view.value(place(0, 1, 4, true)), Some(0x4141_4141));
 }
 
 fn expect_runs(rt: &impl Abort, view: &TraceView<'_>) {

@@ -30,10 +30,13 @@ __all__ = [
 ]
 
 
-def open(path: Path, fixed: bool = False, opaque_samples: bool = False, max_bytes: Optional[int] = None) -> Volume:
+def open(
+    path: Path, fixed: bool = False, opaque_samples: bool = False, max_bytes: Optional[int] = None, order: Optional[str] = None
+) -> Volume:
     """Opens a SEG-Y file.
 
     ``fixed``: each trace has the binary header's number of samples. ``opaque_samples``: read files whose samples have no values here
-    (floats). ``max_bytes``: the largest file that is read, and the largest that edits may make.
+    (floats). ``max_bytes``: the largest file that is read, and the largest that edits may make. ``order``: ``"big"`` or ``"little"``,
+    the order of bytes of a file that does not tell it.
     """
-    return Volume(path, fixed=fixed, opaque_samples=opaque_samples, max_bytes=max_bytes)
+    return Volume(path, fixed=fixed, opaque_samples=opaque_samples, max_bytes=max_bytes, order=order)

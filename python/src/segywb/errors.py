@@ -32,7 +32,7 @@ class Refused(Error):
 
 
 class LoadRefused(Refused):
-    """The file is refused (the codes ``L01`` to ``L16``). ``status`` is the program's exit status."""
+    """The file is refused (the codes ``L01`` to ``L17``). ``status`` is the program's exit status."""
 
     def __init__(self, answer: str, path: str = "", status: Optional[int] = None) -> None:
         super().__init__(answer, path)

@@ -32,9 +32,12 @@ class Volume:
     nothing has changed.
     """
 
-    def __init__(self, path: Path, fixed: bool = False, opaque_samples: bool = False, max_bytes: Optional[int] = None) -> None:
+    def __init__(
+        self, path: Path, fixed: bool = False, opaque_samples: bool = False, max_bytes: Optional[int] = None, order: Optional[str] = None
+    ) -> None:
         options = ["--fixed"] if fixed else []
         options += ["--opaque-samples"] if opaque_samples else []
+        options += ["--order", order] if order is not None else []
         options += ["--max-bytes", number(max_bytes)] if max_bytes is not None else []
         self.path = os.fspath(path)
         self._engine = Engine(self.path, options)

@@ -1,7 +1,7 @@
 // The arguments of the command line, one by one.
 ghost use Rattle.std.specs.Prelude.{◌≡◌, false};
 ghost use Rattle.clap.specs.Words.{rule_of};
-ghost use Rattle.segywb.specs.CommandLine.{file_rule, script_rule, out_rule, in_place_rule, fixed_rule, limit_rule, stop_rule, session_rule, quiet_rule};
+ghost use Rattle.segywb.specs.CommandLine.{file_rule, script_rule, out_rule, in_place_rule, fixed_rule, opaque_rule, order_rule, limit_rule, stop_rule, session_rule, quiet_rule};
 
 use clap::builder::ValueParser;
 use clap::{Arg, ArgAction};
@@ -12,9 +12,9 @@ pub fn file<'a>(alloc: Global) -> Arg<'a>
     ensures rule { rule_of result ≡ file_rule }
     ensures local { result.global ≡ false }
 {
-    Arg::new(alloc, "FILE")
-        .required(true)
-        .help("SEG-Y file with integer samples; it must fit in memory")
+    Arg::new(alloc, "FILE").required(true).help(
+        "SEG-Y file, with integer samples or --opaque-samples; it must fit in memory",
+    )
 }
 
 // `--script S`: the script to run.
@@ -58,6 +58,28 @@ pub fn fixed<'a>(alloc: Global) -> Arg<'a>
         .long("fixed")
         .action(ArgAction::SetTrue)
         .help("read each trace with the binary header's number of samples")
+}
+
+// `--opaque-samples`: formats whose samples have no value here are read too.
+pub fn opaque<'a>(alloc: Global) -> Arg<'a>
+    ensures rule { rule_of result ≡ opaque_rule }
+    ensures local { result.global ≡ false }
+{
+    Arg::new(alloc, "opaque-samples")
+        .long("opaque-samples")
+        .action(ArgAction::SetTrue)
+        .help("read formats 1, 4, 5 and 6 too, with samples that are bytes without a value")
+}
+
+// `--order big|little`: the order of bytes, where bytes 3297-3300 do not tell it.
+pub fn order<'a>(alloc: Global) -> Arg<'a>
+    ensures rule { rule_of result ≡ order_rule }
+    ensures local { result.global ≡ false }
+{
+    Arg::new(alloc, "order")
+        .long("order")
+        .value_name("big|little")
+        .help("the order of bytes, where bytes 3297-3300 do not tell it [default: big]")
 }
 
 // `--max-bytes N`: the most bytes that the file may have.

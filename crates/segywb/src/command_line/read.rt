@@ -1,3 +1,5 @@
+use num_order::Order;
+
 /// What the command line says.
 #[derive(Drop)]
 pub struct Arguments<'a> {
@@ -13,6 +15,10 @@ pub struct Arguments<'a> {
     pub max_bytes: Option<u64>,
     /// Whether the file is read as one of fixed length.
     pub fixed: bool,
+    /// Whether formats whose samples have no value here are read too.
+    pub opaque: bool,
+    /// The order of bytes, where the file does not tell it.
+    pub order: Option<Order>,
     /// Whether the first refused line ends the run.
     pub stop: bool,
     /// Whether the lines of standard input are answered one by one, in place of a script.

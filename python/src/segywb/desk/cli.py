@@ -23,6 +23,7 @@ def words(arguments: Optional[List[str]]) -> Any:
     parser.add_argument("--port", metavar="N", type=int, default=0, help="the port of the page on 127.0.0.1; without it a free one")
     parser.add_argument("--no-browser", action="store_true", help="print the address and open no browser")
     parser.add_argument("--fixed", action="store_true", help="each trace has the binary header's number of samples, as for segywb")
+    parser.add_argument("--order", choices=("big", "little"), help="the order of bytes of a file that does not tell it, as for segywb")
     parser.add_argument("--max-bytes", metavar="N", type=int, help="the largest file that is read or made, as for segywb")
     return parser.parse_args(arguments)
 
@@ -60,7 +61,7 @@ async def serve(told: Any) -> int:
     from .desk import Desk
     from .server import Server
 
-    server = Server(Desk(told.file, told.out, told.fixed, told.max_bytes), secrets.token_urlsafe(24))
+    server = Server(Desk(told.file, told.out, told.fixed, told.max_bytes, told.order), secrets.token_urlsafe(24))
     port = await server.start(told.port)
     ended = asyncio.Event()
     for one in (signal.SIGINT, signal.SIGTERM):

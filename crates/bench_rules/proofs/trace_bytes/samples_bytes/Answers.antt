@@ -9,10 +9,10 @@ use Rattle.bench_rules.proofs.trace_bytes.samples_bytes.Goals as goal
 pub encode-requires-clause-fits : goal.encode-requires-clause-fits
 encode-requires-clause-fits c =
     let fit : SFits w128 (get_or c.args.values.now c.loop-value.value-index (pos 0)) = search rules in
-    ap (sample_fits c.args.head.now.format) (to_z-of_z w128 _ fit) ∙ each_fits (sample_fits c.args.head.now.format) c.args.values.now c.loop-value.value-index c.loop-value-test.true c.requires.fit
+    ap (sample_fits c.args.format) (to_z-of_z w128 _ fit) ∙ each_fits (sample_fits c.args.format) c.args.values.now c.loop-value.value-index c.loop-value-test.true c.requires.fit
 
 pub loop-value-preserved : goal.loop-value-preserved
 loop-value-preserved c =
     let fit : SFits w128 (get_or c.args.values.now c.loop-value.value-index (pos 0)) = search rules in
-    one_more_value c.args.head.now.order c.args.head.now.format c.args.values.now c.loop-value.value-index _ c.loop-value.bytes.items c.encode.new.bytes _ c.loop-value-test.true
+    one_more_value c.args.order c.args.format c.args.values.now c.loop-value.value-index _ c.loop-value.bytes.items c.encode.new.bytes _ c.loop-value-test.true
     (to_z-of_z w128 _ fit) c.loop-value.invariant c.encode.ensures c.in_ok-extend_from_slice.ensures.items

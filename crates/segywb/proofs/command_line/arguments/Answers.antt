@@ -1,6 +1,6 @@
 use Rattle.std.proofs.Common.{◌≡◌, ◌∙◌, ap, sym, subst, codes, ℕ, Bool, List, Option}
 use Rattle.clap.specs.Words.{Row, first_of, one_of, found_of, rows_of}
-use Rattle.segywb.specs.CommandLine.{ReadsFlag, ReadsLimit, matched}
+use Rattle.segywb.specs.CommandLine.{ReadsFlag, ReadsLimit, ReadsOrder, matched}
 use Rattle.segywb.proofs.RowLemmas.{rows_are, first_of-rows_of, one_of-rows_of}
 use Rattle.segywb.proofs.command_line.arguments.Goals as goal
 
@@ -30,6 +30,12 @@ returns-in-Some-clause-fixed c =
     let rows = rows_are _ _ c.in_ok-matches.matches c.in_ok-command.ensures c.in_ok-matches.ensures.ok.2 in
     let same = sym (ap (one_of (codes "fixed")) (sym rows) ∙ one_of-rows_of (found_of c.in_ok-matches.matches) (codes "fixed")) in
     subst (λ (o : Option (List ℕ)). ReadsFlag o c.in-Some.read.fixed) same c.in-Some.ensures.fixed
+
+pub returns-in-Some-clause-opaque : goal.returns-in-Some-clause-opaque
+returns-in-Some-clause-opaque c =
+    let rows = rows_are _ _ c.in_ok-matches.matches c.in_ok-command.ensures c.in_ok-matches.ensures.ok.2 in
+    let same = sym (ap (one_of (codes "opaque-samples")) (sym rows) ∙ one_of-rows_of (found_of c.in_ok-matches.matches) (codes "opaque-samples")) in
+    subst (λ (o : Option (List ℕ)). ReadsFlag o c.in-Some.read.opaque) same c.in-Some.ensures.opaque
 
 pub returns-in-Some-clause-stop : goal.returns-in-Some-clause-stop
 returns-in-Some-clause-stop c =

@@ -1,8 +1,8 @@
 use Rattle.std.proofs.Common.{subst, List, map, IsTrue}
 use Rattle.std.proofs.lemmas.List.Sorted.{All-permutation}
 use Rattle.std.specs.List.Sorted.{IsPermutation}
-use Rattle.sample_codes.specs.Formats.{sample_fits}
 use Rattle.trace_record.specs.Packed.{record_in}
+use Rattle.time_slice.specs.Fitting.{value_fits}
 use Rattle.time_slice.specs.OfRecords.{with_sample_of}
 use Rattle.time_slice.specs.declared.row.Row.{Row}
 use Rattle.time_slice.proofs.OrderLemmas.{slice_from_sorted}
@@ -18,4 +18,4 @@ returns-clause-rows c =
 
 pub returns-clause-fits : goal.returns-clause-fits
 returns-clause-fits c =
-    All-permutation (λ r. IsTrue (sample_fits c.args.overlay.now.volume.head.format r.value)) _ _ c.sort_unstable.ensures.permutation c.in_ok-rows.ensures.fits
+    All-permutation (λ r. IsTrue (value_fits c.args.overlay.now.volume.head.format r.value)) _ _ c.sort_unstable.ensures.permutation c.in_ok-rows.ensures.fits

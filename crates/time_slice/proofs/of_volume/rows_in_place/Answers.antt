@@ -1,7 +1,7 @@
 use Rattle.std.proofs.Common.{◌≡◌, ◌+◌, ◌<◌, ◌++◌, ◌∷◌, ◌∙◌, ℕ, suc, List, length, map, ap, ap₂, subst, sym, arith, rules, All, IfSome, IsTrue}
 use Rattle.frame_cut.specs.declared.file_head.Head.{Head}
 use Rattle.frame_cut.specs.Volume.{Volume}
-use Rattle.sample_codes.specs.Formats.{sample_fits}
+use Rattle.time_slice.specs.Fitting.{value_fits}
 use Rattle.std.specs.List.{zip}
 use Rattle.trace_view.specs.Shown.{head_of}
 use Rattle.trace_record.specs.Facts.{facts_of}
@@ -51,7 +51,7 @@ loop-trace-preserved c =
       heads = λ (j : ℕ) (d : ShownTrace × PackedRecord) (less : j < length rest). heads (suc j) d (omega (arith, less));
       few = told.few;
       fits = fits_more v.head.format old c.push_row.new.rows.items (i + 1) (facts_of c.record.result) sample.result c.in_ok-push_row.ensures
-          (subst (λ (h : Head). IfSome sample.result (λ s. IsTrue (sample_fits h.format s))) here sample.ensures.fits) told.fits;
+          (subst (λ (h : Head). IfSome sample.result (λ s. IsTrue (value_fits h.format s))) here sample.ensures.fits) told.fits;
     }
 
 pub returns-clause-rows : goal.returns-clause-rows

@@ -1,5 +1,5 @@
 use Rattle.std.proofs.Common.{◌≡◌, ◌+◌, ◌≤◌, ◌++◌, length, map, All, IsTrue}
-use Rattle.sample_codes.specs.Formats.{sample_fits}
+use Rattle.time_slice.specs.Fitting.{value_fits}
 use Rattle.trace_record.specs.Packed.{record_in}
 use Rattle.frame_cut.specs.Traces.{count_of}
 use Rattle.time_slice.specs.OfRecords.{with_sample_of}
@@ -16,5 +16,5 @@ invariant-loop-trace l =
       left : l.position + length l.trace-iterator ≤ count_of v;
       heads : All (λ r. r.0.head ≡ v.head) l.trace-iterator;
       few : l.count ≡ count_of v;
-      fits : All (λ r. IsTrue (sample_fits v.head.format r.value)) l.rows.items;
+      fits : All (λ r. IsTrue (value_fits v.head.format r.value)) l.rows.items;
     }

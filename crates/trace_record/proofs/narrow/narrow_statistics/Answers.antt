@@ -2,7 +2,7 @@ use Rattle.std.proofs.Common.{◌≡◌, ◌<◌, ◌+◌, ap, sym, ◌∙◌, r
 use Rattle.std.specs.Prelude.{Some}
 use Rattle.std.specs.Int.{w32}
 use Rattle.std.proofs.lemmas.Int.{ints, to_z-of_z}
-use Rattle.sample_codes.specs.Formats.{width}
+use Rattle.sample_codes.specs.Formats.{integer_width}
 use Rattle.trace_view.specs.Values.{samples_in}
 use Rattle.trace_record.specs.Narrow.{statistics_of_narrow}
 use Rattle.trace_record.specs.Statistics.{statistics_of, one_sample, with_sample}
@@ -38,10 +38,10 @@ loop-i-preserved g c =
     }
 
 pub at-requires : goal.at-requires
-at-requires g c = let some : 0 < c.args.number = omega arith in sample_inside (width g.S.ReadsSample.format) c.args.number 0 _ some c.requires
+at-requires g c = let some : 0 < c.args.number = omega arith in sample_inside (integer_width g.S.ReadsSample.format) c.args.number 0 _ some c.requires
 
 pub at-requires-in-loop-i : goal.at-requires-in-loop-i
-at-requires-in-loop-i g c = sample_inside (width g.S.ReadsSample.format) c.args.number c.loop-i.i _ c.loop-i-test.true c.requires
+at-requires-in-loop-i g c = sample_inside (integer_width g.S.ReadsSample.format) c.args.number c.loop-i.i _ c.loop-i-test.true c.requires
 
 pub returns : goal.returns
 returns g c =

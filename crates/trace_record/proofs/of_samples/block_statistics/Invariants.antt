@@ -8,7 +8,7 @@ abbrev pub invariant-loop-from : goal.invariant-loop-from
 invariant-loop-from l = record {
   inside : l.from ≤ l.count;
   range : IfSome l.statistics HasRange;
-  so_far : l.statistics ≡ statistics_of (samples_in (head_of l.view).order (head_of l.view).format l.from (sample_bytes (head_of l.view) (bytes_of l.view)));
+  so_far : l.statistics ≡ statistics_of (samples_in (head_of l.view).order l.format l.from (sample_bytes (head_of l.view) (bytes_of l.view)));
 }
 
 abbrev pub decreases-loop-from : goal.decreases-loop-from

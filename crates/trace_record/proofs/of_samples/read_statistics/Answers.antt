@@ -10,6 +10,6 @@ pub returns-clause-value : goal.returns-clause-value
 returns-clause-value c =
     let h = head_of c.args.view.now in
     c.slice_statistics.ensures.value
-    ∙ ap (λ (k : Head). statistics_of (samples_in k.order k.format c.args.number c.read.new.out)) c.head-head.ensures
-    ∙ ap (λ bs. statistics_of (samples_in h.order h.format c.args.number bs)) c.read.ensures
-    ∙ ap statistics_of (samples_in-take h.order h.format c.args.number (length c.args.bytes.now) _ c.requires.whole)
+    ∙ ap (λ (k : Head). statistics_of (samples_in k.order c.args.format c.args.number c.read.new.out)) c.head.ensures
+    ∙ ap (λ bs. statistics_of (samples_in h.order c.args.format c.args.number bs)) c.read.ensures
+    ∙ ap statistics_of (samples_in-take h.order c.args.format c.args.number (length c.args.bytes.now) _ c.requires.whole)

@@ -1,18 +1,14 @@
-use Rattle.std.proofs.Common.{sym, ◌∙◌}
+use Rattle.std.proofs.Common.{sym, subst, ◌∙◌, ℕ}
 use Rattle.trace_view.specs.Shown.{bytes_of, head_of}
-use Rattle.trace_view.specs.Values.{sample_bytes}
+use Rattle.trace_record.specs.Packable.{HaveRange}
 use Rattle.trace_record.proofs.FactsLemmas.{with_own}
-use Rattle.trace_record.proofs.SampleLemmas.{length-samples_in}
 use Rattle.trace_record.proofs.of_trace.record_of.Goals as goal
 
-pub record_with-requires-clause-number : goal.record_with-requires-clause-number
-record_with-requires-clause-number c =
-    let v = c.args.view.now in
-    c.samples_statistics.ensures.number ∙ length-samples_in (head_of v).order (head_of v).format _ (sample_bytes (head_of v) (bytes_of v)) ∙ sym c.sample_count.ensures
+pub record_with-requires : goal.record_with-requires
+record_with-requires c = subst (λ (n : ℕ). HaveRange c.amplitudes_of.result n) (sym c.sample_count.ensures) c.amplitudes_of.ensures.range
 
 pub returns : goal.returns
 returns c has =
     let v = c.args.view.now in
-    let s = c.samples_statistics in
     c.record_with.ensures has
-    ∙ with_own (head_of v) c.args.fields.now.pairs (bytes_of v) s.result s.ensures.least s.ensures.greatest s.ensures.sum s.ensures.number
+    ∙ with_own (head_of v) c.args.fields.now.pairs (bytes_of v) c.amplitudes_of.result c.sample_count.result c.amplitudes_of.ensures.value c.sample_count.ensures

@@ -1,7 +1,7 @@
 use Rattle.std.proofs.Common.{◌≡◌, ◌<◌, ◌+◌, ap, sym, ◌∙◌, arith, pos}
 use Rattle.std.specs.Prelude.{Some}
 use Rattle.std.proofs.lemmas.Int.{ints}
-use Rattle.sample_codes.specs.declared.format.Format.TheVariants.{Unsigned32}
+use Rattle.sample_codes.specs.declared.integer_format.IntegerFormat.TheVariants.{Unsigned32}
 use Rattle.trace_view.specs.Values.{samples_in}
 use Rattle.trace_record.specs.Unsigned.{statistics_of_unsigned}
 use Rattle.trace_record.specs.Statistics.{statistics_of}

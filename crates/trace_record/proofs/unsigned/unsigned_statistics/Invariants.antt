@@ -1,6 +1,6 @@
 use Rattle.std.proofs.Common.{◌≡◌, ◌≤◌, ◌-◌, ◌*◌, ◌^◌, drop}
 use Rattle.std.specs.Prelude.{Some}
-use Rattle.sample_codes.specs.declared.format.Format.TheVariants.{Unsigned32}
+use Rattle.sample_codes.specs.declared.integer_format.IntegerFormat.TheVariants.{Unsigned32}
 use Rattle.trace_view.specs.Values.{samples_in}
 use Rattle.trace_record.specs.Statistics.{statistics_of, statistics_of_both}
 use Rattle.trace_record.specs.Unsigned.{statistics_of_unsigned}

@@ -1,0 +1,5 @@
+use Rattle.bench_laws.proofs.ResizeLemmas as resize
+use Rattle.bench_laws.proofs.number_laws.resize_keeps_bytes.Goals as goal
+
+pub returns : goal.returns
+returns c = λ s p m v cut none after. resize.resize_keeps_bytes s p m v cut none after

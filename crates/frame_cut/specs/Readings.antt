@@ -1,0 +1,15 @@
+-- How a file is read.
+use Rattle.std.specs.Prelude.{true, false, None}
+use Rattle.frame_cut.specs.declared.reading.Reading.{Reading}
+
+-- as the file says, and integer samples alone
+abbrev pub as_written : Reading
+as_written = record { fixed = false; opaque = false; order = None }
+
+-- with the binary header's number of samples in every trace
+abbrev pub as_fixed : Reading
+as_fixed = record as_written { fixed = true }
+
+-- with the files whose samples have no value here
+abbrev pub as_opaque : Reading
+as_opaque = record as_written { opaque = true }

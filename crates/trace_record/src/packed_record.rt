@@ -60,11 +60,9 @@ impl PackedRecord {
         let amplitudes = trace.amplitudes.unwrap_or(NONE);
         let sum = bits_of_sum(amplitudes.sum);
         PackedRecord {
-            amplitudes: Some(Amplitudes {
-                least: bits_of_sample(amplitudes.least),
-                greatest: bits_of_sample(amplitudes.greatest),
-                sum: (sum % SUM_LOW) as u64,
-            }),
+            least: bits_of_sample(amplitudes.least),
+            greatest: bits_of_sample(amplitudes.greatest),
+            sum: (sum % SUM_LOW) as u64,
             x: PackedRatio::of(trace.x, amplitudes.least < 0, amplitudes.greatest < 0),
             y: PackedRatio::of(trace.y, amplitudes.sum < 0, trace.has_known_name),
             sum_high: (sum / SUM_LOW) as u32,

@@ -12,9 +12,9 @@ use crate::firsts::{first_place, key_of, keys_of};
 use crate::report::{push_head, push_trace, units_of_first};
 use crate::{Fault, HeadFacts, OutOfMemory};
 use key_counts::Counts;
+use record_table::{Records, Running};
 use std::alloc::Global;
 use std::collections::BTreeMap;
-use record_table::{Records, Running};
 use trace_record::Record;
 
 /// How often inline, crossline and offset stand together, over traces that come and go.

@@ -4,9 +4,9 @@ ghost use Rattle.std.specs.BTreeMap.{get};
 ghost use Rattle.fault_live.specs.OfFaults.{triple_cmp};
 
 use crate::OutOfMemory;
+use record_table::Records;
 use std::alloc::{AllocError, Global};
 use std::collections::BTreeMap;
-use record_table::Records;
 use trace_record::Record;
 
 // Inline, crossline and offset together.

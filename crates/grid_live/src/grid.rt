@@ -4,8 +4,8 @@ use crate::keys::{cell_keys, crossline_keys, inline_keys};
 use crate::lists::{histogram_of_cells, lines_of};
 use crate::{Cell, FoldCount, Line, OutOfMemory};
 use key_counts::{Counts, raise_both};
-use std::alloc::Global;
 use record_table::{Records, Running};
+use std::alloc::Global;
 use trace_record::Record;
 
 /// How many traces each cell, inline and crossline has, over traces that come and go. It keeps its

@@ -3,8 +3,8 @@ ghost use Rattle.std.specs.Prelude.{◌≡◌, IfOk, map, filter_map};
 ghost use Rattle.key_counts.specs.Packed.{ratio_in};
 
 use key_counts::PackedRatio;
-use std::alloc::{AllocError, Global};
 use record_table::Records;
+use std::alloc::{AllocError, Global};
 
 pub(crate) fn inline_keys(alloc: Global, records: &Records) -> Result<Vec<i32>, AllocError>
     ensures { IfOk result (λ keys. keys.items ≡ map (λ r. r.inline) records.now) }

@@ -9,8 +9,8 @@ use crate::coordinate_counts::CoordinateCounts;
 use crate::counted::span;
 use crate::keys::{crossline_keys, inline_keys, offset_keys, x_keys, y_keys};
 use key_counts::{Counts, OutOfMemory, Ratio, raise_both};
-use std::alloc::Global;
 use record_table::{Records, Running};
+use std::alloc::Global;
 use trace_record::Record;
 
 /// The least and the greatest inline, crossline, offset, x and y of traces that come and go. Adding

@@ -4,8 +4,8 @@ use crate::counted::{greatest_key, least_key};
 use crate::keys::{greatest_keys, least_keys};
 use crate::sums::sums_of;
 use key_counts::{Counts, raise_both};
-use std::alloc::Global;
 use record_table::{OutOfMemory, Records, Running};
+use std::alloc::Global;
 use trace_record::Record;
 
 /// The least, the greatest, the sum and the number of the samples of traces that come and go, as far

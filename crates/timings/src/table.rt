@@ -128,11 +128,7 @@ pub(crate) fn put_in(
 }
 
 // The record at the place out.
-pub(crate) fn take_out(
-    table: &mut TraceStore<PackedRecord>,
-    reports: &mut LiveReports,
-    place: u32,
-)
+pub(crate) fn take_out(table: &mut TraceStore<PackedRecord>, reports: &mut LiveReports, place: u32)
     requires counted { AreReportsOf reports.old (records_in table.old) }
     requires place { place < length (records_in table.old) }
     ensures counted { AreReportsOf reports.new (records_in table.new) }

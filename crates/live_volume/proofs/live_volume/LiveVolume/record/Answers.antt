@@ -18,5 +18,5 @@ returns c =
     let there = there_is v c.args.p (rw is refl) in
     let facts : facts_of c.record.result ≡ record_of v.head fields (trace_at v c.args.p) =
     record_at v fields (records_in c.self.inside) c.args.p c.record.result there.first there.last c.self.invariant.records
-        (record_beside c.self.inside.overlay.payloads c.self.inside.overlay.payloads (c.args.p - 1) (c.args.p - 1) c.payload.result c.record.result refl refl c.payload.ensures c.record.ensures) in
+    (record_beside c.self.inside.overlay.payloads c.self.inside.overlay.payloads (c.args.p - 1) (c.args.p - 1) c.payload.result c.record.result refl refl c.payload.ensures c.record.ensures) in
     rw (← c.self.view_is) (rw is (ap (λ (f : Facts). let o : Option Facts = Some f in o) facts))

@@ -14,7 +14,7 @@ pub returns : goal.returns
 returns c =
     let v : Volume = c.self.inside.overlay.volume in
     let fields : Pairs = c.self.inside.fields.pairs in
-    let is : is_trace v c.args.p ≡ true = rw (← c.self.view_is) (sym c.has_trace.ensures ∙ c.if-not-has_trace.false) in
+    let is : is_trace v c.args.p ≡ true = rw (← c.self.view_is) at (sym c.has_trace.ensures ∙ c.if-not-has_trace.false) in
     let there = there_is v c.args.p (rw is refl) in
     let facts : facts_of c.record.result ≡ record_of v.head fields (trace_at v c.args.p) =
     record_at v fields (records_in c.self.inside) c.args.p c.record.result there.first there.last c.self.invariant.records

@@ -1,7 +1,6 @@
 use Rattle.std.proofs.Common.{◌≡◌, ◌∙◌, sym, ap, subst}
 use Rattle.frame_cut.specs.Cuts.{IsCut}
 use Rattle.frame_cut.specs.Volume.{Volume, bytes_of}
-use Rattle.volume_records.specs.OfVolume.{records_of}
 use Rattle.live_volume.proofs.HeldLemmas.{records_again}
 use Rattle.live_volume.proofs.live_volume.LiveVolume.load.Goals as goal
 

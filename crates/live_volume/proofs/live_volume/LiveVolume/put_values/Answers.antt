@@ -1,12 +1,11 @@
-use Rattle.std.proofs.Common.{◌≡◌, ◌∙◌, ◌+◌, ◌*◌, ℕ, ap, sym, subst, refl, length}
+use Rattle.std.proofs.Common.{◌≡◌, ◌∙◌, ap, sym, subst, refl, length}
 use Rattle.std.specs.Prelude.{Option, Some, unwrap_or}
 use Rattle.sample_codes.specs.declared.integer_format.IntegerFormat.{IntegerFormat}
-use Rattle.sample_codes.specs.Formats.{width, values as read_as, samples_bytes, sample_fits}
+use Rattle.sample_codes.specs.Formats.{values as read_as, samples_bytes, sample_fits}
 use Rattle.std.specs.List.{list_all}
 use Rattle.frame_cut.specs.declared.file_head.Head.{Head}
 use Rattle.frame_cut.specs.Splice.{splice}
 use Rattle.frame_cut.specs.Traces.{trace_at, with_trace}
-use Rattle.frame_cut.specs.Volume.{Volume}
 use Rattle.bench_rules.specs.declared.edit.Edit.TheVariants.{Patch}
 use Rattle.bench_rules.specs.State.{State}
 use Rattle.bench_rules.specs.Steps.{IsAfter}

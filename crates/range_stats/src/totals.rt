@@ -1,11 +1,7 @@
-ghost use Rattle.std.specs.Prelude.{◌≡◌, ◌+◌, ◌^◌, ◌<◌, nat_lt, OnOk, OnErr, IsOk};
-ghost use Rattle.std.specs.Ordering.{int_cmp};
-ghost use Rattle.key_counts.specs.Counts.{count_of, HasOneMoreWhere, HasSameCounts};
-
-use crate::counted::{greatest_key, least_key};
-use crate::keys::{greatest_keys, least_keys};
+use crate::ends::Ends;
+use crate::key_lists::{greatest_keys, least_keys};
 use crate::sums::sums_of;
-use key_counts::{Counts, OutOfMemory, raise_both};
+use key_counts::{Counts, OutOfMemory, lower_both, raise_both};
 use std::alloc::Global;
 use trace_record::{Record, Records, Running};
 
@@ -53,7 +49,7 @@ impl Running for Totals {
     }
 
     fn add(&mut self, trace: &Record) -> Result<(), trace_record::OutOfMemory> {
-        raise_ends(&mut self.least_samples, &mut self.greatest_samples, trace)?;
+        self.raise(&Ends::of(trace))?;
         self.records += 1;
         self.number += u64::from(trace.number);
         self.sum += trace.sum;
@@ -61,7 +57,26 @@ impl Running for Totals {
     }
 
     fn remove(&mut self, trace: &Record) {
-        lower_ends(&mut self.least_samples, &mut self.greatest_samples, trace);
+        self.lower(&Ends::of(trace));
+        self.records -= 1;
+        self.number -= u64::from(trace.number);
+        self.sum -= trace.sum;
+    }
+
+    fn add_beside(
+        &mut self,
+        trace: &Record,
+        other: &Record,
+    ) -> Result<(), trace_record::OutOfMemory> {
+        self.raise(&Ends::beside(trace, other))?;
+        self.records += 1;
+        self.number += u64::from(trace.number);
+        self.sum += trace.sum;
+        Ok(())
+    }
+
+    fn remove_beside(&mut self, trace: &Record, other: &Record) {
+        self.lower(&Ends::beside(trace, other));
         self.records -= 1;
         self.number -= u64::from(trace.number);
         self.sum -= trace.sum;
@@ -69,21 +84,24 @@ impl Running for Totals {
 }
 
 impl Totals {
+    ghost use Rattle.std.specs.Prelude.{◌≡◌, ◌+◌, ◌≤◌, OnOk, OnErr, IsOk};
+    ghost use Rattle.trace_record.specs.Keys.{Key};
     ghost use Rattle.range_stats.specs.OfTally.{IsLeastIn, IsGreatestIn};
-    ghost use Rattle.range_stats.specs.OfTotals.{tally_of_totals};
+    ghost use Rattle.range_stats.specs.OfKeys.{times_among_ends};
+    ghost use Rattle.range_stats.specs.OfTotals.{count_in_totals, HasRoom, tally_of_totals};
 
     /// The least sample of all traces, none without samples. Takes no memory.
     pub fn least(&self) -> Option<i128>
         ensures { IsLeastIn (tally_of_totals self.now) result }
     {
-        least_key(&self.least_samples)
+        self.least_samples.least()
     }
 
     /// The greatest sample of all traces, none without samples. Takes no memory.
     pub fn greatest(&self) -> Option<i128>
         ensures { IsGreatestIn (tally_of_totals self.now) result }
     {
-        greatest_key(&self.greatest_samples)
+        self.greatest_samples.greatest()
     }
 
     /// The sum of all samples, 0 without samples. Takes no memory.
@@ -99,47 +117,43 @@ impl Totals {
     {
         self.number
     }
-}
 
-// Counts the least and the greatest sample of a trace that has samples, or neither where a growth
-// is refused.
-fn raise_ends(
-    least: &mut Counts<i128>,
-    greatest: &mut Counts<i128>,
-    trace: &Record,
-) -> Result<(), OutOfMemory>
-    requires room_least { count_of int_cmp least.old trace.now.least + 1 < 2 ^ 64 }
-    requires room_greatest { count_of int_cmp greatest.old trace.now.greatest + 1 < 2 ^ 64 }
-    ensures ok_least { OnOk result
-        (HasOneMoreWhere int_cmp (nat_lt 0 trace.now.number) least.old least.new trace.now.least) }
-    ensures ok_greatest { OnOk result
-        (HasOneMoreWhere int_cmp (nat_lt 0 trace.now.number) greatest.old greatest.new
-        trace.now.greatest) }
-    ensures err_least { OnErr result (HasSameCounts int_cmp least.old least.new) }
-    ensures err_greatest { OnErr result (HasSameCounts int_cmp greatest.old greatest.new) }
-    ensures empty { trace.now.number ≡ 0 → IsOk result }
-    ensures held { 0 < count_of int_cmp least.old trace.now.least →
-        0 < count_of int_cmp greatest.old trace.now.greatest → IsOk result }
-{
-    if trace.number > 0 {
-        raise_both(least, trace.least, greatest, trace.greatest)
-    } else {
+    // Counts the ends once more, or neither where a growth is refused.
+    fn raise(&mut self, ends: &Ends) -> Result<(), OutOfMemory>
+        requires { HasRoom self.old ends.now }
+        ensures ok { OnOk result ((k : Key) →
+            count_in_totals self.new k ≡ count_in_totals self.old k + times_among_ends ends.now k) }
+        ensures err { OnErr result ((k : Key) →
+            count_in_totals self.new k ≡ count_in_totals self.old k) }
+        ensures held { ((k : Key) → times_among_ends ends.now k ≤ count_in_totals self.old k) →
+            IsOk result }
+        ensures records { self.new.records ≡ self.old.records }
+        ensures number { self.new.number ≡ self.old.number }
+        ensures sum { self.new.sum ≡ self.old.sum }
+    {
+        raise_both(
+            &mut self.least_samples,
+            ends.least,
+            &mut self.greatest_samples,
+            ends.greatest,
+        )?;
         Ok(())
     }
-}
 
-// No longer counts the least and the greatest sample of a trace that has samples.
-fn lower_ends(least: &mut Counts<i128>, greatest: &mut Counts<i128>, trace: &Record)
-    requires has_least { 0 < trace.now.number → 0 < count_of int_cmp least.old trace.now.least }
-    requires has_greatest { 0 < trace.now.number →
-        0 < count_of int_cmp greatest.old trace.now.greatest }
-    ensures least { HasOneMoreWhere int_cmp (nat_lt 0 trace.now.number) least.new least.old
-        trace.now.least }
-    ensures greatest { HasOneMoreWhere int_cmp (nat_lt 0 trace.now.number) greatest.new
-        greatest.old trace.now.greatest }
-{
-    if trace.number > 0 {
-        least.lower(&trace.least);
-        greatest.lower(&trace.greatest);
+    // Counts the ends once less.
+    fn lower(&mut self, ends: &Ends)
+        requires { (k : Key) → times_among_ends ends.now k ≤ count_in_totals self.old k }
+        ensures less { (k : Key) →
+            count_in_totals self.old k ≡ count_in_totals self.new k + times_among_ends ends.now k }
+        ensures records { self.new.records ≡ self.old.records }
+        ensures number { self.new.number ≡ self.old.number }
+        ensures sum { self.new.sum ≡ self.old.sum }
+    {
+        lower_both(
+            &mut self.least_samples,
+            ends.least,
+            &mut self.greatest_samples,
+            ends.greatest,
+        );
     }
 }

@@ -4,8 +4,8 @@
 //! number of samples. A `Running` value counts traces, seen as their tally. The calls that are named
 //! for a law do nothing: their contract is the law.
 //!
-//! `Running::add` takes memory only for a key that is not held; where a growth is refused it leaves
-//! all as it was. `Running::from_records` counts all at once, and takes memory for what it makes.
+//! `Running::add` and `add_beside` take memory only for a key that is not held; where a growth is
+//! refused they leave all as it was. `Running::from_records` counts all at once, and takes memory for what it makes.
 //! `Records::from_slice`, `push`, `insert` and `move_to` may take memory, and leave the records as
 //! they were where it is refused. No other call takes memory. Bytes of headers count from 1, as in
 //! the standard.
@@ -28,9 +28,9 @@ mod unsigned;
 mod wide;
 
 pub use crate::laws::{
-    geometry_of_each_trace, minus_undoes_plus, plus_in_any_order, plus_undoes_minus,
-    statistics_of_joined, tally_holds_each, tally_in_any_order, tally_of_one_less,
-    tally_of_one_more,
+    geometry_of_each_trace, minus_beside_undoes_plus, minus_undoes_plus, plus_in_any_order,
+    plus_undoes_minus, statistics_of_joined, tally_holds_each, tally_in_any_order,
+    tally_of_an_exchange, tally_of_one_less, tally_of_one_more,
 };
 pub use crate::of_trace::{record_of, record_with_samples_of};
 pub use crate::out_of_memory::OutOfMemory;

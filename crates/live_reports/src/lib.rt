@@ -8,7 +8,6 @@
 //! changed; `remove` and the calls that lend take none.
 #![tactic(auto)]
 
-mod changes;
 mod counting;
 mod exchanging;
 mod live_reports;

@@ -1,5 +1,6 @@
-ghost use Rattle.std.specs.Prelude.{◌≡◌, ◌<◌, ◌≤◌, ◌+◌, length, drop, slice_get, slice_set, map, All, Some, IfOk, OnOk, OnErr, IsOk};
+ghost use Rattle.std.specs.Prelude.{◌≡◌, ◌&&◌, ◌<◌, ◌≤◌, ◌+◌, length, drop, slice_get, slice_set, map, All, Some, IfOk, OnOk, OnErr, IsOk};
 ghost use Rattle.std.specs.List.{insert, remove};
+ghost use Rattle.std.specs.Ordering.{int_eq};
 ghost use Rattle.record_list.specs.Order.{with_moved};
 ghost use Rattle.trace_record.specs.Facts.{facts_of};
 ghost use Rattle.trace_record.specs.Tally.{tally_of, Same};
@@ -11,11 +12,11 @@ ghost use Rattle.range_stats.specs.RangeKeys.{keys_of_ranges};
 ghost use Rattle.range_stats.specs.OfRanges.{tally_of_ranges};
 ghost use Rattle.range_stats.specs.TotalKeys.{keys_of_totals};
 ghost use Rattle.range_stats.specs.OfTotals.{tally_of_totals};
+ghost use Rattle.live_reports.specs.Alike.{same_cell};
 ghost use Rattle.live_reports.specs.Exchanged.{with_records, same_cells};
 ghost use Rattle.live_reports.specs.Reports.{AreFew, HasEachKey};
 
 use crate::OutOfMemory;
-use crate::changes::{all_changes, changes_between, has_same_cell};
 use crate::exchanging::{add_each, put_each};
 use crate::values::Values;
 use fault_live::Faults;
@@ -107,8 +108,8 @@ impl LiveReports {
         &self.values.triples
     }
 
-    /// Puts the record where another stands. A value that counts both alike counts nothing anew.
-    /// Takes memory only for a key that no record has.
+    /// Puts the record where another stands. What both have in common is not counted anew. Takes
+    /// memory only for a key that no record has.
     pub fn exchange(&mut self, place: usize, changed: &Record) -> Result<(), OutOfMemory>
         requires place { place < length self.old }
         requires few { AreFew (slice_set self.old place changed.now) }
@@ -119,15 +120,15 @@ impl LiveReports {
         let Some(old) = self.records.get(place) else {
             unreachable!()
         };
-        let changes = changes_between(&old, changed);
-        self.values.add(changes, changed)?;
-        self.values.remove(changes, &old);
+        self.values.add_beside(changed, &old)?;
+        self.values.remove_beside(&old, changed);
         self.records.set(place, *changed);
         Ok(())
     }
 
-    /// Puts the records where as many others stand, from a place on. A value that counts two alike
-    /// counts nothing anew. All or none. Takes memory only for a key that no record has.
+    /// Puts the records where as many others stand, from a place on. What a record and the one that
+    /// it stands for have in common is not counted anew. All or none. Takes memory only for a key
+    /// that no record has.
     pub fn exchange_each(&mut self, place: usize, records: &[Record]) -> Result<(), OutOfMemory>
         requires place { place + length records.now ≤ length self.old }
         requires few { AreFew (with_records self.old place records.now) }
@@ -165,9 +166,9 @@ impl LiveReports {
         ensures ok { OnOk result (self.new ≡ insert self.old place added.now) }
         ensures err { OnErr result (self.new ≡ self.old) }
     {
-        self.values.add(all_changes(), added)?;
+        self.values.add(added)?;
         if let Err(error) = self.records.insert(alloc, place, *added) {
-            self.values.remove(all_changes(), added);
+            self.values.remove(added);
             return Err(OutOfMemory::from(error));
         }
         Ok(())
@@ -180,7 +181,7 @@ impl LiveReports {
         ensures records { self.new ≡ remove self.old place }
     {
         let record = self.records.remove(place);
-        self.values.remove(all_changes(), &record);
+        self.values.remove(&record);
         record
     }
 
@@ -195,4 +196,11 @@ impl LiveReports {
         self.records.move_to(alloc, from, to)?;
         Ok(())
     }
+}
+
+// Whether both have the same inline and crossline.
+fn has_same_cell(old: &Record, new: &Record) -> bool
+    ensures { result ≡ same_cell old.now new.now }
+{
+    old.inline == new.inline && old.crossline == new.crossline
 }

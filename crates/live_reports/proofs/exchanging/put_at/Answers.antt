@@ -4,33 +4,30 @@ use Rattle.trace_record.specs.declared.record.Record.{Record}
 use Rattle.live_reports.specs.Exchanged.{with_records, tallies_with_new, AreFewTogether}
 use Rattle.live_reports.specs.Tallies.{tallies_of, SameEach}
 use Rattle.live_reports.proofs.ExchangeLemmas.{each_old_held, each_old_fits, each_exchanged, few_after, one_in_place}
+use Rattle.live_reports.proofs.SmallLemmas.{SameEach-trans}
 use Rattle.live_reports.proofs.exchanging.put_at.Goals as goal
 
-pub remove-requires-clause-held : goal.remove-requires-clause-held
-remove-requires-clause-held c =
+pub remove_beside-requires-clause-held : goal.remove_beside-requires-clause-held
+remove_beside-requires-clause-held c =
     each_old_held c.args.records.now c.args.place c.args.k c.args.new.now c.in-Some.old c.index-new-k.result (sym c.get.ensures ∙ c.in-Some.is) c.requires.there c.index-new-k.is
-    c.changes_between.result c.changes_between.ensures.grid c.changes_between.ensures.ranges c.changes_between.ensures.totals c.changes_between.ensures.triples
     (tallies_of c.args.values.now) c.requires.counted
 
-pub remove-requires-clause-small : goal.remove-requires-clause-small
-remove-requires-clause-small c =
+pub remove_beside-requires-clause-small : goal.remove_beside-requires-clause-small
+remove_beside-requires-clause-small c =
     each_old_fits c.args.records.now c.args.place c.args.k c.args.new.now c.in-Some.old c.index-new-k.result (sym c.get.ensures ∙ c.in-Some.is) c.requires.there c.index-new-k.is
-    c.changes_between.result c.changes_between.ensures.grid c.changes_between.ensures.ranges c.changes_between.ensures.totals c.changes_between.ensures.triples
-    (tallies_of c.args.values.now) c.requires.counted c.requires.few
+    (tallies_of c.args.values.now) c.requires.counted c.requires.place c.requires.few
 
 pub returns-clause-few : goal.returns-clause-few
 returns-clause-few c =
     subst (λ (rs : List Record). AreFewTogether rs (drop (c.args.k + 1) c.args.new.now)) (sym c.set.ensures)
-    (few_after c.args.records.now c.args.place c.args.k c.args.new.now c.in-Some.old c.index-new-k.result (sym c.get.ensures ∙ c.in-Some.is) c.requires.there c.index-new-k.is
-    c.changes_between.result c.changes_between.ensures.grid c.changes_between.ensures.ranges c.changes_between.ensures.totals c.changes_between.ensures.triples
-    (tallies_of c.args.values.now) c.requires.counted c.requires.few)
+    (few_after c.args.records.now c.args.place c.args.k c.args.new.now c.in-Some.old c.index-new-k.result (sym c.get.ensures ∙ c.in-Some.is) c.requires.there c.index-new-k.is c.requires.place c.requires.few)
 
 pub returns-clause-counted : goal.returns-clause-counted
 returns-clause-counted c =
-    subst (λ (rs : List Record). SameEach (tallies_of c.remove.new.self) (tallies_with_new rs c.args.place c.args.new.now (c.args.k + 1))) (sym c.set.ensures)
+    subst (λ (rs : List Record). SameEach (tallies_of c.remove_beside.new.self) (tallies_with_new rs c.args.place c.args.new.now (c.args.k + 1))) (sym c.set.ensures)
+    (SameEach-trans _ _ _ c.remove_beside.ensures
     (each_exchanged c.args.records.now c.args.place c.args.k c.args.new.now c.in-Some.old c.index-new-k.result (sym c.get.ensures ∙ c.in-Some.is) c.requires.there c.index-new-k.is
-    c.changes_between.result c.changes_between.ensures.grid c.changes_between.ensures.ranges c.changes_between.ensures.totals c.changes_between.ensures.triples
-    (tallies_of c.args.values.now) c.requires.counted (tallies_of c.remove.new.self) c.remove.ensures)
+    (tallies_of c.args.values.now) c.requires.counted))
 
 pub returns-clause-records : goal.returns-clause-records
 returns-clause-records c =

@@ -6,7 +6,6 @@ use Rattle.trace_record.specs.Packed.{record_in}
 use Rattle.trace_record.specs.declared.packed_record.PackedRecord.{PackedRecord}
 use Rattle.trace_record.specs.declared.record.Record.{Record}
 use Rattle.trace_store.specs.Stores.{payloads_of}
-use Rattle.timings.specs.Tables.{records_in}
 use Rattle.timings.proofs.table.take_out.Goals as goal
 
 pub returns-clause-records : goal.returns-clause-records
@@ -18,9 +17,4 @@ returns-clause-records c =
 
 pub returns-clause-counted : goal.returns-clause-counted
 returns-clause-counted c =
-    let ps : List PackedRecord = payloads_of c.args.table.now in
-    let same : c.args.place + 1 - 1 ≡ c.args.place = omega arith in
-    let left : records_in c.delete.new.self ≡ remove (records_in c.args.table.now) c.args.place =
-    ap (λ (qs : List PackedRecord). map record_in qs) c.delete.ensures.payloads
-    ∙ (map-remove record_in ps (c.args.place + 1 - 1) ∙ ap (λ (n : ℕ). remove (map record_in ps) n) same) in
-    subst (λ (rs : List Record). AreReportsOf c.remove.new.self rs) (ap (λ (rs : List Record). remove rs c.args.place) c.records.ensures ∙ sym left) c.remove.ensures
+    subst (λ (rs : List Record). AreReportsOf c.remove.new.self rs) (ap (λ (rs : List Record). remove rs c.args.place) c.records.ensures ∙ sym (returns-clause-records c)) c.remove.ensures

@@ -1,15 +1,10 @@
 -- The tally that a `Faults` shows.
-use Rattle.std.specs.Prelude.{ℕ, ℤ, pos}
-use Rattle.std.specs.Ordering.{int_cmp, ordering_then}
-use Rattle.std.specs.declared.cmp.Ordering.{Ordering}
+use Rattle.std.specs.Prelude.{ℕ, pos}
 use Rattle.key_counts.specs.Counts.{count_of}
 use Rattle.trace_record.specs.Keys.{Key, cell, inline, crossline, offset, coordinate_x, coordinate_y, least, greatest, triple}
 use Rattle.trace_record.specs.Tally.{Tally}
+use Rattle.window_counts.specs.Places.{triple_cmp}
 use Rattle.fault_live.specs.declared.faults.Faults.{Faults}
-
--- triples by inline, then by crossline, then by offset
-abbrev pub triple_cmp : ℤ × ℤ × ℤ → ℤ × ℤ × ℤ → Ordering
-triple_cmp a b = ordering_then (ordering_then (int_cmp a.0 b.0) (int_cmp a.1 b.1)) (int_cmp a.2 b.2)
 
 -- how often it counted each key
 abbrev pub count_in : Faults → Key → ℕ

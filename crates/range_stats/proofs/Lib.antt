@@ -1,7 +1,6 @@
 pub mod EndKeyLemmas
-pub mod EndLemmas
 pub mod UnpackedLemmas
-pub mod OwnValueLemmas
+pub mod OwnKeyLemmas
 pub mod RangeLemmas
 pub mod SmallTallyLemmas
 pub mod SumLemmas

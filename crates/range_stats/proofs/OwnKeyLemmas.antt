@@ -1,6 +1,7 @@
 -- The keys of a trace that ranges and totals count, alone and beside another trace.
-use Rattle.std.specs.Prelude.{◌≡◌, ℤ, ◌-◌, ◌<◌, Option, Some, None, nat_lt, true, false, Bool, ◌&&◌, if◌then◌else◌, refl}
-use Rattle.std.proofs.Common.{arith, ap, ap₂, sym, ◌∙◌}
+use Rattle.std.specs.Prelude.{◌≡◌, ℤ, ◌-◌, Option, Some, None, option_map, false, if◌then◌else◌, refl}
+use Rattle.std.specs.Option.{option_map_or}
+use Rattle.std.proofs.Common.{ap, sym, ◌∙◌}
 use Rattle.std.specs.Ordering.{int_cmp, int_eq}
 use Rattle.std.specs.Cmp.{int_cmp_total}
 use Rattle.key_counts.specs.Numbers.{times_of, beside_of}
@@ -12,11 +13,13 @@ use Rattle.key_counts.proofs.RaisedLemmas.{times-beside}
 use Rattle.trace_record.specs.Facts.{Facts}
 use Rattle.trace_record.specs.Keys.{Key, cell, inline, crossline, offset, coordinate_x, coordinate_y, least, greatest, triple}
 use Rattle.trace_record.specs.Tally.{times}
+use Rattle.trace_record.specs.declared.amplitudes.Amplitudes.{Amplitudes}
 use Rattle.range_stats.specs.RangeKeys.{keys_of_ranges}
 use Rattle.range_stats.specs.TotalKeys.{keys_of_totals}
 use Rattle.range_stats.specs.OfKeys.{times_among, times_among_ends}
 use Rattle.range_stats.specs.declared.keys.Keys.{Keys}
 use Rattle.range_stats.specs.declared.ends.Ends.{Ends}
+use Rattle.range_stats.proofs.EndKeyLemmas.{times-least, times-greatest}
 
 -- a packed coordinate is counted as the coordinate in it
 times_packed : (p : PackedRatio) (v q : Ratio) → ratio_in p ≡ v → times_of ratio_in ratio_cmp (Some p) q ≡ times_of (λ k. k) ratio_cmp (Some v) q
@@ -52,25 +55,24 @@ among-beside ks own others ei ec eo ex ey = elim [
   | triple i c o ↦ refl
 ]
 
--- an end of a trace, where it has samples
-abbrev end_of : Facts → ℤ → Option ℤ
-end_of f v = if nat_lt 0 f.number then Some v else None
+-- an end of a trace, where its samples have values
+times_end : (end : Amplitudes → ℤ) (o : Option Amplitudes) (q : ℤ) → times_of (λ k. k) int_cmp (option_map end o) q ≡ (if option_map_or (λ a. int_eq (end a) q) o false then 1 else 0)
+times_end end None q = refl
+times_end end (Some a) q = refl
 
-times_end : (b : Bool) (v q : ℤ) → times_of (λ k. k) int_cmp (if b then Some v else None) q ≡ (if b && int_eq v q then 1 else 0)
-times_end true v q = refl
-times_end false v q = refl
-
-pub times-ends : (es : Ends) (f : Facts) → es.least ≡ end_of f f.least → es.greatest ≡ end_of f f.greatest → (k : Key) → times_among_ends es k ≡ times keys_of_totals f k
-times-ends es f el eg = elim [
+-- both ends of a trace whose amplitudes are known
+pub times-ends : (es : Ends) (f : Facts) (o : Option Amplitudes) → f.amplitudes ≡ o → es.least ≡ option_map (λ a. a.least) o → es.greatest ≡ option_map (λ a. a.greatest) o
+    → (k : Key) → times_among_ends es k ≡ times keys_of_totals f k
+times-ends es f o is el eg = elim [
   | cell i c ↦ refl
   | inline i ↦ refl
   | crossline c ↦ refl
-  | offset o ↦ refl
+  | offset q ↦ refl
   | coordinate_x v ↦ refl
   | coordinate_y v ↦ refl
-  | least v ↦ ap (λ o. times_of (λ k. k) int_cmp o v) el ∙ times_end (nat_lt 0 f.number) f.least v
-  | greatest v ↦ ap (λ o. times_of (λ k. k) int_cmp o v) eg ∙ times_end (nat_lt 0 f.number) f.greatest v
-  | triple i c o ↦ refl
+  | least v ↦ ap (λ e. times_of (λ k. k) int_cmp e v) el ∙ times_end (λ a. a.least) o v ∙ sym (times-least f o v is)
+  | greatest v ↦ ap (λ e. times_of (λ k. k) int_cmp e v) eg ∙ times_end (λ a. a.greatest) o v ∙ sym (times-greatest f o v is)
+  | triple i c q ↦ refl
 ]
 
 pub ends-beside : (es own others : Ends) → es.least ≡ beside_of int_cmp own.least others.least → es.greatest ≡ beside_of int_cmp own.greatest others.greatest

@@ -13,7 +13,7 @@ use Rattle.trace_record.specs.declared.record.Record.{Record}
 use Rattle.trace_record.specs.Statistics.{int_sum}
 use Rattle.trace_record.specs.Keys.{Key, Counted}
 use Rattle.trace_record.specs.Laws.{TallyOfOneMore, TallyOfOneLess, TallyHoldsEach, TallyOfAnExchange, MinusBesideUndoesPlus}
-use Rattle.trace_record.specs.Tally.{Tally, tally_of, plus, minus, Same, Holds, IsSmall}
+use Rattle.trace_record.specs.Tally.{Tally, tally_of, plus, minus, times, Same, Holds, IsSmall}
 
 -- the part of a number above zero, and the part below
 above : ℤ → ℕ

@@ -7,3 +7,4 @@ pub mod SumLemmas
 pub mod TallyRangeLemmas
 pub mod TotalsLemmas
 pub mod LoadLemmas
+pub mod WholeLemmas

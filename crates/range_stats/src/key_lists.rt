@@ -6,24 +6,6 @@ use key_counts::PackedRatio;
 use std::alloc::{AllocError, Global};
 use record_table::Records;
 
-pub(crate) fn inline_keys(alloc: Global, records: &Records) -> Result<Vec<i32>, AllocError>
-    ensures { IfOk result (λ keys. keys.items ≡ map (λ r. r.inline) records.now) }
-{
-    records.iter().map(|r| r.inline).collect(alloc)
-}
-
-pub(crate) fn crossline_keys(alloc: Global, records: &Records) -> Result<Vec<i32>, AllocError>
-    ensures { IfOk result (λ keys. keys.items ≡ map (λ r. r.crossline) records.now) }
-{
-    records.iter().map(|r| r.crossline).collect(alloc)
-}
-
-pub(crate) fn offset_keys(alloc: Global, records: &Records) -> Result<Vec<i32>, AllocError>
-    ensures { IfOk result (λ keys. keys.items ≡ map (λ r. r.offset) records.now) }
-{
-    records.iter().map(|r| r.offset).collect(alloc)
-}
-
 pub(crate) fn x_keys(alloc: Global, records: &Records) -> Result<Vec<PackedRatio>, AllocError>
     ensures { IfOk result (λ keys. map ratio_in keys.items ≡ map (λ r. r.x) records.now) }
 {

@@ -17,6 +17,7 @@ mod quantity;
 mod ranges;
 mod sums;
 mod totals;
+mod whole_counts;
 
 pub use crate::laws::{
     at_most_one_range, at_most_one_range_in, range_is_range, range_of_tally, totals_are_of_samples,

@@ -8,8 +8,9 @@ ghost use Rattle.range_stats.specs.Extremes.{whole_count};
 
 use crate::Quantity;
 use crate::coordinate_counts::CoordinateCounts;
-use crate::key_lists::{crossline_keys, inline_keys, offset_keys, x_keys, y_keys};
+use crate::key_lists::{x_keys, y_keys};
 use crate::keys::Keys;
+use crate::whole_counts::{WholeQuantity, whole_counts};
 use key_counts::{OutOfMemory, Ratio, lower_any, lower_both, raise_any, raise_both};
 use std::alloc::Global;
 use record_table::{Records, Running};
@@ -48,9 +49,9 @@ impl Running for Ranges {
     }
 
     fn from_records(alloc: Global, records: &Records) -> Result<Ranges, record_table::OutOfMemory> {
-        let inlines = LineCounts::from_keys(alloc, inline_keys(alloc, records)?)?;
-        let crosslines = LineCounts::from_keys(alloc, crossline_keys(alloc, records)?)?;
-        let offsets = LineCounts::from_keys(alloc, offset_keys(alloc, records)?)?;
+        let inlines = whole_counts(alloc, records, WholeQuantity::Inline)?;
+        let crosslines = whole_counts(alloc, records, WholeQuantity::Crossline)?;
+        let offsets = whole_counts(alloc, records, WholeQuantity::Offset)?;
         let coordinates_x = CoordinateCounts::from_keys(alloc, x_keys(alloc, records)?)?;
         let coordinates_y = CoordinateCounts::from_keys(alloc, y_keys(alloc, records)?)?;
         Ok(Ranges {

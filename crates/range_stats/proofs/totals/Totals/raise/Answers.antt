@@ -8,19 +8,6 @@ raise_both-requires-clause-room_first c = λ q. c.requires (least q)
 pub raise_both-requires-clause-room_second : goal.raise_both-requires-clause-room_second
 raise_both-requires-clause-room_second c = λ q. c.requires (greatest q)
 
-pub returns-in_err-raise_both-clause-err : goal.returns-in_err-raise_both-clause-err
-returns-in_err-raise_both-clause-err c = elim [
-  | cell i x ↦ refl
-  | inline i ↦ refl
-  | crossline x ↦ refl
-  | offset o ↦ refl
-  | coordinate_x r ↦ refl
-  | coordinate_y r ↦ refl
-  | least v ↦ c.in_err-raise_both.ensures.err_first v
-  | greatest v ↦ c.in_err-raise_both.ensures.err_second v
-  | triple i x o ↦ refl
-]
-
 pub returns-in_err-raise_both-clause-held : goal.returns-in_err-raise_both-clause-held
 returns-in_err-raise_both-clause-held c held =
     let bad = c.in_err-raise_both.ensures.held (λ q. held (least q)) (λ q. held (greatest q)) in

@@ -5,7 +5,7 @@ use Rattle.key_counts.specs.RatioOrder.{ratio_cmp}
 use Rattle.key_counts.specs.declared.ratio.Ratio.{Ratio}
 use Rattle.range_stats.specs.Unpacked.{with_ratios}
 use Rattle.range_stats.proofs.UnpackedLemmas.{count_unpacked, one_more_unpacked}
-use Rattle.range_stats.proofs.coordinate_counts.CoordinateCountsCounter.lower.Goals as goal
+use Rattle.range_stats.proofs.coordinate_counts.CoordinateCountsCounterPackedRatio.lower.Goals as goal
 
 pub lower-requires : goal.lower-requires
 lower-requires c =

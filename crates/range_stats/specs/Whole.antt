@@ -4,6 +4,7 @@ use Rattle.trace_record.specs.declared.record.Record.{Record}
 use Rattle.range_stats.specs.declared.whole_counts.WholeQuantity.{WholeQuantity}
 use Rattle.range_stats.specs.declared.whole_counts.WholeQuantity.TheVariants.{Inline, Crossline, Offset}
 
+-- the number of a record that is meant
 abbrev pub whole_in : WholeQuantity → Record → ℤ
 whole_in Inline r = r.inline
 whole_in Crossline r = r.crossline

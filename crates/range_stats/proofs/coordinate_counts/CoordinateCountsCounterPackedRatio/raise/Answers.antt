@@ -1,7 +1,8 @@
-use Rattle.std.proofs.Common.{◌<◌, ◌+◌, ◌^◌, ℕ, List, subst, sym}
+use Rattle.std.proofs.Common.{◌<◌, ◌+◌, ◌^◌, ◌∙◌, ℕ, List, ap, subst, sym}
 use Rattle.key_counts.specs.Counts.{count_of, HasOneMore}
 use Rattle.key_counts.specs.Packed.{ratio_in}
 use Rattle.key_counts.specs.RatioOrder.{ratio_cmp}
+use Rattle.key_counts.specs.declared.packed_ratio.PackedRatio.{PackedRatio}
 use Rattle.key_counts.specs.declared.ratio.Ratio.{Ratio}
 use Rattle.range_stats.specs.Unpacked.{with_ratios}
 use Rattle.range_stats.proofs.UnpackedLemmas.{count_unpacked, one_more_unpacked}
@@ -23,3 +24,8 @@ returns-in_err-raise-clause-held c held =
     (subst (λ (n : ℕ). 0 < n) (sym (count_unpacked c.self.inside.packed c.args.key))
     (subst (λ (es : List (Ratio × ℕ)). 0 < count_of ratio_cmp es (ratio_in c.args.key)) (sym c.self.view_is) held)) in
     cc
+
+pub returns-in_err-raise-clause-err : goal.returns-in_err-raise-clause-err
+returns-in_err-raise-clause-err c = λ q.
+    ap (λ (es : List (PackedRatio × ℕ)). count_of ratio_cmp (with_ratios es) q) c.in_err-raise.ensures.err
+    ∙ ap (λ (es : List (Ratio × ℕ)). count_of ratio_cmp es q) c.self.view_is

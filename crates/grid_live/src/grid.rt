@@ -5,8 +5,8 @@ use crate::keys::Keys;
 use crate::lists::histogram_of_cells;
 use crate::{Cell, FoldCount, Line, OutOfMemory};
 use key_counts::{lower_any, lower_both, raise_any, raise_both};
-use std::alloc::Global;
 use record_table::{Records, Running};
+use std::alloc::Global;
 use trace_record::Record;
 use window_counts::{CellCounts, Interval, LineCounts, Rectangle, Window};
 

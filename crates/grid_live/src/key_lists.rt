@@ -2,8 +2,8 @@
 ghost use Rattle.std.specs.Prelude.{◌≡◌, IfOk, All, FitsSigned, map};
 ghost use Rattle.std.specs.Int.{w32};
 
-use std::alloc::{AllocError, Global};
 use record_table::Records;
+use std::alloc::{AllocError, Global};
 use window_counts::{Extent, RectangleExtent};
 
 pub(crate) fn cell_keys(alloc: Global, records: &Records) -> Result<Vec<(i32, i32)>, AllocError>

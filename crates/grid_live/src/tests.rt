@@ -1,9 +1,9 @@
 // Traces that are counted and no longer are, with values worked by hand.
 use crate::{Cell, FoldCount, Grid, Line};
 use key_counts::Ratio;
+use record_table::{OutOfMemory, Running};
 use std::alloc::Global;
 use std::test::Fail;
-use record_table::{OutOfMemory, Running};
 use trace_record::{Amplitudes, Record};
 
 // The grid of the second trace, once the first came and went.

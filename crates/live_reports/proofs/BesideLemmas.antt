@@ -138,8 +138,8 @@ with_new-IsSmall c rs os ns h s =
     }
 
 module _ (c : Counted) (front behind : List Facts) (o n : Record) (t t' : Tally)
-  (was : Same t (tally_of c (front ++ facts_of o ∷ behind))) (will : Same t' (tally_of c (front ++ facts_of n ∷ behind)))
-  (os ns : List Record) (u : Tally) (grew : Same u (plus_beside c (with_new c t os ns) (facts_of n) (facts_of o))) where
+    (was : Same t (tally_of c (front ++ facts_of o ∷ behind))) (will : Same t' (tally_of c (front ++ facts_of n ∷ behind)))
+    (os ns : List Record) (u : Tally) (grew : Same u (plus_beside c (with_new c t os ns) (facts_of n) (facts_of o))) where
   -- the old one is still counted, beside others too
   pub old_held : HoldsBeside c u (facts_of o) (facts_of n)
   old_held =

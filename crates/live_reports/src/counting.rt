@@ -51,8 +51,8 @@ pub(crate) fn add_both_beside<A: Running, B: Running>(
         (plus_beside B.counted (B.tally second.old) (facts_of trace.now) (facts_of other.now))) }
     ensures err_first { OnErr result (Same (A.tally first.new) (A.tally first.old)) }
     ensures err_second { OnErr result (Same (B.tally second.new) (B.tally second.old)) }
-    ensures held {
-        HasKeysBeside A.counted (A.tally first.old) (facts_of trace.now) (facts_of other.now) →
+    ensures held { HasKeysBeside A.counted (A.tally first.old) (facts_of trace.now)
+        (facts_of other.now) →
         HasKeysBeside B.counted (B.tally second.old) (facts_of trace.now) (facts_of other.now) →
         IsOk result }
 {

@@ -6,8 +6,8 @@ use crate::counting::{add_both, add_both_beside};
 use fault_live::Faults;
 use grid_live::Grid;
 use range_stats::{Ranges, Totals};
-use std::alloc::Global;
 use record_table::{OutOfMemory, Records, Running};
+use std::alloc::Global;
 use trace_record::Record;
 
 // The four running values.
@@ -78,9 +78,8 @@ impl Values {
         ensures ok { OnOk result (SameEach (tallies_of self.new)
             (plus_each_beside (tallies_of self.old) (facts_of trace.now) (facts_of other.now))) }
         ensures err { OnErr result (SameEach (tallies_of self.new) (tallies_of self.old)) }
-        ensures held {
-            HaveKeysBeside (tallies_of self.old) (facts_of trace.now) (facts_of other.now) →
-            IsOk result }
+        ensures held { HaveKeysBeside (tallies_of self.old) (facts_of trace.now)
+            (facts_of other.now) → IsOk result }
     {
         add_both_beside(&mut self.grid, &mut self.ranges, trace, other)?;
         if let Err(error) = add_both_beside(&mut self.totals, &mut self.triples, trace, other) {

@@ -53,9 +53,8 @@ pub trait Running: Drop {
         ensures ok { OnOk result (Same (tally self.new)
             (plus_beside counted (tally self.old) (facts_of trace.now) (facts_of other.now))) }
         ensures err { OnErr result (Same (tally self.new) (tally self.old)) }
-        ensures held {
-            HasKeysBeside counted (tally self.old) (facts_of trace.now) (facts_of other.now) →
-            IsOk result };
+        ensures held { HasKeysBeside counted (tally self.old) (facts_of trace.now)
+            (facts_of other.now) → IsOk result };
 
     /// No longer counts the trace beside another, which stands for it: a key of both stays counted
     /// once, and is not touched. Takes no memory.

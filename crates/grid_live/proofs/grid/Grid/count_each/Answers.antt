@@ -11,5 +11,5 @@ loop-trace-preserved c =
     let h = c.raise.new.self in (
       append_assoc c.loop-trace.yielded (c.in-Some.trace ∷ []) c.next.new.self ∙ parts,
       counted_behind c.loop-trace.self c.loop-trace.yielded c.in-Some.trace c.next.new.self c.args.records.now parts c.requires.few c.loop-trace.invariant.1 c.of.result c.of.ensures
-      (record { records = h.records + 1; cells = h.cells; inlines = h.inlines; crosslines = h.crosslines; fitting = h.fitting }) (ap (λ n. n + 1) c.in_ok-raise.ensures.records) c.in_ok-raise.ensures.ok,
+          (record { records = h.records + 1; cells = h.cells; inlines = h.inlines; crosslines = h.crosslines; fitting = h.fitting }) (ap (λ n. n + 1) c.in_ok-raise.ensures.records) c.in_ok-raise.ensures.ok,
     )

@@ -1,21 +1,23 @@
-ghost use Rattle.std.specs.Prelude.{◌≡◌, ℤ, OnOk, IfOk, Some, unwrap_or, cond, nat_lt, ◌<◌, ◌≤◌, ◌^◌, length, map, ◌&&◌};
+ghost use Rattle.std.specs.Prelude.{◌≡◌, ◌+◌, ℤ, OnOk, OnErr, IsOk, IfOk, Some, unwrap_or, cond, nat_lt, ◌<◌, ◌≤◌, ◌^◌, length, map, ◌&&◌};
 ghost use Rattle.std.specs.Ordering.{is_eq};
 ghost use Rattle.std.specs.BTreeMap.{get};
 ghost use Rattle.key_counts.specs.Counts.{count_of};
 ghost use Rattle.trace_record.specs.Facts.{facts_of};
 ghost use Rattle.fault_live.specs.FaultKeys.{keys_of_faults};
+ghost use Rattle.trace_record.specs.Keys.{Key};
 ghost use Rattle.trace_record.specs.Tally.{Same, empty_tally, tally_of};
 ghost use Rattle.window_counts.specs.Places.{triple_cmp};
-ghost use Rattle.fault_live.specs.OfFaults.{tally_of_faults};
+ghost use Rattle.fault_live.specs.OfKeys.{times_among};
+ghost use Rattle.fault_live.specs.OfFaults.{count_in, HasRoom, tally_of_faults};
 ghost use Rattle.fault_live.specs.Faults.{faults_of};
 
 use crate::firsts::{extent_of, first_place, key_alone, key_beside, key_of, keys_of};
 use crate::report::{push_head, push_trace, units_of_first};
 use crate::{Fault, HeadFacts, OutOfMemory};
 use key_counts::{lower_any, raise_any};
+use record_table::{Records, Running};
 use std::alloc::Global;
 use std::collections::BTreeMap;
-use record_table::{Records, Running};
 use trace_record::Record;
 use window_counts::{OffsetRectangle, TripleCounts, Window};
 
@@ -55,13 +57,13 @@ impl Running for Faults {
     }
 
     fn add(&mut self, trace: &Record) -> Result<(), record_table::OutOfMemory> {
-        raise_any(&mut self.triples, key_alone(trace))?;
+        self.raise(key_alone(trace))?;
         self.records += 1;
         Ok(())
     }
 
     fn remove(&mut self, trace: &Record) {
-        lower_any(&mut self.triples, key_alone(trace));
+        self.lower(key_alone(trace));
         self.records -= 1;
     }
 
@@ -70,13 +72,13 @@ impl Running for Faults {
         trace: &Record,
         other: &Record,
     ) -> Result<(), record_table::OutOfMemory> {
-        raise_any(&mut self.triples, key_beside(trace, other))?;
+        self.raise(key_beside(trace, other))?;
         self.records += 1;
         Ok(())
     }
 
     fn remove_beside(&mut self, trace: &Record, other: &Record) {
-        lower_any(&mut self.triples, key_beside(trace, other));
+        self.lower(key_beside(trace, other));
         self.records -= 1;
     }
 }
@@ -102,10 +104,33 @@ impl Faults {
             (Same (tally_of_faults self.new) (tally_of keys_of_faults (map facts_of records.now))) }
     {
         for trace in records.iter() {
-            raise_any(&mut self.triples, key_alone(&trace))?;
+            self.raise(key_alone(&trace))?;
             self.records += 1;
         }
         Ok(())
+    }
+
+    // Counts the triple once more, where there is one.
+    fn raise(&mut self, key: Option<(i32, i32, i32)>) -> Result<(), key_counts::OutOfMemory>
+        requires { HasRoom self.old key }
+        ensures ok { OnOk result ((k : Key) →
+            count_in self.new k ≡ count_in self.old k + times_among key k) }
+        ensures err { OnErr result ((k : Key) → count_in self.new k ≡ count_in self.old k) }
+        ensures held { ((k : Key) → times_among key k ≤ count_in self.old k) → IsOk result }
+        ensures records { self.new.records ≡ self.old.records }
+    {
+        raise_any(&mut self.triples, key)?;
+        Ok(())
+    }
+
+    // Counts the triple once less, where there is one.
+    fn lower(&mut self, key: Option<(i32, i32, i32)>)
+        requires { (k : Key) → times_among key k ≤ count_in self.old k }
+        ensures less { (k : Key) →
+            count_in self.old k ≡ count_in self.new k + times_among key k }
+        ensures records { self.new.records ≡ self.old.records }
+    {
+        lower_any(&mut self.triples, key);
     }
 
     /// The faults of a file with these traces: F7, F8, then trace by trace F1 to F6 and F9, their

@@ -3,8 +3,8 @@ ghost use Rattle.std.specs.Prelude.{◌≡◌, IfOk, map, filter_map};
 ghost use Rattle.key_counts.specs.Packed.{ratio_in};
 
 use key_counts::PackedRatio;
-use std::alloc::{AllocError, Global};
 use record_table::Records;
+use std::alloc::{AllocError, Global};
 
 pub(crate) fn x_keys(alloc: Global, records: &Records) -> Result<Vec<PackedRatio>, AllocError>
     ensures { IfOk result (λ keys. map ratio_in keys.items ≡ map (λ r. r.x) records.now) }

@@ -12,8 +12,8 @@ use crate::key_lists::{x_keys, y_keys};
 use crate::keys::Keys;
 use crate::whole_counts::{WholeQuantity, whole_counts};
 use key_counts::{OutOfMemory, Ratio, lower_any, lower_both, raise_any, raise_both};
-use std::alloc::Global;
 use record_table::{Records, Running};
+use std::alloc::Global;
 use trace_record::Record;
 use window_counts::LineCounts;
 

@@ -5,9 +5,9 @@ ghost use Rattle.trace_record.specs.Tally.{tally_of, IsSmall};
 
 use crate::{Quantity, Ranges, Totals};
 use key_counts::Ratio;
+use record_table::{OutOfMemory, Running};
 use std::alloc::Global;
 use std::test::Fail;
-use record_table::{OutOfMemory, Running};
 use trace_record::{Amplitudes, Record};
 
 fn both<R: Running>(alloc: Global, first: &Record, second: &Record) -> Result<R, OutOfMemory>

@@ -2,8 +2,8 @@ use crate::ends::Ends;
 use crate::key_lists::{greatest_keys, least_keys};
 use crate::sums::{Sums, sums_of};
 use key_counts::{Counts, OutOfMemory, lower_both, raise_both};
-use std::alloc::Global;
 use record_table::{Records, Running};
+use std::alloc::Global;
 use trace_record::Record;
 
 /// The least, the greatest, the sum and the number of the samples of traces that come and go, as far

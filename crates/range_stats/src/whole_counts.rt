@@ -61,11 +61,7 @@ fn extent_of(records: &Records, which: WholeQuantity) -> IntervalExtent {
 }
 
 // The numbers of the records, in their order.
-fn keys_of(
-    alloc: Global,
-    records: &Records,
-    which: WholeQuantity,
-) -> Result<Vec<i32>, AllocError>
+fn keys_of(alloc: Global, records: &Records, which: WholeQuantity) -> Result<Vec<i32>, AllocError>
     ensures { IfOk result (λ keys. keys.items ≡ map (whole_in which) records.now) }
 {
     records.iter().map(|r| which.of(&r)).collect(alloc)

@@ -11,7 +11,7 @@ loop-trace-preserved c =
     let parts = subst (λ (l : List Record). c.loop-trace.yielded ++ l ≡ c.args.records.now) c.in-Some.ensures.steps c.loop-trace.invariant.0 in (
       append_assoc c.loop-trace.yielded (c.in-Some.trace ∷ []) c.next.new.self ∙ parts,
       λ q.
-        c.in_ok-raise.ensures.ok q
-        ∙ ap₂ (λ (m : ℕ) (v : ℤ). m + (if is_eq (int_cmp v q) then 1 else 0)) (c.loop-trace.invariant.1 q) c.of.ensures
-        ∙ sym (times-behind (whole_in c.args.which) c.loop-trace.yielded c.in-Some.trace q),
+          c.in_ok-raise.ensures.ok q
+          ∙ ap₂ (λ (m : ℕ) (v : ℤ). m + (if is_eq (int_cmp v q) then 1 else 0)) (c.loop-trace.invariant.1 q) c.of.ensures
+          ∙ sym (times-behind (whole_in c.args.which) c.loop-trace.yielded c.in-Some.trace q),
     )

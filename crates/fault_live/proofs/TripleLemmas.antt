@@ -1,5 +1,5 @@
 -- The triple of a trace that faults count, alone and beside another trace.
-use Rattle.std.specs.Prelude.{◌≡◌, ℕ, ℤ, ◌-◌, Bool, if◌then◌else◌, Option, Some, refl}
+use Rattle.std.specs.Prelude.{◌≡◌, ℕ, ℤ, ◌-◌, Bool, if◌then◌else◌, Option, Some, Result, Ok, Err, OnErr, refl}
 use Rattle.std.proofs.Common.{ap, ◌∙◌}
 use Rattle.std.specs.Ordering.{int_cmp, is_eq}
 use Rattle.std.specs.Cmp.{IsTotalOrder, int_cmp_total, then_total, on_total}
@@ -52,3 +52,8 @@ among-beside key own other e = elim [
   | greatest v ↦ refl
   | triple i c o ↦ ap (λ q. times_of (λ k. k) triple_cmp q (i, c, o)) e ∙ times-beside triple_cmp triple_total (λ k. k) own other (i, c, o)
 ]
+
+-- what holds, holds where a call was refused
+pub on_err : {T E A : Type 0} (r : Result T E) → A → OnErr r A
+on_err (Ok x) a = tt
+on_err (Err e) a = a

@@ -36,6 +36,7 @@ pub struct TraceStore<T: Copy> {
 impl<T: Copy> TraceStore<T> {
     ghost use Rattle.trace_store.specs.Ahead.{traces_moved, traces_then, traces_with, AreRunsFrom, AreRunsOf, IsReady};
     ghost use Rattle.trace_store.specs.Stores.{bases_of, payload_under, traces_of, payloads_of, payloads_moved, payloads_then};
+    ghost use Rattle.trace_store.specs.Swapped.{with_swapped, ArePlaces};
 
     /// No traces yet over a loaded file, with room for so many slots. Refused for want of memory
     /// alone.
@@ -579,6 +580,21 @@ impl<T: Copy> TraceStore<T> {
             None => {
                 let _id = self.slots.insert_reserved(slot);
             }
+        }
+    }
+
+    /// Puts the traces of each pair in the place of one another, with their payloads, one pair
+    /// after the other. Takes no memory.
+    pub fn swap_each(&mut self, pairs: Vec<(u32, u32)>)
+        requires { ArePlaces (length (traces_of self.old)) pairs.items }
+        ensures head { self.new.head ≡ self.old.head }
+        ensures loaded { self.new.loaded ≡ self.old.loaded }
+        ensures traces { traces_of self.new ≡ with_swapped (traces_of self.old) pairs.items }
+        ensures payloads { payloads_of self.new
+            ≡ with_swapped (payloads_of self.old) pairs.items }
+    {
+        for (p, q) in pairs {
+            self.swap(p, q);
         }
     }
 

@@ -1,5 +1,5 @@
 -- Two slots in the place of one another: what it does to the traces and to their payloads.
-use Rattle.std.proofs.Common.{◌≡◌, ◌≢◌, ℕ, ◌-◌, ◌<◌, List, [], length, map, get_or, refl, sym, ap, ◌∙◌, arith, Option, Some, None, inl, inr, true, is_some}
+use Rattle.std.proofs.Common.{◌≡◌, ◌≢◌, ℕ, ◌-◌, ◌<◌, List, [], length, map, get_or, sym, ap, ◌∙◌, arith, Option, Some, None, inl, inr, true, is_some}
 use Rattle.std.specs.Prelude.{slice_get, slice_index_or, slice_set}
 use Rattle.std.specs.List.{swap}
 use Rattle.std.proofs.lemmas.Bool.{cases_eq}
@@ -8,13 +8,13 @@ use Rattle.std.proofs.lemmas.List.Edits.{swap_is}
 use Rattle.std.proofs.lemmas.Option.{slice_get_within, get_or_from_slice_get}
 use Rattle.slab.specs.Slab.{Slab, get, with_value, ContainsKey, Updates}
 use Rattle.frame_cut.specs.declared.file_head.Head.{Head}
-use Rattle.trace_seq.specs.Order.{times, id_at, AreDistinct}
+use Rattle.trace_seq.specs.Order.{id_at, AreDistinct}
 use Rattle.trace_store.specs.declared.slot.Slot.{Slot}
-use Rattle.trace_store.specs.Slots.{bytes_in, bytes_under, AreHeld, IsSlot}
+use Rattle.trace_store.specs.Slots.{bytes_in, bytes_under, AreHeld}
 use Rattle.trace_store.specs.Stores.{payloads_under}
 use Rattle.trace_store.proofs.OrderLemmas.{place-of}
 use Rattle.trace_store.proofs.SlotLemmas.{slot-found, trace-at, write-updates, traces-changed, held-changed}
-use Rattle.trace_store.proofs.PayloadLemmas.{payloads-changed, payload-found, payloads-counted}
+use Rattle.trace_store.proofs.PayloadLemmas.{payloads-changed, payload-found}
 
 module _ {T : Type 0} where
   -- the slots under two ids, which may be one

@@ -193,10 +193,11 @@ grows 'a long script' s.sgy "${all[@]}"
 random_lines 5 60
 grows 'a long script on header extensions' x.sgy "${all[@]}"
 
-# a move wants memory once the chunk of the order that it goes into is full
-{ head -c 3600 s.sgy; zeros 122000; } > many.sgy
+# a move wants memory where no chunk of the order is spare: the one that a load leaves is taken when the first chunk, which these moves
+# go into, is full; they come from the other two in turn, so that neither gets thin and is joined
+{ head -c 3600 s.sgy; zeros $((1152 * 244)); } > many.sgy
 all=()
-for ((n = 0; n < 130; n++)); do all+=('move 500 1'); done
+for ((n = 0; n < 66; n++)); do all+=('move 1152 1' 'move 700 1'); done
 grows 'many moves' many.sgy "${all[@]}" 'fold 0 0' 'stat 1'
 
 # ---- each command that may want memory did

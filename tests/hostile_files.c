@@ -287,9 +287,16 @@ static void ask(const char *text, int is_opaque) {
     write_path("queries", queries, strlen(queries));
 }
 
+/* What standard error has, the refusal aside: of a file whose format is read under the option alone the line that names it. */
+static const char *told_beside(const char *text) {
+    if (strncmp(text, "L06", 3) && strncmp(text, "L07", 3)) return "";
+    return "segywb: with --opaque-samples the file is read all the same, its samples as bytes without a value\n";
+}
+
 /* Runs one variant; whether it went as it has to. */
 static int run(char *program, long number, byte *bytes) {
     extern char **environ;
+    const char *told;
     struct volume file = {bytes, vary(bytes), 4294967296, 0, draw(4) == 0, draw(3) == 0, NULL, 0};
     char text[80], wanted[100], limit[30];
     char *words[14] = {program, "variant.sgy", "--script", "queries", "--out", "saved.sgy", "--max-bytes", limit}, **word = words + 8;
@@ -310,7 +317,8 @@ static int run(char *program, long number, byte *bytes) {
     unlink("saved.sgy");
     ended = run_program(words, environ);
     saved = read_path("saved.sgy");
-    well = ended.status == (is_accepted ? 0 : 3) && !ended.errors.length
+    told = told_beside(text);
+    well = ended.status == (is_accepted ? 0 : 3) && ended.errors.length == strlen(told) && !memcmp(ended.errors.bytes, told, strlen(told))
         && ended.answers.length >= strlen(wanted) && !memcmp(ended.answers.bytes, wanted, strlen(wanted))
         && (is_accepted || ended.answers.length == strlen(wanted))
         && (is_accepted ? saved.bytes && saved.length == file.length && !memcmp(saved.bytes, bytes, file.length) : !saved.bytes);

@@ -78,6 +78,18 @@ has 'names the first five' page.html '<td>12</td><td>trace 1 interval 4000 binar
 runs 'a page of a file without traces' 0 '' segywb-report --no-pictures none.sgy page.html
 has 'says so' page.html '<tr><th scope="row">fold (traces of a cell)</th><td>none</td></tr>'
 
+# floats: what can be told of them, and why the rest is not
+runs 'a page of floats' 0 '' segywb-report --no-pictures --opaque-samples float_line.sgy page.html fix.txt
+has 'their format' page.html '<tr><th scope="row">sample format</th><td>1: 4 bytes, IBM float</td><td>1: 4 bytes, IBM float</td></tr>'
+has 'their cells' page.html '<tr class="differs"><th scope="row">cells of the grid</th><td>8</td><td>12</td></tr>'
+has 'their faults' page.html '<td>4</td><td>trace 5 first 1; trace 6 first 2; trace 7 first 3; trace 8 first 4</td><td>0</td><td></td>'
+for what in 'least sample' 'greatest sample' 'mean of the samples' samples; do
+    has "no $what" page.html "<tr><th scope=\"row\">$what</th><td>not told: samples of this format have no value here</td>"
+done
+runs 'a page of floats, unasked' 3 $'float_line.sgy: load refused L06 float format 1\nsegywb: float_line.sgy: L06' segywb-report --no-pictures float_line.sgy x.html
+has 'names the option' errors 'with --opaque-samples the file is read all the same'
+runs 'a page under the other order' 3 'cube.sgy: load refused L08' segywb-report --no-pictures --order little cube.sgy x.html
+
 # refusals
 rm -f x.html
 runs 'a refused file' 3 'torn.sgy: load refused L14 truncated trace 10' segywb-report --no-pictures torn.sgy x.html
@@ -154,6 +166,8 @@ drawn 'a file without traces' 700x500 'segywb-plot: no traces' --size 700x500 fo
 drawn 'positions of no traces' 1200x900 'segywb-plot: no traces' coordinates none.sgy
 drawn 'a histogram of no traces' 1200x900 'segywb-plot: no traces' histogram none.sgy
 drawn 'a sample that no trace has' 1200x900 'segywb-plot: no trace has sample 5' slice 5 cube.sgy
+drawn 'a slice of floats' 1200x900 'segywb-plot: no slice: samples of format 1 have no value here' --opaque-samples slice 1 float_line.sgy
+drawn 'positions of floats' 1200x900 '' --opaque-samples coordinates float_line.sgy
 drawn 'a survey of one line' 1200x900 '' slice 1 survey.sgy
 printf 'delete 3\ndelete 2\n' > script
 drawn 'a survey of one trace' 1200x900 '' --script script fold survey.sgy
@@ -209,6 +223,9 @@ drawn 'a fold map of the cube with a trace twice' 400x300 '' --size 400x300 fold
 cells 'a trace twice' 101 204 253 231 37
 drawn 'a fold map of the cube without a trace' 400x300 '' --size 400x300 fold missing.sgy
 cells 'a missing trace' 102 203 204 204 204
+printf 'renumber 5 8 inline 102 0\ndelete 7\n' > script
+drawn 'a fold map of floats after edits' 400x300 '' --size 400x300 --opaque-samples --script script fold float_line.sgy
+cells 'floats after edits' 102 203 204 204 204
 printf 'map inline @9:4\nmap crossline @21:4\ncopy 9 9\n' > script
 drawn 'a fold map after edits' 400x300 '' --size 400x300 --script script fold elsewhere.sgy
 cells 'after edits' 103 201 253 231 37

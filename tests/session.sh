@@ -70,6 +70,14 @@ printf 'count\n' > lines
 head -c 3000 s.sgy > short.sgy
 expect 'a refused file has its line alone' 3 'load refused L03 short 3000\n' 'segywb: short.sgy: L03 short 3000 (the two file headers have 3600 bytes)\n' short.sgy --session
 expect 'and quietly' 3 'load refused L03 short 3000\n' '' short.sgy --session --quiet
+# one IBM float a trace
+cp s.sgy floats.sgy
+put floats.sgy 3220 0001
+put floats.sgy 3224 0001
+expect 'floats' 3 'load refused L06 float format 1\n' 'segywb: floats.sgy: L06 float format 1 (bytes 3225-3226; formats 1, 5 and 6 are floats: samples with a value are whole numbers, in formats 2, 3, 7 to 12, 15 and 16)\nsegywb: with --opaque-samples the file is read all the same, its samples as bytes without a value\n' floats.sgy --session
+printf 'info\nsample 1 0\nset 1 inline 7\nsample 9 0\nget 1 inline\n' > lines
+expect 'floats, asked for' 1 'info order big revision 1.0 format 1 samples 1 fixed yes extensions 0 blocks 0 trailer 0 traces 3 bytes 4332\n\nrefused E12 samples have no value\n\nok\n\nrefused E01 no trace 9 of 3\n\nvalue 7\n\n' '' floats.sgy --session --opaque-samples
+as_a_run 'floats as a run' floats.sgy --opaque-samples
 
 # ---- as a run of the same lines
 printf 'count\nset 1 inline 77\nset 9 inline 1\ninlines\nfaults\ngrid\n# note\n\nmap far @1:4\nfields\ninfo\nhistogram\nslice 0\nslice 1\nslice 1\nline 0 1\ntext 1 C 1 NOTE\nline 0 1\n' > lines
@@ -174,11 +182,14 @@ if command -v cc > /dev/null && cc -O1 -shared -fPIC -o refuse_growth.so "$here/
 fi
 
 # ---- the command line
-for words in '' '--session --script lines' '--script' '--session --session'; do
+for words in '' '--session --script lines' '--script' '--session --session --script lines'; do
     "$program" s.sgy $words < lines > answers 2> errors
     got=$?
     if [ "$got" = 2 ] && [ ! -s answers ] && [ -s errors ]; then tell "refused: s.sgy $words" ok; else tell "refused: s.sgy $words" "status $got: $(head -c 200 answers errors)"; fi
 done
+
+printf 'count\n' > lines
+expect 'a word that stands twice' 0 'traces 3\n\n' '' s.sgy --session --session --fixed --fixed
 
 # ---- saves
 printf 'set 2 @189:4 7\n' > lines

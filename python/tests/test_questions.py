@@ -11,7 +11,8 @@ from conftest import TOP, run
 import segywb
 from segywb.fields import TRACE_NAMES
 
-EXAMPLES = sorted(path.stem for path in (TOP / "examples").glob("*.sgy"))
+# The file of floats is read by an option, and half of the questions are refused there: test_refusals has it.
+EXAMPLES = sorted(path.stem for path in (TOP / "examples").glob("*.sgy") if path.stem != "float_line")
 MADE = [files.varying, files.stanzas, files.extended, files.empty]
 METHODS = {
     "set": "set", "renumber": "renumber", "compute": "compute", "get": "get", "map": "map", "unmap": "unmap", "fields": "fields", "bin": "set_bin",

@@ -202,5 +202,5 @@ def test_floats(opened, tmp_path):
     path = files.write(tmp_path / "float.sgy", files.header(), files.binary(form=5), *traces)
     page = opened(path)
     assert page.map() == [[1, 1, 1]] and "no values here" in page.text("summary")
-    page.map_tab("slice")
+    page.tab("slice")
     page.wait(lambda: "refused" in page.text("caption"))

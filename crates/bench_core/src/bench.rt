@@ -6,7 +6,7 @@ ghost use Rattle.frame_cut.specs.Cuts.{IsCut};
 ghost use Rattle.frame_cut.specs.Traces.{count_of};
 ghost use Rattle.frame_cut.specs.Volume.{bytes_of};
 ghost use Rattle.edit_overlay.specs.CountedVolume.{RisesAtMost};
-ghost use Rattle.edit_overlay.specs.Loading.{IsLoadFault, FailuresAfterRefusal};
+ghost use Rattle.edit_overlay.specs.Loading.{IsLoadFault, FailuresAfterRefusal, TakesWithin};
 ghost use Rattle.edit_overlay.specs.Saving.{Saves};
 ghost use Rattle.bench_rules.specs.declared.query.Query.TheVariants as queries;
 ghost use Rattle.bench_rules.specs.Answer.{IsReply};
@@ -53,7 +53,8 @@ impl Bench {
     /// Reads a whole file and cuts it; the field map is then the six geometry names at their
     /// standard places, and no slice is kept. Looks at each trace once at most, for its record.
     /// Takes memory. Refused: L01 where a read failed in this call, L02 to L15 or L17 for the first
-    /// reason that the file gives, L16 where a growth was refused.
+    /// reason that the file gives, L16 where a growth was refused. A refused load has taken at most
+    /// one byte above the limit.
     pub fn load<R: Read>(
         alloc: Global,
         reader: &mut Source<R>,
@@ -72,6 +73,8 @@ impl Bench {
         ensures limits { IfOk result (λ b. b.state.limits ≡ limits) }
         ensures refused { IfErr result (λ fault. IsLoadFault (R.remaining reader.old.inner) reading
             limits fault) }
+        ensures read { IfErr result (λ _. TakesWithin (R.remaining reader.old.inner)
+            (R.remaining reader.new.inner) limits) }
         ensures failures { MatchResult result (λ _. reader.new.failures ≡ reader.old.failures)
             (λ fault. FailuresAfterRefusal fault reader.old.failures reader.new.failures) }
     {

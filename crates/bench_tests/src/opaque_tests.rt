@@ -93,6 +93,15 @@ fn no_value_is_put_over_a_sample(rt: HostRuntime) -> Result<(), Fail> {
     )
 }
 
+// The bytes from..to, where there are as many.
+fn part(bytes: &[u8], from: usize, to: usize) -> &[u8] {
+    if from <= to && to <= bytes.len() {
+        &bytes[from..to]
+    } else {
+        &[]
+    }
+}
+
 fn repair(rt: &impl Abort, alloc: Global, bench: &mut Bench) -> Result<(), Fail> {
     assert!(rt; meets(bench, alloc, Edit::Set(1, signed(0, 193, 4), 7), None));
     assert!(rt; meets(bench, alloc, Edit::Delete(2), None));
@@ -108,8 +117,8 @@ fn repair(rt: &impl Abort, alloc: Global, bench: &mut Bench) -> Result<(), Fail>
     assert!(rt; matches!(bench.ask(alloc, &Query::Fold(10, 7))?, Answer::Fold(1)));
     let before = float_file(alloc)?;
     let mut after = Vec::new(alloc);
-    after.extend_from_slice(&before.as_slice()[..3844])?;
-    after.extend_from_slice(&before.as_slice()[4088..])?;
+    after.extend_from_slice(part(before.as_slice(), 0, 3844))?;
+    after.extend_from_slice(part(before.as_slice(), 4088, 4332))?;
     put_bytes(after.as_mut_slice(), &[(3603, 1), (3795, 7), (3847, 2)]);
     assert!(rt; saves(bench, alloc, after.as_slice())?);
     Ok(())

@@ -1,6 +1,7 @@
 -- What a load does to a reader, and why it is refused.
-use Rattle.std.specs.Prelude.{ℕ, ◌≡◌, ◌≢◌, ◌⊎◌, ◌<◌, List, length, Option, IfSome}
+use Rattle.std.specs.Prelude.{ℕ, ◌≡◌, ◌≢◌, ◌⊎◌, ◌+◌, ◌<◌, List, length, Option, IfSome}
 use Rattle.device_io.specs.Failures.{one_more}
+use Rattle.device_io.specs.WholeReads.{GivesSome}
 use Rattle.frame_cut.specs.declared.limits.Limits.{Limits}
 use Rattle.frame_cut.specs.declared.reading.Reading.{Reading}
 use Rattle.frame_cut.specs.declared.load_fault.LoadFault.{LoadFault}
@@ -22,3 +23,7 @@ IsLoadFault known reading limits fault =
 abbrev pub IsReadFault : Option (List ℕ) → Limits → LoadFault → Type 0
 IsReadFault known limits fault =
     (fault ≡ ReadFailed) ⊎ (fault ≡ OutOfMemory) ⊎ ((fault ≡ TooLarge) × IfSome known (λ file. limits.bytes < length file))
+
+-- what a refused load takes from its reader: at most one byte above the limit
+abbrev pub TakesWithin : Option (List ℕ) → Option (List ℕ) → Limits → Type 0
+TakesWithin old new limits = GivesSome old new 0 (limits.bytes + 1)

@@ -1,12 +1,12 @@
 // A file that is being loaded.
-ghost use Rattle.std.specs.Prelude.{◌≡◌, ◌⊎◌, ◌↔◌, ◌+◌, ◌<◌, [], length, IfOk, IfErr, IfSome, IsSome, OnOk, OnErr, MatchResult};
+ghost use Rattle.std.specs.Prelude.{◌≡◌, ◌⊎◌, ◌↔◌, ◌+◌, ◌<◌, ◌≤◌, [], length, IfOk, IfErr, IfSome, IsSome, OnOk, OnErr, MatchResult};
 ghost use Rattle.std.specs.Borrow.{sem};
 ghost use Rattle.std.specs.Io.KnownBytes.{Consumes, IsAtEnd};
 ghost use Rattle.frame_cut.specs.Cuts.{IsCut, IsRefused};
 ghost use Rattle.frame_cut.specs.Traces.{count_of};
 ghost use Rattle.frame_cut.specs.Volume.{bytes_of};
 ghost use Rattle.frame_cut.specs.declared.load_fault.LoadFault.TheVariants.{OutOfMemory as no_memory};
-ghost use Rattle.edit_overlay.specs.Loading.{IsLoadFault, FailuresAfterRefusal};
+ghost use Rattle.edit_overlay.specs.Loading.{IsLoadFault, FailuresAfterRefusal, TakesWithin};
 ghost use Rattle.edit_overlay.specs.LoadedVolume.{with_payload, overlay_of};
 
 use crate::bytes::array_at;
@@ -48,7 +48,8 @@ impl<T: Copy> Loading<T> {
     ghost use Rattle.edit_overlay.specs.Looks.{EndsSeen};
 
     /// Reads a whole file and cuts it. Takes memory. Refused: L01 where a read failed in this call,
-    /// L02 to L15 or L17 for the first reason that the file gives, L16 where no memory was.
+    /// L02 to L15 or L17 for the first reason that the file gives, L16 where no memory was. A
+    /// refused load has taken at most one byte above the limit.
     pub fn load<R: Read>(
         alloc: Global,
         reader: &mut Source<R>,
@@ -58,11 +59,14 @@ impl<T: Copy> Loading<T> {
         ensures taken { IfOk result (λ l. Consumes (R.remaining reader.old.inner)
             (R.remaining reader.new.inner) (bytes_of l.volume)) }
         ensures all { IfOk result (λ _. IsAtEnd (R.remaining reader.new.inner)) }
+        ensures within { IfOk result (λ l. length (bytes_of l.volume) ≤ limits.bytes) }
         ensures cut { IfOk result (λ l. IsCut (bytes_of l.volume) reading limits l.volume) }
         ensures payloads { IfOk result (λ l. l.payloads ≡ []) }
         ensures looks { IfOk result (λ l. l.looks ≡ 0) }
         ensures refused { IfErr result (λ fault. IsLoadFault (R.remaining reader.old.inner) reading
             limits fault) }
+        ensures read { IfErr result (λ _. TakesWithin (R.remaining reader.old.inner)
+            (R.remaining reader.new.inner) limits) }
         ensures failures { MatchResult result (λ _. reader.new.failures ≡ reader.old.failures)
             (λ fault. FailuresAfterRefusal fault reader.old.failures reader.new.failures) }
     {

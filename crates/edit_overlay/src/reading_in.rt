@@ -1,7 +1,7 @@
 // Reads a whole file from a device.
 ghost use Rattle.std.specs.Prelude.{◌≡◌, ◌≤◌, vec_len, IfOk, IfErr, MatchResult};
 ghost use Rattle.device_io.specs.WholeReads.{GivesAll};
-ghost use Rattle.edit_overlay.specs.Loading.{FailuresAfterRefusal, IsReadFault};
+ghost use Rattle.edit_overlay.specs.Loading.{FailuresAfterRefusal, IsReadFault, TakesWithin};
 
 use device_io::{ReadFault, Source};
 use frame_cut::{Limits, LoadFault};
@@ -20,6 +20,8 @@ pub fn read_file<R: Read>(
     ensures within { IfOk result (λ v. vec_len v ≤ limits.bytes) }
     ensures refused { IfErr result (λ fault. IsReadFault (R.remaining reader.old.inner) limits
         fault) }
+    ensures taken { IfErr result (λ _. TakesWithin (R.remaining reader.old.inner)
+        (R.remaining reader.new.inner) limits) }
     ensures failures { MatchResult result (λ _. reader.new.failures ≡ reader.old.failures)
         (λ fault. FailuresAfterRefusal fault reader.old.failures reader.new.failures) }
 {

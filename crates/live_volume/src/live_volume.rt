@@ -6,7 +6,7 @@ ghost use Rattle.field_map.specs.Binding.{geometry_at_load, is_geometry as is_ge
 ghost use Rattle.frame_cut.specs.Cuts.{IsCut};
 ghost use Rattle.frame_cut.specs.Traces.{count_of, is_trace};
 ghost use Rattle.frame_cut.specs.Volume.{bytes_of};
-ghost use Rattle.edit_overlay.specs.Loading.{IsLoadFault, FailuresAfterRefusal};
+ghost use Rattle.edit_overlay.specs.Loading.{IsLoadFault, FailuresAfterRefusal, TakesWithin};
 ghost use Rattle.edit_overlay.specs.Saving.{Saves};
 ghost use Rattle.bench_rules.specs.declared.edit.Edit.TheVariants as edits;
 ghost use Rattle.bench_rules.specs.declared.field.Field.TheVariants as fields;
@@ -63,7 +63,8 @@ impl LiveVolume {
     /// Reads a whole file and cuts it; the field map is then the six geometry names at their
     /// standard places. Looks at each trace once at most, for its record. Takes memory. Refused:
     /// L01 where a read failed in this call, L02 to L15 or L17 for the first reason that the file
-    /// gives, L16 where a growth was refused.
+    /// gives, L16 where a growth was refused. A refused load has taken at most one byte above the
+    /// limit.
     pub fn load<R: Read>(
         alloc: Global,
         reader: &mut Source<R>,
@@ -81,6 +82,8 @@ impl LiveVolume {
         ensures limits { IfOk result (λ b. b.state.limits ≡ limits) }
         ensures refused { IfErr result (λ fault. IsLoadFault (R.remaining reader.old.inner) reading
             limits fault) }
+        ensures read { IfErr result (λ _. TakesWithin (R.remaining reader.old.inner)
+            (R.remaining reader.new.inner) limits) }
         ensures failures { MatchResult result (λ _. reader.new.failures ≡ reader.old.failures)
             (λ fault. FailuresAfterRefusal fault reader.old.failures reader.new.failures) }
     {

@@ -8,7 +8,7 @@ use Rattle.frame_cut.specs.declared.reading.Reading.{Reading}
 use Rattle.frame_cut.specs.declared.load_fault.LoadFault.{LoadFault}
 use Rattle.frame_cut.specs.Cuts.{IsCut}
 use Rattle.frame_cut.specs.Volume.{bytes_of}
-use Rattle.edit_overlay.specs.Loading.{IsLoadFault, FailuresAfterRefusal}
+use Rattle.edit_overlay.specs.Loading.{IsLoadFault, FailuresAfterRefusal, TakesWithin}
 use Rattle.bench_rules.specs.State.{State}
 use Rattle.script_text.specs.declared.script_fault.ScriptFault.{ScriptFault}
 use Rattle.script_text.specs.declared.script_fault.ScriptFault.TheVariants.{ReadFailed, TooLarge, OutOfMemory}
@@ -24,9 +24,11 @@ pub record Loads (old new : Device) (reading : Reading) (limits : Limits) (state
   pub limits_are : state.limits ≡ limits
   pub failures : new.failures ≡ old.failures
 
--- the file is refused, for want of a read, of memory or for what it is; the failures rise by one exactly at L01
+-- the file is refused, for want of a read, of memory or for what it is; at most one byte above the limit is taken from the
+-- reader, and the failures rise by one exactly at L01
 pub record IsLoadRefused (old new : Device) (reading : Reading) (limits : Limits) (fault : LoadFault) : Type 0 where
   pub reason : IsLoadFault old.bytes reading limits fault
+  pub taken : TakesWithin old.bytes new.bytes limits
   pub failures : FailuresAfterRefusal fault old.failures new.failures
 
 -- the reader gives a whole script

@@ -146,7 +146,14 @@ where
     };
     let mut out = Sink::new(out);
     let mut notes = Notes::new();
-    let end = answer(rt, &mut volume, lines, &mut out, options(arguments), &mut notes);
+    let end = answer(
+        rt,
+        &mut volume,
+        lines,
+        &mut out,
+        options(arguments),
+        &mut notes,
+    );
     finish(rt, arguments, original, end, out.into_inner(), mode, &notes)
 }
 

@@ -98,12 +98,7 @@ fn change_all(
 }
 
 // What is done to the records of a table: they are only made, reported, or changed.
-fn count_table(
-    alloc: Global,
-    count: u32,
-    then: &str,
-    times: u32,
-) -> Result<usize, OutOfMemory>
+fn count_table(alloc: Global, count: u32, then: &str, times: u32) -> Result<usize, OutOfMemory>
     requires { count ≤ 2 ^ 24 }
 {
     let mut table = make_table(alloc, count)?;

@@ -12,7 +12,7 @@ use frame_cut::{Extent, Head, front_length, trace_length};
 use live_reports::LiveReports;
 use num_order::Order;
 use record_table::Records;
-use sample_codes::Format;
+use sample_codes::{Format, IntegerFormat};
 use std::alloc::Global;
 use trace_record::{PackedRecord, Record};
 use trace_store::{Base, Column, TraceStore};
@@ -31,7 +31,7 @@ pub(crate) fn empty_table(
         order: Order::Big,
         major: 1,
         minor: 0,
-        format: Format::Signed16,
+        format: Format::Integer(IntegerFormat::Signed16),
         samples: 0,
         fixed: true,
         extensions: 0,
@@ -65,12 +65,12 @@ pub(crate) fn insert(
     alloc: Global,
     table: &mut TraceStore<PackedRecord>,
     place: u32,
-    record: &Record,
+    added: &Record,
 ) -> Result<(), OutOfMemory>
     requires place { place ≤ length (records_in table.old) }
     requires few { length (records_in table.old) + 1 < 2 ^ 32 }
     ensures ok { OnOk result
-        (records_in table.new ≡ inserted (records_in table.old) place record.now) }
+        (records_in table.new ≡ inserted (records_in table.old) place added.now) }
     ensures err { OnErr result (records_in table.new ≡ records_in table.old) }
 {
     // Read for the proof alone, which learns that there are as many records as traces.
@@ -82,7 +82,7 @@ pub(crate) fn insert(
         start: 0,
         length: table.loaded.len() as u64,
     });
-    table.insert(alloc, place + 1, whole, PackedRecord::of(*record))?;
+    table.insert(alloc, place + 1, whole, PackedRecord::of(*added))?;
     Ok(())
 }
 
@@ -128,11 +128,7 @@ pub(crate) fn put_in(
 }
 
 // The record at the place out.
-pub(crate) fn take_out(
-    table: &mut TraceStore<PackedRecord>,
-    reports: &mut LiveReports,
-    place: u32,
-)
+pub(crate) fn take_out(table: &mut TraceStore<PackedRecord>, reports: &mut LiveReports, place: u32)
     requires counted { AreReportsOf reports.old (records_in table.old) }
     requires place { place < length (records_in table.old) }
     ensures counted { AreReportsOf reports.new (records_in table.new) }

@@ -64,8 +64,12 @@ pub(crate) fn count_records<R: Files + AllocGlobal>(
         opaque: true,
         order: None,
     };
-    let mut loading: Loading<()> =
-        Loading::load(rt.alloc(), &mut Source::new(file), reading, limits).ok()?;
+    let mut loading: Loading<()> = Loading::load(
+        rt.alloc(),
+        &mut Source::new(file),
+        reading,
+        limits,
+    ).ok()?;
     let fields = FieldMap::standard(rt.alloc(), loading.head().extensions).ok()?;
     let mut total = Total {
         samples: 0,

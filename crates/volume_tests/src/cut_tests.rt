@@ -226,7 +226,7 @@ fn cuts_opaque_samples_by_their_width(rt: HostRuntime) -> Result<(), Fail> {
             Ok(count)
         );
         let short = traces_by(alloc, front(&file, length - 1), OPAQUE, wide(&rt));
-        assert_eq!(rt; short, Err(LoadFault::Truncated(count)));
+        assert_eq!(rt; short, Err(LoadFault::Truncated(u64::from(count))));
     }
     Ok(())
 }

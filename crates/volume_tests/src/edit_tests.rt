@@ -119,7 +119,12 @@ fn expect_payloads(rt: &impl Abort, volume: &Overlay<u32>, expected: &[u32]) {
 }
 
 // Lays two of the bytes over each of the first two traces.
-fn put_over_two(alloc: Global, volume: &mut Overlay<u32>, at: u64, bytes: &[u8; 4]) -> Result<(), Fail> {
+fn put_over_two(
+    alloc: Global,
+    volume: &mut Overlay<u32>,
+    at: u64,
+    bytes: &[u8; 4],
+) -> Result<(), Fail> {
     if !may_put(volume, 1, at, &bytes[..2]) {
         return Err(Fail::from("no place for the bytes"));
     }
@@ -130,7 +135,13 @@ fn put_over_two(alloc: Global, volume: &mut Overlay<u32>, at: u64, bytes: &[u8; 
     Ok(())
 }
 
-fn prepare(alloc: Global, volume: &mut Overlay<u32>, p: u32, at: u64, bytes: &[u8]) -> Result<(), Fail> {
+fn prepare(
+    alloc: Global,
+    volume: &mut Overlay<u32>,
+    p: u32,
+    at: u64,
+    bytes: &[u8],
+) -> Result<(), Fail> {
     if !may_put(volume, p, at, bytes) {
         return Err(Fail::from("no place for the bytes"));
     }
@@ -653,7 +664,12 @@ fn replaces_a_trace(rt: HostRuntime) -> Result<(), Fail> {
 }
 
 // Inserts the trace so often in front of the first.
-fn insert_many(alloc: Global, volume: &mut Overlay<u32>, times: u32, new: &[u8]) -> Result<(), Fail> {
+fn insert_many(
+    alloc: Global,
+    volume: &mut Overlay<u32>,
+    times: u32,
+    new: &[u8],
+) -> Result<(), Fail> {
     for _ in 0..times {
         insert(alloc, volume, 1, new, 0)?;
     }

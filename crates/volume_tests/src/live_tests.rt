@@ -385,7 +385,17 @@ fn other_traces_stand_in(rt: HostRuntime) -> Result<(), Fail> {
     let new = Records::new(Column::new(&changed));
     let mut reports = exchanges_behind(&rt, alloc, &old, &new, &first, &second, &third)?;
     let last = Records::new(Column::new(&last));
-    exchanges_two(&rt, alloc, &mut reports, &new, &last, &first, &third, &moved, &deep)
+    exchanges_two(
+        &rt,
+        alloc,
+        &mut reports,
+        &new,
+        &last,
+        &first,
+        &third,
+        &moved,
+        &deep,
+    )
 }
 
 // A third trace comes between two, so that it repeats the first.

@@ -33,7 +33,7 @@ fn keeps_records_small(rt: HostRuntime) {
     };
     let copy = record;
     assert_eq!(rt; copy, record);
-    assert_eq!(rt; size_of::<Record>(), 112);
+    assert_eq!(rt; size_of::<Record>(), 128);
 }
 
 // A record put into a table, and read again.

@@ -22,10 +22,10 @@ pub(crate) fn insert(
     alloc: Global,
     table: &mut TraceStore<PackedRecord>,
     place: u32,
-    record: &Record,
+    added: &Record,
 ) -> Result<(), Fail>
     ensures { OnOk result (map record_in (payloads_of table.new)
-        ≡ inserted (map record_in (payloads_of table.old)) place record.now) }
+        ≡ inserted (map record_in (payloads_of table.old)) place added.now) }
 {
     if place > table.count() || table.count() > 9 {
         return Err(Fail::from("no such place"));
@@ -35,7 +35,7 @@ pub(crate) fn insert(
         return Err(Fail::from("no whole trace"));
     }
     let base = Base::Added(Vec::from_slice(alloc, &bytes)?);
-    table.insert(alloc, place + 1, base, PackedRecord::of(*record))?;
+    table.insert(alloc, place + 1, base, PackedRecord::of(*added))?;
     Ok(())
 }
 

@@ -17,7 +17,7 @@ from .faults import window
 
 UNITS = {2: "seconds of arc", 3: "degrees", 4: "degrees, minutes, seconds"}
 LENGTHS = {1: "m", 2: "ft"}
-FORMATS = {1: "IBM float", 2: "4 bytes", 3: "2 bytes", 5: "IEEE float", 6: "IEEE float, 8 bytes", 7: "3 bytes", 8: "1 byte", 9: "8 bytes",
+FORMATS = {1: "IBM float", 2: "4 bytes", 3: "2 bytes", 4: "fixed point with gain", 5: "IEEE float", 6: "IEEE float, 8 bytes", 7: "3 bytes", 8: "1 byte", 9: "8 bytes",
            10: "4 bytes, unsigned", 11: "2 bytes, unsigned", 12: "8 bytes, unsigned", 15: "3 bytes, unsigned", 16: "1 byte, unsigned"}
 MOST_RUNS = 20000
 MOST_STEPS = 300

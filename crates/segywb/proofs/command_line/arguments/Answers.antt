@@ -1,62 +1,69 @@
 use Rattle.std.proofs.Common.{◌≡◌, ◌∙◌, ap, sym, subst, codes, ℕ, Bool, List, Option}
-use Rattle.clap.specs.Words.{Row, first_of, one_of, found_of, rows_of}
+use Rattle.clap.specs.Words.{first_of, first_value, one_of, found_of}
 use Rattle.segywb.specs.CommandLine.{ReadsFlag, ReadsLimit, ReadsOrder, matched}
 use Rattle.segywb.proofs.RowLemmas.{rows_are, first_of-rows_of, one_of-rows_of}
 use Rattle.segywb.proofs.command_line.arguments.Goals as goal
 
-pub returns-in-Some-clause-file : goal.returns-in-Some-clause-file
-returns-in-Some-clause-file c =
+pub returns-in-Some-read_matches-clause-file : goal.returns-in-Some-read_matches-clause-file
+returns-in-Some-read_matches-clause-file c =
     let rows = rows_are _ _ c.in_ok-matches.matches c.in_ok-command.ensures c.in_ok-matches.ensures.ok.2 in
-    ap (first_of (codes "FILE")) (sym rows) ∙ first_of-rows_of (found_of c.in_ok-matches.matches) (codes "FILE") ∙ c.in-Some.ensures.file
+    ap (first_of (codes "FILE")) (sym rows) ∙ first_of-rows_of (found_of c.in_ok-matches.matches) (codes "FILE") ∙ c.in-Some-read_matches.ensures.file
 
-pub returns-in-Some-clause-script : goal.returns-in-Some-clause-script
-returns-in-Some-clause-script c =
+pub returns-in-Some-read_matches-clause-script : goal.returns-in-Some-read_matches-clause-script
+returns-in-Some-read_matches-clause-script c =
     let rows = rows_are _ _ c.in_ok-matches.matches c.in_ok-command.ensures c.in_ok-matches.ensures.ok.2 in
-    ap (first_of (codes "script")) (sym rows) ∙ first_of-rows_of (found_of c.in_ok-matches.matches) (codes "script") ∙ c.in-Some.ensures.script
+    ap (first_of (codes "script")) (sym rows) ∙ first_of-rows_of (found_of c.in_ok-matches.matches) (codes "script") ∙ c.in-Some-read_matches.ensures.script
 
-pub returns-in-Some-clause-out : goal.returns-in-Some-clause-out
-returns-in-Some-clause-out c =
+pub returns-in-Some-read_matches-clause-out : goal.returns-in-Some-read_matches-clause-out
+returns-in-Some-read_matches-clause-out c =
     let rows = rows_are _ _ c.in_ok-matches.matches c.in_ok-command.ensures c.in_ok-matches.ensures.ok.2 in
-    ap (first_of (codes "out")) (sym rows) ∙ first_of-rows_of (found_of c.in_ok-matches.matches) (codes "out") ∙ c.in-Some.ensures.out
+    ap (first_of (codes "out")) (sym rows) ∙ first_of-rows_of (found_of c.in_ok-matches.matches) (codes "out") ∙ c.in-Some-read_matches.ensures.out
 
-pub returns-in-Some-clause-in_place : goal.returns-in-Some-clause-in_place
-returns-in-Some-clause-in_place c =
+pub returns-in-Some-read_matches-clause-in_place : goal.returns-in-Some-read_matches-clause-in_place
+returns-in-Some-read_matches-clause-in_place c =
     let rows = rows_are _ _ c.in_ok-matches.matches c.in_ok-command.ensures c.in_ok-matches.ensures.ok.2 in
     let same = sym (ap (one_of (codes "in-place")) (sym rows) ∙ one_of-rows_of (found_of c.in_ok-matches.matches) (codes "in-place")) in
-    subst (λ (o : Option (List ℕ)). ReadsFlag o c.in-Some.read.in_place) same c.in-Some.ensures.in_place
+    subst (λ (o : Option (List ℕ)). ReadsFlag o c.in-Some-read_matches.read.in_place) same c.in-Some-read_matches.ensures.in_place
 
-pub returns-in-Some-clause-fixed : goal.returns-in-Some-clause-fixed
-returns-in-Some-clause-fixed c =
+pub returns-in-Some-read_matches-clause-fixed : goal.returns-in-Some-read_matches-clause-fixed
+returns-in-Some-read_matches-clause-fixed c =
     let rows = rows_are _ _ c.in_ok-matches.matches c.in_ok-command.ensures c.in_ok-matches.ensures.ok.2 in
     let same = sym (ap (one_of (codes "fixed")) (sym rows) ∙ one_of-rows_of (found_of c.in_ok-matches.matches) (codes "fixed")) in
-    subst (λ (o : Option (List ℕ)). ReadsFlag o c.in-Some.read.fixed) same c.in-Some.ensures.fixed
+    subst (λ (o : Option (List ℕ)). ReadsFlag o c.in-Some-read_matches.read.fixed) same c.in-Some-read_matches.ensures.fixed
 
-pub returns-in-Some-clause-opaque : goal.returns-in-Some-clause-opaque
-returns-in-Some-clause-opaque c =
+pub returns-in-Some-read_matches-clause-opaque : goal.returns-in-Some-read_matches-clause-opaque
+returns-in-Some-read_matches-clause-opaque c =
     let rows = rows_are _ _ c.in_ok-matches.matches c.in_ok-command.ensures c.in_ok-matches.ensures.ok.2 in
     let same = sym (ap (one_of (codes "opaque-samples")) (sym rows) ∙ one_of-rows_of (found_of c.in_ok-matches.matches) (codes "opaque-samples")) in
-    subst (λ (o : Option (List ℕ)). ReadsFlag o c.in-Some.read.opaque) same c.in-Some.ensures.opaque
+    subst (λ (o : Option (List ℕ)). ReadsFlag o c.in-Some-read_matches.read.opaque) same c.in-Some-read_matches.ensures.opaque
 
-pub returns-in-Some-clause-stop : goal.returns-in-Some-clause-stop
-returns-in-Some-clause-stop c =
+pub returns-in-Some-read_matches-clause-stop : goal.returns-in-Some-read_matches-clause-stop
+returns-in-Some-read_matches-clause-stop c =
     let rows = rows_are _ _ c.in_ok-matches.matches c.in_ok-command.ensures c.in_ok-matches.ensures.ok.2 in
     let same = sym (ap (one_of (codes "stop")) (sym rows) ∙ one_of-rows_of (found_of c.in_ok-matches.matches) (codes "stop")) in
-    subst (λ (o : Option (List ℕ)). ReadsFlag o c.in-Some.read.stop) same c.in-Some.ensures.stop
+    subst (λ (o : Option (List ℕ)). ReadsFlag o c.in-Some-read_matches.read.stop) same c.in-Some-read_matches.ensures.stop
 
-pub returns-in-Some-clause-limit : goal.returns-in-Some-clause-limit
-returns-in-Some-clause-limit c =
+pub returns-in-Some-read_matches-clause-limit : goal.returns-in-Some-read_matches-clause-limit
+returns-in-Some-read_matches-clause-limit c =
     let rows = rows_are _ _ c.in_ok-matches.matches c.in_ok-command.ensures c.in_ok-matches.ensures.ok.2 in
     let same = sym (ap (one_of (codes "max-bytes")) (sym rows) ∙ one_of-rows_of (found_of c.in_ok-matches.matches) (codes "max-bytes")) in
-    subst (λ (o : Option (List ℕ)). ReadsLimit o c.in-Some.read.max_bytes) same c.in-Some.ensures.limit
+    subst (λ (o : Option (List ℕ)). ReadsLimit o c.in-Some-read_matches.read.max_bytes) same c.in-Some-read_matches.ensures.limit
 
-pub returns-in-Some-clause-session : goal.returns-in-Some-clause-session
-returns-in-Some-clause-session c =
+pub returns-in-Some-read_matches-clause-session : goal.returns-in-Some-read_matches-clause-session
+returns-in-Some-read_matches-clause-session c =
     let rows = rows_are _ _ c.in_ok-matches.matches c.in_ok-command.ensures c.in_ok-matches.ensures.ok.2 in
     let same = sym (ap (one_of (codes "session")) (sym rows) ∙ one_of-rows_of (found_of c.in_ok-matches.matches) (codes "session")) in
-    subst (λ (o : Option (List ℕ)). ReadsFlag o c.in-Some.read.session) same c.in-Some.ensures.session
+    subst (λ (o : Option (List ℕ)). ReadsFlag o c.in-Some-read_matches.read.session) same c.in-Some-read_matches.ensures.session
 
-pub returns-in-Some-clause-quiet : goal.returns-in-Some-clause-quiet
-returns-in-Some-clause-quiet c =
+pub returns-in-Some-read_matches-clause-quiet : goal.returns-in-Some-read_matches-clause-quiet
+returns-in-Some-read_matches-clause-quiet c =
     let rows = rows_are _ _ c.in_ok-matches.matches c.in_ok-command.ensures c.in_ok-matches.ensures.ok.2 in
     let same = sym (ap (one_of (codes "quiet")) (sym rows) ∙ one_of-rows_of (found_of c.in_ok-matches.matches) (codes "quiet")) in
-    subst (λ (o : Option (List ℕ)). ReadsFlag o c.in-Some.read.quiet) same c.in-Some.ensures.quiet
+    subst (λ (o : Option (List ℕ)). ReadsFlag o c.in-Some-read_matches.read.quiet) same c.in-Some-read_matches.ensures.quiet
+
+pub returns-in-Some-read_matches-clause-order : goal.returns-in-Some-read_matches-clause-order
+returns-in-Some-read_matches-clause-order c =
+    let rows = rows_are _ _ c.in_ok-matches.matches c.in_ok-command.ensures c.in_ok-matches.ensures.ok.2 in
+    let same = sym (ap (first_of (codes "order")) (sym rows) ∙ first_of-rows_of (found_of c.in_ok-matches.matches) (codes "order")) in
+    subst (λ (o : Option (List ℕ)). ReadsOrder o c.in-Some-read_matches.read.order) same
+    (subst (ReadsOrder (first_value (found_of c.in_ok-matches.matches) (codes "order"))) (sym c.in-Some-read_matches.ensures.order) c.in-Some.ensures)

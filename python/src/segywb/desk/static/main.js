@@ -71,7 +71,7 @@ async function bar() {
   at("name").textContent = file.slice(cut);
   at("file").title = file;
   document.title = `${file.slice(cut)} – segywb desk`;
-  at("summary").textContent = `${many(traces, "trace")} of ${many(samples, "sample")}, ${many(edits, "edit")}${opaque ? "; floats: the samples have no values here" : ""}`;
+  at("summary").textContent = `${many(traces, "trace")} of ${many(samples, "sample")}, ${many(edits, "edit")}${opaque ? "; samples of this format have no values here" : ""}`;
   at("undo").disabled = !undoable;
   at("redo").disabled = !redoable;
   at("save").disabled = false;

@@ -1,7 +1,6 @@
 use Rattle.std.proofs.Common.{◌≡◌, ◌∙◌, sym, ap, subst}
 use Rattle.frame_cut.specs.Cuts.{IsCut}
 use Rattle.frame_cut.specs.Volume.{Volume, bytes_of}
-use Rattle.volume_records.specs.OfVolume.{records_of}
 use Rattle.live_volume.proofs.HeldLemmas.{records_again}
 use Rattle.live_volume.proofs.live_volume.LiveVolume.load.Goals as goal
 
@@ -12,6 +11,6 @@ invariant_of-result g c =
       cut = subst (λ (u : Volume). IsCut (bytes_of u) c.args.reading c.args.limits u) (sym is) c.in_ok-loading.ensures.cut;
       prepared = c.in-Ok-with_records.ensures.prepared ∙ sym is;
       extensions = c.in-Ok.ensures.extensions ∙ ap (λ h. h.extensions) c.head.ensures ∙ ap (λ (u : Volume). u.head.extensions) (sym is);
-      records = ?;
+      records = records_again c.in_ok-loading.loading.volume c.in-Ok-with_records.overlay.volume c.in-Ok.fields.pairs _ is c.in-Ok-with_records.ensures.records;
       reports = c.in-Ok-with_records.ensures.reports;
     }

@@ -1,4 +1,4 @@
-use Rattle.std.proofs.Common.{◌≡◌, ◌∙◌, ◌+◌, ◌<◌, ◌≤◌, ◌^◌, ap, sym, subst, refl, length, List, ℕ, rules}
+use Rattle.std.proofs.Common.{◌≡◌, ◌∙◌, arith, ◌+◌, ◌<◌, ◌≤◌, ◌^◌, ap, sym, subst, refl, length, List, ℕ, rules}
 use Rattle.std.specs.Prelude.{nat_abs}
 use Rattle.std.proofs.lemmas.Int.{to_z-of_z}
 use Rattle.std.specs.Int.{w128}
@@ -18,6 +18,12 @@ use Rattle.bench_rules.proofs.ResizeLemmas.{resize_accepted, resize_fits, resize
 use Rattle.live_volume.specs.Held.{state_of, with_volume, IsCutAs}
 use Rattle.live_volume.proofs.HeldLemmas.{on_ok, err_back}
 use Rattle.live_volume.proofs.live_volume.LiveVolume.put_resized.Goals as goal
+
+pub overflow_cast-count : goal.overflow_cast-count
+overflow_cast-count c =
+    let a = resize_accepted (state_of c.self.inside) c.args.p c.args.count (rw (← c.self.view_is) at c.requires) in
+    let fit : SFits w128 c.args.count = search rules in
+    rw (to_z-of_z w128 c.args.count fit, a.positive.number) (tt, omega (arith, a.few))
 
 pub record_of_bytes-trace-requires-clause-whole : goal.record_of_bytes-trace-requires-clause-whole
 record_of_bytes-trace-requires-clause-whole c =

@@ -1,7 +1,7 @@
-use Rattle.std.proofs.Common.{◌≡◌, ◌-◌, ◌∙◌, ℕ, true, false, refl, sym, ap, arith}
-use Rattle.std.specs.Prelude.{Option, Some, option_map}
+use Rattle.std.proofs.Common.{◌≡◌, ◌-◌, ◌∙◌, true, refl, sym, ap}
+use Rattle.std.specs.Prelude.{Option, Some}
 use Rattle.field_map.specs.Pairs.{Pairs}
-use Rattle.frame_cut.specs.Traces.{is_trace, trace_of, trace_at}
+use Rattle.frame_cut.specs.Traces.{is_trace, trace_at}
 use Rattle.frame_cut.specs.Volume.{Volume}
 use Rattle.trace_record.specs.Facts.{Facts, facts_of}
 use Rattle.trace_record.specs.OfTrace.{record_of}
@@ -14,9 +14,9 @@ pub returns : goal.returns
 returns c =
     let v : Volume = c.self.inside.overlay.volume in
     let fields : Pairs = c.self.inside.fields.pairs in
-    let is : is_trace v c.args.p ≡ true = rw (← c.self.view_is) (sym c.has_trace.ensures ∙ c.if-not-has_trace.false) in
+    let is : is_trace v c.args.p ≡ true = rw (← c.self.view_is) at (sym c.has_trace.ensures ∙ c.if-not-has_trace.false) in
     let there = there_is v c.args.p (rw is refl) in
     let facts : facts_of c.record.result ≡ record_of v.head fields (trace_at v c.args.p) =
     record_at v fields (records_in c.self.inside) c.args.p c.record.result there.first there.last c.self.invariant.records
-        (record_beside c.self.inside.overlay.payloads c.self.inside.overlay.payloads (c.args.p - 1) (c.args.p - 1) c.payload.result c.record.result refl refl c.payload.ensures c.record.ensures) in
+    (record_beside c.self.inside.overlay.payloads c.self.inside.overlay.payloads (c.args.p - 1) (c.args.p - 1) c.payload.result c.record.result refl refl c.payload.ensures c.record.ensures) in
     rw (← c.self.view_is) (rw is (ap (λ (f : Facts). let o : Option Facts = Some f in o) facts))

@@ -4,6 +4,7 @@ use Rattle.key_counts.specs.Packed.{ratio_in}
 use Rattle.key_counts.specs.RatioOrder.{ratio_cmp}
 use Rattle.key_counts.specs.declared.packed_ratio.PackedRatio.{PackedRatio}
 use Rattle.key_counts.specs.declared.ratio.Ratio.{Ratio}
+use Rattle.trace_store.proofs.SlotLemmas.{on_err}
 use Rattle.range_stats.specs.Unpacked.{with_ratios}
 use Rattle.range_stats.proofs.UnpackedLemmas.{count_unpacked, one_more_unpacked}
 use Rattle.range_stats.proofs.coordinate_counts.CoordinateCountsCounterPackedRatio.raise.Goals as goal
@@ -26,6 +27,7 @@ returns-in_err-raise-clause-held c held =
     cc
 
 pub returns-in_err-raise-clause-err : goal.returns-in_err-raise-clause-err
-returns-in_err-raise-clause-err c = λ q.
+returns-in_err-raise-clause-err c =
+    on_err c.from_residual.result _ (λ (q : Ratio).
     ap (λ (es : List (PackedRatio × ℕ)). count_of ratio_cmp (with_ratios es) q) c.in_err-raise.ensures.err
-    ∙ ap (λ (es : List (Ratio × ℕ)). count_of ratio_cmp es q) c.self.view_is
+    ∙ ap (λ (es : List (Ratio × ℕ)). count_of ratio_cmp es q) c.self.view_is)

@@ -58,10 +58,10 @@ module _ (rs : List Record) (p : ℕ) (old new : Record) (there : slice_get rs p
       let most = few.samples in
       let room = room_each (tallies_of v) rs new is.counted is.few (omega arith) in
       record {
-        grid = IsSmall-beside keys_of_grid _ _ (facts_of old) room.grid;
-        ranges = IsSmall-beside keys_of_ranges _ _ (facts_of old) room.ranges;
-        totals = IsSmall-beside keys_of_totals _ _ (facts_of old) room.totals;
-        triples = IsSmall-beside keys_of_faults _ _ (facts_of old) room.triples;
+        grid = IsSmall-beside keys_of_grid (tallies_of v).grid (facts_of new) (facts_of old) room.grid;
+        ranges = IsSmall-beside keys_of_ranges (tallies_of v).ranges (facts_of new) (facts_of old) room.ranges;
+        totals = IsSmall-beside keys_of_totals (tallies_of v).totals (facts_of new) (facts_of old) room.totals;
+        triples = IsSmall-beside keys_of_faults (tallies_of v).triples (facts_of new) (facts_of old) room.triples;
       }
 
   -- keys that the records have are found

@@ -32,7 +32,7 @@ class Page:
         return self.browser.find_element(By.CSS_SELECTOR, selector)
 
     def text(self, id):
-        return self.js("return document.getElementById(arguments[0]).innerText", id)
+        return self.js("return document.getElementById(arguments[0])?.innerText ?? ''", id)
 
     def js(self, script, *more):
         return self.browser.execute_script(script, *more)

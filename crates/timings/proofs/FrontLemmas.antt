@@ -1,12 +1,14 @@
 -- Running values that count a list of traces, one after another, and then take them out again from the end.
 use Rattle.std.proofs.Common.{◌≡◌, ℕ, pos, suc, ◌+◌, ◌*◌, ◌^◌, ◌<◌, ◌≤◌, List, [], ◌∷◌, ◌++◌, length, take, map, get_or, refl, ap, ◌∙◌, arith, Bool, All}
-use Rattle.std.specs.Prelude.{sum_by}
+use Rattle.std.specs.Prelude.{sum_by, Option, Some, None}
+use Rattle.std.specs.Option.{option_map_or}
 use Rattle.std.proofs.lemmas.Int.{ints}
 use Rattle.std.proofs.lemmas.List.{length-map, map-append, length-take}
 use Rattle.std.proofs.lemmas.List.Sums.{sum_by-cons}
 use Rattle.std.proofs.lemmas.List.Elements.{All-head, All-tail, All-take}
 use Rattle.std.proofs.Math.Seq.{take-suc}
-use Rattle.trace_record.specs.Facts.{Facts, facts_of}
+use Rattle.trace_record.specs.Facts.{Facts, facts_of, number_of_values}
+use Rattle.trace_record.specs.declared.amplitudes.Amplitudes.{Amplitudes}
 use Rattle.trace_record.specs.Keys.{Key, Counted}
 use Rattle.fault_live.specs.FaultKeys.{faults_has, keys_of_faults}
 use Rattle.grid_live.specs.GridKeys.{grid_has, keys_of_grid}
@@ -76,12 +78,18 @@ small_grid rs few n = small_plain grid_has rs few n
 pub small_ranges : (rs : List Record) → length rs ≤ 2 ^ 24 → (n : ℕ) → IsSmall (tally_of keys_of_ranges (front rs n))
 small_ranges rs few n = small_plain ranges_has rs few n
 
-few_samples : (rs : List Record) → All (λ r. r.number ≤ 4) rs → sum_by (λ (f : Facts). f.number) (map facts_of rs) ≤ 4 * length rs
+-- a trace has at most as many samples with values as it has samples
+with_values : (n : ℕ) (o : Option Amplitudes) → option_map_or (λ (a : Amplitudes). n) o 0 ≤ n
+with_values n None = omega arith
+with_values n (Some a) = omega arith
+
+few_samples : (rs : List Record) → All (λ r. r.number ≤ 4) rs → sum_by number_of_values (map facts_of rs) ≤ 4 * length rs
 few_samples [] a = omega arith
 few_samples (r ∷ rs) a =
     let here : r.number ≤ 4 = All-head (λ r. r.number ≤ 4) r rs a in
+    let own : number_of_values (facts_of r) ≤ r.number = with_values r.number r.amplitudes in
     let rest = few_samples rs (All-tail (λ r. r.number ≤ 4) r rs a) in
-    omega (arith, sum_by-cons (λ (f : Facts). f.number) (facts_of r) (map facts_of rs))
+    omega (arith, sum_by-cons number_of_values (facts_of r) (map facts_of rs))
 
 pub small_totals : (rs : List Record) → length rs ≤ 2 ^ 24 → All (λ r. r.number ≤ 4) rs → (n : ℕ) → IsSmall (tally_of keys_of_totals (front rs n))
 small_totals rs few short n =

@@ -1,5 +1,5 @@
 -- Lists of records of few samples, after a record was exchanged, put in, taken out or moved.
-use Rattle.std.proofs.Common.{◌≡◌, ℕ, suc, ◌+◌, ◌<◌, ◌≤◌, List, ◌∷◌, ◌++◌, length, take, drop, set, All, Option, Some, None, refl, subst, arith}
+use Rattle.std.proofs.Common.{◌≡◌, ℕ, suc, ◌+◌, ◌≤◌, List, ◌∷◌, length, take, drop, set, All, Option, Some, None, refl, subst, arith}
 use Rattle.std.specs.Prelude.{slice_get}
 use Rattle.std.specs.List.{insert, remove}
 use Rattle.std.proofs.lemmas.List.{length-append, length-take, length-drop}
@@ -32,13 +32,3 @@ short_moved rs from to short = side (slice_get rs from) refl where
 
 pub length-inserted : (rs : List Record) (i : ℕ) (r : Record) → length (insert rs i r) ≡ length rs + 1
 length-inserted rs i r = omega (arith, length-append (take i rs) (r ∷ drop i rs), length-take i rs, length-drop i rs)
-
-length-removed : (rs : List Record) (i : ℕ) → i < length rs → length (remove rs i) + 1 ≡ length rs
-length-removed rs i there = omega (arith, length-append (take i rs) (drop (suc i) rs), length-take i rs, length-drop (suc i) rs)
-
--- a move leaves about as many
-pub moved_length : (rs : List Record) (from to : ℕ) → from < length rs → (length (with_moved rs from to) ≤ length rs + 1) × (length rs ≤ length (with_moved rs from to) + 1)
-moved_length rs from to there = side (slice_get rs from) where
-  side : (o : Option Record) → (length (put_back o (remove rs from) to) ≤ length rs + 1) × (length rs ≤ length (put_back o (remove rs from) to) + 1)
-  side None = let less = length-removed rs from there in (omega arith, omega arith)
-  side (Some r) = let less = length-removed rs from there in let more = length-inserted (remove rs from) to r in (omega arith, omega arith)

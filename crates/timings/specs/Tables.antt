@@ -1,5 +1,5 @@
 -- The records that stand beside the traces of a table.
-use Rattle.std.specs.Prelude.{ℕ, ◌≤◌, List, All, map}
+use Rattle.std.specs.Prelude.{◌≤◌, List, All, map}
 use Rattle.trace_record.specs.Packed.{record_in}
 use Rattle.trace_record.specs.declared.packed_record.PackedRecord.{PackedRecord}
 use Rattle.trace_record.specs.declared.record.Record.{Record}

@@ -225,7 +225,8 @@ fn cuts_opaque_samples_by_their_width(rt: HostRuntime) -> Result<(), Fail> {
             traces_by(alloc, front(&file, length), OPAQUE, wide(&rt)),
             Ok(count)
         );
-        let short = traces_by(alloc, front(&file, length - 1), OPAQUE, wide(&rt));
+        let short = front(&file, length.saturating_sub(1));
+        let short = traces_by(alloc, short, OPAQUE, wide(&rt));
         assert_eq!(rt; short, Err(LoadFault::Truncated(u64::from(count))));
     }
     Ok(())

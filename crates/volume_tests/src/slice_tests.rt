@@ -73,7 +73,8 @@ fn ask(
 
 // Slice k as `rows` gives it.
 fn fresh(alloc: Global, volume: &mut Overlay<PackedRecord>, k: u32) -> Result<Vec<Row>, Fail>
-    ensures { volume.new.volume ≡ volume.old.volume }
+    ensures volume { volume.new.volume ≡ volume.old.volume }
+    ensures payloads { volume.new.payloads ≡ volume.old.payloads }
 {
     Ok(rows(alloc, volume, k)?)
 }

@@ -102,6 +102,7 @@ fn expect_runs(rt: &impl Abort, view: &TraceView<'_>) {
     assert_eq!(rt; count(view.main().pieces()), 4);
     assert_eq!(rt; count(view.sample_bytes().pieces()), 3);
     assert!(rt; view.plain_samples().is_none());
+    assert_eq!(rt; view.length(), 244);
     assert!(rt; view.plain(190, 192).is_none());
 }
 

@@ -1,6 +1,10 @@
-use Rattle.std.proofs.Common.{arith}
+use Rattle.std.proofs.Common.{List, subst, sym, arith}
+use Rattle.live_reports.specs.Reports.{AreFew}
+use Rattle.trace_record.specs.declared.record.Record.{Record}
 use Rattle.timings.proofs.FrontLemmas.{few_records}
+use Rattle.timings.specs.Tables.{records_in}
 use Rattle.timings.proofs.reports.change_all.Goals as goal
 
 pub from_records-requires : goal.from_records-requires
-from_records-requires c = few_records c.in_ok-records.records (omega (arith, c.in_ok-records.ensures.few)) c.in_ok-records.ensures.short
+from_records-requires c =
+    subst (λ (rs : List Record). AreFew rs) (sym c.records.ensures) (few_records (records_in c.args.table.now) (omega (arith, c.requires.few)) c.requires.short)

@@ -5,6 +5,7 @@ use Rattle.frame_cut.specs.Cuts.{IsTrace}
 use Rattle.frame_cut.specs.Splice.{splice}
 use Rattle.frame_cut.specs.Traces.{count_of}
 use Rattle.edit_overlay.specs.CountedVolume.{CountedVolume}
+use Rattle.trace_record.specs.declared.packed_record.PackedRecord.{PackedRecord}
 use Rattle.trace_store.specs.Each.{part_of}
 use Rattle.volume_records.proofs.EachLemmas.{length-put_each}
 use Rattle.volume_tests.proofs.TwoLemmas.{two}
@@ -25,5 +26,5 @@ pub prepared_records-requires-clause-last : goal.prepared_records-requires-claus
 prepared_records-requires-clause-last c =
     let v = c.may_put-2.new.volume.volume in
     let there : 3 ≤ count_of v = rw c.may_put-2.ensures.volume (leb-true 3 _ (c.if-not-may_put-2.ensures.there refl)) in
-    let many : count_of c.prepare_put_each.new.self.prepared ≡ count_of v = ap (λ (o : CountedVolume). count_of o.prepared) c.in_ok-prepare_put_each.ensures.ok ∙ length-put_each v.traces 1 c.args.at 2 c.args.bytes.now in
+    let many : count_of c.prepare_put_each.new.self.prepared ≡ count_of v = ap (λ (o : CountedVolume PackedRecord). count_of o.prepared) c.in_ok-prepare_put_each.ensures.ok ∙ length-put_each v.traces 1 c.args.at 2 c.args.bytes.now in
     omega (arith, there, many)

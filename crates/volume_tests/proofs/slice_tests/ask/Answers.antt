@@ -1,5 +1,8 @@
-use Rattle.std.proofs.Common.{subst, sym}
+use Rattle.std.proofs.Common.{List, map, subst, sym}
 use Rattle.frame_cut.specs.Volume.{Volume}
+use Rattle.trace_record.specs.Packed.{record_in}
+use Rattle.trace_record.specs.declared.packed_record.PackedRecord.{PackedRecord}
+use Rattle.trace_record.specs.declared.record.Record.{Record}
 use Rattle.time_slice.specs.Cache.{KeptSlices, AreRightOf}
 use Rattle.time_slice.proofs.CacheLemmas.{asked_stays_right_of}
 use Rattle.volume_tests.proofs.slice_tests.ask.Goals as goal
@@ -8,6 +11,7 @@ pub returns : goal.returns
 returns c =
     let v = c.args.volume.now.volume in
     let old = c.args.cache.now in
-    subst (λ (w : Volume). AreRightOf w.head c.args.records.now w.traces c.slice.new.self.entries) (sym c.in_ok-slice.ensures.volume)
-    (subst (λ (s : KeptSlices). AreRightOf v.head c.args.records.now v.traces s.entries) (sym c.in_ok-slice.ensures.ok)
-    (asked_stays_right_of v.head c.args.records.now v.traces old.capacity c.args.k old.entries c.requires))
+    let rs : List Record = map record_in c.args.volume.now.payloads in
+    subst (λ (ps : List PackedRecord). AreRightOf c.slice.new.overlay.volume.head (map record_in ps) c.slice.new.overlay.volume.traces c.slice.new.self.entries) (sym c.in_ok-slice.ensures.payloads)
+    (subst (λ (w : Volume). AreRightOf w.head rs w.traces c.slice.new.self.entries) (sym c.in_ok-slice.ensures.volume)
+    (subst (λ (s : KeptSlices). AreRightOf v.head rs v.traces s.entries) (sym c.in_ok-slice.ensures.ok) (asked_stays_right_of v.head rs v.traces old.capacity c.args.k old.entries c.requires)))

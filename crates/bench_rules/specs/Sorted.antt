@@ -1,16 +1,12 @@
 -- Traces in the order of numbers in their headers. Traces are counted from 1.
-use Rattle.std.specs.Prelude.{ℕ, ◌+◌, ◌-◌, ℤ, Bool, false, int_lt, ◌&&◌, ◌||◌, List, [], ◌∷◌, map, Option, option_map, if◌then◌else◌}
+use Rattle.std.specs.Prelude.{ℕ, ◌+◌, ◌-◌, ℤ, Bool, false, int_lt, ◌&&◌, ◌||◌, List, [], ◌∷◌, ◌++◌, take, drop, map, Option, option_map, if◌then◌else◌}
 use Rattle.std.specs.List.{concat}
 use Rattle.std.specs.Option.{option_map_or}
 use Rattle.std.specs.Ordering.{int_eq}
 use Rattle.field_map.specs.declared.place.Place.{Place}
-use Rattle.field_map.specs.Pairs.{Pairs}
 use Rattle.frame_cut.specs.Splice.{splice}
 use Rattle.frame_cut.specs.Traces.{trace_at}
 use Rattle.frame_cut.specs.Volume.{Volume, bytes_of}
-use Rattle.bench_rules.specs.declared.field.Field.{Field}
-use Rattle.bench_rules.specs.ManyTraces.{each_of}
-use Rattle.bench_rules.specs.Places.{place_in_trace}
 use Rattle.bench_rules.specs.Tables.{table_of}
 use Rattle.bench_rules.specs.WholeTraces.{trace_start}
 
@@ -34,10 +30,6 @@ abbrev pub in_order : (falls : List Bool) → List (ℕ × List ℤ) → List (�
 in_order falls [] = []
 in_order falls (row ∷ rows) = put_in_order falls row (in_order falls rows)
 
--- the places of the fields, where each has one
-abbrev pub places_of : Pairs → List (Field × Bool) → Option (List Place)
-places_of fields keys = each_of (λ key. place_in_trace fields key.0) keys
-
 -- traces a to b, each by its position, in the order of their numbers at these places; nothing where one of them lacks a place
 abbrev pub order_of : Volume → List Place → (falls : List Bool) → ℕ → ℕ → Option (List ℕ)
 order_of v places falls a b = option_map (λ rows. map (λ row. row.0) (in_order falls rows)) (table_of v places a b)
@@ -46,7 +38,10 @@ order_of v places falls a b = option_map (λ rows. map (λ row. row.0) (in_order
 abbrev pub with_traces_as : Volume → ℕ → ℕ → List ℕ → List ℕ
 with_traces_as v a b order = splice (bytes_of v) (trace_start v a) (trace_start v (b + 1) - trace_start v a) (concat (map (trace_at v) order))
 
--- the file's bytes with traces a to b in the order of these fields, of which each says whether its numbers are to fall
-abbrev pub bytes_after_sort : Volume → Pairs → ℕ → ℕ → List (Field × Bool) → List ℕ
-bytes_after_sort v fields a b keys =
-    option_map_or (λ places. option_map_or (with_traces_as v a b) (order_of v places (map (λ key. key.1) keys) a b) (bytes_of v)) (places_of fields keys) (bytes_of v)
+-- the file's bytes with traces a to b in the order of their numbers at these places, of which each falls or rises
+abbrev pub bytes_after_sort : Volume → List Place → (falls : List Bool) → ℕ → ℕ → List ℕ
+bytes_after_sort v places falls a b = option_map_or (with_traces_as v a b) (order_of v places falls a b) (bytes_of v)
+
+-- the volume with these traces in the place of traces a to b
+abbrev pub with_order : Volume → ℕ → ℕ → List ℕ → Volume
+with_order v a b order = record v { traces = take (a - 1) v.traces ++ map (trace_at v) order ++ drop b v.traces }

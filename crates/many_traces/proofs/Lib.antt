@@ -5,3 +5,6 @@ mod NameLemmas
 mod SeenLemmas
 pub mod FormulaLemmas
 pub mod NumbersLemmas
+mod InOrderLemmas
+mod RowOrderLemmas
+mod ExchangeLemmas

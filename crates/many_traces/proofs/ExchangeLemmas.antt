@@ -1,14 +1,29 @@
 -- Items that come in the place of one another, two at a time.
-use Rattle.std.proofs.Common.{◌≡◌, ◌≢◌, ℕ, zero, suc, ◌+◌, ◌-◌, ◌<◌, ◌≤◌, ◌^◌, List, [], ◌∷◌, ◌++◌, length, map, get_or, set, inl, inr, refl, sym, ap, subst, ◌∙◌, arith}
+use Rattle.std.proofs.Common.{All, ◌≡◌, ◌≢◌, ℕ, zero, suc, ◌+◌, ◌-◌, ◌<◌, ◌≤◌, ◌^◌, List, [], ◌∷◌, ◌++◌, length, map, get_or, set, inl, inr, refl, sym, ap, subst, ◌∙◌, arith}
 use Rattle.std.specs.Prelude.{slice_index, slice_set, slice_index_or}
 use Rattle.std.specs.List.{swap, range_with_len}
 use Rattle.std.proofs.lemmas.Bool.{cases_eq}
-use Rattle.std.proofs.lemmas.List.{length-append, length-map, length-set, get_or-set_same, get_or-set_other, get_or_append_left, set-append_left, set-append_right, map-set, get_or_append_right}
-use Rattle.std.proofs.lemmas.List.Edits.{swap_is}
+use Rattle.std.proofs.lemmas.List.{length-append, length-map, length-set, get_or-set_same, get_or-set_other, get_or_append_left, set-append_left, set-append_right, map-set}
+use Rattle.std.proofs.lemmas.List.Edits.{swap_is, swapped_from_swap, length-swap}
+use Rattle.std.proofs.lemmas.List.Elements.{All-nil, All-cons, All-get_or}
+use Rattle.std.proofs.lemmas.List.Sorted.{IsPermutation-keeps, All-permutation}
+use Rattle.std.specs.List.Sorted.{IsPermutation}
 use Rattle.std.proofs.lemmas.List.FromFn.{length-range_with_len, get_or-range_with_len}
 use Rattle.std.proofs.Math.ListN.{get_or-map}
+use Rattle.std.proofs.Math.Seq.{get_or-append_right}
 use Rattle.trace_store.specs.Swapped.{with_swapped, ArePlaces}
 use Rattle.many_traces.specs.Arranged.{Arranges, AreInStep, IsBrought}
+
+-- one number more
+range-more : (a n : ℕ) → range_with_len a n ++ (a + n) ∷ [] ≡ range_with_len a (n + 1)
+range-more a zero = ap (λ x. x ∷ []) (omega arith)
+range-more a (suc n) =
+    let on : suc (n + 1) ≡ suc n + 1 = omega arith in
+    let there : a + suc n ≡ a + 1 + n = omega arith in
+    ap (λ l. a ∷ l) (ap (λ x. range_with_len (a + 1) n ++ x ∷ []) there ∙ range-more (a + 1) n) ∙ ap (λ m. range_with_len a m) on
+
+pub counted-more : (n : ℕ) → range_with_len 0 n ++ n ∷ [] ≡ range_with_len 0 (n + 1)
+counted-more n = ap (λ x. range_with_len 0 n ++ x ∷ []) (omega arith) ∙ range-more 0 n
 
 -- one pair more
 swapped-more : {T : Type 0} (xs : List T) (pairs : List (ℕ × ℕ)) (p : ℕ × ℕ) → with_swapped xs (pairs ++ p ∷ []) ≡ swap (with_swapped xs pairs) (p.0 - 1) (p.1 - 1)
@@ -40,7 +55,7 @@ module _ (first : ℕ) (front items behind : List ℕ) (k p : ℕ) (low : 1 ≤ 
   read-inside i less =
       let back : first + i - 1 - length front ≡ i = omega (arith, low, at) in
       let inside : i < length (shifted items) = omega (arith, length-map items (λ n. first + n), less) in
-      get_or_append_right front (shifted items ++ behind) (first + 0) (first + i - 1) (omega (arith, low, at))
+      get_or-append_right front (shifted items ++ behind) (first + i - 1) (first + 0) (omega (arith, low, at))
       ∙ ap (λ j. get_or (shifted items ++ behind) j (first + 0)) back
       ∙ get_or_append_left (shifted items) behind (first + 0) i inside
       ∙ get_or-map (λ n. first + n) items i 0
@@ -62,14 +77,17 @@ own-map : (first n i : ℕ) → map (λ k. first + k) (range_with_len i n) ≡ r
 own-map first zero i = refl
 own-map first (suc n) i =
     let next : first + i + 1 ≡ first + (i + 1) = omega arith in
-    ap (λ l. first + i ∷ l) (own-map first n (i + 1) ∙ ap (λ j. range_with_len j n) (sym next))
+    ap (λ l. (first + i) ∷ l) (own-map first n (i + 1) ∙ ap (λ j. range_with_len j n) (sym next))
+
+nothing : (i : ℕ) → 0 + i ≡ i
+nothing i = omega arith
 
 pub starts-in-step : (first n : ℕ) (items places : List ℕ) → 1 ≤ first → first + n ≤ 2 ^ 32 → items ≡ range_with_len 0 n → places ≡ range_with_len 0 n → AreInStep first items places []
 starts-in-step first n items places low last e f =
     let many : length items ≡ n = ap (λ (l : List ℕ). length l) e ∙ length-range_with_len 0 n in
     let many' : length places ≡ n = ap (λ (l : List ℕ). length l) f ∙ length-range_with_len 0 n in
-    let own : (i : ℕ) → i < n → slice_index items i ≡ i = λ i less. ap (λ l. get_or l i 0) e ∙ get_or-range_with_len 0 n i 0 less in
-    let own' : (i : ℕ) → i < n → slice_index places i ≡ i = λ i less. ap (λ l. get_or l i 0) f ∙ get_or-range_with_len 0 n i 0 less in
+    let own : (i : ℕ) → i < n → slice_index items i ≡ i = λ i less. ap (λ l. get_or l i 0) e ∙ (get_or-range_with_len 0 n i 0 less ∙ nothing i) in
+    let own' : (i : ℕ) → i < n → slice_index places i ≡ i = λ i less. ap (λ l. get_or l i 0) f ∙ (get_or-range_with_len 0 n i 0 less ∙ nothing i) in
     record {
       low = low;
       last = omega (arith, last, many);
@@ -87,10 +105,6 @@ starts-in-step first n items places low last e f =
 -- ---- one item brought to its place
 
 module _ (first place item : ℕ) (items places : List ℕ) (pairs : List (ℕ × ℕ)) (s : AreInStep first items places pairs) (place_in : place < length items) (item_in : item < length items) where
-  from other : ℕ
-  from = slice_index places item
-  other = slice_index items place
-
   pub from-inside : slice_index places item < length items
   from-inside = (s.there item item_in).0
 
@@ -200,3 +214,59 @@ module _ (first place item : ℕ) (items places : List ℕ) (pairs : List (ℕ �
         arranged = swapped;
       };
     }
+
+-- ---- an order
+
+-- different places have different numbers
+abbrev pub Differ : List ℕ → Type 0
+Differ xs = (i j : ℕ) → i < length xs → j < length xs → slice_index xs i ≡ slice_index xs j → i ≡ j
+
+differ-range : (n : ℕ) → Differ (range_with_len 0 n)
+differ-range n i j a b e =
+    let many = length-range_with_len 0 n in
+    sym (get_or-range_with_len 0 n i 0 (omega (arith, a, many)) ∙ nothing i) ∙ (e ∙ (get_or-range_with_len 0 n j 0 (omega (arith, b, many)) ∙ nothing j))
+
+-- where a number stood before two of them came in the place of one another
+record Origin (l : List ℕ) (i j m : ℕ) : Type 0 where
+  at : ℕ
+  inside : at < length l
+  is : slice_index (swap l i j) m ≡ slice_index l at
+  first : at ≡ i → m ≡ j
+  second : at ≡ j → m ≡ i
+  other : at ≢ i → at ≢ j → m ≡ at
+
+origin : (l : List ℕ) (i j m : ℕ) → i < length l → j < length l → m < length l → Origin l i j m
+origin l i j m p q less =
+    let s = swapped_from_swap l (swap l i j) i j 0 p q refl in
+    elim (cases_eq m i) [
+      | inl e ↦ record { at = j; inside = q; is = ap (slice_index (swap l i j)) e ∙ s.0; first = λ f. e ∙ sym f; second = λ f. e; other = λ n n'. absurd (n' refl) }
+      | inr ne ↦ elim (cases_eq m j) [
+        | inl e ↦ record { at = i; inside = p; is = ap (slice_index (swap l i j)) e ∙ s.1; first = λ f. e; second = λ f. e ∙ sym f; other = λ n n'. absurd (n refl) }
+        | inr ne' ↦ record { at = m; inside = less; is = s.2 m ne ne'; first = λ f. absurd (ne f); second = λ f. absurd (ne' f); other = λ n n'. refl }
+      ]
+    ]
+
+differ-swap : (l : List ℕ) (i j : ℕ) → i < length l → j < length l → Differ l → Differ (swap l i j)
+differ-swap l i j p q h m n a b e =
+    let o = origin l i j m p q (omega (arith, a, length-swap l i j)) in
+    let u = origin l i j n p q (omega (arith, b, length-swap l i j)) in
+    let same : o.at ≡ u.at = h o.at u.at o.inside u.inside (sym o.is ∙ (e ∙ u.is)) in
+    elim (cases_eq o.at i) [
+      | inl f ↦ o.first f ∙ sym (u.first (sym same ∙ f))
+      | inr ne ↦ elim (cases_eq o.at j) [
+        | inl f ↦ o.second f ∙ sym (u.second (sym same ∙ f))
+        | inr ne' ↦ o.other ne ne' ∙ (same ∙ sym (u.other (λ f. ne (same ∙ f)) (λ f. ne' (same ∙ f))))
+      ]
+    ]
+
+pub differ-order : (n : ℕ) (order : List ℕ) → IsPermutation (range_with_len 0 n) order → Differ order
+differ-order n order h = IsPermutation-keeps (range_with_len 0 n) Differ (differ-range n) differ-swap order h
+
+range-below : (a n : ℕ) → All (λ x. x < a + n) (range_with_len a n)
+range-below a zero = All-nil (λ x. x < a + zero)
+range-below a (suc n) = All-cons (λ x. x < a + suc n) a (range_with_len (a + 1) n) (omega arith) (subst (λ m. All (λ x. x < m) (range_with_len (a + 1) n)) (omega arith) (range-below (a + 1) n))
+
+pub order-below : (n : ℕ) (order : List ℕ) (k : ℕ) → IsPermutation (range_with_len 0 n) order → k < length order → slice_index order k < n
+order-below n order k h less =
+    let below = All-permutation (λ x. x < 0 + n) (range_with_len 0 n) order h (range-below 0 n) in
+    omega (arith, All-get_or (λ x. x < 0 + n) order k 0 less below)

@@ -1,5 +1,5 @@
 -- There is one list that stands by an order in which those that tie stand as they stood.
-use Rattle.std.proofs.Common.{◌≡◌, ℕ, suc, ◌+◌, ◌<◌, ◌≤◌, Bool, true, false, not, ◌&&◌, cond, List, [], ◌∷◌, length, get_or, drop, refl, sym, ap, ◌∙◌, arith}
+use Rattle.std.proofs.Common.{true≢false, ◌≡◌, ℕ, suc, ◌+◌, ◌<◌, ◌≤◌, Bool, true, false, not, ◌&&◌, cond, List, [], ◌∷◌, length, get_or, drop, refl, sym, ap, ◌∙◌, arith}
 use Rattle.std.specs.Cmp.{IsStrictWeakOrder}
 use Rattle.std.specs.List.{filter}
 use Rattle.std.specs.List.Sorted.{IsSortedBy, IsStableBy, ties}
@@ -14,6 +14,15 @@ put lt x (y ∷ ys) = cond (lt y x) (y ∷ put lt x ys) (x ∷ y ∷ ys)
 abbrev pub ordered : {X : Type 0} → (X → X → Bool) → List X → List X
 ordered lt [] = []
 ordered lt (x ∷ xs) = put lt x (ordered lt xs)
+
+-- a test that passes, or fails
+either : {P : Type 0} (b : Bool) → (b ≡ true → P) → (b ≡ false → P) → P
+either true f g = f refl
+either false f g = g refl
+
+of_either : {A : Type 0} (P : A → Type 0) (b : Bool) (x y : A) → (b ≡ true → P x) → (b ≡ false → P y) → P (cond b x y)
+of_either P true x y f g = f refl
+of_either P false x y f g = g refl
 
 neither : (p q : Bool) → (not p && not q) ≡ true → (p ≡ false) × (q ≡ false)
 neither true q e = absurd cc
@@ -53,11 +62,7 @@ module _ {X : Type 0} (lt : X → X → Bool) (weak : IsStrictWeakOrder lt) wher
   rises (x ∷ xs) h = (none-below x xs (λ k less. h 0 (suc k) x (omega arith) (omega (arith, less))), rises xs (λ i j d le less. h (suc i) (suc j) d (omega (arith, le)) (omega (arith, less))))
 
   itself : (x : X) → lt x x ≡ false
-  itself x = by (lt x x) refl
-    where
-      by : (b : Bool) → lt x x ≡ b → lt x x ≡ false
-      by true e = weak.one_way x x e
-      by false e = e
+  itself x = either (lt x x) (λ e. weak.one_way x x e) (λ e. e)
 
   tie : (x y : X) → lt x y ≡ false → lt y x ≡ false → ties lt x y ≡ true
   tie x y a b = rw (a, b) refl
@@ -67,11 +72,8 @@ module _ {X : Type 0} (lt : X → X → Bool) (weak : IsStrictWeakOrder lt) wher
   -- an item that ties with one of the items is not below what none of them is below
   below-none : (x z q : X) (zs rest : List X) → NoneBelow z zs → filter (ties lt x) zs ≡ q ∷ rest → lt x z ≡ false
   below-none x z q [] rest none e = absurd cc
-  below-none x z q (u ∷ us) rest none e = by (ties lt x u) refl
-    where
-      by : (b : Bool) → ties lt x u ≡ b → lt x z ≡ false
-      by true t = weak.chain x u z (neither (lt x u) (lt u x) t).0 none.0
-      by false t = below-none x z q us rest none.1 (rw t at e)
+  below-none x z q (u ∷ us) rest none e =
+      either (ties lt x u) (λ t. weak.chain x u z (neither (lt x u) (lt u x) t).0 none.0) (λ t. below-none x z q us rest none.1 (rw t at e))
 
   -- of two lists that stand by the order and have the same ties, the first items are one
   module _ (y z : X) (ys zs : List X) (up : Rises (y ∷ ys)) (up' : Rises (z ∷ zs)) (same : (x : X) → filter (ties lt x) (y ∷ ys) ≡ filter (ties lt x) (z ∷ zs)) where
@@ -91,8 +93,8 @@ module _ {X : Type 0} (lt : X → X → Bool) (weak : IsStrictWeakOrder lt) wher
 
   unique : (ys zs : List X) → Rises ys → Rises zs → ((x : X) → filter (ties lt x) ys ≡ filter (ties lt x) zs) → ys ≡ zs
   unique [] [] up up' same = refl
-  unique [] (z ∷ zs) up up' same = let own = tie z z (itself z) (itself z) in let no : [] ≡ z ∷ filter (ties lt z) zs = rw own at same z in absurd cc
-  unique (y ∷ ys) [] up up' same = let own = tie y y (itself y) (itself y) in let no : y ∷ filter (ties lt y) ys ≡ [] = rw own at same y in absurd cc
+  unique [] (z ∷ zs) up up' same = let own = tie z z (itself z) (itself z) in let no : [] ≡ z ∷ filter (ties lt z) zs = rw own at (same z) in absurd cc
+  unique (y ∷ ys) [] up up' same = let own = tie y y (itself y) (itself y) in let no : y ∷ filter (ties lt y) ys ≡ [] = rw own at (same y) in absurd cc
   unique (y ∷ ys) (z ∷ zs) up up' same =
       let e : y ≡ z = first-same y z ys zs up up' same in
       let rest : ys ≡ zs = unique ys zs up.1 up'.1 (λ x. rest-same (ties lt x y) y _ _ (same x ∙ ap (λ w. cond (ties lt x w) (w ∷ filter (ties lt x) zs) (filter (ties lt x) zs)) (sym e))) in
@@ -102,11 +104,7 @@ module _ {X : Type 0} (lt : X → X → Bool) (weak : IsStrictWeakOrder lt) wher
 
   none-put : (w x : X) (ys : List X) → lt x w ≡ false → NoneBelow w ys → NoneBelow w (put lt x ys)
   none-put w x [] e none = (e, tt)
-  none-put w x (y ∷ ys) e none = by (lt y x)
-    where
-      by : (b : Bool) → NoneBelow w (cond b (y ∷ put lt x ys) (x ∷ y ∷ ys))
-      by true = (none.0, none-put w x ys e none.1)
-      by false = (e, none)
+  none-put w x (y ∷ ys) e none = of_either (NoneBelow w) (lt y x) (y ∷ put lt x ys) (x ∷ y ∷ ys) (λ t. (none.0, none-put w x ys e none.1)) (λ t. (e, none))
 
   none-further : (x y : X) (ys : List X) → lt y x ≡ false → NoneBelow y ys → NoneBelow x ys
   none-further x y [] e none = tt
@@ -114,22 +112,18 @@ module _ {X : Type 0} (lt : X → X → Bool) (weak : IsStrictWeakOrder lt) wher
 
   put-rises : (x : X) (ys : List X) → Rises ys → Rises (put lt x ys)
   put-rises x [] up = (tt, tt)
-  put-rises x (y ∷ ys) up = by (lt y x) refl
-    where
-      by : (b : Bool) → lt y x ≡ b → Rises (cond b (y ∷ put lt x ys) (x ∷ y ∷ ys))
-      by true e = (none-put y x ys (weak.one_way y x e) up.0, put-rises x ys up.1)
-      by false e = ((e, none-further x y ys e up.0), up)
+  put-rises x (y ∷ ys) up =
+      of_either Rises (lt y x) (y ∷ put lt x ys) (x ∷ y ∷ ys) (λ e. (none-put y x ys (weak.one_way y x e) up.0, put-rises x ys up.1)) (λ e. ((e, none-further x y ys e up.0), up))
+
+  -- two items of which one is below the other do not both tie with a third one
+  not-both : (z x y : X) → lt y x ≡ true → ties lt z x ≡ true → ties lt z y ≡ true → ⊥
+  not-both z x y e a b = let no : lt y x ≡ false = weak.chain y z x (neither (lt z y) (lt y z) b).1 (neither (lt z x) (lt x z) a).0 in true≢false (sym e ∙ no)
 
   put-stable : (z x : X) (ys : List X) → filter (ties lt z) (put lt x ys) ≡ filter (ties lt z) (x ∷ ys)
   put-stable z x [] = refl
-  put-stable z x (y ∷ ys) = by (lt y x) refl
-    where
-      apart : lt y x ≡ true → ties lt z x ≡ true → ties lt z y ≡ true → ⊥
-      apart e a b = let no : lt y x ≡ false = weak.chain y z x (neither (lt z y) (lt y z) b).1 (neither (lt z x) (lt x z) a).0 in true≢false (sym e ∙ no)
-
-      by : (b : Bool) → lt y x ≡ b → filter (ties lt z) (cond b (y ∷ put lt x ys) (x ∷ y ∷ ys)) ≡ filter (ties lt z) (x ∷ y ∷ ys)
-      by true e = other-way (ties lt z x) (ties lt z y) x y (filter (ties lt z) ys) (filter (ties lt z) (put lt x ys)) (apart e) (put-stable z x ys)
-      by false e = refl
+  put-stable z x (y ∷ ys) =
+      of_either (λ l. filter (ties lt z) l ≡ filter (ties lt z) (x ∷ y ∷ ys)) (lt y x) (y ∷ put lt x ys) (x ∷ y ∷ ys)
+      (λ e. other-way (ties lt z x) (ties lt z y) x y (filter (ties lt z) ys) (filter (ties lt z) (put lt x ys)) (not-both z x y e) (put-stable z x ys)) (λ e. refl)
 
   ordered-rises : (xs : List X) → Rises (ordered lt xs)
   ordered-rises [] = tt

@@ -1,12 +1,19 @@
 -- Rows in order by the numbers that they have.
-use Rattle.std.proofs.Common.{true≢false, subst, ◌≡◌, ℕ, ℤ, suc, Bool, true, false, ◌&&◌, ◌||◌, cond, List, [], ◌∷◌, length, map, refl, sym, ap, ◌∙◌, arith}
+use Rattle.std.proofs.lemmas.Bool.{leb-true, leb-false}
+use Rattle.std.proofs.Common.{All, ◌-◌, min, leb, true≢false, subst, ◌≡◌, ◌≢◌, ◌+◌, ◌<◌, ◌≤◌, ◌⊎◌, inl, inr, get_or, drop, ℕ, ℤ, suc, Bool, true, false, ◌&&◌, ◌||◌, cond, List, [], ◌∷◌, length, map, refl, sym, ap, ◌∙◌, arith}
 use Rattle.std.specs.Prelude.{int_lt}
 use Rattle.std.specs.Ordering.{int_eq}
 use Rattle.std.specs.Cmp.{IsStrictWeakOrder}
+use Rattle.std.specs.List.{range_with_len}
+use Rattle.std.specs.List.Sorted.{IsSortedBy, IsStableBy}
+use Rattle.std.proofs.lemmas.List.Elements.{All-get_or}
+use Rattle.std.proofs.lemmas.List.FromFn.{fill_by_all}
+use Rattle.std.proofs.lemmas.List.{drop_all, drop_more}
 use Rattle.std.proofs.lemmas.Bool.Decides.{Decides-int_eq}
 use Rattle.std.proofs.lemmas.Int.{ints}
 use Rattle.bench_rules.specs.Sorted.{is_in_front, are_in_front, put_in_order, in_order}
-use Rattle.many_traces.proofs.InOrderLemmas.{put, ordered}
+use Rattle.many_traces.specs.Arranged.{row_near}
+use Rattle.many_traces.proofs.InOrderLemmas.{put, ordered, sorted-ordered}
 
 -- rows that are those of a list's items stand in order as these do
 module _ (falls : List Bool) {X : Type 0} (row : X → ℕ × List ℤ) where
@@ -50,6 +57,17 @@ line true = record { one_way = λ x y e. less-one_way y x e; total = λ x y e f.
 
 equal : (x y : ℤ) → int_eq x y ≡ true → x ≡ y
 equal x y = (Decides-int_eq x y).0
+
+unequal : (x y : ℤ) → x ≢ y → int_eq x y ≡ false
+unequal x y ne = by (int_eq x y) refl
+  where
+    by : (b : Bool) → int_eq x y ≡ b → int_eq x y ≡ false
+    by true e = absurd (ne (equal x y e))
+    by false e = e
+
+or-nothing : (b : Bool) → (b || false) ≡ b
+or-nothing true = refl
+or-nothing false = refl
 
 -- numbers of which one is in front are not equal
 module _ (g : ℤ → ℤ → Bool) (l : IsLine g) where
@@ -140,3 +158,81 @@ rows-weak falls row width wide = record {
   one_way = λ x y e. one-way falls (row x).1 (row y).1 e;
   chain = λ x y z e f. onward falls (row x).1 (row y).1 (row z).1 (wide x ∙ sym (wide y)) (wide y ∙ sym (wide z)) e f;
 }
+
+-- ---- numbers compared one after another
+
+front-no-numbers : (fs : List Bool) (ys : List ℤ) → are_in_front fs [] ys ≡ false
+front-no-numbers [] ys = refl
+front-no-numbers (f ∷ fs) ys = refl
+
+front-no-others : (fs : List Bool) (xs : List ℤ) → are_in_front fs xs [] ≡ false
+front-no-others [] xs = refl
+front-no-others (f ∷ fs) [] = refl
+front-no-others (f ∷ fs) (x ∷ xs) = refl
+
+-- what is left from number k on
+abbrev pub front_from : ℕ → List Bool → List ℤ → List ℤ → Bool
+front_from k fs xs ys = are_in_front (drop k fs) (drop k xs) (drop k ys)
+
+-- nothing is left where one of the lists ends
+pub front-ends : (k : ℕ) (fs : List Bool) (xs ys : List ℤ) → (length fs ≤ k) ⊎ ((length xs ≤ k) ⊎ (length ys ≤ k)) → front_from k fs xs ys ≡ false
+front-ends k fs xs ys (inl h) = ap (λ l. are_in_front l (drop k xs) (drop k ys)) (drop_all k fs h)
+front-ends k fs xs ys (inr (inl h)) = ap (λ l. are_in_front (drop k fs) l (drop k ys)) (drop_all k xs h) ∙ front-no-numbers (drop k fs) (drop k ys)
+front-ends k fs xs ys (inr (inr h)) = ap (λ l. are_in_front (drop k fs) (drop k xs) l) (drop_all k ys h) ∙ front-no-others (drop k fs) (drop k xs)
+
+-- one number more
+module _ (k : ℕ) (fs : List Bool) (xs ys : List ℤ) (b : Bool) (d e : ℤ) (a_in : k < length fs) (b_in : k < length xs) (c_in : k < length ys) where
+  front-step : front_from k fs xs ys ≡ (is_in_front (get_or fs k b) (get_or xs k d) (get_or ys k e) || (int_eq (get_or xs k d) (get_or ys k e) && front_from (k + 1) fs xs ys))
+  front-step =
+      ap (λ l. are_in_front l (drop k xs) (drop k ys)) (drop_more fs k b a_in)
+      ∙ ap (λ l. are_in_front (get_or fs k b ∷ drop (k + 1) fs) l (drop k ys)) (drop_more xs k d b_in)
+      ∙ ap (λ l. are_in_front (get_or fs k b ∷ drop (k + 1) fs) (get_or xs k d ∷ drop (k + 1) xs) l) (drop_more ys k e c_in)
+
+  -- equal numbers leave it to those behind them, and others tell
+  pub front-equal : get_or xs k d ≡ get_or ys k e → front_from k fs xs ys ≡ front_from (k + 1) fs xs ys
+  front-equal one =
+      front-step
+      ∙ ap (λ z. is_in_front (get_or fs k b) (get_or xs k d) z || (int_eq (get_or xs k d) z && front_from (k + 1) fs xs ys)) (sym one)
+      ∙ level (is_in_front (get_or fs k b)) (line (get_or fs k b)) (get_or xs k d) (front_from (k + 1) fs xs ys)
+
+  pub front-told : get_or xs k d ≢ get_or ys k e → front_from k fs xs ys ≡ is_in_front (get_or fs k b) (get_or xs k d) (get_or ys k e)
+  front-told ne =
+      front-step
+      ∙ ap (λ r. is_in_front (get_or fs k b) (get_or xs k d) (get_or ys k e) || (r && front_from (k + 1) fs xs ys)) (unequal (get_or xs k d) (get_or ys k e) ne)
+      ∙ or-nothing (is_in_front (get_or fs k b) (get_or xs k d) (get_or ys k e))
+
+-- one of three lists ends where the shortest does
+pub one-ends : (a b c k : ℕ) → min (min a b) c ≤ k → (a ≤ k) ⊎ ((b ≤ k) ⊎ (c ≤ k))
+one-ends a b c k h = by (leb a k) (leb b k) refl refl
+  where
+    by : (p q : Bool) → leb a k ≡ p → leb b k ≡ q → (a ≤ k) ⊎ ((b ≤ k) ⊎ (c ≤ k))
+    by true q e f = inl (leb-true a k e)
+    by false true e f = inr (inl (leb-true b k f))
+    by false false e f = inr (inr (omega (arith, leb-false a k e, leb-false b k f, h)))
+
+-- ---- the rows of a table by their numbers
+
+-- a number that is no row stands for the last one, so that all have one length
+near-inside : (n x : ℕ) → 0 < n → min x (n - 1) < n
+near-inside n x some = omega (arith, some)
+
+wide-near : (rows : List (ℕ × List ℤ)) (width : ℕ) → All (λ row. length row.1 ≡ width) rows → (w : ℕ) × ((x : ℕ) → length (row_near rows x).1 ≡ w)
+wide-near [] width all = (0, λ x. refl)
+wide-near (row ∷ rows) width all =
+    (width, λ x. All-get_or (λ r. length r.1 ≡ width) (row ∷ rows) (min x (length (row ∷ rows) - 1)) (0, []) (near-inside (length (row ∷ rows)) x (omega arith)) all)
+
+rows-named : (rows : List (ℕ × List ℤ)) → rows ≡ map (row_near rows) (range_with_len 0 (length rows))
+rows-named rows =
+    fill_by_all (row_near rows) rows (length rows) (0, []) refl (λ k less.
+      let itself : k ≡ min k (length rows - 1) = omega (arith, less) in
+      ap (λ i. get_or rows i (0, [])) itself)
+
+-- what a stable sort of the numbers of rows leaves are the rows in order
+pub sorted-rows : (falls : List Bool) (rows : List (ℕ × List ℤ)) (width : ℕ) (before order : List ℕ) → All (λ row. length row.1 ≡ width) rows → before ≡ range_with_len 0 (length rows)
+    → (IsStrictWeakOrder (is_before falls (row_near rows)) → IsSortedBy (is_before falls (row_near rows)) order) → (IsStrictWeakOrder (is_before falls (row_near rows)) → IsStableBy (is_before falls (row_near rows)) before order)
+    → in_order falls rows ≡ map (row_near rows) order
+sorted-rows falls rows width before order all from up stable =
+    let wide = wide-near rows width all in
+    let weak = rows-weak falls (row_near rows) wide.0 wide.1 in
+    let is : order ≡ ordered (is_before falls (row_near rows)) before = sorted-ordered (is_before falls (row_near rows)) weak before order (up weak) (stable weak) in
+    ap (in_order falls) (rows-named rows) ∙ (rows-ordered falls (row_near rows) (range_with_len 0 (length rows)) ∙ ap (map (row_near rows)) (sym (is ∙ ap (ordered (is_before falls (row_near rows))) from)))

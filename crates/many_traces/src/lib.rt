@@ -9,7 +9,6 @@
 
 mod all_extremes;
 mod computed;
-mod exchanges;
 mod finds;
 mod formula;
 mod headers;
@@ -18,14 +17,15 @@ mod places;
 mod row;
 mod seen;
 mod sorting;
+mod standing;
 mod tables;
 
 pub use crate::all_extremes::extremes;
 pub use crate::computed::computed_bytes;
-pub use crate::exchanges::exchanges;
 pub use crate::finds::find;
 pub use crate::headers::header;
 pub use crate::names::named_places;
 pub use crate::places::{have_places, place_in_trace};
 pub use crate::sorting::rows_in_order;
+pub use crate::standing::exchanges;
 pub use crate::tables::table;

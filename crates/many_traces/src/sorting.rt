@@ -1,5 +1,5 @@
 // The rows of a table in order.
-ghost use Rattle.std.specs.Prelude.{◌≡◌, ◌≢◌, length, map, IfOk};
+ghost use Rattle.std.specs.Prelude.{◌≡◌, ◌≢◌, ℕ, length, map, All, IfOk};
 ghost use Rattle.std.specs.List.{range_with_len};
 ghost use Rattle.std.specs.List.Sorted.{IsPermutation};
 ghost use Rattle.std.specs.Ordering.{is_lt};
@@ -12,8 +12,9 @@ use std::cmp::Ordering;
 
 /// The rows of the table, each by its number, counted from 0, in the order of their numbers; rows
 /// with the same numbers stand as they stood. Of the numbers of a row those fall whose item of
-/// `falling` is true. Refused for want of memory alone.
+/// `falling` is true. All rows are of one length. Refused for want of memory alone.
 pub fn rows_in_order(alloc: Global, table: &Table, falling: &[bool]) -> Result<Vec<u32>, AllocError>
+    requires { (width : ℕ) × All (λ row. length row.1 ≡ width) table.now }
     ensures order { IfOk result (λ rows. in_order falling.now table.now
         ≡ map (row_near table.now) rows.items) }
     ensures permutation { IfOk result (λ rows. IsPermutation
@@ -60,12 +61,10 @@ fn numbers_near(table: &Table, row: u32) -> &[i128]
 fn compare(falling: &[bool], numbers: &[i128], others: &[i128]) -> Ordering
     ensures { is_lt result ≡ are_in_front falling.now numbers.now others.now }
 {
-    for (k, falls) in falling.iter().enumerate() {
-        let (Some(number), Some(other)) = (numbers.get(k), others.get(k)) else {
-            return Ordering::Equal;
-        };
-        if number != other {
-            return towards(*falls, *number, *other);
+    let count = falling.len().min(numbers.len()).min(others.len());
+    for k in 0..count {
+        if numbers[k] != others[k] {
+            return towards(falling[k], numbers[k], others[k]);
         }
     }
     Ordering::Equal

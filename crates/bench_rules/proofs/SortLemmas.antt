@@ -52,7 +52,7 @@ paired p (Some xs) (Some rs) ps rows h e =
     ap (map (λ row. row.0)) is ∙ ap (λ qs. p ∷ qs) (h rs refl)
 
 -- the rows of positions stand as these do
-rows-stand : (g : ℕ → Option (List ℤ)) (ps : List ℕ) (rows : List Row) → each_of (λ p. option_map (λ xs. (p, xs)) (g p)) ps ≡ Some rows → map (λ row. row.0) rows ≡ ps
+pub rows-stand : (g : ℕ → Option (List ℤ)) (ps : List ℕ) (rows : List Row) → each_of (λ p. option_map (λ xs. (p, xs)) (g p)) ps ≡ Some rows → map (λ row. row.0) rows ≡ ps
 rows-stand g [] rows e = ap (λ (r : Option (List Row)). map (λ row. row.0) (unwrap_or r [])) (sym e)
 rows-stand g (p ∷ ps) rows e = paired p (g p) (each_of (λ q. option_map (λ xs. (q, xs)) (g q)) ps) ps rows (λ rs h. rows-stand g ps rs h) e
 

@@ -7,4 +7,5 @@ pub mod FormulaLemmas
 pub mod NumbersLemmas
 mod InOrderLemmas
 mod RowOrderLemmas
-mod ExchangeLemmas
+pub mod ExchangeLemmas
+pub mod SortedTraceLemmas

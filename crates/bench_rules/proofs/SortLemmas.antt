@@ -84,6 +84,16 @@ read-positions xs d k (suc n) h =
     ∙ ap (λ l. get_or xs k d ∷ l) (read-positions xs d (k + 1) n (omega (arith, h)) ∙ ap (λ i. take n (drop i xs)) (omega arith))
     ∙ ap (take (suc n)) (sym (drop_more xs k d (omega (arith, h))))
 
+-- a file that is cut stays cut with its traces in another order
+pub cut_permuted : (reading : Reading) (l : Limits) (v : Volume) (ts : List (List ℕ)) → IsCut (bytes_of v) reading l v → IsPermutation v.traces ts → IsCut (bytes_of (record v { traces = ts })) reading l (record v { traces = ts })
+cut_permuted reading l v ts cut same =
+    let w : Volume = record v { traces = ts } in
+    let all : All (IsTrace v.head) ts = All-permutation (IsTrace v.head) v.traces ts same cut.parts.traces in
+    let count : length ts ≡ length v.traces = length_permutation v.traces ts same in
+    let long : length (concat ts) ≡ length (concat v.traces) = length-concat ts ∙ (sum_by-IsPermutation (λ (t : List ℕ). length t) v.traces ts same ∙ sym (length-concat v.traces)) in
+    let small : length (bytes_of v) ≤ l.bytes = (has_head (bytes_of v) reading l v.head cut.parts.head).small in
+    recut reading l v v.text ts cut cut.parts.text all (omega (arith, count, cut.parts.few)) (omega (arith, length-bytes v, length-bytes w, long, small))
+
 module _ (v : Volume) (a b : ℕ) (order : List ℕ) (low : 1 ≤ a) (high : a ≤ b) (last : b ≤ count_of v) (same : IsPermutation (positions a b) order) where
   abbrev front : List (List ℕ)
   front = take (a - 1) v.traces
@@ -170,11 +180,4 @@ module _ (v : Volume) (a b : ℕ) (order : List ℕ) (low : 1 ≤ a) (high : a �
       (IsPermutation-append (front ++ middle) (front ++ new) behind behind (IsPermutation-append_right front middle new middle-permutes) (IsPermutation-refl behind))
 
   pub cut_sorted : (reading : Reading) (l : Limits) → IsCut (bytes_of v) reading l v → IsCut (with_traces_as v a b order) reading l (with_order v a b order)
-  cut_sorted reading l cut =
-      let w : Volume = with_order v a b order in
-      let all : All (IsTrace v.head) w.traces = All-permutation (IsTrace v.head) v.traces w.traces traces-permute cut.parts.traces in
-      let count : length w.traces ≡ length v.traces = length_permutation v.traces w.traces traces-permute in
-      let long : length (concat w.traces) ≡ length (concat v.traces) = length-concat w.traces ∙ (sum_by-IsPermutation (λ (t : List ℕ). length t) v.traces w.traces traces-permute ∙ sym (length-concat v.traces)) in
-      let small : length (bytes_of v) ≤ l.bytes = (has_head (bytes_of v) reading l v.head cut.parts.head).small in
-      subst (λ (file : List ℕ). IsCut file reading l w) bytes-sorted
-      (recut reading l v v.text w.traces cut cut.parts.text all (omega (arith, count, cut.parts.few)) (omega (arith, length-bytes v, length-bytes w, long, small)))
+  cut_sorted reading l cut = subst (λ (file : List ℕ). IsCut file reading l (with_order v a b order)) bytes-sorted (cut_permuted reading l v (with_order v a b order).traces cut traces-permute)

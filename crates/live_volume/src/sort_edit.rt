@@ -42,7 +42,7 @@ impl LiveVolume {
             Ok(pairs) => pairs,
             Err(refusal) => return Err(refusal),
         };
-        self.exchange_each(pairs);
+        self.exchange_pairs(pairs);
         Ok(())
     }
 
@@ -80,10 +80,11 @@ impl LiveVolume {
     }
 
     // The traces of each pair in the place of one another, one pair after the other.
-    fn exchange_each(&mut self, pairs: Vec<(u32, u32)>)
+    fn exchange_pairs(&mut self, pairs: Vec<(u32, u32)>)
         requires { ArePlaces (count_of self.old.state.volume) pairs.items }
         ensures state { self.new.state ≡ record self.old.state {
-            volume = with_places_swapped self.old.state.volume pairs.items } }
+          volume = with_places_swapped self.old.state.volume pairs.items;
+        } }
         ensures looks { self.new.looks ≡ self.old.looks }
     {
         self.overlay.swap_each(pairs);

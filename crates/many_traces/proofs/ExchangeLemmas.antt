@@ -97,8 +97,8 @@ starts-in-step first n items places low last e f =
       by_pairs = record {
         places = λ m h. tt;
         arranged = λ front behind at.
-        let here : first + 0 ≡ first = omega arith in
-        ap (λ l. front ++ (l ++ behind)) (ap (λ j. range_with_len first j) many ∙ (ap (λ j. range_with_len j n) (sym here) ∙ (sym (own-map first n 0) ∙ ap (λ l. map (λ k. first + k) l) (sym e))));
+            let here : first + 0 ≡ first = omega arith in
+            ap (λ l. front ++ (l ++ behind)) (ap (λ j. range_with_len first j) many ∙ (ap (λ j. range_with_len j n) (sym here) ∙ (sym (own-map first n 0) ∙ ap (λ l. map (λ k. first + k) l) (sym e))));
       };
     }
 
@@ -171,11 +171,11 @@ module _ (first place item : ℕ) (items places : List ℕ) (pairs : List (ℕ �
       | inr ne ↦ elim (cases_eq w (slice_index items place)) [
         | inl e ↦ let at : slice_index new-places w ≡ slice_index places item = ap (slice_index new-places) e ∙ of-other in (omega (arith, at, from-inside), ap (slice_index new-items) at ∙ at-from ∙ sym e)
         | inr ne' ↦
-          let at : slice_index new-places w ≡ slice_index places w = of-rest w ne ne' in
-          let was = s.there w less in
-          let off : slice_index places w ≢ place = λ e. ne' (sym was.1 ∙ ap (slice_index items) e) in
-          let off' : slice_index places w ≢ slice_index places item = λ e. ne (sym was.1 ∙ (ap (slice_index items) e ∙ (s.there item item_in).1)) in
-          (omega (arith, at, was.0), ap (slice_index new-items) at ∙ (elsewhere (slice_index places w) off off' ∙ was.1))
+            let at : slice_index new-places w ≡ slice_index places w = of-rest w ne ne' in
+            let was = s.there w less in
+            let off : slice_index places w ≢ place = λ e. ne' (sym was.1 ∙ ap (slice_index items) e) in
+            let off' : slice_index places w ≢ slice_index places item = λ e. ne (sym was.1 ∙ (ap (slice_index items) e ∙ (s.there item item_in).1)) in
+            (omega (arith, at, was.0), ap (slice_index new-items) at ∙ (elsewhere (slice_index places w) off off' ∙ was.1))
       ]
     ]
 
@@ -185,11 +185,11 @@ module _ (first place item : ℕ) (items places : List ℕ) (pairs : List (ℕ �
       | inr ne ↦ elim (cases_eq k (slice_index places item)) [
         | inl e ↦ let at : slice_index new-items k ≡ slice_index items place = ap (slice_index new-items) e ∙ at-from in (omega (arith, at, other-inside), ap (slice_index new-places) at ∙ of-other ∙ sym e)
         | inr ne' ↦
-          let at : slice_index new-items k ≡ slice_index items k = elsewhere k ne ne' in
-          let was = s.back k less in
-          let off : slice_index items k ≢ item = λ e. ne' (sym was.1 ∙ ap (slice_index places) e) in
-          let off' : slice_index items k ≢ slice_index items place = λ e. ne (sym was.1 ∙ (ap (slice_index places) e ∙ (s.back place place_in).1)) in
-          (omega (arith, at, was.0), ap (slice_index new-places) at ∙ (of-rest (slice_index items k) off off' ∙ was.1))
+            let at : slice_index new-items k ≡ slice_index items k = elsewhere k ne ne' in
+            let was = s.back k less in
+            let off : slice_index items k ≢ item = λ e. ne' (sym was.1 ∙ ap (slice_index places) e) in
+            let off' : slice_index items k ≢ slice_index items place = λ e. ne (sym was.1 ∙ (ap (slice_index places) e ∙ (s.back place place_in).1)) in
+            (omega (arith, at, was.0), ap (slice_index new-places) at ∙ (of-rest (slice_index items k) off off' ∙ was.1))
       ]
     ]
 

@@ -224,8 +224,8 @@ wide-near (row ∷ rows) width all =
 rows-named : (rows : List (ℕ × List ℤ)) → rows ≡ map (row_near rows) (range_with_len 0 (length rows))
 rows-named rows =
     fill_by_all (row_near rows) rows (length rows) (0, []) refl (λ k less.
-      let itself : k ≡ min k (length rows - 1) = omega (arith, less) in
-      ap (λ i. get_or rows i (0, [])) itself)
+    let itself : k ≡ min k (length rows - 1) = omega (arith, less) in
+    ap (λ i. get_or rows i (0, [])) itself)
 
 -- what a stable sort of the numbers of rows leaves are the rows in order
 pub sorted-rows : (falls : List Bool) (rows : List (ℕ × List ℤ)) (width : ℕ) (before order : List ℕ) → All (λ row. length row.1 ≡ width) rows → before ≡ range_with_len 0 (length rows)

@@ -92,18 +92,18 @@ module _ (v : Volume) (places : List Place) (a b : ℕ) (rows : List (ℕ × Lis
     puts = record {
       places = λ n h. r.by_pairs.places n (omega (arith, h, many, low, high));
       put = λ front behind at.
-      ap (λ n. with_swapped (front ++ (range_with_len a n ++ behind)) pairs) (sym many)
-      ∙ (r.by_pairs.arranged front behind at ∙ ap (λ l. front ++ (l ++ behind)) (sym in-positions));
+          ap (λ n. with_swapped (front ++ (range_with_len a n ++ behind)) pairs) (sym many)
+          ∙ (r.by_pairs.arranged front behind at ∙ ap (λ l. front ++ (l ++ behind)) (sym in-positions));
     }
 
     pub sorts : Sorts v (Some places) falls a b pairs
     sorts = record {
       none = rw table refl;
       puts = λ ps order e f.
-      let same : places ≡ ps = ap (λ o. unwrap_or o places) e in
-      let is : map (λ row. row.0) (in_order falls rows) ≡ order =
-      ap (λ o. unwrap_or (option_map (λ rs. map (λ row. row.0) (in_order falls rs)) o) []) (sym table) ∙ (ap (λ qs. unwrap_or (order_of v qs falls a b) []) same ∙ ap (λ o. unwrap_or o []) f) in
-      subst (λ l. Puts a b l pairs) is puts;
+          let same : places ≡ ps = ap (λ o. unwrap_or o places) e in
+          let is : map (λ row. row.0) (in_order falls rows) ≡ order =
+          ap (λ o. unwrap_or (option_map (λ rs. map (λ row. row.0) (in_order falls rs)) o) []) (sym table) ∙ (ap (λ qs. unwrap_or (order_of v qs falls a b) []) same ∙ ap (λ o. unwrap_or o []) f) in
+          subst (λ l. Puts a b l pairs) is puts;
     }
 
 -- ---- a table that was answered

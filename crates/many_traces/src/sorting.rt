@@ -42,7 +42,11 @@ fn compare_rows(table: &Table, falling: &[bool], row: u32, other: u32) -> Orderi
     ensures { is_lt result ≡ are_in_front falling.now (row_near table.now row).1
         (row_near table.now other).1 }
 {
-    compare(falling, numbers_near(table, row), numbers_near(table, other))
+    compare(
+        falling,
+        numbers_near(table, row),
+        numbers_near(table, other),
+    )
 }
 
 // The numbers of a row, or of the last row where there are fewer.

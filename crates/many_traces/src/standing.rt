@@ -11,11 +11,7 @@ use std::alloc::{AllocError, Global};
 /// each pair come in the place of one another, one pair after the other. Item k of the order is the
 /// trace that comes to stand at place k, both counted from 0 from the first trace on. At most one
 /// pair for each trace. Refused for want of memory alone.
-pub fn exchanges(
-    alloc: Global,
-    first: u32,
-    order: &[u32],
-) -> Result<Vec<(u32, u32)>, AllocError>
+pub fn exchanges(alloc: Global, first: u32, order: &[u32]) -> Result<Vec<(u32, u32)>, AllocError>
     requires first { 1 ≤ first }
     requires last { first + length order.now ≤ 2 ^ 32 }
     requires permutation { IsPermutation (range_with_len 0 (length order.now)) order.now }

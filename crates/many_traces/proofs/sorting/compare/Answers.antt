@@ -16,7 +16,7 @@ returns-then-numbers-k c =
     let told = rw (to_z-of_z w128 x fits, to_z-of_z w128 y fits') at c.towards.ensures in
     told
     ∙ sym (c.loop-k.invariant ∙ front-told c.loop-k.k c.args.falling.now c.args.numbers.now c.args.others.now false (pos 0) (pos 0) (omega (arith, c.loop-k-test.true, c.min.ensures, c.min-count.ensures)) (omega (arith, c.loop-k-test.true, c.min.ensures, c.min-count.ensures)) (omega (arith, c.loop-k-test.true, c.min.ensures, c.min-count.ensures))
-        (λ e. c.if-numbers-k.true (ap (of_z w128) e)))
+    (λ e. c.if-numbers-k.true (ap (of_z w128) e)))
 
 pub loop-k-preserved : goal.loop-k-preserved
 loop-k-preserved c =

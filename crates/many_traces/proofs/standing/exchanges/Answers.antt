@@ -37,9 +37,9 @@ loop-place-preserved c =
       before = λ k less. elim (cases_eq k place) [
         | inl e ↦ ap (slice_index c.bring.new.self.items.items) e ∙ (c.in_ok-bring.ensures.brought.there ∙ ap (slice_index order) (sym e))
         | inr ne ↦
-          let earlier : k < place = omega (arith, less, ne) in
-          let was : slice_index old k ≡ slice_index order k = c.loop-place.invariant.before k earlier in
-          c.in_ok-bring.ensures.brought.others k ne (λ e. ne (differ k place (omega (arith, earlier, c.loop-place-test.true)) c.loop-place-test.true (sym was ∙ e))) ∙ was
+            let earlier : k < place = omega (arith, less, ne) in
+            let was : slice_index old k ≡ slice_index order k = c.loop-place.invariant.before k earlier in
+            c.in_ok-bring.ensures.brought.others k ne (λ e. ne (differ k place (omega (arith, earlier, c.loop-place-test.true)) c.loop-place-test.true (sym was ∙ e))) ∙ was
       ];
     }
 
@@ -48,7 +48,7 @@ returns c =
     let order : List ℕ = c.args.order.now in
     let items : List ℕ = c.loop-place.standing.items.items in
     let same : items ≡ order = same_lists items order c.loop-place.invariant.long (λ k d less.
-      let there : k < length order = omega (arith, less, c.loop-place.invariant.long) in
-      get_or_default items k d 0 less ∙ (c.loop-place.invariant.before k (omega (arith, there, c.loop-place-test.false)) ∙ sym (get_or_default order k d 0 there))) in
+    let there : k < length order = omega (arith, less, c.loop-place.invariant.long) in
+    get_or_default items k d 0 less ∙ (c.loop-place.invariant.before k (omega (arith, there, c.loop-place-test.false)) ∙ sym (get_or_default order k d 0 there))) in
     let done : Arranges c.loop-place.standing.first order c.loop-place.standing.pairs.items = subst (λ (l : List ℕ). Arranges c.loop-place.standing.first l c.loop-place.standing.pairs.items) same c.loop-place.invariant.step.by_pairs in
     subst (λ (n : ℕ). Arranges n order c.loop-place.standing.pairs.items) c.loop-place.invariant.first done

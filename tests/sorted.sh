@@ -25,8 +25,8 @@ if cmp -s c.sgy r.sgy && ! cmp -s c.sgy s.sgy; then tell 'a sort makes the bytes
 { head -c 3600 s.sgy; zeros $((500 * 244)); } > long.sgy
 { echo 'renumber 1 500 sequence_file 1 1'; echo 'renumber 1 500 @37:4 1000 -2'; } > script
 "$program" long.sgy --script script --out whole.sgy > answers 2> errors
-{ for ((k = 1; k <= 500; k++)); do echo "set $k @5:4 $((k * 7919 % 503))"; done; echo 'sort 1 500 @5:4'; } > script
+{ for ((k = 1; k <= 500; k++)); do echo "set $k @17:4 $((k * 7919 % 503))"; done; echo 'sort 1 500 @17:4'; } > script
 "$program" whole.sgy --script script --out shuffled.sgy > answers 2> errors
-{ echo 'sort 1 500 -offset'; echo 'renumber 1 500 @5:4 0 0'; } > script
+{ echo 'sort 1 500 -offset'; echo 'renumber 1 500 @17:4 0 0'; } > script
 "$program" shuffled.sgy --script script --out again.sgy > answers 2> errors
 if cmp -s whole.sgy again.sgy && ! cmp -s whole.sgy shuffled.sgy; then tell 'a shuffled file is put in order' ok; else tell 'a shuffled file is put in order' "$(paste -sd/ answers)"; fi

@@ -81,7 +81,7 @@ queries=(grid inlines crosslines histogram 'slice 0' 'slice 1' faults fields sta
 for edit in 'set 2 @189:4 7' 'set 2 inline 11' 'set 2 crossline 5' 'set 2 offset 7' 'set 3 x -7' 'set 3 scalar -100' 'set 1 @1:4 258' 'set 1 @225:8 5' \
     'patch 1 0 32767 -32768' 'patch 2 1 9' 'blank 1' 'blank 4' 'copy 1 2' 'copy 3 4' 'delete 2' 'move 1 3' 'move 3 1' \
     'renumber 1 3 inline 70 1' 'renumber 1 3 @1:4 7 -2' 'renumber 2 3 scalar -1 -99' 'resize 1 4' \
-    'compute 1 3 inline crossline * 2 + 7' 'compute 2 3 @1:4 x / inline % 100' 'compute 1 3 crossline 5' \
+    'compute 1 3 inline crossline * 2 + 7' 'compute 2 3 @1:4 x / inline % 100' 'compute 1 3 crossline 5' 'sort 1 3 -crossline' 'sort 2 3 inline -@37:4' \
     'map inline @193:4' 'map x @73:4' 'map scalar @69:2' 'map mine @17:4' 'bin interval 2000' 'bin @3217:2 2000' 'text 1 NO C'; do
     grows "$edit" s.sgy "$edit" "$edit" "${queries[@]}"
 done
@@ -132,6 +132,8 @@ reads_as deep.sgy 'blank 1' 'find 1 2 @3.1:4 0 0' 'find 1 3 @3.1:4 0 0'
 reads_as s.sgy 'map mine @1:4' 'lines 1' 'lines 2'
 reads_as s.sgy 'map mine @1:4' 'compute 1 3 inline 7 / mine' 'compute 1 9 inline 7 / mine'
 reads_as deep.sgy 'blank 1' 'compute 1 2 inline @3.1:4 + 1' 'compute 1 3 inline @3.1:4 + 1'
+reads_as s.sgy 'map mine @1:4' 'sort 1 3 mine nine' 'sort 1 9 mine nine'
+reads_as deep.sgy 'blank 1' 'sort 1 2 @3.1:4' 'sort 1 3 @3.1:4'
 reads_as s.sgy 'map mine @1:4' 'header 4' 'header 5'
 reads_as s.sgy 'map mine @1:4' 'extremes 2 4' 'extremes 4 4'
 
@@ -156,7 +158,7 @@ random_lines() { # SEED NUMBER: into the array `all`
     all=()
     for ((n = 0; n < $2; n++)); do
         p=$((1 + RANDOM % 5)) q=$((1 + RANDOM % 5))
-        case $((RANDOM % 32)) in
+        case $((RANDOM % 33)) in
             0 | 1) all+=("set $p inline $((RANDOM % 30))") ;;
             2 | 3) all+=("set $p @$((1 + RANDOM % 237)):4 $RANDOM") ;;
             4) all+=("set $p x $RANDOM") ;;
@@ -185,6 +187,7 @@ random_lines() { # SEED NUMBER: into the array `all`
             29) all+=("header $p" "lines $((RANDOM % 2))") ;;
             30) all+=("compute $p $q inline crossline * $((RANDOM % 9)) - name_$((RANDOM % 4))") ;;
             31) all+=("compute $p $q @$((1 + RANDOM % 237)):4 $RANDOM % @$((1 + RANDOM % 237)):4") ;;
+            32) all+=("sort $p $q -inline name_$((RANDOM % 4))" "sort 1 2 @$((1 + RANDOM % 237)):4") ;;
         esac
     done
 }
@@ -201,7 +204,7 @@ for ((n = 0; n < 66; n++)); do all+=('move 1152 1' 'move 700 1'); done
 grows 'many moves' many.sgy "${all[@]}" 'fold 0 0' 'stat 1'
 
 # ---- each command that may want memory did
-for word in set renumber patch resize blank copy move map bin getbin get text unmap line stanzas fields grid inlines crosslines histogram slice faults table find header extremes lines compute; do
+for word in set renumber patch resize blank copy move map bin getbin get text unmap line stanzas fields grid inlines crosslines histogram slice faults table find header extremes lines compute sort; do
     if [ "${refused[$word]:-0}" -gt 0 ]; then tell "$word was refused for want of memory" ok; else tell "$word was refused for want of memory" never; fi
 done
 

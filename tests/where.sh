@@ -96,6 +96,12 @@ told 'an operator without an operand' 'compute 1 3 offset inline +' 'S02 words: 
 told 'two operators side by side' 'compute 1 3 offset inline + - 2 *' 'S03 number: compute 1 3 offset inline + - 2 * (behind each OP stands a NUMBER or a FIELD)'
 told 'nine operations' "compute 1 3 offset 1$(printf ' + 1%.0s' $(seq 9))" "S02 words: compute 1 3 offset 1$(printf ' + 1%.0s' $(seq 9)) (at most 8 operations: go on in a second line)"
 told 'a near name of a computation' 'compute 1 3 offset inlin + 1' 'E02 no field: compute 1 3 offset inlin + 1 (did you mean inline?)'
+told 'nine fields of a sort' 'sort 1 3 a b c d e f g h i' 'S02 words: sort 1 3 a b c d e f g h i (a sort is by at most 8 fields)'
+told 'a sort without a field' 'sort 1 3' 'S02 words: sort 1 3 (the form is sort P Q FIELD ..)'
+told 'a near name of a sort' 'sort 1 3 offset -inlin' 'E02 no field: sort 1 3 offset -inlin (did you mean inline?)'
+told 'a place of a sort' 'sort 1 3 -@189' 'S03 number: sort 1 3 -@189 (the form is sort P Q FIELD ..)'
+told 'a byte of a sort' 'sort 1 3 @241:4' 'E03 no place: sort 1 3 @241:4 (BYTE is that of the header, 1 to 240; SIZE is 1, 2, 3, 4 or 8)'
+told 'P behind Q of a sort' 'sort 2 1 offset' 'E01 no trace 1 of 3: sort 2 1 offset (P stands behind Q: the first of the traces comes first)'
 told 'P behind Q of a computation' 'compute 2 1 offset 1' 'E01 no trace 1 of 3: compute 2 1 offset 1 (P stands behind Q: the first of the traces comes first)'
 
 # ---- the forms are those of the manual

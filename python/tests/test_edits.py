@@ -35,6 +35,8 @@ EDITS = [
     (lambda v: v.copy(3, 1), "copy 3 1"),
     (lambda v: v.delete(1), "delete 1"),
     (lambda v: v.move(3, 1), "move 3 1"),
+    (lambda v: v.sort(1, 12, "crossline", "-inline"), "sort 1 12 crossline -inline"),
+    (lambda v: v.sort(2, 5, -TraceField.INLINE_3D, TraceField.offset, -115), "sort 2 5 -@189:4 @37:4 -@115:2u"),
 ]
 
 
@@ -55,6 +57,16 @@ def test_resize(opened, tmp_path):
     volume.resize(1, 4)
     assert volume.edits == ["resize 1 4"]
     assert list(volume.samples(1)) == [2**64 - 1, 0, 0, 0]
+
+
+def test_sort(opened):
+    volume = opened("cube")
+    volume.sort(1, len(volume), "-inline", TraceField.CROSSLINE_3D)
+    got = volume.headers("inline", "crossline", traces=slice(1, 3))
+    assert list(got["inline"]) == [103, 103] and list(got["crossline"]) == [201, 202]
+    with pytest.raises(TypeError):
+        volume.sort(1, 4)
+    assert volume.edits == ["sort 1 12 -inline @193:4"]
 
 
 def test_compute(opened):

@@ -15,7 +15,7 @@ from segywb.fields import TRACE_NAMES
 EXAMPLES = sorted(path.stem for path in (TOP / "examples").glob("*.sgy") if path.stem != "float_line")
 MADE = [files.varying, files.stanzas, files.extended, files.empty]
 METHODS = {
-    "set": "set", "renumber": "renumber", "compute": "compute", "get": "get", "map": "map", "unmap": "unmap", "fields": "fields", "bin": "set_bin",
+    "set": "set", "renumber": "renumber", "compute": "compute", "sort": "sort", "get": "get", "map": "map", "unmap": "unmap", "fields": "fields", "bin": "set_bin",
     "getbin": "getbin", "text": "set_text", "line": "line", "code": "code", "stanzas": "stanzas", "sample": "sample",
     "patch": "patch", "resize": "resize", "blank": "blank", "copy": "copy", "delete": "delete", "move": "move", "count": "count",
     "info": "info", "geometry": "geometry", "stat": "stat", "totals": "totals", "range": "range", "fold": "fold", "grid": "grid",

@@ -17,6 +17,7 @@ EDITS = st.one_of(
     st.tuples(st.just("set"), POSITIONS, FIELDS, NUMBERS),
     st.tuples(st.just("renumber"), POSITIONS, POSITIONS, FIELDS, NUMBERS, st.integers(-3, 3)),
     st.tuples(st.just("compute"), POSITIONS, POSITIONS, FIELDS, FIELDS, st.sampled_from("+-*/%"), st.one_of(FIELDS, NUMBERS)),
+    st.tuples(st.just("sort"), POSITIONS, POSITIONS, FIELDS, st.one_of(FIELDS, FIELDS.map("-{}".format))),
     st.tuples(st.just("set_many"), FIELDS, st.lists(st.tuples(st.integers(1, 7), st.integers(-9, 2**15)), max_size=5)),
     st.tuples(st.just("patch"), POSITIONS, st.integers(0, 4), st.lists(st.integers(-9, 9), min_size=1, max_size=3)),
     st.tuples(st.just("blank"), POSITIONS),

@@ -64,6 +64,8 @@ def lines_of(chance, count):
             count += 1
         elif chance.random() < 0.4:
             made.append(f"move {one} {chance.randint(1, count)}")
+        elif chance.random() < 0.2:
+            made.append(f"sort {one} {chance.randint(one, count)} {chance.choice(['inline', '-crossline', '-@189:4', 'x'])}")
         elif chance.random() < 0.5:
             made.append(f"delete {one}")
             count -= 1

@@ -13,7 +13,7 @@ use Rattle.frame_cut.specs.Volume.{Volume, bytes_of}
 use Rattle.time_slice.specs.Cache.{Cache, kept_numbers, kept_of, is_from, IsRight}
 use Rattle.time_slice.proofs.CacheLemmas.{numbers_after_forgotten}
 use Rattle.bench_rules.specs.declared.edit.Edit.{Edit}
-use Rattle.bench_rules.specs.declared.edit.Edit.TheVariants.{Set, SetBin, SetText, Map, Unmap, Patch, Blank, Copy, Delete, Move, Resize, Renumber, Compute}
+use Rattle.bench_rules.specs.declared.edit.Edit.TheVariants.{Set, SetBin, SetText, Map, Unmap, Patch, Blank, Copy, Delete, Move, Resize, Renumber, Compute, Sort}
 use Rattle.bench_rules.specs.declared.refusal.Refusal.{Refusal}
 use Rattle.bench_rules.specs.declared.query.Query.{Query}
 use Rattle.bench_rules.specs.declared.query.Query.TheVariants.{Count, Info, Get, GetBin, Line, Code, Stanzas, Fields, Sample, Geometry, Stat, Fold, Grid, Inlines, Crosslines, Histogram, Range, Totals, Slice, Faults, Lines, Table, Find, Header, Extremes}
@@ -118,6 +118,7 @@ numbers_follow old new (Renumber a b f first step) cache cut none after =
     numbers_unless (any_moves old new a b) cache ∙ numbers_of_many old new a b f first step (kept_numbers cache) cut none after
 numbers_follow old new (Compute a b f source steps) cache cut none after =
     numbers_unless (any_moves old new a b) cache ∙ numbers_of_computed old new a b f source steps (kept_numbers cache) cut none after
+numbers_follow old new (Sort a b fs falls) cache cut none after = refl
 
 -- ---- the rows
 
@@ -162,6 +163,7 @@ right_part s edit moved cache all = by edit
     by (Resize p m) = All-nil R
     by (Renumber a b f first step) = if_not moved
     by (Compute a b f source steps) = if_not moved
+    by (Sort a b fs falls) = All-nil R
 
 -- each slice that stays is that of the volume after the edit
 pub slices_follow : (old new : State) (edit : Edit) (cache : Cache) → IsCut (bytes_of old.volume) old.reading old.limits old.volume → HasGeometry old.volume.head.extensions old.fields

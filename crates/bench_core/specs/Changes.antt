@@ -5,7 +5,7 @@ use Rattle.field_map.specs.Binding.{is_geometry}
 use Rattle.frame_cut.specs.Traces.{trace_of}
 use Rattle.time_slice.specs.Cache.{Cache, cache_after_change}
 use Rattle.bench_rules.specs.declared.edit.Edit.{Edit}
-use Rattle.bench_rules.specs.declared.edit.Edit.TheVariants.{Set, SetBin, SetText, Map, Unmap, Patch, Blank, Copy, Delete, Move, Resize, Renumber, Compute}
+use Rattle.bench_rules.specs.declared.edit.Edit.TheVariants.{Set, SetBin, SetText, Map, Unmap, Patch, Blank, Copy, Delete, Move, Resize, Renumber, Compute, Sort}
 use Rattle.bench_rules.specs.Kept.{cell_of}
 use Rattle.bench_rules.specs.State.{State}
 use Rattle.live_volume.specs.Held.{any_moves}
@@ -36,6 +36,7 @@ has_moved old (Copy q p) new = false
 has_moved old (Delete p) new = false
 has_moved old (Move a b) new = false
 has_moved old (Resize p count) new = false
+has_moved old (Sort a b fields falls) new = false
 
 -- what stays of the kept slices: nothing, after a set or a field of many traces counted up or computed that gave a trace another inline or
 -- crossline, a geometry name bound anew, and edits of whole traces; after a patch all but the slices of its samples; else all
@@ -53,3 +54,4 @@ entries_after moved (Move a b) cache = []
 entries_after moved (Resize p count) cache = []
 entries_after moved (Renumber a b field first step) cache = if moved then [] else cache
 entries_after moved (Compute a b field source steps) cache = if moved then [] else cache
+entries_after moved (Sort a b fields falls) cache = []

@@ -98,9 +98,9 @@ impl Bench {
     }
 
     /// One edit: done whole, and the reports follow it; or refused, and all is as it was, after one
-    /// of many traces too. `Set`, `Map`, `Patch`, `Blank`, `Copy`, `Move`, `Resize`, `Renumber` and
-    /// `Compute` take memory, and are refused for want of it, E11, only where nothing else refuses
-    /// them. Slices that the edit may have changed are forgotten.
+    /// of many traces too. `Set`, `Map`, `Patch`, `Blank`, `Copy`, `Move`, `Resize`, `Renumber`,
+    /// `Compute` and `Sort` take memory, and are refused for want of it, E11, only where nothing
+    /// else refuses them. Slices that the edit may have changed are forgotten.
     pub fn apply(&mut self, alloc: Global, edit: &Edit) -> Result<(), Refusal>
         ensures step { Step self.old.state edit.now result self.new.state }
         ensures looks { RisesAtMost self.old.looks self.new.looks

@@ -81,6 +81,7 @@ pub fn follow(slices: &mut SliceCache, edit: &Edit, moved: bool)
         | Edit::Copy(_, _)
         | Edit::Delete(_)
         | Edit::Move(_, _)
-        | Edit::Resize(_, _) => slices.clear(),
+        | Edit::Resize(_, _)
+        | Edit::Sort(_, _, _, _) => slices.clear(),
     }
 }

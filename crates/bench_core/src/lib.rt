@@ -12,8 +12,8 @@
 //!
 //! `load` takes memory for the file's bytes, the list of its traces, the six geometry names, the
 //! records with what has counted them, and room for kept slices; `apply` for `Set`, `Map`,
-//! `Patch`, `Blank`, `Copy`, `Move`, `Resize`, `Renumber` and `Compute` alone; `ask` for answers
-//! that are texts or lists alone: `Line`, `Lines`, `Stanzas`, `Fields`, `Grid`, `Inlines`,
+//! `Patch`, `Blank`, `Copy`, `Move`, `Resize`, `Renumber`, `Compute` and `Sort` alone; `ask` for
+//! answers that are texts or lists alone: `Line`, `Lines`, `Stanzas`, `Fields`, `Grid`, `Inlines`,
 //! `Crosslines`, `Histogram`, `Slice`, `Faults`, `Table`, `Find`, `Header` and `Extremes`.
 #![tactic(auto)]
 

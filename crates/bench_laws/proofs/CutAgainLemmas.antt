@@ -1,11 +1,11 @@
 -- An edit that is not refused leaves a file that is cut.
 use Rattle.std.proofs.Common.{◌≡◌, Option, Some, None, refl, sym, ◌∙◌}
-use Rattle.std.specs.Prelude.{nat_abs}
+use Rattle.std.specs.Prelude.{nat_abs, map}
 use Rattle.field_map.specs.declared.place.Place.{Place}
 use Rattle.frame_cut.specs.Cuts.{IsCut}
 use Rattle.frame_cut.specs.Volume.{Volume}
 use Rattle.frame_cut.specs.Traces.{trace_at, with_trace}
-use Rattle.bench_rules.specs.declared.edit.Edit.TheVariants.{Set, SetBin, SetText, Map, Unmap, Patch, Blank, Copy, Delete, Move, Resize, Renumber, Compute}
+use Rattle.bench_rules.specs.declared.edit.Edit.TheVariants.{Set, SetBin, SetText, Map, Unmap, Patch, Blank, Copy, Delete, Move, Resize, Renumber, Compute, Sort}
 use Rattle.bench_laws.specs.EditLaws.{StaysCut}
 use Rattle.bench_rules.specs.Places.{place_in_trace, place_in_binary}
 use Rattle.bench_rules.specs.Refused.{with_value}
@@ -19,7 +19,9 @@ use Rattle.bench_rules.proofs.ManyValueLemmas.{with_traces}
 use Rattle.bench_rules.proofs.ResizeLemmas.{resize_done}
 use Rattle.bench_rules.proofs.SetLemmas.{accepted, is_after}
 use Rattle.bench_rules.proofs.HeaderEditLemmas.{same_refused, same_after, no_place, bin_accepted, with_binary, bin_is_after, text_accepted, with_text, text_is_after, no_bin_place}
+use Rattle.bench_rules.specs.Sorted.{in_order, with_order}
 use Rattle.bench_rules.proofs.ComputeLemmas.{compute_accepted}
+use Rattle.bench_rules.proofs.SortedLemmas.{sort_accepted, sort_done}
 use Rattle.bench_laws.proofs.RenumberingLemmas.{unplaced, counted_traces, cut_counted, computed_traces, cut_computed}
 use Rattle.bench_laws.proofs.ResizeLemmas.{with_resized}
 
@@ -61,3 +63,7 @@ stays_cut s (Renumber a b f first step) cut none = by (place_in_trace s.fields f
 stays_cut s (Compute a b f source steps) cut none =
     let c = compute_accepted s a b f source steps none in
     ((with_traces s (computed_traces s a b c.formula)).volume, (cut_computed s a b f source steps cut c).volume, refl)
+stays_cut s (Sort a b fs falls) cut none =
+    let c = sort_accepted s a b fs falls none in
+    let w : Volume = with_order s.volume a b (map (λ row. row.0) (in_order falls c.rows)) in
+    (w, (sort_done s a b fs falls w cut c refl).volume, refl)

@@ -13,7 +13,7 @@ use Rattle.frame_cut.specs.Traces.{trace_at, with_trace}
 use Rattle.frame_cut.specs.Volume.{Volume}
 use Rattle.time_slice.specs.Cache.{is_from}
 use Rattle.time_slice.specs.Slices.{slice_of}
-use Rattle.bench_rules.specs.declared.edit.Edit.TheVariants.{Set, SetBin, SetText, Map, Unmap, Patch, Blank, Copy, Delete, Move, Resize, Renumber, Compute}
+use Rattle.bench_rules.specs.declared.edit.Edit.TheVariants.{Set, SetBin, SetText, Map, Unmap, Patch, Blank, Copy, Delete, Move, Resize, Renumber, Compute, Sort}
 use Rattle.bench_laws.specs.KeptLaws.{KeptSlicesStay}
 use Rattle.bench_rules.specs.Places.{place_in_binary}
 use Rattle.bench_rules.specs.Reports.{slice_in}
@@ -89,3 +89,4 @@ kept_slices_stay old new (Move a b) kept k cut has none after any = absurd (none
 kept_slices_stay old new (Resize p m) kept k cut has none after any = absurd (none_kept k any)
 kept_slices_stay old new (Renumber a b f first step) kept k cut has none after any = renumber_stays old new a b f first step kept k cut none after any
 kept_slices_stay old new (Compute a b f source steps) kept k cut has none after any = compute_stays old new a b f source steps kept k cut none after any
+kept_slices_stay old new (Sort a b fs falls) kept k cut has none after any = absurd (none_kept k any)

@@ -18,3 +18,5 @@ pub mod ComputeLemmas
 pub mod LiveLemmas
 pub mod LetterLemmas
 mod TableLemmas
+pub mod SortLemmas
+pub mod SortedLemmas

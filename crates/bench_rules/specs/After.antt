@@ -10,10 +10,12 @@ use Rattle.text_block.specs.Lines.{encoded_line}
 use Rattle.frame_cut.specs.Splice.{splice}
 use Rattle.frame_cut.specs.Volume.{Volume, bytes_of}
 use Rattle.bench_rules.specs.declared.edit.Edit.{Edit}
-use Rattle.bench_rules.specs.declared.edit.Edit.TheVariants.{Set, SetBin, SetText, Map, Unmap, Patch, Blank, Copy, Delete, Move, Resize, Renumber, Compute}
+use Rattle.bench_rules.specs.declared.edit.Edit.TheVariants.{Set, SetBin, SetText, Map, Unmap, Patch, Blank, Copy, Delete, Move, Resize, Renumber, Compute, Sort}
 use Rattle.bench_rules.specs.Places.{place_in_trace, place_in_binary}
 use Rattle.bench_rules.specs.Computed.{formula_of}
 use Rattle.bench_rules.specs.ComputedBytes.{bytes_after_compute}
+use Rattle.bench_rules.specs.ManyTraces.{each_of}
+use Rattle.bench_rules.specs.Sorted.{bytes_after_sort}
 use Rattle.bench_rules.specs.TraceEdits.{put_in_trace, bytes_after_resize, bytes_after_renumber}
 use Rattle.bench_rules.specs.WholeTraces.{bytes_after_patch, with_blank, with_copy, bytes_after_delete, bytes_after_move}
 
@@ -36,6 +38,7 @@ bytes_after v fields (Move a b) = bytes_after_move v a b
 bytes_after v fields (Resize p m) = bytes_after_resize v p (nat_abs m)
 bytes_after v fields (Renumber a b field first step) = option_map_or (λ place. bytes_after_renumber v a b place first step) (place_in_trace fields field) (bytes_of v)
 bytes_after v fields (Compute a b field source steps) = option_map_or (λ f. bytes_after_compute v f a b) (formula_of fields field source steps) (bytes_of v)
+bytes_after v fields (Sort a b names falls) = option_map_or (λ places. bytes_after_sort v places falls a b) (each_of (place_in_trace fields) names) (bytes_of v)
 
 -- the field map after the edit
 abbrev pub fields_after : Pairs → Edit → Pairs
@@ -52,3 +55,4 @@ fields_after fields (Move a b) = fields
 fields_after fields (Resize p m) = fields
 fields_after fields (Renumber a b field first step) = fields
 fields_after fields (Compute a b field source steps) = fields
+fields_after fields (Sort a b names falls) = fields

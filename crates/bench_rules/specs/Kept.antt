@@ -11,7 +11,7 @@ use Rattle.frame_cut.specs.Traces.{trace_at}
 use Rattle.trace_record.specs.OfTrace.{bound_value}
 use Rattle.time_slice.specs.Cache.{is_from}
 use Rattle.bench_rules.specs.declared.edit.Edit.{Edit}
-use Rattle.bench_rules.specs.declared.edit.Edit.TheVariants.{Set, SetBin, SetText, Map, Unmap, Patch, Blank, Copy, Delete, Move, Resize, Renumber, Compute}
+use Rattle.bench_rules.specs.declared.edit.Edit.TheVariants.{Set, SetBin, SetText, Map, Unmap, Patch, Blank, Copy, Delete, Move, Resize, Renumber, Compute, Sort}
 use Rattle.bench_rules.specs.declared.query.Query.{Query}
 use Rattle.bench_rules.specs.declared.query.Query.TheVariants.{Count, Info, Get, GetBin, Line, Lines, Code, Stanzas, Fields, Sample, Geometry, Stat, Fold, Grid, Inlines, Crosslines, Histogram, Range, Totals, Slice, Faults, Table, Find, Header, Extremes}
 use Rattle.bench_rules.specs.Computed.{Formula, formula_of, computed_numbers}
@@ -106,3 +106,4 @@ kept_after_edit s (Move a b) kept = []
 kept_after_edit s (Resize p m) kept = []
 kept_after_edit s (Renumber a b field first step) kept = kept_after_sets s (place_in_trace s.fields field) (numbers a b first step) kept
 kept_after_edit s (Compute a b field source steps) kept = kept_after_compute s (formula_of s.fields field source steps) a b kept
+kept_after_edit s (Sort a b names falls) kept = []

@@ -20,6 +20,8 @@ pub mod Refused
 pub mod ReportExamples
 pub mod Reports
 pub mod SetRefusals
+pub mod Sorted
+pub mod SortedExamples
 pub mod State
 pub mod Steps
 pub mod Tables

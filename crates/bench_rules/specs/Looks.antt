@@ -42,6 +42,7 @@ edit_looks s (edits.Move a b) = 0
 edit_looks s (edits.Resize p m) = 2
 edit_looks s (edits.Renumber a b field first step) = looks_at (place_in_trace s.fields field) (2 * range_looks s.volume a b)
 edit_looks s (edits.Compute a b field source steps) = looks_at (formula_of s.fields field source steps) (2 * range_looks s.volume a b)
+edit_looks s (edits.Sort a b names falls) = looks_at (each_of (place_in_trace s.fields) names) (range_looks s.volume a b)
 
 -- the most traces that a query looks at, where the slices with these numbers are kept
 abbrev pub query_looks : State → List ℕ → Query → ℕ

@@ -1,5 +1,5 @@
 -- The first refusal that an edit meets.
-use Rattle.std.specs.Prelude.{ℕ, ◌+◌, ◌-◌, ◌==◌, ◌&&◌, nat_le, nat_lt, nat_abs, int_lt, max, Bool, not, ℤ, pos, List, [], ◌∷◌, length, Option, Some, None, option_map, if◌then◌else◌}
+use Rattle.std.specs.Prelude.{ℕ, ◌+◌, ◌-◌, ◌==◌, ◌&&◌, nat_le, nat_lt, nat_abs, int_lt, max, Bool, not, ℤ, pos, List, [], ◌∷◌, length, Option, Some, None, option_map, is_none, if◌then◌else◌}
 use Rattle.std.specs.List.{list_all}
 use Rattle.std.specs.Option.{option_or}
 use Rattle.std.specs.Str.{chars}
@@ -16,13 +16,15 @@ use Rattle.frame_cut.specs.Frames.{sample_count}
 use Rattle.frame_cut.specs.Traces.{count_of, is_trace, trace_at}
 use Rattle.frame_cut.specs.Volume.{Volume, bytes_of}
 use Rattle.bench_rules.specs.declared.edit.Edit.{Edit}
-use Rattle.bench_rules.specs.declared.edit.Edit.TheVariants.{Set, SetBin, SetText, Map, Unmap, Patch, Blank, Copy, Delete, Move, Resize, Renumber, Compute}
+use Rattle.bench_rules.specs.declared.edit.Edit.TheVariants.{Set, SetBin, SetText, Map, Unmap, Patch, Blank, Copy, Delete, Move, Resize, Renumber, Compute, Sort}
 use Rattle.bench_rules.specs.declared.refusal.Refusal.{Refusal}
 use Rattle.bench_rules.specs.declared.refusal.Refusal.TheVariants as refusals
 use Rattle.bench_rules.specs.Places.{place_in_trace, place_in_binary, is_in_binary, touches_frame}
 pub use Rattle.bench_rules.specs.SetRefusals.{with_value, is_length, changes_length, set_refusal}
 use Rattle.bench_rules.specs.Computed.{formula_of, compute_refusal_in}
+use Rattle.bench_rules.specs.ManyTraces.{each_of}
 use Rattle.bench_rules.specs.State.{State}
+use Rattle.bench_rules.specs.Tables.{table_of}
 use Rattle.bench_rules.specs.TraceEdits.{resized, numbers}
 use Rattle.bench_rules.specs.WholeTraces.{blank_trace}
 
@@ -107,6 +109,11 @@ abbrev pub first_refusal_among : Volume → Option Place → List (ℕ × ℤ) �
 first_refusal_among v place [] = None
 first_refusal_among v place (n ∷ ns) = option_or (set_refusal v.head (trace_at v n.0) place n.1) (first_refusal_among v place ns)
 
+-- the refusal of traces a to b in the order of their numbers at the places of fields, if each has one
+abbrev pub sort_refusal : Volume → (a b : ℕ) → Option (List Place) → Option Refusal
+sort_refusal v a b None = Some refusals.NoField
+sort_refusal v a b (Some places) = if is_none (table_of v places a b) then Some refusals.NoPlace else None
+
 -- ---- every edit
 
 -- the first refusal of the edit, if it meets one; want of memory is none of these
@@ -126,3 +133,5 @@ first_refusal s (Renumber a b field first step) =
     option_or (no_trace s.volume a) (option_or (no_trace_from s.volume a b) (first_refusal_among s.volume (place_in_trace s.fields field) (numbers a b first step)))
 first_refusal s (Compute a b field source steps) =
     option_or (no_trace s.volume a) (option_or (no_trace_from s.volume a b) (compute_refusal_in s.volume (formula_of s.fields field source steps) a b))
+first_refusal s (Sort a b names falls) =
+    option_or (no_trace s.volume a) (option_or (no_trace_from s.volume a b) (sort_refusal s.volume a b (each_of (place_in_trace s.fields) names)))

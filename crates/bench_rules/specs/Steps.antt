@@ -2,7 +2,7 @@
 use Rattle.std.specs.Prelude.{◌≡◌, List, [], ◌∷◌, Option, Some, None, Result, Ok, Err}
 use Rattle.frame_cut.specs.Cuts.{IsCut}
 use Rattle.bench_rules.specs.declared.edit.Edit.{Edit}
-use Rattle.bench_rules.specs.declared.edit.Edit.TheVariants.{Set, SetBin, SetText, Map, Unmap, Patch, Blank, Copy, Delete, Move, Resize, Renumber, Compute}
+use Rattle.bench_rules.specs.declared.edit.Edit.TheVariants.{Set, SetBin, SetText, Map, Unmap, Patch, Blank, Copy, Delete, Move, Resize, Renumber, Compute, Sort}
 use Rattle.bench_rules.specs.declared.refusal.Refusal.{Refusal}
 use Rattle.bench_rules.specs.declared.refusal.Refusal.TheVariants.{OutOfMemory}
 use Rattle.bench_rules.specs.After.{bytes_after, fields_after}
@@ -24,6 +24,7 @@ TakesMemory (Move a b) = Unit {0}
 TakesMemory (Resize p m) = Unit {0}
 TakesMemory (Renumber a b field first step) = Unit {0}
 TakesMemory (Compute a b field source steps) = Unit {0}
+TakesMemory (Sort a b names falls) = Unit {0}
 
 -- the new volume is the cut of the bytes after the edit, with the field map after it
 pub record IsAfter (old : State) (edit : Edit) (new : State) : Type 0 where

@@ -49,4 +49,10 @@ pub enum Edit {
     /// then the first refusal of the lowest trace that has one: E03 where it lacks a place, E13 or
     /// E04 of the first step that has no number, E04 where the last one does not fit the field, E06.
     Compute(u32, u32, Field, Operand, Items<(Operator, Operand)>),
+    /// `Sort(a, b, fields, falling)`: traces a to b in the order of the numbers of these fields, of
+    /// which the first two that differ tell; those with the same numbers stand as they stood. The
+    /// numbers of a field fall where the item of `falling` at its place is true, else they rise;
+    /// there is one for each field. Refused, in this order: E01 for a, E01 for b, E02 where a field
+    /// has no place, E03 where one of the traces lacks a place.
+    Sort(u32, u32, Items<Field>, Items<bool>),
 }

@@ -15,6 +15,8 @@ mod report_tests;
 #[cfg(test)]
 mod slice_tests;
 #[cfg(test)]
+mod sort_tests;
+#[cfg(test)]
 mod tests;
 #[cfg(test)]
 mod trace_tests;

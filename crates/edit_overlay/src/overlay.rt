@@ -8,6 +8,7 @@ ghost use Rattle.frame_cut.specs.Volume.{bytes_of};
 ghost use Rattle.trace_store.specs.Each.{part_of};
 ghost use Rattle.edit_overlay.specs.CountedVolume.{with_prepared, with_table, with_table_prepared, with_volume};
 ghost use Rattle.trace_store.specs.Stores.{payloads_moved, payloads_of};
+ghost use Rattle.trace_store.specs.Swapped.{with_places_swapped, with_swapped, ArePlaces};
 ghost use Rattle.std.specs.List.{insert, remove};
 ghost use Rattle.frame_cut.specs.Parts.{block_of, trailer_of, with_line, with_header_bytes, with_each, with_inserted, without, with_moved};
 ghost use Rattle.edit_overlay.specs.Saving.{Saves};
@@ -500,6 +501,17 @@ impl<T: Copy> Overlay<T> {
         self.prepare_move(alloc, a, b)?;
         self.commit();
         Ok(())
+    }
+
+    /// Puts the traces of each pair in the place of one another, with their payloads, one pair
+    /// after the other; they count from 1. Takes no memory.
+    pub fn swap_each(&mut self, pairs: Vec<(u32, u32)>)
+        requires { ArePlaces (count_of self.old.volume) pairs.items }
+        ensures { self.new ≡ with_table self.old (with_places_swapped self.old.volume pairs.items)
+            (with_swapped self.old.payloads pairs.items) }
+    {
+        self.store.swap_each(pairs);
+        self.prepared = None;
     }
 
     /// Makes the bytes the whole of trace p, counted from 1. The caller shows that their headers

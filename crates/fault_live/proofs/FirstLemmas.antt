@@ -12,7 +12,7 @@ use Rattle.fault_live.specs.FaultKeys.{keys_of_faults}
 use Rattle.trace_record.specs.Tally.{tally_of}
 use Rattle.key_counts.proofs.KeyLemmas.{is_eq-triple}
 use Rattle.fault_live.specs.Faults.{same_triple, repeat_fault, first_with}
-use Rattle.fault_live.specs.OfFaults.{triple_cmp}
+use Rattle.window_counts.specs.Places.{triple_cmp}
 use Rattle.fault_live.proofs.OnceLemmas.{same-flip, same_itself, not_before, counted_itself, once_is_not_repeated}
 
 -- inline, crossline and offset together

@@ -3,3 +3,4 @@ pub mod FirstLemmas
 pub mod ReportStepLemmas
 pub mod TripleLemmas
 pub mod LoadLemmas
+pub mod CountedLemmas

@@ -14,7 +14,7 @@ use Rattle.fault_live.specs.declared.fault.Fault.{Fault}
 use Rattle.fault_live.specs.declared.fault.Fault.TheVariants.{Scalar, Units, Name}
 use Rattle.fault_live.specs.declared.head_facts.HeadFacts.{HeadFacts}
 use Rattle.fault_live.specs.Faults.{own_faults, among_faults, faults_of, trace_faults, first_units, first_with, repeat_fault, unless, is_scalar, is_revision_2}
-use Rattle.fault_live.specs.OfFaults.{triple_cmp}
+use Rattle.window_counts.specs.Places.{triple_cmp}
 use Rattle.fault_live.proofs.FirstLemmas.{key, AreFirst, still_first, repeats}
 
 regroup : (a b c x : List Fault) → a ++ (b ++ c ++ x) ≡ a ++ b ++ c ++ x

@@ -1,5 +1,6 @@
 pub mod FaultKeys
 pub mod Faults
+pub mod OfKeys
 pub mod OfFaults
 pub mod Laws
 pub mod Examples

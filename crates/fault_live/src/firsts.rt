@@ -1,19 +1,50 @@
-ghost use Rattle.std.specs.Prelude.{◌≡◌, ℤ, OnOk, IfOk, Some, unwrap_or, cond, map};
+ghost use Rattle.std.specs.Prelude.{◌≡◌, ◌-◌, ℤ, OnOk, IfOk, Some, unwrap_or, cond, map};
 ghost use Rattle.std.specs.Ordering.{is_eq};
 ghost use Rattle.std.specs.BTreeMap.{get};
-ghost use Rattle.fault_live.specs.OfFaults.{triple_cmp};
+ghost use Rattle.trace_record.specs.Facts.{facts_of};
+ghost use Rattle.trace_record.specs.Keys.{Key};
+ghost use Rattle.trace_record.specs.Tally.{times};
+ghost use Rattle.window_counts.specs.Places.{triple_cmp};
+ghost use Rattle.fault_live.specs.FaultKeys.{keys_of_faults};
+ghost use Rattle.fault_live.specs.OfKeys.{times_among};
 
 use crate::OutOfMemory;
+use key_counts::beside;
 use record_table::Records;
 use std::alloc::{AllocError, Global};
 use std::collections::BTreeMap;
 use trace_record::Record;
+use window_counts::{Extent, OffsetExtent};
 
 // Inline, crossline and offset together.
 pub(crate) fn key_of(trace: &Record) -> (i32, i32, i32)
     ensures { result ≡ (trace.now.inline, trace.now.crossline, trace.now.offset) }
 {
     (trace.inline, trace.crossline, trace.offset)
+}
+
+// The same, as what is counted of a trace alone.
+pub(crate) fn key_alone(trace: &Record) -> Option<(i32, i32, i32)>
+    ensures { (k : Key) → times_among result k ≡ times keys_of_faults (facts_of trace.now) k }
+{
+    Some(key_of(trace))
+}
+
+// The same, unless the other trace has it too.
+pub(crate) fn key_beside(trace: &Record, other: &Record) -> Option<(i32, i32, i32)>
+    ensures { (k : Key) → times_among result k ≡ times keys_of_faults (facts_of trace.now) k -
+        times keys_of_faults (facts_of other.now) k }
+{
+    beside(key_alone(trace), key_alone(other))
+}
+
+// How far the keys of these traces reach.
+pub(crate) fn extent_of(records: &Records) -> OffsetExtent {
+    let mut extent = OffsetExtent::none();
+    for trace in records.iter() {
+        extent.include(key_of(&trace));
+    }
+    extent
 }
 
 // The keys of these traces, in their order.

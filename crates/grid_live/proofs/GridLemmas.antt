@@ -15,11 +15,12 @@ use Rattle.key_counts.proofs.ShownLemmas.{Shows-same, Shows-occurrences, one_sho
 use Rattle.grid_live.specs.declared.cell.Cell.{Cell}
 use Rattle.grid_live.specs.declared.line.Line.{Line}
 use Rattle.grid_live.specs.declared.fold_count.FoldCount.{FoldCount}
-use Rattle.grid_live.specs.Cells.{cell_cmp, cell_with, line_with, fold_count_of, cells, histogram_of}
+use Rattle.window_counts.specs.Places.{cell_cmp}
+use Rattle.grid_live.specs.Cells.{cell_with, line_with, fold_count_of, cells, histogram_of}
 use Rattle.grid_live.specs.OfTally.{ShowsCells, ShowsInlines, ShowsCrosslines}
 use Rattle.grid_live.specs.Laws.{FoldOfTally, CellsAreShown, InlinesAreShown, CrosslinesAreShown, HistogramIsShown, AtMostOneListOfCells, AtMostOneListOfInlines, AtMostOneListOfCrosslines, AtMostOneHistogram}
 
-cell_total : IsTotalOrder cell_cmp
+pub cell_total : IsTotalOrder cell_cmp
 cell_total = then_total (on_total (λ (e : ℤ × ℤ). e.0) int_cmp_total) (on_total (λ (e : ℤ × ℤ). e.1) int_cmp_total)
 
 pub exact_cells : CmpEqualImpliesEq cell_cmp
@@ -49,13 +50,6 @@ times-back (e ∷ es) = ap (λ r. e ∷ r) (times-back es)
 times-forth : (ts : List FoldCount) → map fold_count_of (map (λ (t : FoldCount). (t.fold, t.cells)) ts) ≡ ts
 times-forth [] = refl
 times-forth (t ∷ ts) = ap (λ r. t ∷ r) (times-forth ts)
-
--- entries that show counts do so as lines, and as folds with their cells
-pub lines-shown : (number : ℤ → ℕ) (es : List (ℤ × ℕ)) (ls : List Line) → ls ≡ map line_with es → Shows int_cmp number es → Shows int_cmp number (map (λ l. (l.number, l.traces)) ls)
-lines-shown number es ls e s = subst (λ qs. Shows int_cmp number qs) (sym (ap (map (λ (l : Line). (l.number, l.traces))) e ∙ lines-back es)) s
-
-pub times-shown : (number : ℕ → ℕ) (es : List (ℕ × ℕ)) (ts : List FoldCount) → ts ≡ map fold_count_of es → Shows nat_cmp number es → Shows nat_cmp number (map (λ t. (t.fold, t.cells)) ts)
-times-shown number es ts e s = subst (λ qs. Shows nat_cmp number qs) (sym (ap (map (λ (t : FoldCount). (t.fold, t.cells))) e ∙ times-back es)) s
 
 -- the counts of the folds of cells show their histogram
 pub histogram-shown : (cs : List Cell) (counts : List (ℕ × ℕ)) (ts : List FoldCount)

@@ -2,3 +2,4 @@ pub mod FittingLemmas
 pub mod GridLemmas
 pub mod OwnKeyLemmas
 pub mod LoadLemmas
+pub mod CountedLemmas

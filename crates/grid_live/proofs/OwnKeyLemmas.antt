@@ -1,30 +1,54 @@
--- The cell, inline and crossline of a trace among those that are counted.
-use Rattle.std.specs.Prelude.{◌≡◌, ◌&&◌, zero, suc, ℤ, Bool, if◌then◌else◌}
-use Rattle.std.proofs.Common.{ap, ap₂, int_cmp}
-use Rattle.std.specs.Ordering.{is_eq, int_eq}
-use Rattle.key_counts.proofs.KeyLemmas.{is_eq-pair, int_eq-itself}
+-- The keys of a trace that a grid counts, alone and beside another trace.
+use Rattle.std.specs.Prelude.{◌≡◌, ℕ, ℤ, ◌-◌, ◌&&◌, Bool, if◌then◌else◌, Some, refl}
+use Rattle.std.proofs.Common.{ap, ◌∙◌}
+use Rattle.std.specs.Ordering.{int_cmp, int_eq, is_eq}
+use Rattle.std.specs.Cmp.{int_cmp_total}
+use Rattle.key_counts.specs.Numbers.{times_of, beside_of}
+use Rattle.key_counts.proofs.KeyLemmas.{is_eq-pair}
+use Rattle.key_counts.proofs.RaisedLemmas.{times-beside}
 use Rattle.trace_record.specs.Facts.{Facts}
-use Rattle.trace_record.specs.Keys.{cell, inline, crossline}
-use Rattle.grid_live.specs.GridKeys.{keys_of_grid}
+use Rattle.trace_record.specs.Keys.{Key, cell, inline, crossline, offset, coordinate_x, coordinate_y, least, greatest, triple}
 use Rattle.trace_record.specs.Tally.{times}
-use Rattle.grid_live.specs.Cells.{cell_cmp}
+use Rattle.window_counts.specs.Places.{cell_cmp}
+use Rattle.grid_live.specs.GridKeys.{keys_of_grid}
+use Rattle.grid_live.specs.OfKeys.{times_among}
+use Rattle.grid_live.specs.declared.keys.Keys.{Keys}
+use Rattle.grid_live.proofs.GridLemmas.{cell_total}
 
--- a trace has a key where it equals its own
-pub times-cell : (f : Facts) (j k i c : ℤ) → j ≡ f.inline → k ≡ f.crossline → (if is_eq (cell_cmp (j, k) (i, c)) then 1 else 0) ≡ times keys_of_grid f (cell i c)
-times-cell f j k i c ej ek = ap (λ (b : Bool). if b then (suc zero) else zero) (rw (ej, ek) (is_eq-pair (int_cmp f.inline i) (int_cmp f.crossline c)))
+-- a number where a test holds
+once : Bool → ℕ
+once b = if b then 1 else 0
 
-pub times-inline : (f : Facts) (j i : ℤ) → j ≡ f.inline → (if int_eq j i then 1 else 0) ≡ times keys_of_grid f (inline i)
-times-inline f j i e = ap (λ z. if int_eq z i then (suc zero) else zero) e
+-- a cell is the trace's where both its numbers are
+own_cell : (f : Facts) (i c : ℤ) → (if is_eq (cell_cmp (f.inline, f.crossline) (i, c)) then 1 else 0) ≡ times keys_of_grid f (cell i c)
+unfolding once
+own_cell f i c = ap once (is_eq-pair (int_cmp f.inline i) (int_cmp f.crossline c))
 
-pub times-crossline : (f : Facts) (j c : ℤ) → j ≡ f.crossline → (if int_eq j c then 1 else 0) ≡ times keys_of_grid f (crossline c)
-times-crossline f j c e = ap (λ z. if int_eq z c then (suc zero) else zero) e
+-- all keys of a trace
+pub times-all : (ks : Keys) (f : Facts) → ks.cell ≡ Some (f.inline, f.crossline) → ks.inline ≡ Some f.inline → ks.crossline ≡ Some f.crossline → (k : Key) → times_among ks k ≡ times keys_of_grid f k
+times-all ks f ec ei ex = elim [
+  | cell i c ↦ ap (λ o. times_of (λ k. k) cell_cmp o (i, c)) ec ∙ own_cell f i c
+  | inline i ↦ ap (λ o. times_of (λ k. k) int_cmp o i) ei
+  | crossline c ↦ ap (λ o. times_of (λ k. k) int_cmp o c) ex
+  | offset o ↦ refl
+  | coordinate_x r ↦ refl
+  | coordinate_y r ↦ refl
+  | least v ↦ refl
+  | greatest v ↦ refl
+  | triple i c o ↦ refl
+]
 
--- it has its own
-pub own-cell : (f : Facts) (i c : ℤ) → i ≡ f.inline → c ≡ f.crossline → times keys_of_grid f (cell i c) ≡ 1
-own-cell f i c ei ec = ap (λ (b : Bool). if b then (suc zero) else zero) (ap₂ (λ a b. a && b) (int_eq-itself i f.inline ei) (int_eq-itself c f.crossline ec))
-
-pub own-inline : (f : Facts) (i : ℤ) → i ≡ f.inline → times keys_of_grid f (inline i) ≡ 1
-own-inline f i e = ap (λ (b : Bool). if b then (suc zero) else zero) (int_eq-itself i f.inline e)
-
-pub own-crossline : (f : Facts) (c : ℤ) → c ≡ f.crossline → times keys_of_grid f (crossline c) ≡ 1
-own-crossline f c e = ap (λ (b : Bool). if b then (suc zero) else zero) (int_eq-itself c f.crossline e)
+-- those that others are not among
+pub among-beside : (ks own others : Keys) → ks.cell ≡ beside_of cell_cmp own.cell others.cell → ks.inline ≡ beside_of int_cmp own.inline others.inline → ks.crossline ≡ beside_of int_cmp own.crossline others.crossline
+    → (k : Key) → times_among ks k ≡ times_among own k - times_among others k
+among-beside ks own others ec ei ex = elim [
+  | cell i c ↦ ap (λ o. times_of (λ k. k) cell_cmp o (i, c)) ec ∙ times-beside cell_cmp cell_total (λ k. k) own.cell others.cell (i, c)
+  | inline i ↦ ap (λ o. times_of (λ k. k) int_cmp o i) ei ∙ times-beside int_cmp int_cmp_total (λ k. k) own.inline others.inline i
+  | crossline c ↦ ap (λ o. times_of (λ k. k) int_cmp o c) ex ∙ times-beside int_cmp int_cmp_total (λ k. k) own.crossline others.crossline c
+  | offset o ↦ refl
+  | coordinate_x r ↦ refl
+  | coordinate_y r ↦ refl
+  | least v ↦ refl
+  | greatest v ↦ refl
+  | triple i c o ↦ refl
+]

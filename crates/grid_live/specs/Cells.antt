@@ -1,7 +1,7 @@
 -- The grid of a list of traces, from scratch.
 use Rattle.std.specs.Prelude.{ℕ, ℤ, ◌&&◌, List, map, count_by}
-use Rattle.std.specs.Ordering.{int_cmp, int_eq, nat_cmp, ordering_then}
-use Rattle.std.specs.declared.cmp.Ordering.{Ordering}
+use Rattle.std.specs.Ordering.{int_cmp, int_eq, nat_cmp}
+use Rattle.window_counts.specs.Places.{cell_cmp}
 use Rattle.trace_record.specs.Facts.{Facts}
 use Rattle.key_counts.specs.Rising.{occurrences}
 use Rattle.grid_live.specs.declared.cell.Cell.{Cell}
@@ -11,10 +11,6 @@ use Rattle.grid_live.specs.declared.fold_count.FoldCount.{FoldCount}
 -- the fold of a cell: how many traces have this inline and crossline
 abbrev pub fold_of : List Facts → ℤ → ℤ → ℕ
 fold_of fs i c = count_by (λ f. int_eq f.inline i && int_eq f.crossline c) fs
-
--- cells by inline, then by crossline
-abbrev pub cell_cmp : ℤ × ℤ → ℤ × ℤ → Ordering
-cell_cmp a b = ordering_then (int_cmp a.0 b.0) (int_cmp a.1 b.1)
 
 -- a pair of inline and crossline with its number as a cell
 abbrev pub cell_with : (ℤ × ℤ) × ℕ → Cell

@@ -1,8 +1,12 @@
 -- Cells whose inline and crossline fit 32 bits.
-use Rattle.std.specs.Prelude.{ℕ, ℤ, ◌<◌, List, FitsSigned}
+use Rattle.std.specs.Prelude.{ℕ, ℤ, ◌<◌, List, Option, Some, ◌≡◌, FitsSigned}
 use Rattle.std.specs.Int.{w32}
 use Rattle.key_counts.specs.Counts.{count_of}
-use Rattle.grid_live.specs.Cells.{cell_cmp}
+use Rattle.window_counts.specs.Places.{cell_cmp}
+
+-- the cell that there may be fits
+abbrev pub CellFits : Option (ℤ × ℤ) → Type 0
+CellFits key = (k : ℤ × ℤ) → key ≡ Some k → FitsSigned w32 k.0 × FitsSigned w32 k.1
 
 -- each counted cell fits
 abbrev pub CellsFit : List ((ℤ × ℤ) × ℕ) → Type 0

@@ -1,10 +1,12 @@
 -- The tally that a `Grid` shows.
-use Rattle.std.specs.Prelude.{ℕ, pos}
+use Rattle.std.specs.Prelude.{ℕ, pos, ◌+◌, ◌<◌, ◌^◌}
 use Rattle.std.specs.Ordering.{int_cmp}
 use Rattle.key_counts.specs.Counts.{count_of}
 use Rattle.trace_record.specs.Keys.{Key, cell, inline, crossline, offset, coordinate_x, coordinate_y, least, greatest, triple}
 use Rattle.trace_record.specs.Tally.{Tally}
-use Rattle.grid_live.specs.Cells.{cell_cmp}
+use Rattle.window_counts.specs.Places.{cell_cmp}
+use Rattle.grid_live.specs.OfKeys.{times_among}
+use Rattle.grid_live.specs.declared.keys.Keys.{Keys}
 use Rattle.grid_live.specs.declared.grid.Grid.{Grid}
 
 -- how often it counted each key
@@ -18,6 +20,10 @@ count_in g (coordinate_y r) = 0
 count_in g (least v) = 0
 count_in g (greatest v) = 0
 count_in g (triple i c o) = 0
+
+-- with the keys each number is below 2^64
+abbrev pub HasRoom : Grid → Keys → Type 0
+HasRoom g ks = (k : Key) → count_in g k + times_among ks k < 2 ^ 64
 
 -- the tally of a running grid
 abbrev pub tally_of_grid : Grid → Tally

@@ -4,7 +4,8 @@ use Rattle.std.specs.Ordering.{int_cmp}
 use Rattle.trace_record.specs.Keys.{cell, inline, crossline}
 use Rattle.trace_record.specs.Tally.{Tally}
 use Rattle.key_counts.specs.Rising.{Shows}
-use Rattle.grid_live.specs.Cells.{cell_cmp, histogram_of}
+use Rattle.window_counts.specs.Places.{cell_cmp}
+use Rattle.grid_live.specs.Cells.{histogram_of}
 use Rattle.grid_live.specs.declared.cell.Cell.{Cell}
 use Rattle.grid_live.specs.declared.line.Line.{Line}
 use Rattle.grid_live.specs.declared.fold_count.FoldCount.{FoldCount}

@@ -1,28 +1,34 @@
 ghost use Rattle.grid_live.specs.Fitting.{CellsFit};
 
-use crate::keys::{cell_keys, crossline_keys, inline_keys};
-use crate::lists::{histogram_of_cells, lines_of};
+use crate::key_lists::{cell_keys, crossline_keys, extent_of, inline_keys};
+use crate::keys::Keys;
+use crate::lists::histogram_of_cells;
 use crate::{Cell, FoldCount, Line, OutOfMemory};
-use key_counts::{Counts, raise_both};
+use key_counts::{lower_any, lower_both, raise_any, raise_both};
 use record_table::{Records, Running};
 use std::alloc::Global;
 use trace_record::Record;
+use window_counts::{CellCounts, Interval, LineCounts, Rectangle, Window};
 
 /// How many traces each cell, inline and crossline has, over traces that come and go. It keeps its
 /// allocator.
 #[derive(Drop)]
 pub struct Grid {
     records: u64,
-    cells: Counts<(i32, i32)>,
-    inlines: Counts<i32>,
-    crosslines: Counts<i32>,
+    cells: CellCounts,
+    inlines: LineCounts,
+    crosslines: LineCounts,
     ghost fitting: { CellsFit cells },
 }
 
 impl Grid {
-    ghost use Rattle.std.specs.Prelude.{◌≡◌, IfOk};
-    ghost use Rattle.trace_record.specs.Keys.{cell};
-    ghost use Rattle.grid_live.specs.OfGrid.{tally_of_grid};
+    ghost use Rattle.std.specs.Prelude.{◌≡◌, ◌+◌, ◌≤◌, ◌^◌, length, map, IfOk, OnOk, OnErr, IsOk};
+    ghost use Rattle.trace_record.specs.Facts.{facts_of};
+    ghost use Rattle.trace_record.specs.Keys.{Key, cell};
+    ghost use Rattle.trace_record.specs.Tally.{Same, empty_tally, tally_of};
+    ghost use Rattle.grid_live.specs.GridKeys.{keys_of_grid};
+    ghost use Rattle.grid_live.specs.OfGrid.{count_in, HasRoom, tally_of_grid};
+    ghost use Rattle.grid_live.specs.OfKeys.{times_among};
     ghost use Rattle.grid_live.specs.OfTally.{ShowsCells, ShowsInlines, ShowsCrosslines, ShowsHistogram};
 
     /// The number of traces at an inline and crossline, 0 where they have none, so also where one
@@ -36,39 +42,37 @@ impl Grid {
         let Ok(crossline) = i32::try_from(crossline) else {
             return 0;
         };
-        self.cells.count(&(inline, crossline))
+        self.cells.count((inline, crossline))
     }
 
     /// The cells that have traces, rising by inline and then by crossline. Takes memory for the
-    /// list, and is refused only where that is.
+    /// list and, where cells lie outside those of the load, for one more; refused only where that
+    /// is.
     pub fn cells(&self, alloc: Global) -> Result<Vec<Cell>, OutOfMemory>
         ensures { IfOk result (λ list. ShowsCells (tally_of_grid self.now) list.items) }
     {
-        let mut list = Vec::new(alloc);
-        for (key, fold) in self.cells.pairs() {
-            list.push(Cell {
-                inline: key.0,
-                crossline: key.1,
-                fold: *fold,
-            })?;
-        }
+        let list = self.cells.list(alloc)?;
         Ok(list)
     }
 
     /// The inlines that have traces, rising, each with its number of traces. Takes memory for the
-    /// list, and is refused only where that is.
+    /// list and, where inlines lie outside those of the load, for one more; refused only where that
+    /// is.
     pub fn inlines(&self, alloc: Global) -> Result<Vec<Line>, OutOfMemory>
         ensures { IfOk result (λ list. ShowsInlines (tally_of_grid self.now) list.items) }
     {
-        lines_of(alloc, &self.inlines)
+        let list = self.inlines.list(alloc)?;
+        Ok(list)
     }
 
     /// The crosslines that have traces, rising, each with its number of traces. Takes memory for
-    /// the list, and is refused only where that is.
+    /// the list and, where crosslines lie outside those of the load, for one more; refused only
+    /// where that is.
     pub fn crosslines(&self, alloc: Global) -> Result<Vec<Line>, OutOfMemory>
         ensures { IfOk result (λ list. ShowsCrosslines (tally_of_grid self.now) list.items) }
     {
-        lines_of(alloc, &self.crosslines)
+        let list = self.crosslines.list(alloc)?;
+        Ok(list)
     }
 
     /// The folds of the cells that have traces, rising, each with its number of cells. Takes
@@ -79,6 +83,79 @@ impl Grid {
     {
         let cells = self.cells(alloc)?;
         histogram_of_cells(alloc, &cells)
+    }
+
+    // The grid of these records, each kind of key counted all at once.
+    fn from_key_lists(alloc: Global, records: &Records) -> Result<Grid, record_table::OutOfMemory>
+        ensures { IfOk result (λ grid.
+            Same (tally_of_grid grid) (tally_of keys_of_grid (map facts_of records.now))) }
+    {
+        let cells = CellCounts::from_keys(alloc, cell_keys(alloc, records)?)?;
+        let inlines = LineCounts::from_keys(alloc, inline_keys(alloc, records)?)?;
+        let crosslines = LineCounts::from_keys(alloc, crossline_keys(alloc, records)?)?;
+        Ok(Grid {
+            records: records.len() as u64,
+            cells,
+            inlines,
+            crosslines,
+        })
+    }
+
+    // Counts the traces where none is counted.
+    fn count_each(&mut self, records: &Records) -> Result<(), key_counts::OutOfMemory>
+        requires empty { Same (tally_of_grid self.old) empty_tally }
+        requires few { length records.now ≤ 2 ^ 33 }
+        ensures { OnOk result
+            (Same (tally_of_grid self.new) (tally_of keys_of_grid (map facts_of records.now))) }
+    {
+        for trace in records.iter() {
+            self.raise(&Keys::of(&trace))?;
+            self.records += 1;
+        }
+        Ok(())
+    }
+
+    // Counts the keys once more, or none of them where a growth is refused.
+    fn raise(&mut self, keys: &Keys) -> Result<(), key_counts::OutOfMemory>
+        requires { HasRoom self.old keys.now }
+        ensures ok { OnOk result ((k : Key) →
+            count_in self.new k ≡ count_in self.old k + times_among keys.now k) }
+        ensures err { OnErr result ((k : Key) → count_in self.new k ≡ count_in self.old k) }
+        ensures held { ((k : Key) → times_among keys.now k ≤ count_in self.old k) → IsOk result }
+        ensures records { self.new.records ≡ self.old.records }
+    {
+        raise_both(
+            &mut self.inlines,
+            keys.inline,
+            &mut self.crosslines,
+            keys.crossline,
+        )?;
+        if let Err(error) = raise_any(&mut self.cells, keys.cell) {
+            lower_both(
+                &mut self.inlines,
+                keys.inline,
+                &mut self.crosslines,
+                keys.crossline,
+            );
+            return Err(error);
+        }
+        Ok(())
+    }
+
+    // Counts the keys once less.
+    fn lower(&mut self, keys: &Keys)
+        requires { (k : Key) → times_among keys.now k ≤ count_in self.old k }
+        ensures less { (k : Key) →
+            count_in self.old k ≡ count_in self.new k + times_among keys.now k }
+        ensures records { self.new.records ≡ self.old.records }
+    {
+        lower_any(&mut self.cells, keys.cell);
+        lower_both(
+            &mut self.inlines,
+            keys.inline,
+            &mut self.crosslines,
+            keys.crossline,
+        );
     }
 }
 
@@ -93,48 +170,54 @@ impl Running for Grid {
     fn new(alloc: Global) -> Grid {
         Grid {
             records: 0,
-            cells: Counts::new(alloc),
-            inlines: Counts::new(alloc),
-            crosslines: Counts::new(alloc),
+            cells: CellCounts::new(alloc),
+            inlines: LineCounts::new(alloc),
+            crosslines: LineCounts::new(alloc),
         }
     }
 
     fn from_records(alloc: Global, records: &Records) -> Result<Grid, record_table::OutOfMemory> {
-        let cells = Counts::from_keys(alloc, cell_keys(alloc, records)?)?;
-        let inlines = Counts::from_keys(alloc, inline_keys(alloc, records)?)?;
-        let crosslines = Counts::from_keys(alloc, crossline_keys(alloc, records)?)?;
-        Ok(Grid {
-            records: records.len() as u64,
-            cells,
+        let count = records.len();
+        let extent = extent_of(records);
+        let window = Rectangle::over(&extent, count);
+        if window.len() == 0 {
+            return Grid::from_key_lists(alloc, records);
+        }
+        let inlines = LineCounts::within(alloc, Interval::over(&extent.inlines(), count))?;
+        let crosslines = LineCounts::within(alloc, Interval::over(&extent.crosslines(), count))?;
+        let mut grid = Grid {
+            records: 0,
+            cells: CellCounts::within(alloc, window)?,
             inlines,
             crosslines,
-        })
+        };
+        grid.count_each(records)?;
+        Ok(grid)
     }
 
     fn add(&mut self, trace: &Record) -> Result<(), record_table::OutOfMemory> {
-        raise_both(
-            &mut self.inlines,
-            trace.inline,
-            &mut self.crosslines,
-            trace.crossline,
-        )?;
-        match self.cells.raise((trace.inline, trace.crossline)) {
-            Ok(()) => {
-                self.records += 1;
-                Ok(())
-            }
-            Err(refused) => {
-                self.inlines.lower(&trace.inline);
-                self.crosslines.lower(&trace.crossline);
-                Err(record_table::OutOfMemory::from(refused))
-            }
-        }
+        self.raise(&Keys::of(trace))?;
+        self.records += 1;
+        Ok(())
     }
 
     fn remove(&mut self, trace: &Record) {
-        self.cells.lower(&(trace.inline, trace.crossline));
-        self.inlines.lower(&trace.inline);
-        self.crosslines.lower(&trace.crossline);
+        self.lower(&Keys::of(trace));
+        self.records -= 1;
+    }
+
+    fn add_beside(
+        &mut self,
+        trace: &Record,
+        other: &Record,
+    ) -> Result<(), record_table::OutOfMemory> {
+        self.raise(&Keys::beside(trace, other))?;
+        self.records += 1;
+        Ok(())
+    }
+
+    fn remove_beside(&mut self, trace: &Record, other: &Record) {
+        self.lower(&Keys::beside(trace, other));
         self.records -= 1;
     }
 }

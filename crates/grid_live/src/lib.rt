@@ -2,14 +2,16 @@
 //! how often each fold occurs. `Grid` counts traces that come and go, and is seen as their tally.
 //! The calls that are named for a law do nothing: their contract is the law.
 //!
-//! `Grid::add` takes memory for a cell, inline or crossline that had no trace, `from_records` for
-//! all that it counts, and each call that answers a list takes memory for it. Where a growth is
-//! refused they answer want of memory, and the grid is as it was. No other call takes memory.
+//! `Grid::add` and `add_beside` take memory for a cell, inline or crossline that had no trace and
+//! lies outside those of the load, `from_records` for all that it counts, and each call that answers
+//! a list takes memory for it. Where a growth is refused they answer want of memory, and the grid is
+//! as it was. No other call takes memory.
 #![tactic(auto)]
 
 mod cell;
 mod fold_count;
 mod grid;
+mod key_lists;
 mod keys;
 mod laws;
 mod line;

@@ -1,5 +1,5 @@
 -- What a `Counts` is seen as: the keys that it holds, rising, each with its positive number.
-use Rattle.std.specs.Prelude.{◌≡◌, ℕ, Bool, ◌+◌, ◌-◌, ◌==◌, ◌&&◌, if◌then◌else◌, List, fold}
+use Rattle.std.specs.Prelude.{◌≡◌, ℕ, ◌+◌, ◌-◌, ◌==◌, if◌then◌else◌, List, fold}
 use Rattle.std.specs.Ordering.{is_eq}
 use Rattle.std.specs.Map.{lookup, set_value, remove_entry, count_at}
 use Rattle.std.specs.declared.cmp.Ordering.{Ordering}
@@ -22,14 +22,6 @@ module _ {K : Type 0} (cmp : K → K → Ordering) where
   abbrev pub with_one_less : List (K × ℕ) → K → List (K × ℕ)
   with_one_less es k = if count_of es k == 1 then remove_entry (is_at (cmp k)) es else set_value (is_at (cmp k)) es (count_of es k - 1)
 
-  -- each key has the number that it had
-  abbrev pub HasSameCounts : List (K × ℕ) → List (K × ℕ) → Type 0
-  HasSameCounts old new = (q : K) → count_of new q ≡ count_of old q
-
   -- the key has one more than it had, and each other the same
   abbrev pub HasOneMore : List (K × ℕ) → List (K × ℕ) → K → Type 0
   HasOneMore old new k = (q : K) → count_of new q ≡ count_of old q + (if is_eq (cmp k q) then 1 else 0)
-
-  -- one more where the test holds, and else each key has the number that it had
-  abbrev pub HasOneMoreWhere : Bool → List (K × ℕ) → List (K × ℕ) → K → Type 0
-  HasOneMoreWhere b old new k = (q : K) → count_of new q ≡ count_of old q + (if b && is_eq (cmp k q) then 1 else 0)

@@ -8,28 +8,29 @@ use crate::OutOfMemory;
 /// What counts keys, one by one, and is seen as the number of each key. Keys that compare equal are
 /// one key.
 pub trait Counter<K: Copy> {
+    // What a key stands for.
+    ghost Seen: { Type 0 };
+
+    ghost seen: { K → Seen };
+
     // The order of the keys.
-    ghost cmp: { K → K → Ordering };
+    ghost cmp: { Seen → Seen → Ordering };
 
     // How often each key was counted.
-    ghost number: { Self → K → ℕ };
-
-    /// The number at the key, 0 where it has none. Takes no memory.
-    fn number_at(&self, key: K) -> u64
-        ensures { result ≡ number self.now key };
+    ghost number: { Self → Seen → ℕ };
 
     /// Counts the key once more. Takes memory for a key that is not held, and leaves all as it was
     /// where the growth is refused.
     fn raise(&mut self, key: K) -> Result<(), OutOfMemory>
-        requires { number self.old key + 1 < 2 ^ 64 }
-        ensures ok { OnOk result (IsOneMore cmp (number self.old) (number self.new) key) }
+        requires { number self.old (seen key) + 1 < 2 ^ 64 }
+        ensures ok { OnOk result (IsOneMore cmp (number self.old) (number self.new) (seen key)) }
         ensures err { OnErr result (IsSame (number self.old) (number self.new)) }
-        ensures held { 0 < number self.old key → IsOk result };
+        ensures held { 0 < number self.old (seen key) → IsOk result };
 
     /// Counts the key once less. Takes no memory.
     fn lower(&mut self, key: K)
-        requires { 0 < number self.old key }
-        ensures { IsOneMore cmp (number self.new) (number self.old) key };
+        requires { 0 < number self.old (seen key) }
+        ensures { IsOneMore cmp (number self.new) (number self.old) (seen key) };
 
     ghost total: { IsTotalOrder cmp };
 }

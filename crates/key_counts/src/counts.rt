@@ -4,7 +4,7 @@ ghost use Rattle.std.specs.Map.{keys_of, values_of};
 ghost use Rattle.std.specs.Map.Iter.{ShowsInOrder, deref_pair};
 ghost use Rattle.std.proofs.lemmas.Map.Lookups.{CmpEqualImpliesEq};
 ghost use Rattle.key_counts.specs.Ends.{IsLeast, IsGreatest, IsSpan};
-ghost use Rattle.key_counts.specs.Counts.{count_of, with_one_more, with_each_more, with_one_less, HasOneMore, HasSameCounts};
+ghost use Rattle.key_counts.specs.Counts.{count_of, with_one_more, with_each_more, with_one_less, HasOneMore};
 ghost use Rattle.key_counts.specs.Rising.{Shows, times_in};
 
 use crate::runs::map_of_keys;
@@ -163,13 +163,13 @@ impl<K: Copy + Ord> Counts<K> {
 }
 
 impl<K: Copy + Ord> Counter<K> for Counts<K> {
+    ghost Seen = { K };
+
+    ghost seen = { λ k. k };
+
     ghost cmp = { K.cmp };
 
     ghost number = { λ es. count_of K.cmp es };
-
-    fn number_at(&self, key: K) -> u64 {
-        self.count(&key)
-    }
 
     fn raise(&mut self, key: K) -> Result<(), OutOfMemory> {
         Counts::raise(self, key)
@@ -180,28 +180,4 @@ impl<K: Copy + Ord> Counter<K> for Counts<K> {
     }
 
     ghost total = { K.Ord.total };
-}
-
-/// Counts one key more in each of two counts, or in neither where a growth is refused. Takes memory
-/// for a key that is not held.
-pub fn raise_both<A: Copy + Ord, B: Copy + Ord>(
-    first: &mut Counts<A>,
-    a: A,
-    second: &mut Counts<B>,
-    b: B,
-) -> Result<(), OutOfMemory>
-    requires first { count_of A.cmp first.old a + 1 < 2 ^ 64 }
-    requires second { count_of B.cmp second.old b + 1 < 2 ^ 64 }
-    ensures ok_first { OnOk result (HasOneMore A.cmp first.old first.new a) }
-    ensures ok_second { OnOk result (HasOneMore B.cmp second.old second.new b) }
-    ensures err_first { OnErr result (HasSameCounts A.cmp first.old first.new) }
-    ensures err_second { OnErr result (HasSameCounts B.cmp second.old second.new) }
-    ensures held { 0 < count_of A.cmp first.old a → 0 < count_of B.cmp second.old b → IsOk result }
-{
-    first.raise(a)?;
-    if let Err(error) = second.raise(b) {
-        first.lower(&a);
-        return Err(error);
-    }
-    Ok(())
 }

@@ -1,11 +1,11 @@
 //! Numbers that are counted, and how often. `Ratio` is a coordinate under its scalar, a fraction in
 //! lowest terms; `PackedRatio` the same with two flags in 8 bytes. `Counts` counts keys of any kind,
-//! one by one or all at once. The call that is named for a law does nothing: its contract is the
-//! law.
+//! one by one or all at once, in their order; a `Counter` is whatever counts keys one by one. The
+//! call that is named for a law does nothing: its contract is the law.
 //!
-//! `Counts::raise` and `raise_both` take memory only for a key that is not held; where a growth is
-//! refused they leave all as it was. `Counts::from_keys` counts all at once, and takes memory for
-//! what it makes. No other call takes memory.
+//! `Counter::raise`, `raise_any` and `raise_both` take memory only for a key that is not held; where
+//! a growth is refused they leave all as it was. `Counts::from_keys` counts all at once, and takes
+//! memory for what it makes, `Counts::list` for the list. No other call takes memory.
 #![tactic(auto)]
 
 mod counter;
@@ -19,10 +19,10 @@ mod ratio;
 mod runs;
 
 pub use crate::counter::Counter;
-pub use crate::counts::{Counts, raise_both};
+pub use crate::counts::Counts;
 pub use crate::from_count::FromCount;
 pub use crate::laws::equal_ratios_are_one;
 pub use crate::out_of_memory::OutOfMemory;
 pub use crate::packed_ratio::PackedRatio;
-pub use crate::raising::{lower_any, lower_two, raise_any, raise_two};
+pub use crate::raising::{beside, lower_any, lower_both, raise_any, raise_both};
 pub use crate::ratio::Ratio;

@@ -1,5 +1,5 @@
 -- What the running values have counted where a record is exchanged, inserted, removed or moved.
-use Rattle.std.specs.Prelude.{◌≡◌, ℕ, ◌+◌, ◌<◌, ◌≤◌, true, false, List, [], ◌∷◌, ◌++◌, length, map, sum_by, slice_get, slice_set, Some}
+use Rattle.std.specs.Prelude.{◌≡◌, ℕ, ◌+◌, ◌<◌, ◌≤◌, List, [], ◌∷◌, ◌++◌, length, map, sum_by, slice_get, slice_set, Some}
 use Rattle.std.proofs.Common.{arith, sym, ap, ◌∙◌, subst}
 use Rattle.std.specs.List.{insert, remove}
 use Rattle.std.proofs.lemmas.List.{map-append}
@@ -7,20 +7,19 @@ use Rattle.std.proofs.lemmas.List.Sums.{sum_by-cons}
 use Rattle.trace_store.specs.Moved.{with_moved, put_back}
 use Rattle.trace_record.specs.Facts.{Facts, facts_of}
 use Rattle.trace_record.specs.Keys.{Counted}
-use Rattle.trace_record.specs.Tally.{Tally, tally_of, plus, minus, Same, Holds, IsSmall}
+use Rattle.trace_record.specs.Tally.{Tally, tally_of, plus, minus, plus_beside, minus_beside, Same, Holds, HasKeys, HasKeysBeside, HoldsBeside}
 use Rattle.trace_record.specs.declared.record.Record.{Record}
-use Rattle.trace_record.proofs.TallyLemmas.{Same-trans, Same-sym, plus-Same, minus-Same, minus-plus, tally_of_one_more, tally_of_one_less, tally_holds_each, IsSmall-Same}
+use Rattle.trace_record.proofs.TallyLemmas.{Same-trans, Same-sym, plus-Same, minus-Same, tally_of_one_more, tally_of_one_less, tally_holds_each}
 use Rattle.fault_live.specs.FaultKeys.{keys_of_faults}
 use Rattle.grid_live.specs.GridKeys.{keys_of_grid}
 use Rattle.range_stats.specs.RangeKeys.{keys_of_ranges}
 use Rattle.range_stats.specs.TotalKeys.{keys_of_totals}
-use Rattle.live_reports.specs.declared.changes.Changes.{Changes}
 use Rattle.live_reports.specs.declared.values.Values.{Values}
-use Rattle.live_reports.specs.Reports.{AreFew, HaveCounted}
-use Rattle.live_reports.specs.Tallies.{Tallies, tallies_of, plus_each, minus_each, plus_where_each, minus_where_each, SameEach, AreSmall, AreSmallWhere, HoldEach}
+use Rattle.live_reports.specs.Reports.{AreFew, HaveCounted, HasEachKey}
+use Rattle.live_reports.specs.Tallies.{Tallies, tallies_of, tallies_of_records, plus_each, minus_each, plus_each_beside, minus_each_beside, SameEach, AreSmall, HoldEach, HoldEachBeside, HaveKeysBeside}
 use Rattle.live_reports.proofs.ListLemmas.{stands_at, cuts_at, item_at}
-use Rattle.live_reports.proofs.ChangeLemmas.{AreAlike, held, fits, counted}
-use Rattle.live_reports.proofs.SmallLemmas.{small_each, room_each, own_samples, AreSmall-Same}
+use Rattle.live_reports.proofs.BesideLemmas.{IsSmall-beside, HasKeys-beside, still_held, exchanged}
+use Rattle.live_reports.proofs.SmallLemmas.{small_each, room_each, own_samples, AreSmall-Same, SameEach-trans}
 
 -- a tally of one list is that of the same list
 same_list : (c : Counted) (t : Tally) (fs gs : List Facts) → fs ≡ gs → Same t (tally_of c fs) → Same t (tally_of c gs)
@@ -51,65 +50,62 @@ module _ (rs : List Record) (p : ℕ) (old new : Record) (there : slice_get rs p
   will_be : map facts_of (slice_set rs p new) ≡ map facts_of (stands_at rs p old there).front ++ facts_of new ∷ map facts_of (stands_at rs p old there).behind
   will_be = let st = stands_at rs p old there in parts (slice_set rs p new) st.front st.behind new (st.written new)
 
-  pub room_for : AreSmall (plus_each (tallies_of v) (facts_of new))
+  pub room_for : AreSmall (plus_each_beside (tallies_of v) (facts_of new) (facts_of old))
   room_for =
       let st = stands_at rs p old there in
       let own = own_samples st.front st.behind new in
       let all = ap (λ l. sum_by (λ (q : Record). q.number) l) (st.written new) in
       let most = few.samples in
-      room_each (tallies_of v) rs new is.counted is.few (omega arith)
+      let room = room_each (tallies_of v) rs new is.counted is.few (omega arith) in
+      record {
+        grid = IsSmall-beside keys_of_grid (tallies_of v).grid (facts_of new) (facts_of old) room.grid;
+        ranges = IsSmall-beside keys_of_ranges (tallies_of v).ranges (facts_of new) (facts_of old) room.ranges;
+        totals = IsSmall-beside keys_of_totals (tallies_of v).totals (facts_of new) (facts_of old) room.totals;
+        triples = IsSmall-beside keys_of_faults (tallies_of v).triples (facts_of new) (facts_of old) room.triples;
+      }
 
-  small_after : (c : Counted) → IsSmall (tally_of c (map facts_of (slice_set rs p new))) → IsSmall (tally_of c (map facts_of (stands_at rs p old there).front ++ facts_of new ∷ map facts_of (stands_at rs p old there).behind))
-  small_after c s = subst (λ (l : List Facts). IsSmall (tally_of c l)) will_be s
+  -- keys that the records have are found
+  keys_in : (c : Counted) (t : Tally) → Same t (tally_of c (map facts_of rs)) → HasKeys c (tally_of c (map facts_of rs)) (facts_of new) → HasKeysBeside c t (facts_of new) (facts_of old)
+  keys_in c t s held = HasKeys-beside c t (facts_of new) (facts_of old) (λ k. let a = s.count k in let b = held k in omega arith)
 
-  module _ (ch : Changes) (u : Tallies) (grew : SameEach u (plus_where_each ch (tallies_of v) (facts_of new))) where
-    pub exchange_holds : HoldEach ch u (facts_of old)
-    exchange_holds =
+  pub keys_for : HasEachKey rs new → HaveKeysBeside (tallies_of v) (facts_of new) (facts_of old)
+  keys_for held = record {
+    grid = keys_in keys_of_grid _ is.counted.grid held.grid;
+    ranges = keys_in keys_of_ranges _ is.counted.ranges held.ranges;
+    totals = keys_in keys_of_totals _ is.counted.totals held.totals;
+    triples = keys_in keys_of_faults _ is.counted.triples held.triples;
+  }
+
+  module _ (u : Tallies) (grew : SameEach u (plus_each_beside (tallies_of v) (facts_of new) (facts_of old))) where
+    held : (c : Counted) (t q : Tally) → Same t (tally_of c (map facts_of rs)) → Same q (plus_beside c t (facts_of new) (facts_of old)) → HoldsBeside c q (facts_of old) (facts_of new)
+    held c t q s g = let st = stands_at rs p old there in still_held c (map facts_of st.front) (map facts_of st.behind) (facts_of old) (facts_of new) t q (was c t s) g
+
+    pub exchange_holds : HoldEachBeside u (facts_of old) (facts_of new)
+    exchange_holds = record {
+      grid = held keys_of_grid _ _ is.counted.grid grew.grid;
+      ranges = held keys_of_ranges _ _ is.counted.ranges grew.ranges;
+      totals = held keys_of_totals _ _ is.counted.totals grew.totals;
+      triples = held keys_of_faults _ _ is.counted.triples grew.triples;
+    }
+
+    left : (c : Counted) (t q : Tally) → Same t (tally_of c (map facts_of rs)) → Same q (plus_beside c t (facts_of new) (facts_of old)) → Same (minus_beside c q (facts_of old) (facts_of new)) (tally_of c (map facts_of (slice_set rs p new)))
+    left c t q s g =
         let st = stands_at rs p old there in
-        let f = map facts_of st.front in
-        let b = map facts_of st.behind in
-        record {
-          grid = held keys_of_grid f b ch.grid (facts_of old) (facts_of new) (tallies_of v).grid u.grid (was keys_of_grid _ is.counted.grid) grew.grid;
-          ranges = held keys_of_ranges f b ch.ranges (facts_of old) (facts_of new) (tallies_of v).ranges u.ranges (was keys_of_ranges _ is.counted.ranges) grew.ranges;
-          totals = held keys_of_totals f b ch.totals (facts_of old) (facts_of new) (tallies_of v).totals u.totals (was keys_of_totals _ is.counted.totals) grew.totals;
-          triples = held keys_of_faults f b ch.triples (facts_of old) (facts_of new) (tallies_of v).triples u.triples (was keys_of_faults _ is.counted.triples) grew.triples;
-        }
+        same_list c _ _ _ (sym will_be) (exchanged c (map facts_of st.front) (map facts_of st.behind) (facts_of old) (facts_of new) t q (was c t s) g)
 
-    pub exchange_fits : AreSmallWhere ch (minus_each u (facts_of old))
-    exchange_fits =
-        let st = stands_at rs p old there in
-        let f = map facts_of st.front in
-        let b = map facts_of st.behind in
-        let small = small_each (slice_set rs p new) few in
-        record {
-          grid = fits keys_of_grid f b ch.grid (facts_of old) (facts_of new) (tallies_of v).grid u.grid (was keys_of_grid _ is.counted.grid) grew.grid (small_after keys_of_grid small.grid);
-          ranges = fits keys_of_ranges f b ch.ranges (facts_of old) (facts_of new) (tallies_of v).ranges u.ranges (was keys_of_ranges _ is.counted.ranges) grew.ranges (small_after keys_of_ranges small.ranges);
-          totals = fits keys_of_totals f b ch.totals (facts_of old) (facts_of new) (tallies_of v).totals u.totals (was keys_of_totals _ is.counted.totals) grew.totals (small_after keys_of_totals small.totals);
-          triples = fits keys_of_faults f b ch.triples (facts_of old) (facts_of new) (tallies_of v).triples u.triples (was keys_of_faults _ is.counted.triples) grew.triples (small_after keys_of_faults small.triples);
-        }
+    pub exchange_leaves : SameEach (minus_each_beside u (facts_of old) (facts_of new)) (tallies_of_records (map facts_of (slice_set rs p new)))
+    exchange_leaves = record {
+      grid = left keys_of_grid _ _ is.counted.grid grew.grid;
+      ranges = left keys_of_ranges _ _ is.counted.ranges grew.ranges;
+      totals = left keys_of_totals _ _ is.counted.totals grew.totals;
+      triples = left keys_of_faults _ _ is.counted.triples grew.triples;
+    }
 
-    now_is : (c : Counted) (t : Tally) → Same t (tally_of c (map facts_of (stands_at rs p old there).front ++ facts_of new ∷ map facts_of (stands_at rs p old there).behind)) → Same t (tally_of c (map facts_of (slice_set rs p new)))
-    now_is c t s = same_list c t _ _ (sym will_be) s
+    pub exchange_fits : AreSmall (minus_each_beside u (facts_of old) (facts_of new))
+    exchange_fits = AreSmall-Same _ _ exchange_leaves (small_each (slice_set rs p new) few)
 
-    pub exchange_counts : (w : Values) → SameEach (tallies_of w) (minus_where_each ch u (facts_of old))
-        → (ch.grid ≡ false → AreAlike keys_of_grid (facts_of old) (facts_of new))
-        → (ch.ranges ≡ false → AreAlike keys_of_ranges (facts_of old) (facts_of new))
-        → (ch.totals ≡ false → AreAlike keys_of_totals (facts_of old) (facts_of new))
-        → (ch.triples ≡ false → AreAlike keys_of_faults (facts_of old) (facts_of new))
-        → HaveCounted w (slice_set rs p new)
-    exchange_counts w shrunk grid ranges totals triples =
-        let st = stands_at rs p old there in
-        let f = map facts_of st.front in
-        let b = map facts_of st.behind in
-        record {
-          few = few;
-          counted = record {
-            grid = now_is keys_of_grid _ (counted keys_of_grid f b ch.grid (facts_of old) (facts_of new) (tallies_of v).grid u.grid (was keys_of_grid _ is.counted.grid) grew.grid _ shrunk.grid grid);
-            ranges = now_is keys_of_ranges _ (counted keys_of_ranges f b ch.ranges (facts_of old) (facts_of new) (tallies_of v).ranges u.ranges (was keys_of_ranges _ is.counted.ranges) grew.ranges _ shrunk.ranges ranges);
-            totals = now_is keys_of_totals _ (counted keys_of_totals f b ch.totals (facts_of old) (facts_of new) (tallies_of v).totals u.totals (was keys_of_totals _ is.counted.totals) grew.totals _ shrunk.totals totals);
-            triples = now_is keys_of_faults _ (counted keys_of_faults f b ch.triples (facts_of old) (facts_of new) (tallies_of v).triples u.triples (was keys_of_faults _ is.counted.triples) grew.triples _ shrunk.triples triples);
-          };
-        }
+    pub exchange_counts : (w : Values) → SameEach (tallies_of w) (minus_each_beside u (facts_of old) (facts_of new)) → HaveCounted w (slice_set rs p new)
+    exchange_counts w shrunk = record { few = few; counted = SameEach-trans _ _ _ shrunk exchange_leaves }
 
 -- ---- one record more
 
@@ -134,33 +130,17 @@ module _ (rs : List Record) (p : ℕ) (new : Record) (place : p ≤ length rs) (
       same_list c u _ _ (sym will_stand)
       (Same-trans _ _ _ g (Same-trans _ _ _ (plus-Same c _ _ (facts_of new) (same_list c t _ _ stood s)) (Same-sym _ _ (tally_of_one_more c (map facts_of cut.front) (map facts_of cut.behind) (facts_of new)))))
 
-  module _ (ch : Changes) (all : ch ≡ record { grid = true; ranges = true; totals = true; triples = true }) (u : Values) (grew : SameEach (tallies_of u) (plus_where_each ch (tallies_of v) (facts_of new))) where
-    grew_all : SameEach (tallies_of u) (plus_each (tallies_of v) (facts_of new))
-    grew_all = subst (λ (d : Changes). SameEach (tallies_of u) (plus_where_each d (tallies_of v) (facts_of new))) all grew
-
+  module _ (u : Values) (grew : SameEach (tallies_of u) (plus_each (tallies_of v) (facts_of new))) where
     pub insert_counts : HaveCounted u (insert rs p new)
     insert_counts = record {
       few = few;
       counted = record {
-        grid = grown_by keys_of_grid _ _ is.counted.grid grew_all.grid;
-        ranges = grown_by keys_of_ranges _ _ is.counted.ranges grew_all.ranges;
-        totals = grown_by keys_of_totals _ _ is.counted.totals grew_all.totals;
-        triples = grown_by keys_of_faults _ _ is.counted.triples grew_all.triples;
+        grid = grown_by keys_of_grid _ _ is.counted.grid grew.grid;
+        ranges = grown_by keys_of_ranges _ _ is.counted.ranges grew.ranges;
+        totals = grown_by keys_of_totals _ _ is.counted.totals grew.totals;
+        triples = grown_by keys_of_faults _ _ is.counted.triples grew.triples;
       };
     }
-
-    undone : (c : Counted) (t w : Tally) → Same w (plus c t (facts_of new)) → IsSmall t → IsSmall (minus c w (facts_of new))
-    undone c t w g small = IsSmall-Same _ _ (Same-sym _ _ (Same-trans _ _ _ (minus-Same c _ _ (facts_of new) g) (minus-plus c t (facts_of new)))) small
-
-    pub insert_undone : (d : Changes) → AreSmallWhere d (minus_each (tallies_of u) (facts_of new))
-    insert_undone d =
-        let small = AreSmall-Same _ _ is.counted (small_each rs is.few) in
-        record {
-          grid = λ e. undone keys_of_grid _ _ grew_all.grid small.grid;
-          ranges = λ e. undone keys_of_ranges _ _ grew_all.ranges small.ranges;
-          totals = λ e. undone keys_of_totals _ _ grew_all.totals small.totals;
-          triples = λ e. undone keys_of_faults _ _ grew_all.triples small.triples;
-        }
 
 -- ---- one record less
 
@@ -196,37 +176,27 @@ module _ (rs : List Record) (p : ℕ) (old : Record) (there : slice_get rs p ≡
         keys = λ k. let x = w.count k in let y = h.keys k in omega arith;
       }
 
-  pub remove_holds : (d : Changes) → HoldEach d (tallies_of v) (facts_of old)
-  remove_holds d = record {
-    grid = λ e. holds_one keys_of_grid _ is.counted.grid;
-    ranges = λ e. holds_one keys_of_ranges _ is.counted.ranges;
-    totals = λ e. holds_one keys_of_totals _ is.counted.totals;
-    triples = λ e. holds_one keys_of_faults _ is.counted.triples;
+  pub remove_holds : HoldEach (tallies_of v) (facts_of old)
+  remove_holds = record {
+    grid = holds_one keys_of_grid _ is.counted.grid;
+    ranges = holds_one keys_of_ranges _ is.counted.ranges;
+    totals = holds_one keys_of_totals _ is.counted.totals;
+    triples = holds_one keys_of_faults _ is.counted.triples;
   }
 
-  pub remove_fits : (d : Changes) → AreSmallWhere d (minus_each (tallies_of v) (facts_of old))
-  remove_fits d =
-      let small = small_each (remove rs p) few_left in
-      record {
-        grid = λ e. IsSmall-Same _ _ (Same-sym _ _ (left_of keys_of_grid _ is.counted.grid)) small.grid;
-        ranges = λ e. IsSmall-Same _ _ (Same-sym _ _ (left_of keys_of_ranges _ is.counted.ranges)) small.ranges;
-        totals = λ e. IsSmall-Same _ _ (Same-sym _ _ (left_of keys_of_totals _ is.counted.totals)) small.totals;
-        triples = λ e. IsSmall-Same _ _ (Same-sym _ _ (left_of keys_of_faults _ is.counted.triples)) small.triples;
-      }
+  remove_leaves : SameEach (minus_each (tallies_of v) (facts_of old)) (tallies_of_records (map facts_of (remove rs p)))
+  remove_leaves = record {
+    grid = left_of keys_of_grid _ is.counted.grid;
+    ranges = left_of keys_of_ranges _ is.counted.ranges;
+    totals = left_of keys_of_totals _ is.counted.totals;
+    triples = left_of keys_of_faults _ is.counted.triples;
+  }
 
-  pub remove_counts : (ch : Changes) → ch ≡ record { grid = true; ranges = true; totals = true; triples = true } → (w : Values)
-      → SameEach (tallies_of w) (minus_where_each ch (tallies_of v) (facts_of old)) → HaveCounted w (remove rs p)
-  remove_counts ch all w shrunk =
-      let less : SameEach (tallies_of w) (minus_each (tallies_of v) (facts_of old)) = subst (λ (d : Changes). SameEach (tallies_of w) (minus_where_each d (tallies_of v) (facts_of old))) all shrunk in
-      record {
-        few = few_left;
-        counted = record {
-          grid = Same-trans _ _ _ less.grid (left_of keys_of_grid _ is.counted.grid);
-          ranges = Same-trans _ _ _ less.ranges (left_of keys_of_ranges _ is.counted.ranges);
-          totals = Same-trans _ _ _ less.totals (left_of keys_of_totals _ is.counted.totals);
-          triples = Same-trans _ _ _ less.triples (left_of keys_of_faults _ is.counted.triples);
-        };
-      }
+  pub remove_fits : AreSmall (minus_each (tallies_of v) (facts_of old))
+  remove_fits = AreSmall-Same _ _ remove_leaves (small_each (remove rs p) few_left)
+
+  pub remove_counts : (w : Values) → SameEach (tallies_of w) (minus_each (tallies_of v) (facts_of old)) → HaveCounted w (remove rs p)
+  remove_counts w less = record { few = few_left; counted = SameEach-trans _ _ _ less remove_leaves }
 
 -- ---- one record at another place
 

@@ -1,6 +1,5 @@
 pub mod ListLemmas
-pub mod ChangeLemmas
-pub mod AlikeLemmas
+pub mod BesideLemmas
 pub mod SmallLemmas
 pub mod EditLemmas
 pub mod ExchangeLemmas

@@ -45,6 +45,14 @@ small_within rs few samples =
 pub small_each : (rs : List Record) → AreFew rs → AreSmall (tallies_of_records (map facts_of rs))
 small_each rs few = let a = few.records in let b = few.samples in small_within rs (omega arith) (omega arith)
 
+pub SameEach-trans : (t u v : Tallies) → SameEach t u → SameEach u v → SameEach t v
+SameEach-trans t u v p q = record {
+  grid = Same-trans _ _ _ p.grid q.grid;
+  ranges = Same-trans _ _ _ p.ranges q.ranges;
+  totals = Same-trans _ _ _ p.totals q.totals;
+  triples = Same-trans _ _ _ p.triples q.triples;
+}
+
 -- tallies that say the same as small ones
 pub AreSmall-Same : (t u : Tallies) → SameEach t u → AreSmall u → AreSmall t
 AreSmall-Same t u s small = record {

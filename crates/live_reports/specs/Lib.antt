@@ -1,4 +1,3 @@
-pub mod Where
 pub mod Alike
 pub mod Tallies
 pub mod Reports

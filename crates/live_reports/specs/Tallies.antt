@@ -1,7 +1,7 @@
 -- What the four running values count together.
 use Rattle.std.specs.Prelude.{List}
 use Rattle.trace_record.specs.Facts.{Facts}
-use Rattle.trace_record.specs.Tally.{Tally, tally_of, plus, minus, Same, IsSmall}
+use Rattle.trace_record.specs.Tally.{Tally, tally_of, plus, minus, plus_beside, minus_beside, Same, HasKeys, HasKeysBeside, Holds, HoldsBeside, IsSmall}
 use Rattle.fault_live.specs.FaultKeys.{keys_of_faults}
 use Rattle.fault_live.specs.OfFaults.{tally_of_faults}
 use Rattle.grid_live.specs.GridKeys.{keys_of_grid}
@@ -10,9 +10,7 @@ use Rattle.range_stats.specs.RangeKeys.{keys_of_ranges}
 use Rattle.range_stats.specs.OfRanges.{tally_of_ranges}
 use Rattle.range_stats.specs.TotalKeys.{keys_of_totals}
 use Rattle.range_stats.specs.OfTotals.{tally_of_totals}
-use Rattle.live_reports.specs.declared.changes.Changes.{Changes}
 use Rattle.live_reports.specs.declared.values.Values.{Values}
-use Rattle.live_reports.specs.Where.{plus_where, minus_where, SmallWhere, HeldWhere, HasKeysWhere}
 
 -- the tallies of grid, ranges, totals and triples together
 pub record Tallies : Type 0 where
@@ -37,22 +35,22 @@ plus_each t f = record { grid = plus keys_of_grid t.grid f; ranges = plus keys_o
 abbrev pub minus_each : Tallies → Facts → Tallies
 minus_each t f = record { grid = minus keys_of_grid t.grid f; ranges = minus keys_of_ranges t.ranges f; totals = minus keys_of_totals t.totals f; triples = minus keys_of_faults t.triples f }
 
--- one trace more in those of the four tallies that change
-abbrev pub plus_where_each : Changes → Tallies → Facts → Tallies
-plus_where_each c t f = record {
-  grid = plus_where c.grid keys_of_grid t.grid f;
-  ranges = plus_where c.ranges keys_of_ranges t.ranges f;
-  totals = plus_where c.totals keys_of_totals t.totals f;
-  triples = plus_where c.triples keys_of_faults t.triples f;
+-- one trace more in each of the four tallies beside another, for which it comes to stand
+abbrev pub plus_each_beside : Tallies → Facts → Facts → Tallies
+plus_each_beside t f g = record {
+  grid = plus_beside keys_of_grid t.grid f g;
+  ranges = plus_beside keys_of_ranges t.ranges f g;
+  totals = plus_beside keys_of_totals t.totals f g;
+  triples = plus_beside keys_of_faults t.triples f g;
 }
 
--- one trace less in those of the four tallies that change
-abbrev pub minus_where_each : Changes → Tallies → Facts → Tallies
-minus_where_each c t f = record {
-  grid = minus_where c.grid keys_of_grid t.grid f;
-  ranges = minus_where c.ranges keys_of_ranges t.ranges f;
-  totals = minus_where c.totals keys_of_totals t.totals f;
-  triples = minus_where c.triples keys_of_faults t.triples f;
+-- one trace less in each of the four tallies beside another, which stands for it
+abbrev pub minus_each_beside : Tallies → Facts → Facts → Tallies
+minus_each_beside t f g = record {
+  grid = minus_beside keys_of_grid t.grid f g;
+  ranges = minus_beside keys_of_ranges t.ranges f g;
+  totals = minus_beside keys_of_totals t.totals f g;
+  triples = minus_beside keys_of_faults t.triples f g;
 }
 
 -- the four tallies say the same as four others
@@ -69,23 +67,30 @@ pub record AreSmall (t : Tallies) : Type 0 where
   pub totals : IsSmall t.totals
   pub triples : IsSmall t.triples
 
--- those of the four tallies that change are small
-pub record AreSmallWhere (c : Changes) (t : Tallies) : Type 0 where
-  pub grid : SmallWhere c.grid t.grid
-  pub ranges : SmallWhere c.ranges t.ranges
-  pub totals : SmallWhere c.totals t.totals
-  pub triples : SmallWhere c.triples t.triples
+-- all four tallies have the trace
+pub record HoldEach (t : Tallies) (f : Facts) : Type 0 where
+  pub grid : Holds keys_of_grid t.grid f
+  pub ranges : Holds keys_of_ranges t.ranges f
+  pub totals : Holds keys_of_totals t.totals f
+  pub triples : Holds keys_of_faults t.triples f
 
--- those of the four tallies that change have the trace
-pub record HoldEach (c : Changes) (t : Tallies) (f : Facts) : Type 0 where
-  pub grid : HeldWhere c.grid keys_of_grid t.grid f
-  pub ranges : HeldWhere c.ranges keys_of_ranges t.ranges f
-  pub totals : HeldWhere c.totals keys_of_totals t.totals f
-  pub triples : HeldWhere c.triples keys_of_faults t.triples f
+-- all four tallies have the trace, but for the keys that the other has too
+pub record HoldEachBeside (t : Tallies) (f g : Facts) : Type 0 where
+  pub grid : HoldsBeside keys_of_grid t.grid f g
+  pub ranges : HoldsBeside keys_of_ranges t.ranges f g
+  pub totals : HoldsBeside keys_of_totals t.totals f g
+  pub triples : HoldsBeside keys_of_faults t.triples f g
 
--- those of the four tallies that change have each key of the trace
-pub record HaveKeys (c : Changes) (t : Tallies) (f : Facts) : Type 0 where
-  pub grid : HasKeysWhere c.grid keys_of_grid t.grid f
-  pub ranges : HasKeysWhere c.ranges keys_of_ranges t.ranges f
-  pub totals : HasKeysWhere c.totals keys_of_totals t.totals f
-  pub triples : HasKeysWhere c.triples keys_of_faults t.triples f
+-- all four tallies have each key of the trace
+pub record HaveKeys (t : Tallies) (f : Facts) : Type 0 where
+  pub grid : HasKeys keys_of_grid t.grid f
+  pub ranges : HasKeys keys_of_ranges t.ranges f
+  pub totals : HasKeys keys_of_totals t.totals f
+  pub triples : HasKeys keys_of_faults t.triples f
+
+-- all four tallies have each key of the trace that the other has not
+pub record HaveKeysBeside (t : Tallies) (f g : Facts) : Type 0 where
+  pub grid : HasKeysBeside keys_of_grid t.grid f g
+  pub ranges : HasKeysBeside keys_of_ranges t.ranges f g
+  pub totals : HasKeysBeside keys_of_totals t.totals f g
+  pub triples : HasKeysBeside keys_of_faults t.triples f g

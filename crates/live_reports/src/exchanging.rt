@@ -1,12 +1,12 @@
 // Records that stand in for as many others, from a place on: first the new ones are counted beside
-// the old ones, since that may be refused, and then the old ones are counted no longer.
+// the old ones, since that may be refused, and then the old ones are counted no longer. What a new
+// record and the old one have in common is not touched.
 ghost use Rattle.std.specs.Prelude.{◌+◌, ◌<◌, ◌≤◌, length, map, take, drop, slice_get, All, IfSome, OnOk, OnErr, IsOk};
 ghost use Rattle.trace_record.specs.Facts.{facts_of};
 ghost use Rattle.live_reports.specs.Exchanged.{with_records, tallies_with_new, AreFewTogether};
 ghost use Rattle.live_reports.specs.Reports.{HasEachKey};
 ghost use Rattle.live_reports.specs.Tallies.{tallies_of, tallies_of_records, SameEach};
 
-use crate::changes::changes_between;
 use crate::values::Values;
 use record_table::{OutOfMemory, Records};
 use trace_record::Record;
@@ -59,7 +59,7 @@ fn add_at(
         unreachable!()
     };
     let record = new[k];
-    values.add(changes_between(&old, &record), &record)
+    values.add_beside(&record, &old)
 }
 
 // No longer counts the new records from new record k on.
@@ -89,7 +89,7 @@ fn remove_at(values: &mut Values, records: &Records, place: usize, new: &[Record
         unreachable!()
     };
     let record = new[k];
-    values.remove(changes_between(&old, &record), &record);
+    values.remove_beside(&record, &old);
 }
 
 // No longer counts the records in whose places the new ones, which are counted, come to stand.
@@ -124,5 +124,5 @@ fn drop_at(values: &mut Values, records: &Records, place: usize, new: &[Record],
         unreachable!()
     };
     let record = new[k];
-    values.remove(changes_between(&old, &record), &old);
+    values.remove_beside(&old, &record);
 }

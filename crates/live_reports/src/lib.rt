@@ -9,7 +9,6 @@
 //! changed; `remove`, `take_back` and the calls that lend take none.
 #![tactic(auto)]
 
-mod changes;
 mod counting;
 mod exchanging;
 mod live_reports;

@@ -11,12 +11,12 @@ ghost use Rattle.range_stats.specs.RangeKeys.{keys_of_ranges};
 ghost use Rattle.range_stats.specs.OfRanges.{tally_of_ranges};
 ghost use Rattle.range_stats.specs.TotalKeys.{keys_of_totals};
 ghost use Rattle.range_stats.specs.OfTotals.{tally_of_totals};
+ghost use Rattle.live_reports.specs.Alike.{same_cell};
 ghost use Rattle.live_reports.specs.Exchanged.{with_records, same_cells as same_cells_of};
 ghost use Rattle.live_reports.specs.OfRecords.{AreReportsOf};
 ghost use Rattle.live_reports.specs.Reports.{AreFew, HasEachKey};
 
 use crate::OutOfMemory;
-use crate::changes::{all_changes, changes_between, has_same_cell};
 use crate::exchanging::{add_each, drop_each};
 use crate::values::Values;
 use fault_live::Faults;
@@ -77,8 +77,8 @@ impl LiveReports {
     }
 
     /// Counts the record that comes to stand where another stands among the records, and the other
-    /// no longer. A value that counts both alike counts nothing anew. Takes memory only for a key
-    /// that no record has.
+    /// no longer. What both have in common is not counted anew. Takes memory only for a key that no
+    /// record has.
     pub fn exchange(
         &mut self,
         records: &Records,
@@ -96,15 +96,14 @@ impl LiveReports {
         let Some(old) = records.get(place) else {
             unreachable!()
         };
-        let changes = changes_between(&old, changed);
-        self.values.add(changes, changed)?;
-        self.values.remove(changes, &old);
+        self.values.add_beside(changed, &old)?;
+        self.values.remove_beside(&old, changed);
         Ok(())
     }
 
     /// Counts the records that come to stand where as many others stand among the records, from a
-    /// place on, and the others no longer. A value that counts two alike counts nothing anew. All
-    /// or none. Takes memory only for a key that no record has.
+    /// place on, and the others no longer. What a record and the one that it stands for have in
+    /// common is not counted anew. All or none. Takes memory only for a key that no record has.
     pub fn exchange_each(
         &mut self,
         records: &Records,
@@ -139,7 +138,7 @@ impl LiveReports {
             (AreReportsOf self.new (insert records.now place added.now)) }
         ensures err { OnErr result (AreReportsOf self.new records.now) }
     {
-        self.values.add(all_changes(), added)?;
+        self.values.add(added)?;
         Ok(())
     }
 
@@ -150,7 +149,7 @@ impl LiveReports {
         requires few { AreFew records.now }
         ensures { AreReportsOf self.new records.now }
     {
-        self.values.remove(all_changes(), added);
+        self.values.remove(added);
     }
 
     /// No longer counts the record at a place among the records, which goes. Takes no memory.
@@ -162,7 +161,7 @@ impl LiveReports {
         let Some(record) = records.get(place) else {
             unreachable!()
         };
-        self.values.remove(all_changes(), &record);
+        self.values.remove(&record);
     }
 }
 
@@ -183,4 +182,11 @@ pub fn same_cells(records: &Records, place: usize, new: &[Record]) -> bool
         }
     }
     true
+}
+
+// Whether both have the same inline and crossline.
+fn has_same_cell(old: &Record, new: &Record) -> bool
+    ensures { result ≡ same_cell old.now new.now }
+{
+    old.inline == new.inline && old.crossline == new.crossline
 }

@@ -1,9 +1,8 @@
-ghost use Rattle.std.specs.Prelude.{◌≡◌, OnOk, OnErr, IsOk, IfOk, map};
+ghost use Rattle.std.specs.Prelude.{OnOk, OnErr, IsOk, IfOk, map};
 ghost use Rattle.trace_record.specs.Facts.{facts_of};
-ghost use Rattle.live_reports.specs.Tallies.{tallies_of, tallies_of_records, plus_each, minus_each, plus_where_each, minus_where_each, SameEach, AreSmall, AreSmallWhere, HoldEach, HaveKeys};
+ghost use Rattle.live_reports.specs.Tallies.{tallies_of, tallies_of_records, plus_each, minus_each, plus_each_beside, minus_each_beside, SameEach, AreSmall, HoldEach, HoldEachBeside, HaveKeys, HaveKeysBeside};
 
-use crate::changes::Changes;
-use crate::counting::{add_both, remove_both};
+use crate::counting::{add_both, add_both_beside};
 use fault_live::Faults;
 use grid_live::Grid;
 use range_stats::{Ranges, Totals};
@@ -39,62 +38,70 @@ impl Values {
         })
     }
 
-    // Counts the trace in each value that it changes, or in none where a growth is refused.
-    pub(crate) fn add(&mut self, changes: Changes, trace: &Record) -> Result<(), OutOfMemory>
+    // Counts the trace in each value, or in none where a growth is refused.
+    pub(crate) fn add(&mut self, trace: &Record) -> Result<(), OutOfMemory>
         requires small { AreSmall (tallies_of self.old) }
         requires room { AreSmall (plus_each (tallies_of self.old) (facts_of trace.now)) }
         ensures ok { OnOk result (SameEach (tallies_of self.new)
-            (plus_where_each changes (tallies_of self.old) (facts_of trace.now))) }
+            (plus_each (tallies_of self.old) (facts_of trace.now))) }
         ensures err { OnErr result (SameEach (tallies_of self.new) (tallies_of self.old)) }
-        ensures held { HaveKeys changes (tallies_of self.old) (facts_of trace.now) → IsOk result }
+        ensures held { HaveKeys (tallies_of self.old) (facts_of trace.now) → IsOk result }
     {
-        add_both(
-            &mut self.grid,
-            changes.grid,
-            &mut self.ranges,
-            changes.ranges,
-            trace,
-        )?;
-        if let Err(error) = add_both(
-            &mut self.totals,
-            changes.totals,
-            &mut self.triples,
-            changes.triples,
-            trace,
-        ) {
-            remove_both(
-                &mut self.grid,
-                changes.grid,
-                &mut self.ranges,
-                changes.ranges,
-                trace,
-            );
+        add_both(&mut self.grid, &mut self.ranges, trace)?;
+        if let Err(error) = add_both(&mut self.totals, &mut self.triples, trace) {
+            self.grid.remove(trace);
+            self.ranges.remove(trace);
             return Err(error);
         }
         Ok(())
     }
 
-    // No longer counts the trace in each value that it changes.
-    pub(crate) fn remove(&mut self, changes: Changes, trace: &Record)
-        requires held { HoldEach changes (tallies_of self.old) (facts_of trace.now) }
-        requires small { AreSmallWhere changes
-            (minus_each (tallies_of self.old) (facts_of trace.now)) }
+    // No longer counts the trace in each value.
+    pub(crate) fn remove(&mut self, trace: &Record)
+        requires held { HoldEach (tallies_of self.old) (facts_of trace.now) }
+        requires small { AreSmall (minus_each (tallies_of self.old) (facts_of trace.now)) }
         ensures { SameEach (tallies_of self.new)
-            (minus_where_each changes (tallies_of self.old) (facts_of trace.now)) }
+            (minus_each (tallies_of self.old) (facts_of trace.now)) }
     {
-        remove_both(
-            &mut self.grid,
-            changes.grid,
-            &mut self.ranges,
-            changes.ranges,
-            trace,
-        );
-        remove_both(
-            &mut self.totals,
-            changes.totals,
-            &mut self.triples,
-            changes.triples,
-            trace,
-        );
+        self.grid.remove(trace);
+        self.ranges.remove(trace);
+        self.totals.remove(trace);
+        self.triples.remove(trace);
+    }
+
+    // Counts the trace in each value beside another, for which it comes to stand, or in none where
+    // a growth is refused.
+    pub(crate) fn add_beside(&mut self, trace: &Record, other: &Record) -> Result<(), OutOfMemory>
+        requires small { AreSmall (tallies_of self.old) }
+        requires room { AreSmall (plus_each_beside (tallies_of self.old) (facts_of trace.now)
+            (facts_of other.now)) }
+        ensures ok { OnOk result (SameEach (tallies_of self.new)
+            (plus_each_beside (tallies_of self.old) (facts_of trace.now) (facts_of other.now))) }
+        ensures err { OnErr result (SameEach (tallies_of self.new) (tallies_of self.old)) }
+        ensures held { HaveKeysBeside (tallies_of self.old) (facts_of trace.now)
+            (facts_of other.now) → IsOk result }
+    {
+        add_both_beside(&mut self.grid, &mut self.ranges, trace, other)?;
+        if let Err(error) = add_both_beside(&mut self.totals, &mut self.triples, trace, other) {
+            self.grid.remove_beside(trace, other);
+            self.ranges.remove_beside(trace, other);
+            return Err(error);
+        }
+        Ok(())
+    }
+
+    // No longer counts the trace in each value beside another, which stands for it.
+    pub(crate) fn remove_beside(&mut self, trace: &Record, other: &Record)
+        requires held { HoldEachBeside (tallies_of self.old) (facts_of trace.now)
+            (facts_of other.now) }
+        requires small { AreSmall (minus_each_beside (tallies_of self.old) (facts_of trace.now)
+            (facts_of other.now)) }
+        ensures { SameEach (tallies_of self.new)
+            (minus_each_beside (tallies_of self.old) (facts_of trace.now) (facts_of other.now)) }
+    {
+        self.grid.remove_beside(trace, other);
+        self.ranges.remove_beside(trace, other);
+        self.totals.remove_beside(trace, other);
+        self.triples.remove_beside(trace, other);
     }
 }

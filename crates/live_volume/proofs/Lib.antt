@@ -2,3 +2,4 @@ pub mod HeldLemmas
 mod ManyTracesLemmas
 mod RangeLemmas
 pub mod ComputedLemmas
+pub mod SortLemmas

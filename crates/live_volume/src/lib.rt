@@ -12,7 +12,7 @@
 //!
 //! `load` takes memory for the file's bytes, the list of its traces, the six geometry names and the
 //! records with what has counted them; `apply` for `Set`, `Map`, `Patch`, `Blank`, `Copy`, `Move`,
-//! `Resize`, `Renumber` and `Compute` alone; `ask` for answers that are texts or lists alone: `Line`,
+//! `Resize`, `Renumber`, `Compute` and `Sort` alone; `ask` for answers that are texts or lists alone: `Line`,
 //! `Lines`, `Stanzas`, `Fields`, `Grid`, `Inlines`, `Crosslines`, `Histogram`, `Slice`, `Faults`,
 //! `Table`, `Find`, `Header` and `Extremes`.
 #![tactic(auto)]
@@ -23,6 +23,7 @@ mod live_volume;
 mod many_queries;
 mod number_edits;
 mod report_queries;
+mod sort_edit;
 mod trace_edits;
 mod volume_edits;
 

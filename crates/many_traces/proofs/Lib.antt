@@ -5,3 +5,7 @@ mod NameLemmas
 mod SeenLemmas
 pub mod FormulaLemmas
 pub mod NumbersLemmas
+mod InOrderLemmas
+mod RowOrderLemmas
+pub mod ExchangeLemmas
+pub mod SortedTraceLemmas

@@ -1,10 +1,10 @@
 pub mod EndKeyLemmas
-pub mod EndLemmas
 pub mod UnpackedLemmas
-pub mod OwnValueLemmas
+pub mod OwnKeyLemmas
 pub mod RangeLemmas
 pub mod SmallTallyLemmas
 pub mod SumLemmas
 pub mod TallyRangeLemmas
 pub mod TotalsLemmas
 pub mod LoadLemmas
+pub mod WholeLemmas

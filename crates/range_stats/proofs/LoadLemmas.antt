@@ -25,9 +25,9 @@ use Rattle.range_stats.specs.declared.totals.Totals.{Totals}
 
 -- ranges that counted the records' numbers show the records' tally
 pub Same-loaded_ranges : (v : Ranges) (rs : List Record) → v.records ≡ length rs
-    → Shows int_cmp (times_in int_cmp (map (λ r. r.inline) rs)) v.inlines
-    → Shows int_cmp (times_in int_cmp (map (λ r. r.crossline) rs)) v.crosslines
-    → Shows int_cmp (times_in int_cmp (map (λ r. r.offset) rs)) v.offsets
+    → ((q : ℤ) → count_of int_cmp v.inlines q ≡ times_in int_cmp (map (λ r. r.inline) rs) q)
+    → ((q : ℤ) → count_of int_cmp v.crosslines q ≡ times_in int_cmp (map (λ r. r.crossline) rs) q)
+    → ((q : ℤ) → count_of int_cmp v.offsets q ≡ times_in int_cmp (map (λ r. r.offset) rs) q)
     → ((q : Ratio) → count_of ratio_cmp v.coordinates_x q ≡ times_in ratio_cmp (map (λ r. r.x) rs) q)
     → ((q : Ratio) → count_of ratio_cmp v.coordinates_y q ≡ times_in ratio_cmp (map (λ r. r.y) rs) q)
     → Same (tally_of_ranges v) (tally_of keys_of_ranges (map facts_of rs))
@@ -38,15 +38,15 @@ Same-loaded_ranges v rs n inlines crosslines offsets xs ys = record {
   count = elim [
     | cell i x ↦ sym (sum_by-zero (map facts_of rs))
     | inline i ↦
-        inlines.counts i
+        inlines i
         ∙ ap (λ ks. times_in int_cmp ks i) (map-facts (λ r. r.inline) (λ f. f.inline) (λ r. refl) rs)
         ∙ times_in-map int_cmp (λ f. f.inline) (λ f k. ranges_has f (inline k)) (λ f k. refl) (map facts_of rs) i
     | crossline x ↦
-        crosslines.counts x
+        crosslines x
         ∙ ap (λ ks. times_in int_cmp ks x) (map-facts (λ r. r.crossline) (λ f. f.crossline) (λ r. refl) rs)
         ∙ times_in-map int_cmp (λ f. f.crossline) (λ f k. ranges_has f (crossline k)) (λ f k. refl) (map facts_of rs) x
     | offset o ↦
-        offsets.counts o
+        offsets o
         ∙ ap (λ ks. times_in int_cmp ks o) (map-facts (λ r. r.offset) (λ f. f.offset) (λ r. refl) rs)
         ∙ times_in-map int_cmp (λ f. f.offset) (λ f k. ranges_has f (offset k)) (λ f k. refl) (map facts_of rs) o
     | coordinate_x r ↦

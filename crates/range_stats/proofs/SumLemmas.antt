@@ -1,15 +1,13 @@
 -- The number of the samples of traces that have values and their sum, trace by trace.
-use Rattle.std.specs.Prelude.{◌≡◌, ℕ, ℤ, pos, neg_ℤ, ◌+◌, ◌*◌, ◌^◌, ◌≤◌, ◌+ℤ◌, ◌-ℤ◌, ◌≤ℤ◌, List, [], ◌∷◌, map, sum_by, Some, None, refl}
-use Rattle.std.proofs.Common.{arith, subst, SFits, to_z, of_z}
+use Rattle.std.specs.Prelude.{◌≡◌, ℕ, ℤ, pos, neg_ℤ, ◌+◌, ◌*◌, ◌^◌, ◌≤◌, ◌+ℤ◌, ◌-ℤ◌, ◌≤ℤ◌, List, [], ◌∷◌, map, sum_by, refl}
+use Rattle.std.proofs.Common.{arith, SFits, to_z, of_z}
 use Rattle.std.specs.Int.{w128}
 use Rattle.std.proofs.lemmas.Int.{ints, to_z-of_z}
 use Rattle.std.proofs.lemmas.List.Sums.{sum_by-cons}
 use Rattle.trace_record.specs.Facts.{facts_of, number_of_values, sum_of_values}
 use Rattle.trace_record.specs.Statistics.{int_sum}
-use Rattle.trace_record.specs.declared.amplitudes.Amplitudes.{Amplitudes}
 use Rattle.trace_record.specs.declared.record.Record.{Record}
 use Rattle.trace_record.proofs.TallyLemmas.{own-low, own-high}
-use Rattle.range_stats.proofs.EndKeyLemmas.{number-of, sum-of}
 
 -- the number and the sum of the samples of traces
 abbrev pub number_of : List Record → ℕ
@@ -28,7 +26,8 @@ pub record AreOfFront (n : ℕ) (s : ℤ) (rest all : List Record) : Type 0 wher
 pub front_of_none : (all : List Record) → AreOfFront 0 (pos 0) all all
 front_of_none all = record { number = omega arith; sum = omega (arith, ints); low = omega (arith, ints); high = omega (arith, ints) }
 
-one_trace_more : (n : ℕ) (s : ℤ) (r : Record) (rest all : List Record) → AreOfFront n s (r ∷ rest) all → AreOfFront (n + number_of_values (facts_of r)) (s +ℤ sum_of_values (facts_of r)) rest all
+-- one trace more
+pub one_trace_more : (n : ℕ) (s : ℤ) (r : Record) (rest all : List Record) → AreOfFront n s (r ∷ rest) all → AreOfFront (n + number_of_values (facts_of r)) (s +ℤ sum_of_values (facts_of r)) rest all
 one_trace_more n s r rest all h =
     let step = sum_by-cons number_of_values (facts_of r) (map facts_of rest) in
     let number = h.number in
@@ -38,22 +37,6 @@ one_trace_more n s r rest all h =
     let here_low = own-low r in
     let here_high = own-high r in
     record { number = omega arith; sum = omega (arith, ints); low = omega (arith, ints); high = omega (arith, ints) }
-
--- one trace more whose samples have values
-pub valued_more : (n : ℕ) (s : ℤ) (r : Record) (a : Amplitudes) (rest all : List Record) → r.amplitudes ≡ Some a → AreOfFront n s (r ∷ rest) all → AreOfFront (n + r.number) (s +ℤ a.sum) rest all
-valued_more n s r a rest all e h =
-    subst (λ (m : ℕ). AreOfFront (n + m) (s +ℤ a.sum) rest all) (number-of (facts_of r) (Some a) e)
-    (subst (λ (t : ℤ). AreOfFront (n + number_of_values (facts_of r)) (s +ℤ t) rest all) (sum-of (facts_of r) (Some a) e) (one_trace_more n s r rest all h))
-
--- and one whose samples have none
-pub opaque_more : (n : ℕ) (s : ℤ) (r : Record) (rest all : List Record) → r.amplitudes ≡ None → AreOfFront n s (r ∷ rest) all → AreOfFront n s rest all
-opaque_more n s r rest all e h =
-    let more = one_trace_more n s r rest all h in
-    let number = number-of (facts_of r) None e in
-    let sum = sum-of (facts_of r) None e in
-    let now = more.number in
-    let there = more.sum in
-    record { number = omega arith; sum = omega (arith, ints); low = h.low; high = h.high }
 
 -- the sum of at most 2^41 samples fits 128 bits
 pub sum_fits : (n : ℕ) (s : ℤ) (rest all : List Record) → AreOfFront n s rest all → number_of all ≤ 2 ^ 41 → SFits w128 s

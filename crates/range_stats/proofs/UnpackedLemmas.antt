@@ -13,7 +13,7 @@ use Rattle.key_counts.specs.Rising.{times_in}
 use Rattle.key_counts.specs.declared.packed_ratio.PackedRatio.{PackedRatio}
 use Rattle.key_counts.specs.declared.ratio.Ratio.{Ratio}
 use Rattle.key_counts.proofs.ShownLemmas.{times_in-map}
-use Rattle.range_stats.specs.Extremes.{IsBetween, IsSpan}
+use Rattle.key_counts.specs.Ends.{IsBetween, IsSpan}
 use Rattle.range_stats.specs.Unpacked.{with_ratios}
 
 lookup_unpacked : (es : List (PackedRatio × ℕ)) (p : PackedRatio) → lookup (is_at (packed_cmp p)) es ≡ lookup (is_at (ratio_cmp (ratio_in p))) (with_ratios es)

@@ -5,6 +5,8 @@ pub mod Ranges
 pub mod Totals
 pub mod OfTally
 pub mod Extremes
+pub mod Whole
+pub mod OfKeys
 pub mod OfTotals
 pub mod OfRanges
 pub mod Laws

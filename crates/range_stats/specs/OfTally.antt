@@ -5,7 +5,7 @@ use Rattle.trace_record.specs.Tally.{Tally}
 use Rattle.key_counts.specs.RatioOrder.{ratio_cmp}
 use Rattle.key_counts.specs.declared.ratio.Ratio.{Ratio}
 use Rattle.trace_record.specs.declared.statistics.Statistics.{Statistics}
-use Rattle.range_stats.specs.Extremes.{IsSpan}
+use Rattle.key_counts.specs.Ends.{IsSpan}
 use Rattle.range_stats.specs.declared.quantity.Quantity.{Quantity}
 use Rattle.range_stats.specs.declared.quantity.Quantity.TheVariants.{Inline, Crossline, Offset, X, Y}
 

@@ -1,12 +1,11 @@
-ghost use Rattle.std.specs.Prelude.{◌≡◌, ◌+◌, ◌<◌, ◌^◌, [], map, OnOk, OnErr, IsOk, IfOk};
-ghost use Rattle.key_counts.specs.Counts.{count_of, HasOneMore, HasSameCounts};
+ghost use Rattle.std.specs.Prelude.{◌≡◌, [], map, IfOk};
+ghost use Rattle.key_counts.specs.Counts.{count_of};
 ghost use Rattle.key_counts.specs.Packed.{ratio_in};
 ghost use Rattle.key_counts.specs.RatioOrder.{ratio_cmp};
 ghost use Rattle.key_counts.specs.Rising.{times_in};
-ghost use Rattle.range_stats.specs.Extremes.{IsSpan};
+ghost use Rattle.key_counts.specs.Ends.{IsSpan};
 
-use crate::counted::span;
-use key_counts::{Counts, OutOfMemory, PackedRatio, Ratio};
+use key_counts::{Counter, Counts, OutOfMemory, PackedRatio, Ratio};
 use std::alloc::Global;
 use std::marker::Model;
 
@@ -55,27 +54,33 @@ impl CoordinateCounts {
     pub fn span(&self) -> Option<(Ratio, Ratio)>
         ensures { IsSpan ratio_cmp (count_of ratio_cmp self.now) result }
     {
-        let (least, greatest) = span(&self.packed)?;
+        let (least, greatest) = self.packed.span()?;
         Some((least.ratio(), greatest.ratio()))
     }
+}
 
-    /// Counts the coordinate once more. Takes memory for one that is not held, and leaves all as it
-    /// was where the growth is refused.
-    pub fn raise(&mut self, key: PackedRatio) -> Result<(), OutOfMemory>
-        requires { count_of ratio_cmp self.old (ratio_in key) + 1 < 2 ^ 64 }
-        ensures ok { OnOk result (HasOneMore ratio_cmp self.old self.new (ratio_in key)) }
-        ensures err { OnErr result (HasSameCounts ratio_cmp self.old self.new) }
-        ensures held { 0 < count_of ratio_cmp self.old (ratio_in key) → IsOk result }
-    {
+impl Counter<PackedRatio> for CoordinateCounts {
+    ghost use Rattle.key_counts.specs.Counts.{count_of};
+    ghost use Rattle.key_counts.specs.Packed.{ratio_in};
+    ghost use Rattle.key_counts.specs.RatioOrder.{ratio_cmp, ratio_total};
+    ghost use Rattle.key_counts.specs.declared.ratio.Ratio.{Ratio};
+
+    ghost Seen = { Ratio };
+
+    ghost seen = { ratio_in };
+
+    ghost cmp = { ratio_cmp };
+
+    ghost number = { λ es. count_of ratio_cmp es };
+
+    fn raise(&mut self, key: PackedRatio) -> Result<(), OutOfMemory> {
         self.packed.raise(key)?;
         Ok(())
     }
 
-    /// Counts the coordinate once less. Takes no memory.
-    pub fn lower(&mut self, key: PackedRatio)
-        requires { 0 < count_of ratio_cmp self.old (ratio_in key) }
-        ensures { HasOneMore ratio_cmp self.new self.old (ratio_in key) }
-    {
+    fn lower(&mut self, key: PackedRatio) {
         self.packed.lower(&key);
     }
+
+    ghost total = { ratio_total };
 }

@@ -1,61 +1,50 @@
-// The keys of records that ranges count, in their order.
-ghost use Rattle.std.specs.Prelude.{◌≡◌, IfOk, map, filter_map};
-ghost use Rattle.key_counts.specs.Packed.{ratio_in};
+use key_counts::{PackedRatio, beside};
+use trace_record::Record;
 
-use key_counts::PackedRatio;
-use record_table::Records;
-use std::alloc::{AllocError, Global};
-
-pub(crate) fn inline_keys(alloc: Global, records: &Records) -> Result<Vec<i32>, AllocError>
-    ensures { IfOk result (λ keys. keys.items ≡ map (λ r. r.inline) records.now) }
-{
-    records.iter().map(|r| r.inline).collect(alloc)
+// Keys of a trace that are counted, or no longer. A key that is missing is not touched.
+#[derive(Clone, Copy)]
+pub(crate) struct Keys {
+    pub inline: Option<i32>,
+    pub crossline: Option<i32>,
+    pub offset: Option<i32>,
+    pub x: Option<PackedRatio>,
+    pub y: Option<PackedRatio>,
 }
 
-pub(crate) fn crossline_keys(alloc: Global, records: &Records) -> Result<Vec<i32>, AllocError>
-    ensures { IfOk result (λ keys. keys.items ≡ map (λ r. r.crossline) records.now) }
-{
-    records.iter().map(|r| r.crossline).collect(alloc)
-}
+impl Keys {
+    ghost use Rattle.std.specs.Prelude.{◌≡◌, ◌-◌};
+    ghost use Rattle.trace_record.specs.Facts.{facts_of};
+    ghost use Rattle.trace_record.specs.Keys.{Key};
+    ghost use Rattle.trace_record.specs.Tally.{times};
+    ghost use Rattle.range_stats.specs.RangeKeys.{keys_of_ranges};
+    ghost use Rattle.range_stats.specs.OfKeys.{times_among};
 
-pub(crate) fn offset_keys(alloc: Global, records: &Records) -> Result<Vec<i32>, AllocError>
-    ensures { IfOk result (λ keys. keys.items ≡ map (λ r. r.offset) records.now) }
-{
-    records.iter().map(|r| r.offset).collect(alloc)
-}
+    // Each key of the trace.
+    pub(crate) fn of(trace: &Record) -> Keys
+        ensures { (k : Key) → times_among result k ≡ times keys_of_ranges (facts_of trace.now) k }
+    {
+        Keys {
+            inline: Some(trace.inline),
+            crossline: Some(trace.crossline),
+            offset: Some(trace.offset),
+            x: Some(trace.packed_x()),
+            y: Some(trace.packed_y()),
+        }
+    }
 
-pub(crate) fn x_keys(alloc: Global, records: &Records) -> Result<Vec<PackedRatio>, AllocError>
-    ensures { IfOk result (λ keys. map ratio_in keys.items ≡ map (λ r. r.x) records.now) }
-{
-    records.iter().map(|r| r.packed_x()).collect(alloc)
-}
-
-pub(crate) fn y_keys(alloc: Global, records: &Records) -> Result<Vec<PackedRatio>, AllocError>
-    ensures { IfOk result (λ keys. map ratio_in keys.items ≡ map (λ r. r.y) records.now) }
-{
-    records.iter().map(|r| r.packed_y()).collect(alloc)
-}
-
-// The least samples of the traces whose samples have values.
-pub(crate) fn least_keys(alloc: Global, records: &Records) -> Result<Vec<i128>, AllocError>
-    ensures { IfOk result (λ keys. keys.items ≡
-        map (λ a. a.least) (filter_map (λ r. r.amplitudes) records.now)) }
-{
-    records
-        .iter()
-        .filter_map(|r| r.amplitudes)
-        .map(|a| a.least)
-        .collect(alloc)
-}
-
-// The greatest samples of the traces whose samples have values.
-pub(crate) fn greatest_keys(alloc: Global, records: &Records) -> Result<Vec<i128>, AllocError>
-    ensures { IfOk result (λ keys. keys.items ≡
-        map (λ a. a.greatest) (filter_map (λ r. r.amplitudes) records.now)) }
-{
-    records
-        .iter()
-        .filter_map(|r| r.amplitudes)
-        .map(|a| a.greatest)
-        .collect(alloc)
+    // Those that the other trace has not.
+    pub(crate) fn beside(trace: &Record, other: &Record) -> Keys
+        ensures { (k : Key) → times_among result k ≡ times keys_of_ranges (facts_of trace.now) k -
+            times keys_of_ranges (facts_of other.now) k }
+    {
+        let own = Keys::of(trace);
+        let others = Keys::of(other);
+        Keys {
+            inline: beside(own.inline, others.inline),
+            crossline: beside(own.crossline, others.crossline),
+            offset: beside(own.offset, others.offset),
+            x: beside(own.x, others.x),
+            y: beside(own.y, others.y),
+        }
+    }
 }

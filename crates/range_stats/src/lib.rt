@@ -3,19 +3,21 @@
 //! counts it, in any order, and what they then tell is that of the traces that are counted. The
 //! calls that are named for a law do nothing: their contract is the law.
 //!
-//! `add` takes memory, only for a value that no counted trace has, and leaves all as it was where a
-//! growth is refused; `from_records` takes it for all that it counts. The other calls always
-//! answer.
+//! `add` and `add_beside` take memory, only for a value that no counted trace has, and leave all as
+//! it was where a growth is refused; `from_records` takes it for all that it counts. The other calls
+//! always answer.
 #![tactic(auto)]
 
 mod coordinate_counts;
-mod counted;
+mod ends;
+mod key_lists;
 mod keys;
 mod laws;
 mod quantity;
 mod ranges;
 mod sums;
 mod totals;
+mod whole_counts;
 
 pub use crate::laws::{
     at_most_one_range, at_most_one_range_in, range_is_range, range_of_tally, totals_are_of_samples,

@@ -1,26 +1,30 @@
-ghost use Rattle.std.specs.Prelude.{◌+◌, ◌^◌, ◌<◌, OnOk, OnErr, IsOk};
+ghost use Rattle.std.specs.Prelude.{◌≡◌, OnOk, OnErr, IsOk};
 ghost use Rattle.std.specs.Ordering.{int_cmp};
-ghost use Rattle.key_counts.specs.Counts.{count_of, HasOneMore, HasSameCounts};
+ghost use Rattle.key_counts.specs.Counts.{count_of};
+ghost use Rattle.key_counts.specs.Numbers.{IsSame, IsMoreBy, HasRoom as HasRoomFor, Holds};
 ghost use Rattle.key_counts.specs.RatioOrder.{ratio_cmp};
-ghost use Rattle.range_stats.specs.Extremes.{IsSpan, whole_count};
+ghost use Rattle.key_counts.specs.Ends.{IsSpan};
+ghost use Rattle.range_stats.specs.Extremes.{whole_count};
 
 use crate::Quantity;
 use crate::coordinate_counts::CoordinateCounts;
-use crate::counted::span;
-use crate::keys::{crossline_keys, inline_keys, offset_keys, x_keys, y_keys};
-use key_counts::{Counts, OutOfMemory, Ratio, raise_both};
+use crate::key_lists::{x_keys, y_keys};
+use crate::keys::Keys;
+use crate::whole_counts::{WholeQuantity, whole_counts};
+use key_counts::{OutOfMemory, Ratio, lower_any, lower_both, raise_any, raise_both};
 use record_table::{Records, Running};
 use std::alloc::Global;
 use trace_record::Record;
+use window_counts::LineCounts;
 
 /// The least and the greatest inline, crossline, offset, x and y of traces that come and go. Adding
 /// or removing a trace takes time by the logarithm of the number of traces.
 #[derive(Drop)]
 pub struct Ranges {
     records: u64,
-    inlines: Counts<i32>,
-    crosslines: Counts<i32>,
-    offsets: Counts<i32>,
+    inlines: LineCounts,
+    crosslines: LineCounts,
+    offsets: LineCounts,
     coordinates_x: CoordinateCounts,
     coordinates_y: CoordinateCounts,
 }
@@ -36,18 +40,18 @@ impl Running for Ranges {
     fn new(alloc: Global) -> Ranges {
         Ranges {
             records: 0,
-            inlines: Counts::new(alloc),
-            crosslines: Counts::new(alloc),
-            offsets: Counts::new(alloc),
+            inlines: LineCounts::new(alloc),
+            crosslines: LineCounts::new(alloc),
+            offsets: LineCounts::new(alloc),
             coordinates_x: CoordinateCounts::new(alloc),
             coordinates_y: CoordinateCounts::new(alloc),
         }
     }
 
     fn from_records(alloc: Global, records: &Records) -> Result<Ranges, record_table::OutOfMemory> {
-        let inlines = Counts::from_keys(alloc, inline_keys(alloc, records)?)?;
-        let crosslines = Counts::from_keys(alloc, crossline_keys(alloc, records)?)?;
-        let offsets = Counts::from_keys(alloc, offset_keys(alloc, records)?)?;
+        let inlines = whole_counts(alloc, records, WholeQuantity::Inline)?;
+        let crosslines = whole_counts(alloc, records, WholeQuantity::Crossline)?;
+        let offsets = whole_counts(alloc, records, WholeQuantity::Offset)?;
         let coordinates_x = CoordinateCounts::from_keys(alloc, x_keys(alloc, records)?)?;
         let coordinates_y = CoordinateCounts::from_keys(alloc, y_keys(alloc, records)?)?;
         Ok(Ranges {
@@ -61,45 +65,38 @@ impl Running for Ranges {
     }
 
     fn add(&mut self, trace: &Record) -> Result<(), record_table::OutOfMemory> {
-        raise_lines(
-            &mut self.inlines,
-            &mut self.crosslines,
-            &mut self.offsets,
-            trace,
-        )?;
-        if let Err(error) = raise_coordinates(
-            &mut self.coordinates_x,
-            &mut self.coordinates_y,
-            trace,
-        ) {
-            lower_lines(
-                &mut self.inlines,
-                &mut self.crosslines,
-                &mut self.offsets,
-                trace,
-            );
-            return Err(record_table::OutOfMemory::from(error));
-        }
+        self.raise(&Keys::of(trace))?;
         self.records += 1;
         Ok(())
     }
 
     fn remove(&mut self, trace: &Record) {
-        lower_lines(
-            &mut self.inlines,
-            &mut self.crosslines,
-            &mut self.offsets,
-            trace,
-        );
-        self.coordinates_x.lower(trace.packed_x());
-        self.coordinates_y.lower(trace.packed_y());
+        self.lower(&Keys::of(trace));
+        self.records -= 1;
+    }
+
+    fn add_beside(
+        &mut self,
+        trace: &Record,
+        other: &Record,
+    ) -> Result<(), record_table::OutOfMemory> {
+        self.raise(&Keys::beside(trace, other))?;
+        self.records += 1;
+        Ok(())
+    }
+
+    fn remove_beside(&mut self, trace: &Record, other: &Record) {
+        self.lower(&Keys::beside(trace, other));
         self.records -= 1;
     }
 }
 
 impl Ranges {
+    ghost use Rattle.std.specs.Prelude.{◌+◌, ◌≤◌};
+    ghost use Rattle.trace_record.specs.Keys.{Key};
     ghost use Rattle.range_stats.specs.OfTally.{IsRangeIn};
-    ghost use Rattle.range_stats.specs.OfRanges.{tally_of_ranges};
+    ghost use Rattle.range_stats.specs.OfKeys.{times_among};
+    ghost use Rattle.range_stats.specs.OfRanges.{count_in_ranges, HasRoom, tally_of_ranges};
 
     /// The least and the greatest value of one number of the traces, none without traces. Takes no
     /// memory.
@@ -114,87 +111,127 @@ impl Ranges {
             Quantity::Y => self.coordinates_y.span(),
         }
     }
+
+    // Counts the keys once more, or none of them where a growth is refused.
+    fn raise(&mut self, keys: &Keys) -> Result<(), OutOfMemory>
+        requires { HasRoom self.old keys.now }
+        ensures ok { OnOk result ((k : Key) →
+            count_in_ranges self.new k ≡ count_in_ranges self.old k + times_among keys.now k) }
+        ensures err { OnErr result ((k : Key) →
+            count_in_ranges self.new k ≡ count_in_ranges self.old k) }
+        ensures held { ((k : Key) → times_among keys.now k ≤ count_in_ranges self.old k) →
+            IsOk result }
+        ensures records { self.new.records ≡ self.old.records }
+    {
+        raise_lines(
+            &mut self.inlines,
+            &mut self.crosslines,
+            &mut self.offsets,
+            keys,
+        )?;
+        if let Err(error) = raise_both(
+            &mut self.coordinates_x,
+            keys.x,
+            &mut self.coordinates_y,
+            keys.y,
+        ) {
+            lower_lines(
+                &mut self.inlines,
+                &mut self.crosslines,
+                &mut self.offsets,
+                keys,
+            );
+            return Err(error);
+        }
+        Ok(())
+    }
+
+    // Counts the keys once less.
+    fn lower(&mut self, keys: &Keys)
+        requires { (k : Key) → times_among keys.now k ≤ count_in_ranges self.old k }
+        ensures less { (k : Key) →
+            count_in_ranges self.old k ≡ count_in_ranges self.new k + times_among keys.now k }
+        ensures records { self.new.records ≡ self.old.records }
+    {
+        lower_lines(
+            &mut self.inlines,
+            &mut self.crosslines,
+            &mut self.offsets,
+            keys,
+        );
+        lower_both(
+            &mut self.coordinates_x,
+            keys.x,
+            &mut self.coordinates_y,
+            keys.y,
+        );
+    }
 }
 
 // The least and the greatest of whole numbers, as ratios.
-fn whole_span(counts: &Counts<i32>) -> Option<(Ratio, Ratio)>
+fn whole_span(counts: &LineCounts) -> Option<(Ratio, Ratio)>
     ensures { IsSpan ratio_cmp (whole_count counts.now) result }
 {
-    let (least, greatest) = span(counts)?;
+    let (least, greatest) = counts.span()?;
     Some((Ratio::whole(least), Ratio::whole(greatest)))
 }
 
-// Counts the trace's inline, crossline and offset, or none of them where a growth is refused.
+// Counts the inline, crossline and offset once more, or none of them where a growth is refused.
 fn raise_lines(
-    inlines: &mut Counts<i32>,
-    crosslines: &mut Counts<i32>,
-    offsets: &mut Counts<i32>,
-    trace: &Record,
+    inlines: &mut LineCounts,
+    crosslines: &mut LineCounts,
+    offsets: &mut LineCounts,
+    keys: &Keys,
 ) -> Result<(), OutOfMemory>
-    requires room_inline { count_of int_cmp inlines.old trace.now.inline + 1 < 2 ^ 64 }
-    requires room_crossline { count_of int_cmp crosslines.old trace.now.crossline + 1 < 2 ^ 64 }
-    requires room_offset { count_of int_cmp offsets.old trace.now.offset + 1 < 2 ^ 64 }
-    ensures ok_inline { OnOk result (HasOneMore int_cmp inlines.old inlines.new trace.now.inline) }
-    ensures ok_crossline { OnOk result
-        (HasOneMore int_cmp crosslines.old crosslines.new trace.now.crossline) }
-    ensures ok_offset { OnOk result (HasOneMore int_cmp offsets.old offsets.new trace.now.offset) }
-    ensures err_inline { OnErr result (HasSameCounts int_cmp inlines.old inlines.new) }
-    ensures err_crossline { OnErr result (HasSameCounts int_cmp crosslines.old crosslines.new) }
-    ensures err_offset { OnErr result (HasSameCounts int_cmp offsets.old offsets.new) }
-    ensures held { 0 < count_of int_cmp inlines.old trace.now.inline →
-        0 < count_of int_cmp crosslines.old trace.now.crossline →
-        0 < count_of int_cmp offsets.old trace.now.offset → IsOk result }
+    requires room_inline { HasRoomFor (λ k. k) int_cmp (count_of int_cmp inlines.old)
+        keys.now.inline }
+    requires room_crossline { HasRoomFor (λ k. k) int_cmp (count_of int_cmp crosslines.old)
+        keys.now.crossline }
+    requires room_offset { HasRoomFor (λ k. k) int_cmp (count_of int_cmp offsets.old)
+        keys.now.offset }
+    ensures ok_inline { OnOk result (IsMoreBy (λ k. k) int_cmp (count_of int_cmp inlines.old)
+        (count_of int_cmp inlines.new) keys.now.inline) }
+    ensures ok_crossline { OnOk result (IsMoreBy (λ k. k) int_cmp
+        (count_of int_cmp crosslines.old) (count_of int_cmp crosslines.new)
+        keys.now.crossline) }
+    ensures ok_offset { OnOk result (IsMoreBy (λ k. k) int_cmp (count_of int_cmp offsets.old)
+        (count_of int_cmp offsets.new) keys.now.offset) }
+    ensures err_inline { OnErr result
+        (IsSame (count_of int_cmp inlines.old) (count_of int_cmp inlines.new)) }
+    ensures err_crossline { OnErr result
+        (IsSame (count_of int_cmp crosslines.old) (count_of int_cmp crosslines.new)) }
+    ensures err_offset { OnErr result
+        (IsSame (count_of int_cmp offsets.old) (count_of int_cmp offsets.new)) }
+    ensures held { Holds (λ k. k) int_cmp (count_of int_cmp inlines.old) keys.now.inline →
+        Holds (λ k. k) int_cmp (count_of int_cmp crosslines.old) keys.now.crossline →
+        Holds (λ k. k) int_cmp (count_of int_cmp offsets.old) keys.now.offset → IsOk result }
 {
-    raise_both(inlines, trace.inline, crosslines, trace.crossline)?;
-    if let Err(error) = offsets.raise(trace.offset) {
-        inlines.lower(&trace.inline);
-        crosslines.lower(&trace.crossline);
+    raise_both(inlines, keys.inline, crosslines, keys.crossline)?;
+    if let Err(error) = raise_any(offsets, keys.offset) {
+        lower_both(inlines, keys.inline, crosslines, keys.crossline);
         return Err(error);
     }
     Ok(())
 }
 
-// No longer counts the trace's inline, crossline and offset.
+// Counts the inline, crossline and offset once less.
 fn lower_lines(
-    inlines: &mut Counts<i32>,
-    crosslines: &mut Counts<i32>,
-    offsets: &mut Counts<i32>,
-    trace: &Record,
+    inlines: &mut LineCounts,
+    crosslines: &mut LineCounts,
+    offsets: &mut LineCounts,
+    keys: &Keys,
 )
-    requires has_inline { 0 < count_of int_cmp inlines.old trace.now.inline }
-    requires has_crossline { 0 < count_of int_cmp crosslines.old trace.now.crossline }
-    requires has_offset { 0 < count_of int_cmp offsets.old trace.now.offset }
-    ensures inline { HasOneMore int_cmp inlines.new inlines.old trace.now.inline }
-    ensures crossline { HasOneMore int_cmp crosslines.new crosslines.old trace.now.crossline }
-    ensures offset { HasOneMore int_cmp offsets.new offsets.old trace.now.offset }
+    requires has_inline { Holds (λ k. k) int_cmp (count_of int_cmp inlines.old) keys.now.inline }
+    requires has_crossline { Holds (λ k. k) int_cmp (count_of int_cmp crosslines.old)
+        keys.now.crossline }
+    requires has_offset { Holds (λ k. k) int_cmp (count_of int_cmp offsets.old) keys.now.offset }
+    ensures inline { IsMoreBy (λ k. k) int_cmp (count_of int_cmp inlines.new)
+        (count_of int_cmp inlines.old) keys.now.inline }
+    ensures crossline { IsMoreBy (λ k. k) int_cmp (count_of int_cmp crosslines.new)
+        (count_of int_cmp crosslines.old) keys.now.crossline }
+    ensures offset { IsMoreBy (λ k. k) int_cmp (count_of int_cmp offsets.new)
+        (count_of int_cmp offsets.old) keys.now.offset }
 {
-    inlines.lower(&trace.inline);
-    crosslines.lower(&trace.crossline);
-    offsets.lower(&trace.offset);
-}
-
-// Counts the trace's x and y, or neither where a growth is refused.
-fn raise_coordinates(
-    coordinates_x: &mut CoordinateCounts,
-    coordinates_y: &mut CoordinateCounts,
-    trace: &Record,
-) -> Result<(), OutOfMemory>
-    requires room_x { count_of ratio_cmp coordinates_x.old trace.now.x + 1 < 2 ^ 64 }
-    requires room_y { count_of ratio_cmp coordinates_y.old trace.now.y + 1 < 2 ^ 64 }
-    ensures ok_x { OnOk result
-        (HasOneMore ratio_cmp coordinates_x.old coordinates_x.new trace.now.x) }
-    ensures ok_y { OnOk result
-        (HasOneMore ratio_cmp coordinates_y.old coordinates_y.new trace.now.y) }
-    ensures err_x { OnErr result (HasSameCounts ratio_cmp coordinates_x.old coordinates_x.new) }
-    ensures err_y { OnErr result (HasSameCounts ratio_cmp coordinates_y.old coordinates_y.new) }
-    ensures held { 0 < count_of ratio_cmp coordinates_x.old trace.now.x →
-        0 < count_of ratio_cmp coordinates_y.old trace.now.y → IsOk result }
-{
-    let x = trace.packed_x();
-    coordinates_x.raise(x)?;
-    if let Err(error) = coordinates_y.raise(trace.packed_y()) {
-        coordinates_x.lower(x);
-        return Err(error);
-    }
-    Ok(())
+    lower_both(inlines, keys.inline, crosslines, keys.crossline);
+    lower_any(offsets, keys.offset);
 }

@@ -1,10 +1,8 @@
-ghost use Rattle.std.specs.Prelude.{◌≡◌};
-
-use crate::counted::{greatest_key, least_key};
-use crate::keys::{greatest_keys, least_keys};
-use crate::sums::sums_of;
-use key_counts::{Counts, raise_both};
-use record_table::{OutOfMemory, Records, Running};
+use crate::ends::Ends;
+use crate::key_lists::{greatest_keys, least_keys};
+use crate::sums::{Sums, sums_of};
+use key_counts::{Counts, OutOfMemory, lower_both, raise_both};
+use record_table::{Records, Running};
 use std::alloc::Global;
 use trace_record::Record;
 
@@ -38,7 +36,7 @@ impl Running for Totals {
         }
     }
 
-    fn from_records(alloc: Global, records: &Records) -> Result<Totals, OutOfMemory> {
+    fn from_records(alloc: Global, records: &Records) -> Result<Totals, record_table::OutOfMemory> {
         let least_samples = Counts::from_keys(alloc, least_keys(alloc, records)?)?;
         let greatest_samples = Counts::from_keys(alloc, greatest_keys(alloc, records)?)?;
         let sums = sums_of(records);
@@ -51,51 +49,64 @@ impl Running for Totals {
         })
     }
 
-    fn add(&mut self, trace: &Record) -> Result<(), OutOfMemory> {
-        let Some(amplitudes) = trace.amplitudes else {
-            self.records += 1;
-            return Ok(());
-        };
-        raise_both(
-            &mut self.least_samples,
-            amplitudes.least,
-            &mut self.greatest_samples,
-            amplitudes.greatest,
-        )?;
+    fn add(&mut self, trace: &Record) -> Result<(), record_table::OutOfMemory> {
+        self.raise(&Ends::of(trace))?;
+        let values = Sums::of(trace);
         self.records += 1;
-        self.number += u64::from(trace.number);
-        self.sum += amplitudes.sum;
+        self.number += values.number;
+        self.sum += values.sum;
         Ok(())
     }
 
     fn remove(&mut self, trace: &Record) {
+        self.lower(&Ends::of(trace));
+        let values = Sums::of(trace);
         self.records -= 1;
-        let Some(amplitudes) = trace.amplitudes else {
-            return;
-        };
-        self.least_samples.lower(&amplitudes.least);
-        self.greatest_samples.lower(&amplitudes.greatest);
-        self.number -= u64::from(trace.number);
-        self.sum -= amplitudes.sum;
+        self.number -= values.number;
+        self.sum -= values.sum;
+    }
+
+    fn add_beside(
+        &mut self,
+        trace: &Record,
+        other: &Record,
+    ) -> Result<(), record_table::OutOfMemory> {
+        self.raise(&Ends::beside(trace, other))?;
+        let values = Sums::of(trace);
+        self.records += 1;
+        self.number += values.number;
+        self.sum += values.sum;
+        Ok(())
+    }
+
+    fn remove_beside(&mut self, trace: &Record, other: &Record) {
+        self.lower(&Ends::beside(trace, other));
+        let values = Sums::of(trace);
+        self.records -= 1;
+        self.number -= values.number;
+        self.sum -= values.sum;
     }
 }
 
 impl Totals {
+    ghost use Rattle.std.specs.Prelude.{◌≡◌, ◌+◌, ◌≤◌, OnOk, OnErr, IsOk};
+    ghost use Rattle.trace_record.specs.Keys.{Key};
     ghost use Rattle.range_stats.specs.OfTally.{IsLeastIn, IsGreatestIn};
-    ghost use Rattle.range_stats.specs.OfTotals.{tally_of_totals};
+    ghost use Rattle.range_stats.specs.OfKeys.{times_among_ends};
+    ghost use Rattle.range_stats.specs.OfTotals.{count_in_totals, HasRoom, tally_of_totals};
 
     /// The least sample of all traces, none without samples that have values. Takes no memory.
     pub fn least(&self) -> Option<i128>
         ensures { IsLeastIn (tally_of_totals self.now) result }
     {
-        least_key(&self.least_samples)
+        self.least_samples.least()
     }
 
     /// The greatest sample of all traces, none without samples that have values. Takes no memory.
     pub fn greatest(&self) -> Option<i128>
         ensures { IsGreatestIn (tally_of_totals self.now) result }
     {
-        greatest_key(&self.greatest_samples)
+        self.greatest_samples.greatest()
     }
 
     /// The sum of all samples that have values, 0 without any. Takes no memory.
@@ -110,5 +121,44 @@ impl Totals {
         ensures { result ≡ (tally_of_totals self.now).number }
     {
         self.number
+    }
+
+    // Counts the ends once more, or neither where a growth is refused.
+    fn raise(&mut self, ends: &Ends) -> Result<(), OutOfMemory>
+        requires { HasRoom self.old ends.now }
+        ensures ok { OnOk result ((k : Key) →
+            count_in_totals self.new k ≡ count_in_totals self.old k + times_among_ends ends.now k) }
+        ensures err { OnErr result ((k : Key) →
+            count_in_totals self.new k ≡ count_in_totals self.old k) }
+        ensures held { ((k : Key) → times_among_ends ends.now k ≤ count_in_totals self.old k) →
+            IsOk result }
+        ensures records { self.new.records ≡ self.old.records }
+        ensures number { self.new.number ≡ self.old.number }
+        ensures sum { self.new.sum ≡ self.old.sum }
+    {
+        raise_both(
+            &mut self.least_samples,
+            ends.least,
+            &mut self.greatest_samples,
+            ends.greatest,
+        )?;
+        Ok(())
+    }
+
+    // Counts the ends once less.
+    fn lower(&mut self, ends: &Ends)
+        requires { (k : Key) → times_among_ends ends.now k ≤ count_in_totals self.old k }
+        ensures less { (k : Key) →
+            count_in_totals self.old k ≡ count_in_totals self.new k + times_among_ends ends.now k }
+        ensures records { self.new.records ≡ self.old.records }
+        ensures number { self.new.number ≡ self.old.number }
+        ensures sum { self.new.sum ≡ self.old.sum }
+    {
+        lower_both(
+            &mut self.least_samples,
+            ends.least,
+            &mut self.greatest_samples,
+            ends.greatest,
+        );
     }
 }

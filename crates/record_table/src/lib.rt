@@ -2,9 +2,9 @@
 //! lends them from the column of payloads, each of 72 bytes. A `Running` value counts records as
 //! they come and go, seen as their tally.
 //!
-//! `Running::add` takes memory only for a key that is not held; where a growth is refused it leaves
-//! all as it was. `Running::from_records` counts all at once, and takes memory for what it makes. No
-//! other call takes memory. Places count from 0.
+//! `Running::add` and `add_beside` take memory only for a key that is not held; where a growth is
+//! refused they leave all as it was. `Running::from_records` counts all at once, and takes memory for
+//! what it makes. No other call takes memory. Places count from 0.
 #![tactic(auto)]
 
 mod out_of_memory;

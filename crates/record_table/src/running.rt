@@ -9,7 +9,7 @@ use trace_record::Record;
 pub trait Running: Drop {
     ghost use Rattle.trace_record.specs.Facts.{facts_of};
     ghost use Rattle.trace_record.specs.Keys.{Counted};
-    ghost use Rattle.trace_record.specs.Tally.{Tally, empty_tally, tally_of, plus, minus, Same, HasKeys, Holds, IsSmall};
+    ghost use Rattle.trace_record.specs.Tally.{Tally, empty_tally, tally_of, plus, minus, plus_beside, minus_beside, Same, HasKeys, Holds, HasKeysBeside, HoldsBeside, IsSmall};
     ghost use Rattle.trace_record.specs.declared.record.Record.{Record};
 
     // What the value counts of a trace.
@@ -43,4 +43,26 @@ pub trait Running: Drop {
         requires held { Holds counted (tally self.old) (facts_of trace.now) }
         requires small { IsSmall (minus counted (tally self.old) (facts_of trace.now)) }
         ensures { Same (tally self.new) (minus counted (tally self.old) (facts_of trace.now)) };
+
+    /// Counts the trace beside another, for which it comes to stand: a key of both stays counted
+    /// once, and is not touched. Takes memory for a key that is not held, and leaves all as it was
+    /// where a growth is refused.
+    fn add_beside(&mut self, trace: &Record, other: &Record) -> Result<(), OutOfMemory>
+        requires { IsSmall
+            (plus_beside counted (tally self.old) (facts_of trace.now) (facts_of other.now)) }
+        ensures ok { OnOk result (Same (tally self.new)
+            (plus_beside counted (tally self.old) (facts_of trace.now) (facts_of other.now))) }
+        ensures err { OnErr result (Same (tally self.new) (tally self.old)) }
+        ensures held { HasKeysBeside counted (tally self.old) (facts_of trace.now)
+            (facts_of other.now) → IsOk result };
+
+    /// No longer counts the trace beside another, which stands for it: a key of both stays counted
+    /// once, and is not touched. Takes no memory.
+    fn remove_beside(&mut self, trace: &Record, other: &Record)
+        requires held { HoldsBeside counted (tally self.old) (facts_of trace.now)
+            (facts_of other.now) }
+        requires small { IsSmall
+            (minus_beside counted (tally self.old) (facts_of trace.now) (facts_of other.now)) }
+        ensures { Same (tally self.new)
+            (minus_beside counted (tally self.old) (facts_of trace.now) (facts_of other.now)) };
 }

@@ -1,7 +1,7 @@
 // The commands and their forms.
 
 /// The first words of the commands.
-pub(crate) static COMMANDS: [&str; 38] = [
+pub(crate) static COMMANDS: [&str; 39] = [
     "set",
     "get",
     "bin",
@@ -29,6 +29,7 @@ pub(crate) static COMMANDS: [&str; 38] = [
     "resize",
     "renumber",
     "compute",
+    "sort",
     "geometry",
     "stat",
     "fold",
@@ -67,6 +68,7 @@ pub(crate) fn form(word: &[u8]) -> &'static str {
         b"resize" => "resize P NUMBER",
         b"renumber" => "renumber P Q FIELD FIRST STEP",
         b"compute" => COMPUTE,
+        b"sort" => "sort P Q FIELD ..",
         b"geometry" => "geometry P",
         b"stat" => "stat P",
         b"fold" => "fold NUMBER NUMBER",

@@ -64,6 +64,7 @@ fn wrong_words(words: &Words) -> Hint {
     match words.at(0) {
         b"table" if !words.at(3).is_empty() => Hint::Text("a table has at most 64 fields"),
         b"compute" => text_or_form(operations_hint(words), words),
+        b"sort" if !words.at(3).is_empty() => Hint::Text("a sort is by at most 8 fields"),
         _ => form_of(words),
     }
 }
@@ -176,20 +177,20 @@ fn no_trace(words: &Words, p: u32, count: u32) -> Hint {
 fn is_of_range(command: &[u8]) -> bool {
     matches!(
         command,
-        b"renumber" | b"compute" | b"table" | b"find" | b"extremes"
+        b"renumber" | b"compute" | b"sort" | b"table" | b"find" | b"extremes"
     )
 }
 
 // Of a name that is no field. Where a command takes any number of names, those of a note are some.
 fn no_field(words: &Words) -> Hint {
     match words.at(0) {
-        b"table" | b"compute" if words.has_note() => note_behind(),
+        b"table" | b"compute" | b"sort" if words.has_note() => note_behind(),
         b"bin" | b"getbin" => {
             let other = "a field of the trace headers: set and get";
             field_hint(words.at(1), &BINARY_NAMES, &TRACE_NAMES, other)
         }
         b"renumber" | b"find" => trace_field(words.at(3)),
-        b"table" => first_unknown(words, 3),
+        b"table" | b"sort" => first_unknown(words, 3),
         b"compute" => match joined_hint(words) {
             Some(text) => Hint::Text(text),
             None => first_unknown(words, 3),
@@ -198,9 +199,11 @@ fn no_field(words: &Words) -> Hint {
     }
 }
 
-// Of the first word from this one on that is no place, no name that is always there, and like one.
+// Of the first word from this one on that is no place, no name that is always there, and like one,
+// but for the `-` of a sort that falls.
 fn first_unknown(words: &Words, from: usize) -> Hint {
     for word in words.as_slice().iter().skip(from) {
+        let word = word.strip_prefix(b"-").unwrap_or(word);
         if word.first().is_some_and(u8::is_ascii_alphabetic) && !is_trace_name(word) {
             match trace_field(word) {
                 Hint::None => {}
@@ -261,7 +264,7 @@ fn no_place(words: &Words) -> Hint {
         }
         b"text" | b"line" => Hint::Text("lines count from 1 to 40, blocks from 0"),
         b"code" | b"lines" => Hint::Text("blocks count from 0"),
-        b"set" | b"get" | b"renumber" | b"compute" | b"table" | b"find" => {
+        b"set" | b"get" | b"renumber" | b"compute" | b"sort" | b"table" | b"find" => {
             Hint::Text("BYTE is that of the header, 1 to 240; SIZE is 1, 2, 3, 4 or 8")
         }
         _ => Hint::None,

@@ -70,8 +70,25 @@ fn reads_computed_fields(rt: HostRuntime) -> Result<(), Fail> {
 }
 
 #[test]
+fn reads_a_sort(rt: HostRuntime) -> Result<(), Fail> {
+    let read = match parse_line(rt.alloc(), b"sort 1 3 inline -offset -")? {
+        Some(Command::Apply(Edit::Sort(1, 3, fields, falling))) => {
+            let names = fields.as_slice();
+            names.len() == 3
+                && is_name(&names[0], "inline")
+                && is_name(&names[1], "offset")
+                && is_name(&names[2], "-")
+                && matches!(falling.as_slice(), [false, true, false])
+        }
+        _ => false,
+    };
+    assert!(rt; read);
+    Ok(())
+}
+
+#[test]
 fn refuses_lines_of_headers(rt: HostRuntime) {
-    let cases: [(&[u8], LineFault); 16] = [
+    let cases: [(&[u8], LineFault); 19] = [
         (b"table 1 3", LineFault::Words),
         (
             b"table 1 1 a a a a a a a a a a a a a a a a a a a a a a a a a a a a a a a a a \
@@ -95,6 +112,9 @@ fn refuses_lines_of_headers(rt: HostRuntime) {
         (b"compute 1 3 sx +5", LineFault::Number),
         (b"compute 1 3 sx 1 ^ 2", LineFault::Number),
         (b"compute 1 3 @1 1", LineFault::Number),
+        (b"sort 1 3", LineFault::Words),
+        (b"sort 1 3 a b c d e f g h i", LineFault::Words),
+        (b"sort 1 3 inline -@189", LineFault::Number),
     ];
     for (line, fault) in cases {
         assert_eq!(rt; parse_line(rt.alloc(), line).err(), Some(fault));

@@ -8,3 +8,4 @@ pub mod ListLemmas
 pub mod LineLemmas
 pub mod ScriptLemmas
 pub mod PartLemmas
+pub mod SortLemmas

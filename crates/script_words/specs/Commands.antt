@@ -206,6 +206,7 @@ EditHoldsMemory (edits.Move a b) = ⊥
 EditHoldsMemory (edits.Resize p count) = ⊥
 EditHoldsMemory (edits.Renumber a b field first step) = IsName field
 EditHoldsMemory (edits.Compute a b field source steps) = Unit {0}
+EditHoldsMemory (edits.Sort a b fields falls) = Unit {0}
 
 -- a query that holds a text or a list
 abbrev pub QueryHoldsMemory : Query → Type 0

@@ -1,5 +1,5 @@
 -- Worked lines of the commands on the headers of traces.
-use Rattle.std.specs.Prelude.{◌≡◌, pos, negsuc, [], ◌∷◌, replicate, codes, Some, None, Ok, Err, refl}
+use Rattle.std.specs.Prelude.{◌≡◌, pos, negsuc, [], ◌∷◌, replicate, codes, Some, None, Ok, Err, true, false, refl}
 use Rattle.std.specs.Str.{is_utf8, chars}
 use Rattle.std.specs.Char.{encode_utf8}
 use Rattle.field_map.specs.Pairs.{signed_at}
@@ -76,3 +76,18 @@ steps-sign = refl
 -- nine operations are too many
 pub compute-nine : read_compute (codes "1" ∷ codes "3" ∷ codes "offset" ∷ codes "1" ∷ replicate 18 (codes "+")) ≡ Err Words
 compute-nine = refl
+
+-- ---- traces in order
+
+pub line-sort : line_result (codes "sort 1 3 inline -@189:4") ≡ Ok (Some (Apply (edits.Sort 1 3 (fields.Name (codes "inline") ∷ fields.Place (signed_at 189 4) ∷ []) (false ∷ true ∷ []))))
+unfolding is_utf8 chars encode_utf8
+line-sort = refl
+
+-- a `-` alone is a name
+pub line-sort_minus : line_result (codes "sort 1 3 -") ≡ Ok (Some (Apply (edits.Sort 1 3 (fields.Name (codes "-") ∷ []) (false ∷ []))))
+unfolding is_utf8 chars encode_utf8
+line-sort_minus = refl
+
+pub line-sort_nothing : line_result (codes "sort 1 3") ≡ Err Words
+unfolding is_utf8 chars encode_utf8
+line-sort_nothing = refl

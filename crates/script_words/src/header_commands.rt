@@ -13,6 +13,7 @@ use crate::line_fault::LineFault;
 use crate::numbers::{number, position};
 use crate::parse::{five, one, two};
 use crate::report_commands::report;
+use crate::sort_command::sort;
 use crate::words::{Words, number_of_words};
 use bench_rules::{Field, Items, Query};
 use std::alloc::Global;
@@ -27,6 +28,7 @@ pub(crate) fn of_headers(alloc: Global, word: &str, words: Words) -> Result<Comm
         "header" => header(words),
         "extremes" => extremes(words),
         "compute" => compute(alloc, words),
+        "sort" => sort(alloc, words),
         _ => report(word, words),
     }
 }

@@ -17,6 +17,7 @@ mod lines;
 mod numbers;
 mod parse;
 mod report_commands;
+mod sort_command;
 mod split;
 mod trace_commands;
 mod words;

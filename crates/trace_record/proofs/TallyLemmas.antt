@@ -1,7 +1,8 @@
 -- Laws of tallies: one record more, one less, and the order of records.
-use Rattle.std.specs.Prelude.{◌≡◌, ℕ, ℤ, pos, negsuc, suc, ◌+◌, ◌-◌, ◌+ℤ◌, ◌-ℤ◌, ◌*◌, ◌^◌, ◌≤◌, ◌≤ℤ◌, neg_ℤ, cond, List, [], ◌∷◌, ◌++◌, length, map, sum_by, IsPermutation, Option, Some, None, refl}
+use Rattle.std.specs.Prelude.{◌≡◌, ℕ, ℤ, pos, negsuc, suc, ◌+◌, ◌-◌, ◌+ℤ◌, ◌-ℤ◌, ◌*◌, ◌^◌, ◌≤◌, ◌≤ℤ◌, neg_ℤ, Bool, true, false, if◌then◌else◌, cond, List, [], ◌∷◌, ◌++◌, length, map, sum_by, IsPermutation, Option, Some, None, refl}
 use Rattle.std.specs.Option.{option_map_or}
-use Rattle.std.proofs.Common.{arith, sym, ap, ◌∙◌}
+use Rattle.std.proofs.Common.{arith, sym, ap, subst, ◌∙◌}
+use Rattle.std.proofs.lemmas.List.{map-append}
 use Rattle.std.proofs.lemmas.Int.{ints}
 use Rattle.std.proofs.lemmas.List.Sums.{sum_by-cons, count_by-le-length}
 use Rattle.std.proofs.lemmas.List.Sorted.{sum_by-IsPermutation, length_permutation, IsPermutation-to_front, IsPermutation-middle, IsPermutation-map}
@@ -10,9 +11,9 @@ use Rattle.trace_record.specs.Packable.{HaveRange, each_fits}
 use Rattle.trace_record.specs.declared.amplitudes.Amplitudes.{Amplitudes}
 use Rattle.trace_record.specs.declared.record.Record.{Record}
 use Rattle.trace_record.specs.Statistics.{int_sum}
-use Rattle.trace_record.specs.Keys.{Counted}
-use Rattle.trace_record.specs.Laws.{TallyOfOneMore, TallyOfOneLess, TallyHoldsEach}
-use Rattle.trace_record.specs.Tally.{Tally, tally_of, plus, minus, Same, Holds, IsSmall}
+use Rattle.trace_record.specs.Keys.{Key, Counted}
+use Rattle.trace_record.specs.Laws.{TallyOfOneMore, TallyOfOneLess, TallyHoldsEach, TallyOfAnExchange, MinusBesideUndoesPlus}
+use Rattle.trace_record.specs.Tally.{Tally, tally_of, plus, minus, times, Same, Holds, IsSmall}
 
 -- the part of a number above zero, and the part below
 above : ℤ → ℕ
@@ -81,23 +82,6 @@ pub tally-push : (c : Counted) (fs : List Facts) (f : Facts) → Same (tally_of 
 tally-push c fs f =
     Same-trans _ _ _ (Same-sym _ _ (tally-IsPermutation c (fs ++ f ∷ []) (f ∷ fs) (IsPermutation-to_front fs f))) (tally-cons c f fs)
 
--- taking a record out undoes putting it in
-pub minus-plus : (c : Counted) (t : Tally) (f : Facts) → Same (minus c (plus c t f) f) t
-minus-plus c t f = record { records = omega arith; number = omega arith; sum = omega (arith, ints); count = λ k. omega arith }
-
--- and putting it in undoes taking it out, where the tally has it
-pub plus-minus : (c : Counted) (t : Tally) (f : Facts) → Holds c t f → Same (plus c (minus c t f) f) t
-plus-minus c t f h = record {
-  records = let p = h.records in omega arith;
-  number = let p = h.number in omega arith;
-  sum = omega (arith, ints);
-  count = λ k. let p = h.keys k in omega arith;
-}
-
--- two traces counted in either order
-pub plus_in_any_order : (c : Counted) (t : Tally) (f g : Facts) → Same (plus c (plus c t f) g) (plus c (plus c t g) f)
-plus_in_any_order c t f g = record { records = refl; number = omega arith; sum = omega (arith, ints); count = λ k. omega arith }
-
 -- tallies that say the same say the same with one trace more, and with one less
 pub plus-Same : (c : Counted) (t u : Tally) (f : Facts) → Same t u → Same (plus c t f) (plus c u f)
 plus-Same c t u f p = record {
@@ -114,6 +98,37 @@ minus-Same c t u f p = record {
   sum = ap (λ v. v -ℤ c.sum f) p.sum;
   count = λ k. let e = p.count k in omega arith;
 }
+
+-- one record more behind those that are counted
+pub one_behind : (c : Counted) (ys : List Record) (x : Record) (t : Tally) → Same t (tally_of c (map facts_of ys)) → Same (tally_of c (map facts_of (ys ++ x ∷ []))) (plus c t (facts_of x))
+one_behind c ys x t s =
+    subst (λ (fs : List Facts). Same (tally_of c fs) (plus c t (facts_of x))) (sym (map-append facts_of ys (x ∷ [])))
+    (Same-trans _ _ _ (tally-push c (map facts_of ys) (facts_of x)) (plus-Same c _ _ (facts_of x) (Same-sym _ _ s)))
+
+-- a trace has a key once at most
+pub times-le : (c : Counted) (f : Facts) (k : Key) → times c f k ≤ 1
+times-le c f k = by (c.has f k)
+  where
+    by : (b : Bool) → ◌≤◌ (if b then 1 else 0) 1
+    by true = omega arith
+    by false = omega arith
+
+-- taking a record out undoes putting it in
+pub minus-plus : (c : Counted) (t : Tally) (f : Facts) → Same (minus c (plus c t f) f) t
+minus-plus c t f = record { records = omega arith; number = omega arith; sum = omega (arith, ints); count = λ k. omega arith }
+
+-- and putting it in undoes taking it out, where the tally has it
+pub plus-minus : (c : Counted) (t : Tally) (f : Facts) → Holds c t f → Same (plus c (minus c t f) f) t
+plus-minus c t f h = record {
+  records = let p = h.records in omega arith;
+  number = let p = h.number in omega arith;
+  sum = omega (arith, ints);
+  count = λ k. let p = h.keys k in omega arith;
+}
+
+-- two traces counted in either order
+pub plus_in_any_order : (c : Counted) (t : Tally) (f g : Facts) → Same (plus c (plus c t f) g) (plus c (plus c t g) f)
+plus_in_any_order c t f g = record { records = refl; number = omega arith; sum = omega (arith, ints); count = λ k. omega arith }
 
 -- the tally holds a trace that it just counted
 pub Holds-plus : (c : Counted) (t u : Tally) (f : Facts) → Same u (plus c t f) → Holds c u f
@@ -135,6 +150,22 @@ tally_of_one_less c before after f =
 
 pub tally_holds_each : TallyHoldsEach
 tally_holds_each c before after f = Holds-plus c (tally_of c (before ++ after)) (tally_of c (before ++ f ∷ after)) f (tally_of_one_more c before after f)
+
+-- ---- one trace in the place of another
+
+pub minus_beside-plus : MinusBesideUndoesPlus
+minus_beside-plus c t f g = record { records = omega arith; number = omega arith; sum = omega (arith, ints); count = λ k. omega arith }
+
+pub tally_of_an_exchange : TallyOfAnExchange
+tally_of_an_exchange c before after f g =
+    let old = tally_of_one_more c before after f in
+    let new = tally_of_one_more c before after g in
+    record {
+      records = let a = old.records in let b = new.records in omega arith;
+      number = let a = old.number in let b = new.number in omega arith;
+      sum = let a = old.sum in let b = new.sum in omega (arith, ints);
+      count = λ k. let a = old.count k in let b = new.count k in omega arith;
+    }
 
 -- ---- small tallies
 

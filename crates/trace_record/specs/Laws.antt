@@ -8,7 +8,7 @@ use Rattle.trace_record.specs.Statistics.{statistics_of, statistics_of_both}
 use Rattle.trace_record.specs.Facts.{Facts}
 use Rattle.trace_record.specs.Keys.{Counted}
 use Rattle.trace_record.specs.OfTrace.{has_geometry}
-use Rattle.trace_record.specs.Tally.{Tally, tally_of, plus, minus, Same, Holds}
+use Rattle.trace_record.specs.Tally.{Tally, tally_of, plus, minus, plus_beside, minus_beside, Same, Holds}
 
 -- the statistics of two lists one after the other are those of both together
 abbrev pub StatisticsOfJoined : Type 0
@@ -29,6 +29,15 @@ TallyOfOneLess = (c : Counted) (before after : List Facts) (f : Facts) → Same 
 -- the tally of a list holds each of its traces
 abbrev pub TallyHoldsEach : Type 0
 TallyHoldsEach = (c : Counted) (before after : List Facts) (f : Facts) → Holds c (tally_of c (before ++ f ∷ after)) f
+
+-- one trace in the place of another: the new one is counted beside the old one, which is then counted no longer
+abbrev pub TallyOfAnExchange : Type 0
+TallyOfAnExchange = (c : Counted) (before after : List Facts) (f g : Facts)
+    → Same (minus_beside c (plus_beside c (tally_of c (before ++ f ∷ after)) g f) f g) (tally_of c (before ++ g ∷ after))
+
+-- no longer counting a trace beside another undoes counting it there
+abbrev pub MinusBesideUndoesPlus : Type 0
+MinusBesideUndoesPlus = (c : Counted) (t : Tally) (f g : Facts) → Same (minus_beside c (plus_beside c t f g) f g) t
 
 -- two traces counted in either order
 abbrev pub PlusInAnyOrder : Type 0

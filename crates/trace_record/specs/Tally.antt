@@ -46,6 +46,24 @@ minus c t f = record {
   count = λ k. t.count k - times c f k;
 }
 
+-- one trace more beside another, for which it comes to stand: a key of both stays counted once
+abbrev pub plus_beside : Counted → Tally → Facts → Facts → Tally
+plus_beside c t f g = record {
+  records = t.records + 1;
+  number = t.number + c.number f;
+  sum = t.sum +ℤ c.sum f;
+  count = λ k. t.count k + (times c f k - times c g k);
+}
+
+-- one trace less beside another, which stands for it: a key of both stays counted once
+abbrev pub minus_beside : Counted → Tally → Facts → Facts → Tally
+minus_beside c t f g = record {
+  records = t.records - 1;
+  number = t.number - c.number f;
+  sum = t.sum -ℤ c.sum f;
+  count = λ k. t.count k - (times c f k - times c g k);
+}
+
 -- two tallies say the same, at each key
 pub record Same (t u : Tally) : Type 0 where
   pub records : t.records ≡ u.records
@@ -62,6 +80,16 @@ pub record Holds (c : Counted) (t : Tally) (f : Facts) : Type 0 where
   pub records : 0 < t.records
   pub number : c.number f ≤ t.number
   pub keys : HasKeys c t f
+
+-- each key that the trace has and the other has not is held already
+abbrev pub HasKeysBeside : Counted → Tally → Facts → Facts → Type 0
+HasKeysBeside c t f g = (k : Key) → times c f k - times c g k ≤ t.count k
+
+-- the tally has a trace, the keys that this one has and the other has not, and its number of samples
+pub record HoldsBeside (c : Counted) (t : Tally) (f g : Facts) : Type 0 where
+  pub records : 0 < t.records
+  pub number : c.number f ≤ t.number
+  pub keys : HasKeysBeside c t f g
 
 -- at most 2^33 traces, as many at each key, 2^41 samples, and a sum from -2^105 to 2^105
 pub record IsSmall (t : Tally) : Type 0 where

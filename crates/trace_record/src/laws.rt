@@ -1,5 +1,5 @@
 // Laws, each the contract of a call that does nothing.
-ghost use Rattle.trace_record.specs.Laws.{StatisticsOfJoined, TallyInAnyOrder, TallyOfOneMore, TallyOfOneLess, TallyHoldsEach, PlusInAnyOrder, MinusUndoesPlus, PlusUndoesMinus, GeometryOfEachTrace};
+ghost use Rattle.trace_record.specs.Laws.{StatisticsOfJoined, TallyInAnyOrder, TallyOfOneMore, TallyOfOneLess, TallyHoldsEach, TallyOfAnExchange, MinusBesideUndoesPlus, PlusInAnyOrder, MinusUndoesPlus, PlusUndoesMinus, GeometryOfEachTrace};
 
 /// The statistics of two lists one after the other are those of both together.
 pub fn statistics_of_joined()
@@ -24,6 +24,17 @@ pub fn tally_of_one_less()
 /// The tally of a list holds each of its traces.
 pub fn tally_holds_each()
     ensures { TallyHoldsEach }
+{}
+
+/// The tally of a list with one trace in the place of another is the tally with the new one counted
+/// beside the old one, and then the old one no longer beside the new one.
+pub fn tally_of_an_exchange()
+    ensures { TallyOfAnExchange }
+{}
+
+/// No longer counting a trace beside another undoes counting it there.
+pub fn minus_beside_undoes_plus()
+    ensures { MinusBesideUndoesPlus }
 {}
 
 /// Two traces are counted in either order.

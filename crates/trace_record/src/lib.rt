@@ -22,9 +22,9 @@ mod wide;
 
 pub use crate::amplitudes::Amplitudes;
 pub use crate::laws::{
-    geometry_of_each_trace, minus_undoes_plus, plus_in_any_order, plus_undoes_minus,
-    statistics_of_joined, tally_holds_each, tally_in_any_order, tally_of_one_less,
-    tally_of_one_more,
+    geometry_of_each_trace, minus_beside_undoes_plus, minus_undoes_plus, plus_in_any_order,
+    plus_undoes_minus, statistics_of_joined, tally_holds_each, tally_in_any_order,
+    tally_of_an_exchange, tally_of_one_less, tally_of_one_more,
 };
 pub use crate::of_trace::{record_of, record_with_samples_of};
 pub use crate::packed_record::PackedRecord;

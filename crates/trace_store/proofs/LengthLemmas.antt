@@ -1,13 +1,16 @@
 -- How long a volume is once a trace of it is changed, put in, taken out or moved.
-use Rattle.std.proofs.Common.{◌≡◌, ℕ, suc, zero, ◌+◌, ◌*◌, ◌<◌, ◌≤◌, List, [], ◌∷◌, ◌++◌, length, take, drop, set, get_or, refl, ap, sym, ◌∙◌, arith, length-append, length-take, length-drop}
-use Rattle.std.proofs.lemmas.List.{take-append-drop, set_split, set-get_or}
+use Rattle.std.proofs.Common.{◌≡◌, ℕ, suc, zero, ◌+◌, ◌*◌, ◌<◌, ◌≤◌, ◌-◌, List, [], ◌∷◌, ◌++◌, length, take, drop, set, get_or, refl, ap, sym, ◌∙◌, arith, inl, inr, length-append, length-take, length-drop}
+use Rattle.std.proofs.lemmas.Bool.{cases_eq}
+use Rattle.std.proofs.lemmas.List.{take-append-drop, set_split, set-get_or, length-set, get_or-set_same, get_or-set_other}
+use Rattle.std.proofs.lemmas.List.Edits.{swap_is, length-swap}
 use Rattle.std.proofs.lemmas.List.Folds.{concat-append}
-use Rattle.std.specs.List.{concat, insert, remove}
+use Rattle.std.specs.List.{concat, insert, remove, swap}
 use Rattle.std.specs.Prelude.{slice_index_or}
 use Rattle.frame_cut.specs.Splice.{splice}
 use Rattle.frame_cut.specs.Volume.{Volume, bytes_of}
 use Rattle.frame_cut.proofs.EditLemmas.{length-bytes}
 use Rattle.frame_cut.specs.Parts.{put_each_at}
+use Rattle.trace_store.specs.Swapped.{with_swapped, ArePlaces}
 
 -- a splice keeps the length
 pub length-splice : (file : List ℕ) (a : ℕ) (new : List ℕ) → a + length new ≤ length file → length (splice file a (length new) new) ≡ length file
@@ -35,6 +38,26 @@ total-insert ts i t = omega (arith, total-around (take i ts) t (drop i ts), ap (
 
 pub total-remove : (ts : List (List ℕ)) (i : ℕ) → i < length ts → total (remove ts i) + length (get_or ts i []) ≡ total ts
 total-remove ts i h = omega (arith, total-append (take i ts) (drop (suc i) ts), total-parts ts i h)
+
+-- traces that change places leave how long they are together
+pub total-swap : (ts : List (List ℕ)) (i j : ℕ) → i < length ts → j < length ts → total (swap ts i j) ≡ total ts
+total-swap ts i j i_there j_there =
+    let first : List (List ℕ) = set ts i (get_or ts j []) in
+    let still : j < length first = omega (arith, j_there, length-set ts i (get_or ts j [])) in
+    let there : length (get_or first j []) ≡ length (get_or ts j []) = ap (λ (t : List ℕ). length t) (elim (cases_eq j i) [
+      | inl e ↦ ap (λ (k : ℕ). get_or first k []) e ∙ get_or-set_same ts i (get_or ts j []) [] i_there
+      | inr ne ↦ get_or-set_other ts i j (get_or ts j []) [] ne
+    ]) in
+    ap (λ (x : List (List ℕ)). total x) (sym (swap_is ts i j [] i_there j_there))
+    ∙ omega (arith, there, total-set ts i (get_or ts j []) i_there, total-set first j (get_or ts i []) still)
+
+pub total-swapped : (ts : List (List ℕ)) (pairs : List (ℕ × ℕ)) → ArePlaces (length ts) pairs → total (with_swapped ts pairs) ≡ total ts
+total-swapped ts [] places = refl
+total-swapped ts (pair ∷ pairs) places =
+    let first : pair.0 - 1 < length ts = omega (arith, places.0, places.1) in
+    let second : pair.1 - 1 < length ts = omega (arith, places.2, places.3) in
+    let same : length (swap ts (pair.0 - 1) (pair.1 - 1)) ≡ length ts = length-swap ts (pair.0 - 1) (pair.1 - 1) in
+    total-swapped (swap ts (pair.0 - 1) (pair.1 - 1)) pairs (rw same places.4) ∙ total-swap ts (pair.0 - 1) (pair.1 - 1) first second
 
 -- bytes that are laid over traces, and over no byte behind one of them, leave how long the traces are
 pub total-put_each : (ts : List (List ℕ)) (place at size : ℕ) (bytes : List ℕ) (n : ℕ) → 0 < size → length bytes ≡ n * size

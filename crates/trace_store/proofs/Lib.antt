@@ -5,3 +5,4 @@ pub mod MoveLemmas
 pub mod OrderLemmas
 pub mod PayloadLemmas
 pub mod SlotLemmas
+pub mod SwapLemmas

@@ -1,6 +1,7 @@
 pub mod Slots
 pub mod Moved
 pub mod Stores
+pub mod Swapped
 pub mod Ahead
 pub mod Each
 pub mod OneProof

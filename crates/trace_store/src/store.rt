@@ -1,6 +1,6 @@
 // The traces of a volume: an order of ids, and a slot under each.
 ghost use Rattle.std.specs.Prelude.{◌≡◌, ℕ, ◌+◌, ◌-◌, ◌/◌, ◌%◌, ◌^◌, ◌<◌, ◌≤◌, [], ◌∷◌, length, Some, slice_index_or, slice_set, IfOk, OnOk, OnErr, slice_get};
-ghost use Rattle.std.specs.List.{insert, remove};
+ghost use Rattle.std.specs.List.{insert, remove, swap};
 ghost use Rattle.frame_cut.specs.Cuts.{IsTrace};
 ghost use Rattle.frame_cut.specs.Layout.{bytes_at};
 ghost use Rattle.frame_cut.specs.Splice.{splice};
@@ -18,6 +18,7 @@ use crate::slot::{Base, Slot, piece};
 use frame_cut::{Extent, Head};
 use slab::Slab;
 use std::alloc::Global;
+use std::mem;
 use trace_seq::{ChunkSeq, TraceSeq};
 use trace_view::{Run, TraceView};
 
@@ -35,6 +36,7 @@ pub struct TraceStore<T: Copy> {
 impl<T: Copy> TraceStore<T> {
     ghost use Rattle.trace_store.specs.Ahead.{traces_moved, traces_then, traces_with, AreRunsFrom, AreRunsOf, IsReady};
     ghost use Rattle.trace_store.specs.Stores.{bases_of, payload_under, traces_of, payloads_of, payloads_moved, payloads_then};
+    ghost use Rattle.trace_store.specs.Swapped.{with_swapped, ArePlaces};
 
     /// No traces yet over a loaded file, with room for so many slots. Refused for want of memory
     /// alone.
@@ -553,6 +555,47 @@ impl<T: Copy> TraceStore<T> {
         ensures payloads { payloads_of self.new ≡ payloads_moved (payloads_of self.old) a b }
     {
         self.order.move_to(a, b);
+    }
+
+    /// Puts traces p and q in the place of one another, with their payloads. Takes no memory.
+    pub fn swap(&mut self, p: u32, q: u32)
+        requires first { 1 ≤ p }
+        requires last { p ≤ length (traces_of self.old) }
+        requires other_first { 1 ≤ q }
+        requires other_last { q ≤ length (traces_of self.old) }
+        ensures head { self.new.head ≡ self.old.head }
+        ensures loaded { self.new.loaded ≡ self.old.loaded }
+        ensures traces { traces_of self.new ≡ swap (traces_of self.old) (p - 1) (q - 1) }
+        ensures payloads { payloads_of self.new ≡ swap (payloads_of self.old) (p - 1) (q - 1) }
+    {
+        let id = self.id(p);
+        let other = self.id(q);
+        let slot = self.slots.remove(id);
+        match self.slots.get_mut(other) {
+            Some(place) => {
+                let slot = mem::replace(place, slot);
+                let _id = self.slots.insert_reserved(slot);
+            }
+            // p is q.
+            None => {
+                let _id = self.slots.insert_reserved(slot);
+            }
+        }
+    }
+
+    /// Puts the traces of each pair in the place of one another, with their payloads, one pair
+    /// after the other. Takes no memory.
+    pub fn swap_each(&mut self, pairs: Vec<(u32, u32)>)
+        requires { ArePlaces (length (traces_of self.old)) pairs.items }
+        ensures head { self.new.head ≡ self.old.head }
+        ensures loaded { self.new.loaded ≡ self.old.loaded }
+        ensures traces { traces_of self.new ≡ with_swapped (traces_of self.old) pairs.items }
+        ensures payloads { payloads_of self.new
+            ≡ with_swapped (payloads_of self.old) pairs.items }
+    {
+        for (p, q) in pairs {
+            self.swap(p, q);
+        }
     }
 
     /// Makes the base the whole of trace p, without runs.

@@ -30,7 +30,11 @@ impl Window<(i32, i32, i32)> for OffsetRectangle {
         }
     }
 
+    // None where the offsets are many, as those before a stack are.
     fn over(extent: &OffsetExtent, keys: usize) -> OffsetRectangle {
+        if extent.votes < keys as u64 / 2 {
+            return OffsetRectangle::none();
+        }
         OffsetRectangle {
             cells: Rectangle::over(&extent.cells, keys),
             offset: extent.offset,

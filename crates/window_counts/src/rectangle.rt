@@ -89,3 +89,15 @@ impl Extent<(i32, i32)> for RectangleExtent {
         self.crosslines.include(key.1);
     }
 }
+
+impl RectangleExtent {
+    /// The least and the greatest inline. Takes no memory.
+    pub fn inlines(&self) -> IntervalExtent {
+        self.inlines
+    }
+
+    /// The least and the greatest crossline. Takes no memory.
+    pub fn crosslines(&self) -> IntervalExtent {
+        self.crosslines
+    }
+}

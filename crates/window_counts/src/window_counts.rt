@@ -1,5 +1,5 @@
 ghost use Rattle.std.specs.Prelude.{◌≡◌, ◌+◌, ◌^◌, ◌<◌, [], map, OnOk, OnErr, IsOk, IfOk};
-ghost use Rattle.key_counts.specs.Counts.{count_of, HasOneMore, HasSameCounts};
+ghost use Rattle.key_counts.specs.Counts.{count_of, HasOneMore};
 ghost use Rattle.key_counts.specs.Ends.{IsLeast, IsGreatest, IsSpan};
 ghost use Rattle.key_counts.specs.Rising.{Shows, times_in};
 
@@ -198,13 +198,13 @@ impl<K: Copy + Ord, W: Window<K>> WindowCounts<K, W> {
 }
 
 impl<K: Copy + Ord, W: Window<K>> Counter<K> for WindowCounts<K, W> {
+    ghost Seen = { K };
+
+    ghost seen = { λ k. k };
+
     ghost cmp = { K.cmp };
 
     ghost number = { λ es. count_of K.cmp es };
-
-    fn number_at(&self, key: K) -> u64 {
-        self.count(key)
-    }
 
     fn raise(&mut self, key: K) -> Result<(), OutOfMemory> {
         WindowCounts::raise(self, key)

@@ -33,6 +33,14 @@ def field(name: Field) -> str:
     return word(name) if isinstance(name, str) else trace_place(TraceField(operator.index(name)))
 
 
+def key(name: Field) -> str:
+    """The word for a field of a sort, whose numbers fall where it is negative: ``"-offset"``, ``-TraceField.offset``, ``-37``."""
+    if isinstance(name, str):
+        return word(name)
+    byte = operator.index(name)
+    return "-" + field(-byte) if byte < 0 else field(byte)
+
+
 def term(part: Field) -> str:
     """A part of a computation: a text as it stands (a field, a sign, or all of ``cdp / 1000``), a ``TraceField``, or a whole number."""
     if isinstance(part, str):

@@ -161,6 +161,15 @@ class Volume:
             raise TypeError("a computation wants a field or a number to begin with")
         self._edit("compute", number(first_trace), number(last_trace), field(name), *map(lines.term, formula))
 
+    def sort(self, first_trace: int, last_trace: int, *keys: Field) -> None:
+        """Puts the traces from ``first_trace`` to ``last_trace`` in the order of one to eight fields; equal ones stay as they stood.
+
+        The numbers of a field fall where it is negative: ``v.sort(1, len(v), "inline", "-offset")``, or ``-TraceField.offset``.
+        """
+        if not keys:
+            raise TypeError("a sort wants a field")
+        self._edit("sort", number(first_trace), number(last_trace), *map(lines.key, keys))
+
     def map(self, name: str, place: Field) -> None:
         """Binds a name to a place of trace headers. The file is not changed."""
         self._edit("map", lines.word(name), field(place))

@@ -142,6 +142,9 @@ class Plan:
             self._insert(int(words[-1]), None, True)
         elif word == "move":
             self._move(int(words[1]), int(words[2]))
+        elif word == "sort":
+            # Where its traces stand is told by their headers alone.
+            self.lost = True
 
     def _touches(self, field: str) -> bool:
         """Whether the field may share bytes with one of the six. Their places are those that hold behind all lines."""

@@ -1,22 +1,23 @@
 use Rattle.std.proofs.Common.{sym, ◌∙◌}
 use Rattle.live_reports.specs.Tallies.{tallies_of}
-use Rattle.live_reports.proofs.ExchangeLemmas.{each_new_held, each_new_fits, each_removed}
+use Rattle.live_reports.proofs.ExchangeLemmas.{each_new_held, each_removed, small_from}
+use Rattle.live_reports.proofs.SmallLemmas.{AreSmall-Same, SameEach-trans}
 use Rattle.live_reports.proofs.exchanging.remove_at.Goals as goal
 
-pub remove-requires-clause-held : goal.remove-requires-clause-held
-remove-requires-clause-held c =
+pub remove_beside-requires-clause-held : goal.remove_beside-requires-clause-held
+remove_beside-requires-clause-held c =
     each_new_held c.args.records.now c.args.place c.args.k c.args.new.now c.in-Some.old c.index-new-k.result (sym c.get.ensures ∙ c.in-Some.is) c.requires.there c.index-new-k.is
-    c.changes_between.result c.changes_between.ensures.grid c.changes_between.ensures.ranges c.changes_between.ensures.totals c.changes_between.ensures.triples
     (tallies_of c.args.values.now) c.requires.counted
 
-pub remove-requires-clause-small : goal.remove-requires-clause-small
-remove-requires-clause-small c =
-    each_new_fits c.args.records.now c.args.place c.args.k c.args.new.now c.in-Some.old c.index-new-k.result (sym c.get.ensures ∙ c.in-Some.is) c.requires.there c.index-new-k.is
-    c.changes_between.result c.changes_between.ensures.grid c.changes_between.ensures.ranges c.changes_between.ensures.totals c.changes_between.ensures.triples
-    (tallies_of c.args.values.now) c.requires.counted c.requires.few
+pub remove_beside-requires-clause-small : goal.remove_beside-requires-clause-small
+remove_beside-requires-clause-small c =
+    AreSmall-Same _ _
+    (each_removed c.args.records.now c.args.place c.args.k c.args.new.now c.in-Some.old c.index-new-k.result (sym c.get.ensures ∙ c.in-Some.is) c.requires.there c.index-new-k.is
+    (tallies_of c.args.values.now) c.requires.counted)
+    (small_from c.args.records.now c.args.place c.args.k c.args.new.now c.in-Some.old c.index-new-k.result (sym c.get.ensures ∙ c.in-Some.is) c.requires.there c.index-new-k.is c.requires.place c.requires.few)
 
 pub returns : goal.returns
 returns c =
-    each_removed c.args.records.now c.args.place c.args.k c.args.new.now c.in-Some.old c.index-new-k.result (sym c.get.ensures ∙ c.in-Some.is) c.requires.there c.index-new-k.is
-    c.changes_between.result c.changes_between.ensures.grid c.changes_between.ensures.ranges c.changes_between.ensures.totals c.changes_between.ensures.triples
-    (tallies_of c.args.values.now) c.requires.counted (tallies_of c.remove.new.self) c.remove.ensures
+    SameEach-trans _ _ _ c.remove_beside.ensures
+    (each_removed c.args.records.now c.args.place c.args.k c.args.new.now c.in-Some.old c.index-new-k.result (sym c.get.ensures ∙ c.in-Some.is) c.requires.there c.index-new-k.is
+    (tallies_of c.args.values.now) c.requires.counted)

@@ -12,7 +12,7 @@ use Rattle.trace_record.specs.Keys.{triple}
 use Rattle.trace_record.specs.declared.record.Record.{Record}
 use Rattle.fault_live.specs.declared.fault.Fault.TheVariants.{Scalar}
 use Rattle.fault_live.specs.Faults.{faults_of, trace_faults, own_faults, among_faults, unless, is_scalar}
-use Rattle.fault_live.specs.OfFaults.{triple_cmp}
+use Rattle.window_counts.specs.Places.{triple_cmp}
 use Rattle.fault_live.proofs.ReportStepLemmas.{first_stays, report_grows}
 use Rattle.fault_live.proofs.faults.Faults.report.Goals as goal
 

@@ -6,7 +6,8 @@ use Rattle.key_counts.specs.Counts.{count_of}
 use Rattle.trace_record.specs.Facts.{Facts, facts_of}
 use Rattle.trace_record.specs.Tally.{Same, tally_of}
 use Rattle.fault_live.specs.FaultKeys.{keys_of_faults}
-use Rattle.fault_live.specs.OfFaults.{triple_cmp, tally_of_faults}
+use Rattle.window_counts.specs.Places.{triple_cmp}
+use Rattle.fault_live.specs.OfFaults.{tally_of_faults}
 use Rattle.fault_live.specs.Faults.{faults_of, trace_faults, first_with}
 use Rattle.fault_live.proofs.faults.Faults.report.Given as goal
 

@@ -3,7 +3,7 @@ use mir.Syntax.{w32, w128}
 use mir.Val.{to_z, of_z}
 use Rattle.std.proofs.lemmas.Int.{to_z-of_z}
 use Rattle.key_counts.specs.Counts.{count_of}
-use Rattle.grid_live.specs.Cells.{cell_cmp}
+use Rattle.window_counts.specs.Places.{cell_cmp}
 use Rattle.grid_live.proofs.grid.Grid.fold.Goals as goal
 
 -- a number that was found to fit 32 bits is the one that was passed

@@ -9,5 +9,4 @@ pub add-requires-clause-room : goal.add-requires-clause-room
 add-requires-clause-room c = room_for_insert c.args.records.now c.args.place c.args.added.now c.requires.place c.args.self.now.values c.requires.counted c.requires.few
 
 pub returns-clause-ok : goal.returns-clause-ok
-returns-clause-ok c =
-    insert_counts c.args.records.now c.args.place c.args.added.now c.requires.place c.args.self.now.values c.requires.counted c.requires.few c.all_changes.result c.all_changes.ensures c.add.new.self c.in_ok-add.ensures.ok
+returns-clause-ok c = insert_counts c.args.records.now c.args.place c.args.added.now c.requires.place c.args.self.now.values c.requires.counted c.requires.few c.add.new.self c.in_ok-add.ensures.ok

@@ -3,7 +3,7 @@ use Rattle.key_counts.specs.Counts.{count_of}
 use Rattle.key_counts.specs.Packed.{ratio_in}
 use Rattle.key_counts.specs.RatioOrder.{ratio_cmp}
 use Rattle.key_counts.specs.declared.ratio.Ratio.{Ratio}
-use Rattle.range_stats.specs.Extremes.{IsBetween, IsSpan}
+use Rattle.key_counts.specs.Ends.{IsBetween, IsSpan}
 use Rattle.range_stats.proofs.UnpackedLemmas.{none_unpacked, between_unpacked}
 use Rattle.range_stats.proofs.coordinate_counts.CoordinateCounts.span.Goals as goal
 

@@ -1,5 +1,0 @@
-use Rattle.fault_live.proofs.LoadLemmas.{Same-loaded}
-use Rattle.fault_live.proofs.faults.FaultsRunning.from_records.Goals as goal
-
-pub returns : goal.returns
-returns c = Same-loaded _ c.args.records.now c.len.ensures (rw c.in_ok-keys.ensures at c.in_ok-from_keys.ensures.shows)

@@ -1,0 +1,72 @@
+// The exchanges of traces that put them in the order of their numbers.
+ghost use Rattle.std.specs.Prelude.{◌≡◌, ℕ, ◌+◌, ◌-◌, ◌≤◌, ◌^◌, length, All, IfOk, IfErr};
+ghost use Rattle.frame_cut.specs.Traces.{count_of};
+ghost use Rattle.edit_overlay.specs.CountedVolume.{RisesAtMost};
+ghost use Rattle.bench_rules.specs.declared.refusal.Refusal.TheVariants.{OutOfMemory as no_memory};
+ghost use Rattle.bench_rules.specs.Looks.{looks_at};
+ghost use Rattle.bench_rules.specs.ManyTraces.{each_of};
+ghost use Rattle.bench_rules.specs.Places.{place_in_trace};
+ghost use Rattle.bench_rules.specs.Refused.{sort_refusal};
+ghost use Rattle.many_traces.specs.Arranged.{PutsRows, Sorts};
+ghost use Rattle.many_traces.specs.Formulas.{IsRefusalFor};
+
+use crate::sorting::rows_in_order;
+use crate::standing::exchanges;
+use crate::tables::table;
+use bench_rules::{AskFault, Field, Refusal, Table};
+use edit_overlay::Overlay;
+use field_map::FieldMap;
+use std::alloc::Global;
+use trace_record::PackedRecord;
+
+/// The pairs of traces that put traces a to b in the order of the numbers of these fields, where
+/// the traces of each pair come in the place of one another, one pair after the other. The numbers
+/// of a field fall where the item of `falling` at its place is true. Looks at each of the traces
+/// once at most, and at none where a field has no place. Takes memory for the numbers and for the
+/// order. Refused, in this order: E02, E03 where one of the traces lacks a place; else E11 alone.
+pub fn exchanges_to_sort(
+    alloc: Global,
+    overlay: &mut Overlay<PackedRecord>,
+    map: &FieldMap,
+    a: u32,
+    b: u32,
+    fields: &[Field],
+    falling: &[bool],
+) -> Result<Vec<(u32, u32)>, Refusal>
+    requires first { 1 ≤ a }
+    requires range { a ≤ b }
+    requires last { b ≤ count_of overlay.old.volume }
+    ensures ok { IfOk result (λ pairs. Sorts overlay.old.volume
+        (each_of (place_in_trace map.now.pairs) fields.now) falling.now a b pairs.items) }
+    ensures err { IfErr result (λ refusal. IsRefusalFor refusal (sort_refusal overlay.old.volume a b
+        (each_of (place_in_trace map.now.pairs) fields.now))) }
+    ensures volume { overlay.new.volume ≡ overlay.old.volume }
+    ensures prepared { overlay.new.prepared ≡ overlay.old.prepared }
+    ensures payloads { overlay.new.payloads ≡ overlay.old.payloads }
+    ensures looks { RisesAtMost overlay.old.looks overlay.new.looks
+        (looks_at (each_of (place_in_trace map.now.pairs) fields.now) (b + 1 - a)) }
+{
+    match table(alloc, overlay, map, a, b, fields) {
+        Ok(table) => exchanges_of(alloc, a, &table, falling),
+        Err(AskFault::NoField) => Err(Refusal::NoField),
+        Err(AskFault::NoPlace) => Err(Refusal::NoPlace),
+        Err(_) => Err(Refusal::OutOfMemory),
+    }
+}
+
+// The pairs of traces that put those of the table's rows, which are of one length, in order.
+fn exchanges_of(
+    alloc: Global,
+    first: u32,
+    table: &Table,
+    falling: &[bool],
+) -> Result<Vec<(u32, u32)>, Refusal>
+    requires wide { (width : ℕ) × All (λ row. length row.1 ≡ width) table.now }
+    requires first { 1 ≤ first }
+    requires last { first + length table.now ≤ 2 ^ 32 }
+    ensures ok { IfOk result (λ pairs. PutsRows first table.now falling.now pairs.items) }
+    ensures err { IfErr result (λ refusal. refusal ≡ no_memory) }
+{
+    let rows = rows_in_order(alloc, table, falling)?;
+    Ok(exchanges(alloc, first, rows.as_slice())?)
+}

@@ -1,18 +1,18 @@
 -- A file that is being loaded.
-use Rattle.std.proofs.Common.{◌≡◌, ℕ, ◌+◌, ◌-◌, ◌<◌, List, [], length, take, drop, get_or, refl, sym, ap, ◌∙◌, arith}
+use Rattle.std.proofs.Common.{◌≡◌, ℕ, suc, ◌+◌, ◌-◌, ◌*◌, ◌<◌, ◌≤◌, ◌^◌, List, [], ◌∷◌, length, map, take, drop, get_or, refl, sym, ap, ◌∙◌, subst, arith, All}
 use Rattle.std.proofs.lemmas.List.{length-map, take_all}
 use Rattle.frame_cut.specs.declared.extent.Extent.{Extent}
 use Rattle.frame_cut.specs.declared.file_head.Head.{Head}
 use Rattle.frame_cut.specs.declared.limits.Limits.{Limits}
 use Rattle.frame_cut.specs.declared.reading.Reading.{Reading}
-use Rattle.frame_cut.specs.Cuts.{IsCut}
+use Rattle.frame_cut.specs.Cuts.{IsCut, IsTrace}
 use Rattle.frame_cut.specs.Layout.{bytes_at, pieces, volume_at, AreTracesOf}
 use Rattle.frame_cut.specs.Traces.{trace_at}
 use Rattle.trace_store.specs.declared.store.TraceStore.{TraceStore}
 use Rattle.trace_store.specs.Slots.{bytes_under}
 use Rattle.trace_store.specs.Stores.{payloads_of, traces_of}
 use Rattle.trace_store.proofs.PayloadLemmas.{payloads-counted}
-use Rattle.edit_overlay.specs.Held.{volume_with}
+use Rattle.edit_overlay.specs.Held.{volume_with, HasEnds}
 use Rattle.edit_overlay.specs.HeldLoading.{IsLoading}
 use Rattle.edit_overlay.specs.declared.loading.Loading.TheInside.{Inside}
 use Rattle.edit_overlay.proofs.PieceLemmas.{all_inside, all_whole, get_or-pieces}

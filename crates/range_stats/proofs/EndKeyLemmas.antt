@@ -32,13 +32,6 @@ number-of f o e = ap (λ (p : Option Amplitudes). option_map_or (λ a. f.number)
 pub sum-of : (f : Facts) (o : Option Amplitudes) → f.amplitudes ≡ o → sum_of_values f ≡ option_map_or (λ a. a.sum) o (pos 0)
 sum-of f o e = ap (λ (p : Option Amplitudes). option_map_or (λ a. a.sum) p (pos 0)) e
 
--- a trace has its own least and its own greatest
-pub own-least : (f : Facts) (a : Amplitudes) → f.amplitudes ≡ Some a → times keys_of_totals f (least a.least) ≡ 1
-own-least f a e = times-least f (Some a) a.least e ∙ ap (λ (b : Bool). if b then 1 else 0) (int_eq-itself a.least a.least refl)
-
-pub own-greatest : (f : Facts) (a : Amplitudes) → f.amplitudes ≡ Some a → times keys_of_totals f (greatest a.greatest) ≡ 1
-own-greatest f a e = times-greatest f (Some a) a.greatest e ∙ ap (λ (b : Bool). if b then 1 else 0) (int_eq-itself a.greatest a.greatest refl)
-
 -- ---- many
 
 pub times_in-cons : (x : ℤ) (vs : List ℤ) (v : ℤ) → times_in int_cmp (x ∷ vs) v ≡ (if int_eq x v then 1 else 0) + times_in int_cmp vs v

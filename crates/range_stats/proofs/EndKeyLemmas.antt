@@ -1,12 +1,11 @@
 -- The least and the greatest sample of a trace among those that are counted.
-use Rattle.std.specs.Prelude.{◌≡◌, ◌+◌, ℕ, ℤ, pos, Bool, false, cond, if◌then◌else◌, List, [], ◌∷◌, map, count_by, filter_map, Option, Some, None, refl}
+use Rattle.std.specs.Prelude.{◌≡◌, ◌+◌, ℕ, ℤ, pos, false, cond, if◌then◌else◌, List, [], ◌∷◌, map, count_by, filter_map, Option, Some, None, refl}
 use Rattle.std.specs.List.{cons_option}
 use Rattle.std.specs.Option.{option_map_or}
 use Rattle.std.specs.Ordering.{is_eq, int_cmp, int_eq}
 use Rattle.std.proofs.Common.{arith, sym, ap, ◌∙◌}
 use Rattle.std.proofs.lemmas.List.Sums.{sum_by-cons}
 use Rattle.key_counts.specs.Rising.{times_in}
-use Rattle.key_counts.proofs.KeyLemmas.{int_eq-itself}
 use Rattle.trace_record.specs.Facts.{Facts, facts_of, number_of_values, sum_of_values}
 use Rattle.trace_record.specs.Keys.{least, greatest}
 use Rattle.trace_record.specs.Tally.{times}

@@ -9,4 +9,5 @@ mod KeptSetLemmas
 mod KeptNumberLemmas
 pub mod KeptSliceLemmas
 mod OneNumberLemmas
+pub mod SortLemmas
 mod TotalLemmas

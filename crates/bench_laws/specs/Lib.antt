@@ -1,4 +1,5 @@
 pub mod EditLaws
 pub mod NumberLaws
+pub mod SortLaws
 pub mod KeptLaws
 pub mod ReportLaws

@@ -7,6 +7,7 @@ mod kept_laws;
 mod laws;
 mod live_laws;
 mod number_laws;
+mod sort_laws;
 
 pub use crate::kept_laws::kept_slices_stay;
 pub use crate::laws::{
@@ -17,3 +18,4 @@ pub use crate::number_laws::{
     compute_is_its_sets, compute_of_a_number_is_renumber, renumber_is_its_sets, resize_keeps_bytes,
     resize_keeps_samples, resize_leaves_the_rest,
 };
+pub use crate::sort_laws::{rows_stand_in_order, sort_keeps_traces, sorted_table_is_in_order};

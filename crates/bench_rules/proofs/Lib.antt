@@ -19,4 +19,6 @@ pub mod LiveLemmas
 pub mod LetterLemmas
 mod TableLemmas
 pub mod SortLemmas
+pub mod InOrderLemmas
+pub mod RowOrderLemmas
 pub mod SortedLemmas

@@ -36,7 +36,7 @@ put-permutes : (falls : List Bool) (row : Row) (rows : List Row) → IsPermutati
 put-permutes falls row [] = IsPermutation-refl _
 put-permutes falls row (other ∷ others) = put-by (are_in_front falls other.1 row.1) row other others _ (put-permutes falls row others)
 
-in_order-permutes : (falls : List Bool) (rows : List Row) → IsPermutation rows (in_order falls rows)
+pub in_order-permutes : (falls : List Bool) (rows : List Row) → IsPermutation rows (in_order falls rows)
 in_order-permutes falls [] = IsPermutation-refl _
 in_order-permutes falls (row ∷ rows) = IsPermutation-trans _ _ _ (IsPermutation-cons row _ _ (in_order-permutes falls rows)) (put-permutes falls row (in_order falls rows))
 

@@ -4,7 +4,7 @@ use Rattle.std.proofs.Common.{arith, ap}
 use Rattle.std.proofs.lemmas.Int.{ints}
 use Rattle.trace_record.specs.Facts.{Facts, facts_of}
 use Rattle.trace_record.specs.Keys.{Counted, Key}
-use Rattle.trace_record.specs.Tally.{Tally, tally_of, plus, plus_beside, minus_beside, Same, Holds, HasKeys, HasKeysBeside, HoldsBeside, IsSmall}
+use Rattle.trace_record.specs.Tally.{Tally, tally_of, plus, plus_beside, minus_beside, Same, HasKeys, HasKeysBeside, HoldsBeside, IsSmall}
 use Rattle.trace_record.specs.declared.record.Record.{Record}
 use Rattle.trace_record.proofs.TallyLemmas.{Same-trans, tally-cons, tally_holds_each, tally_of_an_exchange, minus_beside-plus}
 use Rattle.live_reports.specs.Exchanged.{with_new}

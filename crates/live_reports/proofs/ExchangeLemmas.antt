@@ -1,7 +1,7 @@
 -- What the running values have counted while new records come to stand in for others.
 use Rattle.std.specs.Prelude.{◌≡◌, ℕ, zero, suc, ◌+◌, ◌<◌, ◌≤◌, true, ◌&&◌, List, [], ◌∷◌, ◌++◌, length, take, drop, map, sum_by, slice_get, slice_set, get_or, All, IfSome, Option, None, Some, Result, Ok, Err, OnOk, refl}
 use Rattle.std.proofs.Common.{arith, sym, ap, ap₂, ◌∙◌, subst}
-use Rattle.std.proofs.lemmas.List.{length-append, length-drop, length-set, length-take-le, map-append, append_assoc, append-nil, drop_more, drop_all, drop-set-lt, take_more_set, take-append-drop}
+use Rattle.std.proofs.lemmas.List.{length-append, length-drop, length-set, length-take-le, map-append, append_assoc, append-nil, drop_more, drop_all, drop-set-lt, take-append-drop}
 use Rattle.std.proofs.lemmas.List.Elements.{All-get_or}
 use Rattle.std.proofs.lemmas.List.Sums.{sum_by-cons, sum_by-append}
 use Rattle.std.proofs.lemmas.Option.{get_or_from_slice_get, slice_get_within}

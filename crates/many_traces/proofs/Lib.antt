@@ -5,7 +5,6 @@ mod NameLemmas
 mod SeenLemmas
 pub mod FormulaLemmas
 pub mod NumbersLemmas
-mod InOrderLemmas
-mod RowOrderLemmas
+mod NearLemmas
 pub mod ExchangeLemmas
 pub mod SortedTraceLemmas

@@ -1,12 +1,11 @@
 -- The least and the greatest sample of a trace among those that are counted.
-use Rattle.std.specs.Prelude.{◌≡◌, ◌+◌, ℕ, ℤ, pos, Bool, false, cond, if◌then◌else◌, List, [], ◌∷◌, map, count_by, filter_map, Option, Some, None, refl}
+use Rattle.std.specs.Prelude.{◌≡◌, ◌+◌, ℕ, ℤ, pos, false, cond, if◌then◌else◌, List, [], ◌∷◌, map, count_by, filter_map, Option, Some, None, refl}
 use Rattle.std.specs.List.{cons_option}
 use Rattle.std.specs.Option.{option_map_or}
 use Rattle.std.specs.Ordering.{is_eq, int_cmp, int_eq}
 use Rattle.std.proofs.Common.{arith, sym, ap, ◌∙◌}
 use Rattle.std.proofs.lemmas.List.Sums.{sum_by-cons}
 use Rattle.key_counts.specs.Rising.{times_in}
-use Rattle.key_counts.proofs.KeyLemmas.{int_eq-itself}
 use Rattle.trace_record.specs.Facts.{Facts, facts_of, number_of_values, sum_of_values}
 use Rattle.trace_record.specs.Keys.{least, greatest}
 use Rattle.trace_record.specs.Tally.{times}
@@ -31,13 +30,6 @@ number-of f o e = ap (λ (p : Option Amplitudes). option_map_or (λ a. f.number)
 
 pub sum-of : (f : Facts) (o : Option Amplitudes) → f.amplitudes ≡ o → sum_of_values f ≡ option_map_or (λ a. a.sum) o (pos 0)
 sum-of f o e = ap (λ (p : Option Amplitudes). option_map_or (λ a. a.sum) p (pos 0)) e
-
--- a trace has its own least and its own greatest
-pub own-least : (f : Facts) (a : Amplitudes) → f.amplitudes ≡ Some a → times keys_of_totals f (least a.least) ≡ 1
-own-least f a e = times-least f (Some a) a.least e ∙ ap (λ (b : Bool). if b then 1 else 0) (int_eq-itself a.least a.least refl)
-
-pub own-greatest : (f : Facts) (a : Amplitudes) → f.amplitudes ≡ Some a → times keys_of_totals f (greatest a.greatest) ≡ 1
-own-greatest f a e = times-greatest f (Some a) a.greatest e ∙ ap (λ (b : Bool). if b then 1 else 0) (int_eq-itself a.greatest a.greatest refl)
 
 -- ---- many
 

@@ -1,5 +1,5 @@
 -- The number of the samples of traces that have values and their sum, trace by trace.
-use Rattle.std.specs.Prelude.{◌≡◌, ℕ, ℤ, pos, neg_ℤ, ◌+◌, ◌*◌, ◌^◌, ◌≤◌, ◌+ℤ◌, ◌-ℤ◌, ◌≤ℤ◌, List, [], ◌∷◌, map, sum_by, refl}
+use Rattle.std.specs.Prelude.{◌≡◌, ℕ, ℤ, pos, neg_ℤ, ◌+◌, ◌*◌, ◌^◌, ◌≤◌, ◌+ℤ◌, ◌≤ℤ◌, List, [], ◌∷◌, map, sum_by, refl}
 use Rattle.std.proofs.Common.{arith, SFits, to_z, of_z}
 use Rattle.std.specs.Int.{w128}
 use Rattle.std.proofs.lemmas.Int.{ints, to_z-of_z}
@@ -45,10 +45,6 @@ sum_fits n s rest all h few = let number = h.number in let low = h.low in let hi
 -- a sum of numbers that fit is the sum of what their bits are
 pub sum_of_bits : (s r : ℤ) → SFits w128 s → SFits w128 r → SFits w128 (s +ℤ r) → to_z w128 (of_z w128 (to_z w128 (of_z w128 s) +ℤ to_z w128 (of_z w128 r))) ≡ s +ℤ r
 sum_of_bits s r fs fr f = rw (to_z-of_z w128 s fs, to_z-of_z w128 r fr, to_z-of_z w128 (s +ℤ r) f) refl
-
--- and so is a difference
-pub difference_of_bits : (s r : ℤ) → SFits w128 s → SFits w128 r → SFits w128 (s -ℤ r) → to_z w128 (of_z w128 (to_z w128 (of_z w128 s) -ℤ to_z w128 (of_z w128 r))) ≡ s -ℤ r
-difference_of_bits s r fs fr f = rw (to_z-of_z w128 s fs, to_z-of_z w128 r fr, to_z-of_z w128 (s -ℤ r) f) refl
 
 -- with no trace left they are those of all
 pub none_left : (n : ℕ) (s : ℤ) (all : List Record) → AreOfFront n s [] all → (n ≡ number_of all) × (s ≡ sum_of all)

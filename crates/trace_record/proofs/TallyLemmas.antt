@@ -1,5 +1,5 @@
 -- Laws of tallies: one record more, one less, and the order of records.
-use Rattle.std.specs.Prelude.{◌≡◌, ℕ, ℤ, pos, negsuc, suc, ◌+◌, ◌-◌, ◌+ℤ◌, ◌-ℤ◌, ◌*◌, ◌^◌, ◌≤◌, ◌≤ℤ◌, neg_ℤ, Bool, true, false, if◌then◌else◌, cond, List, [], ◌∷◌, ◌++◌, length, map, sum_by, IsPermutation, Option, Some, None, refl}
+use Rattle.std.specs.Prelude.{◌≡◌, ℕ, ℤ, pos, negsuc, suc, ◌+◌, ◌-◌, ◌+ℤ◌, ◌-ℤ◌, ◌*◌, ◌^◌, ◌≤◌, ◌≤ℤ◌, neg_ℤ, cond, List, [], ◌∷◌, ◌++◌, length, map, sum_by, IsPermutation, Option, Some, None, refl}
 use Rattle.std.specs.Option.{option_map_or}
 use Rattle.std.proofs.Common.{arith, sym, ap, subst, ◌∙◌}
 use Rattle.std.proofs.lemmas.List.{map-append}
@@ -11,9 +11,9 @@ use Rattle.trace_record.specs.Packable.{HaveRange, each_fits}
 use Rattle.trace_record.specs.declared.amplitudes.Amplitudes.{Amplitudes}
 use Rattle.trace_record.specs.declared.record.Record.{Record}
 use Rattle.trace_record.specs.Statistics.{int_sum}
-use Rattle.trace_record.specs.Keys.{Key, Counted}
+use Rattle.trace_record.specs.Keys.{Counted}
 use Rattle.trace_record.specs.Laws.{TallyOfOneMore, TallyOfOneLess, TallyHoldsEach, TallyOfAnExchange, MinusBesideUndoesPlus}
-use Rattle.trace_record.specs.Tally.{Tally, tally_of, plus, minus, times, Same, Holds, IsSmall}
+use Rattle.trace_record.specs.Tally.{Tally, tally_of, plus, minus, Same, Holds, IsSmall}
 
 -- the part of a number above zero, and the part below
 above : ℤ → ℕ
@@ -104,14 +104,6 @@ pub one_behind : (c : Counted) (ys : List Record) (x : Record) (t : Tally) → S
 one_behind c ys x t s =
     subst (λ (fs : List Facts). Same (tally_of c fs) (plus c t (facts_of x))) (sym (map-append facts_of ys (x ∷ [])))
     (Same-trans _ _ _ (tally-push c (map facts_of ys) (facts_of x)) (plus-Same c _ _ (facts_of x) (Same-sym _ _ s)))
-
--- a trace has a key once at most
-pub times-le : (c : Counted) (f : Facts) (k : Key) → times c f k ≤ 1
-times-le c f k = by (c.has f k)
-  where
-    by : (b : Bool) → ◌≤◌ (if b then 1 else 0) 1
-    by true = omega arith
-    by false = omega arith
 
 -- taking a record out undoes putting it in
 pub minus-plus : (c : Counted) (t : Tally) (f : Facts) → Same (minus c (plus c t f) f) t

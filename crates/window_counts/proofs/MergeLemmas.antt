@@ -31,10 +31,6 @@ module _ {K : Type 0} (cmp : K → K → Ordering) where
   merge-first x (z ∷ xs) [] e = refl
   merge-first x xs (y ∷ ys) e = ap (λ (b : Bool). if b then x ∷ merge cmp xs (y ∷ ys) else (y ∷ merge_step cmp x xs (merge cmp xs) ys)) e
 
-  pub merge-second : (xs : List (K × ℕ)) (y : K × ℕ) (ys : List (K × ℕ)) → is_first cmp xs (y ∷ ys) ≡ false → merge cmp xs (y ∷ ys) ≡ y ∷ merge cmp xs ys
-  merge-second [] y ys e = refl
-  merge-second (x ∷ xs) y ys e = ap (λ (b : Bool). if b then x ∷ merge cmp xs (y ∷ ys) else (y ∷ merge_step cmp x xs (merge cmp xs) ys)) e
-
   -- an entry that is put behind the list is the next one
   pub put-first : (xs ys : List (K × ℕ)) (i : ℕ) (e : K × ℕ) (old new all : List (K × ℕ)) → i < length xs → e ≡ get_or xs i e → is_first cmp (drop i xs) ys ≡ true
       → old ++ merge cmp (drop i xs) ys ≡ all → new ≡ old ++ e ∷ [] → new ++ merge cmp (drop (i + 1) xs) ys ≡ all
@@ -47,21 +43,7 @@ module _ {K : Type 0} (cmp : K → K → Ordering) where
       ∙ ap (λ l. old ++ l) (sym next)
       ∙ before
 
-  pub put-second : (xs ys : List (K × ℕ)) (j : ℕ) (e : K × ℕ) (old new all : List (K × ℕ)) → j < length ys → e ≡ get_or ys j e → is_first cmp xs (drop j ys) ≡ false
-      → old ++ merge cmp xs (drop j ys) ≡ all → new ≡ old ++ e ∷ [] → new ++ merge cmp xs (drop (j + 1) ys) ≡ all
-  put-second xs ys j e old new all short read second before put =
-      let front : drop j ys ≡ e ∷ drop (j + 1) ys = drop-cons ys j e short ∙ ap₂ (λ y k. y ∷ drop k ys) (sym read) (sym (add-one j)) in
-      let next : merge cmp xs (drop j ys) ≡ e ∷ merge cmp xs (drop (j + 1) ys)
-      = ap (merge cmp xs) front ∙ merge-second xs e (drop (j + 1) ys) (sym (ap (is_first cmp xs) front) ∙ second) in
-      ap (λ l. l ++ merge cmp xs (drop (j + 1) ys)) put
-      ∙ append_assoc old (e ∷ []) (merge cmp xs (drop (j + 1) ys))
-      ∙ ap (λ l. old ++ l) (sym next)
-      ∙ before
-
 module _ {K : Type 0} (cmp : K → K → Ordering) (o : IsTotalOrder cmp) where
-  abbrev Above : K → List (K × ℕ) → Type 0
-  Above x ys = AllByRecursion (λ k. cmp x k ≡ Less) (keys_of ys)
-
   abbrev Positive : List (K × ℕ) → Type 0
   Positive xs = All (λ n. 0 < n) (values_of xs)
 

@@ -1,4 +1,4 @@
-use Rattle.std.proofs.Common.{◌≡◌, ◌∙◌, sym, subst, ap, take, map, length, arith}
+use Rattle.std.proofs.Common.{◌≡◌, sym, subst, take, map, arith}
 use Rattle.std.specs.Prelude.{List}
 use Rattle.std.proofs.lemmas.List.{take_all}
 use Rattle.trace_record.specs.Facts.{facts_of}

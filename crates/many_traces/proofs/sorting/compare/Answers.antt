@@ -1,7 +1,7 @@
 use Rattle.std.proofs.Common.{rules, ◌≡◌, ◌∙◌, refl, sym, ap, arith, ℤ, pos, Bool, true, false, get_or, ◌≤◌, min, length, of_z, to_z, FitsSigned}
 use Rattle.std.specs.Int.{w128}
 use Rattle.std.proofs.lemmas.Int.{to_z-of_z}
-use Rattle.many_traces.proofs.RowOrderLemmas.{front-ends, front-told, front-equal, one-ends}
+use Rattle.bench_rules.proofs.RowOrderLemmas.{front-ends, front-told, front-equal, one-ends}
 use Rattle.many_traces.proofs.sorting.compare.Goals as goal
 
 pub loop-k-init : goal.loop-k-init

@@ -1,6 +1,6 @@
 use Rattle.std.proofs.Common.{◌≡◌}
 use Rattle.bench_rules.specs.Sorted.{are_in_front}
-use Rattle.many_traces.proofs.RowOrderLemmas.{front_from}
+use Rattle.bench_rules.proofs.RowOrderLemmas.{front_from}
 use Rattle.many_traces.proofs.sorting.compare.Given as goal
 
 -- what is left tells

@@ -3,7 +3,8 @@ use Rattle.std.specs.List.{range_with_len}
 use Rattle.std.specs.Ordering.{is_lt}
 use Rattle.std.proofs.lemmas.Fn.{always_returns_same}
 use Rattle.many_traces.specs.Arranged.{row_near}
-use Rattle.many_traces.proofs.RowOrderLemmas.{sorted-rows, is_before}
+use Rattle.bench_rules.proofs.RowOrderLemmas.{is_before}
+use Rattle.many_traces.proofs.NearLemmas.{sorted-rows}
 use Rattle.many_traces.proofs.sorting.rows_in_order.Goals as goal
 
 pub returns-clause-order : goal.returns-clause-order

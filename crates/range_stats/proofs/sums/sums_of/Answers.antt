@@ -1,4 +1,4 @@
-use Rattle.std.proofs.Common.{◌∙◌, ◌≤◌, ◌^◌, ◌+◌, ◌+ℤ◌, ℕ, ℤ, SFits, List, arith, rules, subst, sym}
+use Rattle.std.proofs.Common.{◌∙◌, ◌≤◌, ◌^◌, ◌+◌, ◌+ℤ◌, ℤ, SFits, List, arith, rules, subst, sym}
 use Rattle.std.specs.Int.{w128}
 use Rattle.std.proofs.lemmas.Int.{to_z-of_z}
 use Rattle.trace_record.specs.declared.record.Record.{Record}

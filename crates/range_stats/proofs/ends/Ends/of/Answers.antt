@@ -1,4 +1,4 @@
-use Rattle.std.proofs.Common.{ℤ, Some, None, ap, refl, rules, SFits}
+use Rattle.std.proofs.Common.{Some, None, ap, refl, rules, SFits}
 use Rattle.std.specs.Int.{w128}
 use Rattle.std.proofs.lemmas.Int.{to_z-of_z}
 use Rattle.trace_record.specs.Facts.{facts_of}

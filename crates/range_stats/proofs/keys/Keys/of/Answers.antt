@@ -1,4 +1,4 @@
-use Rattle.std.proofs.Common.{ℤ, Some, ap, refl, rules, SFits}
+use Rattle.std.proofs.Common.{Some, ap, refl, rules, SFits}
 use Rattle.std.specs.Int.{w32}
 use Rattle.std.proofs.lemmas.Int.{to_z-of_z}
 use Rattle.range_stats.proofs.OwnKeyLemmas.{times-all}

@@ -44,12 +44,12 @@ module _ {X : Type 0} where
 
 module _ {X : Type 0} (lt : X → X → Bool) (weak : IsStrictWeakOrder lt) where
   -- no item is below x
-  abbrev NoneBelow : X → List X → Type 0
+  abbrev pub NoneBelow : X → List X → Type 0
   NoneBelow x [] = Unit {0}
   NoneBelow x (y ∷ ys) = (lt y x ≡ false) × NoneBelow x ys
 
   -- no item is below one before it
-  abbrev Rises : List X → Type 0
+  abbrev pub Rises : List X → Type 0
   Rises [] = Unit {0}
   Rises (x ∷ xs) = NoneBelow x xs × Rises xs
 
@@ -125,11 +125,11 @@ module _ {X : Type 0} (lt : X → X → Bool) (weak : IsStrictWeakOrder lt) wher
       of_either (λ l. filter (ties lt z) l ≡ filter (ties lt z) (x ∷ y ∷ ys)) (lt y x) (y ∷ put lt x ys) (x ∷ y ∷ ys)
       (λ e. other-way (ties lt z x) (ties lt z y) x y (filter (ties lt z) ys) (filter (ties lt z) (put lt x ys)) (not-both z x y e) (put-stable z x ys)) (λ e. refl)
 
-  ordered-rises : (xs : List X) → Rises (ordered lt xs)
+  pub ordered-rises : (xs : List X) → Rises (ordered lt xs)
   ordered-rises [] = tt
   ordered-rises (x ∷ xs) = put-rises x (ordered lt xs) (ordered-rises xs)
 
-  ordered-stable : (z : X) (xs : List X) → filter (ties lt z) (ordered lt xs) ≡ filter (ties lt z) xs
+  pub ordered-stable : (z : X) (xs : List X) → filter (ties lt z) (ordered lt xs) ≡ filter (ties lt z) xs
   ordered-stable z [] = refl
   ordered-stable z (x ∷ xs) = put-stable z x (ordered lt xs) ∙ ap (λ l. cond (ties lt z x) (x ∷ l) l) (ordered-stable z xs)
 

@@ -1,0 +1,20 @@
+// What holds of traces that are put in order, as contracts of calls that do nothing.
+ghost use Rattle.bench_laws.specs.SortLaws.{RowsStandInOrder, SortKeepsTraces, SortedTableIsInOrder};
+
+/// Rows in order, all of one length, are the same rows; none of them is in front of one before it;
+/// and those that no number tells from a row stand as they stood.
+pub fn rows_stand_in_order()
+    ensures { RowsStandInOrder }
+{}
+
+/// A sort that is done leaves the same traces, in another order, and those before and behind its
+/// range where they stood.
+pub fn sort_keeps_traces()
+    ensures { SortKeepsTraces }
+{}
+
+/// A table of its fields that is asked behind a sort has the numbers of the one before it, in
+/// order.
+pub fn sorted_table_is_in_order()
+    ensures { SortedTableIsInOrder }
+{}

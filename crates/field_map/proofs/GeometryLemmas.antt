@@ -13,6 +13,7 @@ use Rattle.field_map.specs.declared.map_fault.MapFault.{MapFault}
 use Rattle.field_map.specs.declared.map_fault.MapFault.TheVariants.{BadName, OutsideHeader, BadKind, Full, Standard}
 use Rattle.field_map.specs.Pairs.{Pairs, place_of, bound, unbound}
 use Rattle.field_map.specs.Binding.{HasGeometry, is_geometry, is_geometry_place, is_geometry_kind, is_outside, is_bad_kind, is_name, is_full, is_standard, bind_fault, geometry_at_load}
+use Rattle.field_map.specs.SixPlaces.{StandsAt}
 use Rattle.field_map.proofs.ShownLemmas.{insert_entry-bound}
 
 -- ---- what a look-up finds after a change
@@ -154,3 +155,17 @@ not-below-0 n = grind (arith, nat_tests)
 
 pub HasGeometry-at-load : (extensions : ℕ) → HasGeometry extensions geometry_at_load
 HasGeometry-at-load extensions = record { stands = λ name g. all-stand extensions geometry_at_load (simp not-below-0) name g }
+
+-- ---- one of the six
+
+bound-where : (extensions : ℕ) (name : List ℕ) (o : Option Place) → option_map_or (is_geometry_place extensions name) o false ≡ true → is_some o ≡ true
+bound-where extensions name None h = absurd cc
+bound-where extensions name (Some place) h = refl
+
+-- it is bound
+pub geometry-bound : (extensions : ℕ) (pairs : Pairs) (name : List ℕ) → HasGeometry extensions pairs → is_geometry name ≡ true → is_some (place_of pairs name) ≡ true
+geometry-bound extensions pairs name has g = bound-where extensions name (place_of pairs name) (has.stands name g)
+
+-- to a place where it may stand
+pub geometry-stands : (extensions : ℕ) (pairs : Pairs) (name : List ℕ) (place : Place) → HasGeometry extensions pairs → is_geometry name ≡ true → place_of pairs name ≡ Some place → StandsAt extensions pairs name place
+geometry-stands extensions pairs name place has g is = (is, subst (λ o. option_map_or (is_geometry_place extensions name) o false ≡ true) is (has.stands name g))

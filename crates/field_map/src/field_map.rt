@@ -1,9 +1,11 @@
 ghost use Rattle.std.specs.Prelude.{◌≡◌, ◌⊎◌, true, Some, None, IfOk, IfErr, OnOk, OnErr, MatchResult};
 ghost use Rattle.field_map.specs.Pairs.{shown, bound, unbound, place_of, is_bound};
 ghost use Rattle.field_map.specs.Binding.{geometry_at_load, HasGeometry, is_geometry, is_geometry_place, bind_fault, unbind_fault, further_names, is_full};
+ghost use Rattle.field_map.specs.SixPlaces.{AreSixPlaces};
 ghost use Rattle.field_map.specs.declared.map_fault.MapFault.TheVariants.{OutOfMemory as no_memory};
 
 use crate::entries::Entries;
+use crate::geometry::Geometry;
 use crate::map_fault::MapFault;
 use crate::names::{signed_at, standard};
 use crate::out_of_memory::OutOfMemory;
@@ -20,6 +22,7 @@ use std::marker::Model;
 pub struct FieldMap {
     extensions: u8,
     map: IndexMap<String, Place>,
+    geometry: Geometry,
 }
 
 impl Model for FieldMap {
@@ -27,13 +30,11 @@ impl Model for FieldMap {
 
     ghost Value = { NameMap };
 
-    ghost use Rattle.field_map.specs.Held.{map_of};
-    ghost use Rattle.field_map.specs.Pairs.{shown};
-    ghost use Rattle.field_map.specs.Binding.{HasGeometry};
+    ghost use Rattle.field_map.specs.Held.{map_of, IsHeld};
 
     ghost view = { map_of };
 
-    ghost invariant = { λ m. HasGeometry m.extensions (shown m.map.entries) };
+    ghost invariant = { IsHeld };
 }
 
 impl FieldMap {
@@ -51,7 +52,12 @@ impl FieldMap {
         put(&mut map, alloc, "x", signed_at(181, 4))?;
         put(&mut map, alloc, "y", signed_at(185, 4))?;
         put(&mut map, alloc, "scalar", signed_at(71, 2))?;
-        Ok(FieldMap { extensions, map })
+        let geometry = six_places(&map, extensions);
+        Ok(FieldMap {
+            extensions,
+            map,
+            geometry,
+        })
     }
 
     /// Each geometry name is bound, to a place where it may stand: a signed number of 2 or 4 bytes,
@@ -62,6 +68,14 @@ impl FieldMap {
     {
         // Brings the invariant into the proof, and does nothing at run time.
         let _extensions = self.extensions;
+    }
+
+    /// The places of the six geometry names, each where its name may stand, without a look-up.
+    /// Takes no memory.
+    pub fn geometry(&self) -> Geometry
+        ensures { AreSixPlaces self.now.extensions self.now.pairs result }
+    {
+        self.geometry
     }
 
     /// The place of a bound name. Takes no memory.
@@ -86,6 +100,7 @@ impl FieldMap {
         ensures pairs { self.new.pairs ≡ bound self.old.pairs name.now place }
     {
         set_place(&mut self.map, name, place);
+        self.geometry = six_places(&self.map, self.extensions);
     }
 
     // Whether the name is bound.
@@ -113,7 +128,11 @@ impl FieldMap {
     {
         match self.binding_refusal(name, place) {
             Some(fault) => Err(fault),
-            None => Ok(put(&mut self.map, alloc, name, place)?),
+            None => {
+                put(&mut self.map, alloc, name, place)?;
+                self.geometry = six_places(&self.map, self.extensions);
+                Ok(())
+            }
         }
     }
 
@@ -133,6 +152,7 @@ impl FieldMap {
             return Err(MapFault::Unknown);
         }
         take_out(&mut self.map, name);
+        self.geometry = six_places(&self.map, self.extensions);
         Ok(())
     }
 
@@ -174,6 +194,33 @@ impl FieldMap {
             }
         }
         count
+    }
+}
+
+// The places of the six geometry names, which are bound.
+fn six_places(map: &IndexMap<String, Place>, extensions: u8) -> Geometry
+    requires { HasGeometry extensions (shown map.now.entries) }
+    ensures stand { HasGeometry extensions (shown map.now.entries) }
+    ensures places { AreSixPlaces extensions (shown map.now.entries) result }
+{
+    Geometry {
+        inline: held_place(map, "inline"),
+        crossline: held_place(map, "crossline"),
+        offset: held_place(map, "offset"),
+        x: held_place(map, "x"),
+        y: held_place(map, "y"),
+        scalar: held_place(map, "scalar"),
+    }
+}
+
+// The place of a name that is bound.
+fn held_place(map: &IndexMap<String, Place>, name: &str) -> Place
+    requires { is_bound (shown map.now.entries) name.now ≡ true }
+    ensures { place_of (shown map.now.entries) name.now ≡ Some result }
+{
+    match map.get(name) {
+        Some(place) => *place,
+        None => unreachable!(),
     }
 }
 

@@ -7,11 +7,12 @@
 //! header; none takes memory. [`header_field`] lists the trace header's. A [`FieldMap`] holds
 //! the names that a user binds, in order, among them the six geometry names; contracts see it as
 //! the list of its names and places, with the number of header extensions that bounds what may be
-//! bound. Making one and `bind` take memory; no other call does.
+//! bound. It keeps the places of the six as a [`Geometry`], for callers that read them of each trace. Making one and `bind` take memory; no other call does.
 #![tactic(auto)]
 
 mod entries;
 mod field_map;
+mod geometry;
 mod known_names;
 mod map_fault;
 mod names;
@@ -22,6 +23,7 @@ mod tables;
 
 pub use crate::entries::Entries;
 pub use crate::field_map::FieldMap;
+pub use crate::geometry::Geometry;
 pub use crate::known_names::{header_field, named};
 pub use crate::map_fault::MapFault;
 pub use crate::names::{bin_field, standard};

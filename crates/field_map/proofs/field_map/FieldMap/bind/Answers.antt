@@ -6,8 +6,8 @@ use Rattle.field_map.specs.Binding.{bind_fault}
 use Rattle.field_map.proofs.GeometryLemmas.{HasGeometry-bound}
 use Rattle.field_map.proofs.field_map.FieldMap.bind.Goals as goal
 
-pub invariant_of-self-in-None : goal.invariant_of-self-in-None
-invariant_of-self-in-None c =
+pub six_places-self-inside-requires : goal.six_places-self-inside-requires
+six_places-self-inside-requires c =
     let free : bind_fault c.self.inside.extensions (shown c.self.inside.map.entries) c.args.name.now c.args.place ≡ None
     = subst (λ (m : NameMap). bind_fault m.extensions m.pairs c.args.name.now c.args.place ≡ None) (sym c.self.view_is) (sym c.binding_refusal.ensures ∙ c.in-None.is) in
-    rw c.in_ok-put-in-None.ensures.ok (HasGeometry-bound c.self.inside.extensions (shown c.self.inside.map.entries) c.args.name.now c.args.place free c.self.invariant)
+    rw c.in_ok-put-in-None.ensures.ok (HasGeometry-bound c.self.inside.extensions (shown c.self.inside.map.entries) c.args.name.now c.args.place free c.self.invariant.geometry)

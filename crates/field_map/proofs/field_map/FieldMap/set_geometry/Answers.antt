@@ -5,8 +5,8 @@ use Rattle.field_map.specs.Binding.{is_geometry_place}
 use Rattle.field_map.proofs.GeometryLemmas.{HasGeometry-set}
 use Rattle.field_map.proofs.field_map.FieldMap.set_geometry.Goals as goal
 
-pub invariant_of-self : goal.invariant_of-self
-invariant_of-self c =
+pub six_places-self-inside-requires : goal.six_places-self-inside-requires
+six_places-self-inside-requires c =
     let may : is_geometry_place c.self.inside.extensions c.args.name.now c.args.place ≡ true
     = subst (λ (m : NameMap). is_geometry_place m.extensions c.args.name.now c.args.place ≡ true) (sym c.self.view_is) c.requires.place in
-    rw c.set_place.ensures (HasGeometry-set c.self.inside.extensions (shown c.self.inside.map.entries) c.args.name.now c.args.place may c.self.invariant)
+    rw c.set_place.ensures (HasGeometry-set c.self.inside.extensions (shown c.self.inside.map.entries) c.args.name.now c.args.place may c.self.invariant.geometry)

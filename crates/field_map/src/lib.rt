@@ -7,7 +7,8 @@
 //! header; none takes memory. [`header_field`] lists the trace header's. A [`FieldMap`] holds
 //! the names that a user binds, in order, among them the six geometry names; contracts see it as
 //! the list of its names and places, with the number of header extensions that bounds what may be
-//! bound. It keeps the places of the six as a [`Geometry`], for callers that read them of each trace. Making one and `bind` take memory; no other call does.
+//! bound. It keeps the places of the six as a [`Geometry`], for callers that read them of each
+//! trace. Making one and `bind` take memory; no other call does.
 #![tactic(auto)]
 
 mod entries;

@@ -1,5 +1,5 @@
 -- A map that keeps the geometry names gives each trace of its file a geometry.
-use Rattle.std.proofs.Common.{◌≡◌, ℕ, ◌+◌, ◌-◌, ◌≤◌, Bool, true, false, List, arith, refl, subst}
+use Rattle.std.proofs.Common.{◌≡◌, ◌∙◌, ap, sym, pos, ℤ, ℕ, ◌+◌, ◌-◌, ◌≤◌, Bool, true, false, List, arith, refl, subst}
 use Rattle.std.specs.Prelude.{not, ◌&&◌, ◌||◌, ◌==◌, nat_lt, nat_le, codes, bytes_eq, length, Option, Some, None, option_map, unwrap_or, if◌then◌else◌}
 use Rattle.std.specs.Option.{option_map_or}
 use Rattle.std.proofs.lemmas.Bool.Decides.{nat_tests}
@@ -10,8 +10,8 @@ use Rattle.field_map.specs.Binding.{HasGeometry, is_geometry, is_geometry_place,
 use Rattle.frame_cut.specs.declared.file_head.Head.{Head}
 use Rattle.frame_cut.specs.Frames.{count_within, extension_count, extensions_of, header_unsigned, length_with, sample_count}
 use Rattle.frame_cut.specs.Cuts.{IsTrace}
-use Rattle.trace_view.specs.Values.{has_place}
-use Rattle.trace_record.specs.OfTrace.{has_geometry_at, has_named, has_geometry}
+use Rattle.trace_view.specs.Values.{has_place, value_at}
+use Rattle.trace_record.specs.OfTrace.{bound_value, has_geometry_at, has_named, has_geometry}
 use Rattle.trace_record.specs.Laws.{GeometryOfEachTrace}
 
 -- ---- how many extensions a trace has at least
@@ -96,3 +96,9 @@ names h fields t has =
     let five = split (has_named h fields t (codes "y")) _ four.1 in
     let six = split (has_named h fields t (codes "scalar")) _ five.1 in
     record { inline = one.0; crossline = two.0; offset = three.0; x = four.0; y = five.0; scalar = six.0 }
+
+-- the value at the place of one of them is that of the name
+pub named_value : (h : Head) (fields : Pairs) (t : List ℕ) (name : List ℕ) (place : Place) (r : ℤ) → place_of fields name ≡ Some place → has_named h fields t name ≡ true → (has_place h t place ≡ true → r ≡ value_at h t place) → r ≡ bound_value h fields t name
+named_value h fields t name place r is has e =
+    let here : has_geometry_at h t name place ≡ true = subst (λ o. option_map_or (has_geometry_at h t name) o false ≡ true) is has in
+    e (split (has_place h t place) (is_geometry_kind name place.kind) here).0 ∙ sym (ap (λ o. option_map_or (value_at h t) o (pos 0)) is)

@@ -5,6 +5,7 @@ pub mod Statistics
 pub mod Narrow
 pub mod Unsigned
 pub mod Facts
+pub mod NumberPlaces
 pub mod OfTrace
 pub mod Keys
 pub mod Tally

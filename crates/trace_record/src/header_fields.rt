@@ -1,4 +1,4 @@
-// Numbers in the headers of a trace, and the name that it gives itself.
+// Numbers in the headers of a trace, wherever they stand.
 ghost use Rattle.std.specs.Prelude.{◌≡◌, ◌+◌, ◌-◌, ◌*◌, ◌<◌, ◌≤◌, ◌⊎◌, ◌&&◌, ◌||◌, ◌==◌, true, take, drop, length};
 ghost use Rattle.num_order.specs.Number.{unsigned, num};
 ghost use Rattle.trace_view.specs.Shown.{bytes_of, head_of};
@@ -92,28 +92,4 @@ pub(crate) fn signed_at(view: &TraceView<'_>, place: Place) -> i32
     } else {
         i32_at(view, u64::from(place.offset()))
     }
-}
-
-// Whether the trace has the place, and it is of two or four bytes with a sign.
-pub(crate) fn has_number(view: &TraceView<'_>, place: Place) -> bool
-    ensures { result ≡ (has_place (head_of view.now) (bytes_of view.now) place &&
-        (place.kind.signed && (place.kind.size == 2 || place.kind.size == 4))) }
-{
-    let size = place.kind.size;
-    place.kind.signed
-        && (size == 2 || size == 4)
-        && place.byte > 0
-        && u32::from(place.byte) + u32::from(size) < 242
-        && (place.extension == 0 || place.extension <= u16::from(view.extension_count()))
-}
-
-// Whether bytes 233-240 are a name that means a plain trace: zeros, or SEG00000 in ASCII or EBCDIC.
-pub(crate) fn has_known_name(view: &TraceView<'_>) -> bool
-    ensures { result ≡ has_known_name_of (bytes_of view.now) }
-{
-    let mut name = [0; 8];
-    view.read(233 - 1, &mut name);
-    name == [0; 8]
-        || name == *b"SEG00000"
-        || name == [0xE2, 0xC5, 0xC7, 0xF0, 0xF0, 0xF0, 0xF0, 0xF0]
 }

@@ -10,6 +10,7 @@
 mod amplitudes;
 mod header_fields;
 mod laws;
+mod main_header;
 mod narrow;
 mod of_samples;
 mod of_trace;

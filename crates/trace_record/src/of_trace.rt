@@ -1,19 +1,20 @@
-ghost use Rattle.std.specs.Prelude.{◌≡◌, true, codes};
+ghost use Rattle.std.specs.Prelude.{◌≡◌, true};
 ghost use Rattle.frame_cut.specs.Frames.{sample_count};
 ghost use Rattle.trace_view.specs.Shown.{bytes_of, head_of};
-ghost use Rattle.trace_view.specs.Values.{samples_of};
+ghost use Rattle.trace_view.specs.Values.{main_header, has_place, value_at as number_at, samples_of};
 ghost use Rattle.trace_record.specs.Facts.{facts_of, with_amplitudes, with_samples_of};
-ghost use Rattle.trace_record.specs.OfTrace.{record_of as record_of_trace, bound_value, has_named, has_geometry};
+ghost use Rattle.trace_record.specs.NumberPlaces.{IsNumber, IsShort};
+ghost use Rattle.trace_record.specs.OfTrace.{record_of as record_of_trace, has_geometry};
 ghost use Rattle.trace_record.specs.Packable.{HaveRange};
 ghost use Rattle.trace_record.specs.Statistics.{amplitudes_of as amplitudes_of_samples};
 
-use crate::header_fields::{
-    has_known_name, has_number, i16_at, i32_at, short_at, signed_at, u16_at,
-};
+use crate::header_fields::{short_at, signed_at};
+use crate::main_header::{has_known_name, short_in, signed_in};
 use crate::of_samples::statistics_of;
 use crate::{Amplitudes, Record};
-use field_map::FieldMap;
+use field_map::{FieldMap, Place, TRACE_HEADER_BYTES};
 use key_counts::Ratio;
+use num_order::{i16_at, i32_at, u16_at};
 use trace_view::TraceView;
 
 /// The record of a trace: its inline, crossline, offset, x, y and scalar at the places that the map
@@ -42,7 +43,8 @@ pub fn record_with_samples_of(view: &TraceView<'_>, fields: &FieldMap, samples: 
     record_with(view, fields, samples.amplitudes, samples.number)
 }
 
-// What the headers give, with the amplitudes of so many samples.
+// What the headers give, with the amplitudes of so many samples. The main header is read from one
+// slice.
 fn record_with(
     view: &TraceView<'_>,
     fields: &FieldMap,
@@ -55,48 +57,83 @@ fn record_with(
         (record_of_trace (head_of view.now) fields.now.pairs (bytes_of view.now)) amplitudes
         number }
 {
-    let scalar = scalar_of(view, fields);
-    let x = geometry_value(view, fields, "x");
-    let y = geometry_value(view, fields, "y");
+    match view.plain(0, TRACE_HEADER_BYTES as u64) {
+        Some(main) => record_by(view, main, fields, amplitudes, number),
+        None => {
+            let mut main = [0; TRACE_HEADER_BYTES];
+            view.read(0, &mut main);
+            record_by(view, &main, fields, amplitudes, number)
+        }
+    }
+}
+
+// The same, with the main header of the trace at hand.
+fn record_by(
+    view: &TraceView<'_>,
+    main: &[u8],
+    fields: &FieldMap,
+    amplitudes: Option<Amplitudes>,
+    number: u32,
+) -> Record
+    requires main { main.now ≡ main_header (bytes_of view.now) }
+    requires range { HaveRange amplitudes number }
+    ensures { has_geometry (head_of view.now) fields.now.pairs (bytes_of view.now) ≡ true →
+        facts_of result ≡ with_amplitudes
+        (record_of_trace (head_of view.now) fields.now.pairs (bytes_of view.now)) amplitudes
+        number }
+{
+    let order = view.head().order;
+    let places = fields.geometry();
+    let scalar = scalar_at(view, main, places.scalar);
+    let x = value_at(view, main, places.x);
+    let y = value_at(view, main, places.y);
     Record {
         amplitudes,
         x: Ratio::scaled(x, scalar),
         y: Ratio::scaled(y, scalar),
-        inline: geometry_value(view, fields, "inline"),
-        crossline: geometry_value(view, fields, "crossline"),
-        offset: geometry_value(view, fields, "offset"),
-        sequence: i32_at(view, 5 - 1),
+        inline: value_at(view, main, places.inline),
+        crossline: value_at(view, main, places.crossline),
+        offset: value_at(view, main, places.offset),
+        sequence: i32_at(order, main, 5 - 1),
         number,
         scalar,
-        units: i16_at(view, 89 - 1),
-        interval: u16_at(view, 117 - 1),
-        samples_field: u16_at(view, 115 - 1),
-        has_known_name: has_known_name(view),
+        units: i16_at(order, main, 89 - 1),
+        interval: u16_at(order, main, 117 - 1),
+        samples_field: u16_at(order, main, 115 - 1),
+        has_known_name: has_known_name(main),
     }
 }
 
 // The value at the place of a geometry name.
-fn geometry_value(view: &TraceView<'_>, fields: &FieldMap, name: &str) -> i32
-    ensures { has_named (head_of view.now) fields.now.pairs (bytes_of view.now) name.now ≡ true →
-        result ≡ bound_value (head_of view.now) fields.now.pairs (bytes_of view.now) name.now }
+fn value_at(view: &TraceView<'_>, main: &[u8], place: Place) -> i32
+    requires main { main.now ≡ main_header (bytes_of view.now) }
+    requires place { IsNumber place }
+    ensures { has_place (head_of view.now) (bytes_of view.now) place ≡ true →
+        result ≡ number_at (head_of view.now) (bytes_of view.now) place }
 {
-    match fields.place(name) {
-        Some(place) if has_number(view, place) => signed_at(view, place),
-        _ => 0,
+    if place.extension == 0 {
+        return signed_in(view.head().order, main, place);
     }
+    if place.extension > u16::from(view.extension_count()) {
+        return 0;
+    }
+    signed_at(view, place)
 }
 
-// The coordinate scalar.
-fn scalar_of(view: &TraceView<'_>, fields: &FieldMap) -> i16
-    ensures { has_named (head_of view.now) fields.now.pairs (bytes_of view.now)
-        (codes "scalar") ≡ true →
-        result ≡ bound_value (head_of view.now) fields.now.pairs (bytes_of view.now)
-        (codes "scalar") }
+// The coordinate scalar at its place.
+fn scalar_at(view: &TraceView<'_>, main: &[u8], place: Place) -> i16
+    requires main { main.now ≡ main_header (bytes_of view.now) }
+    requires place { IsShort place }
+    ensures { has_place (head_of view.now) (bytes_of view.now) place ≡ true →
+        result ≡ number_at (head_of view.now) (bytes_of view.now) place }
 {
-    match fields.place("scalar") {
-        Some(place) if place.kind.size == 2 && has_number(view, place) => short_at(view, place),
-        _ => 0,
+    if place.extension == 0 {
+        return short_in(view.head().order, main, place);
     }
+    if place.extension > u16::from(view.extension_count()) {
+        return 0;
+    }
+    short_at(view, place)
 }
 
 // The amplitudes of the samples, where they have values and there are any.

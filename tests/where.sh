@@ -99,7 +99,7 @@ told 'a near name of a computation' 'compute 1 3 offset inlin + 1' 'E02 no field
 told 'nine fields of a sort' 'sort 1 3 a b c d e f g h i' 'S02 words: sort 1 3 a b c d e f g h i (a sort is by at most 8 fields)'
 told 'a sort without a field' 'sort 1 3' 'S02 words: sort 1 3 (the form is sort P Q FIELD ..)'
 told 'a near name of a sort' 'sort 1 3 offset -inlin' 'E02 no field: sort 1 3 offset -inlin (did you mean inline?)'
-told 'a place of a sort' 'sort 1 3 -@189' 'S03 number: sort 1 3 -@189 (the form is sort P Q FIELD ..)'
+told 'a place of a sort' 'sort 1 3 -@189' 'S03 number: sort 1 3 -@189 (a place is @BYTE:SIZE, as @189:4)'
 told 'a byte of a sort' 'sort 1 3 @241:4' 'E03 no place: sort 1 3 @241:4 (BYTE is that of the header, 1 to 240; SIZE is 1, 2, 3, 4 or 8)'
 told 'P behind Q of a sort' 'sort 2 1 offset' 'E01 no trace 1 of 3: sort 2 1 offset (P stands behind Q: the first of the traces comes first)'
 told 'P behind Q of a computation' 'compute 2 1 offset 1' 'E01 no trace 1 of 3: compute 2 1 offset 1 (P stands behind Q: the first of the traces comes first)'

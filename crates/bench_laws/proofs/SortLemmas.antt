@@ -25,7 +25,7 @@ use Rattle.bench_rules.proofs.InOrderLemmas.{ordered, Rises, ordered-rises, orde
 use Rattle.bench_rules.proofs.RowOrderLemmas.{is_before, rows-ordered, rows-weak}
 use Rattle.bench_rules.proofs.SortLemmas.{in_order-permutes, ordered-permutes, traces-permute, read-positions}
 use Rattle.bench_rules.proofs.SortedLemmas.{SortAccepted, sort_accepted, sort_done}
-use Rattle.bench_laws.specs.SortLaws.{is_row_before, RowsStandInOrder, SortKeepsTraces, SortedTableIsInOrder}
+use Rattle.bench_laws.specs.SortLaws.{is_row_before, RowsStandInOrder, SortPutsRowsInOrder, SortKeepsTraces, SortedTableIsInOrder}
 
 abbrev Row : Type 0
 Row = ℕ × List ℤ
@@ -110,6 +110,13 @@ sorted-volume s new a b names falls cut none after =
       is = at_most_one_cut (bytes_after s.volume s.fields (Sort a b names falls)) s.reading s.limits new.volume w after.volume (sort_done s a b names falls w cut c refl).volume;
       same = ordered-permutes s.volume c.places falls a b c.rows c.table;
     }
+
+pub sort_puts_rows_in_order : SortPutsRowsInOrder
+sort_puts_rows_in_order s new a b names falls places rows cut none after found table =
+    let d = sorted-volume s new a b names falls cut none after in
+    let here : d.c.places ≡ places = ap (λ o. unwrap_or o places) (sym d.c.found ∙ found) in
+    let held : d.c.rows ≡ rows = ap (λ o. unwrap_or o rows) (sym d.c.table ∙ (ap (λ ps. table_of s.volume ps a b) here ∙ table)) in
+    d.is ∙ ap (λ rs. with_order s.volume a b (map (λ row. row.0) (in_order falls rs))) held
 
 -- as many traces are put where as many stood
 order-long : (a b : ℕ) (order : List ℕ) → IsPermutation (positions a b) order → length order ≡ b + 1 - a

@@ -9,7 +9,7 @@ use Rattle.bench_rules.specs.declared.field.Field.{Field}
 use Rattle.bench_rules.specs.ManyTraces.{each_of}
 use Rattle.bench_rules.specs.Places.{place_in_trace}
 use Rattle.bench_rules.specs.Refused.{first_refusal}
-use Rattle.bench_rules.specs.Sorted.{are_in_front, in_order}
+use Rattle.bench_rules.specs.Sorted.{are_in_front, in_order, with_order}
 use Rattle.bench_rules.specs.State.{State}
 use Rattle.bench_rules.specs.Steps.{IsAfter}
 use Rattle.bench_rules.specs.Tables.{table_of}
@@ -18,12 +18,19 @@ use Rattle.bench_rules.specs.Tables.{table_of}
 abbrev pub is_row_before : (falls : List Bool) → ℕ × List ℤ → ℕ × List ℤ → Bool
 is_row_before falls row other = are_in_front falls row.1 other.1
 
--- rows in order are the same rows, none of them is in front of one before it, and those that tie with a row stand as they stood
+-- rows in order are the same rows, none of them is in front of the one before it, and those that tie with a row stand as they stood
 abbrev pub RowsStandInOrder : Type 0
 RowsStandInOrder = (falls : List Bool) (rows : List (ℕ × List ℤ)) (width : ℕ) → All (λ row. length row.1 ≡ width) rows
     → IsPermutation rows (in_order falls rows)
     × IsSortedBy (is_row_before falls) (in_order falls rows)
     × ((row : ℕ × List ℤ) → length row.1 ≡ width → filter (ties (is_row_before falls) row) (in_order falls rows) ≡ filter (ties (is_row_before falls) row) rows)
+
+-- a sort that is done changes nothing but the order of the traces of its range: they stand as the rows of their table stand in order
+abbrev pub SortPutsRowsInOrder : Type 0
+SortPutsRowsInOrder = (s new : State) (a b : ℕ) (names : List Field) (falls : List Bool) (places : List Place) (rows : List (ℕ × List ℤ))
+    → IsCut (bytes_of s.volume) s.reading s.limits s.volume → first_refusal s (Sort a b names falls) ≡ None → IsAfter s (Sort a b names falls) new
+    → each_of (place_in_trace s.fields) names ≡ Some places → table_of s.volume places a b ≡ Some rows
+    → new.volume ≡ with_order s.volume a b (map (λ row. row.0) (in_order falls rows))
 
 -- a sort that is done leaves the same traces, and those before and behind its range where they stood
 abbrev pub SortKeepsTraces : Type 0

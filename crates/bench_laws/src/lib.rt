@@ -18,4 +18,6 @@ pub use crate::number_laws::{
     compute_is_its_sets, compute_of_a_number_is_renumber, renumber_is_its_sets, resize_keeps_bytes,
     resize_keeps_samples, resize_leaves_the_rest,
 };
-pub use crate::sort_laws::{rows_stand_in_order, sort_keeps_traces, sorted_table_is_in_order};
+pub use crate::sort_laws::{
+    rows_stand_in_order, sort_keeps_traces, sort_puts_rows_in_order, sorted_table_is_in_order,
+};

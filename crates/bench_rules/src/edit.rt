@@ -51,8 +51,8 @@ pub enum Edit {
     Compute(u32, u32, Field, Operand, Items<(Operator, Operand)>),
     /// `Sort(a, b, fields, falling)`: traces a to b in the order of the numbers of these fields, of
     /// which the first two that differ tell; those with the same numbers stand as they stood. The
-    /// numbers of a field fall where the item of `falling` at its place is true, else they rise;
-    /// there is one for each field. Refused, in this order: E01 for a, E01 for b, E02 where a field
-    /// has no place, E03 where one of the traces lacks a place.
+    /// numbers of a field fall where the item of `falling` at its place is true, and rise where it
+    /// is false; a field for which there is no item tells nothing. Refused, in this order: E01 for
+    /// a, E01 for b, E02 where a field has no place, E03 where one of the traces lacks a place.
     Sort(u32, u32, Items<Field>, Items<bool>),
 }

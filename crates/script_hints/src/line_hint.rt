@@ -113,11 +113,16 @@ fn wrong_number(words: &Words) -> Hint {
 }
 
 fn place_or_form(words: &Words) -> Hint {
-    if words.as_slice().iter().any(|word| word.starts_with(b"@")) {
+    if words.as_slice().iter().any(|word| is_like_place(word)) {
         Hint::Text("a place is @BYTE:SIZE, as @189:4")
     } else {
         form_of(words)
     }
+}
+
+// Whether the word begins as a place, or as one by which a sort falls.
+fn is_like_place(word: &[u8]) -> bool {
+    word.starts_with(b"@") || word.starts_with(b"-@")
 }
 
 // Of a computation with a word that has to be a number, a place or an operator.

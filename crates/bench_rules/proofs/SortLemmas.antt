@@ -1,12 +1,11 @@
 -- Traces in the order of numbers: the same traces, in a file that is cut.
-use Rattle.std.proofs.Common.{◌≡◌, ℕ, ℤ, zero, suc, ◌+◌, ◌-◌, ◌<◌, ◌≤◌, Bool, true, false, cond, List, [], ◌∷◌, ◌++◌, length, map, take, drop, get_or, All, Option, Some, None, refl, sym, ap, subst, ◌∙◌, arith, append_assoc, append-nil}
+use Rattle.std.proofs.Common.{◌≡◌, ℕ, ℤ, zero, suc, ◌+◌, ◌-◌, ◌≤◌, Bool, true, false, cond, List, [], ◌∷◌, ◌++◌, length, map, take, drop, get_or, All, Option, Some, None, refl, sym, ap, subst, ◌∙◌, arith, append_assoc, append-nil}
 use Rattle.std.specs.Prelude.{option_map, option_and_then, sum_by, unwrap_or}
 use Rattle.std.specs.List.{concat, range_with_len}
 use Rattle.std.specs.List.Sorted.{IsPermutation}
-use Rattle.std.proofs.lemmas.List.{length-append, length-map, drop_all, take-append-drop, map-append, length-take-le, length-drop, take_at, drop_more, drop-drop}
+use Rattle.std.proofs.lemmas.List.{length-append, drop_all, take-append-drop, length-take-le, length-drop, take_at, drop_more, drop-drop}
 use Rattle.std.proofs.lemmas.List.Concat.{concat_is, length-flat_map}
 use Rattle.std.proofs.lemmas.List.Folds.{concat-append}
-use Rattle.std.proofs.lemmas.List.Elements.{All-take, All-drop, All-append, All-get_or}
 use Rattle.std.proofs.lemmas.List.Sorted.{IsPermutation-refl, IsPermutation-trans, IsPermutation-cons, IsPermutation-map, IsPermutation-middle, IsPermutation-append, IsPermutation-append_right, All-permutation, sum_by-IsPermutation, length_permutation}
 use Rattle.field_map.specs.declared.place.Place.{Place}
 use Rattle.frame_cut.specs.declared.limits.Limits.{Limits}
@@ -14,11 +13,11 @@ use Rattle.frame_cut.specs.declared.reading.Reading.{Reading}
 use Rattle.frame_cut.specs.Cuts.{IsTrace, IsCut}
 use Rattle.frame_cut.specs.Splice.{splice}
 use Rattle.frame_cut.specs.Traces.{count_of, trace_at}
-use Rattle.frame_cut.specs.Volume.{Volume, front_of, bytes_of, start_of}
+use Rattle.frame_cut.specs.Volume.{Volume, front_of, bytes_of}
 use Rattle.frame_cut.proofs.EditLemmas.{recut, splice_inside, length-bytes}
 use Rattle.frame_cut.proofs.HeadFrontLemmas.{has_head}
 use Rattle.bench_rules.specs.ManyTraces.{each_of, positions}
-use Rattle.bench_rules.specs.Sorted.{are_in_front, put_in_order, in_order, order_of, with_order, with_traces_as, bytes_after_sort}
+use Rattle.bench_rules.specs.Sorted.{are_in_front, put_in_order, in_order, with_order, with_traces_as}
 use Rattle.bench_rules.specs.Tables.{row_of, table_of}
 use Rattle.bench_rules.specs.WholeTraces.{trace_start}
 

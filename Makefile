@@ -99,13 +99,13 @@ uninstall:
 # at three sizes, and the running reports over a million records.
 bench: build
 	cd crates/timings && { rt run > out.log 2>&1 || true; }
-	bash benchmarks/run $(BUILT) $(TIMINGS)
-	bash benchmarks/save $(BUILT)
-	bash benchmarks/live $(BUILT)
-	bash benchmarks/slices $(BUILT)
-	bash benchmarks/renumber $(BUILT)
-	bash benchmarks/headers $(BUILT)
-	bash benchmarks/python $(BUILT)
-	bash benchmarks/desk $(BUILT)
-	bash benchmarks/orders $(TIMINGS)
-	bash benchmarks/reports $(TIMINGS)
+	bash speed/run $(BUILT) $(TIMINGS)
+	bash speed/save $(BUILT)
+	bash speed/live $(BUILT)
+	bash speed/slices $(BUILT)
+	bash speed/renumber $(BUILT)
+	bash speed/headers $(BUILT)
+	bash speed/python $(BUILT)
+	bash speed/desk $(BUILT)
+	bash speed/orders $(TIMINGS)
+	bash speed/reports $(TIMINGS)

@@ -3,6 +3,7 @@ pub mod RowsLemmas
 pub mod FoundLemmas
 mod NameLemmas
 mod SeenLemmas
+mod MainLemmas
 pub mod FormulaLemmas
 pub mod NumbersLemmas
 mod NearLemmas

@@ -2,15 +2,17 @@
 ghost use Rattle.std.specs.Prelude.{◌≡◌, ◌+◌, ◌-◌, ◌≤◌, ◌++◌, [], IsTrue, IfOk, IfErr, OnOk, length, map, option_to_list};
 ghost use Rattle.frame_cut.specs.Traces.{count_of, is_trace, trace_at};
 ghost use Rattle.trace_view.specs.Shown.{bytes_of, head_of};
+ghost use Rattle.trace_view.specs.Values.{main_header};
 ghost use Rattle.edit_overlay.specs.CountedVolume.{RisesAtMost};
 ghost use Rattle.bench_rules.specs.declared.ask_fault.AskFault.TheVariants.{OutOfMemory as no_memory};
 ghost use Rattle.bench_rules.specs.Headers.{extremes_in, with_name};
 ghost use Rattle.many_traces.specs.Seen.{seen_of, seen_each, shown_of};
 
+use crate::main_numbers::number_at;
 use crate::seen::Seen;
 use bench_rules::{AskFault, Extremes, Items, Text};
 use edit_overlay::Overlay;
-use field_map::Place;
+use field_map::{Place, TRACE_HEADER_BYTES};
 use std::alloc::Global;
 use trace_record::PackedRecord;
 use trace_view::TraceView;
@@ -79,14 +81,32 @@ fn see_trace(
     see_numbers(&trace, names, seen);
 }
 
-// Sees the numbers of a trace.
+// Sees the numbers of a trace. Its main header is one slice: lent where no run touches it, else
+// copied.
 fn see_numbers(trace: &TraceView<'_>, names: &[(Text, Place)], seen: &mut Vec<Seen>)
     requires { length seen.old.items ≡ length names.now }
     ensures { seen.new.items ≡ seen_each (head_of trace.now) (bytes_of trace.now) names.now
         seen.old.items }
 {
+    match trace.plain(0, TRACE_HEADER_BYTES as u64) {
+        Some(main) => see_each(trace, main, names, seen),
+        None => {
+            let mut main = [0; TRACE_HEADER_BYTES];
+            trace.read(0, &mut main);
+            see_each(trace, &main, names, seen)
+        }
+    }
+}
+
+// The same, with the main header of the trace at hand.
+fn see_each(trace: &TraceView<'_>, main: &[u8], names: &[(Text, Place)], seen: &mut Vec<Seen>)
+    requires main { main.now ≡ main_header (bytes_of trace.now) }
+    requires each { length seen.old.items ≡ length names.now }
+    ensures { seen.new.items ≡ seen_each (head_of trace.now) (bytes_of trace.now) names.now
+        seen.old.items }
+{
     for i in 0..names.len() {
-        seen[i] = seen[i].with(trace.value(names[i].1));
+        seen[i].see(number_at(trace, main, names[i].1));
     }
 }
 

@@ -12,6 +12,7 @@ mod computed;
 mod finds;
 mod formula;
 mod headers;
+mod main_numbers;
 mod names;
 mod places;
 mod row;

@@ -13,25 +13,24 @@ pub struct Seen {
 }
 
 impl Seen {
-    /// What is seen with one number more, where there is one.
-    pub fn with(self, number: Option<i128>) -> Seen
-        ensures { result ≡ seen_with self number }
+    /// Sees one number more, where there is one.
+    pub fn see(&mut self, number: Option<i128>)
+        ensures { self.new ≡ seen_with self.old number }
     {
         let Some(number) = number else {
-            return self;
+            return;
         };
-        let extremes = match self.extremes {
-            Some(seen) => widened(seen, number),
-            None => Extremes {
-                least: number,
-                greatest: number,
-                first: number,
-                last: number,
-            },
-        };
-        Seen {
-            extremes: Some(extremes),
-            some: self.some || number != 0,
+        self.some = self.some || number != 0;
+        match &mut self.extremes {
+            Some(seen) => widen(seen, number),
+            None => {
+                self.extremes = Some(Extremes {
+                    least: number,
+                    greatest: number,
+                    first: number,
+                    last: number,
+                });
+            }
         }
     }
 
@@ -43,14 +42,16 @@ impl Seen {
     }
 }
 
-// The extremes with one number more.
-fn widened(seen: Extremes, number: i128) -> Extremes
-    ensures { result ≡ widened_by seen number }
+// Takes one number more into the extremes. Most numbers are neither the least nor the greatest, and
+// then the last alone is written.
+fn widen(seen: &mut Extremes, number: i128)
+    ensures { seen.new ≡ widened_by seen.old number }
 {
-    Extremes {
-        least: seen.least.min(number),
-        greatest: seen.greatest.max(number),
-        first: seen.first,
-        last: number,
+    if number < seen.least {
+        seen.least = number;
     }
+    if number > seen.greatest {
+        seen.greatest = number;
+    }
+    seen.last = number;
 }

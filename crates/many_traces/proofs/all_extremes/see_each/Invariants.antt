@@ -1,7 +1,7 @@
 use Rattle.std.proofs.Common.{◌≡◌, ◌++◌, length, take, drop}
 use Rattle.trace_view.specs.Shown.{bytes_of, head_of}
 use Rattle.many_traces.specs.Seen.{seen_each}
-use Rattle.many_traces.proofs.all_extremes.see_numbers.Given as goal
+use Rattle.many_traces.proofs.all_extremes.see_each.Given as goal
 
 -- the first ones have seen their numbers, and the others are as they were
 abbrev pub invariant-loop-i : goal.invariant-loop-i

@@ -1,22 +1,33 @@
 // Records that stand in for as many others, from a place on: first the new ones are counted beside
 // the old ones, since that may be refused, and then the old ones are counted no longer. What a new
 // record and the old one have in common is not touched.
-ghost use Rattle.std.specs.Prelude.{◌+◌, ◌<◌, ◌≤◌, length, map, take, drop, slice_get, All, IfSome, OnOk, OnErr, IsOk};
+ghost use Rattle.std.specs.Prelude.{◌≡◌, ◌+◌, ◌<◌, ◌≤◌, length, map, take, drop, slice_get, slice_index_or, All, IfSome, OnOk, OnErr, IsOk};
 ghost use Rattle.trace_record.specs.Facts.{facts_of};
 ghost use Rattle.live_reports.specs.Exchanged.{with_records, tallies_with_new, AreFewTogether};
 ghost use Rattle.live_reports.specs.Reports.{HasEachKey};
 ghost use Rattle.live_reports.specs.Tallies.{tallies_of, tallies_of_records, SameEach};
 
 use crate::values::Values;
-use record_table::{OutOfMemory, Records};
+use record_table::{OutOfMemory, RecordList, Records};
 use trace_record::Record;
+
+// New record k.
+pub(crate) fn new_at(new: &RecordList, k: usize) -> Record
+    requires { k < length new.now }
+    ensures { result ≡ slice_index_or new.now k result }
+{
+    let Some(record) = new.get(k) else {
+        unreachable!()
+    };
+    record
+}
 
 // Counts the new records beside the others, or none of them where a growth is refused.
 pub(crate) fn add_each(
     values: &mut Values,
     records: &Records,
     place: usize,
-    new: &[Record],
+    new: &RecordList,
 ) -> Result<(), OutOfMemory>
     requires place { place + length new.now ≤ length records.now }
     requires few { AreFewTogether records.now new.now }
@@ -42,7 +53,7 @@ fn add_at(
     values: &mut Values,
     records: &Records,
     place: usize,
-    new: &[Record],
+    new: &RecordList,
     k: usize,
 ) -> Result<(), OutOfMemory>
     requires there { k < length new.now }
@@ -58,12 +69,12 @@ fn add_at(
     let Some(old) = records.get(place + k) else {
         unreachable!()
     };
-    let record = new[k];
+    let record = new_at(new, k);
     values.add_beside(&record, &old)
 }
 
 // No longer counts the new records from new record k on.
-fn remove_from(values: &mut Values, records: &Records, place: usize, new: &[Record], k: usize)
+fn remove_from(values: &mut Values, records: &Records, place: usize, new: &RecordList, k: usize)
     requires place { place + length new.now ≤ length records.now }
     requires few { AreFewTogether records.now new.now }
     requires counted { SameEach (tallies_of values.old)
@@ -76,7 +87,7 @@ fn remove_from(values: &mut Values, records: &Records, place: usize, new: &[Reco
 }
 
 // No longer counts new record k.
-fn remove_at(values: &mut Values, records: &Records, place: usize, new: &[Record], k: usize)
+fn remove_at(values: &mut Values, records: &Records, place: usize, new: &RecordList, k: usize)
     requires there { k < length new.now }
     requires place { place + length new.now ≤ length records.now }
     requires few { AreFewTogether records.now (drop k new.now) }
@@ -88,12 +99,12 @@ fn remove_at(values: &mut Values, records: &Records, place: usize, new: &[Record
     let Some(old) = records.get(place + k) else {
         unreachable!()
     };
-    let record = new[k];
+    let record = new_at(new, k);
     values.remove_beside(&record, &old);
 }
 
 // No longer counts the records in whose places the new ones, which are counted, come to stand.
-pub(crate) fn drop_each(values: &mut Values, records: &Records, place: usize, new: &[Record])
+pub(crate) fn drop_each(values: &mut Values, records: &Records, place: usize, new: &RecordList)
     requires place { place + length new.now ≤ length records.now }
     requires few { AreFewTogether records.now new.now }
     requires counted { SameEach (tallies_of values.old)
@@ -108,7 +119,7 @@ pub(crate) fn drop_each(values: &mut Values, records: &Records, place: usize, ne
 
 // No longer counts the record in whose place new record k comes to stand, as those in front of it
 // do already.
-fn drop_at(values: &mut Values, records: &Records, place: usize, new: &[Record], k: usize)
+fn drop_at(values: &mut Values, records: &Records, place: usize, new: &RecordList, k: usize)
     requires there { k < length new.now }
     requires place { place + length new.now ≤ length records.now }
     requires few { AreFewTogether (with_records records.now place (take k new.now))
@@ -123,6 +134,6 @@ fn drop_at(values: &mut Values, records: &Records, place: usize, new: &[Record],
     let Some(old) = records.get(place + k) else {
         unreachable!()
     };
-    let record = new[k];
+    let record = new_at(new, k);
     values.remove_beside(&old, &record);
 }

@@ -17,12 +17,12 @@ ghost use Rattle.live_reports.specs.OfRecords.{AreReportsOf};
 ghost use Rattle.live_reports.specs.Reports.{AreFew, HasEachKey};
 
 use crate::OutOfMemory;
-use crate::exchanging::{add_each, drop_each};
+use crate::exchanging::{add_each, drop_each, new_at};
 use crate::values::Values;
 use fault_live::Faults;
 use grid_live::Grid;
 use range_stats::{Ranges, Totals};
-use record_table::Records;
+use record_table::{RecordList, Records};
 use std::alloc::Global;
 use trace_record::Record;
 
@@ -108,7 +108,7 @@ impl LiveReports {
         &mut self,
         records: &Records,
         place: usize,
-        new: &[Record],
+        new: &RecordList,
     ) -> Result<(), OutOfMemory>
         requires counted { AreReportsOf self.old records.now }
         requires place { place + length new.now ≤ length records.now }
@@ -167,17 +167,18 @@ impl LiveReports {
 
 /// Whether the new records have, one by one, the inline and crossline of those that stand from a
 /// place on among the records. Takes no memory.
-pub fn same_cells(records: &Records, place: usize, new: &[Record]) -> bool
+pub fn same_cells(records: &Records, place: usize, new: &RecordList) -> bool
     requires { place + length new.now ≤ length records.now }
     ensures { result ≡ same_cells_of (drop place records.now) new.now }
 {
     // Read for the proof alone, which learns that places fit a usize.
     let _count = records.len();
-    for (k, record) in new.iter().enumerate() {
+    for k in 0..new.len() {
         let Some(held) = records.get(place + k) else {
             unreachable!()
         };
-        if !has_same_cell(&held, record) {
+        let record = new_at(new, k);
+        if !has_same_cell(&held, &record) {
             return false;
         }
     }

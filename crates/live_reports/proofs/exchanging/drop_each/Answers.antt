@@ -1,4 +1,4 @@
-use Rattle.std.proofs.Common.{◌≡◌, sym, subst, take, map, arith}
+use Rattle.std.proofs.Common.{◌≡◌, ◌≤◌, sym, subst, length, take, map, arith}
 use Rattle.std.specs.Prelude.{List}
 use Rattle.std.proofs.lemmas.List.{take_all}
 use Rattle.trace_record.specs.Facts.{facts_of}
@@ -22,6 +22,7 @@ returns c =
     let rs = c.args.records.now in
     let new = c.args.new.now in
     let at = c.args.place in
-    let all : take c.loop-k.k new ≡ new = take_all c.loop-k.k new (omega (arith, c.loop-k-test.false)) in
+    let past : length new ≤ c.loop-k.k = rw c.len-k-end.ensures at c.loop-k-test.false in
+    let all : take c.loop-k.k new ≡ new = take_all c.loop-k.k new (omega (arith, past)) in
     subst (λ (l : List Record). SameEach (tallies_of c.loop-k.values) (tallies_of_records (map facts_of (with_records rs at l)))) all
-    (subst (λ (t : Tallies). SameEach (tallies_of c.loop-k.values) t) (none_left (with_records rs at (take c.loop-k.k new)) new at c.loop-k.k c.loop-k-test.false) c.loop-k.invariant.counted)
+    (subst (λ (t : Tallies). SameEach (tallies_of c.loop-k.values) t) (none_left (with_records rs at (take c.loop-k.k new)) new at c.loop-k.k past) c.loop-k.invariant.counted)

@@ -1,4 +1,4 @@
-use Rattle.std.proofs.Common.{subst}
+use Rattle.std.proofs.Common.{◌≤◌, length, subst}
 use Rattle.live_reports.specs.Tallies.{Tallies, tallies_of, SameEach}
 use Rattle.live_reports.proofs.ExchangeLemmas.{few_left, none_left}
 use Rattle.live_reports.proofs.exchanging.remove_from.Goals as goal
@@ -8,4 +8,5 @@ remove_at-requires-clause-few c = few_left c.args.records.now c.args.new.now c.l
 
 pub returns : goal.returns
 returns c =
-    subst (λ (t : Tallies). SameEach (tallies_of c.loop-at.values) t) (none_left c.args.records.now c.args.new.now c.args.place c.loop-at.at c.loop-at-test.false) c.loop-at.invariant
+    let past : length c.args.new.now ≤ c.loop-at.at = rw c.len-at-end.ensures at c.loop-at-test.false in
+    subst (λ (t : Tallies). SameEach (tallies_of c.loop-at.values) t) (none_left c.args.records.now c.args.new.now c.args.place c.loop-at.at past) c.loop-at.invariant

@@ -9,8 +9,9 @@ use crate::OutOfMemory;
 use crate::of_trace::prepared_headers;
 use edit_overlay::Overlay;
 use field_map::FieldMap;
+use record_table::RecordList;
 use std::alloc::Global;
-use trace_record::{PackedRecord, Record};
+use trace_record::PackedRecord;
 
 /// The records of so many traces from trace a on, counted from 1, as they would be with the edit
 /// that is prepared, but for the least, greatest, sum and number of their samples, which are those
@@ -23,12 +24,12 @@ pub fn prepared_records(
     fields: &FieldMap,
     a: u32,
     count: u32,
-) -> Result<Vec<Record>, OutOfMemory>
+) -> Result<RecordList, OutOfMemory>
     requires first { 1 ≤ a }
     requires last { a - 1 + count ≤ count_of overlay.old.prepared }
     requires held { a - 1 + count ≤ count_of overlay.old.volume }
     requires fields { fields.now.extensions ≡ overlay.old.prepared.head.extensions }
-    ensures records { IfOk result (λ records. map facts_of records.items ≡ take count (drop (a - 1)
+    ensures records { IfOk result (λ records. map facts_of records ≡ take count (drop (a - 1)
         (headers_of overlay.old.prepared fields.now.pairs
         (map facts_of (map record_in overlay.old.payloads))))) }
     ensures volume { overlay.new.volume ≡ overlay.old.volume }
@@ -39,11 +40,11 @@ pub fn prepared_records(
 {
     // Read for the proof alone, which learns that the traces are counted in 32 bits.
     let _count = overlay.count();
-    let mut records = Vec::with_capacity(alloc, count as usize)?;
+    let mut records = RecordList::with_capacity(alloc, count as usize)?;
     for k in 0..count {
         let known = overlay.payload(a + k).record();
         let record = prepared_headers(overlay, fields, a + k, &known);
-        records.push(record)?;
+        records.push(&record)?;
     }
     Ok(records)
 }

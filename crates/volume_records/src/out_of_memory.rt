@@ -29,3 +29,9 @@ impl From<live_reports::OutOfMemory> for OutOfMemory {
         OutOfMemory
     }
 }
+
+impl From<record_table::OutOfMemory> for OutOfMemory {
+    fn from(_error: record_table::OutOfMemory) -> OutOfMemory {
+        OutOfMemory
+    }
+}

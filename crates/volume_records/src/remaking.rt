@@ -13,13 +13,13 @@ use crate::OutOfMemory;
 use edit_overlay::Overlay;
 use field_map::FieldMap;
 use live_reports::LiveReports;
-use record_table::Records;
+use record_table::{RecordList, Records};
 use std::alloc::Global;
 use trace_record::{PackedRecord, Record, record_of};
 
 /// Puts the records beside the traces from trace a on, which counts from 1, in place of those that
 /// stand there. Nothing is prepared. Looks at no trace, and takes no memory.
-pub fn set_records(overlay: &mut Overlay<PackedRecord>, a: u32, records: &[Record])
+pub fn set_records(overlay: &mut Overlay<PackedRecord>, a: u32, records: &RecordList)
     requires first { 1 ≤ a }
     requires last { a - 1 + length records.now ≤ count_of overlay.old.volume }
     requires held { a - 1 + length records.now ≤ length overlay.old.payloads }
@@ -33,7 +33,10 @@ pub fn set_records(overlay: &mut Overlay<PackedRecord>, a: u32, records: &[Recor
     // Read for the proof alone, which learns that the traces are counted in 32 bits.
     let _count = overlay.count();
     for k in 0..records.len() {
-        overlay.set_payload(a + k as u32, PackedRecord::of(records[k]));
+        let Some(record) = records.packed(k) else {
+            unreachable!()
+        };
+        overlay.set_payload(a + k as u32, record);
     }
 }
 
@@ -64,19 +67,19 @@ pub fn remake(
     match LiveReports::from_records(alloc, &Records::new(overlay.payloads())) {
         Ok(reports) => Ok(reports),
         Err(error) => {
-            set_records(overlay, 1, held.as_slice());
+            set_records(overlay, 1, &held);
             Err(OutOfMemory::from(error))
         }
     }
 }
 
 // A copy of all records.
-fn copied(alloc: Global, overlay: &Overlay<PackedRecord>) -> Result<Vec<Record>, OutOfMemory>
-    ensures { IfOk result (λ v. v.items ≡ map record_in overlay.now.payloads) }
+fn copied(alloc: Global, overlay: &Overlay<PackedRecord>) -> Result<RecordList, OutOfMemory>
+    ensures { IfOk result (λ list. list ≡ map record_in overlay.now.payloads) }
 {
-    let mut records = Vec::with_capacity(alloc, overlay.count() as usize)?;
+    let mut records = RecordList::with_capacity(alloc, overlay.count() as usize)?;
     for packed in overlay.payloads().iter() {
-        records.push(packed.record())?;
+        records.push(&packed.record())?;
     }
     Ok(records)
 }

@@ -1,4 +1,4 @@
-use Rattle.std.proofs.Common.{◌≡◌, ◌∙◌, ◌+◌, ◌-◌, ◌<◌, sym, map, arith, rules}
+use Rattle.std.proofs.Common.{◌≡◌, ◌+◌, ◌-◌, ◌<◌, map, arith, rules}
 use Rattle.frame_cut.specs.Traces.{count_of}
 use Rattle.trace_record.specs.Packed.{record_in}
 use Rattle.volume_records.proofs.PassLemmas.{one_header_more}
@@ -19,7 +19,7 @@ loop-k-preserved c =
     let place : c.args.a + n - 1 ≡ p + n = omega (arith, c.requires.first) in
     let known = record_beside ps c.loop-k.overlay.payloads (p + n) (c.args.a + n - 1) c.payload.result c.record-known.result i.payloads place c.payload.ensures c.record-known.ensures in
     record {
-      made = one_header_more v w c.args.fields.now.pairs (map record_in ps) p n (c.args.a + n) c.loop-k.records.items c.push.new.self.items made.result c.record-known.result i.prepared there known q i.made made.ensures.record c.in_ok-push.ensures.items;
+      made = one_header_more v w c.args.fields.now.pairs (map record_in ps) p n (c.args.a + n) c.loop-k.records c.push.new.self made.result c.record-known.result i.prepared there known q i.made made.ensures.record c.in_ok-push.ensures.ok;
       volume = search rules;
       prepared = search rules;
       payloads = search rules;

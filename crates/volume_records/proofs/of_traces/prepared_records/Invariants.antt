@@ -8,7 +8,7 @@ use Rattle.volume_records.proofs.of_traces.prepared_records.Given as goal
 
 abbrev pub invariant-loop-k : goal.invariant-loop-k
 invariant-loop-k l = record {
-  made : map facts_of l.records.items ≡ take l.k (drop (l.fn.a - 1) (headers_of l.fn.overlay.prepared l.fn.fields.pairs (map facts_of (map record_in l.fn.overlay.payloads))));
+  made : map facts_of l.records ≡ take l.k (drop (l.fn.a - 1) (headers_of l.fn.overlay.prepared l.fn.fields.pairs (map facts_of (map record_in l.fn.overlay.payloads))));
   volume : l.overlay.volume ≡ l.fn.overlay.volume;
   prepared : l.overlay.prepared ≡ l.fn.overlay.prepared;
   payloads : l.overlay.payloads ≡ l.fn.overlay.payloads;

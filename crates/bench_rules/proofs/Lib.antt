@@ -16,7 +16,6 @@ mod CountedLemmas
 pub mod ComputedLemmas
 pub mod ComputeLemmas
 pub mod LiveLemmas
-pub mod LetterLemmas
 mod TableLemmas
 pub mod SortLemmas
 pub mod InOrderLemmas

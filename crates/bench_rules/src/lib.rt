@@ -3,8 +3,7 @@
 //! `specs/`; the bench above holds a volume and follows them.
 //!
 //! Traces count from 1, bytes in a header from 1, samples of a trace from 0. No call takes memory
-//! but `add_stanzas`, `samples_bytes`, `joined`, `zeros`, `resized`, `values_bytes`, and for the
-//! lists that they answer `cells`, `inlines`, `crosslines`, `histogram` and `faults`.
+//! but `samples_bytes`, `joined`, `zeros`, `resized` and `values_bytes`.
 #![tactic(auto)]
 
 mod answer;
@@ -19,16 +18,13 @@ mod header_field;
 mod info;
 mod items;
 mod location;
-mod of_headers;
 mod operand;
 mod operator;
 mod query;
 mod refusal;
 mod renumber;
-mod report_answers;
 mod resize;
 mod samples;
-mod stanzas;
 mod table;
 mod term;
 mod text;
@@ -47,18 +43,13 @@ pub use crate::header_field::set_refusal;
 pub use crate::info::Info;
 pub use crate::items::Items;
 pub use crate::location::Location;
-pub use crate::of_headers::head_facts;
 pub use crate::operand::Operand;
 pub use crate::operator::Operator;
 pub use crate::query::Query;
 pub use crate::refusal::Refusal;
 pub use crate::renumber::{counted_up, renumber_refusal, values_bytes};
-pub use crate::report_answers::{
-    cells, crosslines, faults, fold, geometry, histogram, inlines, range, stat, totals,
-};
 pub use crate::resize::{count_refusal, resized};
 pub use crate::samples::{patch_refusal, sample_place, trace_sample};
-pub use crate::stanzas::add_stanzas;
 pub use crate::table::Table;
 pub use crate::term::Term;
 pub use crate::text::Text;

@@ -20,8 +20,8 @@ ghost use Rattle.bench_rules.specs.Steps.{IsAfter, Step};
 ghost use Rattle.bench_rules.specs.Answer.{answer, text_blocks, IsReply};
 
 use bench_rules::{
-    Answer, AskFault, Edit, Field, Info, Items, Query, Refusal, Text, add_stanzas, binary_offset,
-    binary_value, is_line, place_in_binary, set_bin_refusal, set_refusal, trace_sample,
+    Answer, AskFault, Edit, Field, Info, Items, Query, Refusal, Text, binary_offset, binary_value,
+    is_line, place_in_binary, set_bin_refusal, set_refusal, trace_sample,
 };
 use device_io::{Sink, Source};
 use edit_overlay::{Loading, Overlay, SaveFault};
@@ -35,6 +35,7 @@ use std::io::{Read, Write};
 use std::marker::Model;
 use text_block::{TEXT_BLOCK_BYTES, code_of, encode_line, line};
 use trace_record::PackedRecord;
+use volume_answers::add_stanzas;
 use volume_records::{remake, with_records};
 
 /// One volume: a file that was loaded, with the edits that were accepted since.

@@ -11,10 +11,7 @@ ghost use Rattle.bench_rules.specs.Answer.{answer, IsReply};
 ghost use Rattle.bench_rules.specs.Live.{IsGridOf, AreRangesOf, AreTotalsOf, AreTriplesOf};
 
 use crate::live_volume::LiveVolume;
-use bench_rules::{
-    Answer, AskFault, Items, cells, crosslines, faults, fold, geometry, head_facts, histogram,
-    inlines, range, stat, totals,
-};
+use bench_rules::{Answer, AskFault, Items};
 use fault_live::Faults;
 use grid_live::Grid;
 use range_stats::{Quantity, Ranges, Totals};
@@ -22,6 +19,9 @@ use record_table::Records;
 use std::alloc::Global;
 use time_slice::rows;
 use trace_record::Record;
+use volume_answers::{
+    cells, crosslines, faults, fold, geometry, head_facts, histogram, inlines, range, stat, totals,
+};
 
 impl LiveVolume {
     /// The grid, which has counted the traces as they are now. Takes no memory and looks at none.

@@ -1,6 +1,6 @@
 use Rattle.std.proofs.Common.{◌≡◌, ◌∙◌, ◌+◌, ◌-◌, ℕ, ap, sym, arith, Some, slice_get}
 use Rattle.bench_rules.specs.Answer.{text_blocks}
-use Rattle.bench_rules.proofs.HeaderEditLemmas.{listed}
+use Rattle.volume_answers.proofs.StanzaLemmas.{listed}
 use Rattle.live_volume.proofs.live_volume.LiveVolume.stanzas.Goals as goal
 
 pub loop-before-preserved : goal.loop-before-preserved

@@ -2,7 +2,7 @@ use Rattle.std.proofs.Common.{◌≡◌, ◌∙◌, ◌-◌, ◌<◌, ℕ, ap, a
 use Rattle.bench_rules.specs.Answer.{text_blocks}
 use Rattle.bench_rules.specs.State.{Session}
 use Rattle.frame_cut.specs.Parts.{trailer_of}
-use Rattle.bench_rules.proofs.HeaderEditLemmas.{behind}
+use Rattle.volume_answers.proofs.StanzaLemmas.{behind}
 use Rattle.live_volume.proofs.live_volume.LiveVolume.text_block.Goals as goal
 
 pub returns-else-n-blocks : goal.returns-else-n-blocks

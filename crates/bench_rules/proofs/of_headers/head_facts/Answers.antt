@@ -1,5 +1,0 @@
-use Rattle.std.proofs.Common.{refl}
-use Rattle.bench_rules.proofs.of_headers.head_facts.Goals as goal
-
-pub returns : goal.returns
-returns c = rw (c.u64_at.ensures, c.u16_at.ensures, c.lines_without_c.ensures) refl

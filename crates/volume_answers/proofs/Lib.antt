@@ -1,0 +1,2 @@
+mod LetterLemmas
+pub mod StanzaLemmas

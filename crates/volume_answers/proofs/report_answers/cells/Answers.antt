@@ -1,0 +1,11 @@
+use Rattle.std.proofs.Common.{List, ap, ◌∙◌, inl}
+use Rattle.std.specs.Prelude.{Ok}
+use Rattle.grid_live.specs.declared.cell.Cell.{Cell}
+use Rattle.bench_rules.specs.declared.answer.Answer.TheVariants as answers
+use Rattle.bench_rules.specs.Answer.{Reply}
+use Rattle.bench_rules.proofs.LiveLemmas.{shows_the_cells}
+use Rattle.volume_answers.proofs.report_answers.cells.Goals as goal
+
+pub returns : goal.returns
+returns c = λ s live.
+    inl (ap (λ (l : List Cell). let r : Reply = Ok (answers.Grid l) in r) (c.new.ensures ∙ shows_the_cells s c.args.grid.now c.in_ok-cells.field-0.items live c.in_ok-cells.ensures))

@@ -8,7 +8,7 @@ cd "$(dirname "$0")/.."
 long=$(git ls-files 'crates/*.rt' 2>/dev/null | xargs -r env LC_ALL=C.UTF-8 grep -nE '^.{101,}' |
     grep -vE '^[^:]*:[0-9]*: *(ghost use|#\[tactic\(|pub ghost [a-z_]*:|.* \} by \{ [A-Za-z]*-prop )' |
     grep -vE '^[^:]*:[0-9]*:( *//| *(ensures|requires) | *\(".*\), // ).{0,125}$' |
-    grep -vE '^crates/(frame_cut|trace_store|volume_records)/src/lib\.rt:[0-9]*://! ')
+    grep -vE '^crates/(frame_cut|trace_store)/src/lib\.rt:[0-9]*://! ')
 if [ -n "$long" ]; then
     printf 'lines of more than 100 columns:\n%s\n' "$long"
     exit 1

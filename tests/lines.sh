@@ -1,7 +1,7 @@
 #!/usr/bin/env bash
 # No line of code in a .rt file is longer than 100 columns. Lines that import words of specifications may be, and lines that
 # the formatter cannot break: attributes and ghost fields. Comments, clauses and the rows of tables with their meanings have
-# up to 132, but for one comment each of three low crates, whose change would have all above them proved anew: they are to go
+# up to 132, but for one comment each of two low crates, whose change would have all above them proved anew: they are to go
 # with the next change there.
 set -u
 cd "$(dirname "$0")/.."

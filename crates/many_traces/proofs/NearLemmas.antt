@@ -1,5 +1,5 @@
 -- The rows of a table in order, by their numbers: what a stable sort leaves.
-use Rattle.std.proofs.Common.{All, ◌≡◌, ◌∙◌, ◌-◌, ◌<◌, ◌≤◌, min, ℕ, ℤ, Bool, List, [], ◌∷◌, length, map, get_or, refl, sym, ap, arith}
+use Rattle.std.proofs.Common.{All, ◌≡◌, ◌∙◌, ◌-◌, ◌<◌, min, ℕ, ℤ, Bool, List, [], ◌∷◌, length, map, get_or, refl, sym, ap, arith}
 use Rattle.std.specs.Cmp.{IsStrictWeakOrder}
 use Rattle.std.specs.List.{range_with_len}
 use Rattle.std.specs.List.Sorted.{IsSortedBy, IsStableBy}

@@ -1,16 +1,15 @@
 -- Pairs of positions that put traces in the order of their numbers.
-use Rattle.std.proofs.Common.{◌≡◌, ℕ, ℤ, zero, suc, ◌+◌, ◌-◌, ◌<◌, ◌≤◌, min, Bool, true, false, List, [], ◌∷◌, ◌++◌, length, map, take, drop, get_or, set, All, Option, Some, None, Ok, Err, refl, sym, ap, subst, ◌∙◌, arith}
-use Rattle.std.specs.Prelude.{Result, IfOk, slice_index, option_map, option_and_then, unwrap_or, is_none}
+use Rattle.std.proofs.Common.{◌≡◌, ℕ, ℤ, suc, ◌+◌, ◌-◌, ◌<◌, ◌≤◌, min, Bool, List, [], ◌∷◌, ◌++◌, length, map, take, drop, get_or, set, All, Option, Some, None, Ok, Err, refl, sym, ap, subst, ◌∙◌, arith}
+use Rattle.std.specs.Prelude.{Result, IfOk, slice_index, option_map, option_and_then, unwrap_or}
 use Rattle.std.specs.List.{swap, range_with_len}
 use Rattle.std.specs.List.Sorted.{IsPermutation}
-use Rattle.std.proofs.lemmas.List.{length-map, length-append, map-append, map-set, take-append-drop, append_assoc, drop-drop, length-drop, take_all}
+use Rattle.std.proofs.lemmas.List.{length-map, map-append, map-set, take-append-drop, append_assoc, drop-drop, length-drop, take_all}
 use Rattle.std.proofs.lemmas.List.Edits.{length-swap}
 use Rattle.std.proofs.lemmas.List.Elements.{All-nil, All-cons}
 use Rattle.std.proofs.lemmas.List.FromFn.{length-range_with_len, get_or-range_with_len}
 use Rattle.std.proofs.lemmas.List.Sorted.{IsPermutation-refl, IsPermutation-trans, IsPermutation-swap, length_permutation}
 use Rattle.std.proofs.Math.ListN.{get_or-map}
 use Rattle.field_map.specs.declared.place.Place.{Place}
-use Rattle.frame_cut.specs.declared.file_head.Head.{Head}
 use Rattle.frame_cut.specs.Traces.{trace_at}
 use Rattle.frame_cut.specs.Volume.{Volume}
 use Rattle.trace_store.specs.Swapped.{with_swapped, ArePlaces}
@@ -19,11 +18,10 @@ use Rattle.bench_rules.specs.declared.answer.Answer.TheVariants as answers
 use Rattle.bench_rules.specs.declared.ask_fault.AskFault.TheVariants.{NoPlace}
 use Rattle.bench_rules.specs.Answer.{table_answer, or_fault}
 use Rattle.bench_rules.specs.ManyTraces.{each_of, positions}
-use Rattle.bench_rules.specs.Refused.{sort_refusal}
 use Rattle.bench_rules.specs.Sorted.{in_order, order_of}
 use Rattle.bench_rules.specs.Tables.{row_of, table_of}
 use Rattle.bench_rules.proofs.SortLemmas.{rows-stand, read-positions}
-use Rattle.many_traces.specs.Arranged.{row_near, Arranges, PutsRows, Puts, Sorts}
+use Rattle.many_traces.specs.Arranged.{row_near, PutsRows, Puts, Sorts}
 use Rattle.many_traces.proofs.ExchangeLemmas.{order-below}
 
 -- ---- the rows of a table

@@ -1,4 +1,4 @@
-use Rattle.std.proofs.Common.{◌≡◌, ◌∙◌, length, arith}
+use Rattle.std.proofs.Common.{length, arith}
 use Rattle.bench_rules.specs.ManyTraces.{each_of}
 use Rattle.bench_rules.specs.Places.{place_in_trace}
 use Rattle.many_traces.proofs.SortedTraceLemmas.{IsTable, is-table, table-wide, table-sorts, as-many, if_ok}

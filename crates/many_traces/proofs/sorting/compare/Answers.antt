@@ -1,4 +1,4 @@
-use Rattle.std.proofs.Common.{rules, ◌≡◌, ◌∙◌, refl, sym, ap, arith, ℤ, pos, Bool, true, false, get_or, ◌≤◌, min, length, of_z, to_z, FitsSigned}
+use Rattle.std.proofs.Common.{rules, ◌≡◌, ◌∙◌, refl, sym, ap, arith, ℤ, pos, false, get_or, ◌≤◌, min, length, of_z, to_z, FitsSigned}
 use Rattle.std.specs.Int.{w128}
 use Rattle.std.proofs.lemmas.Int.{to_z-of_z}
 use Rattle.bench_rules.proofs.RowOrderLemmas.{front-ends, front-told, front-equal, one-ends}

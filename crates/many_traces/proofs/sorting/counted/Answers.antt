@@ -1,4 +1,4 @@
-use Rattle.std.proofs.Common.{◌≡◌, ◌∙◌, ap, arith, ◌+◌, ◌∷◌, [], ◌++◌}
+use Rattle.std.proofs.Common.{◌∙◌, ap, ◌∷◌, [], ◌++◌}
 use Rattle.many_traces.proofs.ExchangeLemmas.{counted-more}
 use Rattle.many_traces.proofs.sorting.counted.Goals as goal
 

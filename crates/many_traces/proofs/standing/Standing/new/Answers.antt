@@ -1,5 +1,3 @@
-use Rattle.std.proofs.Common.{◌≡◌, sym, subst}
-use Rattle.many_traces.specs.Arranged.{AreInStep}
 use Rattle.many_traces.proofs.ExchangeLemmas.{starts-in-step}
 use Rattle.many_traces.proofs.standing.Standing.new.Goals as goal
 

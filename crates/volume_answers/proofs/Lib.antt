@@ -1,2 +1,3 @@
 mod LetterLemmas
 pub mod StanzaLemmas
+mod RangeLemmas

@@ -1,37 +1,9 @@
--- Text blocks by their number, and their stanzas.
-use Rattle.std.proofs.Common.{◌≡◌, ℕ, ◌+◌, ◌-◌, ◌<◌, ◌≤◌, List, [], ◌∷◌, ◌++◌, drop, Some, refl, sym, ap, ◌∙◌, arith, zero, suc, length, append_assoc, map, String, string_bytes}
+-- The stanzas of text blocks that are numbered.
+use Rattle.std.proofs.Common.{◌≡◌, ℕ, ◌+◌, List, [], ◌∷◌, ◌++◌, drop, Some, refl, sym, ap, ◌∙◌, arith, zero, suc, append_assoc, map, String, string_bytes}
 use Rattle.std.specs.Prelude.{slice_get}
 use Rattle.std.specs.List.{enumerate_from}
 use Rattle.std.proofs.lemmas.List.Concat.{flat_map-cons}
-use Rattle.frame_cut.specs.Volume.{Volume}
-use Rattle.frame_cut.specs.Parts.{block_of, trailer_of}
-use Rattle.bench_rules.specs.Answer.{text_blocks, numbered_stanzas, stanzas_from}
-
--- ---- blocks by their number
-
-pub behind : (v : Volume) (n : ℕ) → length v.blocks ≡ v.head.blocks → v.head.blocks < n → trailer_of v (n - v.head.blocks) ≡ slice_get (text_blocks v) (n - 1)
-behind v n count l =
-    let k : ℕ = n - v.head.blocks - 1 in
-    let first : n - v.head.blocks ≡ suc k = omega arith in
-    let last : length v.blocks + k ≡ n - 1 = omega (arith, count) in
-    ap (trailer_of v) first ∙ sym (past v.blocks v.trailer k) ∙ ap (λ (i : ℕ). slice_get (text_blocks v) i) last
-  where
-    past : (xs ys : List (List ℕ)) (i : ℕ) → slice_get (xs ++ ys) (length xs + i) ≡ slice_get ys i
-    past [] ys i = let at : 0 + i ≡ i = omega arith in ap (λ (j : ℕ). slice_get ys j) at
-    past (x ∷ xs) ys i =
-        let at : suc (length xs) + i ≡ suc (length xs + i) = omega arith in
-        ap (λ (j : ℕ). slice_get (x ∷ xs ++ ys) j) at ∙ past xs ys i
-
-pub within : (v : Volume) (n : ℕ) → length v.blocks ≡ v.head.blocks → 1 ≤ n → n ≤ v.head.blocks → block_of v n ≡ slice_get (text_blocks v) (n - 1)
-within v n count low high =
-    let next : n ≡ suc (n - 1) = omega arith in
-    let room : n - 1 < length v.blocks = omega (arith, count) in
-    ap (block_of v) next ∙ front v.blocks v.trailer (n - 1) room
-  where
-    front : (xs ys : List (List ℕ)) (i : ℕ) → i < length xs → slice_get xs i ≡ slice_get (xs ++ ys) i
-    front [] ys i h = absurd (omega arith)
-    front (x ∷ xs) ys zero h = refl
-    front (x ∷ xs) ys (suc i) h = front xs ys i (omega arith)
+use Rattle.bench_rules.specs.Answer.{numbered_stanzas, stanzas_from}
 
 -- the stanzas from a block on are its own and those behind it
 pub stanzas_step : (xs : List (List ℕ)) (n i : ℕ) (x : List ℕ) → slice_get xs i ≡ Some x → stanzas_from n (drop i xs) ≡ numbered_stanzas n x ++ stanzas_from (n + 1) (drop (i + 1) xs)

@@ -1,19 +1,32 @@
 //! The answers of queries over a volume under edits, its field map and its running reports.
 //!
 //! Each contract speaks of every state that fits what the call is lent: the volume of an overlay,
-//! the pairs of a field map, or the records that a report has counted. So one who holds these parts
-//! of a state answers its queries.
+//! the pairs of a field map, the records beside the traces, or what a report has counted. So one who
+//! holds these parts of a state answers its queries. No call changes them: of an overlay that is
+//! lent to be looked at, the number of looks alone is another one then.
 //!
-//! No call takes memory but `add_stanzas`, and for the lists that they answer `cells`, `inlines`,
-//! `crosslines`, `histogram` and `faults`. None looks at a trace.
+//! Traces and the lines of a block count from 1, samples of a trace from 0. A call takes memory
+//! where it is lent an allocator, for an answer that is a text or a list.
 #![tactic(auto)]
 
+mod file_answers;
 mod of_headers;
+mod range_answers;
 mod report_answers;
+mod sample_answers;
 mod stanzas;
+mod text_answers;
+mod trace_answers;
 
+pub use crate::file_answers::{count_answer, fields_answer, get_bin_answer, info_answer};
 pub use crate::of_headers::head_facts;
+pub use crate::range_answers::{extremes_answer, found_answer, table_answer};
 pub use crate::report_answers::{
     cells, crosslines, faults, fold, geometry, histogram, inlines, range, stat, totals,
 };
+pub use crate::sample_answers::{faults_answer, has_opaque_samples, slice_answer, totals_answer};
 pub use crate::stanzas::add_stanzas;
+pub use crate::text_answers::{code_answer, line_answer, lines_answer, stanzas_answer};
+pub use crate::trace_answers::{
+    geometry_answer, get_answer, header_answer, sample_answer, stat_answer,
+};

@@ -1,0 +1,58 @@
+// The answers about the file as a whole and about its binary header and its field map. None looks
+// at a trace.
+ghost use Rattle.std.specs.Prelude.{◌≡◌, Ok, length};
+ghost use Rattle.frame_cut.specs.Traces.{count_of};
+ghost use Rattle.frame_cut.specs.Volume.{bytes_of};
+ghost use Rattle.bench_rules.specs.declared.query.Query.TheVariants as queries;
+ghost use Rattle.bench_rules.specs.Answer.{answer, IsReply};
+ghost use Rattle.bench_rules.specs.State.{State};
+
+use bench_rules::{Answer, AskFault, Field, Info, Items, Text, binary_value, place_in_binary};
+use edit_overlay::Overlay;
+use field_map::FieldMap;
+use std::alloc::Global;
+use trace_record::PackedRecord;
+
+/// The number of traces. Takes no memory.
+pub fn count_answer(overlay: &Overlay<PackedRecord>) -> Answer
+    ensures { (s : State) → s.volume ≡ overlay.now.volume → Ok result ≡ answer s queries.Count }
+{
+    Answer::Count(overlay.count())
+}
+
+/// What the file is. Takes no memory.
+pub fn info_answer(overlay: &Overlay<PackedRecord>) -> Answer
+    ensures { (s : State) → s.volume ≡ overlay.now.volume → Ok result ≡ answer s queries.Info }
+{
+    Answer::Info(Info {
+        head: overlay.head(),
+        traces: overlay.count(),
+        bytes: overlay.length(),
+    })
+}
+
+/// The number in the field of the binary header. Takes no memory. Refused: E02, E03.
+pub fn get_bin_answer(overlay: &Overlay<PackedRecord>, field: &Field) -> Result<Answer, AskFault>
+    ensures { (s : State) → s.volume ≡ overlay.now.volume →
+        result ≡ answer s (queries.GetBin field.now) }
+{
+    let Some(place) = place_in_binary(field) else {
+        return Err(AskFault::NoField);
+    };
+    match binary_value(overlay.head().order, overlay.bin(), place) {
+        Some(value) => Ok(Answer::Value(value)),
+        None => Err(AskFault::NoPlace),
+    }
+}
+
+/// The bound names with their places, in the map's order. Takes memory; refused for want of it
+/// alone, E11.
+pub fn fields_answer(alloc: Global, fields: &FieldMap) -> Result<Answer, AskFault>
+    ensures { (s : State) → s.fields ≡ fields.now.pairs → IsReply s queries.Fields result }
+{
+    let mut all = Vec::new(alloc);
+    for (name, place) in fields.entries() {
+        all.push((Text::new(String::from_str(alloc, name)?), place))?;
+    }
+    Ok(Answer::Fields(Items::new(all)))
+}

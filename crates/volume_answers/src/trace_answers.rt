@@ -1,0 +1,146 @@
+// The answers about the headers, the samples and the record of one trace.
+ghost use Rattle.std.specs.Prelude.{◌≡◌, [], Some, option_map};
+ghost use Rattle.frame_cut.specs.Traces.{is_trace, trace_of};
+ghost use Rattle.trace_record.specs.Facts.{facts_of};
+ghost use Rattle.trace_record.specs.OfTrace.{record_of};
+ghost use Rattle.edit_overlay.specs.CountedVolume.{RisesAtMost};
+ghost use Rattle.bench_rules.specs.declared.query.Query.TheVariants as queries;
+ghost use Rattle.bench_rules.specs.Answer.{answer, of_trace, trace_value, IsReply};
+ghost use Rattle.bench_rules.specs.Looks.{looks_at};
+ghost use Rattle.bench_rules.specs.Places.{place_in_trace as place_of_field};
+ghost use Rattle.bench_rules.specs.State.{State};
+
+use crate::report_answers::{geometry, stat};
+use bench_rules::{Answer, AskFault, Field, trace_sample};
+use edit_overlay::Overlay;
+use field_map::{FieldMap, Place};
+use many_traces::{header, named_places, place_in_trace};
+use std::alloc::Global;
+use trace_record::{PackedRecord, Record};
+
+/// The number in the field of trace p. One look at most, and none where the field has no place.
+/// Takes no memory. Refused: E01, E02, E03.
+pub fn get_answer(
+    overlay: &mut Overlay<PackedRecord>,
+    map: &FieldMap,
+    p: u32,
+    field: &Field,
+) -> Result<Answer, AskFault>
+    ensures reply { (s : State) → s.volume ≡ overlay.old.volume → s.fields ≡ map.now.pairs →
+        result ≡ answer s (queries.Get p field.now) }
+    ensures volume { overlay.new.volume ≡ overlay.old.volume }
+    ensures prepared { overlay.new.prepared ≡ overlay.old.prepared }
+    ensures payloads { overlay.new.payloads ≡ overlay.old.payloads }
+    ensures looks { RisesAtMost overlay.old.looks overlay.new.looks
+        (looks_at (place_of_field map.now.pairs field.now) 1) }
+{
+    match place_in_trace(map, field) {
+        Some(place) => value_at(overlay, p, place),
+        None if has_trace(overlay, p) => Err(AskFault::NoField),
+        None => Err(AskFault::NoTrace(p, overlay.count())),
+    }
+}
+
+// Whether there is a trace p.
+pub(crate) fn has_trace(overlay: &Overlay<PackedRecord>, p: u32) -> bool
+    ensures { result ≡ is_trace overlay.now.volume p }
+{
+    p >= 1 && p <= overlay.count()
+}
+
+// The number at the place of trace p: E01, E03.
+fn value_at(overlay: &mut Overlay<PackedRecord>, p: u32, place: Place) -> Result<Answer, AskFault>
+    ensures reply { result ≡ of_trace overlay.old.volume p
+        (λ t. trace_value overlay.old.volume.head t (Some place)) }
+    ensures volume { overlay.new.volume ≡ overlay.old.volume }
+    ensures prepared { overlay.new.prepared ≡ overlay.old.prepared }
+    ensures payloads { overlay.new.payloads ≡ overlay.old.payloads }
+    ensures looks { RisesAtMost overlay.old.looks overlay.new.looks 1 }
+{
+    let Some(trace) = overlay.look(p) else {
+        return Err(AskFault::NoTrace(p, overlay.count()));
+    };
+    match trace.value(place) {
+        Some(value) => Ok(Answer::Value(value)),
+        None => Err(AskFault::NoPlace),
+    }
+}
+
+/// Sample k, counted from 0, of trace p. One look at most. Takes no memory. Refused: E01, E12, E05.
+pub fn sample_answer(
+    overlay: &mut Overlay<PackedRecord>,
+    p: u32,
+    k: u32,
+) -> Result<Answer, AskFault>
+    ensures reply { (s : State) → s.volume ≡ overlay.old.volume →
+        result ≡ answer s (queries.Sample p k) }
+    ensures volume { overlay.new.volume ≡ overlay.old.volume }
+    ensures prepared { overlay.new.prepared ≡ overlay.old.prepared }
+    ensures payloads { overlay.new.payloads ≡ overlay.old.payloads }
+    ensures looks { RisesAtMost overlay.old.looks overlay.new.looks 1 }
+{
+    let Some(trace) = overlay.look(p) else {
+        return Err(AskFault::NoTrace(p, overlay.count()));
+    };
+    trace_sample(&trace, k)
+}
+
+/// All named header fields of trace p. One look at most. Takes memory. Refused: E01, else E11
+/// alone.
+pub fn header_answer(
+    alloc: Global,
+    overlay: &mut Overlay<PackedRecord>,
+    map: &FieldMap,
+    p: u32,
+) -> Result<Answer, AskFault>
+    ensures reply { (s : State) → s.volume ≡ overlay.old.volume → s.fields ≡ map.now.pairs →
+        IsReply s (queries.Header p) result }
+    ensures volume { overlay.new.volume ≡ overlay.old.volume }
+    ensures prepared { overlay.new.prepared ≡ overlay.old.prepared }
+    ensures payloads { overlay.new.payloads ≡ overlay.old.payloads }
+    ensures looks { RisesAtMost overlay.old.looks overlay.new.looks 1 }
+{
+    if !has_trace(overlay, p) {
+        return Err(AskFault::NoTrace(p, overlay.count()));
+    }
+    let names = named_places(alloc, map)?;
+    let numbers = header(alloc, overlay, p, names)?;
+    Ok(Answer::Header(numbers))
+}
+
+/// Where trace p lies, from its record, where there is one. Takes no memory and looks at no trace.
+/// Refused: E01.
+pub fn geometry_answer(
+    overlay: &Overlay<PackedRecord>,
+    p: u32,
+    trace: Option<Record>,
+) -> Result<Answer, AskFault>
+    ensures { (s : State) → s.volume ≡ overlay.now.volume → option_map facts_of trace ≡
+        option_map (record_of s.volume.head s.fields) (trace_of s.volume p) →
+        result ≡ answer s (queries.Geometry p) }
+{
+    match trace {
+        Some(trace) => Ok(geometry(&trace)),
+        None => Err(AskFault::NoTrace(p, overlay.count())),
+    }
+}
+
+/// The statistics of the samples of trace p, from its record, where there is one. Takes no memory
+/// and looks at no trace. Refused: E01, E12.
+pub fn stat_answer(
+    overlay: &Overlay<PackedRecord>,
+    p: u32,
+    trace: Option<Record>,
+) -> Result<Answer, AskFault>
+    ensures { (s : State) → s.volume ≡ overlay.now.volume → option_map facts_of trace ≡
+        option_map (record_of s.volume.head s.fields) (trace_of s.volume p) →
+        result ≡ answer s (queries.Stat p) }
+{
+    let Some(trace) = trace else {
+        return Err(AskFault::NoTrace(p, overlay.count()));
+    };
+    if overlay.head().format.values().is_none() {
+        return Err(AskFault::NoValues);
+    }
+    Ok(stat(&trace))
+}

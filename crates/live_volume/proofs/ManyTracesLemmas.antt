@@ -63,7 +63,7 @@ none_again old mid new place a first step k r far nothing is same rises = record
         rw same at here
 
 -- traces a to b are there, so the values decide
-among_values : (s : State) (a b : ℕ) (place : Place) (first step : ℤ) → 1 ≤ a → a ≤ b → b ≤ count_of s.volume
+pub among_values : (s : State) (a b : ℕ) (place : Place) (first step : ℤ) → 1 ≤ a → a ≤ b → b ≤ count_of s.volume
     → first_refusal s (Renumber a b (field.Place place) first step) ≡ first_refusal_among s.volume (Some place) (numbers a b first step)
 among_values s a b place first step low high last =
     let here : is_trace s.volume a ≡ true = rw (le-leb 1 a low, le-leb a (count_of s.volume) (omega (arith, high, last))) refl in

@@ -1,6 +1,8 @@
 // Another number of samples of a trace, and a field of many traces counted up.
 ghost use Rattle.std.specs.Prelude.{◌≡◌, ◌+◌, ◌-◌, ◌≤◌, None, Some, IsTrue, IfOk, IfErr, OnOk};
+ghost use Rattle.std.specs.Bool.{OnTrue};
 ghost use Rattle.std.specs.Option.{option_or};
+ghost use Rattle.num_order.specs.Number.{IsSize};
 ghost use Rattle.frame_cut.specs.Traces.{count_of, is_trace, trace_at};
 ghost use Rattle.edit_overlay.specs.CountedVolume.{RisesAtMost};
 ghost use Rattle.bench_rules.specs.declared.edit.Edit.TheVariants as edits;
@@ -11,10 +13,14 @@ ghost use Rattle.bench_rules.specs.Refused.{first_refusal, first_refusal_among, 
 ghost use Rattle.bench_rules.specs.Steps.{IsAfter, Step};
 ghost use Rattle.bench_rules.specs.TraceEdits.{counted, numbers, resized as bytes_resized};
 ghost use Rattle.live_volume.specs.Held.{any_moves};
+ghost use Rattle.live_volume.specs.Places.{leaves_length as leaves_length_of};
 
 use crate::live_volume::LiveVolume;
-use bench_rules::{Field, Refusal, count_refusal, renumber_refusal, resized, values_bytes};
+use bench_rules::{
+    Field, Refusal, count_refusal, counted_up, renumber_refusal, resized, values_bytes,
+};
 use field_map::Place;
+use num_order::fits;
 use std::alloc::Global;
 use volume_records::record_of_bytes;
 
@@ -138,6 +144,9 @@ impl LiveVolume {
         ensures state { self.new.state ≡ self.old.state }
         ensures looks { RisesAtMost self.old.looks self.new.looks (b + 1 - a) }
     {
+        if self.accepts_all(a, b, place, first, step) {
+            return None;
+        }
         for k in 0..b - a + 1 {
             let refusal = self.value_refusal(a + k, place, first, step, k);
             if refusal.is_some() {
@@ -145,6 +154,25 @@ impl LiveVolume {
             }
         }
         None
+    }
+
+    // Whether it is known without a look that no trace refuses these values: each trace has the
+    // place, and keeps its length, and all values fit where the first and the last do.
+    fn accepts_all(&self, a: u32, b: u32, place: Place, first: i128, step: i128) -> bool
+        requires first { 1 ≤ a }
+        requires range { a ≤ b }
+        requires last { b ≤ count_of self.now.state.volume }
+        ensures { OnTrue result (first_refusal_among self.now.state.volume (Some place)
+            (numbers a b first step) ≡ None) }
+    {
+        self.stands();
+        if !leaves_length(place) || !fits(place.kind, first) {
+            return false;
+        }
+        match counted_up(first, step, b - a) {
+            Some(last) => fits(place.kind, last),
+            None => false,
+        }
     }
 
     // The refusal at the place of trace p of the value that stands k steps behind the first: E03,
@@ -204,4 +232,18 @@ impl LiveVolume {
             bytes.as_slice(),
         )
     }
+}
+
+// Whether it is the place of a number inside the main header that shares no byte with bytes
+// 115-116: no other bytes of that header tell how long the trace is.
+fn leaves_length(place: Place) -> bool
+    ensures place { result ≡ leaves_length_of place }
+    ensures size { OnTrue result (IsSize place.kind.size) }
+{
+    let end = u32::from(place.byte) + u32::from(place.kind.size);
+    place.extension == 0
+        && place.kind.has_known_size()
+        && 0 < place.byte
+        && end < 242
+        && (end <= 115 || 117 <= place.byte)
 }

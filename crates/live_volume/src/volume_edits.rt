@@ -23,7 +23,7 @@ use bench_rules::Refusal;
 use edit_overlay::Overlay;
 use field_map::FieldMap;
 use live_reports::{LiveReports, same_cells};
-use record_table::Records;
+use record_table::{RecordList, Records};
 use std::alloc::Global;
 use trace_record::{PackedRecord, Record};
 use volume_records::{prepared_headers, prepared_record, prepared_records, set_records};
@@ -186,9 +186,9 @@ impl LiveVolume {
         let stays = same_cells(
             &Records::new(self.overlay.payloads()),
             a as usize - 1,
-            records.as_slice(),
+            &records,
         );
-        exchange_each(&mut self.overlay, &mut self.reports, a, records.as_slice())?;
+        exchange_each(&mut self.overlay, &mut self.reports, a, &records)?;
         Ok(!stays)
     }
 }
@@ -257,7 +257,7 @@ fn exchange_each(
     overlay: &mut Overlay<PackedRecord>,
     reports: &mut LiveReports,
     a: u32,
-    records: &[Record],
+    records: &RecordList,
 ) -> Result<(), Refusal>
     requires first { 1 ≤ a }
     requires last { a - 1 + length records.now ≤ count_of overlay.old.prepared }

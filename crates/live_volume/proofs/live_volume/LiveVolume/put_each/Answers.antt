@@ -48,11 +48,11 @@ same_cells-stays-requires c =
     let ok = c.in_ok-prepare_put_each.ensures.ok in
     let same : c.prepare_put_each.new.self.payloads ≡ b.overlay.payloads = ap (λ (o : CountedVolume PackedRecord). o.payloads) ok in
     let ps : c.prepared_records.new.overlay.payloads ≡ b.overlay.payloads = c.in-Ok.ensures.payloads ∙ same in
-    let given = subst (λ (qs : List PackedRecord). map facts_of c.in-Ok.records.items ≡ take c.args.count (drop (c.args.a - 1) (headers_of c.prepare_put_each.new.self.prepared b.fields.pairs (map facts_of (map record_in qs))))) same c.in-Ok.ensures.records in
-    let found = their_records b.overlay.volume _ b.fields.pairs c.args.a c.args.count c.args.at c.args.size c.args.bytes.now (records_in b) c.in-Ok.records.items
+    let given = subst (λ (qs : List PackedRecord). map facts_of c.in-Ok.records ≡ take c.args.count (drop (c.args.a - 1) (headers_of c.prepare_put_each.new.self.prepared b.fields.pairs (map facts_of (map record_in qs))))) same c.in-Ok.ensures.records in
+    let found = their_records b.overlay.volume _ b.fields.pairs c.args.a c.args.count c.args.at c.args.size c.args.bytes.now (records_in b) c.in-Ok.records
     (rw (← c.self.view_is) at c.requires.parts) c.self.invariant.records (ap (λ (o : CountedVolume PackedRecord). o.prepared) ok) c.requires.count given in
     let list : c.new.result ≡ records_in b = c.new.ensures ∙ ap (λ (qs : List PackedRecord). map record_in qs) (c.payloads.ensures ∙ ps) in
-    rw (c.as_slice.ensures.value, list) found.room
+    rw list found.room
 
 pub exchange_each-requires-clause-last : goal.exchange_each-requires-clause-last
 exchange_each-requires-clause-last c =
@@ -60,14 +60,14 @@ exchange_each-requires-clause-last c =
     let ok = c.in_ok-prepare_put_each.ensures.ok in
     let same : c.prepare_put_each.new.self.payloads ≡ b.overlay.payloads = ap (λ (o : CountedVolume PackedRecord). o.payloads) ok in
     let ps : c.prepared_records.new.overlay.payloads ≡ b.overlay.payloads = c.in-Ok.ensures.payloads ∙ same in
-    let given = subst (λ (qs : List PackedRecord). map facts_of c.in-Ok.records.items ≡ take c.args.count (drop (c.args.a - 1) (headers_of c.prepare_put_each.new.self.prepared b.fields.pairs (map facts_of (map record_in qs))))) same c.in-Ok.ensures.records in
-    let found = their_records b.overlay.volume _ b.fields.pairs c.args.a c.args.count c.args.at c.args.size c.args.bytes.now (records_in b) c.in-Ok.records.items
+    let given = subst (λ (qs : List PackedRecord). map facts_of c.in-Ok.records ≡ take c.args.count (drop (c.args.a - 1) (headers_of c.prepare_put_each.new.self.prepared b.fields.pairs (map facts_of (map record_in qs))))) same c.in-Ok.ensures.records in
+    let found = their_records b.overlay.volume _ b.fields.pairs c.args.a c.args.count c.args.at c.args.size c.args.bytes.now (records_in b) c.in-Ok.records
     (rw (← c.self.view_is) at c.requires.parts) c.self.invariant.records (ap (λ (o : CountedVolume PackedRecord). o.prepared) ok) c.requires.count given in
     let v : Volume = b.overlay.volume in
     let w : Volume = with_each v c.args.a c.args.at c.args.size c.args.bytes.now in
     let prep : c.prepared_records.new.overlay.prepared ≡ w = c.in-Ok.ensures.prepared ∙ ap (λ (o : CountedVolume PackedRecord). o.prepared) ok in
     let many : count_of c.prepared_records.new.overlay.prepared ≡ count_of v = ap (λ (u : Volume). count_of u) prep ∙ length-put_each v.traces (c.args.a - 1) c.args.at c.args.size c.args.bytes.now in
-    rw c.as_slice-2.ensures.value (omega (arith, found.room, many, length-records v b.fields.pairs (records_in b) c.self.invariant.records))
+    omega (arith, found.room, many, length-records v b.fields.pairs (records_in b) c.self.invariant.records)
 
 pub exchange_each-requires-clause-held : goal.exchange_each-requires-clause-held
 exchange_each-requires-clause-held c =
@@ -75,10 +75,10 @@ exchange_each-requires-clause-held c =
     let ok = c.in_ok-prepare_put_each.ensures.ok in
     let same : c.prepare_put_each.new.self.payloads ≡ b.overlay.payloads = ap (λ (o : CountedVolume PackedRecord). o.payloads) ok in
     let ps : c.prepared_records.new.overlay.payloads ≡ b.overlay.payloads = c.in-Ok.ensures.payloads ∙ same in
-    let given = subst (λ (qs : List PackedRecord). map facts_of c.in-Ok.records.items ≡ take c.args.count (drop (c.args.a - 1) (headers_of c.prepare_put_each.new.self.prepared b.fields.pairs (map facts_of (map record_in qs))))) same c.in-Ok.ensures.records in
-    let found = their_records b.overlay.volume _ b.fields.pairs c.args.a c.args.count c.args.at c.args.size c.args.bytes.now (records_in b) c.in-Ok.records.items
+    let given = subst (λ (qs : List PackedRecord). map facts_of c.in-Ok.records ≡ take c.args.count (drop (c.args.a - 1) (headers_of c.prepare_put_each.new.self.prepared b.fields.pairs (map facts_of (map record_in qs))))) same c.in-Ok.ensures.records in
+    let found = their_records b.overlay.volume _ b.fields.pairs c.args.a c.args.count c.args.at c.args.size c.args.bytes.now (records_in b) c.in-Ok.records
     (rw (← c.self.view_is) at c.requires.parts) c.self.invariant.records (ap (λ (o : CountedVolume PackedRecord). o.prepared) ok) c.requires.count given in
-    rw c.as_slice-2.ensures.value (omega (arith, found.room, length-map b.overlay.payloads record_in, ap (λ (qs : List PackedRecord). length qs) ps))
+    omega (arith, found.room, length-map b.overlay.payloads record_in, ap (λ (qs : List PackedRecord). length qs) ps)
 
 pub exchange_each-requires-clause-stay : goal.exchange_each-requires-clause-stay
 exchange_each-requires-clause-stay c =
@@ -96,12 +96,11 @@ exchange_each-requires-clause-few c =
     let ok = c.in_ok-prepare_put_each.ensures.ok in
     let same : c.prepare_put_each.new.self.payloads ≡ b.overlay.payloads = ap (λ (o : CountedVolume PackedRecord). o.payloads) ok in
     let ps : c.prepared_records.new.overlay.payloads ≡ b.overlay.payloads = c.in-Ok.ensures.payloads ∙ same in
-    let given = subst (λ (qs : List PackedRecord). map facts_of c.in-Ok.records.items ≡ take c.args.count (drop (c.args.a - 1) (headers_of c.prepare_put_each.new.self.prepared b.fields.pairs (map facts_of (map record_in qs))))) same c.in-Ok.ensures.records in
-    let found = their_records b.overlay.volume _ b.fields.pairs c.args.a c.args.count c.args.at c.args.size c.args.bytes.now (records_in b) c.in-Ok.records.items
+    let given = subst (λ (qs : List PackedRecord). map facts_of c.in-Ok.records ≡ take c.args.count (drop (c.args.a - 1) (headers_of c.prepare_put_each.new.self.prepared b.fields.pairs (map facts_of (map record_in qs))))) same c.in-Ok.ensures.records in
+    let found = their_records b.overlay.volume _ b.fields.pairs c.args.a c.args.count c.args.at c.args.size c.args.bytes.now (records_in b) c.in-Ok.records
     (rw (← c.self.view_is) at c.requires.parts) c.self.invariant.records (ap (λ (o : CountedVolume PackedRecord). o.prepared) ok) c.requires.count given in
-    rw c.as_slice-2.ensures.value
-    (subst (λ (qs : List PackedRecord). AreFew (with_records (map record_in qs) (c.args.a - 1) c.in-Ok.records.items)) (sym ps)
-    (few_records b.reading b.limits _ b.fields.pairs _ (rw (← c.self.view_is) at c.requires.cut) (search rules) found.records))
+    subst (λ (qs : List PackedRecord). AreFew (with_records (map record_in qs) (c.args.a - 1) c.in-Ok.records)) (sym ps)
+    (few_records b.reading b.limits _ b.fields.pairs _ (rw (← c.self.view_is) at c.requires.cut) (search rules) found.records)
 
 pub invariant_of-self-2 : goal.invariant_of-self-2
 invariant_of-self-2 c =
@@ -109,14 +108,13 @@ invariant_of-self-2 c =
     let ok = c.in_ok-prepare_put_each.ensures.ok in
     let same : c.prepare_put_each.new.self.payloads ≡ b.overlay.payloads = ap (λ (o : CountedVolume PackedRecord). o.payloads) ok in
     let ps : c.prepared_records.new.overlay.payloads ≡ b.overlay.payloads = c.in-Ok.ensures.payloads ∙ same in
-    let given = subst (λ (qs : List PackedRecord). map facts_of c.in-Ok.records.items ≡ take c.args.count (drop (c.args.a - 1) (headers_of c.prepare_put_each.new.self.prepared b.fields.pairs (map facts_of (map record_in qs))))) same c.in-Ok.ensures.records in
-    let found = their_records b.overlay.volume _ b.fields.pairs c.args.a c.args.count c.args.at c.args.size c.args.bytes.now (records_in b) c.in-Ok.records.items
+    let given = subst (λ (qs : List PackedRecord). map facts_of c.in-Ok.records ≡ take c.args.count (drop (c.args.a - 1) (headers_of c.prepare_put_each.new.self.prepared b.fields.pairs (map facts_of (map record_in qs))))) same c.in-Ok.ensures.records in
+    let found = their_records b.overlay.volume _ b.fields.pairs c.args.a c.args.count c.args.at c.args.size c.args.bytes.now (records_in b) c.in-Ok.records
     (rw (← c.self.view_is) at c.requires.parts) c.self.invariant.records (ap (λ (o : CountedVolume PackedRecord). o.prepared) ok) c.requires.count given in
     let w : Volume = with_each b.overlay.volume c.args.a c.args.at c.args.size c.args.bytes.now in
     let is : c.exchange_each.new.overlay.volume ≡ w = c.in_ok-exchange_each.ensures.volume ∙ c.in-Ok.ensures.prepared ∙ ap (λ (o : CountedVolume PackedRecord). o.prepared) ok in
-    let put : map record_in c.exchange_each.new.overlay.payloads ≡ with_records (records_in b) (c.args.a - 1) c.in-Ok.records.items =
-    c.in_ok-exchange_each.ensures.records ∙ (ap (λ (l : List Record). with_records (map record_in c.prepared_records.new.overlay.payloads) (c.args.a - 1) l) c.as_slice-2.ensures.value
-    ∙ ap (λ (qs : List PackedRecord). with_records (map record_in qs) (c.args.a - 1) c.in-Ok.records.items) ps) in
+    let put : map record_in c.exchange_each.new.overlay.payloads ≡ with_records (records_in b) (c.args.a - 1) c.in-Ok.records =
+    c.in_ok-exchange_each.ensures.records ∙ ap (λ (qs : List PackedRecord). with_records (map record_in qs) (c.args.a - 1) c.in-Ok.records) ps in
     record {
       cut = subst (λ (u : Volume). IsCut (bytes_of u) b.reading b.limits u) (sym is) (rw (← c.self.view_is) at c.requires.cut);
       prepared = c.in_ok-exchange_each.ensures.prepared;
@@ -131,14 +129,14 @@ returns-clause-moved c =
     let ok = c.in_ok-prepare_put_each.ensures.ok in
     let same : c.prepare_put_each.new.self.payloads ≡ b.overlay.payloads = ap (λ (o : CountedVolume PackedRecord). o.payloads) ok in
     let ps : c.prepared_records.new.overlay.payloads ≡ b.overlay.payloads = c.in-Ok.ensures.payloads ∙ same in
-    let given = subst (λ (qs : List PackedRecord). map facts_of c.in-Ok.records.items ≡ take c.args.count (drop (c.args.a - 1) (headers_of c.prepare_put_each.new.self.prepared b.fields.pairs (map facts_of (map record_in qs))))) same c.in-Ok.ensures.records in
-    let found = their_records b.overlay.volume _ b.fields.pairs c.args.a c.args.count c.args.at c.args.size c.args.bytes.now (records_in b) c.in-Ok.records.items
+    let given = subst (λ (qs : List PackedRecord). map facts_of c.in-Ok.records ≡ take c.args.count (drop (c.args.a - 1) (headers_of c.prepare_put_each.new.self.prepared b.fields.pairs (map facts_of (map record_in qs))))) same c.in-Ok.ensures.records in
+    let found = their_records b.overlay.volume _ b.fields.pairs c.args.a c.args.count c.args.at c.args.size c.args.bytes.now (records_in b) c.in-Ok.records
     (rw (← c.self.view_is) at c.requires.parts) c.self.invariant.records (ap (λ (o : CountedVolume PackedRecord). o.prepared) ok) c.requires.count given in
     let s : State = state_of c.self.inside in
     let v : Volume = c.self.inside.overlay.volume in
     let fields : Pairs = c.self.inside.fields.pairs in
     let rs : List Record = records_in c.self.inside in
-    let new : List Record = c.in-Ok.records.items in
+    let new : List Record = c.in-Ok.records in
     let parts : AreHeaderParts v c.args.a c.args.at c.args.size c.args.bytes.now = rw (← c.self.view_is) at c.requires.parts in
     let w : Volume = with_each v c.args.a c.args.at c.args.size c.args.bytes.now in
     let f = record_of v.head fields in
@@ -152,5 +150,5 @@ returns-clause-moved c =
     let within : at + c.args.count ≤ length w.traces = omega (arith, inside, length-put_each v.traces at c.args.at c.args.size c.args.bytes.now) in
     let list : c.new.result ≡ records_in b = c.new.ensures ∙ ap (λ (qs : List PackedRecord). map record_in qs) (c.payloads.ensures ∙ ps) in
     rw (← c.self.view_is)
-    (ap not (c.same_cells-stays.ensures ∙ ap₂ (λ (l k : List Record). same_cells (drop at l) k) list c.as_slice.ensures.value)
+    (ap not (c.same_cells-stays.ensures ∙ ap (λ (l : List Record). same_cells (drop at l) c.in-Ok.records) list)
     ∙ cells_stay s w c.args.a c.args.count rs new c.requires.first inside within old_facts new_facts)

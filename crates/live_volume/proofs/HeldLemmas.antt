@@ -1,20 +1,17 @@
 -- What a bench holds after an edit: the records stay those of its traces.
-use Rattle.std.proofs.lemmas.Bool.{le-leb, leb-true, leb-false}
-use Rattle.std.proofs.lemmas.Option.{slice_get-map, slice_get-get_or, slice_get_past}
-use Rattle.std.proofs.Common.{◌≡◌, ◌∙◌, ℕ, zero, suc, leb, take, drop, ◌++◌, ◌∷◌, get_or-set_same, length-set, append_assoc, take_at, drop_at, length-append, length-take-le, take-append-drop, ◌-◌, ◌<◌, ◌≤◌, ◌^◌, Bool, true, false, List, [], length, map, refl, sym, ap, subst, arith}
+use Rattle.std.proofs.lemmas.Bool.{le-leb}
+use Rattle.std.proofs.Common.{◌≡◌, ◌∙◌, ℕ, suc, take, drop, ◌++◌, ◌∷◌, get_or-set_same, length-set, append_assoc, take_at, drop_at, length-append, length-take-le, take-append-drop, ◌-◌, ◌<◌, ◌≤◌, ◌^◌, Bool, true, false, List, [], length, map, refl, sym, ap, subst, arith}
 use Rattle.std.specs.List.{insert, remove}
 use Rattle.num_order.specs.Number.{is_size}
 use Rattle.std.proofs.lemmas.Bool.Decides.{nat_tests}
-use Rattle.std.specs.Prelude.{slice_set, Result, Ok, Err, IfOk, IfErr, OnOk, Option, Some, None, option_map, unwrap_or, slice_get, if◌then◌else◌}
+use Rattle.std.specs.Prelude.{slice_set, Result, Ok, Err, IfOk, IfErr, OnOk, Option, Some, None, if◌then◌else◌}
 use Rattle.field_map.specs.Pairs.{Pairs}
-use Rattle.frame_cut.specs.declared.file_head.Head.{Head}
 use Rattle.frame_cut.specs.declared.limits.Limits.{Limits}
 use Rattle.frame_cut.specs.declared.reading.Reading.{Reading}
 use Rattle.frame_cut.specs.Cuts.{IsCut}
-use Rattle.frame_cut.specs.Traces.{count_of, trace_of, trace_at, is_trace, with_trace}
+use Rattle.frame_cut.specs.Traces.{count_of, trace_at, is_trace, with_trace}
 use Rattle.frame_cut.specs.Volume.{Volume, bytes_of}
-use Rattle.trace_record.specs.Facts.{Facts, facts_of}
-use Rattle.trace_record.specs.OfTrace.{record_of}
+use Rattle.trace_record.specs.Facts.{facts_of}
 use Rattle.trace_record.specs.declared.record.Record.{Record}
 use Rattle.live_reports.specs.Reports.{AreFew}
 use Rattle.field_map.specs.declared.place.Place.{Place}
@@ -23,7 +20,6 @@ use Rattle.bench_rules.specs.declared.edit.Edit.{Edit}
 use Rattle.bench_rules.specs.declared.edit.Edit.TheVariants.{Map}
 use Rattle.bench_rules.specs.declared.refusal.Refusal.{Refusal}
 use Rattle.bench_rules.specs.declared.refusal.Refusal.TheVariants.{OutOfMemory}
-use Rattle.bench_rules.specs.Reports.{facts_of_headers, head_facts}
 use Rattle.bench_rules.specs.State.{State}
 use Rattle.bench_rules.specs.Refused.{first_refusal}
 use Rattle.bench_rules.specs.Steps.{IsAfter, Step, TakesMemory}
@@ -43,38 +39,6 @@ few_records reading limits v fields rs cut small e =
 pub past : {X : Type 0} (b : Bool) (x : X) (rest : Option X) → (if b then Some x else rest) ≡ None → b ≡ false
 past true x rest h = absurd cc
 past false x rest h = refl
-
--- ---- the record of one trace
-
-trace_of-get : (v : Volume) (p : ℕ) → (p ≡ 0 → ⊥) → trace_of v p ≡ slice_get v.traces (p - 1)
-trace_of-get v zero some = absurd (some refl)
-trace_of-get v (suc n) some = go (leb (suc n) (length v.traces)) refl
-  where
-    one : leb 1 (suc n) ≡ true
-    one = le-leb 1 (suc n) (omega arith)
-
-    go : (b : Bool) → leb (suc n) (length v.traces) ≡ b → trace_of v (suc n) ≡ slice_get v.traces (suc n - 1)
-    go true h = rw (one, h) (sym (slice_get-get_or v.traces (suc n - 1) [] (omega (arith, leb-true (suc n) (length v.traces) h))))
-    go false h = rw (one, h) (sym (slice_get_past v.traces (suc n - 1) (omega (arith, leb-false (suc n) (length v.traces) h))))
-
--- the record that is held at the place of a trace holds its facts
-pub record_is : (v : Volume) (fields : Pairs) (rs : List Record) (p : ℕ) → (p ≡ 0 → ⊥) → map facts_of rs ≡ records_of v fields
-    → option_map facts_of (slice_get rs (p - 1)) ≡ option_map (record_of v.head fields) (trace_of v p)
-record_is v fields rs p some e =
-    sym (slice_get-map facts_of rs (p - 1))
-    ∙ ap (λ (fs : List Facts). slice_get fs (p - 1)) e
-    ∙ slice_get-map (record_of v.head fields) v.traces (p - 1)
-    ∙ ap (option_map (record_of v.head fields)) (sym (trace_of-get v p some))
-
--- facts that are told of a trace are those of one that is there
-pub record IsShown (o : Option (List ℕ)) (g : List ℕ → Facts) (f : Facts) : Type 0 where
-  pub trace : List ℕ
-  pub there : o ≡ Some trace
-  pub facts : f ≡ g trace
-
-pub shown : (o : Option (List ℕ)) (g : List ℕ → Facts) (f : Facts) → (let a : Option Facts = Some f in a) ≡ option_map g o → IsShown o g f
-shown None g f e = absurd cc
-shown (Some t) g f e = record { trace = t; there = refl; facts = ap (λ (o : Option Facts). unwrap_or o f) e }
 
 -- ---- edits
 
@@ -111,11 +75,6 @@ if_ok (Err e) f p = tt
 -- the sizes of numbers are at most 8 bytes
 pub size_small : (n : ℕ) → is_size n ≡ true → n ≤ 8
 size_small n h = grind (arith, nat_tests)
-
--- the same headers say the same to the faults
-pub same_headers : (v : Volume) (h : Head) (text bin : List ℕ) → h ≡ v.head → text ≡ v.text → bin ≡ v.bin → facts_of_headers h text bin ≡ head_facts v
-same_headers v h text bin e f g =
-    ap (λ (x : Head). facts_of_headers x text bin) e ∙ ap (λ (x : List ℕ). facts_of_headers v.head x bin) f ∙ ap (λ (x : List ℕ). facts_of_headers v.head v.text x) g
 
 -- want of memory is an answer to a name that nothing else refuses
 pub map_wants_memory : (s u : State) (name : List ℕ) (place : Place) → bind_fault s.volume.head.extensions s.fields name place ≡ None → u ≡ s

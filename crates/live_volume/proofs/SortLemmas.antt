@@ -1,15 +1,12 @@
 -- Traces that come in the place of one another: what a volume holds behind it, and a sort that is done.
-use Rattle.std.proofs.Common.{◌≡◌, ℕ, ◌+◌, ◌-◌, ◌≤◌, Bool, List, [], length, map, Option, Some, None, refl, sym, ap, subst, ◌∙◌, arith}
-use Rattle.std.specs.Prelude.{sum_by}
-use Rattle.std.specs.Option.{option_or}
+use Rattle.std.proofs.Common.{◌≡◌, ℕ, Bool, List, [], map, None, refl, sym, ap, ◌∙◌, arith}
 use Rattle.std.specs.List.Sorted.{IsPermutation}
 use Rattle.std.proofs.lemmas.List.Sorted.{IsPermutation-map, length_permutation, sum_by-IsPermutation}
-use Rattle.field_map.specs.declared.place.Place.{Place}
 use Rattle.field_map.specs.Pairs.{Pairs}
 use Rattle.frame_cut.specs.Traces.{count_of}
 use Rattle.frame_cut.specs.Volume.{Volume}
 use Rattle.trace_store.specs.Swapped.{with_swapped, with_places_swapped, ArePlaces}
-use Rattle.trace_record.specs.Facts.{Facts, facts_of}
+use Rattle.trace_record.specs.Facts.{facts_of}
 use Rattle.trace_record.specs.Keys.{Counted}
 use Rattle.trace_record.specs.OfTrace.{record_of}
 use Rattle.trace_record.specs.Tally.{Tally, tally_of, Same}
@@ -26,13 +23,13 @@ use Rattle.bench_rules.specs.declared.edit.Edit.TheVariants.{Sort}
 use Rattle.bench_rules.specs.declared.field.Field.{Field}
 use Rattle.bench_rules.specs.ManyTraces.{each_of}
 use Rattle.bench_rules.specs.Places.{place_in_trace}
-use Rattle.bench_rules.specs.Refused.{first_refusal, no_trace, no_trace_from, sort_refusal}
+use Rattle.bench_rules.specs.Refused.{first_refusal}
 use Rattle.bench_rules.specs.Sorted.{in_order, with_order}
 use Rattle.bench_rules.specs.State.{State}
 use Rattle.bench_rules.specs.Steps.{IsAfter}
 use Rattle.bench_rules.proofs.FirstLemmas.{AreTraces}
 use Rattle.bench_rules.proofs.ManyValueLemmas.{IsRead}
-use Rattle.bench_rules.proofs.SortedLemmas.{SortAccepted, sort_accepted, sort_done, sort_first}
+use Rattle.bench_rules.proofs.SortedLemmas.{sort_accepted, sort_done, sort_first}
 use Rattle.many_traces.specs.Arranged.{Puts, Sorts}
 use Rattle.many_traces.proofs.SortedTraceLemmas.{map-swapped, swapped-puts}
 

@@ -20,7 +20,6 @@
 mod computed_edits;
 mod kept_slices;
 mod live_volume;
-mod many_queries;
 mod number_edits;
 mod report_queries;
 mod sort_edit;

@@ -1,4 +1,4 @@
-ghost use Rattle.std.specs.Prelude.{◌≡◌, ◌≤◌, ◌-◌, ◌++◌, [], true, false, length, None, Some, IfOk, IfErr, OnOk, MatchResult, option_map, slice_get};
+ghost use Rattle.std.specs.Prelude.{◌≡◌, ◌≤◌, [], true, false, length, None, Some, IfOk, IfErr, OnOk, MatchResult};
 ghost use Rattle.std.specs.Option.{option_or};
 ghost use Rattle.std.specs.Io.KnownBytes.{Consumes, IsAtEnd};
 ghost use Rattle.device_io.specs.Failures.{CountsFailure};
@@ -10,18 +10,17 @@ ghost use Rattle.edit_overlay.specs.Loading.{IsLoadFault, FailuresAfterRefusal, 
 ghost use Rattle.edit_overlay.specs.Saving.{Saves};
 ghost use Rattle.bench_rules.specs.declared.edit.Edit.TheVariants as edits;
 ghost use Rattle.bench_rules.specs.declared.field.Field.TheVariants as fields;
-ghost use Rattle.bench_rules.specs.declared.query.Query.TheVariants as queries;
 ghost use Rattle.bench_rules.specs.declared.refusal.Refusal.TheVariants.{OutOfMemory as no_memory, NoField as no_such_field};
 ghost use Rattle.edit_overlay.specs.CountedVolume.{RisesAtMost};
 ghost use Rattle.bench_rules.specs.Looks.{load_looks, edit_looks, query_looks};
 ghost use Rattle.bench_rules.specs.Places.{place_in_trace};
 ghost use Rattle.bench_rules.specs.Refused.{first_refusal, no_trace};
 ghost use Rattle.bench_rules.specs.Steps.{IsAfter, Step};
-ghost use Rattle.bench_rules.specs.Answer.{answer, text_blocks, IsReply};
+ghost use Rattle.bench_rules.specs.Answer.{IsReply};
 
 use bench_rules::{
-    Answer, AskFault, Edit, Field, Info, Items, Query, Refusal, Text, binary_offset, binary_value,
-    is_line, place_in_binary, set_bin_refusal, set_refusal, trace_sample,
+    Answer, AskFault, Edit, Field, Query, Refusal, Text, binary_offset, is_line, place_in_binary,
+    set_bin_refusal,
 };
 use device_io::{Sink, Source};
 use edit_overlay::{Loading, Overlay, SaveFault};
@@ -33,9 +32,14 @@ use num_order::write;
 use std::alloc::Global;
 use std::io::{Read, Write};
 use std::marker::Model;
-use text_block::{TEXT_BLOCK_BYTES, code_of, encode_line, line};
+use text_block::{code_of, encode_line};
 use trace_record::PackedRecord;
-use volume_answers::add_stanzas;
+use volume_answers::{
+    cells, code_answer, count_answer, crosslines, extremes_answer, faults_answer, fields_answer,
+    fold, found_answer, geometry_answer, get_answer, get_bin_answer, header_answer, histogram,
+    info_answer, inlines, line_answer, lines_answer, range, sample_answer, slice_answer,
+    stanzas_answer, stat_answer, table_answer, totals_answer, value_refusal,
+};
 use volume_records::{remake, with_records};
 
 /// One volume: a file that was loaded, with the edits that were accepted since.
@@ -187,7 +191,7 @@ impl LiveVolume {
             self.new.state }
         ensures looks { RisesAtMost self.old.looks self.new.looks 2 }
     {
-        match self.set_refusal(p, place, value) {
+        match value_refusal(&mut self.overlay, p, place, value) {
             Some(refusal) => Err(refusal),
             None => self.put_value(alloc, p, place, value),
         }
@@ -207,20 +211,6 @@ impl LiveVolume {
         write(self.overlay.head().order, place.kind, value, new);
         let samples = self.held(p);
         self.put(alloc, p, u64::from(place.offset()), new, Some(samples))
-    }
-
-    // The first refusal of the value at the place of trace p: E01, E03, E04, E06.
-    fn set_refusal(&mut self, p: u32, place: Place, value: i128) -> Option<Refusal>
-        ensures refusal { result ≡ first_refusal self.old.state
-            (edits.Set p (fields.Place place) value) }
-        ensures state { self.new.state ≡ self.old.state }
-        ensures looks { RisesAtMost self.old.looks self.new.looks 1 }
-    {
-        let head = self.overlay.head();
-        let Some(trace) = self.overlay.look(p) else {
-            return Some(Refusal::NoTrace(p, self.overlay.count()));
-        };
-        set_refusal(head.order, &trace, place, value)
     }
 
     // The value into the field of the binary header, or the first refusal: E02, E03, E04, E06.
@@ -337,172 +327,39 @@ impl LiveVolume {
             (query_looks self.old.state [] query.now) }
     {
         match query {
-            Query::Count => Ok(Answer::Count(self.overlay.count())),
-            Query::Info => Ok(Answer::Info(self.info())),
-            Query::Get(p, field) => self.get_field(*p, field),
-            Query::GetBin(field) => self.get_bin(field),
-            Query::Line(b, q) => self.line(alloc, *b, *q),
-            Query::Code(b) => self.code(*b),
-            Query::Stanzas => self.stanzas(alloc),
-            Query::Fields => self.bound_fields(alloc),
-            Query::Sample(p, k) => self.sample(*p, *k),
-            Query::Geometry(p) => self.geometry_answer(*p),
-            Query::Stat(p) => self.stat_answer(*p),
-            Query::Fold(inline, crossline) => self.fold_answer(inline, crossline),
-            Query::Grid => self.cells_answer(alloc),
-            Query::Inlines => self.inlines_answer(alloc),
-            Query::Crosslines => self.crosslines_answer(alloc),
-            Query::Histogram => self.histogram_answer(alloc),
-            Query::Range(quantity) => self.range_answer(*quantity),
-            Query::Totals => self.totals_answer(),
-            Query::Slice(k) => self.slice_answer(alloc, *k),
-            Query::Faults => self.faults_answer(alloc),
-            Query::Lines(b) => self.lines_answer(alloc, *b),
-            Query::Table(a, b, fields) => self.table_answer(alloc, *a, *b, fields.as_slice()),
-            Query::Find(a, b, field, low, high) => {
-                self.found_answer(alloc, *a, *b, field, *low, *high)
+            Query::Count => Ok(count_answer(&self.overlay)),
+            Query::Info => Ok(info_answer(&self.overlay)),
+            Query::Get(p, field) => get_answer(&mut self.overlay, &self.fields, *p, field),
+            Query::GetBin(field) => get_bin_answer(&self.overlay, field),
+            Query::Line(b, q) => line_answer(alloc, &self.overlay, *b, *q),
+            Query::Code(b) => code_answer(&self.overlay, *b),
+            Query::Stanzas => stanzas_answer(alloc, &self.overlay),
+            Query::Fields => fields_answer(alloc, &self.fields),
+            Query::Sample(p, k) => sample_answer(&mut self.overlay, *p, *k),
+            Query::Geometry(p) => geometry_answer(self.record(*p), &self.overlay, *p),
+            Query::Stat(p) => stat_answer(self.record(*p), &self.overlay, *p),
+            Query::Fold(inline, crossline) => Ok(fold(self.grid(), *inline, *crossline)),
+            Query::Grid => cells(alloc, self.grid()),
+            Query::Inlines => inlines(alloc, self.grid()),
+            Query::Crosslines => crosslines(alloc, self.grid()),
+            Query::Histogram => histogram(alloc, self.grid()),
+            Query::Range(quantity) => Ok(range(self.ranges(), *quantity)),
+            Query::Totals => totals_answer(&self.overlay, self.reports.totals()),
+            Query::Slice(k) => slice_answer(alloc, &mut self.overlay, *k),
+            Query::Faults => faults_answer(alloc, &self.overlay, self.reports.triples()),
+            Query::Lines(b) => lines_answer(alloc, &self.overlay, *b),
+            Query::Table(a, b, fields) => {
+                let overlay = &mut self.overlay;
+                table_answer(alloc, overlay, &self.fields, *a, *b, fields.as_slice())
             }
-            Query::Header(p) => self.header_answer(alloc, *p),
-            Query::Extremes(a, b) => self.extremes_answer(alloc, *a, *b),
-        }
-    }
-
-    // The value of the field of trace p: E01, E02, E03.
-    fn get_field(&mut self, p: u32, field: &Field) -> Result<Answer, AskFault>
-        ensures reply { result ≡ answer self.old.state (queries.Get p field.now) }
-        ensures state { self.new.state ≡ self.old.state }
-        ensures looks { RisesAtMost self.old.looks self.new.looks
-            (query_looks self.old.state [] (queries.Get p field.now)) }
-    {
-        match self.place_in_trace(field) {
-            Some(place) => self.get(p, place),
-            None if self.has_trace(p) => Err(AskFault::NoField),
-            None => Err(AskFault::NoTrace(p, self.overlay.count())),
-        }
-    }
-
-    // The value of the field of the binary header: E02, E03.
-    fn get_bin(&self, field: &Field) -> Result<Answer, AskFault>
-        ensures { result ≡ answer self.now.state (queries.GetBin field.now) }
-    {
-        let Some(place) = place_in_binary(field) else {
-            return Err(AskFault::NoField);
-        };
-        let order = self.overlay.head().order;
-        match binary_value(order, self.overlay.bin(), place) {
-            Some(value) => Ok(Answer::Value(value)),
-            None => Err(AskFault::NoPlace),
-        }
-    }
-
-    // Line q of block b: E03.
-    fn line(&self, alloc: Global, b: u32, q: u32) -> Result<Answer, AskFault>
-        ensures { IsReply self.now.state (queries.Line b q) result }
-    {
-        if !is_line(q) {
-            return Err(AskFault::NoPlace);
-        }
-        let Some(block) = self.overlay.block(b) else {
-            return Err(AskFault::NoPlace);
-        };
-        Ok(Answer::Line(Text::new(line(alloc, block, q)?)))
-    }
-
-    // The code of block b: E03.
-    fn code(&self, b: u32) -> Result<Answer, AskFault>
-        ensures { result ≡ answer self.now.state (queries.Code b) }
-    {
-        match self.overlay.block(b) {
-            Some(block) => Ok(Answer::Code(code_of(block))),
-            None => Err(AskFault::NoPlace),
-        }
-    }
-
-    // The number of extended textual headers and data trailer records.
-    fn text_block_count(&self) -> u64
-        ensures { result ≡ length (text_blocks self.now.state.volume) }
-    {
-        let head = self.overlay.head();
-        u64::from(head.blocks) + u64::from(head.trailer)
-    }
-
-    // The extended textual header n, counted from 1, or behind the last the data trailer record.
-    fn text_block(&self, n: u64) -> Option<&[u8; TEXT_BLOCK_BYTES]>
-        requires first { 1 ≤ n }
-        requires last { n ≤ length (text_blocks self.now.state.volume) }
-        ensures { option_map (λ x. x.now) result ≡ slice_get (text_blocks self.now.state.volume)
-            (n - 1) }
-    {
-        let blocks = u64::from(self.overlay.head().blocks);
-        if n <= blocks {
-            self.overlay.block(n as u32)
-        } else {
-            self.overlay.trailer((n - blocks) as u32)
-        }
-    }
-
-    // The stanzas of all extended textual headers and data trailer records.
-    fn stanzas(&self, alloc: Global) -> Result<Answer, AskFault>
-        ensures { IsReply self.now.state queries.Stanzas result }
-    {
-        let mut all = Vec::new(alloc);
-        for before in 0..self.text_block_count() {
-            let Some(block) = self.text_block(before + 1) else {
-                unreachable!()
-            };
-            add_stanzas(alloc, &mut all, before + 1, block)?;
-        }
-        Ok(Answer::Stanzas(Items::new(all)))
-    }
-
-    // The bound names with their places.
-    fn bound_fields(&self, alloc: Global) -> Result<Answer, AskFault>
-        ensures { IsReply self.now.state queries.Fields result }
-    {
-        let mut all = Vec::new(alloc);
-        for (name, place) in self.fields.entries() {
-            all.push((Text::new(String::from_str(alloc, name)?), place))?;
-        }
-        Ok(Answer::Fields(Items::new(all)))
-    }
-
-    // The value at the place of trace p: E01, E03.
-    fn get(&mut self, p: u32, place: Place) -> Result<Answer, AskFault>
-        ensures reply { result ≡ answer self.old.state (queries.Get p (fields.Place place)) }
-        ensures state { self.new.state ≡ self.old.state }
-        ensures looks { RisesAtMost self.old.looks self.new.looks 1 }
-    {
-        let Some(trace) = self.overlay.look(p) else {
-            return Err(AskFault::NoTrace(p, self.overlay.count()));
-        };
-        match trace.value(place) {
-            Some(value) => Ok(Answer::Value(value)),
-            None => Err(AskFault::NoPlace),
-        }
-    }
-
-    // Sample k of trace p: E01, E12, E05.
-    fn sample(&mut self, p: u32, k: u32) -> Result<Answer, AskFault>
-        ensures reply { result ≡ answer self.old.state (queries.Sample p k) }
-        ensures state { self.new.state ≡ self.old.state }
-        ensures looks { RisesAtMost self.old.looks self.new.looks 1 }
-    {
-        let Some(trace) = self.overlay.look(p) else {
-            return Err(AskFault::NoTrace(p, self.overlay.count()));
-        };
-        trace_sample(&trace, k)
-    }
-
-    // What the file is.
-    fn info(&self) -> Info
-        ensures head { result.head ≡ self.now.state.volume.head }
-        ensures traces { result.traces ≡ count_of self.now.state.volume }
-        ensures bytes { result.bytes ≡ length (bytes_of self.now.state.volume) }
-    {
-        Info {
-            head: self.overlay.head(),
-            traces: self.overlay.count(),
-            bytes: self.overlay.length(),
+            Query::Find(a, b, field, low, high) => {
+                let overlay = &mut self.overlay;
+                found_answer(alloc, overlay, &self.fields, *a, *b, field, *low, *high)
+            }
+            Query::Header(p) => header_answer(alloc, &mut self.overlay, &self.fields, *p),
+            Query::Extremes(a, b) => {
+                extremes_answer(alloc, &mut self.overlay, &self.fields, *a, *b)
+            }
         }
     }
 

@@ -1,20 +1,18 @@
 // Edits of samples and of whole traces.
-ghost use Rattle.std.specs.Prelude.{◌≡◌, ◌<◌, ◌≤◌, ◌^◌, length, Some, None, IsTrue, IfOk, OnOk, IfErr};
+ghost use Rattle.std.specs.Prelude.{◌≡◌, None, IsTrue, IfOk, OnOk, IfErr};
 ghost use Rattle.frame_cut.specs.Traces.{is_trace, trace_at};
-ghost use Rattle.frame_cut.specs.Frames.{length_with};
 ghost use Rattle.bench_rules.specs.declared.edit.Edit.TheVariants as edits;
 ghost use Rattle.bench_rules.specs.declared.refusal.Refusal.TheVariants.{OutOfMemory as no_memory};
 ghost use Rattle.edit_overlay.specs.CountedVolume.{RisesAtMost};
-ghost use Rattle.bench_rules.specs.Refused.{first_refusal, no_trace, no_place_for_trace, room_refusal, insert_refusal};
+ghost use Rattle.bench_rules.specs.Refused.{first_refusal, no_trace};
 ghost use Rattle.bench_rules.specs.Steps.{IsAfter, Step};
 ghost use Rattle.live_volume.specs.Held.{sample_start};
 
 use crate::live_volume::LiveVolume;
-use bench_rules::{
-    Refusal, blank_length, joined, patch_refusal, sample_place, samples_bytes, zeros,
-};
+use bench_rules::{Refusal, blank_length, joined, samples_bytes, zeros};
 use record_table::Records;
 use std::alloc::Global;
+use volume_answers::{blank_refusal, copy_refusal, move_refusal, patch_place};
 use volume_records::record_of_bytes;
 
 impl LiveVolume {
@@ -26,94 +24,6 @@ impl LiveVolume {
             None
         } else {
             Some(Refusal::NoTrace(p, self.count()))
-        }
-    }
-
-    // The first refusal of a place for a trace, up to one behind the last: E01.
-    fn no_place_for_trace(&self, p: u32) -> Option<Refusal>
-        ensures { result ≡ no_place_for_trace self.now.state.volume p }
-    {
-        let count = self.count();
-        if p >= 1 && u64::from(p) <= u64::from(count) + 1 {
-            None
-        } else {
-            Some(Refusal::NoTrace(p, count))
-        }
-    }
-
-    // The refusal of one more trace of so many bytes: E09, E10.
-    fn room_refusal(&self, length: u64) -> Option<Refusal>
-        requires { length ≤ 2 ^ 40 }
-        ensures { result ≡ room_refusal self.now.state.volume self.now.state.limits length }
-    {
-        if self.overlay.length() + length > self.limits.bytes() {
-            return Some(Refusal::TooLarge);
-        }
-        if u64::from(self.overlay.count()) + 1 > u64::from(self.limits.traces()) {
-            return Some(Refusal::TooManyTraces);
-        }
-        None
-    }
-
-    // The first refusal of one more trace of so many bytes at place p: E01, E09, E10.
-    fn insert_refusal(&self, p: u32, length: u64) -> Option<Refusal>
-        requires { length ≤ 2 ^ 40 }
-        ensures { result ≡ insert_refusal self.now.state.volume self.now.state.limits p length }
-    {
-        match self.no_place_for_trace(p) {
-            Some(refusal) => Some(refusal),
-            None => self.room_refusal(length),
-        }
-    }
-
-    // The first refusal of a blank trace: E01, E09, E10.
-    fn blank_refusal(&self, p: u32) -> Option<Refusal>
-        ensures { result ≡ first_refusal self.now.state (edits.Blank p) }
-    {
-        self.insert_refusal(p, blank_length(&self.overlay.head()))
-    }
-
-    // The first refusal of a trace that is moved: E01.
-    fn move_refusal(&self, a: u32, b: u32) -> Option<Refusal>
-        ensures { result ≡ first_refusal self.now.state (edits.Move a b) }
-    {
-        match self.no_trace(a) {
-            Some(refusal) => Some(refusal),
-            None => self.no_trace(b),
-        }
-    }
-
-    // The first refusal of a trace that is copied: E01, E09, E10.
-    fn copy_refusal(&mut self, q: u32, p: u32) -> Option<Refusal>
-        ensures refusal { result ≡ first_refusal self.old.state (edits.Copy q p) }
-        ensures state { self.new.state ≡ self.old.state }
-        ensures looks { RisesAtMost self.old.looks self.new.looks 1 }
-    {
-        let length = match self.overlay.look(q) {
-            Some(trace) => trace.length(),
-            None => return Some(Refusal::NoTrace(q, self.count())),
-        };
-        self.insert_refusal(p, length)
-    }
-
-    // Where sample k of trace p begins in it, or the first refusal of values from there on: E01,
-    // E12, E04, E05.
-    fn patch_place(&mut self, p: u32, k: u32, values: &[i128]) -> Result<u64, Refusal>
-        ensures ok { OnOk result (first_refusal self.old.state (edits.Patch p k values.now)
-            ≡ None) }
-        ensures place { IfOk result (λ at. at ≡ sample_start self.old.state.volume p k) }
-        ensures err { IfErr result (λ refusal. first_refusal self.old.state
-            (edits.Patch p k values.now) ≡ Some refusal) }
-        ensures state { self.new.state ≡ self.old.state }
-        ensures looks { RisesAtMost self.old.looks self.new.looks 1 }
-    {
-        let format = self.overlay.head().format;
-        let Some(trace) = self.overlay.look(p) else {
-            return Err(Refusal::NoTrace(p, self.count()));
-        };
-        match patch_refusal(format, &trace, k, values) {
-            Some(refusal) => Err(refusal),
-            None => Ok(sample_place(format, &trace, k)),
         }
     }
 
@@ -129,7 +39,7 @@ impl LiveVolume {
         ensures step { Step self.old.state (edits.Patch p k values.now) result self.new.state }
         ensures looks { RisesAtMost self.old.looks self.new.looks 2 }
     {
-        let at = self.patch_place(p, k, values)?;
+        let at = patch_place(&mut self.overlay, p, k, values)?;
         self.put_values(alloc, p, k, at, values)
     }
 
@@ -163,7 +73,7 @@ impl LiveVolume {
         ensures step { Step self.old.state (edits.Blank p) result self.new.state }
         ensures looks { self.new.looks ≡ self.old.looks }
     {
-        match self.blank_refusal(p) {
+        match blank_refusal(&self.overlay, self.limits, p) {
             Some(refusal) => Err(refusal),
             None => self.insert_blank(alloc, p),
         }
@@ -189,7 +99,7 @@ impl LiveVolume {
         ensures step { Step self.old.state (edits.Copy q p) result self.new.state }
         ensures looks { RisesAtMost self.old.looks self.new.looks 2 }
     {
-        match self.copy_refusal(q, p) {
+        match copy_refusal(&mut self.overlay, self.limits, q, p) {
             Some(refusal) => Err(refusal),
             None => self.insert_copy(alloc, q, p),
         }
@@ -253,7 +163,7 @@ impl LiveVolume {
         ensures step { Step self.old.state (edits.Move a b) result self.new.state }
         ensures looks { self.new.looks ≡ self.old.looks }
     {
-        match self.move_refusal(a, b) {
+        match move_refusal(&self.overlay, a, b) {
             Some(refusal) => Err(refusal),
             None => self.put_elsewhere(alloc, a, b),
         }

@@ -12,6 +12,7 @@
 mod file_answers;
 mod of_headers;
 mod range_answers;
+mod refusals;
 mod report_answers;
 mod sample_answers;
 mod stanzas;
@@ -21,6 +22,7 @@ mod trace_answers;
 pub use crate::file_answers::{count_answer, fields_answer, get_bin_answer, info_answer};
 pub use crate::of_headers::head_facts;
 pub use crate::range_answers::{extremes_answer, found_answer, table_answer};
+pub use crate::refusals::{blank_refusal, copy_refusal, move_refusal, patch_place, value_refusal};
 pub use crate::report_answers::{
     cells, crosslines, faults, fold, geometry, histogram, inlines, range, stat, totals,
 };

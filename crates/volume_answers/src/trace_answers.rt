@@ -108,12 +108,12 @@ pub fn header_answer(
     Ok(Answer::Header(numbers))
 }
 
-/// Where trace p lies, from its record, where there is one. Takes no memory and looks at no trace.
+/// Where trace p lies, from its record where there is one. Takes no memory and looks at no trace.
 /// Refused: E01.
 pub fn geometry_answer(
+    trace: Option<Record>,
     overlay: &Overlay<PackedRecord>,
     p: u32,
-    trace: Option<Record>,
 ) -> Result<Answer, AskFault>
     ensures { (s : State) → s.volume ≡ overlay.now.volume → option_map facts_of trace ≡
         option_map (record_of s.volume.head s.fields) (trace_of s.volume p) →
@@ -125,12 +125,12 @@ pub fn geometry_answer(
     }
 }
 
-/// The statistics of the samples of trace p, from its record, where there is one. Takes no memory
+/// The statistics of the samples of trace p, from its record where there is one. Takes no memory
 /// and looks at no trace. Refused: E01, E12.
 pub fn stat_answer(
+    trace: Option<Record>,
     overlay: &Overlay<PackedRecord>,
     p: u32,
-    trace: Option<Record>,
 ) -> Result<Answer, AskFault>
     ensures { (s : State) → s.volume ≡ overlay.now.volume → option_map facts_of trace ≡
         option_map (record_of s.volume.head s.fields) (trace_of s.volume p) →

@@ -1,6 +1,0 @@
-use Rattle.std.proofs.Common.{◌≡◌, ◌++◌}
-use Rattle.live_volume.proofs.live_volume.LiveVolume.bound_fields.Given as goal
-
--- what was listed and what is left to list are all
-abbrev pub invariant-loop-name : goal.invariant-loop-name
-invariant-loop-name l = l.all.items ++ l.name-iterator ≡ l.initial.name-iterator

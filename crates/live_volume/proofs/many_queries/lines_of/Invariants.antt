@@ -1,8 +1,0 @@
-use Rattle.std.proofs.Common.{◌≡◌, map}
-use Rattle.std.specs.List.{range_with_len}
-use Rattle.text_block.specs.Lines.{shown_line}
-use Rattle.live_volume.proofs.many_queries.lines_of.Given as goal
-
--- the lines so far
-abbrev pub invariant-loop-before : goal.invariant-loop-before
-invariant-loop-before l = l.lines.items ≡ map (shown_line l.block) (range_with_len 1 l.before)

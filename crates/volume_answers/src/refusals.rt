@@ -1,0 +1,161 @@
+// The first refusals of edits of one trace, but for want of memory.
+ghost use Rattle.std.specs.Prelude.{◌≡◌, ◌+◌, ◌*◌, Some, None, IfOk, IfErr, OnOk};
+ghost use Rattle.sample_codes.specs.Formats.{width};
+ghost use Rattle.frame_cut.specs.Traces.{trace_at};
+ghost use Rattle.trace_view.specs.Values.{samples_at};
+ghost use Rattle.edit_overlay.specs.CountedVolume.{RisesAtMost};
+ghost use Rattle.bench_rules.specs.declared.edit.Edit.TheVariants as edits;
+ghost use Rattle.bench_rules.specs.declared.field.Field.TheVariants as fields;
+ghost use Rattle.bench_rules.specs.Refused.{first_refusal, no_trace as no_trace_in, no_place_for_trace as no_place_in, room_refusal as no_room_in, insert_refusal as not_in};
+ghost use Rattle.bench_rules.specs.State.{State};
+
+use crate::trace_answers::has_trace;
+use bench_rules::{Refusal, blank_length, patch_refusal, sample_place, set_refusal};
+use edit_overlay::Overlay;
+use field_map::Place;
+use frame_cut::Limits;
+use trace_record::PackedRecord;
+
+/// The first refusal of the value at the place of trace p: E01, E03, E04, E06. One look at most.
+/// Takes no memory.
+pub fn value_refusal(
+    overlay: &mut Overlay<PackedRecord>,
+    p: u32,
+    place: Place,
+    value: i128,
+) -> Option<Refusal>
+    ensures refusal { (s : State) → s.volume ≡ overlay.old.volume →
+        result ≡ first_refusal s (edits.Set p (fields.Place place) value) }
+    ensures volume { overlay.new.volume ≡ overlay.old.volume }
+    ensures prepared { overlay.new.prepared ≡ overlay.old.prepared }
+    ensures payloads { overlay.new.payloads ≡ overlay.old.payloads }
+    ensures looks { RisesAtMost overlay.old.looks overlay.new.looks 1 }
+{
+    let head = overlay.head();
+    let Some(trace) = overlay.look(p) else {
+        return Some(Refusal::NoTrace(p, overlay.count()));
+    };
+    set_refusal(head.order, &trace, place, value)
+}
+
+/// Where sample k of trace p begins in it, or the first refusal of values from there on: E01, E12,
+/// E04, E05. One look at most. Takes no memory.
+pub fn patch_place(
+    overlay: &mut Overlay<PackedRecord>,
+    p: u32,
+    k: u32,
+    values: &[i128],
+) -> Result<u64, Refusal>
+    ensures ok { OnOk result ((s : State) → s.volume ≡ overlay.old.volume →
+        first_refusal s (edits.Patch p k values.now) ≡ None) }
+    ensures place { IfOk result (λ at. at ≡ samples_at overlay.old.volume.head
+        (trace_at overlay.old.volume p) + width overlay.old.volume.head.format * k) }
+    ensures err { IfErr result (λ refusal. (s : State) → s.volume ≡ overlay.old.volume →
+        first_refusal s (edits.Patch p k values.now) ≡ Some refusal) }
+    ensures volume { overlay.new.volume ≡ overlay.old.volume }
+    ensures prepared { overlay.new.prepared ≡ overlay.old.prepared }
+    ensures payloads { overlay.new.payloads ≡ overlay.old.payloads }
+    ensures looks { RisesAtMost overlay.old.looks overlay.new.looks 1 }
+{
+    let format = overlay.head().format;
+    let Some(trace) = overlay.look(p) else {
+        return Err(Refusal::NoTrace(p, overlay.count()));
+    };
+    match patch_refusal(format, &trace, k, values) {
+        Some(refusal) => Err(refusal),
+        None => Ok(sample_place(format, &trace, k)),
+    }
+}
+
+/// The first refusal of a blank trace in front of trace p, or behind the last: E01, E09, E10. Takes
+/// no memory.
+pub fn blank_refusal(overlay: &Overlay<PackedRecord>, limits: Limits, p: u32) -> Option<Refusal>
+    ensures { (s : State) → s.volume ≡ overlay.now.volume → s.limits ≡ limits →
+        result ≡ first_refusal s (edits.Blank p) }
+{
+    insert_refusal(overlay, limits, p, blank_length(&overlay.head()))
+}
+
+/// The first refusal of a copy of trace q in front of trace p, or behind the last: E01, E09, E10.
+/// One look at most. Takes no memory.
+pub fn copy_refusal(
+    overlay: &mut Overlay<PackedRecord>,
+    limits: Limits,
+    q: u32,
+    p: u32,
+) -> Option<Refusal>
+    ensures refusal { (s : State) → s.volume ≡ overlay.old.volume → s.limits ≡ limits →
+        result ≡ first_refusal s (edits.Copy q p) }
+    ensures volume { overlay.new.volume ≡ overlay.old.volume }
+    ensures prepared { overlay.new.prepared ≡ overlay.old.prepared }
+    ensures payloads { overlay.new.payloads ≡ overlay.old.payloads }
+    ensures looks { RisesAtMost overlay.old.looks overlay.new.looks 1 }
+{
+    let length = match overlay.look(q) {
+        Some(trace) => trace.length(),
+        None => return Some(Refusal::NoTrace(q, overlay.count())),
+    };
+    insert_refusal(overlay, limits, p, length)
+}
+
+/// The first refusal of trace a as trace b: E01. Takes no memory.
+pub fn move_refusal(overlay: &Overlay<PackedRecord>, a: u32, b: u32) -> Option<Refusal>
+    ensures { (s : State) → s.volume ≡ overlay.now.volume →
+        result ≡ first_refusal s (edits.Move a b) }
+{
+    match no_trace(overlay, a) {
+        Some(refusal) => Some(refusal),
+        None => no_trace(overlay, b),
+    }
+}
+
+// The first refusal of a trace's number: E01.
+fn no_trace(overlay: &Overlay<PackedRecord>, p: u32) -> Option<Refusal>
+    ensures { result ≡ no_trace_in overlay.now.volume p }
+{
+    if has_trace(overlay, p) {
+        None
+    } else {
+        Some(Refusal::NoTrace(p, overlay.count()))
+    }
+}
+
+// The first refusal of one more trace of so many bytes at place p: E01, E09, E10.
+fn insert_refusal(
+    overlay: &Overlay<PackedRecord>,
+    limits: Limits,
+    p: u32,
+    length: u64,
+) -> Option<Refusal>
+    ensures { result ≡ not_in overlay.now.volume limits p length }
+{
+    match no_place_for_trace(overlay, p) {
+        Some(refusal) => Some(refusal),
+        None => room_refusal(overlay, limits, length),
+    }
+}
+
+// The first refusal of a place for a trace, up to one behind the last: E01.
+fn no_place_for_trace(overlay: &Overlay<PackedRecord>, p: u32) -> Option<Refusal>
+    ensures { result ≡ no_place_in overlay.now.volume p }
+{
+    let count = overlay.count();
+    if p >= 1 && u64::from(p) <= u64::from(count) + 1 {
+        None
+    } else {
+        Some(Refusal::NoTrace(p, count))
+    }
+}
+
+// The refusal of one more trace of so many bytes: E09, E10.
+fn room_refusal(overlay: &Overlay<PackedRecord>, limits: Limits, length: u64) -> Option<Refusal>
+    ensures { result ≡ no_room_in overlay.now.volume limits length }
+{
+    if length > limits.bytes() || overlay.length() > limits.bytes() - length {
+        return Some(Refusal::TooLarge);
+    }
+    if u64::from(overlay.count()) + 1 > u64::from(limits.traces()) {
+        return Some(Refusal::TooManyTraces);
+    }
+    None
+}

@@ -2,10 +2,10 @@
 // them; what is told then is worked by hand. A test makes the tables of the records as they are
 // before and after, and lends them to functions that have reports counted: the check of a function
 // that owns tables or reports takes the longer the more it does.
-ghost use Rattle.std.specs.Prelude.{◌≡◌, ◌∷◌, [], length, IfOk, OnOk};
+ghost use Rattle.std.specs.Prelude.{◌≡◌, ◌+◌, ◌≤◌, ◌∷◌, [], length, IfOk, OnOk};
 ghost use Rattle.live_reports.specs.OfRecords.{AreReportsOf};
 
-use crate::tables::table_of;
+use crate::tables::{list_of, table_of};
 use fault_live::{Fault, HeadFacts};
 use key_counts::Ratio;
 use live_reports::{LiveReports, same_cells};
@@ -104,6 +104,7 @@ fn exchange_second(
 
 // Others stand in for both of two traces at once.
 fn exchange_both(
+    alloc: Global,
     reports: &mut LiveReports,
     records: &Records,
     first: &Record,
@@ -117,12 +118,14 @@ fn exchange_both(
     requires new_second { new_second.now.number ≡ 2 }
     ensures { OnOk result (AreReportsOf reports.new (new_first.now ∷ new_second.now ∷ [])) }
 {
-    reports.exchange_each(records, 0, &[*new_first, *new_second])?;
+    let new = list_of(alloc, &[*new_first, *new_second])?;
+    reports.exchange_each(records, 0, &new)?;
     Ok(())
 }
 
 // No trace stands in for none, and then one for the second of two.
 fn exchange_behind(
+    alloc: Global,
     reports: &mut LiveReports,
     records: &Records,
     first: &Record,
@@ -136,9 +139,11 @@ fn exchange_behind(
     requires new { new.now.number ≡ 2 }
     ensures { OnOk result (AreReportsOf reports.new (first.now ∷ new.now ∷ [])) }
 {
-    reports.exchange_each(records, 1, &[])?;
-    reports.exchange_each(records, 2, &[])?;
-    reports.exchange_each(records, 1, &[*new])?;
+    let none = list_of(alloc, &[])?;
+    reports.exchange_each(records, 1, &none)?;
+    reports.exchange_each(records, 2, &none)?;
+    let one = list_of(alloc, &[*new])?;
+    reports.exchange_each(records, 1, &one)?;
     Ok(())
 }
 
@@ -268,15 +273,30 @@ fn tells_of_another_second(
     Ok(())
 }
 
+// Whether the records of this list have the cells of those from a place on.
+fn has_cells(alloc: Global, records: &Records, place: usize, new: &[Record]) -> Result<bool, Fail>
+    requires { place + length new.now ≤ length records.now }
+{
+    let list = list_of(alloc, new)?;
+    Ok(same_cells(records, place, &list))
+}
+
 // The cells of two records, compared with those of others.
-fn has_the_cells(rt: &impl Abort, records: &Records, moved: Record, second: Record)
+fn has_the_cells(
+    rt: &impl Abort,
+    alloc: Global,
+    records: &Records,
+    moved: Record,
+    second: Record,
+) -> Result<(), Fail>
     requires { length records.now ≡ 2 }
 {
-    assert!(rt; same_cells(records, 0, &[moved, second]));
-    assert!(rt; same_cells(records, 0, &[deep_trace()]));
-    assert!(rt; same_cells(records, 2, &[]));
-    assert!(rt; !same_cells(records, 0, &[moved, deep_trace()]));
-    assert!(rt; !same_cells(records, 1, &[moved]));
+    assert!(rt; has_cells(alloc, records, 0, &[moved, second])?);
+    assert!(rt; has_cells(alloc, records, 0, &[deep_trace()])?);
+    assert!(rt; has_cells(alloc, records, 2, &[])?);
+    assert!(rt; !has_cells(alloc, records, 0, &[moved, deep_trace()])?);
+    assert!(rt; !has_cells(alloc, records, 1, &[moved])?);
+    Ok(())
 }
 
 #[test]
@@ -287,8 +307,8 @@ fn compares_cells(rt: HostRuntime) -> Result<(), Fail> {
     if records.len() != 2 {
         return Err(Fail::from("not two records"));
     }
-    has_the_cells(&rt, &records, trace_at(3, 21, 300000), second);
-    Ok(())
+    let moved = trace_at(3, 21, 300000);
+    has_the_cells(&rt, rt.alloc(), &records, moved, second)
 }
 
 // A trace stands in for the second of two, so that it repeats the first.
@@ -345,7 +365,7 @@ fn exchanges_behind(
 {
     let mut reports = pair(alloc, old, first, second)?;
     insert_and_take_back(&mut reports, old, first, second, third)?;
-    exchange_behind(&mut reports, old, first, second, third)?;
+    exchange_behind(alloc, &mut reports, old, first, second, third)?;
     tells_of_another_second(rt, alloc, &reports, new)?;
     Ok(reports)
 }
@@ -367,7 +387,7 @@ fn exchanges_two(
     requires moved { moved.now.number ≡ 2 }
     requires deep { deep.now.number ≡ 2 }
 {
-    exchange_both(reports, old, first, third, moved, deep)?;
+    exchange_both(alloc, reports, old, first, third, moved, deep)?;
     tells_of_a_repeat(rt, alloc, reports, new, Ratio::whole(3000))
 }
 

@@ -8,7 +8,7 @@ use crate::puts::{is_trace, may_put};
 use edit_overlay::{Loading, Overlay};
 use field_map::FieldMap;
 use frame_cut::{Limits, Reading};
-use record_table::Records;
+use record_table::{RecordList, Records};
 use std::alloc::Global;
 use std::test::Fail;
 use trace_record::{PackedRecord, Record};
@@ -68,7 +68,7 @@ fn prepared_two(
     fields: &FieldMap,
     at: u64,
     bytes: &[u8; 4],
-) -> Result<Vec<Record>, Fail>
+) -> Result<RecordList, Fail>
     requires { fields.now.extensions ≡ volume.old.volume.head.extensions }
 {
     if !may_put(volume, 2, at, &bytes[..2]) {
@@ -103,8 +103,8 @@ fn tells_two(
     requires { fields.now.extensions ≡ volume.old.volume.head.extensions }
 {
     let two = prepared_two(alloc, volume, fields, 190, &[1, 4, 2, 5])?;
-    let is_told = match two.as_slice() {
-        [second, third] => says(second, 260, 1, 6) && says(third, 517, 2, 262),
+    let is_told = match (two.get(0), two.get(1), two.get(2)) {
+        (Some(second), Some(third), None) => says(&second, 260, 1, 6) && says(&third, 517, 2, 262),
         _ => false,
     };
     let held = Records::new(volume.payloads());

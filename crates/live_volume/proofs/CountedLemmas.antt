@@ -1,13 +1,13 @@
 -- Values counted up over a place whose bytes tell no length: where the first and the last fit it, none is refused.
-use Rattle.std.proofs.Common.{◌≡◌, ◌⊎◌, ℕ, ℤ, ◌+◌, ◌*◌, ◌-◌, ◌^◌, ◌<◌, ◌≤◌, pos, negsuc, suc, ◌+ℤ◌, ◌-ℤ◌, ◌*ℤ◌, ◌≤ℤ◌, ◌<ℤ◌, T, Bool, true, false, ◌&&◌, ◌||◌, leb, List, length, Option, Some, None, inl, inr, refl, sym, ap, subst, ◌∙◌, arith}
+use Rattle.std.proofs.Common.{◌≡◌, ◌⊎◌, ℕ, ℤ, ◌+◌, ◌*◌, ◌-◌, ◌^◌, ◌<◌, ◌≤◌, pos, negsuc, suc, ◌+ℤ◌, ◌-ℤ◌, ◌≤ℤ◌, ◌<ℤ◌, T, Bool, true, false, ◌&&◌, ◌||◌, List, length, Some, None, inl, inr, refl, sym, ap, subst, ◌∙◌, arith}
 use Rattle.std.specs.Bool.{OnTrue}
-use Rattle.std.specs.Prelude.{int_le, int_lt, neg_ℤ, nat_le, nat_lt, ◌==◌}
+use Rattle.std.specs.Prelude.{int_le, int_lt, neg_ℤ, nat_le, ◌==◌}
 use Rattle.std.proofs.Math.Bool.{or-true}
 use Rattle.std.proofs.Math.Nat.{mul-le-mul_left}
 use Rattle.std.proofs.lemmas.Bool.{le-leb, leb-true, ltb-true, eqb-true}
 use Rattle.std.proofs.lemmas.Int.{ints}
 use Rattle.num_order.specs.declared.kind.Kind.{Kind}
-use Rattle.num_order.specs.Number.{bytes, fits, is_between, is_size}
+use Rattle.num_order.specs.Number.{bytes, fits, is_between}
 use Rattle.num_order.proofs.InRangeLemmas.{length-number}
 use Rattle.field_map.specs.declared.place.Place.{Place}
 use Rattle.field_map.specs.Places.{offset_of}
@@ -16,12 +16,11 @@ use Rattle.frame_cut.specs.Cuts.{IsTrace, IsCut}
 use Rattle.frame_cut.specs.Frames.{extensions_of, trace_length}
 use Rattle.frame_cut.specs.Splice.{splice}
 use Rattle.frame_cut.specs.Traces.{count_of, is_trace, trace_at}
-use Rattle.frame_cut.specs.Volume.{Volume, bytes_of}
+use Rattle.frame_cut.specs.Volume.{bytes_of}
 use Rattle.trace_view.specs.Counted.{leave_length, share_no_byte}
 use Rattle.trace_view.specs.Values.{has_place, is_in_header}
 use Rattle.trace_view.proofs.CountedLemmas.{length-kept}
 use Rattle.bench_rules.specs.declared.field.Field.TheVariants as field
-use Rattle.bench_rules.specs.declared.refusal.Refusal.{Refusal}
 use Rattle.bench_rules.specs.Refused.{with_value, set_refusal, first_refusal_among}
 use Rattle.bench_rules.specs.State.{State}
 use Rattle.bench_rules.specs.TraceEdits.{counted, numbers}

@@ -443,7 +443,7 @@ impl<T: Copy> TraceStore<T> {
     {
         let id = self.id(p);
         match self.slots.get(id) {
-            Some(slot) => slot.runs_with(alloc, self.loaded.as_slice(), at, bytes),
+            Some(slot) => slot.runs_with(alloc, at, bytes),
             None => unreachable!(),
         }
     }

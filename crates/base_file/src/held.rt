@@ -69,6 +69,7 @@ impl Held {
     }
 
     /// The bytes, where they are in memory. Takes no memory.
+    #[inline]
     pub fn bytes(&self) -> &[u8]
         requires { IsInMemory self.now.standing }
         ensures { result.now ≡ self.now.bytes }

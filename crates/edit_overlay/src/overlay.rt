@@ -65,7 +65,7 @@ impl<T: Copy> Overlay<T> {
         looks: u64,
     ) -> Overlay<T>
         requires ends { HasEnds store }
-        requires joined { bytes_of (volume_with text bin store) ≡ store.loaded.items }
+        requires joined { bytes_of (volume_with text bin store) ≡ store.loaded.bytes }
         ensures { result ≡ record {
           volume = volume_with text bin store;
           prepared = volume_with text
@@ -75,7 +75,7 @@ impl<T: Copy> Overlay<T> {
           payloads_prepared = payloads_of store;
         } }
     {
-        let length = store.loaded.len() as u64;
+        let length = store.loaded.length();
         Overlay {
             text,
             bin,
@@ -246,7 +246,7 @@ impl<T: Copy> Overlay<T> {
             return None;
         }
         let at = FILE_HEADER_BYTES + TEXT_BLOCK_BYTES * (b as usize - 1);
-        Some(array_at(self.store.loaded.as_slice(), at))
+        Some(array_at(self.store.loaded.bytes(), at))
     }
 
     /// Data trailer record j, counted from 1, where there is one.
@@ -259,9 +259,10 @@ impl<T: Copy> Overlay<T> {
         if j > self.store.head.trailer {
             return None;
         }
-        let start = self.store.loaded.len() - TEXT_BLOCK_BYTES * self.store.head.trailer as usize;
+        let length = self.store.loaded.length() as usize;
+        let start = length - TEXT_BLOCK_BYTES * self.store.head.trailer as usize;
         let at = start + TEXT_BLOCK_BYTES * (j as usize - 1);
-        Some(array_at(self.store.loaded.as_slice(), at))
+        Some(array_at(self.store.loaded.bytes(), at))
     }
 
     /// Writes line q of the textual header, from 1 to 40. Takes no memory.

@@ -23,7 +23,8 @@ pub fn write_spliced<B: Base, W: Write>(
     ensures bytes { B.bytes base.new ≡ B.bytes base.old }
     ensures falls { IsTrue (B.agreed base.new) → IsTrue (B.agreed base.old) }
     ensures saved { OnOk result (IsTrue (B.agreed base.new) →
-        Appends (W.contents out.old) (W.contents out.new) (spliced (B.bytes base.old) 0 edits.now)) }
+        Appends (W.contents out.old) (W.contents out.new)
+        (spliced (B.bytes base.old) 0 edits.now)) }
 {
     let end = base.length();
     let mut at = 0;

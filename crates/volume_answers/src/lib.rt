@@ -1,4 +1,5 @@
-//! The answers of queries over a volume under edits, its field map and its running reports.
+//! The answers of queries over a volume under edits, its field map and its running reports, and the
+//! first refusals of edits of one trace.
 //!
 //! Each contract speaks of every state that fits what the call is lent: the volume of an overlay,
 //! the pairs of a field map, the records beside the traces, or what a report has counted. So one who

@@ -9,7 +9,8 @@
 //!
 //! An edit has two parts: what is [`Prepared`] takes all the memory and changes nothing, and
 //! `commit`, which takes none and cannot fail, makes the edit. [`Rows`] go over all traces with
-//! their payloads, in order and without a search; a [`Column`] lends the payloads alone. The only error is `OutOfMemory`, and then nothing is changed.
+//! their payloads, in order and without a search; a [`Column`] lends the payloads alone. The only
+//! error is `OutOfMemory`, and then nothing is changed.
 #![tactic(auto)]
 
 mod ahead;

@@ -44,9 +44,11 @@ abbrev pub lent_by : Standing → List ℕ → List ℕ → ℕ → ℕ → List
 lent_by InMemory bytes room at n = take n (drop at bytes)
 lent_by (OnDisk agreed) bytes room at n = take n room
 
+-- what is lent: so many bytes from a place on, or on disk the front of the room
 abbrev pub lent_of : HeldBytes → ℕ → ℕ → List ℕ
 lent_of h at n = lent_by h.standing h.bytes h.room at n
 
+-- so many bytes from a place on lie in memory, or on disk fit the room
 abbrev pub are_there : Standing → List ℕ → List ℕ → ℕ → ℕ → Type 0
 are_there InMemory bytes room at n = at + n ≤ length bytes
 are_there (OnDisk agreed) bytes room at n = n ≤ length room

@@ -13,8 +13,8 @@ use std::alloc::Global;
 use std::fs::File;
 use std::marker::Model;
 
-/// The bytes under a volume, in memory or on disk, with room for what is lent of them: a clause sees
-/// those that were loaded, their standing, and what was read last. Places count from 0.
+/// The bytes under a volume, in memory or on disk, with room for what is lent of them: a clause
+/// sees those that were loaded, their standing, and what was read last. Places count from 0.
 #[derive(Drop)]
 pub struct Held {
     source: Source,
@@ -80,8 +80,8 @@ impl Held {
         }
     }
 
-    /// Lends n bytes from `at` on. Takes no memory. Refused where the file failed or has fewer bytes
-    /// than it had, and where they are more than there is room for; of bytes in memory never.
+    /// Lends n bytes from `at` on. Takes no memory. Refused where the file failed or has fewer
+    /// bytes than it had, and where they are more than there is room for; of bytes in memory never.
     pub fn lend(&mut self, at: u64, n: usize) -> Result<&[u8], ReadFault>
         requires { at + n ≤ length self.old.bytes }
         ensures* ends { sem 𝓛 (EndsLent self.entry at n result) }
@@ -92,9 +92,9 @@ impl Held {
         Ok(self.lent(at, n))
     }
 
-    /// Lends a trace of n bytes from `at` on, under the head of its file. Takes no memory. Refused as
-    /// `lend`, and where what the file gives now is no whole trace: so what is lent is one, whatever
-    /// the file gives.
+    /// Lends a trace of n bytes from `at` on, under the head of its file. Takes no memory. Refused
+    /// as `lend`, and where what the file gives now is no whole trace: so what is lent is one,
+    /// whatever the file gives.
     pub fn lend_trace(&mut self, head: &Head, at: u64, n: usize) -> Result<&[u8], ReadFault>
         requires { at + n ≤ length self.old.bytes }
         ensures* ends { sem 𝓛 (EndsLent self.entry at n result) }

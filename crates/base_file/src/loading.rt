@@ -34,8 +34,8 @@ impl<F: FileExt> Loading<F> {
         }
     }
 
-    /// The next bytes, into the front of the block: how many, and 0 at the end or where the block is
-    /// empty. Takes no memory. Refused where the file failed, and where there are more than 2^62
+    /// The next bytes, into the front of the block: how many, and 0 at the end or where the block
+    /// is empty. Takes no memory. Refused where the file failed, and where there are more than 2^62
     /// bytes; the pass then stands where it stood.
     pub fn next(&mut self, block: &mut [u8]) -> Result<usize, ReadFault>
         ensures bound { IfOk result (λ n. n ≤ length block.new) }

@@ -10,8 +10,9 @@ use crate::save_fault::SaveFault;
 use std::io::Write;
 
 /// Writes the bytes of the base with the edits over them, in blocks of at most as many bytes as
-/// `room` has. The edits rise, share no byte and lie inside the base. Takes no memory. Refused where
-/// the base could not be read, and where the writer failed; the writer may then have taken some.
+/// `room` has. The edits rise, share no byte and lie inside the base. Takes no memory. Refused
+/// where the base could not be read, and where the writer failed; the writer may then have taken
+/// some.
 pub fn write_spliced<B: Base, W: Write>(
     base: &mut B,
     edits: &[Edit],

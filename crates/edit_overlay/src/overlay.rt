@@ -159,9 +159,9 @@ impl<T: Copy> Overlay<T> {
 
     /// A pass over all traces as they are now with their payloads, in order, and one look more for
     /// each. The looks are counted where the pass is made, however far it goes. It is for a caller
-    /// that needs of each trace what stands near byte `at`, counted from 0 in the trace: those bytes
-    /// of the next traces are read together, which is faster, and shows the same. A trace need not
-    /// have the byte. Takes no memory.
+    /// that needs of each trace what stands near byte `at`, counted from 0 in the trace: those
+    /// bytes of the next traces are read together, which is faster, and shows the same. A trace
+    /// need not have the byte. Takes no memory.
     pub fn pass_near(&mut self, at: u64) -> Pass<'_, T>
         ensures* counts { sem 𝓛 (EndsPassed T.row self.entry) }
         ensures volume { volume_of result ≡ self.old.volume }

@@ -108,8 +108,8 @@ impl LiveVolume {
     }
 
     /// One edit: done, and the reports follow it; or refused, and all is as it was. `Set`, `Map`,
-    /// `Patch`, `Blank`, `Copy`, `Move`, `Resize`, `Renumber`, `Compute` and `Sort` take memory, and
-    /// are refused for want of it, E11, only where nothing else refuses them.
+    /// `Patch`, `Blank`, `Copy`, `Move`, `Resize`, `Renumber`, `Compute` and `Sort` take memory,
+    /// and are refused for want of it, E11, only where nothing else refuses them.
     pub fn apply(&mut self, alloc: Global, edit: &Edit) -> Result<(), Refusal>
         ensures step { Step self.old.state edit.now result self.new.state }
         ensures looks { RisesAtMost self.old.looks self.new.looks

@@ -46,8 +46,8 @@ impl<T: Copy> Slot<T> {
         }
     }
 
-    /// The runs with these bytes laid over the trace from place `at` on, counted from 0, whatever the
-    /// loaded file is: its bytes are not read. Takes memory. Refused for want of it alone.
+    /// The runs with these bytes laid over the trace from place `at` on, counted from 0, whatever
+    /// the loaded file is: its bytes are not read. Takes memory. Refused for want of it alone.
     pub fn runs_with(&self, alloc: Global, at: u64, bytes: &[u8]) -> Result<Vec<Run>, OutOfMemory>
         requires fit { Fit self.now.runs.items (size_of self.now.base) }
         requires some { 0 < length bytes.now }

@@ -1,14 +1,11 @@
 #!/usr/bin/env bash
 # No line of code in a .rt file is longer than 100 columns. Lines that import words of specifications may be, and lines that
-# the formatter cannot break: attributes and ghost fields. Comments, clauses and the rows of tables with their meanings have
-# up to 132, but for one comment each of two low crates, whose change would have all above them proved anew: they are to go
-# with the next change there.
+# the formatter cannot break: attributes and ghost fields. The rows of tables with their meanings have up to 132.
 set -u
 cd "$(dirname "$0")/.."
 long=$(git ls-files 'crates/*.rt' 2>/dev/null | xargs -r env LC_ALL=C.UTF-8 grep -nE '^.{101,}' |
     grep -vE '^[^:]*:[0-9]*: *(ghost use|#\[tactic\(|pub ghost [a-z_]*:|.* \} by \{ [A-Za-z]*-prop )' |
-    grep -vE '^[^:]*:[0-9]*:( *//| *(ensures|requires) | *\(".*\), // ).{0,125}$' |
-    grep -vE '^crates/(frame_cut|trace_store)/src/lib\.rt:[0-9]*://! ')
+    grep -vE '^[^:]*:[0-9]*:( *\(".*\), // ).{0,125}$')
 if [ -n "$long" ]; then
     printf 'lines of more than 100 columns:\n%s\n' "$long"
     exit 1

@@ -58,8 +58,8 @@ pub fn is_moved(before: Option<(i32, i32)>, after: Option<(i32, i32)>) -> bool
     }
 }
 
-/// Forgets the slices that an edit may have changed; `moved` tells whether a set, or a field of many
-/// traces counted up or computed, gave a trace another inline or crossline. Takes no memory.
+/// Forgets the slices that an edit may have changed; `moved` tells whether a set, or a field of
+/// many traces counted up or computed, gave a trace another inline or crossline. Takes no memory.
 pub fn follow(slices: &mut SliceCache, edit: &Edit, moved: bool)
     ensures entries { slices.new.entries ≡ entries_after moved edit.now slices.old.entries }
     ensures capacity { slices.new.capacity ≡ slices.old.capacity }

@@ -47,7 +47,8 @@ pub enum Edit {
     /// the steps, strictly one after another, on whole numbers of that trace as it was: whole or
     /// not at all. Refused, in this order: E01 for a, E01 for b, E02 where a field has no place,
     /// then the first refusal of the lowest trace that has one: E03 where it lacks a place, E13 or
-    /// E04 of the first step that has no number, E04 where the last one does not fit the field, E06.
+    /// E04 of the first step that has no number, E04 where the last one does not fit the field,
+    /// E06.
     Compute(u32, u32, Field, Operand, Items<(Operator, Operand)>),
     /// `Sort(a, b, fields, falling)`: traces a to b in the order of the numbers of these fields, of
     /// which the first two that differ tell; those with the same numbers stand as they stood. The

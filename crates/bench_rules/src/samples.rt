@@ -14,8 +14,8 @@ use field_map::TRACE_HEADER_BYTES;
 use sample_codes::Format;
 use trace_view::TraceView;
 
-/// The answer on sample k of the trace: E12 where samples have no values; E05 names the greater of k
-/// and the number of samples.
+/// The answer on sample k of the trace: E12 where samples have no values; E05 names the greater of
+/// k and the number of samples.
 pub fn trace_sample(trace: &TraceView<'_>, k: u32) -> Result<Answer, AskFault>
     ensures { result ≡ sample_reply (head_of trace.now) (bytes_of trace.now) k }
 {

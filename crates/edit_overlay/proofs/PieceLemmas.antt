@@ -1,5 +1,5 @@
 -- Traces that lie one behind the other in a file, and its blocks by their numbers.
-use Rattle.std.proofs.Common.{◌≡◌, ℕ, suc, zero, ◌+◌, ◌-◌, ◌*◌, ◌<◌, ◌≤◌, List, [], ◌∷◌, ◌++◌, length, take, drop, get_or, refl, ap, subst, ◌∙◌, arith, Option, Some, None, slice_get, All, length-append, length-take, length-drop}
+use Rattle.std.proofs.Common.{◌≡◌, ℕ, suc, zero, ◌+◌, ◌-◌, ◌*◌, ◌<◌, ◌≤◌, List, [], ◌∷◌, length, take, drop, get_or, refl, ap, subst, ◌∙◌, arith, Option, Some, None, slice_get, All}
 use Rattle.std.proofs.lemmas.List.{drop-drop, length-map}
 use Rattle.std.proofs.lemmas.List.Elements.{All-get_or}
 use Rattle.frame_cut.specs.declared.extent.Extent.{Extent}
@@ -9,7 +9,6 @@ use Rattle.frame_cut.specs.declared.reading.Reading.{Reading}
 use Rattle.frame_cut.specs.Cuts.{IsCut, IsTrace}
 use Rattle.frame_cut.specs.Heads.{blocks_of}
 use Rattle.frame_cut.specs.Volume.{Volume}
-use Rattle.frame_cut.specs.Splice.{splice}
 use Rattle.frame_cut.specs.Layout.{bytes_at, pieces, AreContiguous, volume_at, AreTracesOf}
 use Rattle.frame_cut.specs.Parts.{block_of, trailer_of}
 

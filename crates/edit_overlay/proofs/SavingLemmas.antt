@@ -137,32 +137,32 @@ length-waits loaded w l = omega (arith, w.in_order, l, length-take (w.to - w.fro
 
 module _ {T : Type 0} (s : TraceStore T) (passed : List ℕ) (id : ℕ) (rest : List ℕ) (ids : passed ++ id ∷ rest ≡ s.order.ids) where
   -- an id of the order has a slot
-  pub slot_here : (slot : Slot T) → get s.slots id ≡ Some slot → IsSlot s.loaded.items s.head slot
+  pub slot_here : (slot : Slot T) → get s.slots id ≡ Some slot → IsSlot s.loaded.bytes s.head slot
   slot_here slot e =
       let held : 0 < times id s.order.ids = omega (arith, ap (λ (xs : List ℕ). times id xs) ids, times-append id passed (id ∷ rest), times-self id rest) in
-      subst (λ (o : Option (Slot T)). IsSomeAnd o (IsSlot s.loaded.items s.head)) e (s.sound.held id held)
+      subst (λ (o : Option (Slot T)). IsSomeAnd o (IsSlot s.loaded.bytes s.head)) e (s.sound.held id held)
 
   pub no_slot : get s.slots id ≡ None → ⊥
   no_slot e =
       let held : 0 < times id s.order.ids = omega (arith, ap (λ (xs : List ℕ). times id xs) ids, times-append id passed (id ∷ rest), times-self id rest) in
-      subst (λ (o : Option (Slot T)). IsSomeAnd o (IsSlot s.loaded.items s.head)) e (s.sound.held id held)
+      subst (λ (o : Option (Slot T)). IsSomeAnd o (IsSlot s.loaded.bytes s.head)) e (s.sound.held id held)
 
   -- its trace stands between those in front and those behind
   pub traces_here : (slot : Slot T) → get s.slots id ≡ Some slot
-      → (concat (map (bytes_under s.loaded.items s.slots) passed) ++ bytes_in s.loaded.items slot) ++ concat (map (bytes_under s.loaded.items s.slots) rest) ≡ concat (traces_of s)
+      → (concat (map (bytes_under s.loaded.bytes s.slots) passed) ++ bytes_in s.loaded.bytes slot) ++ concat (map (bytes_under s.loaded.bytes s.slots) rest) ≡ concat (traces_of s)
   traces_here slot e =
-      let f : ℕ → List ℕ = bytes_under s.loaded.items s.slots in
-      let here : f id ≡ bytes_in s.loaded.items slot = rw e refl in
-      append_assoc (concat (map f passed)) (bytes_in s.loaded.items slot) (concat (map f rest))
+      let f : ℕ → List ℕ = bytes_under s.loaded.bytes s.slots in
+      let here : f id ≡ bytes_in s.loaded.bytes slot = rw e refl in
+      append_assoc (concat (map f passed)) (bytes_in s.loaded.bytes slot) (concat (map f rest))
       ∙ ap (λ (t : List ℕ). concat (map f passed) ++ (t ++ concat (map f rest))) (sym here)
       ∙ sym (concat-append (map f passed) (map f (id ∷ rest)))
       ∙ ap (λ (ts : List (List ℕ)). concat ts) (sym (map-append f passed (id ∷ rest)) ∙ ap (λ (xs : List ℕ). map f xs) ids)
 
   -- and those in front, with it
-  pub traces_passed : (slot : Slot T) → get s.slots id ≡ Some slot → concat (map (bytes_under s.loaded.items s.slots) passed) ++ bytes_in s.loaded.items slot ≡ concat (map (bytes_under s.loaded.items s.slots) (passed ++ id ∷ []))
+  pub traces_passed : (slot : Slot T) → get s.slots id ≡ Some slot → concat (map (bytes_under s.loaded.bytes s.slots) passed) ++ bytes_in s.loaded.bytes slot ≡ concat (map (bytes_under s.loaded.bytes s.slots) (passed ++ id ∷ []))
   traces_passed slot e =
-      let f : ℕ → List ℕ = bytes_under s.loaded.items s.slots in
-      let here : bytes_in s.loaded.items slot ≡ f id ++ [] = rw (e, append-nil (bytes_in s.loaded.items slot)) refl in
+      let f : ℕ → List ℕ = bytes_under s.loaded.bytes s.slots in
+      let here : bytes_in s.loaded.bytes slot ≡ f id ++ [] = rw (e, append-nil (bytes_in s.loaded.bytes slot)) refl in
       ap (λ (t : List ℕ). concat (map f passed) ++ t) here ∙ sym (concat-append (map f passed) (map f (id ∷ []))) ∙ ap (λ (ts : List (List ℕ)). concat ts) (sym (map-append f passed (id ∷ [])))
 
 -- ---- a whole save
@@ -211,9 +211,9 @@ waits_first old loaded w start all come = record {
 -- the parts of a save are the bytes of the volume
 module _ {T : Type 0} where
   pub parts_joined : (text bin : List ℕ) (s : TraceStore T) → HasEnds s
-      → (((text ++ bin) ++ slice_range s.loaded.items 3600 s.head.traces_at) ++ concat (traces_of s)) ++ slice_range s.loaded.items (length s.loaded.items - 3200 * s.head.trailer) (length s.loaded.items) ≡ bytes_of (volume_with text bin s)
+      → (((text ++ bin) ++ slice_range s.loaded.bytes 3600 s.head.traces_at) ++ concat (traces_of s)) ++ slice_range s.loaded.bytes (length s.loaded.bytes - 3200 * s.head.trailer) (length s.loaded.bytes) ≡ bytes_of (volume_with text bin s)
   parts_joined text bin s ends =
-      let file : List ℕ = s.loaded.items in
+      let file : List ℕ = s.loaded.bytes in
       let tail : ℕ = length file - 3200 * s.head.trailer in
       let front : s.head.traces_at - 3600 ≡ 3200 * s.head.blocks = omega (arith, ends.front) in
       let back : length file - tail ≡ 3200 * s.head.trailer = omega (arith, ends.whole) in

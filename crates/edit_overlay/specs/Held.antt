@@ -17,9 +17,9 @@ volume_with text bin s = record {
   head = s.head;
   text = text;
   bin = bin;
-  blocks = blocks_of s.head.blocks (drop FILE_HEADER_BYTES s.loaded.items);
+  blocks = blocks_of s.head.blocks (drop FILE_HEADER_BYTES s.loaded.bytes);
   traces = traces_of s;
-  trailer = blocks_of s.head.trailer (drop (length s.loaded.items - TEXT_BLOCK_BYTES * s.head.trailer) s.loaded.items);
+  trailer = blocks_of s.head.trailer (drop (length s.loaded.bytes - TEXT_BLOCK_BYTES * s.head.trailer) s.loaded.bytes);
 }
 
 -- the same as it would be with the edit that is prepared
@@ -39,7 +39,7 @@ looked_of o = record {
 -- the loaded file has the blocks in front of its traces, and the data trailer records behind them
 pub record HasEnds {T : Type 0} (s : TraceStore T) : Type 0 where
   pub front : s.head.traces_at ≡ FILE_HEADER_BYTES + TEXT_BLOCK_BYTES * s.head.blocks
-  pub whole : s.head.traces_at + TEXT_BLOCK_BYTES * s.head.trailer ≤ length s.loaded.items
+  pub whole : s.head.traces_at + TEXT_BLOCK_BYTES * s.head.trailer ≤ length s.loaded.bytes
 
 -- what holds of an overlay between two calls
 pub record IsHeld {T : Type 0} (o : Inside T) : Type 0 where

@@ -10,16 +10,16 @@ use Rattle.edit_overlay.specs.declared.loading.Loading.TheInside.{Inside}
 -- what is shown: the parts of the file
 abbrev pub loaded_of : {T : Type 0} → Inside T → LoadedVolume T
 loaded_of l = record {
-  volume = volume_at l.store.loaded.items l.store.head l.extents.items;
+  volume = volume_at l.store.loaded.bytes l.store.head l.extents.items;
   payloads = payloads_of l.store;
   looks = l.looks;
 }
 
 -- the parts joined are the file, its traces lie one behind the other and are whole, and the store has the first of them
 pub record IsLoading {T : Type 0} (l : Inside T) : Type 0 where
-  pub joined : bytes_of (volume_at l.store.loaded.items l.store.head l.extents.items) ≡ l.store.loaded.items
-  pub laid : AreTracesOf l.store.loaded.items l.store.head l.extents.items
-  pub inside : All (λ e. e.start + e.length ≤ length l.store.loaded.items) l.extents.items
-  pub whole : All (λ e. IsTrace l.store.head (bytes_at l.store.loaded.items e)) l.extents.items
+  pub joined : bytes_of (volume_at l.store.loaded.bytes l.store.head l.extents.items) ≡ l.store.loaded.bytes
+  pub laid : AreTracesOf l.store.loaded.bytes l.store.head l.extents.items
+  pub inside : All (λ e. e.start + e.length ≤ length l.store.loaded.bytes) l.extents.items
+  pub whole : All (λ e. IsTrace l.store.head (bytes_at l.store.loaded.bytes e)) l.extents.items
   pub few : length l.extents.items < 2 ^ 32
-  pub so_far : traces_of l.store ≡ pieces l.store.loaded.items (take (length (traces_of l.store)) l.extents.items)
+  pub so_far : traces_of l.store ≡ pieces l.store.loaded.bytes (take (length (traces_of l.store)) l.extents.items)

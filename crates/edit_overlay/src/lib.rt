@@ -6,7 +6,7 @@
 //! number of looks at them, and beside parts and payloads as they are those that they would be with
 //! the edit that is prepared. Traces count from 1, bytes of a trace from 0.
 //!
-//! The loaded bytes stand in one vector and never change. The traces stand in a `TraceStore`. A
+//! The loaded bytes stand in memory and never change. The traces stand in a `TraceStore`. A
 //! save writes the parts one behind the other, neighbouring ranges of the loaded bytes at once, and
 //! joins nothing in memory.
 //!

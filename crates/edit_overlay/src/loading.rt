@@ -158,7 +158,7 @@ impl<T: Copy> Loading<T> {
         requires { length self.payloads ≡ count_of self.volume }
         ensures { result ≡ overlay_of self }
     {
-        let bytes = self.store.loaded.as_slice();
+        let bytes = self.store.loaded.bytes();
         let text = *array_at::<TEXT_BLOCK_BYTES>(bytes, 0);
         let bin = *array_at::<BINARY_HEADER_BYTES>(bytes, TEXT_BLOCK_BYTES);
         Overlay::new(text, bin, self.store, self.looks)

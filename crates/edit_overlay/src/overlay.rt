@@ -65,7 +65,7 @@ impl<T: Copy> Overlay<T> {
         looks: u64,
     ) -> Overlay<T>
         requires ends { HasEnds store }
-        requires joined { bytes_of (volume_with text bin store) ≡ store.loaded.items }
+        requires joined { bytes_of (volume_with text bin store) ≡ store.loaded.bytes }
         ensures { result ≡ record {
           volume = volume_with text bin store;
           prepared = volume_with text
@@ -75,7 +75,7 @@ impl<T: Copy> Overlay<T> {
           payloads_prepared = payloads_of store;
         } }
     {
-        let length = store.loaded.len() as u64;
+        let length = store.loaded.length();
         Overlay {
             text,
             bin,
@@ -159,9 +159,9 @@ impl<T: Copy> Overlay<T> {
 
     /// A pass over all traces as they are now with their payloads, in order, and one look more for
     /// each. The looks are counted where the pass is made, however far it goes. It is for a caller
-    /// that needs of each trace what stands near byte `at`, counted from 0 in the trace: those bytes
-    /// of the next traces are read together, which is faster, and shows the same. A trace need not
-    /// have the byte. Takes no memory.
+    /// that needs of each trace what stands near byte `at`, counted from 0 in the trace: those
+    /// bytes of the next traces are read together, which is faster, and shows the same. A trace
+    /// need not have the byte. Takes no memory.
     pub fn pass_near(&mut self, at: u64) -> Pass<'_, T>
         ensures* counts { sem 𝓛 (EndsPassed T.row self.entry) }
         ensures volume { volume_of result ≡ self.old.volume }
@@ -246,7 +246,7 @@ impl<T: Copy> Overlay<T> {
             return None;
         }
         let at = FILE_HEADER_BYTES + TEXT_BLOCK_BYTES * (b as usize - 1);
-        Some(array_at(self.store.loaded.as_slice(), at))
+        Some(array_at(self.store.loaded.bytes(), at))
     }
 
     /// Data trailer record j, counted from 1, where there is one.
@@ -259,9 +259,10 @@ impl<T: Copy> Overlay<T> {
         if j > self.store.head.trailer {
             return None;
         }
-        let start = self.store.loaded.len() - TEXT_BLOCK_BYTES * self.store.head.trailer as usize;
+        let length = self.store.loaded.length() as usize;
+        let start = length - TEXT_BLOCK_BYTES * self.store.head.trailer as usize;
         let at = start + TEXT_BLOCK_BYTES * (j as usize - 1);
-        Some(array_at(self.store.loaded.as_slice(), at))
+        Some(array_at(self.store.loaded.bytes(), at))
     }
 
     /// Writes line q of the textual header, from 1 to 40. Takes no memory.

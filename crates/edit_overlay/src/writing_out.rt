@@ -42,7 +42,7 @@ pub fn write_volume<W: Write, T: Copy>(
         written,
     };
     write_traces(writer, store, &mut waiting)?;
-    let loaded = store.loaded.as_slice();
+    let loaded = store.loaded.bytes();
     let tail = loaded.len() - TEXT_BLOCK_BYTES * store.head.trailer as usize;
     write_range(writer, loaded, &mut waiting, tail, loaded.len())?;
     flush(writer, loaded, &mut waiting)
@@ -54,18 +54,18 @@ fn write_traces<W: Write, T: Copy>(
     store: &TraceStore<T>,
     waiting: &mut Waiting,
 ) -> Result<(), SaveFault>
-    requires inside { waiting.old.to ≤ length store.now.loaded.items }
+    requires inside { waiting.old.to ≤ length store.now.loaded.bytes }
     requires small { waiting.old.written + (waiting.old.to - waiting.old.from) + length
         (concat (traces_of store.now)) < 2 ^ 64 }
-    ensures inside { waiting.new.to ≤ length store.now.loaded.items }
+    ensures inside { waiting.new.to ≤ length store.now.loaded.bytes }
     ensures saved { GoesOn (W.contents writer.old.inner) (W.contents writer.new.inner)
-        (progress store.now.loaded.items waiting.old) (progress store.now.loaded.items waiting.new)
+        (progress store.now.loaded.bytes waiting.old) (progress store.now.loaded.bytes waiting.new)
         (concat (traces_of store.now)) result }
     ensures failures { CountsFailure result writer.old.failures writer.new.failures }
 {
     for id in store.order.ids() {
         match store.slots.get(id) {
-            Some(slot) => write_slot(writer, &store.head, store.loaded.as_slice(), slot, waiting)?,
+            Some(slot) => write_slot(writer, &store.head, store.loaded.bytes(), slot, waiting)?,
             None => unreachable!(),
         }
     }

@@ -1,7 +1,7 @@
 // The fields of the binary file header (bytes 3201 to 3600 of a file) that say how the file is cut.
-// Each takes the order of bytes and the header's bytes, and those that count in some revisions alone
-// its major revision. A place is written as the field's first byte, counted from 1 over the file,
-// less the header's.
+// Each takes the order of bytes and the header's bytes, and those that count in some revisions
+// alone its major revision. A place is written as the field's first byte, counted from 1 over the
+// file, less the header's.
 ghost use Rattle.std.specs.Prelude.{◌≡◌, length};
 ghost use Rattle.frame_cut.specs.BinaryHeader.{order_of as order_in, told_order as told_order_in, is_other_order as is_other_order_in, is_pair_swapped as is_pair_swapped_in, major_of, minor_of, format_code as format_code_in, text_count as text_count_in, extensions_field, trailer_field, first_trace as first_trace_in, samples_field, is_fixed as is_fixed_in};
 

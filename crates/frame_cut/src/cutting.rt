@@ -11,9 +11,9 @@ use crate::reading::Reading;
 use crate::walk::walk;
 use std::alloc::Global;
 
-/// Cuts the file with these bytes into its parts. Refused with L02 to L15 or L17 only where there is
-/// no such cut: for the head's reason (see [`head`](crate::head)), else for the first trace that is
-/// refused: the traces' part of the file ends inside its front (L14), its first header extension
+/// Cuts the file with these bytes into its parts. Refused with L02 to L15 or L17 only where there
+/// is no such cut: for the head's reason (see [`head`](crate::head)), else for the first trace that
+/// is refused: the traces' part of the file ends inside its front (L14), its first header extension
 /// names too many of them (L13), the traces' part ends inside it (L14), or it is one more than the
 /// limit (L15), in this order. Looks at the traces' headers, never at their samples. Takes memory
 /// for the list of the traces' places alone, never in step with a number that the file names; where

@@ -1,10 +1,10 @@
 //! One SEG-Y file (revisions 0, 1 and 2.0) cut into its parts: the head that its binary header
 //! gives, and where each trace lies. `head` and `cut` answer these, or why the file has none: the
 //! first of L02 to L12 and L17 that holds of its head, else L13, L14 or L15 of the first trace that
-//! is refused. A `Reading` says what is asked for beside the file's own bytes. `front_length`, `trace_length`, `extension_count` and
-//! `sample_count` tell of one trace, `extensions_by` and `samples_by` of the numbers that its
-//! headers say. The calls that are named for a law do nothing: their contract
-//! is the law.
+//! is refused. A `Reading` says what is asked for beside the file's own bytes. `front_length`,
+//! `trace_length`, `extension_count` and `sample_count` tell of one trace, `extensions_by` and
+//! `samples_by` of the numbers that its headers say. The calls that are named for a law do nothing:
+//! their contract is the law.
 //!
 //! `cut` takes memory, for the list of the traces' places; the other calls take none. Bytes of
 //! headers count from 1, as in the standard, and so do traces; the places of an `Extent` are

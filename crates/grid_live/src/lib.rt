@@ -3,9 +3,9 @@
 //! The calls that are named for a law do nothing: their contract is the law.
 //!
 //! `Grid::add` and `add_beside` take memory for a cell, inline or crossline that had no trace and
-//! lies outside those of the load, `from_records` for all that it counts, and each call that answers
-//! a list takes memory for it. Where a growth is refused they answer want of memory, and the grid is
-//! as it was. No other call takes memory.
+//! lies outside those of the load, `from_records` for all that it counts, and each call that
+//! answers a list takes memory for it. Where a growth is refused they answer want of memory, and
+//! the grid is as it was. No other call takes memory.
 #![tactic(auto)]
 
 mod cell;

@@ -3,7 +3,6 @@ pub mod OneMoreLemmas
 pub mod PartLemmas
 pub mod ProductLemmas
 pub mod EachMoreLemmas
-pub mod RatioLemmas
 pub mod RisingLemmas
 pub mod RunLemmas
 pub mod ShownLemmas

@@ -1,11 +1,11 @@
 //! Numbers that are counted, and how often. `Ratio` is a coordinate under its scalar, a fraction in
-//! lowest terms; `PackedRatio` the same with two flags in 8 bytes. `Counts` counts keys of any kind,
-//! one by one or all at once, in their order; a `Counter` is whatever counts keys one by one. The
-//! call that is named for a law does nothing: its contract is the law.
+//! lowest terms; `PackedRatio` the same with two flags in 8 bytes. `Counts` counts keys of any
+//! kind, one by one or all at once, in their order; a `Counter` is whatever counts keys one by one.
+//! The call that is named for a law does nothing: its contract is the law.
 //!
-//! `Counter::raise`, `raise_any` and `raise_both` take memory only for a key that is not held; where
-//! a growth is refused they leave all as it was. `Counts::from_keys` counts all at once, and takes
-//! memory for what it makes, `Counts::list` for the list. No other call takes memory.
+//! `Counter::raise`, `raise_any` and `raise_both` take memory only for a key that is not held;
+//! where a growth is refused they leave all as it was. `Counts::from_keys` counts all at once, and
+//! takes memory for what it makes, `Counts::list` for the list. No other call takes memory.
 #![tactic(auto)]
 
 mod counter;

@@ -30,8 +30,8 @@ fn unless_same<K: Copy + Ord>(key: K, other: K) -> Option<K>
     }
 }
 
-/// Counts the key once more, where there is one. Takes memory for a key that is not held, and leaves
-/// all as it was where the growth is refused.
+/// Counts the key once more, where there is one. Takes memory for a key that is not held, and
+/// leaves all as it was where the growth is refused.
 pub fn raise_any<K: Copy, C: Counter<K>>(counter: &mut C, key: Option<K>) -> Result<(), OutOfMemory>
     requires { HasRoom C.seen C.cmp (C.number counter.old) key }
     ensures ok { OnOk result

@@ -51,7 +51,7 @@ impl PartialOrd for Ratio {
 
 impl Ratio {
     ghost use Rattle.std.specs.Prelude.{◌≡◌, ◌<◌, ◌≤◌, ◌^◌, ◌*ℤ◌, pos, unsigned_abs};
-    ghost use Rattle.key_counts.specs.Coordinates.{whole, under_scalar, num_under_scalar, den_under_scalar};
+    ghost use Rattle.key_counts.specs.Coordinates.{whole, under_scalar, IsUnderScalar};
     ghost use Rattle.key_counts.specs.Parts.{FitsCoordinate};
 
     /// A whole number. Takes no memory.
@@ -68,9 +68,7 @@ impl Ratio {
     /// A coordinate under its scalar (trace header, bytes 71-72): a positive scalar multiplies, a
     /// negative one divides, and 0 counts as 1. Takes no memory.
     pub fn scaled(value: i32, scalar: i16) -> Ratio
-        ensures value { result.num *ℤ pos (den_under_scalar scalar) ≡
-            num_under_scalar value scalar *ℤ pos
-            result.den }
+        ensures value { IsUnderScalar value scalar result }
         ensures exact { result ≡ under_scalar value scalar }
         ensures size { FitsCoordinate result }
     {
@@ -79,9 +77,7 @@ impl Ratio {
 
     // The coordinate by its value.
     fn under(value: i32, scalar: i16) -> Ratio
-        ensures value { result.num *ℤ pos (den_under_scalar scalar) ≡
-            num_under_scalar value scalar *ℤ pos
-            result.den }
+        ensures value { IsUnderScalar value scalar result }
         ensures size { FitsCoordinate result }
     {
         if scalar > 0 {

@@ -7,14 +7,14 @@
 //!
 //! Beside the parts a bench holds the record of each trace, and the grid, the ranges, the totals
 //! and the triples that have counted them. Each edit keeps them those of the traces as they are, so
-//! a report looks at no trace; a slice alone looks at each, and the queries about the headers of many
-//! traces at those that they are asked about.
+//! a report looks at no trace; a slice alone looks at each, and the queries about the headers of
+//! many traces at those that they are asked about.
 //!
 //! `load` takes memory for the file's bytes, the list of its traces, the six geometry names and the
 //! records with what has counted them; `apply` for `Set`, `Map`, `Patch`, `Blank`, `Copy`, `Move`,
-//! `Resize`, `Renumber`, `Compute` and `Sort` alone; `ask` for answers that are texts or lists alone: `Line`,
-//! `Lines`, `Stanzas`, `Fields`, `Grid`, `Inlines`, `Crosslines`, `Histogram`, `Slice`, `Faults`,
-//! `Table`, `Find`, `Header` and `Extremes`.
+//! `Resize`, `Renumber`, `Compute` and `Sort` alone; `ask` for answers that are texts or lists
+//! alone: `Line`, `Lines`, `Stanzas`, `Fields`, `Grid`, `Inlines`, `Crosslines`, `Histogram`,
+//! `Slice`, `Faults`, `Table`, `Find`, `Header` and `Extremes`.
 #![tactic(auto)]
 
 mod computed_edits;

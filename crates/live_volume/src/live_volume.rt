@@ -1,5 +1,4 @@
 ghost use Rattle.std.specs.Prelude.{◌≡◌, ◌≤◌, [], true, false, length, None, Some, IfOk, IfErr, OnOk, MatchResult};
-ghost use Rattle.std.specs.Option.{option_or};
 ghost use Rattle.std.specs.Io.KnownBytes.{Consumes, IsAtEnd};
 ghost use Rattle.device_io.specs.Failures.{CountsFailure};
 ghost use Rattle.field_map.specs.Binding.{geometry_at_load, is_geometry as is_geometry_name};
@@ -10,11 +9,11 @@ ghost use Rattle.edit_overlay.specs.Loading.{IsLoadFault, FailuresAfterRefusal, 
 ghost use Rattle.edit_overlay.specs.Saving.{Saves};
 ghost use Rattle.bench_rules.specs.declared.edit.Edit.TheVariants as edits;
 ghost use Rattle.bench_rules.specs.declared.field.Field.TheVariants as fields;
-ghost use Rattle.bench_rules.specs.declared.refusal.Refusal.TheVariants.{OutOfMemory as no_memory, NoField as no_such_field};
+ghost use Rattle.bench_rules.specs.declared.refusal.Refusal.TheVariants.{OutOfMemory as no_memory};
 ghost use Rattle.edit_overlay.specs.CountedVolume.{RisesAtMost};
 ghost use Rattle.bench_rules.specs.Looks.{load_looks, edit_looks, query_looks};
 ghost use Rattle.bench_rules.specs.Places.{place_in_trace};
-ghost use Rattle.bench_rules.specs.Refused.{first_refusal, no_trace};
+ghost use Rattle.bench_rules.specs.Refused.{first_refusal};
 ghost use Rattle.bench_rules.specs.Steps.{IsAfter, Step};
 ghost use Rattle.bench_rules.specs.Answer.{IsReply};
 
@@ -109,8 +108,8 @@ impl LiveVolume {
     }
 
     /// One edit: done, and the reports follow it; or refused, and all is as it was. `Set`, `Map`,
-    /// `Patch`, `Blank`, `Copy`, `Move`, `Resize`, `Renumber`, `Compute` and `Sort` take memory, and
-    /// are refused for want of it, E11, only where nothing else refuses them.
+    /// `Patch`, `Blank`, `Copy`, `Move`, `Resize`, `Renumber`, `Compute` and `Sort` take memory,
+    /// and are refused for want of it, E11, only where nothing else refuses them.
     pub fn apply(&mut self, alloc: Global, edit: &Edit) -> Result<(), Refusal>
         ensures step { Step self.old.state edit.now result self.new.state }
         ensures looks { RisesAtMost self.old.looks self.new.looks
@@ -170,18 +169,8 @@ impl LiveVolume {
     {
         match self.place_in_trace(field) {
             Some(place) => self.set(alloc, p, place, value),
-            None => Err(self.no_field(p)),
-        }
-    }
-
-    // The first refusal of a field without a place: E01, E02.
-    fn no_field(&self, p: u32) -> Refusal
-        ensures { Some result ≡ option_or (no_trace self.now.state.volume p) (Some no_such_field) }
-    {
-        if self.has_trace(p) {
-            Refusal::NoField
-        } else {
-            Refusal::NoTrace(p, self.overlay.count())
+            None if self.has_trace(p) => Err(Refusal::NoField),
+            None => Err(Refusal::NoTrace(p, self.overlay.count())),
         }
     }
 

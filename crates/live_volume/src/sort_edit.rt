@@ -1,16 +1,11 @@
 // Traces put in the order of numbers in their headers.
-ghost use Rattle.std.specs.Prelude.{◌≡◌, ◌+◌, ◌-◌, ◌≤◌, IfOk, IfErr};
+ghost use Rattle.std.specs.Prelude.{◌≡◌};
 ghost use Rattle.frame_cut.specs.Traces.{count_of};
 ghost use Rattle.trace_store.specs.Swapped.{with_places_swapped, ArePlaces};
 ghost use Rattle.edit_overlay.specs.CountedVolume.{RisesAtMost};
 ghost use Rattle.bench_rules.specs.declared.edit.Edit.TheVariants as edits;
-ghost use Rattle.bench_rules.specs.Looks.{edit_looks, looks_at};
-ghost use Rattle.bench_rules.specs.ManyTraces.{each_of};
-ghost use Rattle.bench_rules.specs.Places.{place_in_trace};
-ghost use Rattle.bench_rules.specs.Refused.{sort_refusal};
+ghost use Rattle.bench_rules.specs.Looks.{edit_looks};
 ghost use Rattle.bench_rules.specs.Steps.{Step};
-ghost use Rattle.many_traces.specs.Arranged.{Sorts};
-ghost use Rattle.many_traces.specs.Formulas.{IsRefusalFor};
 
 use crate::live_volume::LiveVolume;
 use bench_rules::{Field, Refusal};
@@ -38,45 +33,13 @@ impl LiveVolume {
             return Err(refusal);
         }
         self.stands();
-        let pairs = match self.exchanges_to_sort(alloc, a, b, fields, falling) {
+        let overlay = &mut self.overlay;
+        let pairs = match exchanges_to_sort(alloc, overlay, &self.fields, a, b, fields, falling) {
             Ok(pairs) => pairs,
             Err(refusal) => return Err(refusal),
         };
         self.exchange_pairs(pairs);
         Ok(())
-    }
-
-    // The exchanges that put traces a to b in order, or the first refusal: E02, E03.
-    fn exchanges_to_sort(
-        &mut self,
-        alloc: Global,
-        a: u32,
-        b: u32,
-        fields: &[Field],
-        falling: &[bool],
-    ) -> Result<Vec<(u32, u32)>, Refusal>
-        requires first { 1 ≤ a }
-        requires range { a ≤ b }
-        requires last { b ≤ count_of self.old.state.volume }
-        ensures ok { IfOk result (λ pairs. Sorts self.old.state.volume
-            (each_of (place_in_trace self.old.state.fields) fields.now) falling.now a b
-            pairs.items) }
-        ensures err { IfErr result (λ refusal. IsRefusalFor refusal (sort_refusal
-            self.old.state.volume a b
-            (each_of (place_in_trace self.old.state.fields) fields.now))) }
-        ensures state { self.new.state ≡ self.old.state }
-        ensures looks { RisesAtMost self.old.looks self.new.looks
-            (looks_at (each_of (place_in_trace self.old.state.fields) fields.now) (b + 1 - a)) }
-    {
-        exchanges_to_sort(
-            alloc,
-            &mut self.overlay,
-            &self.fields,
-            a,
-            b,
-            fields,
-            falling,
-        )
     }
 
     // The traces of each pair in the place of one another, one pair after the other.

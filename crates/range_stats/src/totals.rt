@@ -6,9 +6,9 @@ use record_table::{Records, Running};
 use std::alloc::Global;
 use trace_record::Record;
 
-/// The least, the greatest, the sum and the number of the samples of traces that come and go, as far
-/// as they have values. A trace without such samples has no part in them. Adding or removing a trace
-/// takes time by the logarithm of the number of traces, whatever the number of its samples.
+/// The least, the greatest, the sum and the number of the samples of traces that come and go, as
+/// far as they have values. A trace without such samples has no part in them. Adding or removing a
+/// trace takes time by the logarithm of the number of traces, whatever the number of its samples.
 #[derive(Drop)]
 pub struct Totals {
     records: u64,

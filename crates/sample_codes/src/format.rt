@@ -17,8 +17,8 @@ impl Format {
     ghost use Rattle.sample_codes.specs.Formats.{code_of, integer_width, width as width_of, values as values_of, format_of};
 
     /// The format with this code, where the opaque formats count only if they are asked for. Else
-    /// their codes are refused: 1, 5 and 6 are `Float`, 4 is `Gain`. A code that the standard leaves
-    /// unassigned is `Unknown` either way. Takes no memory.
+    /// their codes are refused: 1, 5 and 6 are `Float`, 4 is `Gain`. A code that the standard
+    /// leaves unassigned is `Unknown` either way. Takes no memory.
     pub fn of(code: u16, opaque: bool) -> Result<Format, FormatFault>
         ensures { result ≡ format_of opaque code }
     {

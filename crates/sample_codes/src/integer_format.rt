@@ -2,7 +2,8 @@ ghost use Rattle.std.specs.Prelude.{◌≡◌, length, IsTrue};
 
 use num_order::{Kind, Order};
 
-/// A sample format of whole numbers, named for its sign and its bits: two's complement, or unsigned.
+/// A sample format of whole numbers, named for its sign and its bits: two's complement, or
+/// unsigned.
 #[derive(Clone, Copy, Debug, PartialEq, Eq)]
 pub enum IntegerFormat {
     Signed32,

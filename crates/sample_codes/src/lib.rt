@@ -1,7 +1,7 @@
 //! The sample formats of SEG-Y revision 2.0: their codes in the binary file header (bytes 3225-3226
-//! of the file), how many bytes a sample has, and of the ten integer formats samples read from bytes
-//! and written to them. The samples of the other four, floats and fixed point with gain, are opaque:
-//! bytes without a value here.
+//! of the file), how many bytes a sample has, and of the ten integer formats samples read from
+//! bytes and written to them. The samples of the other four, floats and fixed point with gain, are
+//! opaque: bytes without a value here.
 //!
 //! No call takes memory. Only `Format::of` can fail, and says why.
 #![tactic(auto)]

@@ -20,7 +20,8 @@ use std::alloc::Global;
 
 // The command of such a word and of the words behind it, or that of a report; S01 for any other.
 pub(crate) fn of_headers(alloc: Global, word: &str, words: Words) -> Result<Command, LineFault>
-    ensures { IsRead (read_by (lookup (bytes_eq word.now) header_commands) (words_of words.entry)) result }
+    ensures { IsRead (read_by (lookup (bytes_eq word.now) header_commands)
+        (words_of words.entry)) result }
 {
     match word {
         "table" => table(alloc, words),

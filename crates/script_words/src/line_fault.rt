@@ -10,8 +10,8 @@ pub enum LineFault {
     /// S02: too few or too many words.
     #[error("S02 words")]
     Words,
-    /// S03: a word that has to be a number, a place, a kind of value or an operator is not one; the words are tried from left to
-    /// right.
+    /// S03: a word that has to be a number, a place, a kind of value or an operator is not one; the
+    /// words are tried from left to right.
     #[error("S03 number")]
     Number,
     /// S05: a line of a session has more than 16777216 bytes. `parse_line` never answers it.

@@ -1,9 +1,9 @@
 //! Time slices: the sample of one number of each trace that has it, by inline, crossline and
 //! position. Positions of traces count from 1, samples from 0. `rows` makes a slice of a volume
-//! under edits, beside whose traces their records stand. A `SliceCache` keeps the slices that were asked
-//! last, and answers them again without a look at the traces; who edits the volume has it forget
-//! those that change. Both take memory, and their only error is `OutOfMemory`. The calls that are
-//! named for a law do nothing: their contract is the law.
+//! under edits, beside whose traces their records stand. A `SliceCache` keeps the slices that were
+//! asked last, and answers them again without a look at the traces; who edits the volume has it
+//! forget those that change. Both take memory, and their only error is `OutOfMemory`. The calls
+//! that are named for a law do nothing: their contract is the law.
 #![tactic(auto)]
 
 mod kept_rows;

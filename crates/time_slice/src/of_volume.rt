@@ -21,10 +21,10 @@ use trace_record::{PackedRecord, Record};
 use trace_view::TraceView;
 
 /// Slice k, counted from 0: a row for each trace that has sample k, where samples have values, in
-/// rising order by inline, crossline and position. Inline and crossline are those of the record that
-/// stands beside the trace. One pass over them, with one look at each trace, which reads the one
-/// sample by its place; then the rows are sorted where they stand. Takes memory for a row for each
-/// trace; refused for want of it alone, and the volume stays as it is in any case.
+/// rising order by inline, crossline and position. Inline and crossline are those of the record
+/// that stands beside the trace. One pass over them, with one look at each trace, which reads the
+/// one sample by its place; then the rows are sorted where they stand. Takes memory for a row for
+/// each trace; refused for want of it alone, and the volume stays as it is in any case.
 pub fn rows(
     alloc: Global,
     overlay: &mut Overlay<PackedRecord>,

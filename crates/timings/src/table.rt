@@ -75,12 +75,12 @@ pub(crate) fn insert(
 {
     // Read for the proof alone, which learns that there are as many records as traces.
     let _count = table.count();
-    if !is_trace(&table.head, table.loaded.as_slice()) {
+    if !is_trace(&table.head, table.loaded.bytes()) {
         return Err(OutOfMemory);
     }
     let whole = Base::Loaded(Extent {
         start: 0,
-        length: table.loaded.len() as u64,
+        length: table.loaded.length(),
     });
     table.insert(alloc, place + 1, whole, PackedRecord::of(*added))?;
     Ok(())

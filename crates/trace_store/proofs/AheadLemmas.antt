@@ -22,7 +22,7 @@ use Rattle.trace_store.proofs.MoveLemmas.{length-moved, total-moved, AreTraces}
 -- each trace has its base
 module _ {T : Type 0} where
   pub length-bases : (s : TraceStore T) → length (bases_of s) ≡ length (traces_of s)
-  length-bases s = length-map s.order.ids (base_under s.loaded.items s.slots) ∙ sym (length-map s.order.ids (bytes_under s.loaded.items s.slots))
+  length-bases s = length-map s.order.ids (base_under s.loaded.bytes s.slots) ∙ sym (length-map s.order.ids (bytes_under s.loaded.bytes s.slots))
 
 -- ---- the traces, one by one
 

@@ -7,7 +7,9 @@ use Rattle.frame_cut.specs.Splice.{splice}
 use Rattle.trace_view.specs.declared.run.Run.{Run}
 use Rattle.trace_view.specs.Runs.{Fit, bytes_with_runs}
 use Rattle.trace_store.specs.declared.slot.Slot.{Slot}
-use Rattle.trace_store.specs.Slots.{base_of, bytes_in}
+use Rattle.trace_view.specs.Puts.{ShowPut}
+use Rattle.trace_store.specs.Slots.{base_of, bytes_in, size_of, IsInside}
+use Rattle.trace_store.proofs.SlotLemmas.{base-length}
 use Rattle.frame_cut.specs.Parts.{put_each_at}
 use Rattle.trace_store.specs.Each.{part_of, ArePutRuns, ArePutEach}
 
@@ -15,16 +17,15 @@ pub both_ok : {T E : Type 0} → (P Q R : T → Type 0) (r : Result T E) → IfO
 both_ok P Q R (Ok x) p q f = f x p q
 both_ok P Q R (Err e) p q f = tt
 
--- runs that were made over the base of a slot
+-- runs that were made for the base of a slot, by its length
 module _ {T : Type 0} where
-  pub put-runs : (loaded l : List ℕ) (slot : Slot T) (base trace : List ℕ) (at : ℕ) (bytes : List ℕ) (runs : List Run) → l ≡ loaded → base ≡ base_of loaded slot.base → trace ≡ bytes_in loaded slot
-      → Fit runs (length (base_of l slot.base)) → bytes_with_runs (base_of l slot.base) runs ≡ splice (bytes_in l slot) at (length bytes) bytes → ArePutRuns base trace at bytes runs
-  put-runs loaded l slot base trace at bytes runs e b t fit shows =
-      let from : base_of l slot.base ≡ base = ap (λ (xs : List ℕ). base_of xs slot.base) e ∙ sym b in
-      let whole : bytes_in l slot ≡ trace = ap (λ (xs : List ℕ). bytes_in xs slot) e ∙ sym t in
+  pub put-runs : (loaded : List ℕ) (slot : Slot T) (base trace : List ℕ) (at : ℕ) (bytes : List ℕ) (runs : List Run) → IsInside loaded slot.base → base ≡ base_of loaded slot.base → trace ≡ bytes_in loaded slot
+      → Fit runs (size_of slot.base) → ShowPut (size_of slot.base) slot.runs.items at bytes runs → ArePutRuns base trace at bytes runs
+  put-runs loaded slot base trace at bytes runs inside b t fit shows =
+      let size : length base ≡ size_of slot.base = ap length b ∙ base-length loaded slot.base inside in
       record {
-        fit = subst (λ (xs : List ℕ). Fit runs (length xs)) from fit;
-        shows = ap (λ (xs : List ℕ). bytes_with_runs xs runs) (sym from) ∙ (shows ∙ ap (λ (xs : List ℕ). splice xs at (length bytes) bytes) whole);
+        fit = subst (λ (n : ℕ). Fit runs n) (sym size) fit;
+        shows = shows base size ∙ ap (λ (xs : List ℕ). splice xs at (length bytes) bytes) (ap (λ (xs : List ℕ). bytes_with_runs xs slot.runs.items) b ∙ sym t);
       }
 
 -- ---- the runs of one trace after the other

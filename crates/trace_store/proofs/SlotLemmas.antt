@@ -1,10 +1,10 @@
 -- Traces in slots: what a change of one slot, or of the order, does to them.
-use Rattle.std.proofs.Common.{◌≡◌, ◌≢◌, ℕ, zero, suc, ◌+◌, ◌-◌, ◌<◌, ◌≤◌, List, [], ◌∷◌, length, map, get_or, refl, sym, ap, ◌∙◌, subst, arith, cond, is_some, Option, Some, None, Result, Ok, Err, OnErr, inl, inr}
+use Rattle.std.proofs.Common.{◌≡◌, ◌≢◌, ℕ, zero, suc, ◌+◌, ◌-◌, ◌<◌, ◌≤◌, List, [], ◌∷◌, length, drop, map, get_or, refl, sym, ap, ◌∙◌, subst, arith, cond, is_some, Option, Some, None, Result, Ok, Err, OnErr, inl, inr}
 use Rattle.std.specs.Prelude.{IsSome, slice_index, slice_index_or, slice_set, IsSomeAnd}
 use Rattle.std.specs.Option.{option_map_or}
 use Rattle.std.specs.List.{insert, remove}
 use Rattle.std.proofs.lemmas.Bool.{cases_eq}
-use Rattle.std.proofs.lemmas.List.{get_or-set_same, get_or-set_other}
+use Rattle.std.proofs.lemmas.List.{get_or-set_same, get_or-set_other, length-take, length-drop}
 use Rattle.std.proofs.lemmas.List.Sums.{sum_by-set}
 use Rattle.std.proofs.lemmas.List.Edits.{length-insert, length-remove}
 use Rattle.std.proofs.lemmas.Option.{slice_get_within, get_or_from_slice_get}
@@ -16,11 +16,17 @@ use Rattle.trace_seq.proofs.TimeLemmas.{times-insert, times-other, times-remove,
 use Rattle.trace_view.specs.declared.run.Run.{Run}
 use Rattle.trace_view.specs.Runs.{Fit, bytes_with_runs}
 use Rattle.trace_store.specs.declared.slot.Base.{Base}
+use Rattle.trace_store.specs.declared.slot.Base.TheVariants.{Loaded, Added}
 use Rattle.trace_store.specs.declared.slot.Slot.{Slot}
-use Rattle.trace_store.specs.Slots.{base_of, base_under, bytes_in, bytes_under, AreHeld, IsHeldUnder, IsInside, IsSlot}
+use Rattle.trace_store.specs.Slots.{base_of, base_under, bytes_in, bytes_under, AreHeld, IsHeldUnder, IsInside, IsSlot, size_of}
 use Rattle.trace_store.proofs.OrderLemmas.{place-of, held-at_place, map-alike, map-others, map-changed, map-insert, map-remove, map-at}
 
 -- ---- a slot
+
+-- how long the bytes under the runs are
+pub base-length : (loaded : List ℕ) (base : Base) → IsInside loaded base → length (base_of loaded base) ≡ size_of base
+base-length loaded (Loaded extent) inside = omega (arith, length-take extent.length (drop extent.start loaded), length-drop extent.start loaded)
+base-length loaded (Added bytes) inside = refl
 
 -- a slot without runs
 module _ {T : Type 0} where

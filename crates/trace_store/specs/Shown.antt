@@ -28,7 +28,7 @@ shown_traces v = shown_each v.head v.traces
 
 -- what views of the traces under these ids show
 abbrev pub shown_under : {T : Type 0} → TraceStore T → List ℕ → List ShownTrace
-shown_under s ids = shown_each s.head (map (bytes_under s.loaded.items s.slots) ids)
+shown_under s ids = shown_each s.head (map (bytes_under s.loaded.bytes s.slots) ids)
 
 -- the same, each with its payload
 abbrev pub rows_under : {T : Type 0} → TraceStore T → List ℕ → List (ShownTrace × T)

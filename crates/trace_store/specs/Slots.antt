@@ -16,6 +16,11 @@ abbrev pub base_of : List ℕ → Base → List ℕ
 base_of loaded (Loaded extent) = bytes_at loaded extent
 base_of loaded (Added bytes) = bytes.items
 
+-- how many they are
+abbrev pub size_of : Base → ℕ
+size_of (Loaded extent) = extent.length
+size_of (Added bytes) = length bytes.items
+
 -- the part lies inside the loaded file
 abbrev pub IsInside : List ℕ → Base → Type 0
 IsInside loaded (Loaded extent) = extent.start + extent.length ≤ length loaded

@@ -10,11 +10,11 @@ use Rattle.trace_store.specs.declared.store.TraceStore.{TraceStore}
 
 -- the traces, in order
 abbrev pub traces_of : {T : Type 0} → TraceStore T → List (List ℕ)
-traces_of s = map (bytes_under s.loaded.items s.slots) s.order.ids
+traces_of s = map (bytes_under s.loaded.bytes s.slots) s.order.ids
 
 -- the bytes under the runs of each trace, in order
 abbrev pub bases_of : {T : Type 0} → TraceStore T → List (List ℕ)
-bases_of s = map (base_under s.loaded.items s.slots) s.order.ids
+bases_of s = map (base_under s.loaded.bytes s.slots) s.order.ids
 
 -- the items that are there
 abbrev pub somes : {T : Type 0} → List (Option T) → List T

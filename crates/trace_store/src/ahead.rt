@@ -50,7 +50,7 @@ impl<'a> Ahead<'a> {
                 places[k] = place_of(store, id, self.at);
             }
         }
-        self.seen ^= joined(store.loaded.as_slice(), &places);
+        self.seen ^= joined(store.loaded.bytes(), &places);
     }
 }
 

@@ -25,7 +25,7 @@ impl<'a, T: Copy> Model for Rows<'a, T> {
 
     ghost view = { λ p. rows_under p.store.now p.ids };
 
-    ghost invariant = { λ p. AreHeld p.store.now.loaded.items p.store.now.head p.ids
+    ghost invariant = { λ p. AreHeld p.store.now.loaded.bytes p.store.now.head p.ids
         p.store.now.slots };
 }
 

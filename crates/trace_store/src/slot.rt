@@ -1,9 +1,9 @@
 // The slot of one trace.
 ghost use Rattle.std.specs.Prelude.{◌≡◌, ◌+◌, ◌<◌, ◌≤◌, length, IfOk};
 ghost use Rattle.frame_cut.specs.Layout.{bytes_at};
-ghost use Rattle.frame_cut.specs.Splice.{splice};
-ghost use Rattle.trace_view.specs.Runs.{Fit, bytes_with_runs};
-ghost use Rattle.trace_store.specs.Slots.{base_of, bytes_in, IsInside};
+ghost use Rattle.trace_view.specs.Runs.{Fit};
+ghost use Rattle.trace_view.specs.Puts.{ShowPut};
+ghost use Rattle.trace_store.specs.Slots.{base_of, size_of, IsInside};
 
 use crate::out_of_memory::OutOfMemory;
 use frame_cut::Extent;
@@ -46,27 +46,29 @@ impl<T: Copy> Slot<T> {
         }
     }
 
-    /// The runs with these bytes laid over the trace from place `at` on, counted from 0.
-    pub fn runs_with(
-        &self,
-        alloc: Global,
-        loaded: &[u8],
-        at: u64,
-        bytes: &[u8],
-    ) -> Result<Vec<Run>, OutOfMemory>
-        requires base { IsInside loaded.now self.now.base }
-        requires fit { Fit self.now.runs.items (length (base_of loaded.now self.now.base)) }
+    /// The runs with these bytes laid over the trace from place `at` on, counted from 0, whatever
+    /// the loaded file is: its bytes are not read. Takes memory. Refused for want of it alone.
+    pub fn runs_with(&self, alloc: Global, at: u64, bytes: &[u8]) -> Result<Vec<Run>, OutOfMemory>
+        requires fit { Fit self.now.runs.items (size_of self.now.base) }
         requires some { 0 < length bytes.now }
-        requires inside { at + length bytes.now ≤ length (base_of loaded.now self.now.base) }
-        ensures fit { IfOk result
-            (λ list. Fit list.items (length (base_of loaded.now self.now.base))) }
-        ensures bytes { IfOk result (λ list. bytes_with_runs (base_of loaded.now self.now.base)
-            list.items
-            ≡ splice (bytes_in loaded.now self.now) at (length bytes.now) bytes.now) }
+        requires inside { at + length bytes.now ≤ size_of self.now.base }
+        ensures fit { IfOk result (λ list. Fit list.items (size_of self.now.base)) }
+        ensures bytes { IfOk result
+            (λ list. ShowPut (size_of self.now.base) self.now.runs.items at bytes.now list.items) }
     {
-        let base = self.base_bytes(loaded);
-        let runs = put_run(alloc, base, self.runs.as_slice(), at, bytes)?;
+        let size = self.base_size();
+        let runs = put_run(alloc, size, self.runs.as_slice(), at, bytes)?;
         Ok(runs)
+    }
+
+    // How many bytes there are under the runs.
+    fn base_size(&self) -> u64
+        ensures { result ≡ size_of self.now.base }
+    {
+        match &self.base {
+            Base::Loaded(extent) => extent.length,
+            Base::Added(bytes) => bytes.len() as u64,
+        }
     }
 }
 

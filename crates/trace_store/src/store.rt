@@ -1,6 +1,7 @@
 // The traces of a volume: an order of ids, and a slot under each.
 ghost use Rattle.std.specs.Prelude.{◌≡◌, ℕ, ◌+◌, ◌-◌, ◌/◌, ◌%◌, ◌^◌, ◌<◌, ◌≤◌, [], ◌∷◌, length, Some, slice_index_or, slice_set, IfOk, OnOk, OnErr, slice_get};
 ghost use Rattle.std.specs.List.{insert, remove, swap};
+ghost use Rattle.base_file.specs.HeldBytes.{IsInMemory, IsInMemory-prop};
 ghost use Rattle.frame_cut.specs.Cuts.{IsTrace};
 ghost use Rattle.frame_cut.specs.Layout.{bytes_at};
 ghost use Rattle.frame_cut.specs.Splice.{splice};
@@ -15,6 +16,7 @@ ghost use Rattle.trace_store.specs.OneProof.{IsStore-prop};
 use crate::out_of_memory::OutOfMemory;
 use crate::prepared::{Prepared, TraceMove, TracePut, TraceRuns};
 use crate::slot::{Base, Slot, piece};
+use base_file::Held;
 use frame_cut::{Extent, Head};
 use slab::Slab;
 use std::alloc::Global;
@@ -22,15 +24,17 @@ use std::mem;
 use trace_seq::{ChunkSeq, TraceSeq};
 use trace_view::{Run, TraceView};
 
-/// The loaded bytes, which never change, and the traces that lie over them. Traces count from 1.
+/// The loaded bytes, which are in memory and never change, and the traces that lie over them.
+/// Traces count from 1.
 #[derive(Drop)]
 pub struct TraceStore<T: Copy> {
-    pub loaded: Vec<u8>,
+    pub loaded: Held,
     pub head: Head,
     pub order: ChunkSeq,
     pub slots: Slab<Slot<T>>,
-    pub ghost sound: { IsStore loaded.items head order.ids slots } by { IsStore-prop loaded.items
+    pub ghost sound: { IsStore loaded.bytes head order.ids slots } by { IsStore-prop loaded.bytes
         head order.ids slots },
+    pub ghost in_memory: { IsInMemory loaded.standing } by { IsInMemory-prop loaded.standing },
 }
 
 impl<T: Copy> TraceStore<T> {
@@ -47,12 +51,12 @@ impl<T: Copy> TraceStore<T> {
         room: usize,
     ) -> Result<TraceStore<T>, OutOfMemory>
         ensures head { IfOk result (λ s. s.head ≡ head) }
-        ensures loaded { IfOk result (λ s. s.loaded ≡ loaded) }
+        ensures loaded { IfOk result (λ s. s.loaded.bytes ≡ loaded.items) }
         ensures traces { IfOk result (λ s. traces_of s ≡ []) }
         ensures payloads { IfOk result (λ s. payloads_of s ≡ []) }
     {
         Ok(TraceStore {
-            loaded,
+            loaded: Held::in_memory(alloc, loaded),
             head,
             order: ChunkSeq::new(alloc),
             slots: Slab::with_capacity(alloc, room)?,
@@ -123,13 +127,13 @@ impl<T: Copy> TraceStore<T> {
 
     /// The trace under an id.
     pub fn view_under(&self, id: usize) -> TraceView<'_>
-        requires { IsHeldUnder self.now.loaded.items self.now.head self.now.slots id }
+        requires { IsHeldUnder self.now.loaded.bytes self.now.head self.now.slots id }
         ensures head { head_of result ≡ self.now.head }
-        ensures bytes { bytes_of result ≡ bytes_under self.now.loaded.items self.now.slots id }
+        ensures bytes { bytes_of result ≡ bytes_under self.now.loaded.bytes self.now.slots id }
     {
         match self.slots.get(id) {
             Some(slot) => {
-                let base = slot.base_bytes(self.loaded.as_slice());
+                let base = slot.base_bytes(self.loaded.bytes());
                 TraceView::new(&self.head, base, slot.runs.as_slice())
             }
             None => unreachable!(),
@@ -138,7 +142,7 @@ impl<T: Copy> TraceStore<T> {
 
     /// The payload under an id.
     pub fn payload_under(&self, id: usize) -> T
-        requires { IsHeldUnder self.now.loaded.items self.now.head self.now.slots id }
+        requires { IsHeldUnder self.now.loaded.bytes self.now.head self.now.slots id }
         ensures { payload_under self.now.slots id ≡ Some result }
     {
         match self.slots.get(id) {
@@ -149,12 +153,12 @@ impl<T: Copy> TraceStore<T> {
 
     /// The trace that lies at an extent of the loaded file.
     pub fn view_loaded(&self, extent: Extent) -> TraceView<'_>
-        requires inside { extent.start + extent.length ≤ length self.now.loaded.items }
-        requires whole { IsTrace self.now.head (bytes_at self.now.loaded.items extent) }
+        requires inside { extent.start + extent.length ≤ length self.now.loaded.bytes }
+        requires whole { IsTrace self.now.head (bytes_at self.now.loaded.bytes extent) }
         ensures head { head_of result ≡ self.now.head }
-        ensures bytes { bytes_of result ≡ bytes_at self.now.loaded.items extent }
+        ensures bytes { bytes_of result ≡ bytes_at self.now.loaded.bytes extent }
     {
-        let bytes = piece(self.loaded.as_slice(), extent);
+        let bytes = piece(self.loaded.bytes(), extent);
         TraceView::new(&self.head, bytes, &[])
     }
 
@@ -169,7 +173,7 @@ impl<T: Copy> TraceStore<T> {
         let id = self.id(p);
         match self.slots.get(id) {
             Some(slot) => {
-                let base = slot.base_bytes(self.loaded.as_slice());
+                let base = slot.base_bytes(self.loaded.bytes());
                 TraceView::new(&self.head, base, runs)
             }
             None => unreachable!(),
@@ -443,7 +447,7 @@ impl<T: Copy> TraceStore<T> {
     {
         let id = self.id(p);
         match self.slots.get(id) {
-            Some(slot) => slot.runs_with(alloc, self.loaded.as_slice(), at, bytes),
+            Some(slot) => slot.runs_with(alloc, at, bytes),
             None => unreachable!(),
         }
     }
@@ -498,12 +502,12 @@ impl<T: Copy> TraceStore<T> {
         requires first { 1 ≤ p }
         requires last { p ≤ length (traces_of self.old) + 1 }
         requires few { length (traces_of self.old) + 1 < 2 ^ 32 }
-        requires inside { IsInside self.old.loaded.items base }
-        requires whole { IsTrace self.old.head (base_of self.old.loaded.items base) }
+        requires inside { IsInside self.old.loaded.bytes base }
+        requires whole { IsTrace self.old.head (base_of self.old.loaded.bytes base) }
         ensures head { self.new.head ≡ self.old.head }
         ensures loaded { self.new.loaded ≡ self.old.loaded }
         ensures ok { OnOk result (traces_of self.new ≡ insert (traces_of self.old) (p - 1)
-            (base_of self.old.loaded.items base)) }
+            (base_of self.old.loaded.bytes base)) }
         ensures err { OnErr result (traces_of self.new ≡ traces_of self.old) }
         ensures put { OnOk result (payloads_of self.new ≡ insert (payloads_of self.old) (p - 1)
             payload) }
@@ -602,12 +606,12 @@ impl<T: Copy> TraceStore<T> {
     pub fn replace(&mut self, alloc: Global, p: u32, base: Base, payload: T)
         requires first { 1 ≤ p }
         requires last { p ≤ length (traces_of self.old) }
-        requires inside { IsInside self.old.loaded.items base }
-        requires whole { IsTrace self.old.head (base_of self.old.loaded.items base) }
+        requires inside { IsInside self.old.loaded.bytes base }
+        requires whole { IsTrace self.old.head (base_of self.old.loaded.bytes base) }
         ensures head { self.new.head ≡ self.old.head }
         ensures loaded { self.new.loaded ≡ self.old.loaded }
         ensures traces { traces_of self.new ≡ slice_set (traces_of self.old) (p - 1)
-            (base_of self.old.loaded.items base) }
+            (base_of self.old.loaded.bytes base) }
         ensures payloads { payloads_of self.new ≡ slice_set (payloads_of self.old) (p - 1) payload }
     {
         let id = self.id(p);

@@ -51,6 +51,11 @@ gap_here rs len i j place r here e before le =
     } in
     subst (λ (n : ℕ). IsGap rs len n place) (sym e) gap
 
+-- runs that end in front of a place, and of a run, end in front of the lower of the two
+pub fits_lower : (rs : List Run) (len i at place : ℕ) (r : Run) → Round rs len i r → (place ≡ r.at) ⊎ (place ≡ at) → FitFrom 0 (take i rs) at → FitFrom 0 (take i rs) place
+fits_lower rs len i at place r here (inl e) fit = subst (λ (n : ℕ). FitFrom 0 (take i rs) n) (sym e) here.before
+fits_lower rs len i at place r here (inr e) fit = subst (λ (n : ℕ). FitFrom 0 (take i rs) n) (sym e) fit
+
 -- ---- counts
 
 count_by-append : (p : Run → Bool) (xs ys : List Run) → count_by p (xs ++ ys) ≡ count_by p xs + count_by p ys

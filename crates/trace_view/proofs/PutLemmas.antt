@@ -1,15 +1,15 @@
 -- Bytes with one more run laid over them.
-use Rattle.std.proofs.Common.{◌≡◌, ℕ, ◌+◌, ◌-◌, ◌<◌, ◌≤◌, List, [], ◌∷◌, ◌++◌, length, take, drop, refl, sym, ap, ◌∙◌, subst, arith, append_assoc, length-append, take-add}
+use Rattle.std.proofs.Common.{◌≡◌, ℕ, ◌+◌, ◌-◌, ◌<◌, ◌≤◌, ◌⊎◌, inl, inr, List, [], ◌∷◌, ◌++◌, length, take, drop, refl, sym, ap, ◌∙◌, subst, arith, append_assoc, length-append, take-add}
 use Rattle.std.specs.Prelude.{slice_range}
 use Rattle.std.proofs.lemmas.List.{drop-drop, drop-take, take-take, length-take, length-drop, drop-append-le, take-append-le, take-append-drop}
-use Rattle.std.proofs.Math.Seq.{take-append-add}
+use Rattle.std.proofs.Math.Seq.{take-append-add, take-append_seam}
 use Rattle.frame_cut.specs.Splice.{splice}
 use Rattle.trace_view.specs.declared.run.Run.{Run}
 use Rattle.trace_view.specs.Runs.{FitFrom, Fit, bytes_with_runs_from, bytes_with_runs, end_of}
-use Rattle.trace_view.specs.Puts.{IsGap, contents}
-use Rattle.trace_view.proofs.WrittenLemmas.{FitFrom-le, length-written}
+use Rattle.trace_view.specs.Puts.{IsGap, Show, ShowPut, contents}
+use Rattle.trace_view.proofs.WrittenLemmas.{FitFrom-le}
 use Rattle.trace_view.proofs.StepLemmas.{drop-past}
-use Rattle.trace_view.proofs.GapLemmas.{fits_joined}
+use Rattle.trace_view.proofs.GapLemmas.{Round, fits_joined}
 
 -- ---- lists of runs with the same contents
 
@@ -143,33 +143,73 @@ splice-wider bytes new start at stop le lt =
     (sym (append_assoc (take start bytes) a (new ++ (b ++ drop stop bytes)))
     ∙ (ap (λ (bs : List ℕ). bs ++ (new ++ (b ++ drop stop bytes))) front ∙ ap (λ (bs : List ℕ). take at bytes ++ (new ++ bs)) end))
 
--- where the new run ends
-new-end : (bytes new : List ℕ) (start at stop : ℕ) (r : Run) → start ≤ at → at + length new ≤ stop → stop ≤ length bytes → r.at ≡ start
-    → r.bytes.items ≡ slice_range bytes start at ++ (new ++ slice_range bytes (at + length new) stop) → end_of r ≡ stop
-new-end bytes new start at stop r le lt inside here is =
-    let a = slice_range bytes start at in
-    let b = slice_range bytes (at + length new) stop in
-    omega (arith, ap length is, length-append a (new ++ b), length-append new b, length-take (at - start) (drop start bytes), length-drop start bytes, length-take (stop - (at + length new)) (drop (at + length new) bytes), length-drop (at + length new) bytes)
+-- ---- what one of the runs shows
 
--- the runs with the new one between two gaps fit, and show the bytes with the new ones in their place
-pub record IsPut (base : List ℕ) (runs : List Run) (first last : ℕ) (r : Run) (at : ℕ) (new : List ℕ) : Type 0 where
-  pub fit : Fit (take first runs ++ r ∷ drop last runs) (length base)
-  pub bytes : bytes_with_runs base (take first runs ++ r ∷ drop last runs) ≡ splice (bytes_with_runs base runs) at (length new) new
+run-shown : (base : List ℕ) (rs : List Run) (i : ℕ) (r : Run) → Round rs (length base) i r → drop r.at (bytes_with_runs base rs) ≡ r.bytes.items ++ bytes_with_runs_from (end_of r) base (drop (i + 1) rs)
+run-shown base rs i r here =
+    let split : rs ≡ take i rs ++ r ∷ drop (i + 1) rs = sym (take-append-drop i rs) ∙ ap (λ (xs : List Run). take i rs ++ xs) here.rest in
+    let start : r.at - 0 ≡ r.at = omega arith in
+    let none : r.at - r.at ≡ 0 = omega arith in
+    let rest : List ℕ = r.bytes.items ++ bytes_with_runs_from (end_of r) base (drop (i + 1) rs) in
+    ap (λ (xs : List Run). drop r.at (bytes_with_runs base xs)) split
+    ∙ (ap (λ (n : ℕ). drop n (bytes_with_runs base (take i rs ++ r ∷ drop (i + 1) rs))) (sym start)
+    ∙ (drop-written 0 r.at base (take i rs) (r ∷ drop (i + 1) rs) (omega arith) here.before (omega arith, (here.some, here.behind))
+    ∙ ap (λ (n : ℕ). take n (drop r.at base) ++ rest) none))
 
-pub run-put : (base new : List ℕ) (runs : List Run) (first last start at stop : ℕ) (r : Run) → Fit runs (length base) → IsGap runs (length base) first start → IsGap runs (length base) last stop
-    → start ≤ at → at + length new ≤ stop → 0 < length new → r.at ≡ start
-    → r.bytes.items ≡ slice_range (bytes_with_runs base runs) start at ++ (new ++ slice_range (bytes_with_runs base runs) (at + length new) stop) → IsPut base runs first last r at new
-run-put base new runs first last start at stop r fit front back le lt some here is =
+front-shown : (base : List ℕ) (rs : List Run) (i at : ℕ) (r : Run) → Round rs (length base) i r → at ≤ end_of r → slice_range (bytes_with_runs base rs) r.at at ≡ take (at - r.at) r.bytes.items
+front-shown base rs i at r here le =
+    let within : at - r.at ≤ length r.bytes.items = omega arith in
+    ap (take (at - r.at)) (run-shown base rs i r here) ∙ take-append-le (at - r.at) r.bytes.items _ within
+
+back-shown : (base : List ℕ) (rs : List Run) (i end : ℕ) (r : Run) → Round rs (length base) i r → r.at ≤ end → end ≤ end_of r → slice_range (bytes_with_runs base rs) end (end_of r) ≡ drop (end - r.at) r.bytes.items
+back-shown base rs i end r here begins le =
+    let within : end - r.at ≤ length r.bytes.items = omega arith in
+    let place : r.at + (end - r.at) ≡ end = omega arith in
+    let rest : List ℕ = bytes_with_runs_from (end_of r) base (drop (i + 1) rs) in
+    let behind : drop end (bytes_with_runs base rs) ≡ drop (end - r.at) r.bytes.items ++ rest =
+    ap (λ (n : ℕ). drop n (bytes_with_runs base rs)) (sym place) ∙ (sym (drop-drop (end - r.at) r.at (bytes_with_runs base rs))
+    ∙ (ap (drop (end - r.at)) (run-shown base rs i r here) ∙ drop-append-le (end - r.at) r.bytes.items rest within)) in
+    let count : end_of r - end ≡ length (drop (end - r.at) r.bytes.items) = omega (arith, length-drop (end - r.at) r.bytes.items) in
+    ap (take (end_of r - end)) behind ∙ (ap (λ (n : ℕ). take n (drop (end - r.at) r.bytes.items ++ rest)) count ∙ take-append_seam (drop (end - r.at) r.bytes.items) rest)
+
+-- nothing lies between a place and itself
+pub show-none : (rs : List Run) (len at : ℕ) → Show rs len at at []
+show-none rs len at =
+    let none : at - at ≡ 0 = omega arith in
+    record { size = omega arith; shown = λ base e. ap (λ (n : ℕ). take n (drop at (bytes_with_runs base rs))) none }
+
+-- the front of a run, up to a place that it reaches, from the place on or from its start
+pub show-front : (rs : List Run) (len i at : ℕ) (r : Run) → Round rs len i r → r.at ≤ at → at ≤ end_of r → Show rs len r.at at (take (at - r.at) r.bytes.items)
+show-front rs len i at r here begins le = record {
+  size = omega (arith, length-take (at - r.at) r.bytes.items);
+  shown = λ base e. front-shown base rs i at r (subst (λ (n : ℕ). Round rs n i r) (sym e) here) le;
+}
+
+-- the same from the lower of its start and the place on
+pub show-lower : (rs : List Run) (len i at place : ℕ) (r : Run) → Round rs len i r → (place ≡ r.at) ⊎ (place ≡ at) → place ≤ at → at ≤ end_of r → Show rs len place at (take (at - place) r.bytes.items)
+show-lower rs len i at place r here (inl e) le reached =
+    subst (λ (n : ℕ). Show rs len n at (take (at - n) r.bytes.items)) (sym e) (show-front rs len i at r here (omega arith) reached)
+show-lower rs len i at place r here (inr e) le reached =
+    let none : at - place ≡ 0 = omega arith in
+    subst (λ (n : ℕ). Show rs len place at (take n r.bytes.items)) (sym none) (subst (λ (n : ℕ). Show rs len n at []) (sym e) (show-none rs len at))
+
+-- the back of a run, from a place that it reaches on
+pub show-back : (rs : List Run) (len i end : ℕ) (r : Run) → Round rs len i r → r.at ≤ end → end ≤ end_of r → Show rs len end (end_of r) (drop (end - r.at) r.bytes.items)
+show-back rs len i end r here begins le = record {
+  size = omega (arith, length-drop (end - r.at) r.bytes.items);
+  shown = λ base e. back-shown base rs i end r (subst (λ (n : ℕ). Round rs n i r) (sym e) here) begins le;
+}
+
+-- ---- the new run in its place
+
+put-shown : (base new : List ℕ) (runs : List Run) (first last start at stop : ℕ) (r : Run) → Fit runs (length base) → IsGap runs (length base) first start → IsGap runs (length base) last stop
+    → start ≤ at → at + length new ≤ stop → r.at ≡ start → end_of r ≡ stop
+    → r.bytes.items ≡ slice_range (bytes_with_runs base runs) start at ++ (new ++ slice_range (bytes_with_runs base runs) (at + length new) stop)
+    → bytes_with_runs base (take first runs ++ r ∷ drop last runs) ≡ splice (bytes_with_runs base runs) at (length new) new
+put-shown base new runs first last start at stop r fit front back le lt here ends is =
     let old : List ℕ = bytes_with_runs base runs in
-    let whole : length old ≡ length base = length-written base runs fit in
-    let stops : stop ≤ length base = FitFrom-le stop (length base) (drop last runs) back.behind in
-    let inside : stop ≤ length old = omega arith in
-    let ends : end_of r ≡ stop = new-end old new start at stop r le lt inside here is in
-    let begins : start ≤ r.at = omega arith in
-    let full : 0 < length r.bytes.items = omega (arith, ends, here) in
     let before : FitFrom 0 (take first runs) r.at = subst (λ (n : ℕ). FitFrom 0 (take first runs) n) (sym here) front.before in
     let next : FitFrom r.at (drop first runs) (length base) = subst (λ (n : ℕ). FitFrom n (drop first runs) (length base)) (sym here) front.behind in
-    let behind : FitFrom (end_of r) (drop last runs) (length base) = subst (λ (n : ℕ). FitFrom n (drop last runs) (length base)) (sym ends) back.behind in
     let shown = written-exchanged 0 base (take first runs) (drop first runs) (drop last runs) r (omega arith) before next in
     let halves : bytes_with_runs_from 0 base (take first runs ++ drop first runs) ≡ old = ap (bytes_with_runs_from 0 base) (take-append-drop first runs) in
     let same_start : r.at - 0 ≡ start = omega arith in
@@ -182,9 +222,29 @@ run-put base new runs first last start at stop r fit front back le lt some here 
     ∙ drop-written 0 stop base (take last runs) (drop last runs) (omega arith) back.before back.behind) in
     let back_bytes : bytes_with_runs_from (end_of r) base (drop last runs) ≡ drop stop old =
     ap (λ (k : ℕ). bytes_with_runs_from k base (drop last runs)) ends ∙ sym behind_stop in
+    shown ∙ ((cc) ∙ splice-wider old new start at stop le lt)
+
+-- the runs with the new one between two gaps fit, and show the bytes with the new ones in their place
+pub record IsPut (len : ℕ) (runs : List Run) (first last : ℕ) (r : Run) (at : ℕ) (new : List ℕ) : Type 0 where
+  pub fit : Fit (take first runs ++ r ∷ drop last runs) len
+  pub bytes : ShowPut len runs at new (take first runs ++ r ∷ drop last runs)
+
+pub run-put : (len : ℕ) (new over_front over_back : List ℕ) (runs : List Run) (first last start at stop : ℕ) (r : Run) → Fit runs len → IsGap runs len first start → IsGap runs len last stop
+    → Show runs len start at over_front → Show runs len (at + length new) stop over_back → 0 < length new → r.at ≡ start
+    → r.bytes.items ≡ over_front ++ (new ++ over_back) → IsPut len runs first last r at new
+run-put len new over_front over_back runs first last start at stop r fit front back before behind some here is =
+    let ends : end_of r ≡ stop = omega (arith, ap length is, length-append over_front (new ++ over_back), length-append new over_back, before.size, behind.size) in
+    let full : 0 < length r.bytes.items = omega (arith, ap length is, length-append over_front (new ++ over_back), length-append new over_back) in
+    let in_front : FitFrom 0 (take first runs) r.at = subst (λ (n : ℕ). FitFrom 0 (take first runs) n) (sym here) front.before in
+    let others : FitFrom (end_of r) (drop last runs) len = subst (λ (n : ℕ). FitFrom n (drop last runs) len) (sym ends) back.behind in
     record {
-      fit = fits_joined 0 r.at (length base) (take first runs) r (drop last runs) (omega arith) full before behind;
-      bytes = shown ∙ ((cc) ∙ splice-wider old new start at stop le lt);
+      fit = fits_joined 0 r.at len (take first runs) r (drop last runs) (omega arith) full in_front others;
+      bytes = λ base e.
+          let parts : r.bytes.items ≡ slice_range (bytes_with_runs base runs) start at ++ (new ++ slice_range (bytes_with_runs base runs) (at + length new) stop) =
+          is ∙ (ap (λ (xs : List ℕ). xs ++ (new ++ over_back)) (sym (before.shown base e)) ∙ ap (λ (xs : List ℕ). slice_range (bytes_with_runs base runs) start at ++ (new ++ xs)) (sym (behind.shown base e))) in
+          put-shown base new runs first last start at stop r
+          (subst (λ (n : ℕ). Fit runs n) (sym e) fit) (subst (λ (n : ℕ). IsGap runs n first start) (sym e) front) (subst (λ (n : ℕ). IsGap runs n last stop) (sym e) back)
+          (omega (arith, before.size)) (omega (arith, behind.size)) here ends parts;
     }
 
 -- how many runs there are then

@@ -59,29 +59,35 @@ impl<'a> Cursor<'a> {
         piece
     }
 
-    // The next byte.
-    #[inline]
-    fn byte(&mut self) -> u8
-        requires { 0 < length self.old }
-        ensures { self.old ≡ result ∷ self.new }
-    {
-        if self.front.is_empty() {
-            self.front = self.stretches.advance();
-        }
-        let byte = self.front[0];
-        self.front = &self.front[1..];
-        byte
-    }
-
-    // The next bytes, as many as `out` has.
+    // The next bytes, as many as `out` has. A stretch of them is copied at once.
     pub(crate) fn read(&mut self, out: &mut [u8])
         requires { length out.old ≤ length self.old }
         ensures out { out.new ≡ take (length out.old) self.old }
         ensures rest { self.new ≡ drop (length out.old) self.old }
     {
-        for byte in out.iter_mut() {
-            *byte = self.byte();
+        let mut done = 0;
+        while done < out.len() {
+            done += self.read_some(&mut out[done..]);
         }
+    }
+
+    // Some of the next bytes, at the front of `out`: as many as one stretch has, and `out` takes.
+    fn read_some(&mut self, out: &mut [u8]) -> usize
+        requires some { 0 < length out.old }
+        requires there { length out.old ≤ length self.old }
+        ensures some { 0 < result }
+        ensures within { result ≤ length out.old }
+        ensures size { length out.new ≡ length out.old }
+        ensures read { take result out.new ≡ take result self.old }
+        ensures rest { self.new ≡ drop result self.old }
+    {
+        if self.front.is_empty() {
+            self.front = self.stretches.advance();
+        }
+        let count = self.front.len().min(out.len());
+        out[..count].copy_from_slice(&self.front[..count]);
+        self.front = &self.front[count..];
+        count
     }
 
     // The next number, gathered where it lies in more than one stretch.

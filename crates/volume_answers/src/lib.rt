@@ -1,9 +1,10 @@
-//! The answers of queries over a volume under edits, its field map and its running reports.
+//! The answers of queries over a volume under edits, its field map and its running reports, and the
+//! first refusals of edits of one trace.
 //!
 //! Each contract speaks of every state that fits what the call is lent: the volume of an overlay,
-//! the pairs of a field map, the records beside the traces, or what a report has counted. So one who
-//! holds these parts of a state answers its queries. No call changes them: of an overlay that is
-//! lent to be looked at, the number of looks alone is another one then.
+//! the pairs of a field map, the records beside the traces, or what a report has counted. So one
+//! who holds these parts of a state answers its queries. No call changes them: of an overlay that
+//! is lent to be looked at, the number of looks alone is another one then.
 //!
 //! Traces and the lines of a block count from 1, samples of a trace from 0. A call takes memory
 //! where it is lent an allocator, for an answer that is a text or a list.

@@ -1,5 +1,5 @@
-// Coordinates under their scalars, and counts of keys, with values worked by hand. A test makes what
-// it needs and lends it.
+// Coordinates under their scalars, and counts of keys, with values worked by hand. A test makes
+// what it needs and lends it.
 use key_counts::{Counts, OutOfMemory, Ratio};
 use std::alloc::Global;
 use std::collections::HashMap;

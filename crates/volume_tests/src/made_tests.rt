@@ -94,7 +94,8 @@ fn small(alloc: Global) -> Result<(Overlay<PackedRecord>, FieldMap), Fail>
 }
 
 // Whether the records of all three traces stand there, and those of two are told, after a look at
-// each of the three for the former, one at each of the two for their length, and one for its record.
+// each of the three for the former, one at each of the two for their length, and one for its
+// record.
 fn tells_two(
     alloc: Global,
     volume: &mut Overlay<PackedRecord>,

@@ -1,5 +1,5 @@
-// Tables that tests begin with: records beside traces of no interest, and in lists of their own, and
-// small volumes with given payloads.
+// Tables that tests begin with: records beside traces of no interest, and in lists of their own,
+// and small volumes with given payloads.
 ghost use Rattle.std.specs.Prelude.{◌≡◌, [], length, map, IfOk, OnOk};
 ghost use Rattle.std.specs.List.{insert as inserted};
 ghost use Rattle.frame_cut.specs.Cuts.{IsCut};

@@ -180,16 +180,17 @@ fn puts_runs(rt: HostRuntime) -> Result<(), Fail> {
     let alloc = rt.alloc();
     let head = plain_head();
     let base = [0; 244];
-    let runs = put_run(alloc, &base, &[], 190, &[0x00, 0x00, 0x0A])?;
-    let runs = put_run(alloc, &base, &runs, 188, &[0x00, 0x05])?;
+    let size = base.len() as u64;
+    let runs = put_run(alloc, size, &[], 190, &[0x00, 0x00, 0x0A])?;
+    let runs = put_run(alloc, size, &runs, 188, &[0x00, 0x05])?;
     assert_eq!(rt; runs.len(), 1);
-    let runs = put_run(alloc, &base, &runs, 240, &[0x00, 0x01])?;
+    let runs = put_run(alloc, size, &runs, 240, &[0x00, 0x01])?;
     assert_eq!(rt; runs.len(), 2);
-    let runs = put_run(alloc, &base, &runs, 0, &[0x01])?;
+    let runs = put_run(alloc, size, &runs, 0, &[0x01])?;
     assert_eq!(rt; runs.len(), 3);
     let view = view(&rt, &head, &base, &runs);
     expect_put(&rt, &view);
-    let runs = put_run(alloc, &base, &runs, 191, &[0xFF; 50])?;
+    let runs = put_run(alloc, size, &runs, 191, &[0xFF; 50])?;
     assert_eq!(rt; runs.len(), 2);
     Ok(())
 }

@@ -11,18 +11,18 @@ pub write_slot-requires-clause-slot : goal.write_slot-requires-clause-slot
 write_slot-requires-clause-slot g c =
     let s = c.args.store.now in
     let i = c.loop-id.invariant in
-    rw c.as_slice.ensures.value (slot_here s i.passed c.in-Some.id c.next.new.self (ap (λ (xs : List ℕ). i.passed ++ xs) (sym c.in-Some.ensures.steps) ∙ i.joined) c.in-Some-get.slot.now (sym c.in-Some-get.ensures))
+    rw c.bytes.ensures (slot_here s i.passed c.in-Some.id c.next.new.self (ap (λ (xs : List ℕ). i.passed ++ xs) (sym c.in-Some.ensures.steps) ∙ i.joined) c.in-Some-get.slot.now (sym c.in-Some-get.ensures))
 
 pub write_slot-requires-clause-small : goal.write_slot-requires-clause-small
 write_slot-requires-clause-small g c =
     let s = c.args.store.now in
     let i = c.loop-id.invariant in
-    let f : ℕ → List ℕ = bytes_under s.loaded.items s.slots in
+    let f : ℕ → List ℕ = bytes_under s.loaded.bytes s.slots in
     let ids : i.passed ++ c.in-Some.id ∷ c.next.new.self ≡ s.order.ids = ap (λ (xs : List ℕ). i.passed ++ xs) (sym c.in-Some.ensures.steps) ∙ i.joined in
     let all = traces_here s i.passed c.in-Some.id c.next.new.self ids c.in-Some-get.slot.now (sym c.in-Some-get.ensures) in
-    let t : List ℕ = bytes_in s.loaded.items c.in-Some-get.slot.now in
-    let same : bytes_in c.as_slice.result.now c.in-Some-get.slot.now ≡ t = rw c.as_slice.ensures.value refl in
-    let come = counted _ _ (progress s.loaded.items c.args.waiting.now) (progress s.loaded.items c.loop-id.waiting) (concat (map f i.passed)) i.comes in
+    let t : List ℕ = bytes_in s.loaded.bytes c.in-Some-get.slot.now in
+    let same : bytes_in c.bytes.result.now c.in-Some-get.slot.now ≡ t = rw c.bytes.ensures refl in
+    let come = counted _ _ (progress s.loaded.bytes c.args.waiting.now) (progress s.loaded.bytes c.loop-id.waiting) (concat (map f i.passed)) i.comes in
     omega (
       arith,
       c.requires.small,
@@ -31,37 +31,37 @@ write_slot-requires-clause-small g c =
       ap (λ (x : List ℕ). length x) all,
       length-append (concat (map f i.passed) ++ t) (concat (map f c.next.new.self)),
       length-append (concat (map f i.passed)) t,
-      length-waits s.loaded.items c.args.waiting.now c.requires.inside,
-      length-waits s.loaded.items c.loop-id.waiting i.inside,
+      length-waits s.loaded.bytes c.args.waiting.now c.requires.inside,
+      length-waits s.loaded.bytes c.loop-id.waiting i.inside,
     )
 
 pub loop-id-preserved : goal.loop-id-preserved
 loop-id-preserved g c =
     let s = c.args.store.now in
     let i = c.loop-id.invariant in
-    let f : ℕ → List ℕ = bytes_under s.loaded.items s.slots in
+    let f : ℕ → List ℕ = bytes_under s.loaded.bytes s.slots in
     let ids : i.passed ++ c.in-Some.id ∷ c.next.new.self ≡ s.order.ids = ap (λ (xs : List ℕ). i.passed ++ xs) (sym c.in-Some.ensures.steps) ∙ i.joined in
-    let t : List ℕ = bytes_in s.loaded.items c.in-Some-get.slot.now in
+    let t : List ℕ = bytes_in s.loaded.bytes c.in-Some-get.slot.now in
     let e = c.in_ok-write_slot-in-Some-get.ensures in
     record {
       failures = e.failures ∙ i.failures;
-      inside = rw c.as_slice.ensures.value at e.inside;
+      inside = rw c.bytes.ensures at e.inside;
       passed = i.passed ++ c.in-Some.id ∷ [];
       joined = append_assoc i.passed (c.in-Some.id ∷ []) c.next.new.self ∙ ids;
-      comes = same_come _ _ (progress s.loaded.items c.args.waiting.now) (progress s.loaded.items c.write_slot.new.waiting) _ _ (traces_passed s i.passed c.in-Some.id c.next.new.self ids c.in-Some-get.slot.now (sym c.in-Some-get.ensures))
-          (comes_on _ _ _ (progress s.loaded.items c.args.waiting.now) (progress s.loaded.items c.loop-id.waiting) (progress s.loaded.items c.write_slot.new.waiting) (concat (map f i.passed)) t i.comes (rw c.as_slice.ensures.value at e.saved));
+      comes = same_come _ _ (progress s.loaded.bytes c.args.waiting.now) (progress s.loaded.bytes c.write_slot.new.waiting) _ _ (traces_passed s i.passed c.in-Some.id c.next.new.self ids c.in-Some-get.slot.now (sym c.in-Some-get.ensures))
+          (comes_on _ _ _ (progress s.loaded.bytes c.args.waiting.now) (progress s.loaded.bytes c.loop-id.waiting) (progress s.loaded.bytes c.write_slot.new.waiting) (concat (map f i.passed)) t i.comes (rw c.bytes.ensures at e.saved));
     }
 
 pub returns-in_err-write_slot-in-Some-get-clause-saved : goal.returns-in_err-write_slot-in-Some-get-clause-saved
 returns-in_err-write_slot-in-Some-get-clause-saved g c =
     let s = c.args.store.now in
     let i = c.loop-id.invariant in
-    let f : ℕ → List ℕ = bytes_under s.loaded.items s.slots in
+    let f : ℕ → List ℕ = bytes_under s.loaded.bytes s.slots in
     let ids : i.passed ++ c.in-Some.id ∷ c.next.new.self ≡ s.order.ids = ap (λ (xs : List ℕ). i.passed ++ xs) (sym c.in-Some.ensures.steps) ∙ i.joined in
-    let t : List ℕ = bytes_in s.loaded.items c.in-Some-get.slot.now in
+    let t : List ℕ = bytes_in s.loaded.bytes c.in-Some-get.slot.now in
     let p = err_from_is_err_and c.from_residual.result c.from_residual.ensures.1 in
-    refused_at c.from_residual.result c.in_err-write_slot-in-Some-get.field-0.0 _ _ _ (progress s.loaded.items c.args.waiting.now) (progress s.loaded.items c.loop-id.waiting) (progress s.loaded.items c.write_slot.new.waiting) (concat (map f i.passed)) t (concat (map f c.next.new.self)) (concat (traces_of s)) (rw p.2 at p.1)
-    (traces_here s i.passed c.in-Some.id c.next.new.self ids c.in-Some-get.slot.now (sym c.in-Some-get.ensures)) i.comes (rw c.as_slice.ensures.value at c.in_err-write_slot-in-Some-get.ensures.saved)
+    refused_at c.from_residual.result c.in_err-write_slot-in-Some-get.field-0.0 _ _ _ (progress s.loaded.bytes c.args.waiting.now) (progress s.loaded.bytes c.loop-id.waiting) (progress s.loaded.bytes c.write_slot.new.waiting) (concat (map f i.passed)) t (concat (map f c.next.new.self)) (concat (traces_of s)) (rw p.2 at p.1)
+    (traces_here s i.passed c.in-Some.id c.next.new.self ids c.in-Some-get.slot.now (sym c.in-Some-get.ensures)) i.comes (rw c.bytes.ensures at c.in_err-write_slot-in-Some-get.ensures.saved)
 
 pub unreachable-requires : goal.unreachable-requires
 unreachable-requires g c =

@@ -9,8 +9,8 @@ use Rattle.edit_overlay.proofs.writing_out.write_traces.Given as goal
 abbrev pub invariant-loop-id : goal.invariant-loop-id
 invariant-loop-id g l = record {
   failures : l.writer.failures ≡ l.initial.writer.failures;
-  inside : l.waiting.to ≤ length l.store.loaded.items;
+  inside : l.waiting.to ≤ length l.store.loaded.bytes;
   passed : List ℕ;
   joined : passed ++ l.id-iterator ≡ l.store.order.ids;
-  comes : Comes (g.W.Write.contents l.initial.writer.inner) (g.W.Write.contents l.writer.inner) (progress l.store.loaded.items l.initial.waiting) (progress l.store.loaded.items l.waiting) (concat (map (bytes_under l.store.loaded.items l.store.slots) passed));
+  comes : Comes (g.W.Write.contents l.initial.writer.inner) (g.W.Write.contents l.writer.inner) (progress l.store.loaded.bytes l.initial.waiting) (progress l.store.loaded.bytes l.waiting) (concat (map (bytes_under l.store.loaded.bytes l.store.slots) passed));
 }

@@ -1,10 +1,9 @@
-use Rattle.std.proofs.Common.{◌≡◌, ◌∙◌, refl, ap, sym, bytes_eq, is_some, true, false}
-use Rattle.std.specs.Prelude.{Option, None}
+use Rattle.std.proofs.Common.{◌≡◌, ◌∙◌, refl, ap, sym, bytes_eq, true, false}
+use Rattle.std.specs.Prelude.{None}
 use Rattle.std.specs.Option.{option_copied_mut}
 use Rattle.std.specs.String.{string_bytes}
-use Rattle.std.specs.Map.{lookup, set_value}
-use Rattle.field_map.specs.declared.place.Place.{Place}
-use Rattle.field_map.specs.Pairs.{shown, bound, is_bound}
+use Rattle.std.specs.Map.{lookup}
+use Rattle.field_map.specs.Pairs.{shown, is_bound}
 use Rattle.field_map.proofs.ShownLemmas.{lookup-shown, set_value-shown}
 use Rattle.field_map.proofs.field_map.set_place.Goals as goal
 

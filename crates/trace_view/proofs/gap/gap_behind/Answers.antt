@@ -1,6 +1,10 @@
-use Rattle.std.proofs.Common.{◌≡◌, ◌+◌, ◌≤◌, ◌⊎◌, inr, ℕ, arith, drop, subst, sym}
+use Rattle.std.proofs.Common.{◌≡◌, ◌∙◌, ◌+◌, ◌-◌, ◌≤◌, ◌⊎◌, inr, ℕ, List, arith, ap, drop, subst, sym}
+use Rattle.std.specs.Borrow.{Bor}
+use Rattle.std.proofs.lemmas.List.{take_all, length-drop}
 use Rattle.trace_view.specs.Runs.{FitFrom, end_of}
 use Rattle.trace_view.proofs.GapLemmas.{Round, round, gap_here, counted_behind, none_more_behind, place_le, place_more, fits_one_more}
+use Rattle.trace_view.specs.Puts.{Show}
+use Rattle.trace_view.proofs.PutLemmas.{show-back}
 use Rattle.trace_view.proofs.gap.gap_behind.Goals as goal
 use Rattle.trace_view.proofs.gap.gap_behind.Goals.{then-place-run_end, else-place-run_end}
 
@@ -27,12 +31,16 @@ loop-run-preserved c =
     elim c.if-place-run_end.branch [
       | then-place-run_end w ↦
           let place : end_of c.run-item.result ≡ c.if-place-run_end.place = omega (arith, w.place-is) in
+          let reached : c.args.end ≤ end_of c.run-item.result = omega (arith, w.if-place-run_end.true) in
+          let bytes : drop (c.args.end - c.run-item.result.at) c.run-item.result.bytes.items ≡ c.if-place-run_end.bytes.now =
+          ap (drop (c.args.end - c.run-item.result.at)) (sym w.as_slice.ensures) ∙ (sym (take_all _ _ (omega (arith, length-drop (c.args.end - c.run-item.result.at) w.as_slice.result.now))) ∙ ap (λ (b : Bor (List ℕ)). b.now) (sym w.bytes-is)) in
           record {
             counted = omega arith;
             least = omega (arith, w.if-place-run_end.true, w.place-is);
             most = omega arith;
             before = fits_one_more _ _ _ _ _ here (omega arith);
             others = inr (subst (λ (n : ℕ). FitFrom n (drop (c.loop-run.run-index + 1) c.args.runs.now) c.args.limit) place here.behind);
+            shown = subst (λ (xs : List ℕ). Show c.args.runs.now c.args.limit c.args.end c.if-place-run_end.place xs) bytes (subst (λ (n : ℕ). Show c.args.runs.now c.args.limit c.args.end n (drop (c.args.end - c.run-item.result.at) c.run-item.result.bytes.items)) place (show-back _ _ _ _ _ here c.if-end-run.false reached));
             none = none_more_behind _ _ _ _ _ here c.if-end-run.false c.loop-run.invariant.none;
           }
       | else-place-run_end w ↦
@@ -45,6 +53,7 @@ loop-run-preserved c =
             before = fits_one_more _ _ _ _ _ here (omega arith);
             others = subst (λ (n : ℕ). (n ≡ c.args.end) ⊎ FitFrom n (drop (c.loop-run.run-index + 1) c.args.runs.now) c.args.limit) place
                 (place_more _ _ _ _ _ _ here past c.loop-run.invariant.others);
+            shown = subst (λ (xs : List ℕ). Show c.args.runs.now c.args.limit c.args.end c.if-place-run_end.place xs) (ap (λ (b : Bor (List ℕ)). b.now) (sym w.bytes-is)) (subst (λ (n : ℕ). Show c.args.runs.now c.args.limit c.args.end n c.loop-run.bytes.now) place c.loop-run.invariant.shown);
             none = none_more_behind _ _ _ _ _ here c.if-end-run.false c.loop-run.invariant.none;
           }
     ]

@@ -1,4 +1,4 @@
-use Rattle.std.proofs.Common.{◌∙◌, ℕ, Vec, Global, ap, rules}
+use Rattle.std.proofs.Common.{◌∙◌, rules}
 use Rattle.std.proofs.lemmas.Result.{err_from_is_err_and}
 use Rattle.edit_overlay.proofs.LoadingLemmas.{just_cut}
 use Rattle.edit_overlay.proofs.loading.Loading.from_bytes.Goals as goal
@@ -11,4 +11,4 @@ returns-in_err-cut-clause-refused g c =
 pub invariant_of-result : goal.invariant_of-result
 invariant_of-result g c =
     just_cut _ c.args.bytes.items c.args.reading c.args.limits c.in_ok-cut.cut.0 c.in_ok-cut.cut.1 (rw c.as_slice.ensures.value at c.in_ok-cut.ensures.ok) (rw c.as_slice.ensures.value at c.in_ok-cut.ensures.laid) (search rules)
-    (ap (λ (v : Vec ℕ Global). v.items) c.in-Ok.ensures.loaded) (c.in-Ok.ensures.head ∙ c.head-head.ensures) c.into_extents-extents.ensures c.in-Ok.ensures.traces
+    c.in-Ok.ensures.loaded (c.in-Ok.ensures.head ∙ c.head-head.ensures) c.into_extents-extents.ensures c.in-Ok.ensures.traces

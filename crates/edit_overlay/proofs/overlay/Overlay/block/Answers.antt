@@ -11,7 +11,7 @@ returns-then-b-self g c =
 pub returns : goal.returns
 returns g c =
     let i = c.args.b - 1 in
-    let read : c.array_at.result.now ≡ take 3200 (drop (3600 + 3200 * i) c.self.inside.store.loaded.items) = c.array_at.ensures ∙ rw c.as_slice.ensures.value refl in
+    let read : c.array_at.result.now ≡ take 3200 (drop (3600 + 3200 * i) c.self.inside.store.loaded.bytes) = c.array_at.ensures ∙ rw c.bytes.ensures refl in
     ap (λ (s : List ℕ). let o : Option (List ℕ) = Some s in o) read
     ∙ sym (block_number c.args.self.now.volume c.args.b c.if-b-eq0.false ∙ ap (λ o. slice_get o.volume.blocks i) (sym c.self.view_is)
-    ∙ read_block c.self.inside.store.loaded.items c.self.inside.store.head.blocks i (omega (arith, c.if-b-eq0.false, c.if-b-self.false)))
+    ∙ read_block c.self.inside.store.loaded.bytes c.self.inside.store.head.blocks i (omega (arith, c.if-b-eq0.false, c.if-b-self.false)))

@@ -13,7 +13,7 @@ returns g c =
     let s = c.self.inside.store in
     let n = s.head.trailer in
     let i = c.args.j - 1 in
-    let read : c.array_at.result.now ≡ take 3200 (drop (length s.loaded.items - 3200 * n + 3200 * i) s.loaded.items) = c.array_at.ensures ∙ rw (c.as_slice.ensures.value, c.len.ensures, s.loaded.ok.0) refl in
+    let read : c.array_at.result.now ≡ take 3200 (drop (length s.loaded.bytes - 3200 * n + 3200 * i) s.loaded.bytes) = c.array_at.ensures ∙ rw (c.bytes.ensures, c.length-length.ensures) refl in
     ap (λ (t : List ℕ). let o : Option (List ℕ) = Some t in o) read
     ∙ sym (record_number c.args.self.now.volume c.args.j c.if-j-eq0.false ∙ ap (λ o. slice_get o.volume.trailer i) (sym c.self.view_is)
-    ∙ read_record s.loaded.items n i (omega (arith, c.if-j-eq0.false, c.if-j-self.false)))
+    ∙ read_record s.loaded.bytes n i (omega (arith, c.if-j-eq0.false, c.if-j-self.false)))

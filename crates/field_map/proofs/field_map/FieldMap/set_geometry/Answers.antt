@@ -1,4 +1,4 @@
-use Rattle.std.proofs.Common.{◌≡◌, ◌∙◌, sym, subst, true}
+use Rattle.std.proofs.Common.{◌≡◌, sym, subst, true}
 use Rattle.field_map.specs.Maps.{NameMap}
 use Rattle.field_map.specs.Pairs.{shown}
 use Rattle.field_map.specs.Binding.{is_geometry_place}

@@ -7,7 +7,7 @@ use Rattle.trace_store.proofs.store.TraceStore.prepare_move.Goals as goal
 pub returns-clause-ready : goal.returns-clause-ready
 returns-clause-ready g c =
     let s = c.args.self.now in
-    let count : length (map (bytes_under s.loaded.items s.slots) c.reserve_one.new.self.ids) ≡ length (traces_of s) = ap (λ (xs : List ℕ). length (map (bytes_under s.loaded.items s.slots) xs)) c.reserve_one.ensures.ids in
+    let count : length (map (bytes_under s.loaded.bytes s.slots) c.reserve_one.new.self.ids) ≡ length (traces_of s) = ap (λ (xs : List ℕ). length (map (bytes_under s.loaded.bytes s.slots) xs)) c.reserve_one.ensures.ids in
     ready_move _ c.args.a c.args.b (record {
       from_first = c.requires.from_first;
       from_last = omega (arith, c.requires.from_last, count);

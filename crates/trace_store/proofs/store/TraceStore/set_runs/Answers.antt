@@ -13,7 +13,7 @@ use Rattle.trace_store.proofs.store.TraceStore.set_runs.Goals as goal
 pub unreachable-requires : goal.unreachable-requires
 unreachable-requires g c =
     let s = c.args.self.now in
-    slot-missed s.loaded.items s.head s.order.ids s.slots c.args.p c.id-id.result s.sound.held c.id-id.ensures (sym c.in-None.ensures.value)
+    slot-missed s.loaded.bytes s.head s.order.ids s.slots c.args.p c.id-id.result s.sound.held c.id-id.ensures (sym c.in-None.ensures.value)
 
 pub invariant_of-self : goal.invariant_of-self
 invariant_of-self g c =
@@ -21,17 +21,18 @@ invariant_of-self g c =
     let id = c.id-id.result in
     let old : Slot g.row.T.Denot = c.in-Some.slot.now in
     let new : Slot g.row.T.Denot = record { base = old.base; runs = c.args.runs; payload = old.payload } in
-    let slot = slot-found s.loaded.items s.head s.order.ids s.slots c.args.p id old s.sound.held c.id-id.ensures (sym c.in-Some.ensures.value) in
-    let base = base-at s.loaded.items s.order.ids s.slots c.args.p id old c.id-id.ensures (sym c.in-Some.ensures.value) in
-    let sound : IsSlot s.loaded.items s.head new = runs-slot s.loaded.items s.head old new (slice_index_or (bases_of s) (c.args.p - 1) []) refl base slot c.requires.runs.fit c.requires.runs.whole in
+    let slot = slot-found s.loaded.bytes s.head s.order.ids s.slots c.args.p id old s.sound.held c.id-id.ensures (sym c.in-Some.ensures.value) in
+    let base = base-at s.loaded.bytes s.order.ids s.slots c.args.p id old c.id-id.ensures (sym c.in-Some.ensures.value) in
+    let sound : IsSlot s.loaded.bytes s.head new = runs-slot s.loaded.bytes s.head old new (slice_index_or (bases_of s) (c.args.p - 1) []) refl base slot c.requires.runs.fit c.requires.runs.whole in
     let up : Updates s.slots (with_value s.slots id new) id (Some new) = write-updates s.slots id old new (sym c.in-Some.ensures.value) in
     record {
       sound = record {
-        held = held-changed s.loaded.items s.head s.order.ids s.slots (with_value s.slots id new) id new s.sound.held up sound;
+        held = held-changed s.loaded.bytes s.head s.order.ids s.slots (with_value s.slots id new) id new s.sound.held up sound;
         distinct = s.sound.distinct;
         no_more = write-counts s.slots id old new (length s.order.ids) (sym c.in-Some.ensures.value) s.sound.no_more;
         few = s.sound.few;
       };
+      in_memory = s.in_memory;
     }
 
 pub returns-clause-bases : goal.returns-clause-bases
@@ -41,7 +42,7 @@ returns-clause-bases g c =
     let old : Slot g.row.T.Denot = c.in-Some.slot.now in
     let new : Slot g.row.T.Denot = record { base = old.base; runs = c.args.runs; payload = old.payload } in
     let up : Updates s.slots (with_value s.slots id new) id (Some new) = write-updates s.slots id old new (sym c.in-Some.ensures.value) in
-    bases-kept s.loaded.items s.order.ids s.slots (with_value s.slots id new) id old new (sym c.in-Some.ensures.value) refl up
+    bases-kept s.loaded.bytes s.order.ids s.slots (with_value s.slots id new) id old new (sym c.in-Some.ensures.value) refl up
 
 pub returns-clause-traces : goal.returns-clause-traces
 returns-clause-traces g c =
@@ -49,9 +50,9 @@ returns-clause-traces g c =
     let id = c.id-id.result in
     let old : Slot g.row.T.Denot = c.in-Some.slot.now in
     let new : Slot g.row.T.Denot = record { base = old.base; runs = c.args.runs; payload = old.payload } in
-    let base = base-at s.loaded.items s.order.ids s.slots c.args.p id old c.id-id.ensures (sym c.in-Some.ensures.value) in
+    let base = base-at s.loaded.bytes s.order.ids s.slots c.args.p id old c.id-id.ensures (sym c.in-Some.ensures.value) in
     let up : Updates s.slots (with_value s.slots id new) id (Some new) = write-updates s.slots id old new (sym c.in-Some.ensures.value) in
-    traces-changed s.loaded.items s.order.ids s.slots (with_value s.slots id new) c.args.p id new s.sound.distinct c.id-id.ensures up
+    traces-changed s.loaded.bytes s.order.ids s.slots (with_value s.slots id new) c.args.p id new s.sound.distinct c.id-id.ensures up
     ∙ ap (λ (b : List ℕ). slice_set (traces_of s) (c.args.p - 1) (bytes_with_runs b c.args.runs.items)) (sym base)
 
 pub returns-clause-payloads : goal.returns-clause-payloads

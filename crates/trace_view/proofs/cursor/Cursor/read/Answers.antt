@@ -1,10 +1,19 @@
-use Rattle.std.proofs.Common.{◌<◌, ◌≤◌, length, arith}
-use Rattle.trace_view.proofs.StepLemmas.{byte_read}
+use Rattle.std.proofs.Common.{◌≡◌, ◌≤◌, ◌-◌, length, drop, arith}
+use Rattle.std.proofs.lemmas.List.{length-drop, length-take-le}
+use Rattle.trace_view.proofs.StepLemmas.{length-read, part_read}
 use Rattle.trace_view.proofs.cursor.Cursor.read.Goals as goal
 
-pub loop-byte-preserved : goal.loop-byte-preserved
-loop-byte-preserved c =
-    let room : length c.loop-byte.out ≤ length c.args.self.now = omega arith in
-    let here : c.loop-byte.byte-index < length c.loop-byte.out = omega arith in
-    let k = byte_read c.args.self.now c.loop-byte.out c.loop-byte.self c.byte.new.self c.loop-byte.byte-index c.byte.result here room c.loop-byte.invariant.left c.loop-byte.invariant.read c.byte.ensures in
-    record { left = k.0; read = k.1 }
+pub loop-done-preserved : goal.loop-done-preserved
+loop-done-preserved c =
+    let l = c.loop-done in
+    let inv = l.invariant in
+    let some = c.read_some-done in
+    let long = length-drop l.done l.out in
+    let left = length l.out - l.done in
+    let old = length-take-le left (drop l.done l.out) (omega (arith, long)) in
+    let size : length some.new.out ≡ left = omega (arith, some.ensures.size, old) in
+    let less : some.result ≤ left = omega (arith, some.ensures.within, old) in
+    let room : length l.out ≤ length c.args.self.now = omega (arith, inv.size, c.requires) in
+    let k = part_read c.args.self.now l.out some.new.out l.self some.new.self l.done some.result inv.within room size less inv.left inv.read some.ensures.read some.ensures.rest in
+    let same = length-read l.out some.new.out l.done inv.within size in
+    record { within = omega (arith, same, less, inv.within); size = omega (arith, same, inv.size); left = k.0; read = k.1 }

@@ -1,8 +1,13 @@
-use Rattle.std.proofs.Common.{◌≡◌, take, drop}
+use Rattle.std.proofs.Common.{◌≡◌, ◌≤◌, ◌-◌, length, take, drop}
 use Rattle.trace_view.proofs.cursor.Cursor.read.Given as goal
 
-abbrev pub invariant-loop-byte : goal.invariant-loop-byte
-invariant-loop-byte l = record {
-  left : l.self ≡ drop l.byte-index l.fn.self;
-  read : take l.byte-index l.out ≡ take l.byte-index l.fn.self;
+abbrev pub invariant-loop-done : goal.invariant-loop-done
+invariant-loop-done l = record {
+  within : l.done ≤ length l.out;
+  size : length l.out ≡ length l.fn.out;
+  left : l.self ≡ drop l.done l.fn.self;
+  read : take l.done l.out ≡ take l.done l.fn.self;
 }
+
+abbrev pub decreases-loop-done : goal.decreases-loop-done
+decreases-loop-done l = length l.out - l.done

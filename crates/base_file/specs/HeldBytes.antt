@@ -1,0 +1,58 @@
+-- What a volume's base shows: its bytes, and whether they still stand.
+use Rattle.std.specs.Prelude.{ℕ, ◌≡◌, ◌+◌, ◌≤◌, Bool, IsTrue, List, length, take, drop}
+use Rattle.std.specs.Coded.{Unit-prop}
+use mathlib.Core.HLevel.{⊥_prop}
+
+-- Whether each read gave the bytes that were loaded. Bytes in memory always do.
+pub data Standing : Type 0 where
+  InMemory : Standing
+  OnDisk : Bool → Standing
+
+-- the bytes are in memory
+abbrev pub IsInMemory : Standing → Type 0
+IsInMemory InMemory = Unit {0}
+IsInMemory (OnDisk agreed) = ⊥
+
+pub IsInMemory-prop : (standing : Standing) → IsProp (IsInMemory standing)
+IsInMemory-prop InMemory = Unit-prop
+IsInMemory-prop (OnDisk agreed) = ⊥_prop
+
+-- each read so far gave the bytes that were loaded
+abbrev pub IsSure : Standing → Type 0
+IsSure InMemory = Unit {0}
+IsSure (OnDisk agreed) = IsTrue agreed
+
+-- it stays as it is in memory, and can only fall on disk
+abbrev pub Falls : Standing → Standing → Type 0
+Falls InMemory new = new ≡ InMemory
+Falls (OnDisk agreed) InMemory = ⊥
+Falls (OnDisk agreed) (OnDisk later) = IsTrue later → IsTrue agreed
+
+-- bytes that were loaded, their standing, and what was read last
+pub record HeldBytes : Type 0 where
+  pub bytes : List ℕ
+  pub standing : Standing
+  pub room : List ℕ
+
+-- the same bytes, which stand as they did or have fallen
+pub record IsStill (old new : HeldBytes) : Type 0 where
+  pub bytes : new.bytes ≡ old.bytes
+  pub standing : Falls old.standing new.standing
+
+-- what is lent: the bytes themselves, or what was read last
+abbrev pub lent_by : Standing → List ℕ → List ℕ → ℕ → ℕ → List ℕ
+lent_by InMemory bytes room at n = take n (drop at bytes)
+lent_by (OnDisk agreed) bytes room at n = take n room
+
+-- what is lent: so many bytes from a place on, or on disk the front of the room
+abbrev pub lent_of : HeldBytes → ℕ → ℕ → List ℕ
+lent_of h at n = lent_by h.standing h.bytes h.room at n
+
+-- so many bytes from a place on lie in memory, or on disk fit the room
+abbrev pub are_there : Standing → List ℕ → List ℕ → ℕ → ℕ → Type 0
+are_there InMemory bytes room at n = at + n ≤ length bytes
+are_there (OnDisk agreed) bytes room at n = n ≤ length room
+
+-- so many bytes are there to be lent
+abbrev pub AreThere : HeldBytes → ℕ → ℕ → Type 0
+AreThere h at n = are_there h.standing h.bytes h.room at n

@@ -1,0 +1,70 @@
+// Bytes that stay on disk.
+ghost use Rattle.std.specs.Prelude.{◌≡◌, ◌+◌, ◌≤◌, ◌<◌, ◌^◌, length, take, drop, IsTrue, OnOk, OnErr};
+ghost use Rattle.base_file.specs.Seen.{joined, all_as};
+
+use crate::base::Base;
+use crate::log::Log;
+use crate::read_fault::ReadFault;
+use std::os::unix::fs::FileExt;
+
+/// Bytes on disk, as one pass over the file gave them (`Loading`). Each read asks the file again,
+/// and is refused where the file gives fewer bytes, or fails.
+#[derive(Drop)]
+pub struct Disk<F> {
+    file: F,
+    size: u64,
+    first: Log,
+    later: Log,
+    ghost counted: { length (joined first.events) ≡ size },
+    ghost small: { size ≤ 2 ^ 62 },
+}
+
+impl<F> Disk<F> {
+    ghost use Rattle.base_file.specs.Disks.{bytes_of, is_agreed};
+
+    // A file of which a pass has read so many bytes, and which was not read since.
+    pub(crate) fn new(file: F, size: u64, first: Log) -> Disk<F>
+        requires counted { length (joined first.events) ≡ size }
+        requires small { size ≤ 2 ^ 62 }
+        ensures bytes { bytes_of result ≡ joined first.events }
+        ensures agreed { IsTrue (is_agreed result) }
+    {
+        Disk {
+            file,
+            size,
+            first,
+            later: Log::new(),
+        }
+    }
+}
+
+impl<F: FileExt> Base for Disk<F> {
+    ghost bytes = { λ d. joined d.first.events };
+
+    ghost agreed = { λ d. all_as (joined d.first.events) d.later.events };
+
+    fn length(&self) -> u64 {
+        self.size
+    }
+
+    fn read(&mut self, at: u64, out: &mut [u8]) -> Result<(), ReadFault> {
+        fill(&self.file, at, out)?;
+        self.later.note(&[at], out);
+        Ok(())
+    }
+}
+
+// Fills all of `out` with bytes of the file from `at` on. No clause says which: no contract says
+// what a file gives.
+fn fill<F: FileExt>(file: &F, at: u64, out: &mut [u8]) -> Result<(), ReadFault>
+    requires { at + length out.old < 2 ^ 64 }
+{
+    let mut done = 0;
+    'turns: while done < out.len() {
+        match file.read_at(&mut out[done..], at + done as u64) {
+            Ok(count) if count > 0 => done += count,
+            _ => return Err(ReadFault::ReadFailed),
+        }
+    }
+    Ok(())
+}

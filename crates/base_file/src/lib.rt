@@ -1,0 +1,38 @@
+//! The bytes that a volume was loaded from, in memory or on disk, read by place.
+//!
+//! `Base` is what can be asked of them, `Memory` and `Disk` the two kinds. A file that stays on
+//! disk is loaded in one pass over it (`Loading`): the bytes of that pass are those of the base,
+//! and each later read asks the file again. No clause says what a file gives. So what a read gave
+//! is said where each read since the pass gave its bytes (`agreed`, which no code can tell), and
+//! how much it gave, that it ends, and what stays the same, in any case; of bytes in memory nothing
+//! is open.
+//!
+//! `Held` is the one of the two that a volume stands on, with room for what is lent; its `Standing`
+//! says which. `write_spliced` writes the bytes with edits over them, block by block. Every call
+//! but `Held::in_memory` and `Held::on_disk`, which are given their memory, takes none.
+#![tactic(auto)]
+
+mod base;
+mod disk;
+mod edit;
+mod held;
+mod loading;
+mod log;
+mod memory;
+mod read_fault;
+mod save_fault;
+mod source;
+mod splicing;
+
+pub use crate::base::Base;
+pub use crate::disk::Disk;
+pub use crate::edit::Edit;
+pub use crate::held::Held;
+pub use crate::loading::Loading;
+pub use crate::memory::Memory;
+pub use crate::read_fault::ReadFault;
+pub use crate::save_fault::SaveFault;
+pub use crate::splicing::{write_spliced, write_spliced_in_memory};
+
+#[cfg(test)]
+mod tests;

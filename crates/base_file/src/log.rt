@@ -1,0 +1,35 @@
+// A list of reads that only clauses see.
+ghost use Rattle.std.specs.Prelude.{◌≡◌, List, [], ◌∷◌};
+ghost use Rattle.std.specs.Borrow.{ftrue};
+ghost use Rattle.base_file.specs.Seen.{Seen, seen_of};
+
+use std::marker::{Model, PhantomData};
+
+// What reads gave, the last one first. It takes no memory: no program can look at it. Its two
+// calls, which do nothing, are proved by hand. Only the reads of `Loading` and `Disk` may note,
+// each what it gave, and where.
+#[derive(Drop)]
+pub struct Log {
+    marker: PhantomData<u8>,
+    pub ghost events: { List Seen },
+}
+
+impl Model for Log {
+    ghost also_owns = { λ _. ftrue };
+}
+
+impl Log {
+    // No reads.
+    pub(crate) fn new() -> Log
+        ensures { result.events ≡ [] }
+    {
+        Log {
+            marker: PhantomData,
+        }
+    }
+
+    // One read more, at the place which is the first of the numbers.
+    pub(crate) fn note(&mut self, _numbers: &[u64], _bytes: &[u8])
+        ensures { self.new.events ≡ seen_of _numbers.now _bytes.now ∷ self.old.events }
+    {}
+}

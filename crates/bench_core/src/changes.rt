@@ -35,10 +35,22 @@ pub fn change(volume: &mut LiveVolume, alloc: Global, edit: &Edit) -> Result<boo
             volume.apply(alloc, edit)?;
             Ok(is_moved(before, volume.cell(*p)))
         }
-        Edit::Renumber(a, b, field, first, step) => {
+        Edit::Renumber {
+            first_trace: a,
+            last_trace: b,
+            field,
+            first_value: first,
+            step,
+        } => {
             volume.renumber(alloc, *a, *b, field, *first, *step)
         }
-        Edit::Compute(a, b, field, source, steps) => {
+        Edit::Compute {
+            first_trace: a,
+            last_trace: b,
+            field,
+            source,
+            steps,
+        } => {
             volume.compute(alloc, *a, *b, field, source, steps.as_slice())
         }
         _ => {
@@ -66,7 +78,7 @@ pub fn follow(slices: &mut SliceCache, edit: &Edit, moved: bool)
 {
     match edit {
         Edit::SetBin(_, _) | Edit::SetText(_, _) | Edit::Unmap(_) => {}
-        Edit::Set(_, _, _) | Edit::Renumber(_, _, _, _, _) | Edit::Compute(_, _, _, _, _) => {
+        Edit::Set(_, _, _) | Edit::Renumber { .. } | Edit::Compute { .. } => {
             if moved {
                 slices.clear();
             }
@@ -82,6 +94,6 @@ pub fn follow(slices: &mut SliceCache, edit: &Edit, moved: bool)
         | Edit::Delete(_)
         | Edit::Move(_, _)
         | Edit::Resize(_, _)
-        | Edit::Sort(_, _, _, _) => slices.clear(),
+        | Edit::Sort { .. } => slices.clear(),
     }
 }

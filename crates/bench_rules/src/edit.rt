@@ -39,21 +39,37 @@ pub enum Edit {
     /// `Resize(p, m)`: trace p with m samples: its first ones as they were, zeros behind them.
     /// Refused, in this order: E01, E04, E06, E09.
     Resize(u32, i128),
-    /// `Renumber(a, b, field, first, step)`: the field of traces a to b counted up from first by
-    /// step, whole or not at all. Refused, in this order: E01 for a, E01 for b, then the first
+    /// The field of each trace of the range counted up from the first value by the step: whole or
+    /// not at all. Refused, in this order: E01 for its first trace, E01 for its last, then the first
     /// refusal of the lowest trace's value, each judged in the file as it was: E02, E03, E04, E06.
-    Renumber(u32, u32, Field, i128, i128),
-    /// `Compute(a, b, field, source, steps)`: the field of each of traces a to b from the source by
-    /// the steps, strictly one after another, on whole numbers of that trace as it was: whole or
-    /// not at all. Refused, in this order: E01 for a, E01 for b, E02 where a field has no place,
-    /// then the first refusal of the lowest trace that has one: E03 where it lacks a place, E13 or
-    /// E04 of the first step that has no number, E04 where the last one does not fit the field,
-    /// E06.
-    Compute(u32, u32, Field, Operand, Items<(Operator, Operand)>),
-    /// `Sort(a, b, fields, falling)`: traces a to b in the order of the numbers of these fields, of
-    /// which the first two that differ tell; those with the same numbers stand as they stood. The
-    /// numbers of a field fall where the item of `falling` at its place is true, and rise where it
-    /// is false; a field for which there is no item tells nothing. Refused, in this order: E01 for
-    /// a, E01 for b, E02 where a field has no place, E03 where one of the traces lacks a place.
-    Sort(u32, u32, Items<Field>, Items<bool>),
+    Renumber {
+        first_trace: u32,
+        last_trace: u32,
+        field: Field,
+        first_value: i128,
+        step: i128,
+    },
+    /// The field of each trace of the range from the source by the steps, strictly one after
+    /// another, on whole numbers of that trace as it was: whole or not at all. Refused, in this
+    /// order: E01 for its first trace, E01 for its last, E02 where a field has no place, then the
+    /// first refusal of the lowest trace that has one: E03 where it lacks a place, E13 or E04 of the
+    /// first step that has no number, E04 where the last one does not fit the field, E06.
+    Compute {
+        first_trace: u32,
+        last_trace: u32,
+        field: Field,
+        source: Operand,
+        steps: Items<(Operator, Operand)>,
+    },
+    /// The traces of the range in the order of the numbers of these fields, of which the first two
+    /// that differ tell; those with the same numbers stand as they stood. The numbers of a field
+    /// fall where the item of `falling` at its place is true, and rise where it is false; a field
+    /// for which there is no item tells nothing. Refused, in this order: E01 for the first trace,
+    /// E01 for the last, E02 where a field has no place, E03 where one of the traces lacks a place.
+    Sort {
+        first_trace: u32,
+        last_trace: u32,
+        fields: Items<Field>,
+        falling: Items<bool>,
+    },
 }

@@ -27,7 +27,13 @@ fn from_crossline(
             return Err("memory".into());
         };
     }
-    Ok(Edit::Compute(a, b, field, crossline(), Items::new(list)))
+    Ok(Edit::Compute {
+        first_trace: a,
+        last_trace: b,
+        field,
+        source: crossline(),
+        steps: Items::new(list),
+    })
 }
 
 fn compute_sequence(rt: &impl Abort, alloc: Global, bench: &mut Bench) -> Result<(), Fail> {
@@ -104,7 +110,13 @@ fn refuse_names(rt: &impl Abort, alloc: Global, bench: &mut Bench) -> Result<(),
     let Ok(()) = list.push((Operator::Over, Operand::Field(Field::Name(name)))) else {
         return Err("memory".into());
     };
-    let edit = Edit::Compute(1, 3, signed(0, 1, 4), crossline(), Items::new(list));
+    let edit = Edit::Compute {
+        first_trace: 1,
+        last_trace: 3,
+        field: signed(0, 1, 4),
+        source: crossline(),
+        steps: Items::new(list),
+    };
     let before = bench.looks();
     assert!(rt; meets(bench, alloc, edit, Some(Refusal::NoField)));
     assert_eq!(rt; bench.looks(), before);
@@ -134,7 +146,13 @@ fn a_computation_changes_no_length(rt: HostRuntime) -> Result<(), Fail> {
         (4334, 3),
         &mut |bench: &mut Bench| {
             let steps = Items::new(Vec::new(alloc));
-            let edit = Edit::Compute(1, 3, signed(0, 115, 2), Operand::Number(9), steps);
+            let edit = Edit::Compute {
+                first_trace: 1,
+                last_trace: 3,
+                field: signed(0, 115, 2),
+                source: Operand::Number(9),
+                steps,
+            };
             assert!(&rt; meets(bench, alloc, edit, Some(Refusal::Frame)));
             Ok(())
         },

@@ -1,7 +1,7 @@
 // Another number of samples of a trace, and a field of many traces counted up, over small files
 // that are made by hand.
 use crate::report_tests::on_survey;
-use crate::tests::{meets, on_file, put_bytes, sample_file, shows, signed, value};
+use crate::tests::{meets, on_file, put_bytes, renumber, sample_file, shows, signed, value};
 use bench_core::{Bench, Edit, Query, Refusal};
 use frame_cut::Reading;
 use std::alloc::Global;
@@ -11,12 +11,12 @@ use std::test::Fail;
 fn count_up(rt: &impl Abort, alloc: Global, bench: &mut Bench) -> Result<(), Fail> {
     bench.ask(alloc, &Query::Slice(0))?;
     let before = bench.looks();
-    let sequence = Edit::Renumber(1, 3, signed(0, 1, 4), 7, -2);
+    let sequence = renumber(1, 3, signed(0, 1, 4), 7, -2);
     assert!(rt; meets(bench, alloc, sequence, None));
     assert!(rt; bench.looks().checked_sub(before) <= Some(6));
     assert!(rt; bench.cached(0));
     assert_eq!(rt; value(bench, alloc, 3, signed(0, 1, 4))?, 3);
-    let inlines = Edit::Renumber(1, 3, signed(0, 189, 4), 10, 1);
+    let inlines = renumber(1, 3, signed(0, 189, 4), 10, 1);
     assert!(rt; meets(bench, alloc, inlines, None));
     assert!(rt; !bench.cached(0));
     assert_eq!(rt; value(bench, alloc, 3, signed(0, 189, 4))?, 12);
@@ -32,13 +32,13 @@ fn a_field_is_counted_up(rt: HostRuntime) -> Result<(), Fail> {
 }
 
 fn refuse_whole(rt: &impl Abort, alloc: Global, bench: &mut Bench) -> Result<(), Fail> {
-    let wide = Edit::Renumber(1, 3, signed(0, 189, 4), 2147483646, 1);
+    let wide = renumber(1, 3, signed(0, 189, 4), 2147483646, 1);
     assert!(rt; meets(bench, alloc, wide, Some(Refusal::DoesNotFit)));
     assert_eq!(rt; value(bench, alloc, 1, signed(0, 189, 4))?, 10);
     let before = bench.looks();
-    let past = Edit::Renumber(2, 4, signed(0, 189, 4), 1, 1);
+    let past = renumber(2, 4, signed(0, 189, 4), 1, 1);
     assert!(rt; meets(bench, alloc, past, Some(Refusal::NoTrace(4, 3))));
-    let turned = Edit::Renumber(2, 1, signed(0, 189, 4), 1, 1);
+    let turned = renumber(2, 1, signed(0, 189, 4), 1, 1);
     assert!(rt; meets(bench, alloc, turned, Some(Refusal::NoTrace(1, 3))));
     assert_eq!(rt; bench.looks(), before);
     Ok(())

@@ -1,5 +1,7 @@
 // Edits and queries over a small file of floats: bytes without a value.
-use crate::tests::{fault, meets, on_file, put_bytes, refusal, sample_file, saves, signed, value};
+use crate::tests::{
+    fault, meets, on_file, put_bytes, refusal, renumber, sample_file, saves, signed, value,
+};
 use bench_core::{Answer, AskFault, Bench, Edit, Items, Query, Refusal};
 use frame_cut::Reading;
 use std::alloc::Global;
@@ -109,7 +111,7 @@ fn repair(rt: &impl Abort, alloc: Global, bench: &mut Bench) -> Result<(), Fail>
         meets(
             bench,
             alloc,
-            Edit::Renumber(1, 2, signed(0, 1, 4), 1, 1),
+            renumber(1, 2, signed(0, 1, 4), 1, 1),
             None
         )
     );

@@ -17,7 +17,12 @@ fn by(alloc: Global, a: u32, b: u32, keys: &[(u16, bool)]) -> Result<Edit, Fail>
             return Err("memory".into());
         }
     }
-    Ok(Edit::Sort(a, b, Items::new(fields), Items::new(falling)))
+    Ok(Edit::Sort {
+        first_trace: a,
+        last_trace: b,
+        fields: Items::new(fields),
+        falling: Items::new(falling),
+    })
 }
 
 // Whether the traces have these crosslines.
@@ -75,7 +80,12 @@ fn refuse_each(rt: &impl Abort, alloc: Global, bench: &mut Bench) -> Result<(), 
     let fields = Items::new(vec![in alloc; name]?);
     let falling = Items::new(vec![in alloc; false]?);
     let before = bench.looks();
-    let edit = Edit::Sort(1, 3, fields, falling);
+    let edit = Edit::Sort {
+        first_trace: 1,
+        last_trace: 3,
+        fields,
+        falling,
+    };
     assert!(rt; meets(bench, alloc, edit, Some(Refusal::NoField)));
     assert_eq!(rt; bench.looks(), before);
     assert!(rt; bench.cached(0));

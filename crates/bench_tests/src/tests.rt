@@ -92,6 +92,17 @@ pub(crate) fn signed(extension: u16, byte: u16, size: u8) -> Field {
     Field::Place(place(extension, byte, size))
 }
 
+// A field of traces a to b counted up.
+pub(crate) fn renumber(a: u32, b: u32, field: Field, first: i128, step: i128) -> Edit {
+    Edit::Renumber {
+        first_trace: a,
+        last_trace: b,
+        field,
+        first_value: first,
+        step,
+    }
+}
+
 // The refusal of an edit, if it met one.
 pub(crate) fn refusal(bench: &mut Bench, alloc: Global, edit: Edit) -> Option<Refusal> {
     bench.apply(alloc, &edit).err()

@@ -127,15 +127,32 @@ impl LiveVolume {
             Edit::Delete(p) => self.delete(*p),
             Edit::Move(a, b) => self.move_trace(alloc, *a, *b),
             Edit::Resize(p, count) => self.resize(alloc, *p, *count),
-            Edit::Renumber(a, b, field, first, step) => {
+            Edit::Renumber {
+                first_trace: a,
+                last_trace: b,
+                field,
+                first_value: first,
+                step,
+            } => {
                 self.renumber(alloc, *a, *b, field, *first, *step)?;
                 Ok(())
             }
-            Edit::Compute(a, b, field, source, steps) => {
+            Edit::Compute {
+                first_trace: a,
+                last_trace: b,
+                field,
+                source,
+                steps,
+            } => {
                 self.compute(alloc, *a, *b, field, source, steps.as_slice())?;
                 Ok(())
             }
-            Edit::Sort(a, b, fields, falling) => {
+            Edit::Sort {
+                first_trace: a,
+                last_trace: b,
+                fields,
+                falling,
+            } => {
                 self.sort(alloc, *a, *b, fields.as_slice(), falling.as_slice())
             }
         }

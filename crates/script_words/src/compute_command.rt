@@ -34,7 +34,13 @@ pub(crate) fn compute(alloc: Global, mut words: Words) -> Result<Command, LineFa
     let steps = steps(alloc, rest)?;
     let at = field(alloc, at)?;
     let source = operand(alloc, source)?;
-    Ok(Command::Apply(Edit::Compute(a, b, at, source, steps)))
+    Ok(Command::Apply(Edit::Compute {
+        first_trace: a,
+        last_trace: b,
+        field: at,
+        source,
+        steps,
+    }))
 }
 
 // The operand that a word is: a number where it begins as one, else a field. Refused: S03, or E11

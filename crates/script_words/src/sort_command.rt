@@ -27,7 +27,12 @@ pub(crate) fn sort(alloc: Global, mut words: Words) -> Result<Command, LineFault
     let b = position(b).ok_or(LineFault::Number)?;
     let fields = sorted_fields(alloc, rest)?;
     let falling = falling(alloc, rest)?;
-    Ok(Command::Apply(Edit::Sort(a, b, fields, falling)))
+    Ok(Command::Apply(Edit::Sort {
+        first_trace: a,
+        last_trace: b,
+        fields,
+        falling,
+    }))
 }
 
 // Whether the numbers of the word's field are to fall: `-` stands in front of it. `-` alone is a

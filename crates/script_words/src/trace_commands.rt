@@ -81,7 +81,13 @@ pub(crate) fn renumber(alloc: Global, words: Words) -> Result<Command, LineFault
     let first = number(first).ok_or(LineFault::Number)?;
     let step = number(step).ok_or(LineFault::Number)?;
     let at = field(alloc, at)?;
-    Ok(Command::Apply(Edit::Renumber(a, b, at, first, step)))
+    Ok(Command::Apply(Edit::Renumber {
+        first_trace: a,
+        last_trace: b,
+        field: at,
+        first_value: first,
+        step,
+    }))
 }
 
 // Whether each word of the text is a number.

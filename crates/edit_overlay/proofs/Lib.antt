@@ -1,6 +1,6 @@
 pub mod FaultLemmas
 pub mod HeldLemmas
 pub mod LoadingLemmas
-pub mod PassLemmas
 pub mod PieceLemmas
 pub mod SavingLemmas
+pub mod StandingLemmas

@@ -65,7 +65,7 @@ taken_more old new written bytes grows start all h = record {
 }
 
 pub taken_less : (old new : Option (List ℕ)) (written part : ℕ) (bytes : List ℕ) → Appends old new (take part bytes) × (part < length bytes)
-    → Stops old new (record { written = written; waits = [] }) bytes (record { written = written + part })
+    → Stops old new (record { written = written; waits = [] }) bytes (record { written = written + part; read = None })
 taken_less old new written part bytes grows start all h =
     let all_is : h.taken ≡ all = sym (append-nil h.taken) ∙ h.joined in
     let cut : take (written + part) (h.taken ++ bytes) ≡ h.taken ++ take part bytes = ap (λ (n : ℕ). take (n + part) (h.taken ++ bytes)) h.counted ∙ take-append-add h.taken bytes part in

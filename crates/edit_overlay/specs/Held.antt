@@ -34,6 +34,7 @@ looked_of o = record {
   looks = o.looks;
   payloads = payloads_of o.store;
   payloads_prepared = payloads_ahead (payloads_of o.store) o.prepared;
+  standing = o.store.loaded.standing;
 }
 
 -- the loaded file has the blocks in front of its traces, and the data trailer records behind them

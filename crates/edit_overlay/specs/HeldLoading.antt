@@ -13,6 +13,7 @@ loaded_of l = record {
   volume = volume_at l.store.loaded.bytes l.store.head l.extents.items;
   payloads = payloads_of l.store;
   looks = l.looks;
+  standing = l.store.loaded.standing;
 }
 
 -- the parts joined are the file, its traces lie one behind the other and are whole, and the store has the first of them

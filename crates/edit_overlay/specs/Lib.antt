@@ -5,4 +5,4 @@ pub mod HeldLoading
 pub mod CountedVolume
 pub mod LoadedVolume
 pub mod Looks
-pub mod Passes
+pub mod Standings

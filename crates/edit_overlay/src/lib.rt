@@ -6,7 +6,7 @@
 //! number of looks at them, and beside parts and payloads as they are those that they would be with
 //! the edit that is prepared. Traces count from 1, bytes of a trace from 0.
 //!
-//! The loaded bytes stand in memory and never change. The traces stand in a `TraceStore`. A
+//! The loaded bytes never change. The traces stand in a `TraceStore`. A
 //! save writes the parts one behind the other, neighbouring ranges of the loaded bytes at once, and
 //! joins nothing in memory.
 //!
@@ -25,15 +25,17 @@
 //! makes the edit, as `commit_with`, which gives a trace its payload too; `discard` drops it. An
 //! overlay holds one such edit at a time, and any other edit drops it.
 //!
-//! `look` and `look_prepared` show a trace in the pieces in which it is held; `pass_near` shows all
-//! of them with their payloads in order. Looks are counted: contracts can say how often traces were
-//! read. Payloads are no look.
+//! `look` and `look_prepared` show a trace in the pieces in which it is held. Looks are counted:
+//! contracts can say how often traces were read. Payloads are no look.
+//!
+//! What is claimed of a trace's bytes is claimed where each read since the load gave the bytes that
+//! the load read (`standing`); lengths, counts and what stays as it was, in any case. Of bytes in
+//! memory nothing is open: they are sure, and no read of them is refused.
 #![tactic(auto)]
 
 mod bytes;
 mod loading;
 mod overlay;
-mod pass;
 mod reading_in;
 mod save_fault;
 mod waiting;
@@ -41,6 +43,6 @@ mod writing_out;
 
 pub use crate::loading::Loading;
 pub use crate::overlay::Overlay;
-pub use crate::pass::Pass;
 pub use crate::save_fault::SaveFault;
-pub use trace_store::{Column, OutOfMemory, Payloads, Rows};
+pub use base_file::ReadFault;
+pub use trace_store::{Column, OutOfMemory, Payloads};

@@ -2,6 +2,7 @@
 ghost use Rattle.std.specs.Prelude.{◌≡◌, ◌⊎◌, ◌↔◌, ◌+◌, ◌<◌, ◌≤◌, [], length, IfOk, IfErr, IfSome, IsSome, OnOk, OnErr, MatchResult};
 ghost use Rattle.std.specs.Borrow.{sem};
 ghost use Rattle.std.specs.Io.KnownBytes.{Consumes, IsAtEnd};
+ghost use Rattle.base_file.specs.HeldBytes.{InMemory};
 ghost use Rattle.frame_cut.specs.Cuts.{IsCut, IsRefused};
 ghost use Rattle.frame_cut.specs.Traces.{count_of};
 ghost use Rattle.frame_cut.specs.Volume.{bytes_of};
@@ -63,6 +64,7 @@ impl<T: Copy> Loading<T> {
         ensures cut { IfOk result (λ l. IsCut (bytes_of l.volume) reading limits l.volume) }
         ensures payloads { IfOk result (λ l. l.payloads ≡ []) }
         ensures looks { IfOk result (λ l. l.looks ≡ 0) }
+        ensures standing { IfOk result (λ l. l.standing ≡ InMemory) }
         ensures refused { IfErr result (λ fault. IsLoadFault (R.remaining reader.old.inner) reading
             limits fault) }
         ensures read { IfErr result (λ _. TakesWithin (R.remaining reader.old.inner)
@@ -86,6 +88,7 @@ impl<T: Copy> Loading<T> {
         ensures cut { IfOk result (λ l. IsCut bytes.items reading limits l.volume) }
         ensures payloads { IfOk result (λ l. l.payloads ≡ []) }
         ensures looks { IfOk result (λ l. l.looks ≡ 0) }
+        ensures standing { IfOk result (λ l. l.standing ≡ InMemory) }
         ensures refused { IfErr result (λ fault. (fault ≡ no_memory) ⊎
             IsRefused bytes.items reading limits fault) }
     {

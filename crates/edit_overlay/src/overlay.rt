@@ -1,6 +1,5 @@
 ghost use Rattle.std.specs.Prelude.{ℕ, ◌≡◌, ◌⊎◌, ◌↔◌, ◌+◌, ◌-◌, ◌/◌, ◌%◌, ◌≤◌, ◌<◌, ◌^◌, [], length, slice_index_or, option_map, slice_get, slice_set, map, Some, IfOk, IfErr, IfSome, IsSome, IsTrue, OnOk, OnErr, MatchResult};
 ghost use Rattle.std.specs.Borrow.{sem};
-ghost use Rattle.device_io.specs.Failures.{CountsFailure};
 ghost use Rattle.frame_cut.specs.Cuts.{IsTrace};
 ghost use Rattle.frame_cut.specs.Splice.{splice};
 ghost use Rattle.frame_cut.specs.Traces.{count_of, is_trace, trace_at, with_trace};
@@ -11,19 +10,19 @@ ghost use Rattle.trace_store.specs.Stores.{payloads_moved, payloads_of};
 ghost use Rattle.trace_store.specs.Swapped.{with_places_swapped, with_swapped, ArePlaces};
 ghost use Rattle.std.specs.List.{insert, remove};
 ghost use Rattle.frame_cut.specs.Parts.{block_of, trailer_of, with_line, with_header_bytes, with_each, with_inserted, without, with_moved};
-ghost use Rattle.edit_overlay.specs.Saving.{Saves};
+ghost use Rattle.edit_overlay.specs.Saving.{CountsSaveFailure, Saves};
 
 use crate::bytes::{array_at, overwrite};
-use crate::pass::Pass;
 use crate::save_fault::SaveFault;
 use crate::writing_out::write_volume;
+use base_file::ReadFault;
 use device_io::Sink;
 use frame_cut::{BINARY_HEADER_BYTES, FILE_HEADER_BYTES, Head};
 use std::alloc::Global;
 use std::io::Write;
 use std::marker::Model;
 use text_block::TEXT_BLOCK_BYTES;
-use trace_store::{Base, Column, OutOfMemory, Prepared, Rows, TraceStore};
+use trace_store::{Base, Column, OutOfMemory, Prepared, TraceStore};
 use trace_view::TraceView;
 
 /// A volume under edits: one SEG-Y file in its parts. The bytes that were loaded never change:
@@ -51,10 +50,11 @@ impl<T: Copy> Model for Overlay<T> {
 }
 
 impl<T: Copy> Overlay<T> {
-    ghost use Rattle.edit_overlay.specs.CountedVolume.{IsViewOf};
+    ghost use Rattle.base_file.specs.HeldBytes.{IsInMemory, IsSure, Falls};
+    ghost use Rattle.edit_overlay.specs.CountedVolume.{after_look, with_standing, HasShapeOf, IsViewOf};
     ghost use Rattle.edit_overlay.specs.Held.{volume_with, HasEnds};
-    ghost use Rattle.edit_overlay.specs.Looks.{EndsLooked, EndsPassed};
-    ghost use Rattle.edit_overlay.specs.Passes.{volume_of, payloads_of as payloads_of_pass, rows_of};
+    ghost use Rattle.edit_overlay.specs.Looks.{EndsLooked};
+    ghost use Rattle.edit_overlay.specs.Standings.{IsOnDisk};
 
     // An overlay of the store of a loaded file, with its headers, and how often traces were looked
     // at.
@@ -73,6 +73,7 @@ impl<T: Copy> Overlay<T> {
           looks = looks;
           payloads = payloads_of store;
           payloads_prepared = payloads_of store;
+          standing = store.loaded.standing;
         } }
     {
         let length = store.loaded.length();
@@ -114,18 +115,28 @@ impl<T: Copy> Overlay<T> {
         self.looks
     }
 
-    /// Trace p, counted from 1, and one look more; None where there is none, and then no look.
-    /// Takes no memory.
-    pub fn look(&mut self, p: u32) -> Option<TraceView<'_>>
-        ensures* counts { sem 𝓛 (EndsLooked T.row self.entry result) }
-        ensures there { IsSome result ↔ IsTrue (is_trace self.old.volume p) }
-        ensures trace { IfSome result (IsViewOf self.old.volume p) }
+    /// Trace p, counted from 1, and one look more; None where there is none, and then no look. On
+    /// disk the trace is read, and refused where the file fails or gives other bytes than it gave
+    /// when it was loaded, as far as its length tells. Takes no memory.
+    pub fn look(&mut self, p: u32) -> Result<Option<TraceView<'_>>, ReadFault>
+        ensures* ends { sem 𝓛 (EndsLooked T.row self.entry self.old.volume p result) }
+        ensures there { IfOk result (λ view. IsSome view ↔ IsTrue (is_trace self.old.volume p)) }
+        ensures shape { IfOk result (λ view. IfSome view (HasShapeOf self.old.volume p)) }
+        ensures read { IfErr result (λ _. IsTrue (is_trace self.old.volume p)
+            × IsOnDisk self.old.standing) }
     {
         if p == 0 || p > self.count() {
-            return None;
+            return Ok(None);
         }
+        self.count_look();
+        Ok(Some(self.view(p)))
+    }
+
+    // One look more.
+    fn count_look(&mut self)
+        ensures { self.new ≡ after_look self.old self.old.standing }
+    {
         self.looks = self.looks.saturating_add(1);
-        Some(self.view(p))
     }
 
     /// The payload of trace p, counted from 1.
@@ -157,27 +168,10 @@ impl<T: Copy> Overlay<T> {
         self.store.view(p)
     }
 
-    /// A pass over all traces as they are now with their payloads, in order, and one look more for
-    /// each. The looks are counted where the pass is made, however far it goes. It is for a caller
-    /// that needs of each trace what stands near byte `at`, counted from 0 in the trace: those
-    /// bytes of the next traces are read together, which is faster, and shows the same. A trace
-    /// need not have the byte. Takes no memory.
-    pub fn pass_near(&mut self, at: u64) -> Pass<'_, T>
-        ensures* counts { sem 𝓛 (EndsPassed T.row self.entry) }
-        ensures volume { volume_of result ≡ self.old.volume }
-        ensures payloads { payloads_of_pass result ≡ self.old.payloads }
-    {
-        self.looks = self.looks.saturating_add(u64::from(self.count()));
-        Pass::new(self, at)
-    }
-
-    // All traces with their payloads in order, where byte `at` of each, counted from 0, is read
-    // ahead.
-    pub(crate) fn rows(&self, at: u64) -> Rows<'_, T>
-        ensures { result ≡ rows_of self.now.volume self.now.payloads }
-    {
-        Rows::near(&self.store, at)
-    }
+    /// Brings byte `at`, counted from 0, of each of the next traces from trace p on nearer to the
+    /// processor, where they are in memory and have it: for a caller that is to look at them one
+    /// after another, and needs of each what stands there. Shows nothing, and takes no memory.
+    pub fn read_ahead(&self, _p: u32, _at: u64) {}
 
     /// The payloads of all traces, in order. Looks at no trace, and takes no memory.
     pub fn payloads(&self) -> Column<'_, T>
@@ -187,17 +181,19 @@ impl<T: Copy> Overlay<T> {
     }
 
     /// Trace p, counted from 1, as it would be with the edit that is prepared, and one look more;
-    /// None where there is none, and then no look. Takes no memory.
-    pub fn look_prepared(&mut self, p: u32) -> Option<TraceView<'_>>
-        ensures* counts { sem 𝓛 (EndsLooked T.row self.entry result) }
-        ensures there { IsSome result ↔ IsTrue (is_trace self.old.prepared p) }
-        ensures trace { IfSome result (IsViewOf self.old.prepared p) }
+    /// None where there is none, and then no look. Refused as `look`. Takes no memory.
+    pub fn look_prepared(&mut self, p: u32) -> Result<Option<TraceView<'_>>, ReadFault>
+        ensures* ends { sem 𝓛 (EndsLooked T.row self.entry self.old.prepared p result) }
+        ensures there { IfOk result (λ view. IsSome view ↔ IsTrue (is_trace self.old.prepared p)) }
+        ensures shape { IfOk result (λ view. IfSome view (HasShapeOf self.old.prepared p)) }
+        ensures read { IfErr result (λ _. IsTrue (is_trace self.old.prepared p)
+            × IsOnDisk self.old.standing) }
     {
         if p == 0 || p > self.count_prepared() {
-            return None;
+            return Ok(None);
         }
-        self.looks = self.looks.saturating_add(1);
-        Some(self.view_prepared(p))
+        self.count_look();
+        Ok(Some(self.view_prepared(p)))
     }
 
     // The number of traces, which a prepared edit leaves as it is.
@@ -301,7 +297,7 @@ impl<T: Copy> Overlay<T> {
         requires first { 1 ≤ p }
         requires last { p ≤ count_of self.old.volume }
         requires inside { at + length bytes.now ≤ length (trace_at self.old.volume p) }
-        requires whole { IsTrace self.old.volume.head
+        requires whole { IsSure self.old.standing → IsTrace self.old.volume.head
             (splice (trace_at self.old.volume p) at (length bytes.now) bytes.now) }
         ensures ok { OnOk result (self.new ≡ with_prepared self.old (with_trace self.old.volume p
             (splice (trace_at self.old.volume p) at (length bytes.now) bytes.now))) }
@@ -331,7 +327,7 @@ impl<T: Copy> Overlay<T> {
         requires last { a - 1 + length bytes.now / size ≤ count_of self.old.volume }
         requires inside { (k : ℕ) → k < length bytes.now / size →
             at + size ≤ length (slice_index_or self.old.volume.traces (a - 1 + k) []) }
-        requires whole { (k : ℕ) → k < length bytes.now / size →
+        requires whole { (k : ℕ) → k < length bytes.now / size → IsSure self.old.standing →
             IsTrace self.old.volume.head
             (splice (slice_index_or self.old.volume.traces (a - 1 + k) []) at size
             (part_of bytes.now size k)) }
@@ -401,7 +397,7 @@ impl<T: Copy> Overlay<T> {
         requires first { 1 ≤ p }
         requires last { p ≤ count_of self.old.volume }
         requires inside { at + length bytes.now ≤ length (trace_at self.old.volume p) }
-        requires whole { IsTrace self.old.volume.head
+        requires whole { IsSure self.old.standing → IsTrace self.old.volume.head
             (splice (trace_at self.old.volume p) at (length bytes.now) bytes.now) }
         ensures ok { OnOk result (self.new ≡ with_volume self.old (with_trace self.old.volume p
             (splice (trace_at self.old.volume p) at (length bytes.now) bytes.now))) }
@@ -431,7 +427,7 @@ impl<T: Copy> Overlay<T> {
         requires last { a - 1 + length bytes.now / size ≤ count_of self.old.volume }
         requires inside { (k : ℕ) → k < length bytes.now / size →
             at + size ≤ length (slice_index_or self.old.volume.traces (a - 1 + k) []) }
-        requires whole { (k : ℕ) → k < length bytes.now / size →
+        requires whole { (k : ℕ) → k < length bytes.now / size → IsSure self.old.standing →
             IsTrace self.old.volume.head
             (splice (slice_index_or self.old.volume.traces (a - 1 + k) []) at size
             (part_of bytes.now size k)) }
@@ -532,12 +528,16 @@ impl<T: Copy> Overlay<T> {
         self.length = self.length - gone + added;
     }
 
-    /// Writes the file as it is now. Takes no memory. Refused where the writer failed; `written` is
-    /// then the length of the prefix that it took.
-    pub fn write_to<W: Write>(&self, writer: &mut Sink<W>) -> Result<(), SaveFault>
-        ensures saved { Saves (W.contents writer.old.inner) (W.contents writer.new.inner)
-            (bytes_of self.now.volume) result }
-        ensures failures { CountsFailure result writer.old.failures writer.new.failures }
+    /// Writes the file as it is now. Takes no memory. Refused where the writer failed, or on disk
+    /// where a read of the loaded bytes did; `written` is then the length of the prefix that the
+    /// writer took.
+    pub fn write_to<W: Write>(&mut self, writer: &mut Sink<W>) -> Result<(), SaveFault>
+        ensures same { self.new ≡ with_standing self.old self.new.standing }
+        ensures standing { Falls self.old.standing self.new.standing }
+        ensures saved { IsSure self.new.standing → Saves (W.contents writer.old.inner)
+            (W.contents writer.new.inner) (bytes_of self.old.volume) result }
+        ensures read { IfErr result (λ fault. IsSome fault.read → IsOnDisk self.old.standing) }
+        ensures failures { CountsSaveFailure result writer.old.failures writer.new.failures }
     {
         // Read for the proof alone, which learns that the file's length fits 64 bits.
         let _length = self.length;

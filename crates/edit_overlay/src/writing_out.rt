@@ -1,13 +1,12 @@
 // Writes a volume to a device: its parts in order, neighbouring ranges of the loaded file at once,
 // and joins nothing.
-ghost use Rattle.std.specs.Prelude.{◌≡◌, ◌+◌, ◌-◌, ◌*◌, ◌≤◌, ◌<◌, ◌^◌, ◌++◌, [], length, drop, slice_range, OnOk};
+ghost use Rattle.std.specs.Prelude.{◌≡◌, ◌+◌, ◌-◌, ◌*◌, ◌≤◌, ◌<◌, ◌^◌, ◌++◌, [], length, drop, slice_range, None, IfErr, OnOk};
 ghost use Rattle.std.specs.List.{concat};
-ghost use Rattle.device_io.specs.Failures.{CountsFailure};
 ghost use Rattle.frame_cut.specs.Heads.{blocks_of};
 ghost use Rattle.frame_cut.specs.Volume.{bytes_of};
 ghost use Rattle.trace_view.specs.Shown.{bytes_of as bytes_of_view};
 ghost use Rattle.edit_overlay.specs.Held.{volume_with, HasEnds};
-ghost use Rattle.edit_overlay.specs.Saving.{progress, GoesOn, Saves};
+ghost use Rattle.edit_overlay.specs.Saving.{progress, CountsSaveFailure, GoesOn, Saves};
 ghost use Rattle.trace_store.specs.Slots.{bytes_in, IsSlot};
 ghost use Rattle.trace_store.specs.Stores.{traces_of};
 
@@ -31,7 +30,8 @@ pub fn write_volume<W: Write, T: Copy>(
     requires small { length (bytes_of (volume_with text.now bin.now store.now)) < 2 ^ 64 }
     ensures saved { Saves (W.contents writer.old.inner) (W.contents writer.new.inner)
         (bytes_of (volume_with text.now bin.now store.now)) result }
-    ensures failures { CountsFailure result writer.old.failures writer.new.failures }
+    ensures read { IfErr result (λ fault. fault.read ≡ None) }
+    ensures failures { CountsSaveFailure result writer.old.failures writer.new.failures }
 {
     let mut written = 0;
     write_part(writer, &mut written, text)?;
@@ -61,7 +61,8 @@ fn write_traces<W: Write, T: Copy>(
     ensures saved { GoesOn (W.contents writer.old.inner) (W.contents writer.new.inner)
         (progress store.now.loaded.bytes waiting.old) (progress store.now.loaded.bytes waiting.new)
         (concat (traces_of store.now)) result }
-    ensures failures { CountsFailure result writer.old.failures writer.new.failures }
+    ensures read { IfErr result (λ fault. fault.read ≡ None) }
+    ensures failures { CountsSaveFailure result writer.old.failures writer.new.failures }
 {
     for id in store.order.ids() {
         match store.slots.get(id) {
@@ -88,7 +89,8 @@ fn write_slot<W: Write, T: Copy>(
     ensures saved { GoesOn (W.contents writer.old.inner) (W.contents writer.new.inner)
         (progress loaded.now waiting.old) (progress loaded.now waiting.new)
         (bytes_in loaded.now slot.now) result }
-    ensures failures { CountsFailure result writer.old.failures writer.new.failures }
+    ensures read { IfErr result (λ fault. fault.read ≡ None) }
+    ensures failures { CountsSaveFailure result writer.old.failures writer.new.failures }
 {
     if slot.runs.is_empty() {
         if let Base::Loaded(extent) = &slot.base {
@@ -118,7 +120,8 @@ fn write_range<W: Write>(
     ensures saved { GoesOn (W.contents writer.old.inner) (W.contents writer.new.inner)
         (progress loaded.now waiting.old) (progress loaded.now waiting.new)
         (slice_range loaded.now from to) result }
-    ensures failures { CountsFailure result writer.old.failures writer.new.failures }
+    ensures read { IfErr result (λ fault. fault.read ≡ None) }
+    ensures failures { CountsSaveFailure result writer.old.failures writer.new.failures }
 {
     if from == waiting.to {
         waiting.to = to;
@@ -144,7 +147,8 @@ fn flush<W: Write>(
         (waiting.new.written ≡ waiting.old.written + (waiting.old.to - waiting.old.from)) }
     ensures saved { GoesOn (W.contents writer.old.inner) (W.contents writer.new.inner)
         (progress loaded.now waiting.old) (progress loaded.now waiting.new) [] result }
-    ensures failures { CountsFailure result writer.old.failures writer.new.failures }
+    ensures read { IfErr result (λ fault. fault.read ≡ None) }
+    ensures failures { CountsSaveFailure result writer.old.failures writer.new.failures }
 {
     write_part(
         writer,
@@ -165,7 +169,8 @@ fn write_view<W: Write>(
     ensures saved { GoesOn (W.contents writer.old.inner) (W.contents writer.new.inner)
         (record { written = written.old; waits = [] })
         (record { written = written.new; waits = [] }) (bytes_of_view view.now) result }
-    ensures failures { CountsFailure result writer.old.failures writer.new.failures }
+    ensures read { IfErr result (λ fault. fault.read ≡ None) }
+    ensures failures { CountsSaveFailure result writer.old.failures writer.new.failures }
 {
     for piece in view.pieces() {
         write_part(writer, written, piece)?;
@@ -184,7 +189,8 @@ fn write_part<W: Write>(
     ensures saved { GoesOn (W.contents writer.old.inner) (W.contents writer.new.inner)
         (record { written = written.old; waits = [] })
         (record { written = written.new; waits = [] }) bytes.now result }
-    ensures failures { CountsFailure result writer.old.failures writer.new.failures }
+    ensures read { IfErr result (λ fault. fault.read ≡ None) }
+    ensures failures { CountsSaveFailure result writer.old.failures writer.new.failures }
 {
     match writer.write_all(bytes) {
         Ok(()) => {
@@ -193,6 +199,7 @@ fn write_part<W: Write>(
         }
         Err(fault) => Err(SaveFault {
             written: *written + fault.written,
+            read: None,
         }),
     }
 }

@@ -1,5 +1,8 @@
 -- How the standing of the bytes under a volume falls.
-use Rattle.std.proofs.Common.{◌≡◌, Bool, IsTrue, refl, subst}
+use Rattle.std.proofs.Common.{◌≡◌, ◌≤◌, ℕ, Bool, IsTrue, refl, subst}
+use Rattle.std.proofs.lemmas.Bool.{le-leb}
+use Rattle.frame_cut.specs.Traces.{count_of, is_trace}
+use Rattle.frame_cut.specs.Volume.{Volume}
 use Rattle.base_file.specs.HeldBytes.{Standing, InMemory, OnDisk, IsInMemory, IsSure, Falls}
 
 -- bytes in memory are sure
@@ -27,3 +30,7 @@ falls_more InMemory b c f g = stays InMemory b c g f
 falls_more (OnDisk a) InMemory c f g = absurd f
 falls_more (OnDisk a) (OnDisk b) InMemory f g = absurd g
 falls_more (OnDisk a) (OnDisk b) (OnDisk c) f g = λ h. f (g h)
+
+-- a trace from the first to the last is there
+pub trace_there : (v : Volume) (p : ℕ) → 1 ≤ p → p ≤ count_of v → IsTrue (is_trace v p)
+trace_there v p first last = rw (le-leb 1 p first, le-leb p (count_of v) last) refl

@@ -1,8 +1,8 @@
-use Rattle.std.proofs.Common.{◌≡◌, ◌∙◌, IsTrue, refl, sym, ap, subst, rules, length}
+use Rattle.std.proofs.Common.{◌≡◌, ◌∙◌, IsTrue, refl, sym, ap, subst, arith, length}
 use Rattle.base_file.specs.HeldBytes.{Standing, Falls}
 use Rattle.frame_cut.specs.Traces.{is_trace}
 use Rattle.edit_overlay.specs.CountedVolume.{CountedVolume, after_look, IsViewOf}
-use Rattle.edit_overlay.proofs.StandingLemmas.{falls_self}
+use Rattle.edit_overlay.proofs.StandingLemmas.{falls_self, trace_there}
 use Rattle.edit_overlay.proofs.overlay.Overlay.look.Goals as goal
 
 pub returns : goal.returns
@@ -12,7 +12,7 @@ returns g c =
     let counted : last ≡ after_look o o.standing = c.count_look.ensures in
     let stands : last.standing ≡ o.standing = ap (λ (x : CountedVolume g.row.T.Denot). x.standing) counted in
     let shows : IsViewOf o.volume c.args.p c.view.result = subst (λ (x : CountedVolume g.row.T.Denot). IsViewOf x.volume c.args.p c.view.result) counted c.view.ensures in
-    let there : IsTrue (is_trace o.volume c.args.p) = search rules in
+    let there : IsTrue (is_trace o.volume c.args.p) = trace_there o.volume c.args.p (omega arith) (omega (arith, c.if-p-count.false, c.count.ensures)) in
     ((refl, λ _. tt, record {
       looked = counted ∙ ap (after_look o) (sym stands);
       standing = subst (λ (s : Standing). Falls o.standing s) (sym stands) (falls_self o.standing);

@@ -1,8 +1,8 @@
-use Rattle.std.proofs.Common.{◌≡◌, ◌∙◌, IsTrue, refl, sym, ap, subst, rules, length}
+use Rattle.std.proofs.Common.{◌≡◌, ◌∙◌, IsTrue, refl, sym, ap, subst, arith, length}
 use Rattle.base_file.specs.HeldBytes.{Standing, Falls}
 use Rattle.frame_cut.specs.Traces.{is_trace}
 use Rattle.edit_overlay.specs.CountedVolume.{CountedVolume, after_look, IsViewOf}
-use Rattle.edit_overlay.proofs.StandingLemmas.{falls_self}
+use Rattle.edit_overlay.proofs.StandingLemmas.{falls_self, trace_there}
 use Rattle.edit_overlay.proofs.overlay.Overlay.look_prepared.Goals as goal
 
 pub returns : goal.returns
@@ -12,7 +12,7 @@ returns g c =
     let counted : last ≡ after_look o o.standing = c.count_look.ensures in
     let stands : last.standing ≡ o.standing = ap (λ (x : CountedVolume g.row.T.Denot). x.standing) counted in
     let shows : IsViewOf o.prepared c.args.p c.view_prepared.result = subst (λ (x : CountedVolume g.row.T.Denot). IsViewOf x.prepared c.args.p c.view_prepared.result) counted c.view_prepared.ensures in
-    let there : IsTrue (is_trace o.prepared c.args.p) = search rules in
+    let there : IsTrue (is_trace o.prepared c.args.p) = trace_there o.prepared c.args.p (omega arith) (omega (arith, c.if-p-count_prepared.false, c.count_prepared.ensures.prepared)) in
     ((refl, λ _. tt, record {
       looked = counted ∙ ap (after_look o) (sym stands);
       standing = subst (λ (s : Standing). Falls o.standing s) (sym stands) (falls_self o.standing);

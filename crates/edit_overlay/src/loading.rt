@@ -93,6 +93,8 @@ impl<T: Copy> Loading<T> {
             IsRefused bytes.items reading limits fault) }
     {
         let cut = cut(alloc, bytes.as_slice(), reading, limits)?;
+        // Read for the proof alone, which learns that the traces can be counted in 32 bits.
+        let _most = limits.traces();
         let head = cut.head();
         let extents = cut.into_extents();
         let Ok(store) = TraceStore::new(alloc, bytes, head, extents.len()) else {

@@ -1,7 +1,10 @@
-use Rattle.std.proofs.Common.{◌∙◌, rules}
+use Rattle.std.proofs.Common.{◌≡◌, ◌∙◌, ◌<◌, ◌^◌, ℕ, arith, refl, inl}
 use Rattle.std.proofs.lemmas.Result.{err_from_is_err_and}
 use Rattle.edit_overlay.proofs.LoadingLemmas.{just_cut}
 use Rattle.edit_overlay.proofs.loading.Loading.from_bytes.Goals as goal
+
+few : (traces n : ℕ) → n ≡ traces → n < 2 ^ 32 → traces < 2 ^ 32
+few traces n is small = omega (arith, is, small)
 
 pub returns-in_err-cut-clause-refused : goal.returns-in_err-cut-clause-refused
 returns-in_err-cut-clause-refused g c =
@@ -10,5 +13,12 @@ returns-in_err-cut-clause-refused g c =
 
 pub invariant_of-result : goal.invariant_of-result
 invariant_of-result g c =
-    just_cut _ c.args.bytes.items c.args.reading c.args.limits c.in_ok-cut.cut.0 c.in_ok-cut.cut.1 (rw c.as_slice.ensures.value at c.in_ok-cut.ensures.ok) (rw c.as_slice.ensures.value at c.in_ok-cut.ensures.laid) (search rules)
+    just_cut _ c.args.bytes.items c.args.reading c.args.limits c.in_ok-cut.cut.0 c.in_ok-cut.cut.1 (rw c.as_slice.ensures.value at c.in_ok-cut.ensures.ok) (rw c.as_slice.ensures.value at c.in_ok-cut.ensures.laid) (few c.args.limits.traces c.traces-most.result c.traces-most.ensures c.traces-most.type_inv)
     c.in-Ok.ensures.loaded (c.in-Ok.ensures.head ∙ c.head-head.ensures) c.into_extents-extents.ensures c.in-Ok.ensures.traces
+
+pub returns-in_default-clause-refused : goal.returns-in_default-clause-refused
+returns-in_default-clause-refused g c = inl refl
+
+pub returns-clause-cut : goal.returns-clause-cut
+returns-clause-cut g c =
+    rw (c.in-Ok.ensures.loaded, c.in-Ok.ensures.head, c.head-head.ensures, c.into_extents-extents.ensures) (rw c.as_slice.ensures.value at c.in_ok-cut.ensures.ok)

@@ -1,9 +1,11 @@
-use Rattle.std.proofs.Common.{◌≡◌, ◌⊎◌}
-use Rattle.std.proofs.lemmas.Result.{IfErr-weaker}
+use Rattle.std.proofs.Common.{◌≡◌, ◌⊎◌, ℕ, List, rules, subst, sym}
+use Rattle.std.proofs.lemmas.Result.{IfErr-weaker, IfOk-weaker}
 use Rattle.frame_cut.specs.declared.load_fault.LoadFault.{LoadFault}
 use Rattle.frame_cut.specs.declared.load_fault.LoadFault.TheVariants.{OutOfMemory}
-use Rattle.frame_cut.specs.Cuts.{IsRefused}
-use Rattle.edit_overlay.specs.Loading.{IsLoadFault}
+use Rattle.frame_cut.specs.Cuts.{IsCut, IsRefused}
+use Rattle.frame_cut.specs.Volume.{bytes_of}
+use Rattle.edit_overlay.specs.LoadedVolume.{LoadedVolume}
+use Rattle.edit_overlay.specs.Loading.{IsLoadFault, TakesWithin}
 use Rattle.edit_overlay.proofs.FaultLemmas.{kept_failures, load_fault}
 use Rattle.edit_overlay.proofs.loading.Loading.load.Goals as goal
 
@@ -18,3 +20,19 @@ returns-clause-refused g c =
 pub returns-clause-failures : goal.returns-clause-failures
 returns-clause-failures g c =
     kept_failures c.from_bytes.result c.args.reader.now.failures c.read_file.new.reader.failures c.in_ok-bytes.bytes.items c.args.reading c.args.limits c.in_ok-bytes.ensures.failures c.from_bytes.ensures.refused
+
+pub returns-clause-cut : goal.returns-clause-cut
+returns-clause-cut g c =
+    IfOk-weaker c.from_bytes.result
+    (λ (l : LoadedVolume g.row.T.Denot). IsCut c.in_ok-bytes.bytes.items c.args.reading c.args.limits l.volume)
+    (λ (l : LoadedVolume g.row.T.Denot). IsCut (bytes_of l.volume) c.args.reading c.args.limits l.volume)
+    (λ l cut. subst (λ (file : List ℕ). IsCut file c.args.reading c.args.limits l.volume) (sym cut.joined) cut)
+    c.from_bytes.ensures.cut
+
+pub returns-clause-read : goal.returns-clause-read
+returns-clause-read g c =
+    IfErr-weaker c.from_bytes.result
+    (λ (fault : LoadFault). (fault ≡ OutOfMemory) ⊎ IsRefused c.in_ok-bytes.bytes.items c.args.reading c.args.limits fault)
+    (λ (_ : LoadFault). TakesWithin (g.R.Read.remaining c.args.reader.now.inner) (g.R.Read.remaining c.read_file.new.reader.inner) c.args.limits)
+    (λ _ _. record { bytes = c.in_ok-bytes.bytes.items; taken = c.in_ok-bytes.ensures.all.taken; no_fewer = search rules; no_more = search rules })
+    c.from_bytes.ensures.refused

@@ -163,24 +163,30 @@ pub fn arguments<'a>(alloc: Global, words: &'a [String]) -> Result<Arguments<'a>
     ensures out { IfOk result (λ a. first_of (codes "out") (matched (map string_bytes words.now))
         ≡ option_map (λ s. s.now) a.out) }
     ensures in_place { IfOk result
-        (λ a. a.in_place ≡ is_set (first_of (codes "in-place") (matched (map string_bytes words.now)))) }
+        (λ a. a.in_place
+        ≡ is_set (first_of (codes "in-place") (matched (map string_bytes words.now)))) }
     ensures limit { IfOk result
         (λ a. ReadsLimit (one_of (codes "max-bytes") (matched (map string_bytes words.now)))
         a.max_bytes) }
     ensures range { IfOk result (λ a. IfSome a.max_bytes (λ n. (1 ≤ n) × (n ≤ 1099511627776))) }
     ensures fixed { IfOk result
-        (λ a. a.fixed ≡ is_set (first_of (codes "fixed") (matched (map string_bytes words.now)))) }
+        (λ a. a.fixed
+        ≡ is_set (first_of (codes "fixed") (matched (map string_bytes words.now)))) }
     ensures opaque { IfOk result
-        (λ a. a.opaque ≡ is_set (first_of (codes "opaque-samples") (matched (map string_bytes words.now)))) }
+        (λ a. a.opaque
+        ≡ is_set (first_of (codes "opaque-samples") (matched (map string_bytes words.now)))) }
     ensures order { IfOk result
         (λ a. ReadsOrder (first_of (codes "order") (matched (map string_bytes words.now)))
         a.order) }
     ensures stop { IfOk result
-        (λ a. a.stop ≡ is_set (first_of (codes "stop") (matched (map string_bytes words.now)))) }
+        (λ a. a.stop
+        ≡ is_set (first_of (codes "stop") (matched (map string_bytes words.now)))) }
     ensures session { IfOk result
-        (λ a. a.session ≡ is_set (first_of (codes "session") (matched (map string_bytes words.now)))) }
+        (λ a. a.session
+        ≡ is_set (first_of (codes "session") (matched (map string_bytes words.now)))) }
     ensures quiet { IfOk result
-        (λ a. a.quiet ≡ is_set (first_of (codes "quiet") (matched (map string_bytes words.now)))) }
+        (λ a. a.quiet
+        ≡ is_set (first_of (codes "quiet") (matched (map string_bytes words.now)))) }
 {
     let mut command = command(alloc)?;
     let matches = command.try_get_matches_from_mut(words)?;

@@ -115,14 +115,17 @@ fn read_matches<'a>(matches: &ArgMatches<'a>, order: Option<Order>) -> Option<Ar
     ensures limit { IfSome result
         (λ a. ReadsLimit (one_text (found_of matches.now) (codes "max-bytes")) a.max_bytes) }
     ensures range { IfSome result (λ a. IfSome a.max_bytes (λ n. (1 ≤ n) × (n ≤ 1099511627776))) }
-    ensures fixed { IfSome result (λ a. a.fixed ≡ is_set (first_value (found_of matches.now) (codes "fixed"))) }
+    ensures fixed { IfSome result
+        (λ a. a.fixed ≡ is_set (first_value (found_of matches.now) (codes "fixed"))) }
     ensures opaque { IfSome result
         (λ a. a.opaque ≡ is_set (first_value (found_of matches.now) (codes "opaque-samples"))) }
     ensures order { IfSome result (λ a. a.order ≡ order) }
-    ensures stop { IfSome result (λ a. a.stop ≡ is_set (first_value (found_of matches.now) (codes "stop"))) }
+    ensures stop { IfSome result
+        (λ a. a.stop ≡ is_set (first_value (found_of matches.now) (codes "stop"))) }
     ensures session { IfSome result
         (λ a. a.session ≡ is_set (first_value (found_of matches.now) (codes "session"))) }
-    ensures quiet { IfSome result (λ a. a.quiet ≡ is_set (first_value (found_of matches.now) (codes "quiet"))) }
+    ensures quiet { IfSome result
+        (λ a. a.quiet ≡ is_set (first_value (found_of matches.now) (codes "quiet"))) }
 {
     let file = matches.get_str("FILE")?;
     let script = matches.get_str("script");

@@ -41,18 +41,14 @@ pub fn change(volume: &mut LiveVolume, alloc: Global, edit: &Edit) -> Result<boo
             field,
             first_value: first,
             step,
-        } => {
-            volume.renumber(alloc, *a, *b, field, *first, *step)
-        }
+        } => { volume.renumber(alloc, *a, *b, field, *first, *step) }
         Edit::Compute {
             first_trace: a,
             last_trace: b,
             field,
             source,
             steps,
-        } => {
-            volume.compute(alloc, *a, *b, field, source, steps.as_slice())
-        }
+        } => { volume.compute(alloc, *a, *b, field, source, steps.as_slice()) }
         _ => {
             volume.apply(alloc, edit)?;
             Ok(false)

@@ -40,8 +40,9 @@ pub enum Edit {
     /// Refused, in this order: E01, E04, E06, E09.
     Resize(u32, i128),
     /// The field of each trace of the range counted up from the first value by the step: whole or
-    /// not at all. Refused, in this order: E01 for its first trace, E01 for its last, then the first
-    /// refusal of the lowest trace's value, each judged in the file as it was: E02, E03, E04, E06.
+    /// not at all. Refused, in this order: E01 for its first trace, E01 for its last, then the
+    /// first refusal of the lowest trace's value, each judged in the file as it was: E02, E03, E04,
+    /// E06.
     Renumber {
         first_trace: u32,
         last_trace: u32,
@@ -52,8 +53,8 @@ pub enum Edit {
     /// The field of each trace of the range from the source by the steps, strictly one after
     /// another, on whole numbers of that trace as it was: whole or not at all. Refused, in this
     /// order: E01 for its first trace, E01 for its last, E02 where a field has no place, then the
-    /// first refusal of the lowest trace that has one: E03 where it lacks a place, E13 or E04 of the
-    /// first step that has no number, E04 where the last one does not fit the field, E06.
+    /// first refusal of the lowest trace that has one: E03 where it lacks a place, E13 or E04 of
+    /// the first step that has no number, E04 where the last one does not fit the field, E06.
     Compute {
         first_trace: u32,
         last_trace: u32,

@@ -107,14 +107,7 @@ fn part(bytes: &[u8], from: usize, to: usize) -> &[u8] {
 fn repair(rt: &impl Abort, alloc: Global, bench: &mut Bench) -> Result<(), Fail> {
     assert!(rt; meets(bench, alloc, Edit::Set(1, signed(0, 193, 4), 7), None));
     assert!(rt; meets(bench, alloc, Edit::Delete(2), None));
-    assert!(rt;
-        meets(
-            bench,
-            alloc,
-            renumber(1, 2, signed(0, 1, 4), 1, 1),
-            None
-        )
-    );
+    assert!(rt; meets(bench, alloc, renumber(1, 2, signed(0, 1, 4), 1, 1), None));
     assert_eq!(rt; value(bench, alloc, 2, signed(0, 1, 4))?, 2);
     assert!(rt; matches!(bench.ask(alloc, &Query::Fold(10, 7))?, Answer::Fold(1)));
     let before = float_file(alloc)?;

@@ -152,9 +152,7 @@ impl LiveVolume {
                 last_trace: b,
                 fields,
                 falling,
-            } => {
-                self.sort(alloc, *a, *b, fields.as_slice(), falling.as_slice())
-            }
+            } => { self.sort(alloc, *a, *b, fields.as_slice(), falling.as_slice()) }
         }
     }
 

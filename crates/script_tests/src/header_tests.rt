@@ -60,15 +60,17 @@ fn are_two_steps(steps: &[(Operator, Operand)]) -> bool {
 #[test]
 fn reads_computed_fields(rt: HostRuntime) -> Result<(), Fail> {
     let read = match parse_line(rt.alloc(), b"compute 1 3 sx -7 + -5 / offset")? {
-        Some(Command::Apply(Edit::Compute {
-            first_trace: 1,
-            last_trace: 3,
-            field: at,
-            source: Operand::Number(-7),
-            steps,
-        })) => {
-            is_name(&at, "sx") && are_two_steps(steps.as_slice())
-        }
+        Some(
+            Command::Apply(
+                Edit::Compute {
+                    first_trace: 1,
+                    last_trace: 3,
+                    field: at,
+                    source: Operand::Number(-7),
+                    steps,
+                },
+            ),
+        ) => { is_name(&at, "sx") && are_two_steps(steps.as_slice()) }
         _ => false,
     };
     assert!(rt; read);
@@ -78,12 +80,16 @@ fn reads_computed_fields(rt: HostRuntime) -> Result<(), Fail> {
 #[test]
 fn reads_a_sort(rt: HostRuntime) -> Result<(), Fail> {
     let read = match parse_line(rt.alloc(), b"sort 1 3 inline -offset -")? {
-        Some(Command::Apply(Edit::Sort {
-            first_trace: 1,
-            last_trace: 3,
-            fields,
-            falling,
-        })) => {
+        Some(
+            Command::Apply(
+                Edit::Sort {
+                    first_trace: 1,
+                    last_trace: 3,
+                    fields,
+                    falling,
+                },
+            ),
+        ) => {
             let names = fields.as_slice();
             names.len() == 3
                 && is_name(&names[0], "inline")

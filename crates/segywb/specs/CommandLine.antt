@@ -69,9 +69,10 @@ segywb = with_rule (with_rule (with_rule (with_rule (with_rule (with_rule (with_
 abbrev pub matched : List (List ℕ) → List Row
 matched words = matches_of segywb words
 
--- a flag is read from the text that clap keeps for it
-abbrev pub ReadsFlag : Option (List ℕ) → Bool → Type 0
-ReadsFlag text b = (text ≡ Some (codes "true") → b ≡ true) × (text ≡ Some (codes "false") → b ≡ false) × (text ≡ None → b ≡ false)
+-- a flag is set where the first text that clap keeps for it is `true`, and in no other case
+abbrev pub is_set : Option (List ℕ) → Bool
+is_set None = false
+is_set (Some text) = bytes_eq text (codes "true")
 
 -- the limit is the number whose digits clap keeps for it, and there is none where it keeps none
 abbrev pub ReadsLimit : Option (List ℕ) → Option ℕ → Type 0

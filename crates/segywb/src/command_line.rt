@@ -2,7 +2,7 @@
 ghost use Rattle.std.specs.Prelude.{◌≡◌, ◌≤◌, ℕ, List, Some, None, IfOk, IfSome, IfErr, codes, map, option_map, OnOk, true, false};
 ghost use Rattle.std.specs.String.{string_bytes};
 ghost use Rattle.clap.specs.Words.{app_of, first_of, one_of, is_simple, found_of, rows_of, first_value, one_text};
-ghost use Rattle.segywb.specs.CommandLine.{segywb, titled, matched, ReadsFlag, ReadsLimit, ReadsOrder};
+ghost use Rattle.segywb.specs.CommandLine.{segywb, titled, matched, is_set, ReadsLimit, ReadsOrder};
 
 use clap::error::ErrorKind;
 use clap::{ArgMatches, Command, Error};
@@ -91,6 +91,16 @@ fn order(matches: &ArgMatches) -> Option<Option<Order>>
     }
 }
 
+// Whether a flag is set.
+fn is_set(matches: &ArgMatches, id: &str) -> bool
+    ensures { result ≡ is_set (first_value (found_of matches.now) id.now) }
+{
+    match matches.get_str(id) {
+        Some(text) => text == "true",
+        None => false,
+    }
+}
+
 // `None` never comes where the matches are those of `command`.
 fn read_matches<'a>(matches: &ArgMatches<'a>, order: Option<Order>) -> Option<Arguments<'a>>
     ensures file { IfSome result (λ a. first_value (found_of matches.now) (codes "FILE") ≡ Some
@@ -101,32 +111,32 @@ fn read_matches<'a>(matches: &ArgMatches<'a>, order: Option<Order>) -> Option<Ar
     ensures out { IfSome result (λ a. first_value (found_of matches.now) (codes "out") ≡ option_map
         (λ s. s.now) a.out) }
     ensures in_place { IfSome result
-        (λ a. ReadsFlag (one_text (found_of matches.now) (codes "in-place")) a.in_place) }
+        (λ a. a.in_place ≡ is_set (first_value (found_of matches.now) (codes "in-place"))) }
     ensures limit { IfSome result
         (λ a. ReadsLimit (one_text (found_of matches.now) (codes "max-bytes")) a.max_bytes) }
     ensures range { IfSome result (λ a. IfSome a.max_bytes (λ n. (1 ≤ n) × (n ≤ 1099511627776))) }
-    ensures fixed { IfSome result (λ a. ReadsFlag (one_text (found_of matches.now) (codes "fixed"))
-        a.fixed) }
+    ensures fixed { IfSome result
+        (λ a. a.fixed ≡ is_set (first_value (found_of matches.now) (codes "fixed"))) }
     ensures opaque { IfSome result
-        (λ a. ReadsFlag (one_text (found_of matches.now) (codes "opaque-samples")) a.opaque) }
+        (λ a. a.opaque ≡ is_set (first_value (found_of matches.now) (codes "opaque-samples"))) }
     ensures order { IfSome result (λ a. a.order ≡ order) }
-    ensures stop { IfSome result (λ a. ReadsFlag (one_text (found_of matches.now) (codes "stop"))
-        a.stop) }
+    ensures stop { IfSome result
+        (λ a. a.stop ≡ is_set (first_value (found_of matches.now) (codes "stop"))) }
     ensures session { IfSome result
-        (λ a. ReadsFlag (one_text (found_of matches.now) (codes "session")) a.session) }
-    ensures quiet { IfSome result (λ a. ReadsFlag (one_text (found_of matches.now) (codes "quiet"))
-        a.quiet) }
+        (λ a. a.session ≡ is_set (first_value (found_of matches.now) (codes "session"))) }
+    ensures quiet { IfSome result
+        (λ a. a.quiet ≡ is_set (first_value (found_of matches.now) (codes "quiet"))) }
 {
     let file = matches.get_str("FILE")?;
     let script = matches.get_str("script");
     let out = matches.get_str("out");
-    let in_place = matches.get_flag("in-place");
+    let in_place = is_set(matches, "in-place");
     let max_bytes = max_bytes(matches)?;
-    let fixed = matches.get_flag("fixed");
-    let opaque = matches.get_flag("opaque-samples");
-    let stop = matches.get_flag("stop");
-    let session = matches.get_flag("session");
-    let quiet = matches.get_flag("quiet");
+    let fixed = is_set(matches, "fixed");
+    let opaque = is_set(matches, "opaque-samples");
+    let stop = is_set(matches, "stop");
+    let session = is_set(matches, "session");
+    let quiet = is_set(matches, "quiet");
     Some(Arguments {
         file,
         script,
@@ -156,27 +166,30 @@ pub fn arguments<'a>(alloc: Global, words: &'a [String]) -> Result<Arguments<'a>
     ensures out { IfOk result (λ a. first_of (codes "out") (matched (map string_bytes words.now))
         ≡ option_map (λ s. s.now) a.out) }
     ensures in_place { IfOk result
-        (λ a. ReadsFlag (one_of (codes "in-place") (matched (map string_bytes words.now)))
-        a.in_place) }
+        (λ a. a.in_place
+        ≡ is_set (first_of (codes "in-place") (matched (map string_bytes words.now)))) }
     ensures limit { IfOk result
         (λ a. ReadsLimit (one_of (codes "max-bytes") (matched (map string_bytes words.now)))
         a.max_bytes) }
     ensures range { IfOk result (λ a. IfSome a.max_bytes (λ n. (1 ≤ n) × (n ≤ 1099511627776))) }
     ensures fixed { IfOk result
-        (λ a. ReadsFlag (one_of (codes "fixed") (matched (map string_bytes words.now))) a.fixed) }
+        (λ a. a.fixed
+        ≡ is_set (first_of (codes "fixed") (matched (map string_bytes words.now)))) }
     ensures opaque { IfOk result
-        (λ a. ReadsFlag (one_of (codes "opaque-samples") (matched (map string_bytes words.now)))
-        a.opaque) }
+        (λ a. a.opaque
+        ≡ is_set (first_of (codes "opaque-samples") (matched (map string_bytes words.now)))) }
     ensures order { IfOk result
         (λ a. ReadsOrder (first_of (codes "order") (matched (map string_bytes words.now)))
         a.order) }
     ensures stop { IfOk result
-        (λ a. ReadsFlag (one_of (codes "stop") (matched (map string_bytes words.now))) a.stop) }
+        (λ a. a.stop
+        ≡ is_set (first_of (codes "stop") (matched (map string_bytes words.now)))) }
     ensures session { IfOk result
-        (λ a. ReadsFlag (one_of (codes "session") (matched (map string_bytes words.now)))
-        a.session) }
+        (λ a. a.session
+        ≡ is_set (first_of (codes "session") (matched (map string_bytes words.now)))) }
     ensures quiet { IfOk result
-        (λ a. ReadsFlag (one_of (codes "quiet") (matched (map string_bytes words.now))) a.quiet) }
+        (λ a. a.quiet
+        ≡ is_set (first_of (codes "quiet") (matched (map string_bytes words.now)))) }
 {
     let mut command = command(alloc)?;
     let matches = command.try_get_matches_from_mut(words)?;

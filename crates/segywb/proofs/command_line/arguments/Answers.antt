@@ -1,6 +1,6 @@
 use Rattle.std.proofs.Common.{◌≡◌, ◌∙◌, ap, sym, subst, codes, ℕ, Bool, List, Option}
 use Rattle.clap.specs.Words.{first_of, first_value, one_of, found_of}
-use Rattle.segywb.specs.CommandLine.{ReadsFlag, ReadsLimit, ReadsOrder, matched}
+use Rattle.segywb.specs.CommandLine.{is_set, ReadsLimit, ReadsOrder, matched}
 use Rattle.segywb.proofs.RowLemmas.{rows_are, first_of-rows_of, one_of-rows_of}
 use Rattle.segywb.proofs.command_line.arguments.Goals as goal
 
@@ -22,26 +22,26 @@ returns-in-Some-read_matches-clause-out c =
 pub returns-in-Some-read_matches-clause-in_place : goal.returns-in-Some-read_matches-clause-in_place
 returns-in-Some-read_matches-clause-in_place c =
     let rows = rows_are _ _ c.in_ok-matches.matches c.in_ok-command.ensures c.in_ok-matches.ensures.ok.2 in
-    let same = sym (ap (one_of (codes "in-place")) (sym rows) ∙ one_of-rows_of (found_of c.in_ok-matches.matches) (codes "in-place")) in
-    subst (λ (o : Option (List ℕ)). ReadsFlag o c.in-Some-read_matches.read.in_place) same c.in-Some-read_matches.ensures.in_place
+    let same = sym (ap (first_of (codes "in-place")) (sym rows) ∙ first_of-rows_of (found_of c.in_ok-matches.matches) (codes "in-place")) in
+    c.in-Some-read_matches.ensures.in_place ∙ ap is_set same
 
 pub returns-in-Some-read_matches-clause-fixed : goal.returns-in-Some-read_matches-clause-fixed
 returns-in-Some-read_matches-clause-fixed c =
     let rows = rows_are _ _ c.in_ok-matches.matches c.in_ok-command.ensures c.in_ok-matches.ensures.ok.2 in
-    let same = sym (ap (one_of (codes "fixed")) (sym rows) ∙ one_of-rows_of (found_of c.in_ok-matches.matches) (codes "fixed")) in
-    subst (λ (o : Option (List ℕ)). ReadsFlag o c.in-Some-read_matches.read.fixed) same c.in-Some-read_matches.ensures.fixed
+    let same = sym (ap (first_of (codes "fixed")) (sym rows) ∙ first_of-rows_of (found_of c.in_ok-matches.matches) (codes "fixed")) in
+    c.in-Some-read_matches.ensures.fixed ∙ ap is_set same
 
 pub returns-in-Some-read_matches-clause-opaque : goal.returns-in-Some-read_matches-clause-opaque
 returns-in-Some-read_matches-clause-opaque c =
     let rows = rows_are _ _ c.in_ok-matches.matches c.in_ok-command.ensures c.in_ok-matches.ensures.ok.2 in
-    let same = sym (ap (one_of (codes "opaque-samples")) (sym rows) ∙ one_of-rows_of (found_of c.in_ok-matches.matches) (codes "opaque-samples")) in
-    subst (λ (o : Option (List ℕ)). ReadsFlag o c.in-Some-read_matches.read.opaque) same c.in-Some-read_matches.ensures.opaque
+    let same = sym (ap (first_of (codes "opaque-samples")) (sym rows) ∙ first_of-rows_of (found_of c.in_ok-matches.matches) (codes "opaque-samples")) in
+    c.in-Some-read_matches.ensures.opaque ∙ ap is_set same
 
 pub returns-in-Some-read_matches-clause-stop : goal.returns-in-Some-read_matches-clause-stop
 returns-in-Some-read_matches-clause-stop c =
     let rows = rows_are _ _ c.in_ok-matches.matches c.in_ok-command.ensures c.in_ok-matches.ensures.ok.2 in
-    let same = sym (ap (one_of (codes "stop")) (sym rows) ∙ one_of-rows_of (found_of c.in_ok-matches.matches) (codes "stop")) in
-    subst (λ (o : Option (List ℕ)). ReadsFlag o c.in-Some-read_matches.read.stop) same c.in-Some-read_matches.ensures.stop
+    let same = sym (ap (first_of (codes "stop")) (sym rows) ∙ first_of-rows_of (found_of c.in_ok-matches.matches) (codes "stop")) in
+    c.in-Some-read_matches.ensures.stop ∙ ap is_set same
 
 pub returns-in-Some-read_matches-clause-limit : goal.returns-in-Some-read_matches-clause-limit
 returns-in-Some-read_matches-clause-limit c =
@@ -52,14 +52,14 @@ returns-in-Some-read_matches-clause-limit c =
 pub returns-in-Some-read_matches-clause-session : goal.returns-in-Some-read_matches-clause-session
 returns-in-Some-read_matches-clause-session c =
     let rows = rows_are _ _ c.in_ok-matches.matches c.in_ok-command.ensures c.in_ok-matches.ensures.ok.2 in
-    let same = sym (ap (one_of (codes "session")) (sym rows) ∙ one_of-rows_of (found_of c.in_ok-matches.matches) (codes "session")) in
-    subst (λ (o : Option (List ℕ)). ReadsFlag o c.in-Some-read_matches.read.session) same c.in-Some-read_matches.ensures.session
+    let same = sym (ap (first_of (codes "session")) (sym rows) ∙ first_of-rows_of (found_of c.in_ok-matches.matches) (codes "session")) in
+    c.in-Some-read_matches.ensures.session ∙ ap is_set same
 
 pub returns-in-Some-read_matches-clause-quiet : goal.returns-in-Some-read_matches-clause-quiet
 returns-in-Some-read_matches-clause-quiet c =
     let rows = rows_are _ _ c.in_ok-matches.matches c.in_ok-command.ensures c.in_ok-matches.ensures.ok.2 in
-    let same = sym (ap (one_of (codes "quiet")) (sym rows) ∙ one_of-rows_of (found_of c.in_ok-matches.matches) (codes "quiet")) in
-    subst (λ (o : Option (List ℕ)). ReadsFlag o c.in-Some-read_matches.read.quiet) same c.in-Some-read_matches.ensures.quiet
+    let same = sym (ap (first_of (codes "quiet")) (sym rows) ∙ first_of-rows_of (found_of c.in_ok-matches.matches) (codes "quiet")) in
+    c.in-Some-read_matches.ensures.quiet ∙ ap is_set same
 
 pub returns-in-Some-read_matches-clause-order : goal.returns-in-Some-read_matches-clause-order
 returns-in-Some-read_matches-clause-order c =

@@ -38,7 +38,7 @@ StepsStayCut = (old new : State) (edits : List Edit) (replies : List (Result (Un
 abbrev pub AnswersFromScratch : Type 0
 AnswersFromScratch = (old new : State) (edits : List Edit) (replies : List (Result (Unit {0}) Refusal)) (v : Volume) (query : Query)
     → IsCut (bytes_of old.volume) old.reading old.limits old.volume → Steps old edits replies new → IsCut (bytes_of new.volume) old.reading old.limits v
-    → answer new query ≡ answer (record { volume = v; fields = new.fields; reading = old.reading; limits = old.limits }) query
+    → answer new query ≡ answer (record { volume = v; fields = new.fields; reading = old.reading; limits = old.limits; on_disk = old.on_disk }) query
 
 -- after a set that is not refused, the field of that trace has the value, in the volume that is read from the new bytes
 abbrev pub ReadsWhatWasSet : Type 0

@@ -1,8 +1,10 @@
 -- An overlay is sound again with another store of the same file.
 use Rattle.std.proofs.Common.{◌≡◌, ℕ, ◌+◌, List, length, refl, ap, ◌∙◌, arith, Result, Ok, Err, OnOk, OnErr, None}
+use Rattle.base_file.specs.HeldBytes.{HeldBytes}
 use Rattle.frame_cut.specs.Volume.{Volume, bytes_of}
 use Rattle.trace_store.specs.Ahead.{traces_ahead}
 use Rattle.edit_overlay.specs.Held.{looked_of, volume_ahead, volume_with, IsHeld}
+use Rattle.edit_overlay.specs.Standings.{is_on_disk, is_sure}
 use Rattle.trace_store.specs.Stores.{payloads_ahead, payloads_of, traces_of}
 use Rattle.trace_store.specs.declared.store.TraceStore.{TraceStore}
 use Rattle.edit_overlay.specs.declared.overlay.Overlay.TheInside.{Inside}
@@ -50,5 +52,8 @@ module _ {T : Type 0} where
       let w : volume_ahead o.text o.bin t o.prepared ≡ volume_ahead o.text o.bin o.store o.prepared =
       ap (λ (x : Volume). record x { traces = traces_ahead t o.prepared }) v ∙ ap (λ (ts : List (List ℕ)). record s { traces = ts }) (ahead_kept o.store t o.prepared same) in
       let first : looked_of (record o { store = t }) ≡ record (looked_of (record o { store = t })) { volume = s } = ap (λ (x : Volume). record (looked_of (record o { store = t })) { volume = x }) v in
-      let second : record (looked_of (record o { store = t })) { volume = s } ≡ record (looked_of o) { payloads = payloads_of t; payloads_prepared = payloads_ahead (payloads_of t) o.prepared } = ap (λ (x : Volume). record (looked_of o) { prepared = x; payloads = payloads_of t; payloads_prepared = payloads_ahead (payloads_of t) o.prepared }) w in
-      first ∙ (second ∙ ap (λ (ps : List T). record (looked_of o) { payloads = ps; payloads_prepared = payloads_ahead ps o.prepared }) same.payloads)
+      let second : record (looked_of (record o { store = t })) { volume = s } ≡ record (looked_of o) { payloads = payloads_of t; payloads_prepared = payloads_ahead (payloads_of t) o.prepared; on_disk = is_on_disk t.loaded.standing; agreed = is_sure t.loaded.standing } =
+      ap (λ (x : Volume). record (looked_of o) { prepared = x; payloads = payloads_of t; payloads_prepared = payloads_ahead (payloads_of t) o.prepared; on_disk = is_on_disk t.loaded.standing; agreed = is_sure t.loaded.standing }) w in
+      let third : record (looked_of o) { payloads = payloads_of t; payloads_prepared = payloads_ahead (payloads_of t) o.prepared; on_disk = is_on_disk t.loaded.standing; agreed = is_sure t.loaded.standing } ≡ record (looked_of o) { payloads = payloads_of t; payloads_prepared = payloads_ahead (payloads_of t) o.prepared } =
+      ap (λ (l : HeldBytes). record (looked_of o) { payloads = payloads_of t; payloads_prepared = payloads_ahead (payloads_of t) o.prepared; on_disk = is_on_disk l.standing; agreed = is_sure l.standing }) over.loaded in
+      first ∙ (second ∙ (third ∙ ap (λ (ps : List T). record (looked_of o) { payloads = ps; payloads_prepared = payloads_ahead ps o.prepared }) same.payloads))

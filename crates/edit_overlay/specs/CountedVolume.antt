@@ -1,21 +1,22 @@
--- What an overlay shows: a volume, what it would be with a prepared edit, how often its traces were looked at, and
--- whether the bytes under it stand.
-use Rattle.std.specs.Prelude.{ℕ, ◌≡◌, ◌+◌, ◌-◌, ◌≤◌, ◌^◌, List, length, nat_lt, if◌then◌else◌}
-use Rattle.base_file.specs.HeldBytes.{Standing}
+-- What an overlay shows: a volume, what it would be with a prepared edit, how often its traces were looked at, where its
+-- loaded bytes are, and whether they stand.
+use Rattle.std.specs.Prelude.{ℕ, ◌≡◌, ◌+◌, ◌-◌, ◌≤◌, ◌^◌, Bool, IsTrue, List, length, nat_lt, if◌then◌else◌}
 use Rattle.frame_cut.specs.Traces.{trace_at}
 use Rattle.frame_cut.specs.Volume.{Volume}
 use Rattle.trace_view.specs.declared.view.TraceView.{TraceView}
 use Rattle.trace_view.specs.Shown.{head_of, bytes_of}
 
 -- a volume and the payload of each of its traces, both as they would be with the edit that is prepared (the same where
--- none is), how often traces were looked at, and whether each read of the loaded bytes gave what was loaded
+-- none is), how often traces were looked at, whether the loaded bytes are on disk, and whether each read of them since the
+-- load gave the bytes that the load read: in memory it does
 pub record CountedVolume (T : Type 0) : Type 0 where
   pub volume : Volume
   pub prepared : Volume
   pub looks : ℕ
   pub payloads : List T
   pub payloads_prepared : List T
-  pub standing : Standing
+  pub on_disk : Bool
+  pub agreed : Bool
 
 -- the count of looks after one more; it stays at `u64::MAX` once there
 abbrev pub one_more : ℕ → ℕ
@@ -42,13 +43,23 @@ module _ {T : Type 0} where
   abbrev pub with_prepared : CountedVolume T → Volume → CountedVolume T
   with_prepared o v = with_table_prepared o v o.payloads
 
-  -- the same over bytes with this standing
-  abbrev pub with_standing : CountedVolume T → Standing → CountedVolume T
-  with_standing o standing = record o { standing = standing }
+  -- the same where each read so far agreed, or not
+  abbrev pub with_agreed : CountedVolume T → Bool → CountedVolume T
+  with_agreed o agreed = record o { agreed = agreed }
 
-  -- the same after one more look, over bytes with this standing
-  abbrev pub after_look : CountedVolume T → Standing → CountedVolume T
-  after_look o standing = record o { looks = one_more o.looks; standing = standing }
+  -- the same after one more look, where each read so far agreed, or not
+  abbrev pub after_look : CountedVolume T → Bool → CountedVolume T
+  after_look o agreed = record o { looks = one_more o.looks; agreed = agreed }
+
+-- the same volume and payloads after so many looks more at most; what did not agree does not agree now
+pub record IsSeen {T : Type 0} (old new : CountedVolume T) (n : ℕ) : Type 0 where
+  pub volume : new.volume ≡ old.volume
+  pub prepared : new.prepared ≡ old.prepared
+  pub payloads : new.payloads ≡ old.payloads
+  pub payloads_prepared : new.payloads_prepared ≡ old.payloads_prepared
+  pub on_disk : new.on_disk ≡ old.on_disk
+  pub looks : RisesAtMost old.looks new.looks n
+  pub agreed : IsTrue new.agreed → IsTrue old.agreed
 
 -- the view shows trace p of the volume
 abbrev pub IsViewOf : Volume → ℕ → TraceView → Type 0

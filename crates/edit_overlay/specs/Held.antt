@@ -6,6 +6,7 @@ use Rattle.frame_cut.specs.Heads.{blocks_of}
 use Rattle.frame_cut.specs.Volume.{Volume, bytes_of}
 use Rattle.trace_store.specs.Ahead.{traces_ahead, IsReadyIfSome}
 use Rattle.edit_overlay.specs.CountedVolume.{CountedVolume}
+use Rattle.edit_overlay.specs.Standings.{is_on_disk, is_sure}
 use Rattle.trace_store.specs.declared.prepared.Prepared.{Prepared}
 use Rattle.trace_store.specs.Stores.{payloads_ahead, payloads_of, traces_of}
 use Rattle.trace_store.specs.declared.store.TraceStore.{TraceStore}
@@ -34,7 +35,8 @@ looked_of o = record {
   looks = o.looks;
   payloads = payloads_of o.store;
   payloads_prepared = payloads_ahead (payloads_of o.store) o.prepared;
-  standing = o.store.loaded.standing;
+  on_disk = is_on_disk o.store.loaded.standing;
+  agreed = is_sure o.store.loaded.standing;
 }
 
 -- the loaded file has the blocks in front of its traces, and the data trailer records behind them

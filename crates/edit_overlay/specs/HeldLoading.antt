@@ -5,6 +5,7 @@ use Rattle.frame_cut.specs.Layout.{bytes_at, pieces, volume_at, AreTracesOf}
 use Rattle.frame_cut.specs.Volume.{bytes_of}
 use Rattle.trace_store.specs.Stores.{payloads_of, traces_of}
 use Rattle.edit_overlay.specs.LoadedVolume.{LoadedVolume}
+use Rattle.edit_overlay.specs.Standings.{is_on_disk, is_sure}
 use Rattle.edit_overlay.specs.declared.loading.Loading.TheInside.{Inside}
 
 -- what is shown: the parts of the file
@@ -13,7 +14,8 @@ loaded_of l = record {
   volume = volume_at l.store.loaded.bytes l.store.head l.extents.items;
   payloads = payloads_of l.store;
   looks = l.looks;
-  standing = l.store.loaded.standing;
+  on_disk = is_on_disk l.store.loaded.standing;
+  agreed = is_sure l.store.loaded.standing;
 }
 
 -- the parts joined are the file, its traces lie one behind the other and are whole, and the store has the first of them

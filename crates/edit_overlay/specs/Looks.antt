@@ -1,8 +1,7 @@
 -- What an overlay, or a file that is being loaded, is once a view of one of its traces has ended.
-use Rattle.std.specs.Prelude.{ℕ, ◌≡◌, ⊤, Option, MatchOption, Result, MatchResult}
+use Rattle.std.specs.Prelude.{ℕ, ◌≡◌, ⊤, IsTrue, Option, MatchOption, Result, MatchResult}
 use Rattle.std.specs.Borrow.{Fml, MutBor, RattleType, follows_so}
 use mathlib.Core.Option.{none}
-use Rattle.base_file.specs.HeldBytes.{Falls, IsSure}
 use Rattle.base_file.specs.declared.read_fault.ReadFault.{ReadFault}
 use Rattle.frame_cut.specs.Volume.{Volume}
 use Rattle.trace_view.specs.declared.view.TraceView.{TraceView}
@@ -11,16 +10,16 @@ use Rattle.edit_overlay.specs.LoadedVolume.{LoadedVolume, with_next_look}
 use Rattle.edit_overlay.specs.contracts.loading.Loading as loading
 use Rattle.edit_overlay.specs.contracts.overlay.Overlay.{the_row}
 
--- it is as before, but for one look more, and its bytes stand as they did or have fallen
+-- it is as before, but for one look more; what did not agree does not agree now
 pub record HasLooked {T : Type 0} (old last : CountedVolume T) : Type 0 where
-  pub looked : last ≡ after_look old last.standing
-  pub standing : Falls old.standing last.standing
+  pub looked : last ≡ after_look old last.agreed
+  pub agreed : IsTrue last.agreed → IsTrue old.agreed
 
--- the same, and if its bytes are sure then, the view was of trace p of this volume
+-- the same, and if each read so far agrees, the view was of trace p of this volume
 pub record HasShown {T : Type 0} (old last : CountedVolume T) (of : Volume) (p : ℕ) (view : TraceView) : Type 0 where
-  pub looked : last ≡ after_look old last.standing
-  pub standing : Falls old.standing last.standing
-  pub trace : IsSure last.standing → IsViewOf of p view
+  pub looked : last ≡ after_look old last.agreed
+  pub agreed : IsTrue last.agreed → IsTrue old.agreed
+  pub trace : IsTrue last.agreed → IsViewOf of p view
 
 -- it is as before where there was no trace p; else there was one look more, whether the view was shown or a read failed
 abbrev pub EndsLooked : (T : RattleType) → MutBor (CountedVolume T.Denot) → Volume → ℕ → Result (Option TraceView) ReadFault → Fml

@@ -1,4 +1,4 @@
-ghost use Rattle.std.specs.Prelude.{ℕ, ◌≡◌, ◌⊎◌, ◌↔◌, ◌+◌, ◌-◌, ◌/◌, ◌%◌, ◌≤◌, ◌<◌, ◌^◌, [], length, slice_index_or, option_map, slice_get, slice_set, map, Some, IfOk, IfErr, IfSome, IsSome, IsTrue, OnOk, OnErr, MatchResult};
+ghost use Rattle.std.specs.Prelude.{ℕ, ◌≡◌, ◌⊎◌, ◌↔◌, ◌+◌, ◌-◌, ◌/◌, ◌%◌, ◌≤◌, ◌<◌, ◌^◌, false, [], length, slice_index_or, option_map, slice_get, slice_set, map, Some, IfOk, IfErr, IfSome, IsSome, IsTrue, OnOk, OnErr, MatchResult};
 ghost use Rattle.std.specs.Borrow.{sem};
 ghost use Rattle.frame_cut.specs.Cuts.{IsTrace};
 ghost use Rattle.frame_cut.specs.Splice.{splice};
@@ -50,11 +50,10 @@ impl<T: Copy> Model for Overlay<T> {
 }
 
 impl<T: Copy> Overlay<T> {
-    ghost use Rattle.base_file.specs.HeldBytes.{IsInMemory, IsSure, Falls};
-    ghost use Rattle.edit_overlay.specs.CountedVolume.{after_look, with_standing, HasShapeOf, IsViewOf};
+    ghost use Rattle.edit_overlay.specs.CountedVolume.{after_look, with_agreed, HasShapeOf, IsViewOf};
     ghost use Rattle.edit_overlay.specs.Held.{volume_with, HasEnds};
     ghost use Rattle.edit_overlay.specs.Looks.{EndsLooked};
-    ghost use Rattle.edit_overlay.specs.Standings.{IsOnDisk};
+    ghost use Rattle.edit_overlay.specs.Standings.{is_on_disk, is_sure};
 
     // An overlay of the store of a loaded file, with its headers, and how often traces were looked
     // at.
@@ -73,7 +72,8 @@ impl<T: Copy> Overlay<T> {
           looks = looks;
           payloads = payloads_of store;
           payloads_prepared = payloads_of store;
-          standing = store.loaded.standing;
+          on_disk = is_on_disk store.loaded.standing;
+          agreed = is_sure store.loaded.standing;
         } }
     {
         let length = store.loaded.length();
@@ -108,6 +108,14 @@ impl<T: Copy> Overlay<T> {
         self.length
     }
 
+    /// In memory each read agrees. Does nothing: its contract is the law.
+    pub fn memory_agrees(&self)
+        ensures { self.now.on_disk ≡ false → IsTrue self.now.agreed }
+    {
+        // Read for the proof alone, which learns how the overlay is held.
+        let _length = self.length;
+    }
+
     /// How often a trace was looked at. Stays at `u64::MAX` once there.
     pub fn looks(&self) -> u64
         ensures { result ≡ self.now.looks }
@@ -123,7 +131,7 @@ impl<T: Copy> Overlay<T> {
         ensures there { IfOk result (λ view. IsSome view ↔ IsTrue (is_trace self.old.volume p)) }
         ensures shape { IfOk result (λ view. IfSome view (HasShapeOf self.old.volume p)) }
         ensures read { IfErr result (λ _. IsTrue (is_trace self.old.volume p)
-            × IsOnDisk self.old.standing) }
+            × IsTrue self.old.on_disk) }
     {
         if p == 0 || p > self.count() {
             return Ok(None);
@@ -134,7 +142,7 @@ impl<T: Copy> Overlay<T> {
 
     // One look more.
     fn count_look(&mut self)
-        ensures { self.new ≡ after_look self.old self.old.standing }
+        ensures { self.new ≡ after_look self.old self.old.agreed }
     {
         self.looks = self.looks.saturating_add(1);
     }
@@ -187,7 +195,7 @@ impl<T: Copy> Overlay<T> {
         ensures there { IfOk result (λ view. IsSome view ↔ IsTrue (is_trace self.old.prepared p)) }
         ensures shape { IfOk result (λ view. IfSome view (HasShapeOf self.old.prepared p)) }
         ensures read { IfErr result (λ _. IsTrue (is_trace self.old.prepared p)
-            × IsOnDisk self.old.standing) }
+            × IsTrue self.old.on_disk) }
     {
         if p == 0 || p > self.count_prepared() {
             return Ok(None);
@@ -297,7 +305,7 @@ impl<T: Copy> Overlay<T> {
         requires first { 1 ≤ p }
         requires last { p ≤ count_of self.old.volume }
         requires inside { at + length bytes.now ≤ length (trace_at self.old.volume p) }
-        requires whole { IsSure self.old.standing → IsTrace self.old.volume.head
+        requires whole { IsTrue self.old.agreed → IsTrace self.old.volume.head
             (splice (trace_at self.old.volume p) at (length bytes.now) bytes.now) }
         ensures ok { OnOk result (self.new ≡ with_prepared self.old (with_trace self.old.volume p
             (splice (trace_at self.old.volume p) at (length bytes.now) bytes.now))) }
@@ -327,7 +335,7 @@ impl<T: Copy> Overlay<T> {
         requires last { a - 1 + length bytes.now / size ≤ count_of self.old.volume }
         requires inside { (k : ℕ) → k < length bytes.now / size →
             at + size ≤ length (slice_index_or self.old.volume.traces (a - 1 + k) []) }
-        requires whole { (k : ℕ) → k < length bytes.now / size → IsSure self.old.standing →
+        requires whole { (k : ℕ) → k < length bytes.now / size → IsTrue self.old.agreed →
             IsTrace self.old.volume.head
             (splice (slice_index_or self.old.volume.traces (a - 1 + k) []) at size
             (part_of bytes.now size k)) }
@@ -397,7 +405,7 @@ impl<T: Copy> Overlay<T> {
         requires first { 1 ≤ p }
         requires last { p ≤ count_of self.old.volume }
         requires inside { at + length bytes.now ≤ length (trace_at self.old.volume p) }
-        requires whole { IsSure self.old.standing → IsTrace self.old.volume.head
+        requires whole { IsTrue self.old.agreed → IsTrace self.old.volume.head
             (splice (trace_at self.old.volume p) at (length bytes.now) bytes.now) }
         ensures ok { OnOk result (self.new ≡ with_volume self.old (with_trace self.old.volume p
             (splice (trace_at self.old.volume p) at (length bytes.now) bytes.now))) }
@@ -427,7 +435,7 @@ impl<T: Copy> Overlay<T> {
         requires last { a - 1 + length bytes.now / size ≤ count_of self.old.volume }
         requires inside { (k : ℕ) → k < length bytes.now / size →
             at + size ≤ length (slice_index_or self.old.volume.traces (a - 1 + k) []) }
-        requires whole { (k : ℕ) → k < length bytes.now / size → IsSure self.old.standing →
+        requires whole { (k : ℕ) → k < length bytes.now / size → IsTrue self.old.agreed →
             IsTrace self.old.volume.head
             (splice (slice_index_or self.old.volume.traces (a - 1 + k) []) at size
             (part_of bytes.now size k)) }
@@ -532,11 +540,11 @@ impl<T: Copy> Overlay<T> {
     /// where a read of the loaded bytes did; `written` is then the length of the prefix that the
     /// writer took.
     pub fn write_to<W: Write>(&mut self, writer: &mut Sink<W>) -> Result<(), SaveFault>
-        ensures same { self.new ≡ with_standing self.old self.new.standing }
-        ensures standing { Falls self.old.standing self.new.standing }
-        ensures saved { IsSure self.new.standing → Saves (W.contents writer.old.inner)
+        ensures same { self.new ≡ with_agreed self.old self.new.agreed }
+        ensures agreed { IsTrue self.new.agreed → IsTrue self.old.agreed }
+        ensures saved { IsTrue self.new.agreed → Saves (W.contents writer.old.inner)
             (W.contents writer.new.inner) (bytes_of self.old.volume) result }
-        ensures read { IfErr result (λ fault. IsSome fault.read → IsOnDisk self.old.standing) }
+        ensures read { IfErr result (λ fault. IsSome fault.read → IsTrue self.old.on_disk) }
         ensures failures { CountsSaveFailure result writer.old.failures writer.new.failures }
     {
         // Read for the proof alone, which learns that the file's length fits 64 bits.

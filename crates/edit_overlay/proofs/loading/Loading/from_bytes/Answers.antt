@@ -1,6 +1,7 @@
 use Rattle.std.proofs.Common.{◌≡◌, ◌∙◌, ◌<◌, ◌^◌, ℕ, arith, refl, inl}
 use Rattle.std.proofs.lemmas.Result.{err_from_is_err_and}
 use Rattle.edit_overlay.proofs.LoadingLemmas.{just_cut}
+use Rattle.edit_overlay.proofs.StandingLemmas.{not_on_disk, sure_in_memory}
 use Rattle.edit_overlay.proofs.loading.Loading.from_bytes.Goals as goal
 
 few : (traces n : ℕ) → n ≡ traces → n < 2 ^ 32 → traces < 2 ^ 32
@@ -22,3 +23,9 @@ returns-in_default-clause-refused g c = inl refl
 pub returns-clause-cut : goal.returns-clause-cut
 returns-clause-cut g c =
     rw (c.in-Ok.ensures.loaded, c.in-Ok.ensures.head, c.head-head.ensures, c.into_extents-extents.ensures) (rw c.as_slice.ensures.value at c.in_ok-cut.ensures.ok)
+
+pub returns-clause-memory : goal.returns-clause-memory
+returns-clause-memory g c = not_on_disk c.in-Ok.store.loaded.standing c.in-Ok.store.in_memory
+
+pub returns-clause-agreed : goal.returns-clause-agreed
+returns-clause-agreed g c = sure_in_memory c.in-Ok.store.loaded.standing c.in-Ok.store.in_memory

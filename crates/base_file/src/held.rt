@@ -43,6 +43,8 @@ impl Held {
     pub fn in_memory(alloc: Global, bytes: Vec<u8>) -> Held
         ensures bytes { result.bytes ≡ bytes.items }
         ensures standing { result.standing ≡ InMemory }
+        ensures front { result.front ≡ length bytes.items }
+        ensures back { result.back ≡ length bytes.items }
     {
         Held {
             source: Source::Memory(Memory { bytes }),

@@ -97,6 +97,7 @@ fn lends_bytes_in_memory(rt: HostRuntime) -> Result<(), Fail> {
     if held.length() == 20 {
         held.fetch(16, 4).expect(&rt, "bytes in memory");
         assert_eq!(rt; held.lent(16, 4), b"ghij".as_slice());
+        assert_eq!(rt; held.edge(0, 4), b"0123".as_slice());
     }
     Ok(())
 }

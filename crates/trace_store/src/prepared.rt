@@ -36,6 +36,7 @@ pub struct TraceMove {
 
 impl Prepared {
     // Where the trace is now that would be trace p.
+    #[inline]
     pub(crate) fn place(&self, p: u32) -> u32
         ensures { result ≡ place_then self.now p }
     {
@@ -46,6 +47,7 @@ impl Prepared {
     }
 
     // The runs that would lie over trace p, if the edit lays any.
+    #[inline]
     pub(crate) fn runs(&self, p: u32) -> Option<&[Run]>
         requires { 1 ≤ p }
         ensures { option_copied result ≡ runs_then self.now p }

@@ -80,6 +80,7 @@ impl Base {
     }
 
     // How many bytes there are under the runs.
+    #[inline]
     pub(crate) fn size(&self) -> u64
         ensures { result ≡ size_of self.now }
     {
@@ -91,6 +92,7 @@ impl Base {
 
     // Where byte `at` under the runs, counted from 0, lies in the loaded file; none for a trace
     // that has bytes of its own.
+    #[inline]
     pub(crate) fn loaded_place(&self, at: u64) -> Option<usize> {
         match self {
             Base::Loaded(extent) => Some(extent.start.saturating_add(at) as usize),

@@ -496,8 +496,8 @@ impl<T: Copy> TraceStore<T> {
 
     // Gives a trace the prepared runs, and trace p, which is mostly the same, this payload.
     fn put_with(&mut self, prepared: TracePut, p: u32, payload: T)
-        requires runs { AreRunsFrom self.old.loaded.standing self.old.head (bases_of self.old) prepared.place
-            (prepared.runs ∷ []) }
+        requires runs { AreRunsFrom self.old.loaded.standing self.old.head (bases_of self.old)
+            prepared.place (prepared.runs ∷ []) }
         requires first { 1 ≤ p }
         requires last { p ≤ length (traces_of self.old) }
         ensures head { self.new.head ≡ self.old.head }
@@ -516,8 +516,8 @@ impl<T: Copy> TraceStore<T> {
 
     // Gives the traces the prepared runs.
     fn lay(&mut self, prepared: TraceRuns)
-        requires runs { AreRunsFrom self.old.loaded.standing self.old.head (bases_of self.old) prepared.place
-            prepared.lists.items }
+        requires runs { AreRunsFrom self.old.loaded.standing self.old.head (bases_of self.old)
+            prepared.place prepared.lists.items }
         ensures head { self.new.head ≡ self.old.head }
         ensures loaded { self.new.loaded ≡ self.old.loaded }
         ensures traces { traces_of self.new ≡ traces_with (bases_of self.old) (traces_of self.old)
@@ -586,7 +586,8 @@ impl<T: Copy> TraceStore<T> {
     // Gives trace p these runs in place of those that it has.
     fn set_runs(&mut self, p: u32, runs: Vec<Run>)
         requires first { 1 ≤ p }
-        requires runs { AreRunsOf self.old.loaded.standing self.old.head (bases_of self.old) (p - 1) runs.items }
+        requires runs { AreRunsOf self.old.loaded.standing self.old.head (bases_of self.old) (p - 1)
+            runs.items }
         ensures head { self.new.head ≡ self.old.head }
         ensures loaded { self.new.loaded ≡ self.old.loaded }
         ensures bases { bases_of self.new ≡ bases_of self.old }
@@ -604,7 +605,8 @@ impl<T: Copy> TraceStore<T> {
     // Gives trace p these runs in place of those that it has, and this payload.
     fn set_slot(&mut self, p: u32, runs: Vec<Run>, payload: T)
         requires first { 1 ≤ p }
-        requires runs { AreRunsOf self.old.loaded.standing self.old.head (bases_of self.old) (p - 1) runs.items }
+        requires runs { AreRunsOf self.old.loaded.standing self.old.head (bases_of self.old) (p - 1)
+            runs.items }
         ensures head { self.new.head ≡ self.old.head }
         ensures loaded { self.new.loaded ≡ self.old.loaded }
         ensures traces { traces_of self.new ≡ slice_set (traces_of self.old) (p - 1)

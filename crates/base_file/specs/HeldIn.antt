@@ -1,5 +1,5 @@
 -- How a base is held.
-use Rattle.std.specs.Prelude.{ℕ, List}
+use Rattle.std.specs.Prelude.{ℕ, ◌≡◌, ◌-◌, ◌≤◌, List, length, take, drop}
 use Rattle.base_file.specs.Disks.{bytes_of, is_agreed}
 use Rattle.base_file.specs.HeldBytes.{Standing, InMemory, OnDisk, HeldBytes}
 use Rattle.base_file.specs.declared.source.Source.{Source}
@@ -16,6 +16,32 @@ abbrev pub standing_in : Source → Standing
 standing_in (Memory m) = InMemory
 standing_in (Disk d) = OnDisk (is_agreed d)
 
+-- how many are kept: in memory all, on disk those of a list
+abbrev pub kept_count : Source → List ℕ → ℕ
+kept_count (Memory m) kept = length m.bytes.items
+kept_count (Disk d) kept = length kept
+
 -- what is held, as clauses see it
 abbrev pub held_of : Inside → HeldBytes
-held_of h = record { bytes = bytes_in h.source; standing = standing_in h.source; room = h.room.items }
+held_of h = record {
+  bytes = bytes_in h.source;
+  standing = standing_in h.source;
+  room = h.room.items;
+  front = kept_count h.source h.front.items;
+  back = kept_count h.source h.back.items;
+}
+
+-- these are the first of the bytes, and those the last
+pub record AreEnds (bytes first last : List ℕ) : Type 0 where
+  pub front : first ≡ take (length first) bytes
+  pub back : last ≡ drop (length bytes - length last) bytes
+  pub fits : length last ≤ length bytes
+
+-- of a file on disk, these are the first bytes, and those the last
+abbrev pub AreEndsIn : Source → List ℕ → List ℕ → Type 0
+AreEndsIn (Memory m) first last = Unit {0}
+AreEndsIn (Disk d) first last = AreEnds (bytes_of d) first last
+
+-- what is kept of a file on disk are its first bytes and its last
+abbrev pub AreKept : Inside → Type 0
+AreKept h = AreEndsIn h.source h.front.items h.back.items

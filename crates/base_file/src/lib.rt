@@ -8,8 +8,10 @@
 //! is open.
 //!
 //! `Held` is the one of the two that a volume stands on, with room for what is lent; its `Standing`
-//! says which. `write_spliced` writes the bytes with edits over them, block by block. Every call
-//! but `Held::in_memory` and `Held::on_disk`, which are given their memory, takes none.
+//! says which. What is to be seen is read first (`fetch`), and lent then (`lent`). The first bytes
+//! of a file on disk and its last are kept, and shown without a read (`edge`). `write_spliced`
+//! writes the bytes with edits over them, block by block. Every call but `Held::in_memory` and
+//! `Held::on_disk`, which are given their memory, takes none.
 #![tactic(auto)]
 
 mod base;

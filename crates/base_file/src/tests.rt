@@ -95,8 +95,9 @@ fn lends_bytes_in_memory(rt: HostRuntime) -> Result<(), Fail> {
     let bytes = b"0123456789abcdefghij".to_vec(alloc)?;
     let mut held = Held::in_memory(alloc, bytes);
     if held.length() == 20 {
-        let lent = held.lend(16, 4).expect(&rt, "bytes in memory");
-        assert_eq!(rt; lent, b"ghij".as_slice());
+        held.fetch(16, 4).expect(&rt, "bytes in memory");
+        assert_eq!(rt; held.lent(16, 4), b"ghij".as_slice());
+        assert_eq!(rt; held.edge(0, 4), b"0123".as_slice());
     }
     Ok(())
 }

@@ -1,5 +1,7 @@
 pub mod AheadLemmas
 pub mod EachLemmas
+pub mod FallLemmas
+pub mod FetchLemmas
 pub mod LengthLemmas
 pub mod MoveLemmas
 pub mod OrderLemmas

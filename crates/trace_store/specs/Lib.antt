@@ -1,8 +1,11 @@
 pub mod Slots
+pub mod Lent
 pub mod Moved
 pub mod Stores
 pub mod Swapped
 pub mod Ahead
+pub mod Then
+pub mod Fetched
 pub mod Each
 pub mod OneProof
 pub mod Shown

@@ -1,5 +1,5 @@
 -- The answer to every query, from a volume and its field map.
-use Rattle.std.specs.Prelude.{◌≡◌, ◌⊎◌, ◌<◌, IsTrue, ℕ, ℤ, ◌&&◌, nat_le, max, not, List, [], ◌++◌, length, map, flat_map, Option, Some, None, is_none, Result, Ok, Err, IfErr, IsOk, if◌then◌else◌}
+use Rattle.std.specs.Prelude.{◌≡◌, ◌⊎◌, ◌<◌, ℕ, ℤ, ◌&&◌, nat_le, max, not, List, [], ◌++◌, length, map, flat_map, Option, Some, None, is_none, Result, Ok, Err, IfErr, IsOk, if◌then◌else◌}
 use Rattle.std.specs.List.{enumerate_from, range_with_len}
 use Rattle.num_order.specs.Number.{num}
 use Rattle.text_block.specs.Blocks.{code_of}
@@ -19,8 +19,9 @@ use Rattle.bench_rules.specs.declared.query.Query.TheVariants as queries
 use Rattle.bench_rules.specs.declared.answer.Answer.{Answer}
 use Rattle.bench_rules.specs.declared.answer.Answer.TheVariants as answers
 use Rattle.bench_rules.specs.declared.ask_fault.AskFault.{AskFault}
-use Rattle.bench_rules.specs.declared.ask_fault.AskFault.TheVariants.{FileChanged, NoTrace, NoField, NoPlace, NoSample, NoValues, OutOfMemory, ReadFailed}
+use Rattle.bench_rules.specs.declared.ask_fault.AskFault.TheVariants.{NoTrace, NoField, NoPlace, NoSample, NoValues, OutOfMemory}
 use Rattle.bench_rules.specs.Places.{place_in_trace, place_in_binary, is_in_binary}
+use Rattle.bench_rules.specs.ReadFaults.{IsReadFault}
 use Rattle.bench_rules.specs.Refused.{is_line}
 use Rattle.bench_rules.specs.Headers.{named_places, header_of, extremes_in}
 use Rattle.bench_rules.specs.Looks.{query_looks}
@@ -166,9 +167,9 @@ TakesMemory (queries.Find a b field low high) = Unit {0}
 TakesMemory (queries.Header p) = Unit {0}
 TakesMemory (queries.Extremes a b) = Unit {0}
 
--- a query that looks at traces on disk may be refused because a read failed, or gave what shows that the file has changed
+-- a query that looks at traces may be told of a read that failed
 abbrev pub FailsToRead : State → Query → AskFault → Type 0
-FailsToRead s query fault = IsTrue s.on_disk × (0 < query_looks s [] query) × ((fault ≡ ReadFailed) ⊎ (fault ≡ FileChanged))
+FailsToRead s query fault = (0 < query_looks s [] query) × IsReadFault s.on_disk fault
 
 -- the reply is the answer, or want of memory where the query takes it and is not refused, or a read that failed
 abbrev pub IsReply : State → Query → Reply → Type 0

@@ -1,4 +1,5 @@
 -- What is told of bytes on disk that were not read.
+use Rattle.std.specs.Prelude.{◌≡◌, ◌⊎◌, Bool, IsTrue}
 use Rattle.base_file.specs.declared.read_fault.ReadFault.{ReadFault}
 use Rattle.base_file.specs.declared.read_fault.ReadFault.TheVariants as reads
 use Rattle.time_slice.specs.declared.slice_fault.SliceFault.{SliceFault}
@@ -24,3 +25,11 @@ ask_fault_of reads.TooLarge = asks.ReadFailed
 abbrev pub ask_fault_of_slice : SliceFault → AskFault
 ask_fault_of_slice slices.OutOfMemory = asks.OutOfMemory
 ask_fault_of_slice (slices.Read read) = ask_fault_of read
+
+-- an edit is told that a read failed, or gave what shows that the file has changed: only where the loaded bytes are on disk
+abbrev pub IsReadRefusal : Bool → Refusal → Type 0
+IsReadRefusal on_disk refusal = IsTrue on_disk × ((refusal ≡ ReadFailed) ⊎ (refusal ≡ FileChanged))
+
+-- a query is
+abbrev pub IsReadFault : Bool → AskFault → Type 0
+IsReadFault on_disk fault = IsTrue on_disk × ((fault ≡ asks.ReadFailed) ⊎ (fault ≡ asks.FileChanged))

@@ -1,12 +1,13 @@
 -- Edits one after another, and what each is answered.
-use Rattle.std.specs.Prelude.{◌≡◌, ◌⊎◌, ◌<◌, IsTrue, List, [], ◌∷◌, Option, Some, None, Result, Ok, Err}
+use Rattle.std.specs.Prelude.{◌≡◌, ◌⊎◌, ◌<◌, List, [], ◌∷◌, Option, Some, None, Result, Ok, Err}
 use Rattle.frame_cut.specs.Cuts.{IsCut}
 use Rattle.bench_rules.specs.declared.edit.Edit.{Edit}
 use Rattle.bench_rules.specs.declared.edit.Edit.TheVariants.{Set, SetBin, SetText, Map, Unmap, Patch, Blank, Copy, Delete, Move, Resize, Renumber, Compute, Sort}
 use Rattle.bench_rules.specs.declared.refusal.Refusal.{Refusal}
-use Rattle.bench_rules.specs.declared.refusal.Refusal.TheVariants.{FileChanged, OutOfMemory, ReadFailed}
+use Rattle.bench_rules.specs.declared.refusal.Refusal.TheVariants.{OutOfMemory}
 use Rattle.bench_rules.specs.After.{bytes_after, fields_after}
 use Rattle.bench_rules.specs.Looks.{edit_looks}
+use Rattle.bench_rules.specs.ReadFaults.{IsReadRefusal}
 use Rattle.bench_rules.specs.Refused.{first_refusal}
 use Rattle.bench_rules.specs.State.{State}
 
@@ -35,9 +36,9 @@ pub record IsAfter (old : State) (edit : Edit) (new : State) : Type 0 where
   pub limits : new.limits ≡ old.limits
   pub on_disk : new.on_disk ≡ old.on_disk
 
--- an edit that looks at traces on disk may be refused because a read failed, or gave what shows that the file has changed
+-- an edit that looks at traces may be told of a read that failed
 abbrev pub FailsToRead : State → Edit → Refusal → Type 0
-FailsToRead s edit r = IsTrue s.on_disk × (0 < edit_looks s edit) × ((r ≡ ReadFailed) ⊎ (r ≡ FileChanged))
+FailsToRead s edit r = (0 < edit_looks s edit) × IsReadRefusal s.on_disk r
 
 -- an edit that meets a refusal changes nothing; else it is done, or refused for want of memory and changes nothing; or a
 -- read of traces on disk failed, and nothing is changed

@@ -2,8 +2,6 @@ pub mod BinEditLemmas
 pub mod LaidLemmas
 pub mod EditLemmas
 pub mod HeadFrontLemmas
-pub mod FormatLemmas
-pub mod OrderLemmas
 pub mod BlockLemmas
 pub mod OneCutLemmas
 pub mod CutExampleLemmas

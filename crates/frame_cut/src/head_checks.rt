@@ -1,7 +1,7 @@
 // The head of a file: the checks of the file headers, in their order.
-ghost use Rattle.std.specs.Prelude.{◌≡◌, ◌≤◌, ◌*◌, ◌^◌, ◌||◌, ◌&&◌, ◌==◌, not, false, pos, int_lt, nat_lt, length, drop};
-ghost use Rattle.frame_cut.specs.BinaryHeader.{extensions_field, trailer_field};
-ghost use Rattle.frame_cut.specs.Heads.{head_of, head_from as head_from_parts, head_faults, first_fault_else, head_by, head_in as head_in_parts, blocks_in, format_in, format_refusal as format_refusal_of, is_trailer_refused as is_trailer_refused_at};
+ghost use Rattle.std.specs.Prelude.{◌≡◌, ◌≤◌, ◌*◌, ◌^◌, ◌||◌, ◌&&◌, ◌==◌, not, false, pos, int_lt, length};
+ghost use Rattle.frame_cut.specs.BinaryHeader.{text_count as text_count_in, extensions_field, trailer_field};
+ghost use Rattle.frame_cut.specs.Heads.{head_of, head_from as head_from_parts, with_order as with_order_found, head_in as head_in_parts, with_blocks as with_blocks_found, blocks_for as blocks_in, format_refusal as format_refusal_of, is_trailer_refused as is_trailer_refused_at};
 
 use crate::binary_header::{
     extensions, first_trace, format_code, is_fixed, is_other_order, is_pair_swapped, major, minor,
@@ -56,35 +56,17 @@ fn head_from(reading: Reading, bin: &[u8], rest: &[u8]) -> Result<Head, LoadFaul
     with_order(reading, order_of(reading, bin), bin, rest)
 }
 
-// The checks behind the order of bytes: the refusals but for the first two, L04 and L17.
+// The checks behind the order of bytes.
 fn with_order(reading: Reading, order: Order, bin: &[u8], rest: &[u8]) -> Result<Head, LoadFault>
     requires whole { length bin.now ≡ BINARY_HEADER_BYTES }
     requires small { length rest.now ≤ 2 ^ 40 }
-    ensures { result ≡ first_fault_else (drop 2 (head_faults reading order bin.now rest.now))
-        (head_by reading order bin.now rest.now) }
+    ensures { result ≡ with_order_found reading order bin.now rest.now }
 {
     let major = major(order, bin);
     let minor = minor(order, bin);
-    if is_unknown_revision(major, minor) {
+    if major > 2 || (major == 2 && minor != 0) {
         return Err(LoadFault::Revision(major, minor));
     }
-    with_revision(reading, order, bin, rest)
-}
-
-// Whether the revision is above 2.0.
-fn is_unknown_revision(major: u8, minor: u8) -> bool
-    ensures { result ≡ (nat_lt 2 major || (major == 2 && not (minor == 0))) }
-{
-    major > 2 || (major == 2 && minor != 0)
-}
-
-// The checks behind the revision: the refusals but for the first three, L04, L05 and L17.
-fn with_revision(reading: Reading, order: Order, bin: &[u8], rest: &[u8]) -> Result<Head, LoadFault>
-    requires whole { length bin.now ≡ BINARY_HEADER_BYTES }
-    requires small { length rest.now ≤ 2 ^ 40 }
-    ensures { result ≡ first_fault_else (drop 3 (head_faults reading order bin.now rest.now))
-        (head_by reading order bin.now rest.now) }
-{
     let code = format_code(order, bin);
     match Format::of(code, reading.opaque) {
         Ok(format) => with_format(reading, order, bin, rest, format),
@@ -103,7 +85,7 @@ fn format_refusal(fault: FormatFault, code: u16) -> LoadFault
     }
 }
 
-// The checks behind the sample format: the refusals but for the first six, L04 to L08 and L17.
+// The checks behind the sample format.
 fn with_format(
     reading: Reading,
     order: Order,
@@ -113,9 +95,8 @@ fn with_format(
 ) -> Result<Head, LoadFault>
     requires whole { length bin.now ≡ BINARY_HEADER_BYTES }
     requires small { length rest.now ≤ 2 ^ 40 }
-    requires format { format ≡ format_in reading order bin.now }
-    ensures { result ≡ first_fault_else (drop 6 (head_faults reading order bin.now rest.now))
-        (head_by reading order bin.now rest.now) }
+    ensures { result ≡ with_blocks_found reading order bin.now rest.now format
+        (blocks_in (text_count_in order bin.now) rest.now) }
 {
     let count = text_count(order, major(order, bin), bin);
     match blocks_for(count, rest) {
@@ -124,7 +105,7 @@ fn with_format(
     }
 }
 
-// The checks behind the number of extended textual headers: the last three refusals, L10 to L12.
+// The checks behind the number of extended textual headers.
 fn with_blocks(
     reading: Reading,
     order: Order,
@@ -135,10 +116,7 @@ fn with_blocks(
 ) -> Result<Head, LoadFault>
     requires whole { length bin.now ≡ BINARY_HEADER_BYTES }
     requires inside { TEXT_BLOCK_BYTES * blocks ≤ length rest.now }
-    requires format { format ≡ format_in reading order bin.now }
-    requires blocks { blocks ≡ blocks_in order bin.now rest.now }
-    ensures { result ≡ first_fault_else (drop 7 (head_faults reading order bin.now rest.now))
-        (head_by reading order bin.now rest.now) }
+    ensures { result ≡ with_blocks_found reading order bin.now rest.now format (Some blocks) }
 {
     let major = major(order, bin);
     let extensions = extensions(order, major, bin);

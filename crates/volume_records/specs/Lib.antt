@@ -1,1 +1,2 @@
 pub mod OfVolume
+pub mod Faults

@@ -1,5 +1,6 @@
 -- How an overlay holds a volume: its headers beside the loaded file, and the traces over it.
 use Rattle.std.specs.Prelude.{◌≡◌, ◌+◌, ◌-◌, ◌*◌, ◌≤◌, List, ℕ, length, drop, Option}
+use Rattle.base_file.specs.HeldBytes.{IsStill}
 use Rattle.text_block.specs.declared.block.TheConstants.{TEXT_BLOCK_BYTES}
 use Rattle.frame_cut.specs.declared.sizes.TheConstants.{BINARY_HEADER_BYTES, FILE_HEADER_BYTES}
 use Rattle.frame_cut.specs.Heads.{blocks_of}
@@ -39,10 +40,20 @@ looked_of o = record {
   agreed = is_sure o.store.loaded.standing;
 }
 
--- the loaded file has the blocks in front of its traces, and the data trailer records behind them
+-- the loaded file has the blocks in front of its traces, and the data trailer records behind them; the bytes in front of
+-- the traces are among the first that are kept, and those of the records among the last
 pub record HasEnds {T : Type 0} (s : TraceStore T) : Type 0 where
   pub front : s.head.traces_at ≡ FILE_HEADER_BYTES + TEXT_BLOCK_BYTES * s.head.blocks
   pub whole : s.head.traces_at + TEXT_BLOCK_BYTES * s.head.trailer ≤ length s.loaded.bytes
+  pub front_kept : s.head.traces_at ≤ s.loaded.front
+  pub back_kept : TEXT_BLOCK_BYTES * s.head.trailer ≤ s.loaded.back
+
+-- the same store, whose loaded bytes were read again: they stand as they did, or have fallen
+pub record IsReread {T : Type 0} (old new : TraceStore T) : Type 0 where
+  pub head : new.head ≡ old.head
+  pub order : new.order ≡ old.order
+  pub slots : new.slots ≡ old.slots
+  pub loaded : IsStill old.loaded new.loaded
 
 -- what holds of an overlay between two calls
 pub record IsHeld {T : Type 0} (o : Inside T) : Type 0 where

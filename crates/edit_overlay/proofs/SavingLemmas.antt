@@ -207,11 +207,6 @@ goes_over r old new file loaded from to xs ys e same f = subst (λ (b : List ℕ
 pub refused_as : {T : Type 0} (r : Result T SaveFault) (fault : SaveFault) (old new : Option (List ℕ)) (from to : Progress) (bytes : List ℕ) → r ≡ Err fault → Stops old new from bytes fault → GoesOn old new from to bytes r
 refused_as r fault old new from to bytes e f start all h = rw e (f start all h)
 
--- a call that came to the first bytes and ends as the next call does
-pub ends_as : {T : Type 0} (r : Result T SaveFault) (old mid new : Option (List ℕ)) (from at to : Progress) (xs ys all : List ℕ) → xs ++ ys ≡ all → Comes old mid from at xs → GoesOn mid new at to ys r → GoesOn old new from to all r
-ends_as (Ok done) old mid new from at to xs ys all e f g = same_come old new from to (xs ++ ys) all e (comes_on old mid new from at to xs ys f g)
-ends_as (Err fault) old mid new from at to xs ys all e f g start sofar h = rw (← e) (stops_on old mid new from at xs ys fault f g start sofar h)
-
 -- a read that failed where something is left
 pub stops_here : (old : Option (List ℕ)) (at : Progress) (bytes : List ℕ) (fault : SaveFault) → fault.written ≡ at.written → 0 < length at.waits + length bytes → Stops old old at bytes fault
 stops_here old at bytes fault e some start all h =

@@ -27,8 +27,8 @@ returns-in_err-write_part-in-Ok-clause-read g c =
     let p = err_from_is_err_and c.from_residual.result c.from_residual.ensures.1 in
     read_refused c.from_residual.result fault standing standing (rw p.2 at p.1) (Falls-refl standing) (no_read fault (is_on_disk standing) c.in_err-write_part-in-Ok.ensures.read)
 
-pub returns-in-Ok-clause-saved : goal.returns-in-Ok-clause-saved
-returns-in-Ok-clause-saved g c =
+pub returns-in_ok-write_part-in-Ok-clause-saved : goal.returns-in_ok-write_part-in-Ok-clause-saved
+returns-in_ok-write_part-in-Ok-clause-saved g c =
     let file : List ℕ = c.args.store.now.loaded.bytes in
     let w : Waiting = c.args.waiting.now in
     let size : ℕ = c.min-size.result in

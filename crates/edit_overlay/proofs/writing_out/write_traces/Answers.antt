@@ -20,7 +20,7 @@ loop-at-init g c = record {
 pub write_trace-requires-clause-last : goal.write_trace-requires-clause-last
 write_trace-requires-clause-last g c =
     let s = c.args.store.now in
-    omega (arith, c.count.ensures.traces, ap (λ (ts : List (List ℕ)). length ts) (traces_reread s c.loop-at.store c.loop-at.invariant.same))
+    omega (arith, c.count-at-end.ensures.traces, ap (λ (ts : List (List ℕ)). length ts) (traces_reread s c.loop-at.store c.loop-at.invariant.same))
 
 pub write_trace-requires-clause-bounded : goal.write_trace-requires-clause-bounded
 write_trace-requires-clause-bounded g c = rw c.loop-at.invariant.same.loaded.bytes c.requires.bounded
@@ -34,7 +34,7 @@ write_trace-requires-clause-small g c =
     let i = c.loop-at.invariant in
     let ts : List (List ℕ) = traces_of s in
     let at : ℕ = c.loop-at.at in
-    let there : at < length ts = omega (arith, c.count.ensures.traces) in
+    let there : at < length ts = omega (arith, c.count-at-end.ensures.traces) in
     omega (
       arith,
       c.requires.small,
@@ -53,7 +53,7 @@ loop-at-preserved g c =
     let e = c.in_ok-write_trace.ensures in
     let ts : List (List ℕ) = traces_of s in
     let at : ℕ = c.loop-at.at in
-    let there : at < length ts = omega (arith, c.count.ensures.traces) in
+    let there : at < length ts = omega (arith, c.count-at-end.ensures.traces) in
     let w_0 : Option (List ℕ) = g.W.Write.contents c.args.writer.now.inner in
     let w_1 : Option (List ℕ) = g.W.Write.contents c.loop-at.writer.inner in
     let w_2 : Option (List ℕ) = g.W.Write.contents c.write_trace.new.writer.inner in
@@ -91,7 +91,7 @@ returns-in_err-write_trace-clause-saved g c =
     let e = c.in_err-write_trace.ensures in
     let ts : List (List ℕ) = traces_of s in
     let at : ℕ = c.loop-at.at in
-    let there : at < length ts = omega (arith, c.count.ensures.traces) in
+    let there : at < length ts = omega (arith, c.count-at-end.ensures.traces) in
     let w_0 : Option (List ℕ) = g.W.Write.contents c.args.writer.now.inner in
     let w_1 : Option (List ℕ) = g.W.Write.contents c.loop-at.writer.inner in
     let w_2 : Option (List ℕ) = g.W.Write.contents c.write_trace.new.writer.inner in
@@ -109,11 +109,11 @@ returns-in_err-write_trace-clause-read g c =
 pub returns-clause-count : goal.returns-clause-count
 returns-clause-count g c =
     let ts : List (List ℕ) = traces_of c.args.store.now in
-    let all : take c.loop-at.at ts ≡ ts = take_all c.loop-at.at ts (omega (arith, c.count.ensures.traces)) in
+    let all : take c.loop-at.at ts ≡ ts = take_all c.loop-at.at ts (omega (arith, c.count-at-end.ensures.traces)) in
     omega (arith, c.loop-at.invariant.count, ap (λ (xs : List (List ℕ)). length (concat xs)) all)
 
 pub returns-clause-saved : goal.returns-clause-saved
 returns-clause-saved g c =
     let ts : List (List ℕ) = traces_of c.args.store.now in
-    let all : take c.loop-at.at ts ≡ ts = take_all c.loop-at.at ts (omega (arith, c.count.ensures.traces)) in
+    let all : take c.loop-at.at ts ≡ ts = take_all c.loop-at.at ts (omega (arith, c.count-at-end.ensures.traces)) in
     λ sure. same_come _ _ (progress c.args.store.now.loaded.bytes c.args.waiting.now) (progress c.args.store.now.loaded.bytes c.loop-at.waiting) (concat (take c.loop-at.at ts)) (concat ts) (ap (λ (xs : List (List ℕ)). concat xs) all) (c.loop-at.invariant.comes sure)

@@ -1,6 +1,7 @@
 -- An overlay is sound again with another store of the same file.
-use Rattle.std.proofs.Common.{◌≡◌, ℕ, ◌+◌, Bool, List, length, refl, sym, ap, ◌∙◌, arith, Result, Ok, Err, OnOk, OnErr, None}
-use Rattle.base_file.specs.HeldBytes.{HeldBytes}
+use Rattle.std.proofs.Common.{◌≡◌, ℕ, ◌+◌, Bool, List, length, refl, sym, subst, ap, ◌∙◌, arith, Result, Ok, Err, OnOk, OnErr, None}
+use Rattle.base_file.specs.HeldBytes.{HeldBytes, Falls}
+use Rattle.base_file.proofs.HeldLemmas.{Falls-refl}
 use Rattle.frame_cut.specs.Volume.{Volume, bytes_of}
 use Rattle.trace_store.specs.Ahead.{traces_ahead}
 use Rattle.edit_overlay.specs.CountedVolume.{CountedVolume, with_agreed}
@@ -24,6 +25,11 @@ module _ {T : Type 0} where
   pub record IsOver (s t : TraceStore T) : Type 0 where
     pub head : t.head ≡ s.head
     pub loaded : t.loaded ≡ s.loaded
+
+-- it stands as it did
+module _ {T : Type 0} where
+  pub stands_over : (s t : TraceStore T) → IsOver s t → Falls s.loaded.standing t.loaded.standing
+  stands_over s t over = subst (λ (l : HeldBytes). Falls s.loaded.standing l.standing) (sym over.loaded) (Falls-refl s.loaded.standing)
 
 module _ {T : Type 0} where
   other_traces : (text bin : List ℕ) (s t : TraceStore T) → IsOver s t → volume_with text bin t ≡ record (volume_with text bin s) { traces = traces_of t }

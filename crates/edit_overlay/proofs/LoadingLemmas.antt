@@ -47,7 +47,7 @@ all-loaded l loading all = loading.so_far ∙ ap (λ (es : List Extent). pieces 
 
 -- a store has as many payloads as traces
 pub as-many : {T : Type 0} (s : TraceStore T) → length (payloads_of s) ≡ length (traces_of s)
-as-many s = payloads-counted s.loaded.bytes s.head s.order.ids s.slots s.sound.held ∙ sym (length-map s.order.ids (bytes_under s.loaded.bytes s.slots))
+as-many s = payloads-counted s.loaded s.head s.order.ids s.slots s.sound.held ∙ sym (length-map s.order.ids (bytes_under s.loaded.bytes s.slots))
 
 -- the parts of the store that has each trace, with the headers of the file
 pub parts-loaded : {T : Type 0} (l : Inside T) (text bin : List ℕ) → IsLoading l → length (payloads_of l.store) ≡ length (pieces l.store.loaded.bytes l.extents.items) → text ≡ take 3200 l.store.loaded.bytes → bin ≡ take 400 (drop 3200 l.store.loaded.bytes)

@@ -1,5 +1,5 @@
 -- Traces that lie one behind the other in a file, and its blocks by their numbers.
-use Rattle.std.proofs.Common.{◌≡◌, ℕ, suc, zero, ◌+◌, ◌-◌, ◌*◌, ◌<◌, ◌≤◌, List, [], ◌∷◌, length, length-take, take, drop, get_or, refl, ap, subst, ◌∙◌, arith, Option, Some, None, slice_get, All}
+use Rattle.std.proofs.Common.{◌≡◌, ℕ, suc, zero, ◌+◌, ◌-◌, ◌*◌, ◌<◌, ◌≤◌, List, [], ◌∷◌, length, length-drop, length-take, take, drop, get_or, refl, ap, subst, ◌∙◌, arith, Option, Some, None, slice_get, All}
 use Rattle.std.proofs.lemmas.List.{drop-drop, length-map, take_all}
 use Rattle.std.proofs.lemmas.List.Elements.{All-get_or}
 use Rattle.frame_cut.specs.declared.extent.Extent.{Extent}
@@ -39,6 +39,10 @@ all_inside file h es laid k d l = let r = inside h.traces_at es (length file - 3
 pub all_whole : (file : List ℕ) (reading : Reading) (limits : Limits) (h : Head) (es : List Extent) → IsCut file reading limits (volume_at file h es) → All (λ e. IsTrace h (bytes_at file e)) es
 all_whole file reading limits h es cut k d l =
     subst (λ (t : List ℕ). IsTrace h t) (get_or-pieces file es k d [] l) (All-get_or (IsTrace h) (pieces file es) k [] (omega (arith, length-map es (λ (e : Extent). bytes_at file e))) cut.parts.traces)
+
+-- n bytes of more are n
+pub length-part : (part file : List ℕ) (at n : ℕ) → at + n ≤ length file → part ≡ take n (drop at file) → n ≤ length part
+length-part part file at n inside e = omega (arith, inside, ap length e, length-take n (drop at file), length-drop at file)
 
 -- ---- blocks by their number
 

@@ -33,6 +33,7 @@
 //! memory nothing is open: they are sure, and no read of them is refused.
 #![tactic(auto)]
 
+mod ahead;
 mod bytes;
 mod loading;
 mod overlay;

@@ -12,6 +12,7 @@ ghost use Rattle.std.specs.List.{insert, remove};
 ghost use Rattle.frame_cut.specs.Parts.{block_of, trailer_of, with_line, with_header_bytes, with_each, with_inserted, without, with_moved};
 ghost use Rattle.edit_overlay.specs.Saving.{CountsSaveFailure, Saves};
 
+use crate::ahead::{fetch_ahead, shown_ahead};
 use crate::bytes::{array_at, overwrite};
 use crate::save_fault::SaveFault;
 use crate::writing_out::write_volume;
@@ -196,16 +197,8 @@ impl<T: Copy> Overlay<T> {
             return Ok(None);
         }
         self.count_look();
-        match &self.prepared {
-            Some(prepared) => {
-                self.store.fetch_then(p, prepared)?;
-                Ok(Some(self.store.shown_then(p, prepared)))
-            }
-            None => {
-                self.store.fetch(p)?;
-                Ok(Some(self.store.shown(p)))
-            }
-        }
+        fetch_ahead(&mut self.store, &self.prepared, p)?;
+        Ok(Some(shown_ahead(&self.store, &self.prepared, p)))
     }
 
     // The number of traces, which a prepared edit leaves as it is.

@@ -1,5 +1,5 @@
-use Rattle.std.proofs.Common.{slice_get, refl, ◌≡◌, ◌-◌, ◌+◌, ◌*◌, List, ℕ, take, drop, ap, arith, sym, ◌∙◌, Option, Some, inl}
-use Rattle.edit_overlay.proofs.PieceLemmas.{whole_part, read_block, slice_get-none, block_number}
+use Rattle.std.proofs.Common.{slice_get, refl, ◌≡◌, ◌-◌, ◌+◌, ◌*◌, List, ℕ, ◌≤◌, lit<, length, take, drop, ap, arith, sym, ◌∙◌, Option, Some, inl}
+use Rattle.edit_overlay.proofs.PieceLemmas.{length-part, whole_part, read_block, slice_get-none, block_number}
 use Rattle.edit_overlay.proofs.overlay.Overlay.block.Goals as goal
 
 pub returns-then-b-self : goal.returns-then-b-self
@@ -10,6 +10,14 @@ returns-then-b-self g c =
 
 pub edge-requires-clause-kept : goal.edge-requires-clause-kept
 edge-requires-clause-kept g c = inl (omega (arith, c.if-b-eq0.false, c.if-b-self.false, c.self.invariant.ends.front, c.self.invariant.ends.front_kept))
+
+pub array_at-requires : goal.array_at-requires
+array_at-requires g c =
+    let file : List ℕ = c.self.inside.store.loaded.bytes in
+    let at : ℕ = 3600 + 3200 * (c.args.b - 1) in
+    let inside : at + 3200 ≤ length file = omega (arith, c.if-b-eq0.false, c.if-b-self.false, c.self.invariant.ends.front, c.self.invariant.ends.whole) in
+    let whole : 3200 ≤ length c.edge.result.now = length-part c.edge.result.now file at 3200 inside c.edge.ensures in
+    (lit< tt, whole)
 
 pub returns : goal.returns
 returns g c =

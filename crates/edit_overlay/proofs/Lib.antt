@@ -1,6 +1,7 @@
 pub mod FaultLemmas
 pub mod HeldLemmas
 pub mod LoadingLemmas
+pub mod LookLemmas
 pub mod PieceLemmas
 pub mod SavingLemmas
 pub mod StandingLemmas

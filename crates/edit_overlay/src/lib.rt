@@ -6,9 +6,9 @@
 //! number of looks at them, and beside parts and payloads as they are those that they would be with
 //! the edit that is prepared. Traces count from 1, bytes of a trace from 0.
 //!
-//! The loaded bytes never change. The traces stand in a `TraceStore`. A
-//! save writes the parts one behind the other, neighbouring ranges of the loaded bytes at once, and
-//! joins nothing in memory.
+//! The loaded bytes never change, in memory or on disk. The traces stand in a `TraceStore`. A save
+//! writes the parts one behind the other, neighbouring ranges of the loaded bytes together, by
+//! pieces as long as can be lent at once, and joins nothing in memory.
 //!
 //! A file comes in as a [`Loading`], which shows its traces one after another and takes a payload
 //! for each; once each has one, it is an overlay.
@@ -33,6 +33,7 @@
 //! memory nothing is open: they are sure, and no read of them is refused.
 #![tactic(auto)]
 
+mod ahead;
 mod bytes;
 mod loading;
 mod overlay;

@@ -12,6 +12,7 @@ ghost use Rattle.std.specs.List.{insert, remove};
 ghost use Rattle.frame_cut.specs.Parts.{block_of, trailer_of, with_line, with_header_bytes, with_each, with_inserted, without, with_moved};
 ghost use Rattle.edit_overlay.specs.Saving.{CountsSaveFailure, Saves};
 
+use crate::ahead::{fetch_ahead, shown_ahead};
 use crate::bytes::{array_at, overwrite};
 use crate::save_fault::SaveFault;
 use crate::writing_out::write_volume;
@@ -137,7 +138,8 @@ impl<T: Copy> Overlay<T> {
             return Ok(None);
         }
         self.count_look();
-        Ok(Some(self.view(p)))
+        self.store.fetch(p)?;
+        Ok(Some(self.store.shown(p)))
     }
 
     // One look more.
@@ -167,19 +169,13 @@ impl<T: Copy> Overlay<T> {
         self.prepared = None;
     }
 
-    // Trace p.
-    fn view(&self, p: u32) -> TraceView<'_>
-        requires first { 1 ≤ p }
-        requires last { p ≤ count_of self.now.volume }
-        ensures { IsViewOf self.now.volume p result }
-    {
-        self.store.view(p)
-    }
-
     /// Brings byte `at`, counted from 0, of each of the next traces from trace p on nearer to the
     /// processor, where they are in memory and have it: for a caller that is to look at them one
-    /// after another, and needs of each what stands there. Shows nothing, and takes no memory.
-    pub fn read_ahead(&self, _p: u32, _at: u64) {}
+    /// after another, and needs of each what stands there. Shows nothing, and takes no memory. All
+    /// bytes that were read in one: what is not kept is not read.
+    pub fn read_ahead(&self, p: u32, at: u64) -> u8 {
+        self.store.read_ahead(p, at)
+    }
 
     /// The payloads of all traces, in order. Looks at no trace, and takes no memory.
     pub fn payloads(&self) -> Column<'_, T>
@@ -201,7 +197,8 @@ impl<T: Copy> Overlay<T> {
             return Ok(None);
         }
         self.count_look();
-        Ok(Some(self.view_prepared(p)))
+        fetch_ahead(&mut self.store, &self.prepared, p)?;
+        Ok(Some(shown_ahead(&self.store, &self.prepared, p)))
     }
 
     // The number of traces, which a prepared edit leaves as it is.
@@ -210,18 +207,6 @@ impl<T: Copy> Overlay<T> {
         ensures prepared { result ≡ count_of self.now.prepared }
     {
         self.store.count()
-    }
-
-    // Trace p as it would be.
-    fn view_prepared(&self, p: u32) -> TraceView<'_>
-        requires first { 1 ≤ p }
-        requires last { p ≤ count_of self.now.volume }
-        ensures { IsViewOf self.now.prepared p result }
-    {
-        match &self.prepared {
-            Some(prepared) => self.store.view_then(p, prepared),
-            None => self.store.view(p),
-        }
     }
 
     /// The textual header (bytes 1 to 3200 of the file).
@@ -250,7 +235,7 @@ impl<T: Copy> Overlay<T> {
             return None;
         }
         let at = FILE_HEADER_BYTES + TEXT_BLOCK_BYTES * (b as usize - 1);
-        Some(array_at(self.store.loaded.bytes(), at))
+        Some(array_at(self.store.loaded.edge(at as u64, TEXT_BLOCK_BYTES), 0))
     }
 
     /// Data trailer record j, counted from 1, where there is one.
@@ -266,7 +251,7 @@ impl<T: Copy> Overlay<T> {
         let length = self.store.loaded.length() as usize;
         let start = length - TEXT_BLOCK_BYTES * self.store.head.trailer as usize;
         let at = start + TEXT_BLOCK_BYTES * (j as usize - 1);
-        Some(array_at(self.store.loaded.bytes(), at))
+        Some(array_at(self.store.loaded.edge(at as u64, TEXT_BLOCK_BYTES), 0))
     }
 
     /// Writes line q of the textual header, from 1 to 40. Takes no memory.
@@ -484,7 +469,7 @@ impl<T: Copy> Overlay<T> {
         ensures after { self.new ≡ with_table self.old (without self.old.volume p)
             (remove self.old.payloads (p - 1)) }
     {
-        let gone = self.store.view(p).length();
+        let gone = self.store.length_of(p);
         let payload = self.store.delete(p);
         self.prepared = None;
         self.length -= gone;
@@ -529,7 +514,7 @@ impl<T: Copy> Overlay<T> {
         ensures { self.new ≡ with_table self.old (with_trace self.old.volume p bytes.items)
             (slice_set self.old.payloads (p - 1) payload) }
     {
-        let gone = self.store.view(p).length();
+        let gone = self.store.length_of(p);
         let added = bytes.len() as u64;
         self.store.replace(alloc, p, Base::Added(bytes), payload);
         self.prepared = None;
@@ -549,6 +534,6 @@ impl<T: Copy> Overlay<T> {
     {
         // Read for the proof alone, which learns that the file's length fits 64 bits.
         let _length = self.length;
-        write_volume(writer, &self.text, &self.bin, &self.store)
+        write_volume(writer, &self.text, &self.bin, &mut self.store)
     }
 }

@@ -1,6 +1,6 @@
 use Rattle.std.proofs.Common.{◌-◌, ◌∙◌, ap, arith}
 use Rattle.trace_store.specs.Stores.{traces_of}
-use Rattle.edit_overlay.proofs.HeldLemmas.{held_again, shown_kept}
+use Rattle.edit_overlay.proofs.HeldLemmas.{held_again, shown_kept, stands_over}
 use Rattle.trace_store.proofs.SlotLemmas.{on_err}
 use Rattle.trace_store.proofs.LengthLemmas.{total, total-insert}
 use Rattle.edit_overlay.proofs.overlay.Overlay.insert.Goals as goal
@@ -14,6 +14,6 @@ pub returns-in_err-insert-clause-err : goal.returns-in_err-insert-clause-err
 returns-in_err-insert-clause-err g c =
     on_err c.from_residual.result _ (
     shown_kept c.self.inside c.insert.new.self (record { head = c.insert.ensures.head; loaded = c.insert.ensures.loaded })
-    (record { head = c.insert.ensures.head; bases = c.in_err-insert.ensures.bases; traces = c.in_err-insert.ensures.err; payloads = c.in_err-insert.ensures.payloads; room = c.in_err-insert.ensures.room })
+    (record { head = c.insert.ensures.head; standing = stands_over c.self.inside.store c.insert.new.self (record { head = c.insert.ensures.head; loaded = c.insert.ensures.loaded }); bases = c.in_err-insert.ensures.bases; traces = c.in_err-insert.ensures.err; payloads = c.in_err-insert.ensures.payloads; room = c.in_err-insert.ensures.room })
     ∙ c.self.view_is
     )

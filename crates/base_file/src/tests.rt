@@ -72,24 +72,6 @@ fn a_failed_pass_is_told(rt: HostRuntime) -> Result<(), Fail> {
 }
 
 #[test]
-fn writes_bytes_with_an_edit_over_them(rt: HostRuntime) -> Result<(), Fail> {
-    let alloc = rt.alloc();
-    let mut disk = loaded(&rt, alloc)?;
-    let edits = [Edit {
-        at: 4,
-        bytes: b"XY".to_vec(alloc)?,
-    }];
-    let mut out = Vec::new(alloc);
-    let mut room = [0u8; 3];
-    let length = disk.length();
-    if length == 20 && edits[0].bytes.len() == 2 {
-        assert!(rt; write_spliced(&mut disk, &edits, &mut room, &mut out).is_ok());
-    }
-    assert_eq!(rt; out.as_slice(), b"0123XY6789abcdefghij".as_slice());
-    Ok(())
-}
-
-#[test]
 fn lends_bytes_in_memory(rt: HostRuntime) -> Result<(), Fail> {
     let alloc = rt.alloc();
     let bytes = b"0123456789abcdefghij".to_vec(alloc)?;

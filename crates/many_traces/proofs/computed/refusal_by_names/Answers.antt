@@ -1,6 +1,6 @@
 use Rattle.trace_view.specs.Shown.{bytes_of, head_of}
 use Rattle.many_traces.proofs.NumbersLemmas.{named_none, named_refused}
-use Rattle.many_traces.proofs.computed.number_by_names.Goals as goal
+use Rattle.many_traces.proofs.computed.refusal_by_names.Goals as goal
 
 pub returns-clause-none : goal.returns-clause-none
 returns-clause-none c =

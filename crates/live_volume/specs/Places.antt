@@ -1,12 +1,12 @@
 -- Places over which no value makes a trace longer or shorter, and traces that have room for a number at a place.
-use Rattle.std.specs.Prelude.{◌+◌, ◌-◌, ◌==◌, ◌&&◌, ◌||◌, ◌<◌, ◌≤◌, nat_le, nat_lt, ℕ, Bool, List, length}
-use Rattle.num_order.specs.Number.{is_size, IsSize}
+use Rattle.std.specs.Prelude.{◌+◌, ◌-◌, ◌==◌, ◌&&◌, ◌||◌, ◌≤◌, nat_le, nat_lt, ℕ, Bool, List, length}
+use Rattle.num_order.specs.Number.{is_size}
 use Rattle.field_map.specs.declared.place.Place.{Place}
-use Rattle.field_map.specs.Places.{offset_of}
 use Rattle.frame_cut.specs.Cuts.{IsTrace}
 use Rattle.frame_cut.specs.Traces.{count_of, trace_at}
 use Rattle.frame_cut.specs.Volume.{Volume, bytes_of}
 use Rattle.bench_rules.specs.State.{State}
+use Rattle.many_traces.specs.Fields.{HoldsPlace}
 
 -- it is the place of a number inside the main header, and shares no byte with bytes 115-116, the only ones there that tell how
 -- long the trace is
@@ -18,11 +18,9 @@ leaves_length place =
     && nat_lt (place.byte + place.kind.size) 242
     && (nat_le (place.byte + place.kind.size) 115 || nat_le 117 place.byte)
 
--- a number of the place's kind may be laid over the place in each of so many traces from trace a on
-pub record HaveRoom (v : Volume) (place : Place) (a n : ℕ) : Type 0 where
-  pub byte : 1 ≤ place.byte
-  pub size : IsSize place.kind.size
-  pub inside : (k : ℕ) → k < n → offset_of place + place.kind.size ≤ length (trace_at v (a + k))
+-- a number can be put at the place in each of traces a to b
+abbrev pub EachHolds : Volume → ℕ → ℕ → Place → Type 0
+EachHolds v a b place = (p : ℕ) → a ≤ p → p ≤ b → HoldsPlace (trace_at v p) place
 
 -- these bytes are a whole trace, and may stand in the place of trace p: the file is within its limit then
 pub record MayReplace (s : State) (p : ℕ) (t : List ℕ) : Type 0 where

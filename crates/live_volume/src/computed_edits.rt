@@ -9,7 +9,7 @@ ghost use Rattle.bench_rules.specs.Steps.{Step};
 ghost use Rattle.many_traces.specs.Formulas.{formula_at, number_bytes, IsRefusalFor};
 ghost use Rattle.bench_rules.specs.ReadFaults.{IsReadRefusal};
 ghost use Rattle.live_volume.specs.Held.{any_moves, IsReadAs, OnlyLooks};
-ghost use Rattle.live_volume.specs.Places.{HaveRoom};
+ghost use Rattle.live_volume.specs.Places.{EachHolds};
 
 use crate::live_volume::LiveVolume;
 use bench_rules::{Field, Operand, Operator, Refusal};
@@ -86,7 +86,7 @@ impl LiveVolume {
         ensures bytes { IfOk result (λ bytes. IsTrue self.new.agreed →
             bytes.items ≡ number_bytes self.old.state.volume
             (formula_at self.old.state.fields place source.now steps.now) a b) }
-        ensures room { IfOk result (λ _. HaveRoom self.old.state.volume place a (b + 1 - a)) }
+        ensures each { IfOk result (λ _. EachHolds self.old.state.volume a b place) }
         ensures long { IfOk result (λ bytes.
             length bytes.items ≡ place.kind.size * (b + 1 - a)) }
         ensures err { IfErr result (λ refusal. (IsReadRefusal self.old.state.on_disk refusal

@@ -12,9 +12,10 @@ ghost use Rattle.bench_rules.specs.ReadFaults.{IsReadRefusal};
 ghost use Rattle.bench_rules.specs.Refused.{first_refusal, first_refusal_among, no_trace, no_trace_from, set_refusal};
 ghost use Rattle.bench_rules.specs.Steps.{IsAfter, Step};
 ghost use Rattle.bench_rules.specs.TraceEdits.{counted, numbers, resized as bytes_resized};
+ghost use Rattle.many_traces.specs.Fields.{HoldsPlace};
 ghost use Rattle.many_traces.specs.Formulas.{IsRefusalFor};
 ghost use Rattle.live_volume.specs.Held.{any_moves, IsReadAs, OnlyLooks};
-ghost use Rattle.live_volume.specs.Places.{leaves_length as leaves_length_of, HaveRoom, MayReplace};
+ghost use Rattle.live_volume.specs.Places.{leaves_length as leaves_length_of, EachHolds, MayReplace};
 ghost use Rattle.live_volume.specs.Refusals.{IsOfMachine};
 
 use crate::live_volume::LiveVolume;
@@ -132,8 +133,8 @@ impl LiveVolume {
         requires last { b ≤ count_of self.old.state.volume }
         ensures refusal { IfOk result (λ refusal. IsTrue self.new.agreed → refusal ≡
             first_refusal_among self.old.state.volume (Some place) (numbers a b first step)) }
-        ensures room { IfOk result (λ refusal. refusal ≡ None →
-            HaveRoom self.old.state.volume place a (b + 1 - a)) }
+        ensures each { IfOk result (λ refusal. refusal ≡ None →
+            EachHolds self.old.state.volume a b place) }
         ensures fit { IfOk result (λ refusal. refusal ≡ None → (k : ℕ) → k < b + 1 - a →
             IsTrue (fits place.kind (counted first step k))) }
         ensures seen { OnlyLooks self.old self.new (b + 1 - a) }
@@ -159,7 +160,7 @@ impl LiveVolume {
         requires last { b ≤ count_of self.now.state.volume }
         ensures none { OnTrue result (IsTrue self.now.agreed → first_refusal_among
             self.now.state.volume (Some place) (numbers a b first step) ≡ None) }
-        ensures room { OnTrue result (HaveRoom self.now.state.volume place a (b + 1 - a)) }
+        ensures each { OnTrue result (EachHolds self.now.state.volume a b place) }
         ensures fit { OnTrue result ((k : ℕ) → k < b + 1 - a →
             IsTrue (fits place.kind (counted first step k))) }
     {
@@ -187,8 +188,8 @@ impl LiveVolume {
         ensures refusal { IfOk result (λ refusal. IsTrue self.new.agreed →
             refusal ≡ set_refusal self.old.state.volume.head
             (trace_at self.old.state.volume p) (Some place) (counted first step k)) }
-        ensures room { IfOk result (λ refusal. refusal ≡ None →
-            HaveRoom self.old.state.volume place p 1) }
+        ensures each { IfOk result (λ refusal. refusal ≡ None →
+            HoldsPlace (trace_at self.old.state.volume p) place) }
         ensures fit { IfOk result (λ refusal. refusal ≡ None →
             IsTrue (fits place.kind (counted first step k))) }
         ensures seen { OnlyLooks self.old self.new 1 }
@@ -215,7 +216,7 @@ impl LiveVolume {
         requires first { 1 ≤ a }
         requires range { a ≤ b }
         requires last { b ≤ count_of self.old.state.volume }
-        requires room { HaveRoom self.old.state.volume place a (b + 1 - a) }
+        requires each { EachHolds self.old.state.volume a b place }
         requires fit { (k : ℕ) → k < b + 1 - a →
             IsTrue (fits place.kind (counted first step k)) }
         requires none { IsTrue self.old.agreed → first_refusal self.old.state

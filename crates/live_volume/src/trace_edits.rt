@@ -1,5 +1,6 @@
 // Edits of samples and of whole traces.
-ghost use Rattle.std.specs.Prelude.{◌≡◌, length, None, IsTrue, IfOk, OnOk, IfErr, OnErr};
+ghost use Rattle.std.specs.Prelude.{◌≡◌, ◌+◌, ◌*◌, ◌<◌, ◌≤◌, ◌^◌, length, None, IsTrue, IfOk, OnOk, IfErr, OnErr};
+ghost use Rattle.sample_codes.specs.Formats.{width};
 ghost use Rattle.frame_cut.specs.Cuts.{IsTrace};
 ghost use Rattle.frame_cut.specs.Traces.{is_trace, trace_at};
 ghost use Rattle.bench_rules.specs.declared.edit.Edit.TheVariants as edits;
@@ -9,7 +10,7 @@ ghost use Rattle.bench_rules.specs.Refused.{first_refusal, no_trace};
 ghost use Rattle.bench_rules.specs.Steps.{IsAfter, Step};
 ghost use Rattle.live_volume.specs.Held.{sample_start, IsReadAs, OnlyLooks};
 ghost use Rattle.live_volume.specs.Refusals.{IsOfMachine};
-ghost use Rattle.volume_answers.specs.Rooms.{HasSampleRoom};
+ghost use Rattle.volume_answers.specs.Samples.{HasEach};
 
 use crate::live_volume::LiveVolume;
 use bench_rules::{Refusal, blank_length, joined, samples_bytes, zeros};
@@ -59,7 +60,11 @@ impl LiveVolume {
         at: u64,
         values: &[i128],
     ) -> Result<(), Refusal>
-        requires room { HasSampleRoom self.old.state.volume p at values.now }
+        requires trace { IsTrue (is_trace self.old.state.volume p) }
+        requires inside { at + width self.old.state.volume.head.format * length values.now
+            ≤ length (trace_at self.old.state.volume p) }
+        requires values { HasEach self.old.state.volume.head.format values.now }
+        requires few { length values.now < 2 ^ 32 }
         requires none { IsTrue self.old.agreed →
             first_refusal self.old.state (edits.Patch p k values.now) ≡ None }
         requires place { IsTrue self.old.agreed → at ≡ sample_start self.old.state.volume p k }

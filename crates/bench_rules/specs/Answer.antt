@@ -1,5 +1,5 @@
 -- The answer to every query, from a volume and its field map.
-use Rattle.std.specs.Prelude.{◌≡◌, ◌⊎◌, ◌<◌, ℕ, ℤ, ◌&&◌, nat_le, max, not, List, [], ◌++◌, length, map, flat_map, Option, Some, None, is_none, Result, Ok, Err, IfErr, IsOk, if◌then◌else◌}
+use Rattle.std.specs.Prelude.{◌≡◌, ◌⊎◌, ◌<◌, ℕ, ℤ, ◌&&◌, nat_le, max, not, List, [], ◌++◌, length, map, flat_map, Option, Some, None, is_none, Result, Ok, Err, IsErrAnd, IsOk, if◌then◌else◌}
 use Rattle.std.specs.List.{enumerate_from, range_with_len}
 use Rattle.num_order.specs.Number.{num}
 use Rattle.text_block.specs.Blocks.{code_of}
@@ -174,4 +174,4 @@ FailsToRead s query fault = (0 < query_looks s [] query) × IsReadFault s.on_dis
 -- the reply is the answer, or want of memory where the query takes it and is not refused, or a read that failed
 abbrev pub IsReply : State → Query → Reply → Type 0
 IsReply s query reply =
-    (reply ≡ answer s query) ⊎ ((reply ≡ Err OutOfMemory) × TakesMemory query × IsOk (answer s query)) ⊎ IfErr reply (FailsToRead s query)
+    (reply ≡ answer s query) ⊎ ((reply ≡ Err OutOfMemory) × TakesMemory query × IsOk (answer s query)) ⊎ IsErrAnd reply (FailsToRead s query)

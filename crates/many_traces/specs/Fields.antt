@@ -13,7 +13,8 @@ use Rattle.bench_rules.specs.Places.{place_in_trace}
 abbrev pub number_in : Head → List ℕ → Pairs → Field → Option ℤ
 number_in h t fields field = option_and_then (λ place. value_of h t place) (place_in_trace fields field)
 
--- a number of the place's size can be put there in the trace
+-- bytes of the place's size can be put there in the trace
 pub record HoldsPlace (t : List ℕ) (place : Place) : Type 0 where
+  pub byte : 1 ≤ place.byte
   pub size : IsSize place.kind.size
   pub inside : offset_of place + place.kind.size ≤ length t

@@ -1,5 +1,5 @@
 // A number computed for each of many traces.
-ghost use Rattle.std.specs.Prelude.{◌≡◌, ◌+◌, ◌-◌, ◌*◌, ◌≤◌, ℕ, [], ◌++◌, ◌⊎◌, None, Some, Ok, IsTrue, IfOk, IfErr, OnOk, List, length};
+ghost use Rattle.std.specs.Prelude.{◌≡◌, ◌+◌, ◌-◌, ◌*◌, ◌<◌, ◌≤◌, ℕ, [], ◌++◌, ◌⊎◌, None, Some, Ok, IsTrue, IfOk, IfErr, OnOk, List, length};
 ghost use Rattle.std.specs.Vec.{vec_len, vec_capacity};
 ghost use Rattle.num_order.specs.Number.{IsSize, InRange, bytes as bytes_of_number};
 ghost use Rattle.frame_cut.specs.Traces.{count_of, is_trace, trace_at};
@@ -44,9 +44,10 @@ pub fn computed_bytes(
     ensures bytes { IfOk result (λ bytes. IsTrue overlay.new.agreed → bytes.items ≡ number_bytes
         overlay.old.volume (formula_at map.now.pairs place source.now steps.now) a b) }
     ensures count { IfOk result (λ bytes. length bytes.items ≡ place.kind.size * (b + 1 - a)) }
-    ensures each { OnOk result ((p : ℕ) → a ≤ p → p ≤ b →
-        HoldsPlace (trace_at overlay.old.volume p) place) }
-    ensures err { IfErr result (λ refusal. IsReadRefusal overlay.old.on_disk refusal ⊎
+    ensures each { OnOk result ((k : ℕ) → k < b + 1 - a →
+        HoldsPlace (trace_at overlay.old.volume (a + k)) place) }
+    ensures err { IfErr result (λ refusal. (IsReadRefusal overlay.old.on_disk refusal
+        × (0 < looks_at (formula_at map.now.pairs place source.now steps.now) (b + 1 - a))) ⊎
         (IsTrue overlay.new.agreed → IsRefusalFor refusal (compute_refusal_in overlay.old.volume
         (formula_at map.now.pairs place source.now steps.now) a b))) }
     ensures seen { IsSeen overlay.old overlay.new
@@ -93,8 +94,8 @@ fn filled(
       steps = steps.now;
     })) a b) }
     ensures count { IfOk result (λ bytes. length bytes.items ≡ place.kind.size * (b + 1 - a)) }
-    ensures each { OnOk result ((p : ℕ) → a ≤ p → p ≤ b →
-        HoldsPlace (trace_at overlay.old.volume p) place) }
+    ensures each { OnOk result ((k : ℕ) → k < b + 1 - a →
+        HoldsPlace (trace_at overlay.old.volume (a + k)) place) }
     ensures err { IfErr result (λ refusal. IsReadRefusal overlay.old.on_disk refusal ⊎
         (IsTrue overlay.new.agreed → compute_refusal_in overlay.old.volume
         (Some (record { place = place; source = source; steps = steps.now })) a b

@@ -1,5 +1,5 @@
 // Some header fields of many traces.
-ghost use Rattle.std.specs.Prelude.{◌≡◌, ◌+◌, ◌-◌, ◌*◌, ◌≤◌, ◌⊎◌, [], None, Some, Ok, List, All, IsTrue, IfOk, IfErr, IfSome, length};
+ghost use Rattle.std.specs.Prelude.{◌≡◌, ◌+◌, ◌-◌, ◌*◌, ◌<◌, ◌≤◌, ◌⊎◌, [], None, Some, Ok, List, All, IsTrue, IfOk, IfErr, IfSome, length};
 ghost use Rattle.std.specs.Vec.{vec_capacity};
 ghost use Rattle.frame_cut.specs.Traces.{count_of};
 ghost use Rattle.edit_overlay.specs.CountedVolume.{IsSeen};
@@ -40,7 +40,8 @@ pub fn table(
         b (each_of (place_in_trace map.now.pairs) fields.now) ≡ Ok (answers.Table rows)) }
     ensures count { IfOk result (λ rows. length rows ≡ b + 1 - a) }
     ensures wide { IfOk result (λ rows. All (λ row. length row.1 ≡ length fields.now) rows) }
-    ensures err { IfErr result (λ fault. IsReadFault overlay.old.on_disk fault ⊎
+    ensures err { IfErr result (λ fault. (IsReadFault overlay.old.on_disk fault
+        × (0 < looks_at (each_of (place_in_trace map.now.pairs) fields.now) (b + 1 - a))) ⊎
         (IsTrue overlay.new.agreed → IsFaultFor fault (table_answer overlay.old.volume a b
         (each_of (place_in_trace map.now.pairs) fields.now)))) }
     ensures seen { IsSeen overlay.old overlay.new

@@ -1,8 +1,7 @@
 // The first refusals of edits of one trace, but for want of memory.
-ghost use Rattle.std.specs.Prelude.{◌≡◌, ◌+◌, ◌*◌, ◌≤◌, ◌<◌, ◌^◌, ◌⊎◌, length, Some, None, IsTrue, IfOk, IfErr, OnOk};
-ghost use Rattle.num_order.specs.Number.{InRange};
+ghost use Rattle.std.specs.Prelude.{◌≡◌, ◌+◌, ◌*◌, ◌⊎◌, Some, None, IsTrue, IfOk, IfErr, OnOk};
 ghost use Rattle.sample_codes.specs.Formats.{width};
-ghost use Rattle.frame_cut.specs.Traces.{is_trace, trace_at};
+ghost use Rattle.frame_cut.specs.Traces.{trace_at};
 ghost use Rattle.trace_view.specs.Values.{samples_at};
 ghost use Rattle.edit_overlay.specs.CountedVolume.{IsSeen};
 ghost use Rattle.bench_rules.specs.declared.edit.Edit.TheVariants as edits;
@@ -10,8 +9,7 @@ ghost use Rattle.bench_rules.specs.declared.field.Field.TheVariants as fields;
 ghost use Rattle.bench_rules.specs.ReadFaults.{IsReadRefusal};
 ghost use Rattle.bench_rules.specs.Refused.{first_refusal, no_trace as no_trace_in, no_place_for_trace as no_place_in, room_refusal as no_room_in, insert_refusal as not_in};
 ghost use Rattle.bench_rules.specs.State.{State};
-ghost use Rattle.many_traces.specs.Fields.{HoldsPlace};
-ghost use Rattle.volume_answers.specs.Samples.{HasEach};
+ghost use Rattle.volume_answers.specs.Rooms.{HasRoom, HasSampleRoom};
 
 use crate::trace_answers::has_trace;
 use bench_rules::{Refusal, blank_length, patch_refusal, sample_place, set_refusal};
@@ -31,11 +29,8 @@ pub fn value_refusal(
     ensures refusal { IfOk result (λ refusal. (s : State) → s.volume ≡ overlay.old.volume →
         IsTrue overlay.new.agreed →
         refusal ≡ first_refusal s (edits.Set p (fields.Place place) value)) }
-    ensures trace { IfOk result (λ refusal. refusal ≡ None →
-        IsTrue (is_trace overlay.old.volume p)) }
-    ensures place { IfOk result (λ refusal. refusal ≡ None →
-        HoldsPlace (trace_at overlay.old.volume p) place) }
-    ensures fits { IfOk result (λ refusal. refusal ≡ None → InRange place.kind value) }
+    ensures room { IfOk result (λ refusal. refusal ≡ None →
+        HasRoom overlay.old.volume p place value) }
     ensures seen { IsSeen overlay.old overlay.new 1 }
     ensures read { IfErr result (λ _. IsTrue overlay.old.on_disk) }
 {
@@ -60,11 +55,7 @@ pub fn patch_place(
     ensures place { IfOk result (λ at. IsTrue overlay.new.agreed → at ≡ samples_at
         overlay.old.volume.head (trace_at overlay.old.volume p)
         + width overlay.old.volume.head.format * k) }
-    ensures trace { OnOk result (IsTrue (is_trace overlay.old.volume p)) }
-    ensures inside { IfOk result (λ at. at + width overlay.old.volume.head.format
-        * length values.now ≤ length (trace_at overlay.old.volume p)) }
-    ensures values { OnOk result (HasEach overlay.old.volume.head.format values.now) }
-    ensures few { OnOk result (length values.now < 2 ^ 32) }
+    ensures room { IfOk result (λ at. HasSampleRoom overlay.old.volume p at values.now) }
     ensures err { IfErr result (λ refusal. IsReadRefusal overlay.old.on_disk refusal ⊎
         ((s : State) → s.volume ≡ overlay.old.volume → IsTrue overlay.new.agreed →
         first_refusal s (edits.Patch p k values.now) ≡ Some refusal)) }

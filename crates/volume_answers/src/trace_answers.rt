@@ -1,5 +1,5 @@
 // The answers about the headers, the samples and the record of one trace.
-ghost use Rattle.std.specs.Prelude.{◌≡◌, ◌⊎◌, [], Some, IsTrue, IfErr, option_map};
+ghost use Rattle.std.specs.Prelude.{◌≡◌, ◌⊎◌, [], Some, IsTrue, IsErrAnd, option_map};
 ghost use Rattle.frame_cut.specs.Traces.{is_trace, trace_of};
 ghost use Rattle.trace_record.specs.Facts.{facts_of};
 ghost use Rattle.trace_record.specs.OfTrace.{record_of};
@@ -52,7 +52,7 @@ pub(crate) fn has_trace(overlay: &Overlay<PackedRecord>, p: u32) -> bool
 fn value_at(overlay: &mut Overlay<PackedRecord>, p: u32, place: Place) -> Result<Answer, AskFault>
     ensures reply { IsTrue overlay.new.agreed → (result ≡ of_trace overlay.old.volume p
         (λ t. trace_value overlay.old.volume.head t (Some place))) ⊎
-        IfErr result (IsReadFault overlay.old.on_disk) }
+        IsErrAnd result (IsReadFault overlay.old.on_disk) }
     ensures seen { IsSeen overlay.old overlay.new 1 }
 {
     let Some(trace) = overlay.look(p)? else {

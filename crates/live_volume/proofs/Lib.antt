@@ -1,4 +1,6 @@
+pub mod MeasuredLemmas
 pub mod HeldLemmas
+pub mod EditLemmas
 mod ManyTracesLemmas
 mod CountedLemmas
 pub mod ComputedLemmas

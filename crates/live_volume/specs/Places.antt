@@ -1,5 +1,5 @@
 -- Places over which no value makes a trace longer or shorter, and traces that have room for a number at a place.
-use Rattle.std.specs.Prelude.{◌+◌, ◌-◌, ◌==◌, ◌&&◌, ◌||◌, ◌≤◌, nat_le, nat_lt, ℕ, Bool, List, length}
+use Rattle.std.specs.Prelude.{◌+◌, ◌-◌, ◌==◌, ◌&&◌, ◌||◌, ◌<◌, ◌≤◌, nat_le, nat_lt, ℕ, Bool, List, length}
 use Rattle.num_order.specs.Number.{is_size}
 use Rattle.field_map.specs.declared.place.Place.{Place}
 use Rattle.frame_cut.specs.Cuts.{IsTrace}
@@ -18,9 +18,9 @@ leaves_length place =
     && nat_lt (place.byte + place.kind.size) 242
     && (nat_le (place.byte + place.kind.size) 115 || nat_le 117 place.byte)
 
--- a number can be put at the place in each of traces a to b
+-- a number can be put at the place in each of so many traces from trace a on
 abbrev pub EachHolds : Volume → ℕ → ℕ → Place → Type 0
-EachHolds v a b place = (p : ℕ) → a ≤ p → p ≤ b → HoldsPlace (trace_at v p) place
+EachHolds v a n place = (k : ℕ) → k < n → HoldsPlace (trace_at v (a + k)) place
 
 -- these bytes are a whole trace, and may stand in the place of trace p: the file is within its limit then
 pub record MayReplace (s : State) (p : ℕ) (t : List ℕ) : Type 0 where

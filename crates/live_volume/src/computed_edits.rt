@@ -86,8 +86,8 @@ impl LiveVolume {
         ensures bytes { IfOk result (λ bytes. IsTrue self.new.agreed →
             bytes.items ≡ number_bytes self.old.state.volume
             (formula_at self.old.state.fields place source.now steps.now) a b) }
-        ensures each { IfOk result (λ _. EachHolds self.old.state.volume a b place) }
-        ensures long { IfOk result (λ bytes.
+        ensures each { IfOk result (λ _. EachHolds self.old.state.volume a (b + 1 - a) place) }
+        ensures count { IfOk result (λ bytes.
             length bytes.items ≡ place.kind.size * (b + 1 - a)) }
         ensures err { IfErr result (λ refusal. (IsReadRefusal self.old.state.on_disk refusal
             × (0 < looks_at (formula_at self.old.state.fields place source.now steps.now)

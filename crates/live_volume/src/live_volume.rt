@@ -1,9 +1,8 @@
 ghost use Rattle.std.specs.Prelude.{◌≡◌, ◌≤◌, [], true, false, length, None, IsSome, IsTrue, IfOk, IfErr, OnOk, OnErr, MatchResult};
 ghost use Rattle.std.specs.Io.KnownBytes.{Consumes, IsAtEnd};
-ghost use Rattle.num_order.specs.Number.{InRange};
 ghost use Rattle.field_map.specs.Binding.{geometry_at_load, is_geometry as is_geometry_name};
 ghost use Rattle.frame_cut.specs.Cuts.{IsCut};
-ghost use Rattle.frame_cut.specs.Traces.{count_of, is_trace, trace_at};
+ghost use Rattle.frame_cut.specs.Traces.{count_of, is_trace};
 ghost use Rattle.frame_cut.specs.Volume.{bytes_of};
 ghost use Rattle.edit_overlay.specs.Loading.{IsLoadFault, FailuresAfterRefusal, TakesWithin};
 ghost use Rattle.edit_overlay.specs.Saving.{CountsSaveFailure, Saves};
@@ -15,9 +14,9 @@ ghost use Rattle.bench_rules.specs.Places.{place_in_trace};
 ghost use Rattle.bench_rules.specs.Refused.{first_refusal};
 ghost use Rattle.bench_rules.specs.Steps.{IsAfter, Step};
 ghost use Rattle.bench_rules.specs.Answer.{IsReply};
-ghost use Rattle.many_traces.specs.Fields.{HoldsPlace};
 ghost use Rattle.live_volume.specs.Held.{IsReadAs};
 ghost use Rattle.live_volume.specs.Refusals.{IsOfMachine};
+ghost use Rattle.volume_answers.specs.Rooms.{HasRoom};
 
 use crate::volume_edits::refusal_of_records;
 use bench_rules::{
@@ -220,9 +219,7 @@ impl LiveVolume {
 
     // The value into the place of trace p, where nothing but memory or a read refuses it.
     fn put_value(&mut self, alloc: Global, p: u32, place: Place, value: i128) -> Result<(), Refusal>
-        requires trace { IsTrue (is_trace self.old.state.volume p) }
-        requires place { HoldsPlace (trace_at self.old.state.volume p) place }
-        requires fits { InRange place.kind value }
+        requires room { HasRoom self.old.state.volume p place value }
         requires none { IsTrue self.old.agreed →
             first_refusal self.old.state (edits.Set p (fields.Place place) value) ≡ None }
         ensures ok { OnOk result (IsTrue self.new.agreed → IsAfter self.old.state

@@ -134,7 +134,7 @@ impl LiveVolume {
         ensures refusal { IfOk result (λ refusal. IsTrue self.new.agreed → refusal ≡
             first_refusal_among self.old.state.volume (Some place) (numbers a b first step)) }
         ensures each { IfOk result (λ refusal. refusal ≡ None →
-            EachHolds self.old.state.volume a b place) }
+            EachHolds self.old.state.volume a (b + 1 - a) place) }
         ensures fit { IfOk result (λ refusal. refusal ≡ None → (k : ℕ) → k < b + 1 - a →
             IsTrue (fits place.kind (counted first step k))) }
         ensures seen { OnlyLooks self.old self.new (b + 1 - a) }
@@ -160,7 +160,7 @@ impl LiveVolume {
         requires last { b ≤ count_of self.now.state.volume }
         ensures none { OnTrue result (IsTrue self.now.agreed → first_refusal_among
             self.now.state.volume (Some place) (numbers a b first step) ≡ None) }
-        ensures each { OnTrue result (EachHolds self.now.state.volume a b place) }
+        ensures each { OnTrue result (EachHolds self.now.state.volume a (b + 1 - a) place) }
         ensures fit { OnTrue result ((k : ℕ) → k < b + 1 - a →
             IsTrue (fits place.kind (counted first step k))) }
     {
@@ -216,7 +216,7 @@ impl LiveVolume {
         requires first { 1 ≤ a }
         requires range { a ≤ b }
         requires last { b ≤ count_of self.old.state.volume }
-        requires each { EachHolds self.old.state.volume a b place }
+        requires each { EachHolds self.old.state.volume a (b + 1 - a) place }
         requires fit { (k : ℕ) → k < b + 1 - a →
             IsTrue (fits place.kind (counted first step k)) }
         requires none { IsTrue self.old.agreed → first_refusal self.old.state

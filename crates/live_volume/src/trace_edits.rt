@@ -1,6 +1,5 @@
 // Edits of samples and of whole traces.
-ghost use Rattle.std.specs.Prelude.{◌≡◌, ◌+◌, ◌*◌, ◌<◌, ◌≤◌, ◌^◌, length, None, IsTrue, IfOk, OnOk, IfErr, OnErr};
-ghost use Rattle.sample_codes.specs.Formats.{width};
+ghost use Rattle.std.specs.Prelude.{◌≡◌, length, None, IsTrue, IfOk, OnOk, IfErr, OnErr};
 ghost use Rattle.frame_cut.specs.Cuts.{IsTrace};
 ghost use Rattle.frame_cut.specs.Traces.{is_trace, trace_at};
 ghost use Rattle.bench_rules.specs.declared.edit.Edit.TheVariants as edits;
@@ -10,7 +9,7 @@ ghost use Rattle.bench_rules.specs.Refused.{first_refusal, no_trace};
 ghost use Rattle.bench_rules.specs.Steps.{IsAfter, Step};
 ghost use Rattle.live_volume.specs.Held.{sample_start, IsReadAs, OnlyLooks};
 ghost use Rattle.live_volume.specs.Refusals.{IsOfMachine};
-ghost use Rattle.volume_answers.specs.Samples.{HasEach};
+ghost use Rattle.volume_answers.specs.Rooms.{HasSampleRoom};
 
 use crate::live_volume::LiveVolume;
 use bench_rules::{Refusal, blank_length, joined, samples_bytes, zeros};
@@ -60,11 +59,7 @@ impl LiveVolume {
         at: u64,
         values: &[i128],
     ) -> Result<(), Refusal>
-        requires trace { IsTrue (is_trace self.old.state.volume p) }
-        requires inside { at + width self.old.state.volume.head.format * length values.now
-            ≤ length (trace_at self.old.state.volume p) }
-        requires values { HasEach self.old.state.volume.head.format values.now }
-        requires few { length values.now < 2 ^ 32 }
+        requires room { HasSampleRoom self.old.state.volume p at values.now }
         requires none { IsTrue self.old.agreed →
             first_refusal self.old.state (edits.Patch p k values.now) ≡ None }
         requires place { IsTrue self.old.agreed → at ≡ sample_start self.old.state.volume p k }

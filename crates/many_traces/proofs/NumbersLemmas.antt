@@ -1,6 +1,6 @@
 -- Numbers that are computed for many traces, one trace after another.
-use Rattle.std.proofs.Common.{◌≡◌, ℕ, ℤ, zero, suc, ◌+◌, ◌-◌, ◌*◌, ◌≤◌, true, List, [], ◌++◌, Option, Some, None, Ok, Err, length, inr, refl, sym, ap, ◌∙◌, arith}
-use Rattle.std.specs.Prelude.{◌⊎◌, Result, IfOk, IfErr, OnOk}
+use Rattle.std.proofs.Common.{◌≡◌, ℕ, ℤ, zero, suc, ◌+◌, ◌-◌, ◌*◌, ◌≤◌, true, List, [], ◌++◌, Option, Some, None, Ok, Err, length, refl, sym, ap, ◌∙◌, arith}
+use Rattle.std.specs.Prelude.{Result, IfOk, OnOk}
 use Rattle.std.specs.List.{flat_map}
 use Rattle.std.proofs.lemmas.Bool.{le-leb}
 use borrow.Author.Count.{below_more}
@@ -100,7 +100,7 @@ in_kind h t place x none =
     let fit = unless (fits place.kind x) DoesNotFit _ has.1 in
     in_range place.kind x fit.0
 
--- what is told of a number that was admitted in a trace that has the length of another, and is the other where that is sure
+-- what is told of a number that was admitted in a trace
 abbrev pub IsAdmitted : Result ℤ Refusal → Result ℤ Refusal → Head → List ℕ → Place → Type 0
 IsAdmitted r number h t place = IfOk r (λ x. (number ≡ Ok x) × (refusal_of_result h t place number ≡ None))
 
@@ -111,26 +111,6 @@ held (Ok x) number h t u place whole long told = holds h t u place x whole long 
 pub kept_in_kind : (r number : Result ℤ Refusal) (h : Head) (t : List ℕ) (place : Place) → IsAdmitted r number h t place → IfOk r (λ x. InRange place.kind x)
 kept_in_kind (Err refusal) number h t place told = tt
 kept_in_kind (Ok x) number h t place told = in_kind h t place x (free h t place number x told.0 told.1)
-
-module _ {P : Type 0} (v : Volume) (f : Formula) (p : ℕ) (h : Head) (t : List ℕ) (shown : P → (h ≡ v.head) × (t ≡ trace_at v p)) where
-  pub sure_none : (r number : Result ℤ Refusal) → number ≡ computed_in h f p t → IsAdmitted r number h t f.place → OnOk r (P → compute_refusal v f p ≡ None)
-  sure_none (Err refusal) number is told = tt
-  sure_none (Ok x) number is told = λ sure.
-      let s = shown sure in
-      rw (← s.0, ← s.1) (ap (λ (n : Result ℤ Refusal). refusal_of_result h t f.place n) (sym is) ∙ told.1)
-
-  pub sure_number : (r number : Result ℤ Refusal) → number ≡ computed_in h f p t → IsAdmitted r number h t f.place → IfOk r (λ x. P → computed_in v.head f p (trace_at v p) ≡ Ok x)
-  sure_number (Err refusal) number is told = tt
-  sure_number (Ok x) number is told = λ sure.
-      let s = shown sure in
-      rw (← s.0, ← s.1) (sym is ∙ told.0)
-
-  pub sure_refusal : {Q : Refusal → Type 0} (r number : Result ℤ Refusal) → number ≡ computed_in h f p t → IfErr r (λ refusal. refusal_of_result h t f.place number ≡ Some refusal)
-      → IfErr r (λ refusal. Q refusal ⊎ (P → compute_refusal v f p ≡ Some refusal))
-  sure_refusal (Ok x) number is told = tt
-  sure_refusal (Err refusal) number is told = inr (λ sure.
-      let s = shown sure in
-      rw (← s.0, ← s.1) (ap (λ (n : Result ℤ Refusal). refusal_of_result h t f.place n) (sym is) ∙ told))
 
 -- ---- the numbers by names
 

@@ -44,7 +44,7 @@ pub same_refused : (s : State) (p : ℕ) (f : Field) (place : Place) (x : ℤ) �
 same_refused s p f place x e = rw e refl
 
 pub same_after : (s : State) (p : ℕ) (f : Field) (place : Place) (x : ℤ) (new : State) → place_in_trace s.fields f ≡ Some place → IsAfter s (Set p (field.Place place) x) new → IsAfter s (Set p f x) new
-same_after s p f place x new e a = record { volume = rw e a.volume; fields = a.fields; reading = a.reading; limits = a.limits }
+same_after s p f place x new e a = record { volume = rw e a.volume; fields = a.fields; reading = a.reading; limits = a.limits; on_disk = a.on_disk }
 
 same_unless : {T : Type 0} (s : State) (p : ℕ) (f : Field) (place : Place) (x : ℤ) (new : State) → place_in_trace s.fields f ≡ Some place → (o : Option Refusal) (r : Result T Refusal)
     → StepUnless o s (Set p (field.Place place) x) r new → StepUnless o s (Set p f x) r new
@@ -153,6 +153,7 @@ bin_is_after s f place x e cut a =
       fields = refl;
       reading = refl;
       limits = refl;
+      on_disk = refl;
     }
 
 -- ---- a line of the textual header
@@ -215,6 +216,7 @@ text_is_after s q text cut a =
       fields = refl;
       reading = refl;
       limits = refl;
+      on_disk = refl;
     }
 
 -- ---- what the bench makes of the volume

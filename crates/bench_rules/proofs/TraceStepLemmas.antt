@@ -39,6 +39,7 @@ done s edit v w cut same is =
       fields = sym same;
       reading = refl;
       limits = refl;
+      on_disk = refl;
     }
 
 pub blank_done : (s : State) (p : ℕ) (w : Volume) (t : List ℕ) → IsCut (bytes_of s.volume) s.reading s.limits s.volume → first_refusal s (Blank p) ≡ None → t ≡ blank_trace s.volume.head → w ≡ with_inserted s.volume p t

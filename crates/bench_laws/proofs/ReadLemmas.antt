@@ -1,12 +1,15 @@
 -- What edits and queries are told of reads that failed.
-use Rattle.std.proofs.Common.{◌≡◌, ◌≢◌, ◌⊎◌, inl, inr, ⊤, ℕ, nat_abs, ℤ, Bool, true, false, true≢false, not, List, [], ◌∷◌, Option, Some, None, Result, Ok, Err, IfErr, IsOk, refl, sym, ap, ◌∙◌}
-use Rattle.std.specs.Prelude.{length, is_none, nat_le, ◌&&◌, option_map, if◌then◌else◌}
+use Rattle.std.proofs.Common.{◌≡◌, ◌≢◌, ◌⊎◌, inl, inr, ℕ, ◌+◌, nat_abs, nat_le, nat_lt, ℤ, pos, Bool, true, false, true≢false, not, List, [], ◌∷◌, Option, Some, None, Result, Ok, Err, IfErr, IsOk, refl, sym, ap, ◌∙◌}
+use Rattle.std.specs.Prelude.{length, is_none, ◌&&◌, option_map, if◌then◌else◌}
 use Rattle.std.specs.Option.{IfSome, option_or}
 use Rattle.std.specs.List.{list_all}
+use Rattle.std.specs.Ordering.{int_eq}
+use Rattle.num_order.specs.Number.{fits}
 use Rattle.field_map.specs.declared.place.Place.{Place}
 use Rattle.field_map.specs.Binding.{bind_fault, unbind_fault}
 use Rattle.frame_cut.specs.declared.file_head.Head.{Head}
 use Rattle.frame_cut.specs.declared.limits.Limits.{Limits}
+use Rattle.frame_cut.specs.Frames.{sample_count}
 use Rattle.frame_cut.specs.Traces.{count_of, is_trace, trace_at}
 use Rattle.frame_cut.specs.Volume.{Volume, bytes_of}
 use Rattle.frame_cut.specs.Parts.{block_of}
@@ -15,6 +18,7 @@ use Rattle.sample_codes.specs.Formats.{values, sample_fits}
 use Rattle.text_block.specs.Blocks.{code_of}
 use Rattle.text_block.specs.Lines.{text_fault}
 use Rattle.std.specs.Str.{chars}
+use Rattle.trace_view.specs.Values.{has_place}
 use Rattle.bench_rules.specs.declared.answer.Answer.{Answer}
 use Rattle.bench_rules.specs.declared.ask_fault.AskFault.{AskFault}
 use Rattle.bench_rules.specs.declared.ask_fault.AskFault.TheVariants as asks
@@ -26,10 +30,10 @@ use Rattle.bench_rules.specs.declared.query.Query.TheVariants as queries
 use Rattle.bench_rules.specs.declared.refusal.Refusal.{Refusal}
 use Rattle.bench_rules.specs.declared.refusal.Refusal.TheVariants as refusals
 use Rattle.bench_rules.specs.Answer.{Reply, answer, or_fault, of_trace, trace_value, trace_sample, of_values, binary_value, code_answer, line_answer, lines_answer, or_no_trace, of_traces, table_answer, found_answer, TakesMemory, IsReply}
-use Rattle.bench_rules.specs.Computed.{Formula, formula_of, stepped, chained, chained_from, computed_in, term_in, steps_in, refusal_of_result, compute_refusal, first_at, compute_refusal_in}
+use Rattle.bench_rules.specs.Computed.{Formula, formula_of, applied, divides, is_in_range, unless_refused, stepped, chained, chained_from, computed_in, term_in, steps_in, refusal_of_result, compute_refusal, first_at, compute_refusal_in}
 use Rattle.bench_rules.specs.ManyTraces.{each_of, positions}
-use Rattle.bench_rules.specs.Places.{place_in_trace, place_in_binary}
-use Rattle.bench_rules.specs.Refused.{first_refusal, no_trace, no_place_for_trace, room_refusal, insert_refusal, no_samples, values_refusal, patch_refusal, set_refusal, set_bin_refusal, text_refusal, count_refusal, no_trace_from, first_refusal_among, sort_refusal}
+use Rattle.bench_rules.specs.Places.{place_in_trace, place_in_binary, is_in_binary, touches_frame}
+use Rattle.bench_rules.specs.Refused.{first_refusal, is_line, is_sample_count, is_too_large, changes_length, no_trace, no_place_for_trace, room_refusal, insert_refusal, no_samples, values_refusal, patch_refusal, set_refusal, set_bin_refusal, text_refusal, count_refusal, no_trace_from, first_refusal_among, sort_refusal}
 use Rattle.bench_rules.specs.State.{State}
 use Rattle.bench_rules.specs.Steps.{Step, StepUnless}
 use Rattle.bench_rules.specs.Tables.{table_of}
@@ -68,29 +72,32 @@ no_trace_silent : (v : Volume) (p : ℕ) → Silent (no_trace v p)
 no_trace_silent v p = choose (is_trace v p) None _ tt refl
 
 from_silent : (v : Volume) (a b : ℕ) → Silent (no_trace_from v a b)
-from_silent v a b = choose _ None _ tt refl
+from_silent v a b = choose (nat_le a b && nat_le b (count_of v)) None _ tt refl
 
 set_silent : (h : Head) (t : List ℕ) (o : Option Place) (x : ℤ) → Silent (set_refusal h t o x)
 set_silent h t None x = refl
-set_silent h t (Some place) x = choose _ _ _ refl (choose _ _ _ refl (choose _ _ None refl tt))
+set_silent h t (Some place) x =
+    choose (not (has_place h t place)) _ _ refl (choose (not (fits place.kind x)) _ _ refl (choose (changes_length h t place x) _ None refl tt))
 
 set_bin_silent : (o : Option Place) (x : ℤ) → Silent (set_bin_refusal o x)
 set_bin_silent None x = refl
-set_bin_silent (Some place) x = choose _ _ _ refl (choose _ _ _ refl (choose _ _ None refl tt))
+set_bin_silent (Some place) x =
+    choose (not (is_in_binary place)) _ _ refl (choose (not (fits place.kind x)) _ _ refl (choose (touches_frame place) _ None refl tt))
 
 text_silent : (block : List ℕ) (q : ℕ) (text : List ℕ) → Silent (text_refusal block q text)
-text_silent block q text = choose _ _ _ refl (mapped refusals.Text (text_fault (code_of block) (chars text)) (λ fault. refl))
+text_silent block q text = choose (not (is_line q)) _ _ refl (mapped refusals.Text (text_fault (code_of block) (chars text)) (λ fault. refl))
 
 values_silent : (o : Option IntegerFormat) (h : Head) (t : List ℕ) (k : ℕ) (xs : List ℤ) → Silent (values_refusal o h t k xs)
 values_silent None h t k xs = refl
-values_silent (Some f) h t k xs = choose _ _ _ refl (choose _ _ None refl tt)
+values_silent (Some f) h t k xs = choose (not (list_all (sample_fits f) xs)) _ _ refl (choose (nat_lt (sample_count h t) (k + length xs)) _ None refl tt)
 
 insert_silent : (v : Volume) (limits : Limits) (p n : ℕ) → Silent (insert_refusal v limits p n)
 insert_silent v limits p n =
-    either (no_place_for_trace v p) (room_refusal v limits n) (choose _ None _ tt refl) (choose _ _ _ refl (choose _ _ None refl tt))
+    either (no_place_for_trace v p) (room_refusal v limits n) (choose (nat_le 1 p && nat_le p (count_of v + 1)) None _ tt refl)
+    (choose (nat_lt limits.bytes (length (bytes_of v) + n)) _ _ refl (choose (nat_lt limits.traces (count_of v + 1)) _ None refl tt))
 
 count_silent : (h : Head) (file limit : ℕ) (t : List ℕ) (m : ℤ) → Silent (count_refusal h file limit t m)
-count_silent h file limit t m = choose _ _ _ refl (choose _ _ _ refl (choose _ _ None refl tt))
+count_silent h file limit t m = choose (not (is_sample_count h m)) _ _ refl (choose h.fixed _ _ refl (choose (is_too_large h file limit t (nat_abs m)) _ None refl tt))
 
 among_silent : (v : Volume) (o : Option Place) (ns : List (ℕ × ℤ)) → Silent (first_refusal_among v o ns)
 among_silent v o [] = tt
@@ -98,24 +105,21 @@ among_silent v o (n ∷ ns) = either (set_refusal v.head (trace_at v n.0) o n.1)
 
 sort_silent : (v : Volume) (a b : ℕ) (o : Option (List Place)) → Silent (sort_refusal v a b o)
 sort_silent v a b None = refl
-sort_silent v a b (Some places) = choose _ _ None refl tt
+sort_silent v a b (Some places) = choose (is_none (table_of v places a b)) _ None refl tt
 
 -- ---- of computed numbers
 
-SilentResult : Result ℤ Refusal → Type 0
+abbrev SilentResult : Result ℤ Refusal → Type 0
 SilentResult r = IfErr r (λ e. tells e ≡ false)
 
 choose_result : (c : Bool) (a b : Result ℤ Refusal) → SilentResult a → SilentResult b → SilentResult (if c then a else b)
-unfolding SilentResult
 choose_result true a b x y = x
 choose_result false a b x y = y
 
 stepped_silent : (p : ℕ) (operator : Operator) (a b : ℤ) → SilentResult (stepped p operator a b)
-unfolding SilentResult
-stepped_silent p operator a b = choose_result _ _ _ refl (choose_result _ (Ok _) _ tt refl)
+stepped_silent p operator a b = choose_result (divides operator && int_eq b (pos 0)) _ _ refl (choose_result (is_in_range (applied operator a b)) (Ok (applied operator a b)) _ tt refl)
 
 chained_silent : (p : ℕ) (a : ℤ) (ss : List (Operator × ℤ)) → SilentResult (chained p a ss)
-unfolding SilentResult
 chained_silent p a [] = tt
 chained_silent p a (s ∷ ss) = by (stepped p s.0 a s.1) (stepped_silent p s.0 a s.1)
   where
@@ -124,17 +128,14 @@ chained_silent p a (s ∷ ss) = by (stepped p s.0 a s.1) (stepped_silent p s.0 a
     by (Err e) x = x
 
 chained_from_silent : (p : ℕ) (o : Option ℤ) (ss : Option (List (Operator × ℤ))) → SilentResult (chained_from p o ss)
-unfolding SilentResult
 chained_from_silent p (Some a) (Some ss) = chained_silent p a ss
 chained_from_silent p (Some a) None = refl
 chained_from_silent p None ss = refl
 
 computed_silent : (h : Head) (f : Formula) (p : ℕ) (t : List ℕ) → SilentResult (computed_in h f p t)
-unfolding SilentResult
-computed_silent h f p t = choose_result _ _ _ refl (chained_from_silent p (term_in h t f.source) (steps_in h t f.steps))
+computed_silent h f p t = choose_result (not (has_place h t f.place)) _ _ refl (chained_from_silent p (term_in h t f.source) (steps_in h t f.steps))
 
 result_silent : (h : Head) (t : List ℕ) (place : Place) (r : Result ℤ Refusal) → SilentResult r → Silent (refusal_of_result h t place r)
-unfolding SilentResult
 result_silent h t place (Ok x) silent = set_silent h t (Some place) x
 result_silent h t place (Err e) silent = silent
 
@@ -182,15 +183,15 @@ in_memory on_disk memory disk = absurd (true≢false (sym disk ∙ memory))
 edit_told : (o : Option Refusal) (old new : State) (edit : Edit) (reply : Result (Unit {0}) Refusal) → IfSome o IsNoReadRefusal → old.on_disk ≡ false → StepUnless o old edit reply new → IfErr reply IsNoReadRefusal
 edit_told (Some r) old new edit (Ok done) first memory step = tt
 edit_told (Some r) old new edit (Err e) first memory (inl is, same) = rw is first
-edit_told (Some r) old new edit (Err e) first memory (inr read, same) = in_memory old.on_disk memory read.1
+edit_told (Some r) old new edit (Err e) first memory (inr read, same) = in_memory old.on_disk memory read.1.0
 edit_told None old new edit (Ok done) first memory step = tt
 edit_told None old new edit (Err e) first memory (inl none, same) = rw none.0 (no_read refusals.OutOfMemory refl)
-edit_told None old new edit (Err e) first memory (inr read, same) = in_memory old.on_disk memory read.1
+edit_told None old new edit (Err e) first memory (inr read, same) = in_memory old.on_disk memory read.1.0
 
 pub edits_in_memory_read_all : EditsInMemoryReadAll
 edits_in_memory_read_all old new edit reply memory step = edit_told (first_refusal old edit) old new edit reply (first_refusals_tell_of_no_read old edit) memory step
 
-unchanged : (o : Option Refusal) (old new : State) (edit : Edit) (r : Refusal) → StepUnless {Unit {0}} o old edit (Err r) new → new ≡ old
+unchanged : (o : Option Refusal) (old new : State) (edit : Edit) (r : Refusal) → StepUnless {T = Unit {0}} o old edit (Err r) new → new ≡ old
 unchanged (Some first) old new edit r step = step.1
 unchanged None old new edit r step = step.1
 
@@ -220,7 +221,7 @@ of_trace_silent : (v : Volume) (p : ℕ) (f : List ℕ → Reply) → ((t : List
 of_trace_silent v p f each = choose_reply (is_trace v p) _ _ (each (trace_at v p)) refl
 
 of_values_silent : (h : Head) (r : Reply) → SilentReply r → SilentReply (of_values h r)
-of_values_silent h r x = choose_reply _ _ r refl x
+of_values_silent h r x = choose_reply (is_none (values h.format)) _ r refl x
 
 trace_value_silent : (h : Head) (t : List ℕ) (o : Option Place) → SilentReply (trace_value h t o)
 trace_value_silent h t None = refl
@@ -228,10 +229,10 @@ trace_value_silent h t (Some place) = or_fault_silent _ asks.NoPlace _ refl
 
 binary_value_silent : (v : Volume) (o : Option Place) → SilentReply (binary_value v o)
 binary_value_silent v None = refl
-binary_value_silent v (Some place) = choose_reply _ (Ok _) _ tt refl
+binary_value_silent v (Some place) = choose_reply (is_in_binary place) (Ok _) _ tt refl
 
 of_traces_silent : (v : Volume) (a b : ℕ) (r : Reply) → SilentReply r → SilentReply (of_traces v a b r)
-of_traces_silent v a b r x = choose_reply _ _ _ refl (choose_reply _ r _ x refl)
+of_traces_silent v a b r x = choose_reply (not (is_trace v a)) _ _ refl (choose_reply (nat_le a b && nat_le b (count_of v)) r _ x refl)
 
 table_silent : (v : Volume) (a b : ℕ) (o : Option (List Place)) → SilentReply (table_answer v a b o)
 table_silent v a b None = refl
@@ -242,7 +243,7 @@ found_silent v a b low high None = refl
 found_silent v a b low high (Some place) = or_fault_silent _ asks.NoPlace _ refl
 
 line_silent : (o : Option (List ℕ)) (q : ℕ) → SilentReply (line_answer o q)
-line_silent o q = choose_reply _ _ _ refl (or_fault_silent o asks.NoPlace _ refl)
+line_silent o q = choose_reply (not (is_line q)) _ _ refl (or_fault_silent o asks.NoPlace _ refl)
 
 answer_silent : (s : State) (query : Query) → SilentReply (answer s query)
 answer_silent s queries.Count = tt
@@ -282,4 +283,4 @@ pub queries_in_memory_read_all : QueriesInMemoryReadAll
 queries_in_memory_read_all s query reply memory (inl is) = inl is
 queries_in_memory_read_all s query reply memory (inr (inl none)) = inr none
 queries_in_memory_read_all s query (Ok a) memory (inr (inr read)) = absurd read
-queries_in_memory_read_all s query (Err e) memory (inr (inr read)) = in_memory s.on_disk memory read.1
+queries_in_memory_read_all s query (Err e) memory (inr (inr read)) = in_memory s.on_disk memory read.1.0

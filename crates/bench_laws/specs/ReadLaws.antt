@@ -40,4 +40,4 @@ QueriesInMemoryReadAll = (s : State) (query : Query) (reply : Reply) → s.on_di
 
 -- an edit that is refused changes nothing, where a read failed too
 abbrev pub RefusedEditsChangeNothing : Type 0
-RefusedEditsChangeNothing = (old new : State) (edit : Edit) (refusal : Refusal) → Step {Unit {0}} old edit (Err refusal) new → new ≡ old
+RefusedEditsChangeNothing = (old new : State) (edit : Edit) (refusal : Refusal) → Step {T = Unit {0}} old edit (Err refusal) new → new ≡ old

@@ -32,13 +32,13 @@ volume_ahead text bin s prepared = record (volume_with text bin s) { traces = tr
 -- what an overlay shows
 abbrev pub looked_of : {T : Type 0} → Inside T → CountedVolume T
 looked_of o = record {
-  volume = volume_with o.text o.bin o.store;
-  prepared = volume_ahead o.text o.bin o.store o.prepared;
+  volume = volume_with o.text o.bin o.laid.store;
+  prepared = volume_ahead o.text o.bin o.laid.store o.laid.prepared;
   looks = o.looks;
-  payloads = payloads_of o.store;
-  payloads_prepared = payloads_ahead (payloads_of o.store) o.prepared;
-  on_disk = is_on_disk o.store.loaded.standing;
-  agreed = is_sure o.store.loaded.standing;
+  payloads = payloads_of o.laid.store;
+  payloads_prepared = payloads_ahead (payloads_of o.laid.store) o.laid.prepared;
+  on_disk = is_on_disk o.laid.store.loaded.standing;
+  agreed = is_sure o.laid.store.loaded.standing;
 }
 
 -- the loaded file has the blocks in front of its traces, and the data trailer records behind them; the bytes in front of
@@ -58,11 +58,11 @@ pub record IsReread {T : Type 0} (old new : TraceStore T) : Type 0 where
 
 -- what holds of an overlay between two calls
 pub record IsHeld {T : Type 0} (o : Inside T) : Type 0 where
-  pub ends : HasEnds o.store
+  pub ends : HasEnds o.laid.store
   pub text : length o.text ≡ TEXT_BLOCK_BYTES
   pub bin : length o.bin ≡ BINARY_HEADER_BYTES
-  pub prepared : IsReadyIfSome o.store o.prepared
-  pub length : o.length ≡ length (bytes_of (volume_with o.text o.bin o.store))
+  pub prepared : IsReadyIfSome o.laid.store o.laid.prepared
+  pub length : o.length ≡ length (bytes_of (volume_with o.text o.bin o.laid.store))
 
 -- what is lent shows a whole trace: trace p as it would be, where something may be prepared or nothing
 abbrev pub IsFetchedAhead : {T : Type 0} → TraceStore T → ℕ → Option Prepared → Type 0

@@ -33,8 +33,8 @@
 //! memory nothing is open: they are sure, and no read of them is refused.
 #![tactic(auto)]
 
-mod ahead;
 mod bytes;
+mod laid;
 mod loading;
 mod overlay;
 mod reading_in;

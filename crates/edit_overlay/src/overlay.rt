@@ -12,8 +12,8 @@ ghost use Rattle.std.specs.List.{insert, remove};
 ghost use Rattle.frame_cut.specs.Parts.{block_of, trailer_of, with_line, with_header_bytes, with_each, with_inserted, without, with_moved};
 ghost use Rattle.edit_overlay.specs.Saving.{CountsSaveFailure, Saves};
 
-use crate::ahead::{fetch_ahead, shown_ahead};
 use crate::bytes::{array_at, overwrite};
+use crate::laid::Laid;
 use crate::save_fault::SaveFault;
 use crate::writing_out::write_volume;
 use base_file::ReadFault;
@@ -23,7 +23,7 @@ use std::alloc::Global;
 use std::io::Write;
 use std::marker::Model;
 use text_block::TEXT_BLOCK_BYTES;
-use trace_store::{Base, Column, OutOfMemory, Prepared, TraceStore};
+use trace_store::{Base, Column, OutOfMemory, TraceStore};
 use trace_view::TraceView;
 
 /// A volume under edits: one SEG-Y file in its parts. The bytes that were loaded never change:
@@ -32,8 +32,7 @@ use trace_view::TraceView;
 pub struct Overlay<T: Copy> {
     text: [u8; TEXT_BLOCK_BYTES],
     bin: [u8; BINARY_HEADER_BYTES],
-    store: TraceStore<T>,
-    prepared: Option<Prepared>,
+    laid: Laid<T>,
     length: u64,
     looks: u64,
 }
@@ -81,8 +80,10 @@ impl<T: Copy> Overlay<T> {
         Overlay {
             text,
             bin,
-            store,
-            prepared: None,
+            laid: Laid {
+                store,
+                prepared: None,
+            },
             length,
             looks,
         }
@@ -92,14 +93,14 @@ impl<T: Copy> Overlay<T> {
     pub fn head(&self) -> Head
         ensures { result ≡ self.now.volume.head }
     {
-        self.store.head
+        self.laid.store.head
     }
 
     /// The number of traces.
     pub fn count(&self) -> u32
         ensures { result ≡ count_of self.now.volume }
     {
-        self.store.count()
+        self.laid.store.count()
     }
 
     /// The file's length in bytes.
@@ -138,8 +139,8 @@ impl<T: Copy> Overlay<T> {
             return Ok(None);
         }
         self.count_look();
-        self.store.fetch(p)?;
-        Ok(Some(self.store.shown(p)))
+        self.laid.store.fetch(p)?;
+        Ok(Some(self.laid.store.shown(p)))
     }
 
     // One look more.
@@ -155,7 +156,7 @@ impl<T: Copy> Overlay<T> {
         requires last { p ≤ count_of self.now.volume }
         ensures { slice_get self.now.payloads (p - 1) ≡ Some result }
     {
-        self.store.payload(p)
+        self.laid.store.payload(p)
     }
 
     /// Gives trace p, counted from 1, another payload. Takes no memory.
@@ -165,8 +166,8 @@ impl<T: Copy> Overlay<T> {
         ensures { self.new ≡ with_table self.old self.old.volume
             (slice_set self.old.payloads (p - 1) payload) }
     {
-        self.store.set_payload(p, payload);
-        self.prepared = None;
+        self.laid.store.set_payload(p, payload);
+        self.laid.prepared = None;
     }
 
     /// Brings byte `at`, counted from 0, of each of the next traces from trace p on nearer to the
@@ -174,14 +175,14 @@ impl<T: Copy> Overlay<T> {
     /// after another, and needs of each what stands there. Shows nothing, and takes no memory. All
     /// bytes that were read in one: what is not kept is not read.
     pub fn read_ahead(&self, p: u32, at: u64) -> u8 {
-        self.store.read_ahead(p, at)
+        self.laid.store.read_ahead(p, at)
     }
 
     /// The payloads of all traces, in order. Looks at no trace, and takes no memory.
     pub fn payloads(&self) -> Column<'_, T>
         ensures { result ≡ self.now.payloads }
     {
-        Column::new(&self.store)
+        Column::new(&self.laid.store)
     }
 
     /// Trace p, counted from 1, as it would be with the edit that is prepared, and one look more;
@@ -197,8 +198,8 @@ impl<T: Copy> Overlay<T> {
             return Ok(None);
         }
         self.count_look();
-        fetch_ahead(&mut self.store, &self.prepared, p)?;
-        Ok(Some(shown_ahead(&self.store, &self.prepared, p)))
+        self.laid.fetch(p)?;
+        Ok(Some(self.laid.shown(p)))
     }
 
     // The number of traces, which a prepared edit leaves as it is.
@@ -206,7 +207,7 @@ impl<T: Copy> Overlay<T> {
         ensures now { result ≡ count_of self.now.volume }
         ensures prepared { result ≡ count_of self.now.prepared }
     {
-        self.store.count()
+        self.laid.store.count()
     }
 
     /// The textual header (bytes 1 to 3200 of the file).
@@ -231,11 +232,11 @@ impl<T: Copy> Overlay<T> {
         if b == 0 {
             return Some(self.text());
         }
-        if b > self.store.head.blocks {
+        if b > self.laid.store.head.blocks {
             return None;
         }
         let at = FILE_HEADER_BYTES + TEXT_BLOCK_BYTES * (b as usize - 1);
-        Some(array_at(self.store.loaded.edge(at as u64, TEXT_BLOCK_BYTES), 0))
+        Some(array_at(self.laid.store.loaded.edge(at as u64, TEXT_BLOCK_BYTES), 0))
     }
 
     /// Data trailer record j, counted from 1, where there is one.
@@ -245,13 +246,13 @@ impl<T: Copy> Overlay<T> {
         if j == 0 {
             return None;
         }
-        if j > self.store.head.trailer {
+        if j > self.laid.store.head.trailer {
             return None;
         }
-        let length = self.store.loaded.length() as usize;
-        let start = length - TEXT_BLOCK_BYTES * self.store.head.trailer as usize;
+        let length = self.laid.store.loaded.length() as usize;
+        let start = length - TEXT_BLOCK_BYTES * self.laid.store.head.trailer as usize;
         let at = start + TEXT_BLOCK_BYTES * (j as usize - 1);
-        Some(array_at(self.store.loaded.edge(at as u64, TEXT_BLOCK_BYTES), 0))
+        Some(array_at(self.laid.store.loaded.edge(at as u64, TEXT_BLOCK_BYTES), 0))
     }
 
     /// Writes line q of the textual header, from 1 to 40. Takes no memory.
@@ -262,7 +263,7 @@ impl<T: Copy> Overlay<T> {
     {
         let at = 80 * (q as usize - 1);
         overwrite(&mut self.text, at, line);
-        self.prepared = None;
+        self.laid.prepared = None;
     }
 
     /// Writes the bytes over those of the binary header from place `at` on, counted from 0 in it.
@@ -272,7 +273,7 @@ impl<T: Copy> Overlay<T> {
         ensures { self.new ≡ with_volume self.old (with_header_bytes self.old.volume at bytes.now) }
     {
         overwrite(&mut self.bin, at as usize, bytes);
-        self.prepared = None;
+        self.laid.prepared = None;
     }
 
     /// Prepares a `put` of the bytes over those of trace p, counted from 1, from place `at` on,
@@ -296,8 +297,8 @@ impl<T: Copy> Overlay<T> {
             (splice (trace_at self.old.volume p) at (length bytes.now) bytes.now))) }
         ensures err { OnErr result (self.new ≡ self.old) }
     {
-        let prepared = self.store.prepare_put(alloc, p, at, bytes)?;
-        self.prepared = Some(prepared);
+        let prepared = self.laid.store.prepare_put(alloc, p, at, bytes)?;
+        self.laid.prepared = Some(prepared);
         Ok(())
     }
 
@@ -328,8 +329,8 @@ impl<T: Copy> Overlay<T> {
             (self.new ≡ with_prepared self.old (with_each self.old.volume a at size bytes.now)) }
         ensures err { OnErr result (self.new ≡ self.old) }
     {
-        let prepared = self.store.prepare_put_each(alloc, a, at, size, bytes)?;
-        self.prepared = Some(prepared);
+        let prepared = self.laid.store.prepare_put_each(alloc, a, at, size, bytes)?;
+        self.laid.prepared = Some(prepared);
         Ok(())
     }
 
@@ -347,8 +348,8 @@ impl<T: Copy> Overlay<T> {
             (payloads_moved self.old.payloads a b)) }
         ensures err { OnErr result (self.new ≡ self.old) }
     {
-        let prepared = self.store.prepare_move(alloc, a, b)?;
-        self.prepared = Some(prepared);
+        let prepared = self.laid.store.prepare_move(alloc, a, b)?;
+        self.laid.prepared = Some(prepared);
         Ok(())
     }
 
@@ -356,8 +357,8 @@ impl<T: Copy> Overlay<T> {
     pub fn commit(&mut self)
         ensures { self.new ≡ with_table self.old self.old.prepared self.old.payloads_prepared }
     {
-        if let Some(prepared) = self.prepared.take() {
-            self.store.commit(prepared);
+        if let Some(prepared) = self.laid.prepared.take() {
+            self.laid.store.commit(prepared);
         }
     }
 
@@ -369,9 +370,9 @@ impl<T: Copy> Overlay<T> {
         ensures { self.new ≡ with_table self.old self.old.prepared
             (slice_set self.old.payloads_prepared (p - 1) payload) }
     {
-        match self.prepared.take() {
-            Some(prepared) => self.store.commit_with(prepared, p, payload),
-            None => self.store.set_payload(p, payload),
+        match self.laid.prepared.take() {
+            Some(prepared) => self.laid.store.commit_with(prepared, p, payload),
+            None => self.laid.store.set_payload(p, payload),
         }
     }
 
@@ -379,7 +380,7 @@ impl<T: Copy> Overlay<T> {
     pub fn discard(&mut self)
         ensures { self.new ≡ with_volume self.old self.old.volume }
     {
-        self.prepared = None;
+        self.laid.prepared = None;
     }
 
     /// Lays the bytes over those of trace p, counted from 1, from place `at` on, counted from 0 in
@@ -455,8 +456,8 @@ impl<T: Copy> Overlay<T> {
         ensures err { OnErr result (self.new ≡ self.old) }
     {
         let added = bytes.len() as u64;
-        self.store.insert(alloc, p, Base::Added(bytes), payload)?;
-        self.prepared = None;
+        self.laid.store.insert(alloc, p, Base::Added(bytes), payload)?;
+        self.laid.prepared = None;
         self.length += added;
         Ok(())
     }
@@ -469,9 +470,9 @@ impl<T: Copy> Overlay<T> {
         ensures after { self.new ≡ with_table self.old (without self.old.volume p)
             (remove self.old.payloads (p - 1)) }
     {
-        let gone = self.store.length_of(p);
-        let payload = self.store.delete(p);
-        self.prepared = None;
+        let gone = self.laid.store.length_of(p);
+        let payload = self.laid.store.delete(p);
+        self.laid.prepared = None;
         self.length -= gone;
         payload
     }
@@ -500,8 +501,8 @@ impl<T: Copy> Overlay<T> {
         ensures { self.new ≡ with_table self.old (with_places_swapped self.old.volume pairs.items)
             (with_swapped self.old.payloads pairs.items) }
     {
-        self.store.swap_each(pairs);
-        self.prepared = None;
+        self.laid.store.swap_each(pairs);
+        self.laid.prepared = None;
     }
 
     /// Makes the bytes the whole of trace p, counted from 1. The caller shows that their headers
@@ -514,10 +515,10 @@ impl<T: Copy> Overlay<T> {
         ensures { self.new ≡ with_table self.old (with_trace self.old.volume p bytes.items)
             (slice_set self.old.payloads (p - 1) payload) }
     {
-        let gone = self.store.length_of(p);
+        let gone = self.laid.store.length_of(p);
         let added = bytes.len() as u64;
-        self.store.replace(alloc, p, Base::Added(bytes), payload);
-        self.prepared = None;
+        self.laid.store.replace(alloc, p, Base::Added(bytes), payload);
+        self.laid.prepared = None;
         self.length = self.length - gone + added;
     }
 
@@ -534,6 +535,6 @@ impl<T: Copy> Overlay<T> {
     {
         // Read for the proof alone, which learns that the file's length fits 64 bits.
         let _length = self.length;
-        write_volume(writer, &self.text, &self.bin, &mut self.store)
+        write_volume(writer, &self.text, &self.bin, &mut self.laid.store)
     }
 }

@@ -15,6 +15,6 @@ number_in h t fields field = option_and_then (λ place. value_of h t place) (pla
 
 -- bytes of the place's size can be put there in the trace
 pub record HoldsPlace (t : List ℕ) (place : Place) : Type 0 where
-  pub byte : 1 ≤ place.byte
+  pub first : 1 ≤ place.byte
   pub size : IsSize place.kind.size
   pub inside : offset_of place + place.kind.size ≤ length t

@@ -10,6 +10,7 @@ ghost use Rattle.bench_rules.specs.ReadFaults.{IsReadRefusal};
 ghost use Rattle.bench_rules.specs.Refused.{sort_refusal};
 ghost use Rattle.trace_store.specs.Swapped.{ArePlaces};
 ghost use Rattle.many_traces.specs.Arranged.{PutsRows, Sorts};
+ghost use Rattle.many_traces.specs.Faults.{refusal_for as refusal_for_fault};
 ghost use Rattle.many_traces.specs.Formulas.{IsRefusalFor};
 
 use crate::sorting::rows_in_order;
@@ -51,11 +52,20 @@ pub fn exchanges_to_sort(
 {
     match table(alloc, overlay, map, a, b, fields) {
         Ok(table) => exchanges_of(alloc, a, &table, falling),
-        Err(AskFault::NoField) => Err(Refusal::NoField),
-        Err(AskFault::NoPlace) => Err(Refusal::NoPlace),
-        Err(AskFault::ReadFailed) => Err(Refusal::ReadFailed),
-        Err(AskFault::FileChanged) => Err(Refusal::FileChanged),
-        Err(_) => Err(Refusal::OutOfMemory),
+        Err(fault) => Err(refusal_for(fault)),
+    }
+}
+
+// The refusal where there is no table.
+fn refusal_for(fault: AskFault) -> Refusal
+    ensures { result ≡ refusal_for_fault fault }
+{
+    match fault {
+        AskFault::NoField => Refusal::NoField,
+        AskFault::NoPlace => Refusal::NoPlace,
+        AskFault::ReadFailed => Refusal::ReadFailed,
+        AskFault::FileChanged => Refusal::FileChanged,
+        _ => Refusal::OutOfMemory,
     }
 }
 

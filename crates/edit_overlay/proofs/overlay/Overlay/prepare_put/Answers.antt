@@ -10,4 +10,4 @@ pub prepare_put-requires-clause-whole : goal.prepare_put-requires-clause-whole
 prepare_put-requires-clause-whole g c =
     let bytes = c.args.bytes.now in
     λ sure. subst (λ (o : CountedVolume g.row.T.Denot). IsTrue o.agreed → IsTrace o.volume.head (splice (trace_at o.volume c.args.p) c.args.at (length bytes) bytes)) (sym c.self.view_is) c.requires.whole
-    (is_sure_if c.self.inside.store.loaded.standing sure)
+    (is_sure_if c.self.inside.laid.store.loaded.standing sure)

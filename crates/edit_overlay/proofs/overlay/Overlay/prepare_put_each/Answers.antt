@@ -13,4 +13,4 @@ prepare_put_each-requires-clause-whole g c =
     let a = c.args.a in
     let size = c.args.size in
     λ sure k inside. subst (λ (o : CountedVolume g.row.T.Denot). (k : ℕ) → k < length bytes / size → IsTrue o.agreed → IsTrace o.volume.head (splice (slice_index_or o.volume.traces (a - 1 + k) []) c.args.at size (part_of bytes size k)))
-    (sym c.self.view_is) c.requires.whole k inside (is_sure_if c.self.inside.store.loaded.standing sure)
+    (sym c.self.view_is) c.requires.whole k inside (is_sure_if c.self.inside.laid.store.loaded.standing sure)

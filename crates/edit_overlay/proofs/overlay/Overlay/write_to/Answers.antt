@@ -18,7 +18,7 @@ returns-clause-same g c =
 
 pub returns-clause-agreed : goal.returns-clause-agreed
 returns-clause-agreed g c =
-    λ sure. subst (λ (o : CountedVolume g.row.T.Denot). IsTrue o.agreed) c.self.view_is (agreed_before c.self.inside.store.loaded.standing c.write_volume.new.store.loaded.standing c.write_volume.ensures.same.loaded.standing sure)
+    λ sure. subst (λ (o : CountedVolume g.row.T.Denot). IsTrue o.agreed) c.self.view_is (agreed_before c.self.inside.laid.store.loaded.standing c.write_volume.new.store.loaded.standing c.write_volume.ensures.same.loaded.standing sure)
 
 pub returns-clause-saved : goal.returns-clause-saved
 returns-clause-saved g c =

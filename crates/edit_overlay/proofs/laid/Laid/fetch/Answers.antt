@@ -1,4 +1,4 @@
-use Rattle.edit_overlay.proofs.ahead.fetch_ahead.Goals as goal
+use Rattle.edit_overlay.proofs.laid.Laid.fetch.Goals as goal
 
 pub returns-in-Some-clause-same : goal.returns-in-Some-clause-same
 returns-in-Some-clause-same g c =

@@ -4,7 +4,7 @@ use Rattle.std.proofs.Math.Nat.{mul-le-mul_left}
 use Rattle.std.proofs.Math.Seq.{drop-append_seam, take-length}
 use Rattle.std.proofs.lemmas.List.{append-nil, drop-append-le, take-append-le, length-append, length-drop, length-take-le}
 use Rattle.std.proofs.lemmas.List.Elements.{All-nil, All-cons}
-use Rattle.std.proofs.lemmas.List.FromFn.{map-range_with_len_more}
+use Rattle.std.proofs.lemmas.List.FromFn.{length-map-range_with_len, map-range_with_len_more}
 use Rattle.std.specs.Prelude.{option_and_then, option_map, is_some, unwrap_or}
 use Rattle.std.specs.List.{range_with_len}
 use Rattle.bench_rules.specs.ManyTraces.{each_of}
@@ -61,6 +61,10 @@ wide_from a w i (suc n) xs long =
     All-cons (λ (row : ℕ × List ℤ). length row.1 ≡ w) (a + i, take w (drop (w * i) xs)) (map (λ k. (a + k, take w (drop (w * k) xs))) (range_with_len (i + 1) n))
     (length-take-le w (drop (w * i) xs) rest)
     (wide_from a w (i + 1) n xs (subst (λ (m : ℕ). w * m ≤ length xs) (sym more) long))
+
+-- as many rows as are counted
+pub rows_counted : (a n w : ℕ) (xs : List ℤ) → length (rows_from a n w xs) ≡ n
+rows_counted a n w xs = length-map-range_with_len (λ k. (a + k, take w (drop (w * k) xs))) 0 n
 
 -- each row is as wide as is said
 pub rows_wide : (a n w : ℕ) (xs : List ℤ) → length xs ≡ w * n → All (λ (row : ℕ × List ℤ). length row.1 ≡ w) (rows_from a n w xs)

@@ -1,8 +1,7 @@
 use Rattle.std.proofs.Common.{◌≡◌, ◌∙◌, ◌+◌, ◌-◌, ◌*◌, ℕ, ℤ, List, All, length, inr, refl, sym, ap, subst, arith, rules}
 use Rattle.bench_rules.specs.Tables.{rows_from}
-use Rattle.bench_rules.proofs.TableLemmas.{rows_counted}
 use Rattle.many_traces.proofs.LookLemmas.{seen_after}
-use Rattle.many_traces.proofs.RowsLemmas.{rows_go_on, rows_stop, rows_wide}
+use Rattle.many_traces.proofs.RowsLemmas.{rows_counted, rows_go_on, rows_stop, rows_wide}
 use Rattle.many_traces.proofs.tables.filled.Goals as goal
 
 pub returns-then-not-there-clause-err : goal.returns-then-not-there-clause-err

@@ -119,6 +119,12 @@ shown_names v [] a b k end = refl
 shown_names v (e ∷ es) a b k end =
     ap₂ (λ o xs. cons_option (with_name e.0 o) xs) (ap (λ (n : ℕ). extremes_unless_zero (numbers_so_far v a n e.1)) (sym end)) (shown_names v es a b k end)
 
+-- what is seen of each name, with one trace more
+pub seen_of_each : (h : Head) (t : List ℕ) (es : Pairs) (ss : List Seen) → length ss ≡ length es → length (seen_each h t es ss) ≡ length es
+seen_of_each h t [] ss e = refl
+seen_of_each h t (x ∷ es) [] e = absurd (omega (arith, e))
+seen_of_each h t (x ∷ es) (s ∷ ss) e = ap suc (seen_of_each h t es ss (omega (arith, e)))
+
 pub if_same : {A E : Type 0} {x y : A} (r : Result A E) → x ≡ y → IfOk r (λ a. a ≡ x) → IfOk r (λ a. a ≡ y)
 if_same (Ok a) e is = is ∙ e
 if_same (Err fault) e is = is

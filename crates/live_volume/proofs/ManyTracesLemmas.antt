@@ -19,17 +19,23 @@ use Rattle.volume_records.specs.OfVolume.{AreHeaderParts, headers_of, records_of
 use Rattle.volume_records.proofs.EachLemmas.{length-with_each, records-with_each}
 use Rattle.volume_records.proofs.RecordLemmas.{length-records}
 use Rattle.bench_rules.specs.declared.edit.Edit.TheVariants.{Renumber}
+use Rattle.bench_rules.specs.declared.field.Field.{Field}
 use Rattle.bench_rules.specs.declared.field.Field.TheVariants as field
 use Rattle.bench_rules.specs.declared.refusal.Refusal.{Refusal}
 use Rattle.bench_rules.specs.Kept.{same_cell as cell}
 use Rattle.bench_rules.specs.Refused.{first_refusal, first_refusal_among, set_refusal}
+use Rattle.bench_rules.specs.Looks.{edit_looks}
+use Rattle.bench_rules.specs.Places.{place_in_trace}
 use Rattle.bench_rules.specs.State.{State, Session}
+use Rattle.bench_rules.specs.Steps.{IsAfter}
 use Rattle.bench_rules.specs.TraceEdits.{counted, numbers}
 use Rattle.bench_rules.proofs.RenumberLemmas.{NoneRefused, renumber_refused, renumber_not_refused}
 use Rattle.num_order.specs.Number.{fits}
 use Rattle.many_traces.specs.Fields.{HoldsPlace}
 use Rattle.live_volume.specs.Held.{moves, any_moves, with_volume, OnlyLooks}
 use Rattle.live_volume.specs.Places.{EachHolds}
+use Rattle.bench_rules.proofs.FirstLemmas.{AreTraces}
+use Rattle.live_volume.proofs.ComputedLemmas.{all_looks}
 use Rattle.live_volume.proofs.HeldLemmas.{looks_none, looks_more}
 use borrow.Author.Count.{below_more}
 
@@ -97,6 +103,24 @@ pub told_none : (old mid : Session) (place : Place) (a b : ℕ) (first step : �
 told_none old mid place a b first step k low high last far all sure =
     let s : State = old.state in
     sym (renumber_not_refused s a b (field.Place place) first step place low high last refl (λ j less. far.none sure j (omega (arith, less, all)))) ∙ among_values s a b place first step low high last
+
+-- ---- a field by its place
+
+-- the first refusal of values counted up over the place of a field
+pub renumber_first : (s : State) (a b : ℕ) (f : Field) (place : Place) (first step : ℤ) → AreTraces s.volume a b None → Some place ≡ place_in_trace s.fields f
+    → first_refusal s (Renumber a b f first step) ≡ first_refusal_among s.volume (Some place) (numbers a b first step)
+renumber_first s a b f place first step t e =
+    let here : is_trace s.volume a ≡ true = rw (le-leb 1 a t.low, le-leb a (count_of s.volume) (omega (arith, t.high, t.last))) refl in
+    let range : (leb a b && leb b (count_of s.volume)) ≡ true = rw (le-leb a b t.high, le-leb b (count_of s.volume) t.last) refl in
+    rw (here, range, ← e) refl
+
+-- what is done at the place is done at the field
+pub renumber_same : (s new : State) (a b : ℕ) (f : Field) (place : Place) (first step : ℤ) → Some place ≡ place_in_trace s.fields f → IsAfter s (Renumber a b (field.Place place) first step) new → IsAfter s (Renumber a b f first step) new
+renumber_same s new a b f place first step e done = record { volume = rw (← e) done.volume; fields = done.fields; reading = done.reading; limits = done.limits; on_disk = done.on_disk }
+
+-- the traces may be looked at
+pub renumber_looks : (s : State) (a b : ℕ) (f : Field) (place : Place) (first step : ℤ) → AreTraces s.volume a b None → Some place ≡ place_in_trace s.fields f → 0 < edit_looks s (Renumber a b f first step)
+renumber_looks s a b f place first step t e = rw (← e, all_looks s.volume a b t) (omega (arith, t.high))
 
 -- ---- the cells
 

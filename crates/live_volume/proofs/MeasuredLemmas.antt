@@ -26,10 +26,12 @@ use Rattle.trace_store.specs.Moved.{put_back, with_moved as records_moved}
 use Rattle.trace_store.specs.Swapped.{with_swapped, with_places_swapped, ArePlaces}
 use Rattle.trace_record.specs.Facts.{Facts, facts_of}
 use Rattle.trace_record.specs.OfTrace.{record_of}
+use Rattle.trace_record.specs.Packed.{record_in}
+use Rattle.trace_record.specs.declared.packed_record.PackedRecord.{PackedRecord}
 use Rattle.trace_record.specs.declared.record.Record.{Record}
 use Rattle.live_reports.specs.Reports.{AreFew}
 use Rattle.many_traces.proofs.SortedTraceLemmas.{map-swapped, swapped-permutes}
-use Rattle.volume_records.specs.OfVolume.{records_of}
+use Rattle.volume_records.specs.OfVolume.{numbers_of, records_of}
 use Rattle.volume_records.proofs.FewLemmas.{samples_within}
 use Rattle.bench_rules.proofs.SpliceLemmas.{length-with_trace}
 use Rattle.bench_rules.proofs.WholeTraceLemmas.{length-without}
@@ -381,3 +383,8 @@ zipped (r ∷ rs) (t ∷ ts) same within header =
 -- beside the same traces
 pub measured_anew : (rs qs : List Record) (ts : List (List ℕ)) → AreMeasured rs ts → length qs ≡ length ts → ((j : ℕ) → j < length ts → get_or (map number qs) j 0 ≤ length (get_or ts j [])) → AreMeasured qs ts
 measured_anew rs qs ts m same within = zipped qs ts same within (λ j less. has_header rs ts j m less)
+
+-- the numbers of packed records are those of the records
+pub numbers_are : (ps : List PackedRecord) → numbers_of ps ≡ map number (map record_in ps)
+numbers_are [] = refl
+numbers_are (p ∷ ps) = ap (λ (ns : List ℕ). (record_in p).number ∷ ns) (numbers_are ps)

@@ -104,6 +104,7 @@ found_refused s v pairs a b field low high place fault on_disk o same held disk 
   where
     is : answer s (Find a b field low high) ≡ or_no_place (found_of v place low high a b) NoPlace answers.Found
     is = found_is s v pairs a b field low high place o same held told none known
+
     by : (f : Option (List (ℕ × ℤ))) → found_of v place low high a b ≡ f → fault ≡ fault_of f → IsReply s (Find a b field low high) (Err fault)
     by None none_found e = inl (ap (λ g. Err g) e ∙ sym (is ∙ ap (λ g. or_no_place g NoPlace answers.Found) none_found))
     by (Some found) all_found e = inr (inl (ap (λ g. Err g) e, tt, subst (λ (r : Reply). IsOk r) (sym (is ∙ ap (λ g. or_no_place g NoPlace answers.Found) all_found)) tt))

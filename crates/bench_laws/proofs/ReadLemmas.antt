@@ -1,6 +1,6 @@
 -- What edits and queries are told of reads that failed.
-use Rattle.std.proofs.Common.{◌≡◌, ◌≢◌, ◌⊎◌, inl, inr, ℕ, ◌+◌, nat_abs, nat_le, nat_lt, ℤ, pos, Bool, true, false, true≢false, not, List, [], ◌∷◌, Option, Some, None, Result, Ok, Err, IfErr, IsOk, refl, sym, ap, ◌∙◌}
-use Rattle.std.specs.Prelude.{length, is_none, ◌&&◌, option_map, if◌then◌else◌}
+use Rattle.std.proofs.Common.{◌≡◌, inl, inr, ℕ, ◌+◌, nat_abs, nat_le, nat_lt, ℤ, pos, Bool, true, false, true≢false, not, List, [], ◌∷◌, Option, Some, None, Result, Ok, Err, IfErr, refl, sym, ap, ◌∙◌}
+use Rattle.std.specs.Prelude.{length, max, is_none, ◌&&◌, option_map, if◌then◌else◌}
 use Rattle.std.specs.Option.{IfSome, option_or}
 use Rattle.std.specs.List.{list_all}
 use Rattle.std.specs.Ordering.{int_eq}
@@ -18,8 +18,10 @@ use Rattle.sample_codes.specs.Formats.{values, sample_fits}
 use Rattle.text_block.specs.Blocks.{code_of}
 use Rattle.text_block.specs.Lines.{text_fault}
 use Rattle.std.specs.Str.{chars}
-use Rattle.trace_view.specs.Values.{has_place}
+use Rattle.trace_view.specs.Values.{has_place, sample_of, samples_of}
+use Rattle.trace_record.specs.Statistics.{statistics_of}
 use Rattle.bench_rules.specs.declared.answer.Answer.{Answer}
+use Rattle.bench_rules.specs.declared.answer.Answer.TheVariants as answers
 use Rattle.bench_rules.specs.declared.ask_fault.AskFault.{AskFault}
 use Rattle.bench_rules.specs.declared.ask_fault.AskFault.TheVariants as asks
 use Rattle.bench_rules.specs.declared.edit.Edit.{Edit}
@@ -29,13 +31,14 @@ use Rattle.bench_rules.specs.declared.query.Query.{Query}
 use Rattle.bench_rules.specs.declared.query.Query.TheVariants as queries
 use Rattle.bench_rules.specs.declared.refusal.Refusal.{Refusal}
 use Rattle.bench_rules.specs.declared.refusal.Refusal.TheVariants as refusals
-use Rattle.bench_rules.specs.Answer.{Reply, answer, or_fault, of_trace, trace_value, trace_sample, of_values, binary_value, code_answer, line_answer, lines_answer, or_no_trace, of_traces, table_answer, found_answer, TakesMemory, IsReply}
+use Rattle.bench_rules.specs.Answer.{Reply, answer, or_fault, of_trace, trace_value, trace_sample, of_values, binary_value, line_answer, of_traces, table_answer, found_answer}
 use Rattle.bench_rules.specs.Computed.{Formula, formula_of, applied, divides, is_in_range, unless_refused, stepped, chained, chained_from, computed_in, term_in, steps_in, refusal_of_result, compute_refusal, first_at, compute_refusal_in}
+use Rattle.bench_rules.specs.Headers.{named_places, header_of}
 use Rattle.bench_rules.specs.ManyTraces.{each_of, positions}
 use Rattle.bench_rules.specs.Places.{place_in_trace, place_in_binary, is_in_binary, touches_frame}
-use Rattle.bench_rules.specs.Refused.{first_refusal, is_line, is_sample_count, is_too_large, changes_length, no_trace, no_place_for_trace, room_refusal, insert_refusal, no_samples, values_refusal, patch_refusal, set_refusal, set_bin_refusal, text_refusal, count_refusal, no_trace_from, first_refusal_among, sort_refusal}
+use Rattle.bench_rules.specs.Refused.{first_refusal, is_line, is_sample_count, is_too_large, changes_length, no_trace, no_place_for_trace, room_refusal, insert_refusal, values_refusal, set_refusal, set_bin_refusal, text_refusal, count_refusal, no_trace_from, first_refusal_among, sort_refusal}
 use Rattle.bench_rules.specs.State.{State}
-use Rattle.bench_rules.specs.Steps.{Step, StepUnless}
+use Rattle.bench_rules.specs.Steps.{StepUnless}
 use Rattle.bench_rules.specs.Tables.{table_of}
 use Rattle.bench_rules.specs.TraceEdits.{numbers}
 use Rattle.bench_rules.specs.WholeTraces.{blank_trace}
@@ -119,13 +122,13 @@ choose_result false a b x y = y
 stepped_silent : (p : ℕ) (operator : Operator) (a b : ℤ) → SilentResult (stepped p operator a b)
 stepped_silent p operator a b = choose_result (divides operator && int_eq b (pos 0)) _ _ refl (choose_result (is_in_range (applied operator a b)) (Ok (applied operator a b)) _ tt refl)
 
+goes_on : (r : Result ℤ Refusal) (f : ℤ → Result ℤ Refusal) → SilentResult r → ((b : ℤ) → SilentResult (f b)) → SilentResult (unless_refused r f)
+goes_on (Ok b) f x each = each b
+goes_on (Err e) f x each = x
+
 chained_silent : (p : ℕ) (a : ℤ) (ss : List (Operator × ℤ)) → SilentResult (chained p a ss)
 chained_silent p a [] = tt
-chained_silent p a (s ∷ ss) = by (stepped p s.0 a s.1) (stepped_silent p s.0 a s.1)
-  where
-    by : (r : Result ℤ Refusal) → SilentResult r → SilentResult (unless_refused r (λ b. chained p b ss))
-    by (Ok b) x = chained_silent p b ss
-    by (Err e) x = x
+chained_silent p a (s ∷ ss) = goes_on (stepped p s.0 a s.1) (λ b. chained p b ss) (stepped_silent p s.0 a s.1) (λ b. chained_silent p b ss)
 
 chained_from_silent : (p : ℕ) (o : Option ℤ) (ss : Option (List (Operator × ℤ))) → SilentResult (chained_from p o ss)
 chained_from_silent p (Some a) (Some ss) = chained_silent p a ss
@@ -242,6 +245,14 @@ found_silent : (v : Volume) (a b : ℕ) (low high : ℤ) (o : Option Place) → 
 found_silent v a b low high None = refl
 found_silent v a b low high (Some place) = or_fault_silent _ asks.NoPlace _ refl
 
+sample_silent : (h : Head) (t : List ℕ) (k : ℕ) → SilentReply (trace_sample h t k)
+sample_silent h t k =
+    let fault : AskFault = asks.NoSample (max k (sample_count h t)) (sample_count h t) in
+    of_values_silent h (or_fault (sample_of h t k) fault answers.Value) (or_fault_silent (sample_of h t k) fault answers.Value refl)
+
+stat_silent : (h : Head) (t : List ℕ) → SilentReply (of_values h (Ok (answers.Stat (statistics_of (samples_of h t)))))
+stat_silent h t = of_values_silent h (Ok (answers.Stat (statistics_of (samples_of h t)))) tt
+
 line_silent : (o : Option (List ℕ)) (q : ℕ) → SilentReply (line_answer o q)
 line_silent o q = choose_reply (not (is_line q)) _ _ refl (or_fault_silent o asks.NoPlace _ refl)
 
@@ -254,9 +265,9 @@ answer_silent s (queries.Line b q) = line_silent (block_of s.volume b) q
 answer_silent s (queries.Code b) = or_fault_silent (block_of s.volume b) asks.NoPlace _ refl
 answer_silent s queries.Stanzas = tt
 answer_silent s queries.Fields = tt
-answer_silent s (queries.Sample p k) = of_trace_silent s.volume p _ (λ t. of_values_silent s.volume.head _ (or_fault_silent _ (asks.NoSample _ _) _ refl))
+answer_silent s (queries.Sample p k) = of_trace_silent s.volume p _ (λ t. sample_silent s.volume.head t k)
 answer_silent s (queries.Geometry p) = or_fault_silent _ (asks.NoTrace p (count_of s.volume)) _ refl
-answer_silent s (queries.Stat p) = of_trace_silent s.volume p _ (λ t. of_values_silent s.volume.head (Ok _) tt)
+answer_silent s (queries.Stat p) = of_trace_silent s.volume p _ (λ t. stat_silent s.volume.head t)
 answer_silent s (queries.Fold i c) = tt
 answer_silent s queries.Grid = tt
 answer_silent s queries.Inlines = tt
@@ -269,7 +280,7 @@ answer_silent s queries.Faults = tt
 answer_silent s (queries.Lines b) = or_fault_silent (block_of s.volume b) asks.NoPlace _ refl
 answer_silent s (queries.Table a b fields) = of_traces_silent s.volume a b _ (table_silent s.volume a b (each_of (place_in_trace s.fields) fields))
 answer_silent s (queries.Find a b field low high) = of_traces_silent s.volume a b _ (found_silent s.volume a b low high (place_in_trace s.fields field))
-answer_silent s (queries.Header p) = of_trace_silent s.volume p _ (λ t. tt)
+answer_silent s (queries.Header p) = of_trace_silent s.volume p (λ t. Ok (answers.Header (header_of s.volume.head (named_places s.fields) t))) (λ t. tt)
 answer_silent s (queries.Extremes a b) = of_traces_silent s.volume a b (Ok _) tt
 
 no_read_fault : (r : Reply) → SilentReply r → IfErr r IsNoReadFault

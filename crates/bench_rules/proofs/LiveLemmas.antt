@@ -1,5 +1,5 @@
 -- What running values show is what the reports say of the volume.
-use Rattle.std.proofs.Common.{List, ap, sym, ◌≡◌, ◌<◌, ◌∙◌, ℕ, ℤ, [], ◌∷◌, length, inr, refl, arith}
+use Rattle.std.proofs.Common.{inl, List, ap, sym, ◌≡◌, ◌<◌, ◌∙◌, ℕ, ℤ, [], ◌∷◌, length, inr, refl, arith}
 use Rattle.std.specs.Prelude.{Option, Some, None, Ok, Err, option_map}
 use Rattle.std.specs.Option.{option_map_or}
 use Rattle.std.specs.Result.{IsErrAnd}

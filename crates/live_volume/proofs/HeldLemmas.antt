@@ -1,9 +1,8 @@
 -- What a bench holds after looks and edits, and what is told of them.
 use Rattle.std.proofs.lemmas.Bool.{le-leb}
 use Rattle.std.proofs.Common.{◌≡◌, ◌⊎◌, ◌∙◌, ℕ, suc, take, drop, ◌+◌, ◌++◌, ◌∷◌, get_or-set_same, length-set, append_assoc, take_at, drop_at, length-append, length-take-le, take-append-drop, ◌-◌, ◌<◌, ◌≤◌, Bool, true, false, List, [], length, map, inl, inr, refl, sym, ap, subst, arith}
-use Rattle.std.specs.Global.{Global, Vec}
+use Rattle.std.specs.Global.{Vec}
 use Rattle.std.specs.List.{insert, remove}
-
 use Rattle.num_order.specs.Number.{is_size}
 use Rattle.std.proofs.lemmas.Bool.Decides.{nat_tests}
 use Rattle.std.specs.Prelude.{slice_set, IsTrue, Result, Ok, Err, IfOk, IfErr, IsErr, IsErrAnd, OnOk, OnErr, Option, Some, None, if◌then◌else◌}
@@ -204,15 +203,15 @@ told_either T old new edit refusal takes looks (inr is) same = told_for T old ne
 
 -- a read that failed, as it comes back
 pub read_refused : {T : Type 0} (old new : State) (edit : Edit) (fault : ReadFault) (r : Result T Refusal) → IsErr r → IsErrAnd r (λ refusal. refusal ≡ refusal_of fault) → 0 < edit_looks old edit → IsTrue old.on_disk → new ≡ old → Step old edit r new
-read_refused old new edit fault (Ok x) no is looks disk same = absurd is
-read_refused old new edit fault (Err refusal) no is looks disk same =
+read_refused old new edit fault (Ok x) err is looks disk same = absurd err
+read_refused old new edit fault (Err refusal) err is looks disk same =
     told_of_read _ old new edit refusal looks (subst (λ (e : Refusal). IsReadRefusal old.on_disk e) (sym is) (read_is_told old.on_disk fault disk)) same
 
 -- and any other refusal
 pub refused_so : {T : Type 0} (old new : State) (edit : Edit) (first : Refusal) (r : Result T Refusal) → IsErr r → IsErrAnd r (λ refusal. refusal ≡ first) → TakesMemory edit → 0 < edit_looks old edit
     → IsReadRefusal old.on_disk first ⊎ IsRefusalFor first (first_refusal old edit) → new ≡ old → Step old edit r new
-refused_so old new edit first (Ok x) no is takes looks told same = absurd is
-refused_so old new edit first (Err refusal) no is takes looks told same =
+refused_so old new edit first (Ok x) err is takes looks told same = absurd err
+refused_so old new edit first (Err refusal) err is takes looks told same =
     told_either _ old new edit refusal takes looks (subst (λ (e : Refusal). IsReadRefusal old.on_disk e ⊎ IsRefusalFor e (first_refusal old edit)) (sym is) told) same
 
 -- a first refusal that is told of each state with the volume is told of this one
@@ -226,12 +225,12 @@ under p (inl a) = inl a
 under p (inr f) = inr (f p)
 
 -- what kept the records of a geometry name bound anew from being made is an answer to a name that nothing else refuses
-pub map_passed : (s u : State) (name : List ℕ) (place : Place) (fault : RecordsFault) → is_geometry name ≡ true → bind_fault s.volume.head.extensions s.fields name place ≡ None → (IsOfRead fault → IsTrue s.on_disk × (0 < count_of s.volume)) → u ≡ s
-    → (let r : Result (Unit {0}) Refusal = Err (refusal_of_records fault) in Step s (Map name place) r u)
-map_passed s u name place records.OutOfMemory geometry none read same = rw none (inl (refl, record {}), same)
-map_passed s u name place (records.Read fault) geometry none read same =
+pub map_passed : (s u : State) (name : List ℕ) (place : Place) (fault : RecordsFault) (refusal : Refusal) → refusal ≡ refusal_of_records fault → is_geometry name ≡ true → bind_fault s.volume.head.extensions s.fields name place ≡ None
+    → (IsOfRead fault → IsTrue s.on_disk × (0 < count_of s.volume)) → u ≡ s → (let r : Result (Unit {0}) Refusal = Err refusal in Step s (Map name place) r u)
+map_passed s u name place records.OutOfMemory refusal is geometry none read same = rw none (inl (is, record {}), same)
+map_passed s u name place (records.Read fault) refusal is geometry none read same =
     let looks : 0 < edit_looks s (Map name place) = rw geometry (read tt).1 in
-    rw none (inr (looks, read_is_told s.on_disk fault (read tt).0), same)
+    rw none (inr (looks, subst (λ (e : Refusal). IsReadRefusal s.on_disk e) (sym is) (read_is_told s.on_disk fault (read tt).0)), same)
 
 -- the state after a change of the volume alone was read in the same way
 pub read_as : (old new : State) (v : Volume) → new ≡ with_volume old v → IsReadAs old new
@@ -250,7 +249,7 @@ pub read_as_through : (old mid new : State) → mid ≡ old → IsReadAs mid new
 read_as_through old mid new same r = subst (λ (s : State). IsReadAs s new) same r
 
 -- the slices that are kept with the rows of an answer are kept with those that these are
-pub kept_as_told : {E P : Type 0} (r : Result (Vec Row Global) E) (old new : KeptSlices) (k : ℕ) (given wanted : List Row) → IfOk r (λ rows. P → rows.items ≡ given) → IfOk r (λ rows. P → new ≡ after_slice old k rows.items) → (P → given ≡ wanted)
+pub kept_as_told : {E P : Type 0} (r : Result (Vec Row) E) (old new : KeptSlices) (k : ℕ) (given wanted : List Row) → IfOk r (λ rows. P → rows.items ≡ given) → IfOk r (λ rows. P → new ≡ after_slice old k rows.items) → (P → given ≡ wanted)
     → OnOk r (P → new ≡ after_slice old k wanted)
 kept_as_told (Ok rows) old new k given wanted is kept same = λ p. kept p ∙ ap (after_slice old k) (is p ∙ same p)
 kept_as_told (Err e) old new k given wanted is kept same = is

@@ -1,5 +1,5 @@
 use Rattle.std.proofs.Common.{◌≡◌, ◌∙◌, ◌<◌, ◌≤◌, ◌^◌, IsTrue, sym, ap, subst, List, [], ℕ, length, map, get_or, true, rules, refl, arith}
-use Rattle.std.specs.Prelude.{Some, None, Result, Err}
+use Rattle.std.specs.Prelude.{Some, None}
 use Rattle.std.proofs.lemmas.List.{length-map}
 use Rattle.field_map.specs.Binding.{is_geometry, bind_fault}
 use Rattle.field_map.specs.Pairs.{Pairs, bound, place_of}
@@ -11,9 +11,6 @@ use Rattle.trace_record.specs.Packed.{record_in}
 use Rattle.trace_record.specs.declared.record.Record.{Record}
 use Rattle.live_reports.specs.OfRecords.{AreReportsOf}
 use Rattle.volume_records.specs.OfVolume.{records_of}
-use Rattle.bench_rules.specs.declared.edit.Edit.TheVariants.{Map}
-use Rattle.bench_rules.specs.declared.refusal.Refusal.{Refusal}
-use Rattle.bench_rules.specs.Steps.{Step}
 use Rattle.live_volume.specs.Held.{state_of, records_in, AreMeasured, HasFrame}
 use Rattle.live_volume.proofs.HeldLemmas.{map_passed, read_as_before, same_state}
 use Rattle.live_volume.proofs.MeasuredLemmas.{as_many, measured_anew, numbers_are}
@@ -86,8 +83,7 @@ returns-in-Err-clause-step c =
     ∙ ap (λ (n : List ℕ). bind_fault b.fields.extensions old n c.args.place) (sym c.as_str-text.ensures)
     ∙ sym c.binding_refusal.ensures ∙ c.in_default.is in
     rw (← c.self.view_is) (λ sure.
-    subst (λ (e : Refusal). let r : Result (Unit {0}) Refusal = Err e in Step s (Map c.args.name.now c.args.place) r _) (sym c.refusal_of_records.ensures)
-    (map_passed s _ c.args.name.now c.args.place c.in-Err.fault c.requires none c.in-Err.ensures.read again))
+    map_passed s _ c.args.name.now c.args.place c.in-Err.fault c.refusal_of_records.result c.refusal_of_records.ensures c.requires none c.in-Err.ensures.read again)
 
 pub returns-in-Err-clause-err : goal.returns-in-Err-clause-err
 returns-in-Err-clause-err c =

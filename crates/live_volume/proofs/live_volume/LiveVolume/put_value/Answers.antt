@@ -15,7 +15,6 @@ use Rattle.bench_rules.specs.declared.edit.Edit.TheVariants.{Set}
 use Rattle.bench_rules.specs.declared.field.Field.TheVariants as field
 use Rattle.bench_rules.specs.State.{State}
 use Rattle.bench_rules.specs.Steps.{IsAfter}
-use Rattle.volume_answers.specs.Rooms.{HasRoom}
 use Rattle.live_volume.specs.Held.{state_of}
 use Rattle.live_volume.proofs.HeldLemmas.{on_ok, read_as_either, size_small}
 use Rattle.bench_rules.proofs.PlaceLemmas.{stands}
@@ -25,8 +24,7 @@ use Rattle.live_volume.proofs.live_volume.LiveVolume.put_value.Goals as goal
 pub write-requires-clause-fits : goal.write-requires-clause-fits
 write-requires-clause-fits c =
     let fit : SFits w128 c.args.value = search rules in
-    let room : HasRoom c.args.self.now.state.volume c.args.p c.args.place c.args.value = rw (to_z-of_z w128 c.args.value fit) at c.requires.room in
-    rw to_z-of_z (in_range c.args.place.kind c.args.value room.fits)
+    rw to_z-of_z (in_range c.args.place.kind c.args.value c.requires.room.fits)
 
 pub put-requires-clause-inside : goal.put-requires-clause-inside
 put-requires-clause-inside c =

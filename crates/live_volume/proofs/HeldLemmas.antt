@@ -203,14 +203,14 @@ told_either T old new edit refusal takes looks (inr is) same = told_for T old ne
 
 -- a read that failed, as it comes back
 pub read_refused : {T : Type 0} (old new : State) (edit : Edit) (fault : ReadFault) (r : Result T Refusal) → IsErr r → IsErrAnd r (λ refusal. refusal ≡ refusal_of fault) → 0 < edit_looks old edit → IsTrue old.on_disk → new ≡ old → Step old edit r new
-read_refused old new edit fault (Ok x) err is looks disk same = absurd err
+read_refused old new edit fault (Ok x) err is looks disk same = absurd is
 read_refused old new edit fault (Err refusal) err is looks disk same =
     told_of_read _ old new edit refusal looks (subst (λ (e : Refusal). IsReadRefusal old.on_disk e) (sym is) (read_is_told old.on_disk fault disk)) same
 
 -- and any other refusal
 pub refused_so : {T : Type 0} (old new : State) (edit : Edit) (first : Refusal) (r : Result T Refusal) → IsErr r → IsErrAnd r (λ refusal. refusal ≡ first) → TakesMemory edit → 0 < edit_looks old edit
     → IsReadRefusal old.on_disk first ⊎ IsRefusalFor first (first_refusal old edit) → new ≡ old → Step old edit r new
-refused_so old new edit first (Ok x) err is takes looks told same = absurd err
+refused_so old new edit first (Ok x) err is takes looks told same = absurd is
 refused_so old new edit first (Err refusal) err is takes looks told same =
     told_either _ old new edit refusal takes looks (subst (λ (e : Refusal). IsReadRefusal old.on_disk e ⊎ IsRefusalFor e (first_refusal old edit)) (sym is) told) same
 

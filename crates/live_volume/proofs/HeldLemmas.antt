@@ -112,6 +112,10 @@ looked_at b o n seen = record {
   agreed = seen.agreed;
 }
 
+-- as it is shown
+pub looked_as : (b : Inside) (o : CountedVolume PackedRecord) (n : ℕ) (shown : Session) → session_of b ≡ shown → IsSeen b.overlay o n → OnlyLooks shown (session_of (record b { overlay = o })) n
+looked_as b o n shown view seen = subst (λ (s : Session). OnlyLooks s (session_of (record b { overlay = o })) n) view (looked_at b o n seen)
+
 -- the bench holds what it held
 pub held_again : (b : Inside) (o : CountedVolume PackedRecord) (n : ℕ) → IsSeen b.overlay o n → IsHeld b → IsHeld (record b { overlay = o })
 held_again b o n seen h = record {
@@ -253,3 +257,8 @@ pub kept_as_told : {E P : Type 0} (r : Result (Vec Row) E) (old new : KeptSlices
     → OnOk r (P → new ≡ after_slice old k wanted)
 kept_as_told (Ok rows) old new k given wanted is kept same = λ p. kept p ∙ ap (after_slice old k) (is p ∙ same p)
 kept_as_told (Err e) old new k given wanted is kept same = is
+
+-- what holds of a fault holds of what follows from it
+pub if_err : {T E : Type 0} {P Q : E → Type 0} (r : Result T E) → ((e : E) → P e → Q e) → IfErr r P → IfErr r Q
+if_err (Ok v) f p = p
+if_err (Err e) f p = f e p

@@ -47,7 +47,7 @@ size_some n (inr (inr (inr (inr e)))) = omega (arith, e)
 -- so many of them are so many parts
 pub record ArePartsOf (size count long : ℕ) : Type 0 where
   pub some : 0 < size
-  pub count : long / size ≡ count
+  pub number : long / size ≡ count
   pub exact : long % size ≡ 0
 
 pub parts_of : (size count long : ℕ) → IsSize size → long ≡ size * count → ArePartsOf size count long
@@ -57,7 +57,7 @@ parts_of size count long is e =
     let left : long % size ≡ long - long / size * size = mod-eq-sub-div-mul long size in
     record {
       some = some;
-      count = number;
+      number = number;
       exact = omega (arith, left ∙ ap (λ (n : ℕ). long - n * size) number, e);
     }
 

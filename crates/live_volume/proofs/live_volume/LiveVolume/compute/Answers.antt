@@ -47,7 +47,7 @@ pub put_each-requires-clause-exact : goal.put_each-requires-clause-exact
 put_each-requires-clause-exact c = (parts c).exact
 
 pub put_each-requires-clause-count : goal.put_each-requires-clause-count
-put_each-requires-clause-count c = (parts c).count ∙ sym (as_many c)
+put_each-requires-clause-count c = (parts c).number ∙ sym (as_many c)
 
 pub put_each-requires-clause-first : goal.put_each-requires-clause-first
 put_each-requires-clause-first c = (range c).low
@@ -59,7 +59,7 @@ pub put_each-requires-clause-inside : goal.put_each-requires-clause-inside
 put_each-requires-clause-inside c =
     rw (c.computed.ensures.seen.state) (λ k less.
     each_inside c.args.self.now.state.volume c.in-Some-place_in_trace.place c.args.a (c.args.b + 1 - c.args.a) c.from-at.result c.from.result (range c).low c.in-Ok.ensures.each (c.from-at.ensures ∙ c.offset.ensures) c.from.ensures k
-    (omega (arith, less, (parts c).count)))
+    (omega (arith, less, (parts c).number)))
 
 pub put_each-requires-clause-parts : goal.put_each-requires-clause-parts
 put_each-requires-clause-parts c = λ sure.

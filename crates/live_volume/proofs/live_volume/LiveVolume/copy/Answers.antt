@@ -29,5 +29,5 @@ pub returns-in_err-refusal-clause-step : goal.returns-in_err-refusal-clause-step
 returns-in_err-refusal-clause-step c =
     let look = looked_at c.self.inside c.copy_refusal.new.overlay 1 c.copy_refusal.ensures.seen in
     rw (← c.self.view_is)
-    (λ sure. read_refused (state_of c.self.inside) _ (Copy c.args.q c.args.p) c.in_err-refusal.field-0 c.from_residual.result c.from_residual.ensures.0 c.from_residual.ensures.1 (omega arith)
+    (λ sure. read_refused (state_of c.self.inside) _ (Copy c.args.q c.args.p) c.in_err-refusal.field-0.0 c.from_residual.result c.from_residual.ensures.0 c.from_residual.ensures.1 (omega arith)
     c.in_err-refusal.ensures.read look.state)

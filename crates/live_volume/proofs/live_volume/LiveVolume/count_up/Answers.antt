@@ -23,7 +23,10 @@ pub values_bytes-requires-clause-size : goal.values_bytes-requires-clause-size
 values_bytes-requires-clause-size c = (c.requires.each 0 (omega (arith, c.requires.range))).size
 
 pub values_bytes-requires-clause-fit : goal.values_bytes-requires-clause-fit
-values_bytes-requires-clause-fit c = λ k less. c.requires.fit k (omega (arith, less, c.requires.range))
+values_bytes-requires-clause-fit c =
+    let first : SFits w128 c.args.first = search rules in
+    let step : SFits w128 c.args.step = search rules in
+    rw (to_z-of_z w128 c.args.first first, to_z-of_z w128 c.args.step step) (λ k less. c.requires.fit k (omega (arith, less, c.requires.range)))
 
 pub offset-requires : goal.offset-requires
 offset-requires c = (c.requires.each 0 (omega (arith, c.requires.range))).first
@@ -71,7 +74,7 @@ pub put_each-requires-clause-exact : goal.put_each-requires-clause-exact
 put_each-requires-clause-exact c = (parts c).exact
 
 pub put_each-requires-clause-count : goal.put_each-requires-clause-count
-put_each-requires-clause-count c = (parts c).count ∙ sym (as_many c)
+put_each-requires-clause-count c = (parts c).number ∙ sym (as_many c)
 
 pub put_each-requires-clause-last : goal.put_each-requires-clause-last
 put_each-requires-clause-last c = omega (arith, c.requires.first, c.requires.range, c.requires.last)
@@ -79,7 +82,7 @@ put_each-requires-clause-last c = omega (arith, c.requires.first, c.requires.ran
 pub put_each-requires-clause-inside : goal.put_each-requires-clause-inside
 put_each-requires-clause-inside c = λ k less.
     each_inside c.args.self.now.state.volume c.args.place c.args.a (c.args.b + 1 - c.args.a) c.from-at.result c.from.result c.requires.first c.requires.each (c.from-at.ensures ∙ c.offset.ensures) c.from.ensures k
-    (omega (arith, less, (parts c).count))
+    (omega (arith, less, (parts c).number))
 
 pub put_each-requires-clause-parts : goal.put_each-requires-clause-parts
 put_each-requires-clause-parts c =

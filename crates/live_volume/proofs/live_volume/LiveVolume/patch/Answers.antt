@@ -34,5 +34,5 @@ returns-in_err-at-clause-step c =
     let s = state_of c.self.inside in
     let look = looked_at c.self.inside c.patch_place.new.overlay 1 c.patch_place.ensures.seen in
     rw (← c.self.view_is)
-    (λ sure. refused_so s _ (Patch c.args.p c.args.k c.args.values.now) c.in_err-at.field-0 c.from_residual.result c.from_residual.ensures.0 c.from_residual.ensures.1 (record {}) (omega arith)
-    (told_so s (Patch c.args.p c.args.k c.args.values.now) c.in_err-at.field-0 sure c.in_err-at.ensures.err) look.state)
+    (λ sure. refused_so s _ (Patch c.args.p c.args.k c.args.values.now) c.in_err-at.field-0.0 c.from_residual.result c.from_residual.ensures.0 c.from_residual.ensures.1 (record {}) (omega arith)
+    (told_so s (Patch c.args.p c.args.k c.args.values.now) c.in_err-at.field-0.0 sure c.in_err-at.ensures.err) look.state)

@@ -13,7 +13,7 @@ use Rattle.bench_rules.specs.Steps.{IsAfter}
 use Rattle.bench_rules.proofs.FirstLemmas.{AreTraces}
 use Rattle.live_volume.specs.Held.{session_of, OnlyLooks}
 use Rattle.live_volume.proofs.ComputedLemmas.{all_looks, in_range}
-use Rattle.live_volume.proofs.HeldLemmas.{held_again, looked_at, read_as, read_as_before, read_as_through, under}
+use Rattle.live_volume.proofs.HeldLemmas.{held_again, looked_as, looked_at, read_as, read_as_before, read_as_through, under}
 use Rattle.live_volume.proofs.SortLemmas.{IsSorted, is-sorted, sort_told}
 use Rattle.live_volume.proofs.live_volume.LiveVolume.sort.Goals as goal
 
@@ -24,15 +24,15 @@ granted held shown new a b names falls view t rises =
     subst (λ (n : ℕ). RisesAtMost shown.looks new (looks_at (each_of (place_in_trace shown.state.fields) names) n)) (sym (all_looks shown.state.volume a b t))
     (subst (λ (s : Session). RisesAtMost s.looks new (looks_at (each_of (place_in_trace s.state.fields) names) (b + 1 - a))) view rises)
 
-pub invariant_of-self-in-Err : goal.invariant_of-self-in-Err
-invariant_of-self-in-Err c = held_again c.self.inside c.exchanges_to_sort.new.overlay _ c.exchanges_to_sort.ensures.seen c.self.invariant
+pub invariant_of-self-2 : goal.invariant_of-self-2
+invariant_of-self-2 c = held_again c.self.inside c.exchanges_to_sort.new.overlay _ c.exchanges_to_sort.ensures.seen c.self.invariant
 
 pub returns-in-Err-clause-step : goal.returns-in-Err-clause-step
 returns-in-Err-clause-step c =
     let look = looked_at c.self.inside c.exchanges_to_sort.new.overlay _ c.exchanges_to_sort.ensures.seen in
     rw (← c.self.view_is) (λ sure.
     sort_told _ (session_of c.self.inside).state _ c.args.a c.args.b c.args.fields.now c.args.falling.now c.in-Err.refusal
-    (rw (← c.self.view_is) at in_range c.args.self.now.state.volume c.args.a c.args.b (sym c.in_default.is ∙ c.range_refusal.ensures)) (under sure c.in-Err.ensures.err) look.state)
+    (rw (← c.self.view_is) at (in_range c.args.self.now.state.volume c.args.a c.args.b (sym c.in_default.is ∙ c.range_refusal.ensures))) (under sure c.in-Err.ensures.err) look.state)
 
 pub returns-in-Err-clause-err : goal.returns-in-Err-clause-err
 returns-in-Err-clause-err c =
@@ -58,7 +58,7 @@ pub returns-clause-step : goal.returns-clause-step
 returns-clause-step c =
     let old : State = c.args.self.now.state in
     let edit : Edit = Sort c.args.a c.args.b c.args.fields.now c.args.falling.now in
-    let look = rw c.self.view_is at looked_at c.self.inside c.exchanges_to_sort.new.overlay _ c.exchanges_to_sort.ensures.seen in
+    let look = looked_as c.self.inside c.exchanges_to_sort.new.overlay _ c.args.self.now c.self.view_is c.exchanges_to_sort.ensures.seen in
     let is : c.exchange_pairs.new.self.state ≡ record old { volume = with_places_swapped old.volume c.in-Ok.pairs.items } =
     c.exchange_pairs.ensures.state ∙ ap (λ (s : State). let u : State = record s { volume = with_places_swapped s.volume c.in-Ok.pairs.items } in u) look.state in
     λ sure.
@@ -70,12 +70,12 @@ returns-clause-step c =
 
 pub returns-clause-same : goal.returns-clause-same
 returns-clause-same c =
-    let look = rw c.self.view_is at looked_at c.self.inside c.exchanges_to_sort.new.overlay _ c.exchanges_to_sort.ensures.seen in
+    let look = looked_as c.self.inside c.exchanges_to_sort.new.overlay _ c.args.self.now c.self.view_is c.exchanges_to_sort.ensures.seen in
     read_as_through _ _ _ look.state (read_as _ _ _ c.exchange_pairs.ensures.state)
 
 pub returns-clause-agreed : goal.returns-clause-agreed
 returns-clause-agreed c =
-    let look = rw c.self.view_is at looked_at c.self.inside c.exchanges_to_sort.new.overlay _ c.exchanges_to_sort.ensures.seen in
+    let look = looked_as c.self.inside c.exchanges_to_sort.new.overlay _ c.args.self.now c.self.view_is c.exchanges_to_sort.ensures.seen in
     λ sure. look.agreed (c.exchange_pairs.ensures.agreed sure)
 
 pub returns-clause-looks : goal.returns-clause-looks

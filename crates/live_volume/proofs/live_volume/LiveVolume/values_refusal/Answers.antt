@@ -15,8 +15,8 @@ returns-then-accepts_all-clause-seen c = looks_most _ _ 0 _ (looks_none _) (omeg
 pub loop-k-init : goal.loop-k-init
 loop-k-init c = none_yet _ _ _ _ _
 
-pub value_refusal-refusal-requires : goal.value_refusal-refusal-requires
-value_refusal-refusal-requires c =
+pub value_refusal-requires : goal.value_refusal-requires
+value_refusal-requires c =
     let s : State = c.args.self.now.state in
     let p = c.args.a + c.loop-k.k in
     let first : 1 ≤ p = omega (arith, c.requires.first) in
@@ -62,7 +62,11 @@ pub returns-clause-each : goal.returns-clause-each
 returns-clause-each c = λ none k less. c.loop-k.invariant.each k (omega (arith, less, c.requires.range, c.loop-k.auto.k-end, c.loop-k-test.false))
 
 pub returns-clause-fit : goal.returns-clause-fit
-returns-clause-fit c = λ none k less. c.loop-k.invariant.fit k (omega (arith, less, c.requires.range, c.loop-k.auto.k-end, c.loop-k-test.false))
+returns-clause-fit c =
+    let first : SFits w128 c.args.first = search rules in
+    let step : SFits w128 c.args.step = search rules in
+    let fit = rw (to_z-of_z w128 c.args.first first, to_z-of_z w128 c.args.step step) at c.loop-k.invariant.fit in
+    λ none k less. fit k (omega (arith, less, c.requires.range, c.loop-k.auto.k-end, c.loop-k-test.false))
 
 pub returns-clause-seen : goal.returns-clause-seen
 returns-clause-seen c = looks_most _ _ c.loop-k.k _ c.loop-k.invariant.seen (omega (arith, c.requires.range, c.loop-k.auto.k-end))

@@ -15,14 +15,14 @@ pub put_value-requires-clause-room : goal.put_value-requires-clause-room
 put_value-requires-clause-room c =
     let fit : SFits w128 c.args.value = search rules in
     let room : HasRoom c.self.inside.overlay.volume c.args.p c.args.place c.args.value = rw (to_z-of_z w128 c.args.value fit) at (c.in_ok-refusal.ensures.room c.in-None.is) in
-    subst (λ (v : Volume). HasRoom v c.args.p c.args.place c.args.value) (sym c.value_refusal.ensures.seen.volume) room
+    rw (to_z-of_z w128 c.args.value fit) (subst (λ (v : Volume). HasRoom v c.args.p c.args.place c.args.value) (sym c.value_refusal.ensures.seen.volume) room)
 
 pub put_value-requires-clause-none : goal.put_value-requires-clause-none
 put_value-requires-clause-none c =
     let now : State = record (state_of c.self.inside) { volume = c.value_refusal.new.overlay.volume; on_disk = c.value_refusal.new.overlay.on_disk } in
     let fit : SFits w128 c.args.value = search rules in
     let told = rw (to_z-of_z w128 c.args.value fit) at (c.in_ok-refusal.ensures.refusal now c.value_refusal.ensures.seen.volume) in
-    λ sure. sym (told sure) ∙ c.in-None.is
+    rw (to_z-of_z w128 c.args.value fit) (λ sure. sym (told sure) ∙ c.in-None.is)
 
 pub returns-in-Some-clause-step : goal.returns-in-Some-clause-step
 returns-in-Some-clause-step c =
@@ -37,10 +37,11 @@ returns-in-None-clause-step c =
     let look = looked_at c.self.inside c.value_refusal.new.overlay 1 c.value_refusal.ensures.seen in
     let fit : SFits w128 c.args.value = search rules in
     let told = rw (to_z-of_z w128 c.args.value fit) at (c.in_ok-refusal.ensures.refusal s refl) in
+    let done = rw (to_z-of_z w128 c.args.value fit) at c.put_value.ensures.ok in
     rw (← c.self.view_is) (λ sure.
     let mid = c.put_value.ensures.agreed sure in
     stepped s _ c.put_value.new.self.state (Set c.args.p (field.Place c.args.place) c.args.value) c.put_value.result (sym (told mid) ∙ c.in-None.is) look.state (record {}) (omega arith)
-    (on_ok c.put_value.result (λ f. f sure) c.put_value.ensures.ok) c.put_value.ensures.err)
+    (on_ok c.put_value.result (λ f. f sure) done) c.put_value.ensures.err)
 
 pub returns-in_err-refusal-clause-step : goal.returns-in_err-refusal-clause-step
 returns-in_err-refusal-clause-step c =

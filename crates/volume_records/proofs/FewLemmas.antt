@@ -1,5 +1,5 @@
 -- The records of a file are few enough for the running values.
-use Rattle.std.proofs.Common.{◌≡◌, ℕ, Bool, true, false, IsTrue, suc, ◌+◌, ◌*◌, ◌<◌, ◌≤◌, ◌^◌, List, [], ◌∷◌, length, get_or, refl, sym, ap, subst, ◌∙◌, arith}
+use Rattle.std.proofs.Common.{◌≡◌, ℕ, suc, ◌+◌, ◌*◌, ◌<◌, ◌≤◌, ◌^◌, List, [], ◌∷◌, length, get_or, refl, sym, ap, subst, ◌∙◌, arith}
 use Rattle.std.specs.Prelude.{map, sum_by, slice_set}
 use Rattle.std.specs.List.{concat, AllByRecursion}
 use Rattle.std.proofs.Math.Nat.{mul-le-mul_right}
@@ -22,7 +22,6 @@ use Rattle.frame_cut.proofs.HeadFrontLemmas.{has_head}
 use Rattle.trace_record.specs.Facts.{Facts, facts_of}
 use Rattle.trace_record.specs.OfTrace.{record_of}
 use Rattle.trace_record.specs.declared.record.Record.{Record}
-use Rattle.edit_overlay.specs.CountedVolume.{CountedVolume}
 use Rattle.live_reports.specs.Reports.{AreFew}
 use Rattle.trace_record.specs.Packed.{record_in}
 use Rattle.trace_record.specs.declared.packed_record.PackedRecord.{PackedRecord}
@@ -63,20 +62,6 @@ cut_is_few v fields rs (reading, limits, cut) few e =
 -- the parts into which a file is cut are a volume of a file
 pub of_cut : (file : List ℕ) (reading : Reading) (limits : Limits) (v : Volume) → IsCut file reading limits v → IsOfFile v
 of_cut file reading limits v cut = (reading, limits, subst (λ (bytes : List ℕ). IsCut bytes reading limits v) (sym cut.joined) cut)
-
--- a file has at most 2^40 bytes
-pub file_is_small : (v : Volume) → IsOfFile v → length (bytes_of v) ≤ 2 ^ 40
-file_is_small v (reading, limits, cut) =
-    let file = (has_head (bytes_of v) reading limits v.head cut.parts.head).small in
-    omega (arith, file, limits.small)
-
--- a volume that has more, where each read in memory agrees and what is agreed is a file's, is on disk
-pub too_long : (o : CountedVolume PackedRecord) → (o.on_disk ≡ false → IsTrue o.agreed) → (IsTrue o.agreed → IsOfFile o.volume) → 2 ^ 40 < length (bytes_of o.volume) → IsTrue o.on_disk
-too_long o memory file long = by o.on_disk refl
-  where
-    by : (b : Bool) → o.on_disk ≡ b → IsTrue o.on_disk
-    by true is = is
-    by false is = absurd (omega (arith, long, file_is_small o.volume (file (memory is))))
 
 -- all traces have no fewer bytes than the records that stand beside them tell samples
 numbers_within : (ps : List PackedRecord) (ts : List (List ℕ)) → length ps ≡ length ts → ((j : ℕ) → j < length ts → get_or (numbers_of ps) j 0 ≤ length (get_or ts j []))

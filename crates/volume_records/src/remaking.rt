@@ -9,7 +9,7 @@ ghost use Rattle.edit_overlay.specs.CountedVolume.{RisesAtMost, after_look};
 ghost use Rattle.live_reports.specs.Exchanged.{with_records};
 ghost use Rattle.live_reports.specs.OfRecords.{AreReportsOf};
 ghost use Rattle.volume_records.specs.Faults.{IsOfRead};
-ghost use Rattle.volume_records.specs.OfVolume.{IsOfFile, numbers_of, records_of};
+ghost use Rattle.volume_records.specs.OfVolume.{numbers_of, records_of};
 
 use crate::{OutOfMemory, RecordsFault};
 use edit_overlay::{Overlay, ReadFault};
@@ -18,9 +18,6 @@ use live_reports::LiveReports;
 use record_table::{RecordList, Records};
 use std::alloc::Global;
 use trace_record::{PackedRecord, Record, record_of};
-
-// No file of more bytes is loaded.
-const MOST_BYTES: u64 = 1 << 40;
 
 /// Puts the records beside the traces from trace a on, which counts from 1, in place of those that
 /// stand there. Nothing is prepared. Looks at no trace, and takes no memory.
@@ -50,14 +47,14 @@ pub fn set_records(overlay: &mut Overlay<PackedRecord>, a: u32, records: &Record
 /// Makes the record of each trace anew, under another map for the file, and the reports that have
 /// counted them. Nothing is prepared. One look at each trace. Takes memory for a copy of the
 /// records and for what the reports hold; refused for want of it, or on disk where a trace could
-/// not be read or the file has changed, and then the records are as they were. The volume stays as
+/// not be read, and then the records are as they were. The volume stays as
 /// it is in any case.
 pub fn remake(
     alloc: Global,
     overlay: &mut Overlay<PackedRecord>,
     fields: &FieldMap,
 ) -> Result<LiveReports, RecordsFault>
-    requires file { IsTrue overlay.old.agreed → IsOfFile overlay.old.volume }
+    requires small { length (bytes_of overlay.old.volume) ≤ 2 ^ 40 }
     requires each { length overlay.old.payloads ≡ count_of overlay.old.volume }
     requires none { overlay.old.prepared ≡ overlay.old.volume }
     requires fields { fields.now.extensions ≡ overlay.old.volume.head.extensions }
@@ -65,9 +62,13 @@ pub fn remake(
         map facts_of (map record_in overlay.new.payloads) ≡
         records_of overlay.old.volume fields.now.pairs) }
     ensures reports { IfOk result (λ r. AreReportsOf r (map record_in overlay.new.payloads)) }
+    ensures within { OnOk result ((j : ℕ) → j < count_of overlay.old.volume →
+        slice_index_or (numbers_of overlay.new.payloads) j 0 ≤
+        length (slice_index_or overlay.old.volume.traces j [])) }
     ensures err { OnErr result
         (map record_in overlay.new.payloads ≡ map record_in overlay.old.payloads) }
-    ensures read { IfErr result (λ fault. IsOfRead fault → IsTrue overlay.old.on_disk) }
+    ensures read { IfErr result (λ fault. IsOfRead fault → IsTrue overlay.old.on_disk
+        × (0 < count_of overlay.old.volume)) }
     ensures each { length overlay.new.payloads ≡ count_of overlay.old.volume }
     ensures volume { overlay.new.volume ≡ overlay.old.volume }
     ensures prepared { overlay.new.prepared ≡ overlay.old.volume }
@@ -75,13 +76,6 @@ pub fn remake(
     ensures looks { RisesAtMost overlay.old.looks overlay.new.looks (count_of overlay.old.volume) }
     ensures agreed { IsTrue overlay.new.agreed → IsTrue overlay.old.agreed }
 {
-    // Read for the proof alone, which learns that in memory each read agreed.
-    overlay.memory_agrees();
-
-    // Where each read agreed the volume is that of a file, and has no more bytes.
-    if overlay.length() > MOST_BYTES {
-        return Err(RecordsFault::Read(ReadFault::Changed));
-    }
     let held = copied(alloc, overlay)?;
     match remade(alloc, overlay, fields) {
         Ok(reports) => Ok(reports),
@@ -106,7 +100,11 @@ fn remade(
         map facts_of (map record_in overlay.new.payloads) ≡
         records_of overlay.old.volume fields.now.pairs) }
     ensures reports { IfOk result (λ r. AreReportsOf r (map record_in overlay.new.payloads)) }
-    ensures read { IfErr result (λ fault. IsOfRead fault → IsTrue overlay.old.on_disk) }
+    ensures within { OnOk result ((j : ℕ) → j < count_of overlay.old.volume →
+        slice_index_or (numbers_of overlay.new.payloads) j 0 ≤
+        length (slice_index_or overlay.old.volume.traces j [])) }
+    ensures read { IfErr result (λ fault. IsOfRead fault → IsTrue overlay.old.on_disk
+        × (0 < count_of overlay.old.volume)) }
     ensures each { length overlay.new.payloads ≡ count_of overlay.old.volume }
     ensures volume { overlay.new.volume ≡ overlay.old.volume }
     ensures prepared { overlay.new.prepared ≡ overlay.old.volume }
@@ -142,7 +140,8 @@ fn renew(overlay: &mut Overlay<PackedRecord>, fields: &FieldMap) -> Result<(), R
         slice_index_or (numbers_of overlay.new.payloads) j 0 ≤
         length (slice_index_or overlay.old.volume.traces j [])) }
     ensures few { count_of overlay.old.volume < 2 ^ 32 }
-    ensures read { IfErr result (λ _. IsTrue overlay.old.on_disk) }
+    ensures read { IfErr result (λ _. IsTrue overlay.old.on_disk
+        × (0 < count_of overlay.old.volume)) }
     ensures each { length overlay.new.payloads ≡ count_of overlay.old.volume }
     ensures volume { overlay.new.volume ≡ overlay.old.volume }
     ensures prepared { overlay.new.prepared ≡ overlay.old.volume }

@@ -46,6 +46,8 @@ pub fn computed_bytes(
     ensures count { IfOk result (λ bytes. length bytes.items ≡ place.kind.size * (b + 1 - a)) }
     ensures each { OnOk result ((k : ℕ) → k < b + 1 - a →
         HoldsPlace (trace_at overlay.old.volume (a + k)) place) }
+    ensures looked { OnOk result (0 < looks_at
+        (formula_at map.now.pairs place source.now steps.now) (b + 1 - a)) }
     ensures err { IfErr result (λ refusal. (IsReadRefusal overlay.old.on_disk refusal
         × (0 < looks_at (formula_at map.now.pairs place source.now steps.now) (b + 1 - a))) ⊎
         (IsTrue overlay.new.agreed → IsRefusalFor refusal (compute_refusal_in overlay.old.volume

@@ -1,5 +1,5 @@
 -- A field of many traces computed: what is known where its bytes are laid over the traces.
-use Rattle.std.proofs.Common.{◌≡◌, ◌⊎◌, ℕ, ℤ, ◌+◌, ◌-◌, ◌*◌, ◌<◌, List, Option, Some, None, inl, inr, refl, sym, ap, subst, ◌∙◌, arith}
+use Rattle.std.proofs.Common.{◌≡◌, ◌⊎◌, ℕ, ℤ, ◌+◌, ◌-◌, ◌*◌, ◌<◌, ◌≤◌, List, Option, Some, None, inl, inr, refl, sym, ap, subst, ◌∙◌, arith}
 use Rattle.std.specs.Prelude.{option_map, option_and_then, Result, Err}
 use Rattle.std.proofs.lemmas.Bool.{le-leb}
 use Rattle.std.specs.List.{flat_map}
@@ -11,6 +11,7 @@ use Rattle.field_map.specs.Places.{offset_of}
 use Rattle.frame_cut.specs.Parts.{with_each}
 use Rattle.frame_cut.specs.Traces.{count_of}
 use Rattle.frame_cut.specs.Volume.{Volume}
+use Rattle.edit_overlay.specs.CountedVolume.{RisesAtMost}
 use Rattle.bench_rules.specs.declared.edit.Edit.TheVariants.{Compute}
 use Rattle.bench_rules.specs.declared.field.Field.{Field}
 use Rattle.bench_rules.specs.declared.operand.Operand.{Operand}
@@ -96,6 +97,20 @@ all_looks v a b t = rw (le-leb 1 a t.low, le-leb a (count_of v) (omega (arith, t
 more_looks : {X : Type 0} (o : Option X) (n : ℕ) → 0 < looks_at o n → 0 < looks_at o (2 * n)
 more_looks None n some = absurd (omega (arith, some))
 more_looks (Some x) n some = omega (arith, some)
+
+-- as many looks again are within the looks of the edit
+looks_twice : {X : Type 0} (o : Option X) (n : ℕ) → 0 < looks_at o n → looks_at o n + n ≤ looks_at o (2 * n)
+looks_twice None n some = absurd (omega (arith, some))
+looks_twice (Some x) n some = omega arith
+
+pub computed_twice : (s : State) (a b : ℕ) (field : Field) (source : Operand) (steps : List (Operator × Operand)) (place : Place) (old mid new : ℕ) → AreTraces s.volume a b None → Some place ≡ place_in_trace s.fields field
+    → 0 < looks_at (formula_at s.fields place source steps) (b + 1 - a) → RisesAtMost old mid (looks_at (formula_at s.fields place source steps) (b + 1 - a)) → RisesAtMost mid new (b - a + 1)
+    → RisesAtMost old new (edit_looks s (Compute a b field source steps))
+computed_twice s a b field source steps place old mid new t e some first second =
+    let all : edit_looks s (Compute a b field source steps) ≡ looks_at (formula_at s.fields place source steps) (2 * (b + 1 - a)) =
+    ap (λ (o : Option Formula). looks_at o (2 * range_looks s.volume a b)) (formula_is s field source steps place e) ∙ ap (λ (n : ℕ). looks_at (formula_at s.fields place source steps) (2 * n)) (all_looks s.volume a b t) in
+    let twice = looks_twice (formula_at s.fields place source steps) (b + 1 - a) some in
+    (omega (arith, first, second), omega (arith, first, second, all, twice, t.high))
 
 -- a computation that nothing refuses may look
 pub computed_looks : (s : State) (a b : ℕ) (field : Field) (source : Operand) (steps : List (Operator × Operand)) → AreTraces s.volume a b None → first_refusal s (Compute a b field source steps) ≡ None

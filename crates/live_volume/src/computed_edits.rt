@@ -1,5 +1,5 @@
 // A field of many traces computed from numbers and other fields of each.
-ghost use Rattle.std.specs.Prelude.{◌≡◌, ◌⊎◌, ◌+◌, ◌-◌, ◌*◌, ◌≤◌, ◌<◌, length, None, IsTrue, IfOk, IfErr, OnErr};
+ghost use Rattle.std.specs.Prelude.{◌≡◌, ◌⊎◌, ◌+◌, ◌-◌, ◌*◌, ◌≤◌, ◌<◌, length, None, IsTrue, IfOk, IfErr, OnOk, OnErr};
 ghost use Rattle.frame_cut.specs.Traces.{count_of};
 ghost use Rattle.edit_overlay.specs.CountedVolume.{RisesAtMost};
 ghost use Rattle.bench_rules.specs.declared.edit.Edit.TheVariants as edits;
@@ -89,6 +89,8 @@ impl LiveVolume {
         ensures each { IfOk result (λ _. EachHolds self.old.state.volume a (b + 1 - a) place) }
         ensures count { IfOk result (λ bytes.
             length bytes.items ≡ place.kind.size * (b + 1 - a)) }
+        ensures looked { OnOk result (0 < looks_at
+            (formula_at self.old.state.fields place source.now steps.now) (b + 1 - a)) }
         ensures err { IfErr result (λ refusal. (IsReadRefusal self.old.state.on_disk refusal
             × (0 < looks_at (formula_at self.old.state.fields place source.now steps.now)
             (b + 1 - a))) ⊎ (IsTrue self.new.agreed → IsRefusalFor refusal (compute_refusal_in

@@ -32,7 +32,7 @@ returns-in-Sample-clause-reply c = λ sure.
 
 pub returns-in-Table-clause-reply : goal.returns-in-Table-clause-reply
 returns-in-Table-clause-reply c = λ sure.
-    subst (λ (q : Query). IsReply c.args.self.now.state q c.table_answer.result) (sym c.in-Table.is) (c.table_answer.ensures.reply c.args.self.now.state (sym (ap (λ (t : Session). t.state.volume) c.self.view_is)) (sym (ap (λ (t : Session). t.state.fields) c.self.view_is)) (sym (ap (λ (t : Session). t.state.on_disk) c.self.view_is)) sure)
+    subst (λ (q : Query). IsReply c.args.self.now.state q c.table_answer.result) (sym (c.in-Table.is ∙ ap (λ (fs : List Field). queries.Table c.in-Table.a c.in-Table.b fs) (sym c.as_slice.ensures))) (c.table_answer.ensures.reply c.args.self.now.state (sym (ap (λ (t : Session). t.state.volume) c.self.view_is)) (sym (ap (λ (t : Session). t.state.fields) c.self.view_is)) (sym (ap (λ (t : Session). t.state.on_disk) c.self.view_is)) sure)
 
 pub returns-in-Header-clause-reply : goal.returns-in-Header-clause-reply
 returns-in-Header-clause-reply c = λ sure.
@@ -44,19 +44,19 @@ returns-in-Extremes-clause-reply c = λ sure.
 
 pub returns-in-Grid-clause-reply : goal.returns-in-Grid-clause-reply
 returns-in-Grid-clause-reply c = λ sure.
-    subst (λ (q : Query). IsReply c.args.self.now.state q c.cells.result) (sym c.in-Grid.is) (c.cells.ensures c.args.self.now.state (c.grid.ensures sure))
+    subst (λ (q : Query). IsReply c.args.self.now.state q c.cells.result) (sym c.in-Grid.is) (c.cells.ensures c.args.self.now.state (c.grid-in-Grid.ensures sure))
 
 pub returns-in-Inlines-clause-reply : goal.returns-in-Inlines-clause-reply
 returns-in-Inlines-clause-reply c = λ sure.
-    subst (λ (q : Query). IsReply c.args.self.now.state q c.inlines.result) (sym c.in-Inlines.is) (c.inlines.ensures c.args.self.now.state (c.grid.ensures sure))
+    subst (λ (q : Query). IsReply c.args.self.now.state q c.inlines.result) (sym c.in-Inlines.is) (c.inlines.ensures c.args.self.now.state (c.grid-in-Inlines.ensures sure))
 
 pub returns-in-Crosslines-clause-reply : goal.returns-in-Crosslines-clause-reply
 returns-in-Crosslines-clause-reply c = λ sure.
-    subst (λ (q : Query). IsReply c.args.self.now.state q c.crosslines.result) (sym c.in-Crosslines.is) (c.crosslines.ensures c.args.self.now.state (c.grid.ensures sure))
+    subst (λ (q : Query). IsReply c.args.self.now.state q c.crosslines.result) (sym c.in-Crosslines.is) (c.crosslines.ensures c.args.self.now.state (c.grid-in-Crosslines.ensures sure))
 
 pub returns-in-Histogram-clause-reply : goal.returns-in-Histogram-clause-reply
 returns-in-Histogram-clause-reply c = λ sure.
-    subst (λ (q : Query). IsReply c.args.self.now.state q c.histogram.result) (sym c.in-Histogram.is) (c.histogram.ensures c.args.self.now.state (c.grid.ensures sure))
+    subst (λ (q : Query). IsReply c.args.self.now.state q c.histogram.result) (sym c.in-Histogram.is) (c.histogram.ensures c.args.self.now.state (c.grid-in-Histogram.ensures sure))
 
 pub returns-in-Fold-clause-reply : goal.returns-in-Fold-clause-reply
 returns-in-Fold-clause-reply c = λ sure.
@@ -75,7 +75,7 @@ returns-in-Find-clause-reply c = λ sure.
 
 pub returns-in-Faults-clause-reply : goal.returns-in-Faults-clause-reply
 returns-in-Faults-clause-reply c = λ sure.
-    let before : IsTrue c.self.inside.overlay.agreed = sure in
+    let before : IsTrue c.self.inside.overlay.agreed = subst (λ (t : Session). IsTrue t.agreed) (sym c.self.view_is) sure in
     let records : AreRecordsOf c.args.self.now.state (records_in c.self.inside) = rw (← c.self.view_is) (c.self.invariant.records before) in
     let counted : AreTriplesOf c.args.self.now.state c.triples.result.now =
     subst (λ (fs : List Facts). Same (tally_of_faults c.triples.result.now) (tally_of keys_of_faults fs)) records (c.triples.ensures (records_in c.self.inside) c.self.invariant.reports) in
@@ -94,8 +94,8 @@ returns-in-Table-clause-looks c =
     subst (λ (q : Query). RisesAtMost c.args.self.now.looks c.table_answer.new.overlay.looks (query_looks c.args.self.now.state [] q))
     (sym (c.in-Table.is ∙ ap (λ (fs : List Field). queries.Table c.in-Table.a c.in-Table.b fs) (sym c.as_slice.ensures))) own
 
-pub invariant_of-self-in-Get : goal.invariant_of-self-in-Get
-invariant_of-self-in-Get c = held_again c.self.inside c.get_answer.new.overlay _ c.get_answer.ensures.seen c.self.invariant
+pub invariant_of-self : goal.invariant_of-self
+invariant_of-self c = held_again c.self.inside c.get_answer.new.overlay _ c.get_answer.ensures.seen c.self.invariant
 
 pub returns-in-Get-clause-unchanged : goal.returns-in-Get-clause-unchanged
 returns-in-Get-clause-unchanged c = rw (← c.self.view_is) (looked_at c.self.inside c.get_answer.new.overlay _ c.get_answer.ensures.seen).state

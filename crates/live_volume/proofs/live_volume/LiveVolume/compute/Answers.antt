@@ -7,7 +7,7 @@ use Rattle.bench_rules.specs.Steps.{IsAfter}
 use Rattle.bench_rules.proofs.FirstLemmas.{AreTraces}
 use Rattle.bench_rules.proofs.HeaderEditLemmas.{after_cut}
 use Rattle.live_volume.specs.Places.{EachHolds}
-use Rattle.live_volume.proofs.ComputedLemmas.{Lays, compute_told, computed_looks, in_range, lays}
+use Rattle.live_volume.proofs.ComputedLemmas.{Lays, compute_told, computed_looks, computed_twice, in_range, lays}
 use Rattle.live_volume.proofs.HeldLemmas.{left_as_it_was, on_ok, read_as_either, read_as_through, stepped, under}
 use Rattle.live_volume.proofs.RoomLemmas.{ArePartsOf, each_inside, parts_of}
 use Rattle.live_volume.proofs.live_volume.LiveVolume.compute.Goals as goal
@@ -97,3 +97,8 @@ returns-clause-step c = λ sure.
 
 pub returns-clause-same : goal.returns-clause-same
 returns-clause-same c = read_as_through _ _ _ c.computed.ensures.seen.state (read_as_either _ c.put_each.result _ _ _ c.put_each.ensures.ok c.put_each.ensures.err)
+
+pub returns-clause-looks : goal.returns-clause-looks
+returns-clause-looks c =
+    computed_twice c.args.self.now.state c.args.a c.args.b c.args.field.now c.args.source.now c.args.steps.now c.in-Some-place_in_trace.place c.args.self.now.looks c.computed.new.self.looks c.put_each.new.self.looks
+    (range c.before.before) (sym c.in-Some-place_in_trace.is ∙ c.place_in_trace.ensures) c.in-Ok.ensures.looked c.computed.ensures.seen.looks c.put_each.ensures.looks

@@ -1,15 +1,15 @@
 // Loads, edits and saves over a small file. One function owns the overlay of each test and lends it
 // out: the check of a function that owns an overlay takes the longer the more it does, and that of
 // a borrower stays short. What it is lent to is a `dyn`: a type parameter would have it checked
-// anew for each test. A save that fails is tested through the bench.
+// anew for each test.
 ghost use Rattle.std.specs.Prelude.{◌≡◌, ◌+◌, [], length, OnOk};
 ghost use Rattle.frame_cut.specs.Traces.{count_of};
 
 use crate::files::two_traces;
 use crate::puts::{is_trace, may_put, put};
 use crate::tables::volume_of;
-use device_io::{Sink, Source, StepReader};
-use edit_overlay::{Loading, Overlay};
+use device_io::{Sink, Source, StepReader, StepWriter};
+use edit_overlay::{Loading, Overlay, SaveFault};
 use frame_cut::{Limits, LoadFault, Reading};
 use std::alloc::Global;
 use std::process::Abort;
@@ -647,6 +647,34 @@ fn replaces_a_trace(rt: HostRuntime) -> Result<(), Fail> {
             let changed = part(longer, 0, 249);
             let second = part(file, 3844, 4088);
             expect_saved(&rt, alloc, volume, &[headers, changed, &[9], second])
+        },
+    )
+}
+
+// A save to a writer that takes no more than 4000 bytes.
+fn save_to_a_failing_writer(rt: &impl Abort, file: &[u8], volume: &mut Overlay<u32>) {
+    let mut room = [0u8; 4088];
+    let mut writer = Sink::new(StepWriter::new(&mut room, 7, 4000));
+    let fault = volume.write_to(&mut writer).err();
+    let expected = SaveFault {
+        written: 4000,
+        read: None,
+    };
+    assert_eq!(rt; fault, Some(expected));
+    assert_eq!(rt; writer.failures(), 1);
+    let _writer = writer.into_inner();
+    assert!(rt; part(&room, 0, 4000) == part(file, 0, 4000));
+}
+
+// A writer that fails is told of with the bytes that it took, and no read; the next save has all.
+#[test]
+fn names_the_bytes_that_a_failing_writer_took(rt: HostRuntime) -> Result<(), Fail> {
+    let alloc = rt.alloc();
+    on_small(
+        alloc,
+        &mut |file: &[u8], volume: &mut Overlay<u32>| {
+            save_to_a_failing_writer(&rt, file, volume);
+            expect_saved(&rt, alloc, volume, &[file])
         },
     )
 }

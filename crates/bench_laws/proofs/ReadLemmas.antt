@@ -1,5 +1,5 @@
 -- What edits and queries are told of reads that failed.
-use Rattle.std.proofs.Common.{◌≡◌, ◌≢◌, ◌⊎◌, inl, inr, ℕ, ◌+◌, nat_abs, nat_le, nat_lt, ℤ, pos, Bool, true, false, true≢false, not, List, [], ◌∷◌, Option, Some, None, Result, Ok, Err, IfErr, IsOk, refl, sym, ap, ◌∙◌}
+use Rattle.std.proofs.Common.{◌≡◌, inl, inr, ℕ, ◌+◌, nat_abs, nat_le, nat_lt, ℤ, pos, Bool, true, false, true≢false, not, List, [], ◌∷◌, Option, Some, None, Result, Ok, Err, IfErr, refl, sym, ap, ◌∙◌}
 use Rattle.std.specs.Prelude.{length, max, is_none, ◌&&◌, option_map, if◌then◌else◌}
 use Rattle.std.specs.Option.{IfSome, option_or}
 use Rattle.std.specs.List.{list_all}
@@ -31,14 +31,14 @@ use Rattle.bench_rules.specs.declared.query.Query.{Query}
 use Rattle.bench_rules.specs.declared.query.Query.TheVariants as queries
 use Rattle.bench_rules.specs.declared.refusal.Refusal.{Refusal}
 use Rattle.bench_rules.specs.declared.refusal.Refusal.TheVariants as refusals
-use Rattle.bench_rules.specs.Answer.{Reply, answer, or_fault, of_trace, trace_value, trace_sample, of_values, binary_value, code_answer, line_answer, lines_answer, or_no_trace, of_traces, table_answer, found_answer, TakesMemory, IsReply}
+use Rattle.bench_rules.specs.Answer.{Reply, answer, or_fault, of_trace, trace_value, trace_sample, of_values, binary_value, line_answer, of_traces, table_answer, found_answer}
 use Rattle.bench_rules.specs.Computed.{Formula, formula_of, applied, divides, is_in_range, unless_refused, stepped, chained, chained_from, computed_in, term_in, steps_in, refusal_of_result, compute_refusal, first_at, compute_refusal_in}
 use Rattle.bench_rules.specs.Headers.{named_places, header_of}
 use Rattle.bench_rules.specs.ManyTraces.{each_of, positions}
 use Rattle.bench_rules.specs.Places.{place_in_trace, place_in_binary, is_in_binary, touches_frame}
-use Rattle.bench_rules.specs.Refused.{first_refusal, is_line, is_sample_count, is_too_large, changes_length, no_trace, no_place_for_trace, room_refusal, insert_refusal, no_samples, values_refusal, patch_refusal, set_refusal, set_bin_refusal, text_refusal, count_refusal, no_trace_from, first_refusal_among, sort_refusal}
+use Rattle.bench_rules.specs.Refused.{first_refusal, is_line, is_sample_count, is_too_large, changes_length, no_trace, no_place_for_trace, room_refusal, insert_refusal, values_refusal, set_refusal, set_bin_refusal, text_refusal, count_refusal, no_trace_from, first_refusal_among, sort_refusal}
 use Rattle.bench_rules.specs.State.{State}
-use Rattle.bench_rules.specs.Steps.{Step, StepUnless}
+use Rattle.bench_rules.specs.Steps.{StepUnless}
 use Rattle.bench_rules.specs.Tables.{table_of}
 use Rattle.bench_rules.specs.TraceEdits.{numbers}
 use Rattle.bench_rules.specs.WholeTraces.{blank_trace}

@@ -20,9 +20,7 @@ pub use crate::number_laws::{
     compute_is_its_sets, compute_of_a_number_is_renumber, renumber_is_its_sets, resize_keeps_bytes,
     resize_keeps_samples, resize_leaves_the_rest,
 };
-pub use crate::read_laws::{
-    memory_reads_all, refused_edits_change_nothing, rules_tell_of_no_read,
-};
+pub use crate::read_laws::{memory_reads_all, refused_edits_change_nothing, rules_tell_of_no_read};
 pub use crate::sort_laws::{
     rows_stand_in_order, sort_keeps_traces, sort_puts_rows_in_order, sorted_table_is_in_order,
 };

@@ -1,20 +1,18 @@
 -- What an overlay is after a look, and what the view shows.
-use Rattle.std.proofs.Common.{◌≡◌, ℕ, ◌-◌, List, [], length, refl, sym, ap, ◌∙◌, subst, IsTrue, Option, Some, None, Result, Err}
+use Rattle.std.proofs.Common.{◌≡◌, ℕ, ◌-◌, List, [], length, ap, ◌∙◌, subst, IsTrue, Option, Result, Err}
 use Rattle.std.specs.Prelude.{slice_index_or, IsOk}
 use Rattle.base_file.specs.HeldBytes.{IsInMemory, IsSure}
-use Rattle.frame_cut.specs.declared.file_head.Head.{Head}
 use Rattle.frame_cut.specs.Volume.{Volume}
 use Rattle.trace_view.specs.declared.view.TraceView.{TraceView}
 use Rattle.trace_view.specs.Shown.{head_of, bytes_of}
 use Rattle.trace_store.specs.declared.prepared.Prepared.{Prepared}
-use Rattle.trace_store.specs.declared.store.TraceStore.{TraceStore}
 use Rattle.trace_store.specs.Ahead.{traces_ahead}
 use Rattle.trace_store.specs.Stores.{traces_of}
 use Rattle.trace_store.proofs.AheadLemmas.{ahead_kept}
 use Rattle.edit_overlay.specs.CountedVolume.{CountedVolume, after_look, with_agreed, HasShapeOf}
 use Rattle.edit_overlay.specs.Held.{looked_of, IsReread}
 use Rattle.edit_overlay.specs.Looks.{HasLooked, HasShown}
-use Rattle.edit_overlay.specs.Standings.{is_on_disk, is_sure}
+use Rattle.edit_overlay.specs.Standings.{is_sure}
 use Rattle.edit_overlay.specs.declared.laid.Laid.{Laid}
 use Rattle.edit_overlay.specs.declared.overlay.Overlay.TheInside.{Inside}
 use Rattle.edit_overlay.proofs.HeldLemmas.{same_reread, shown_relaid}
@@ -22,7 +20,6 @@ use Rattle.edit_overlay.proofs.StandingLemmas.{agreed_before, on_disk_else, refu
 
 -- the look was counted, and then the loaded bytes were read
 module _ {T : Type 0} (o : CountedVolume T) (i : Inside T) (l : Laid T) (reread : IsReread i.laid.store l.store) (kept : l.prepared ≡ i.laid.prepared) (counted : looked_of i ≡ after_look o o.agreed) where
-
   -- nothing else is changed
   pub has_looked : HasLooked o (looked_of (record i { laid = l }))
   has_looked = record {

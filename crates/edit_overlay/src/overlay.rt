@@ -456,7 +456,9 @@ impl<T: Copy> Overlay<T> {
         ensures err { OnErr result (self.new ≡ self.old) }
     {
         let added = bytes.len() as u64;
-        self.laid.store.insert(alloc, p, Base::Added(bytes), payload)?;
+        self.laid
+            .store
+            .insert(alloc, p, Base::Added(bytes), payload)?;
         self.laid.prepared = None;
         self.length += added;
         Ok(())
@@ -517,7 +519,9 @@ impl<T: Copy> Overlay<T> {
     {
         let gone = self.laid.store.length_of(p);
         let added = bytes.len() as u64;
-        self.laid.store.replace(alloc, p, Base::Added(bytes), payload);
+        self.laid
+            .store
+            .replace(alloc, p, Base::Added(bytes), payload);
         self.laid.prepared = None;
         self.length = self.length - gone + added;
     }

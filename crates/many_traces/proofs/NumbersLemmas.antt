@@ -1,6 +1,6 @@
 -- Numbers that are computed for many traces, one trace after another.
-use Rattle.std.proofs.Common.{◌≡◌, ℕ, ℤ, zero, suc, ◌+◌, ◌-◌, ◌*◌, ◌≤◌, true, List, [], ◌++◌, Option, Some, None, Ok, Err, length, refl, sym, ap, ◌∙◌, arith}
-use Rattle.std.specs.Prelude.{Result, IfOk, OnOk}
+use Rattle.std.proofs.Common.{◌≡◌, ℕ, ℤ, zero, suc, ◌+◌, ◌-◌, ◌*◌, ◌≤◌, true, List, [], ◌++◌, Option, Some, None, Ok, Err, length, inl, inr, refl, sym, ap, ◌∙◌, arith}
+use Rattle.std.specs.Prelude.{◌⊎◌, Result, IfOk, OnOk}
 use Rattle.std.specs.List.{flat_map}
 use Rattle.std.proofs.lemmas.Bool.{le-leb}
 use borrow.Author.Count.{below_more}
@@ -60,6 +60,11 @@ one_more v f a k x old new far none e joined =
 -- the first that is refused is the answer
 pub refused_here : (v : Volume) (f : Formula) (a b k : ℕ) (r : Refusal) → NoneRefused v f a k → a + k ≤ b → compute_refusal v f (a + k) ≡ Some r → compute_refusal_in v (Some f) a b ≡ Some r
 refused_here v f a b k r none inside e = first_is (compute_refusal v f) a (b + 1 - a) k r none (omega arith) e
+
+-- or a read that failed
+pub refused_or_read : {P R : Type 0} (v : Volume) (f : Formula) (a b k : ℕ) (r : Refusal) → R ⊎ (P → compute_refusal v f (a + k) ≡ Some r) → (P → NoneRefused v f a k) → a + k ≤ b → R ⊎ (P → compute_refusal_in v (Some f) a b ≡ Some r)
+refused_or_read v f a b k r (inl read) none inside = inl read
+refused_or_read v f a b k r (inr told) none inside = inr (λ sure. refused_here v f a b k r (none sure) inside (told sure))
 
 -- and where none is, there is none
 pub none_refused : (v : Volume) (f : Formula) (a b : ℕ) → NoneRefused v f a (b + 1 - a) → compute_refusal_in v (Some f) a b ≡ None

@@ -181,7 +181,8 @@ fn without_memory(
     ensures seen { IsSeen overlay.old overlay.new (b + 1 - a) }
 {
     for k in 0..b - a + 1 {
-        if let Some(refusal) = refusal_by_names(overlay, map, a + k, place, source, steps)? {
+        let first = refusal_by_names(overlay, map, a + k, place, source, steps)?;
+        if let Some(refusal) = first {
             return Ok(refusal);
         }
     }

@@ -37,7 +37,8 @@ pub fn find(
 {
     let mut found = Vec::new(alloc);
     for k in 0..b - a + 1 {
-        let Some(number) = number_at(overlay, a + k, place)? else {
+        let here = number_at(overlay, a + k, place)?;
+        let Some(number) = here else {
             return Err(AskFault::NoPlace);
         };
         if !keep(&mut found, a + k, number, low, high) {
@@ -90,7 +91,8 @@ fn without_memory(
     ensures read { IfErr result (λ _. IsTrue overlay.old.on_disk) }
 {
     for k in 0..b - p {
-        if number_at(overlay, p + 1 + k, place)?.is_none() {
+        let number = number_at(overlay, p + 1 + k, place)?;
+        if number.is_none() {
             return Ok(AskFault::NoPlace);
         }
     }

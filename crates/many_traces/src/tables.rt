@@ -95,7 +95,8 @@ fn filled(
 {
     let mut numbers = numbers;
     for k in 0..b - a + 1 {
-        if !push_row(overlay, a + k, places, &mut numbers)? {
+        let there = push_row(overlay, a + k, places, &mut numbers)?;
+        if !there {
             return Err(AskFault::NoPlace);
         }
     }
@@ -120,7 +121,8 @@ fn without_memory(
     ensures read { IfErr result (λ _. IsTrue overlay.old.on_disk) }
 {
     for k in 0..b - a + 1 {
-        if !has_row(overlay, map, a + k, fields)? {
+        let there = has_row(overlay, map, a + k, fields)?;
+        if !there {
             return Ok(AskFault::NoPlace);
         }
     }

@@ -1,4 +1,4 @@
-ghost use Rattle.std.specs.Prelude.{◌≡◌, ◌++◌, length, map, All, IfOk, IfErr, IfSome, OnOk, IsTrue};
+ghost use Rattle.std.specs.Prelude.{◌≡◌, ◌<◌, ◌++◌, length, map, All, IfOk, IfErr, IfSome, OnOk, IsTrue};
 ghost use Rattle.frame_cut.specs.Traces.{count_of, is_trace, trace_at};
 ghost use Rattle.sample_codes.specs.Formats.{integer_width, sample_value, sample_fits};
 ghost use Rattle.trace_view.specs.Shown.{head_of, bytes_of};
@@ -41,7 +41,8 @@ pub fn rows(
     ensures fits { IfOk result (λ v.
         All (λ r. IsTrue (value_fits overlay.old.volume.head.format r.value)) v.items) }
     ensures seen { IsSeen overlay.old overlay.new (count_of overlay.old.volume) }
-    ensures read { IfErr result (λ fault. IsOfRead fault → IsTrue overlay.old.on_disk) }
+    ensures read { IfErr result (λ fault. IsOfRead fault → IsTrue overlay.old.on_disk
+        × (0 < count_of overlay.old.volume)) }
 {
     let mut rows = rows_in_place(alloc, overlay, k)?;
     rows.sort_unstable();
@@ -60,7 +61,8 @@ fn rows_in_place(
     ensures fits { IfOk result (λ v.
         All (λ r. IsTrue (value_fits overlay.old.volume.head.format r.value)) v.items) }
     ensures seen { IsSeen overlay.old overlay.new (count_of overlay.old.volume) }
-    ensures read { IfErr result (λ fault. IsOfRead fault → IsTrue overlay.old.on_disk) }
+    ensures read { IfErr result (λ fault. IsOfRead fault → IsTrue overlay.old.on_disk
+        × (0 < count_of overlay.old.volume)) }
 {
     // Room for all at once: a list that grows is copied again and again, each time to fresh memory.
     let count = overlay.count();

@@ -1,4 +1,4 @@
-ghost use Rattle.std.specs.Prelude.{◌≡◌, ◌≤◌, ◌∷◌, [], ◌++◌, ℕ, ℤ, List, if◌then◌else◌, length, map, All, Some, IfOk, IfErr, OnOk, OnErr, IsTrue, IsFalse};
+ghost use Rattle.std.specs.Prelude.{◌≡◌, ◌<◌, ◌≤◌, ◌∷◌, [], ◌++◌, ℕ, ℤ, List, if◌then◌else◌, length, map, All, Some, IfOk, IfErr, OnOk, OnErr, IsTrue, IsFalse};
 ghost use Rattle.frame_cut.specs.Traces.{count_of};
 ghost use Rattle.trace_record.specs.Facts.{facts_of};
 ghost use Rattle.trace_record.specs.Packed.{record_in};
@@ -84,7 +84,7 @@ impl SliceCache {
         ensures seen { IsSeen overlay.old overlay.new
             (if keeps k self.old.entries then 0 else count_of overlay.old.volume) }
         ensures read { IfErr result (λ fault. IsOfRead fault → IsTrue overlay.old.on_disk
-            × IsFalse (keeps k self.old.entries)) }
+            × (0 < count_of overlay.old.volume) × IsFalse (keeps k self.old.entries)) }
     {
         if self.cached(k) {
             let kept = self.answer_kept(alloc, &Records::new(overlay.payloads()), k)?;

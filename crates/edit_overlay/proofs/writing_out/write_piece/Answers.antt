@@ -1,6 +1,5 @@
 use Rattle.std.proofs.Common.{◌≡◌, ◌+◌, ◌<◌, ◌≤◌, [], ℕ, List, length, take, drop, refl, ◌∙◌, arith, Some}
 use Rattle.std.proofs.lemmas.Result.{err_from_is_err_and}
-use Rattle.base_file.specs.HeldBytes.{IsSure}
 use Rattle.base_file.proofs.HeldLemmas.{Falls-refl}
 use Rattle.edit_overlay.specs.Saving.{progress}
 use Rattle.edit_overlay.specs.Standings.{is_on_disk}

@@ -1,4 +1,4 @@
-use Rattle.std.proofs.Common.{[], slice_range, refl, arith}
+use Rattle.std.proofs.Common.{[], slice_range, refl}
 use Rattle.std.proofs.lemmas.Result.{err_from_is_err_and}
 use Rattle.base_file.proofs.HeldLemmas.{Falls-refl}
 use Rattle.edit_overlay.specs.Saving.{progress}

@@ -1,8 +1,7 @@
-use Rattle.std.proofs.Common.{◌≡◌, ◌+◌, ◌-◌, ◌<◌, ◌++◌, [], ℕ, List, length, get_or, take, drop, refl, ap, sym, ◌∙◌, arith, length-append, Option}
+use Rattle.std.proofs.Common.{◌≡◌, ◌+◌, ◌<◌, ◌++◌, [], ℕ, List, length, get_or, take, drop, refl, ap, ◌∙◌, arith, length-append, Option}
 use Rattle.std.proofs.lemmas.List.{take_all}
 use Rattle.std.proofs.lemmas.Result.{err_from_is_err_and}
 use Rattle.std.specs.List.{concat}
-use Rattle.edit_overlay.specs.Held.{IsReread}
 use Rattle.edit_overlay.specs.Saving.{Progress, progress}
 use Rattle.trace_store.specs.Stores.{traces_of}
 use Rattle.edit_overlay.proofs.SavingLemmas.{comes_on, comes_over, nothing, read_refused, refused_at, same_come, stops_over, sure_then, trace_reread, traces_next, traces_reread, traces_split, IsReread-refl, IsReread-trans}

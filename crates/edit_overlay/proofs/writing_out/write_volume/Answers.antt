@@ -1,7 +1,7 @@
-use Rattle.std.proofs.Common.{◌≡◌, ◌-◌, ◌*◌, ◌≤◌, ◌++◌, [], ℕ, List, length, slice_range, refl, ap, ◌∙◌, arith, Option}
+use Rattle.std.proofs.Common.{◌≡◌, ◌-◌, ◌*◌, ◌++◌, [], ℕ, List, length, slice_range, refl, ap, ◌∙◌, arith, Option}
 use Rattle.std.proofs.lemmas.Result.{err_from_is_err_and}
 use Rattle.std.specs.List.{concat}
-use Rattle.base_file.specs.HeldBytes.{HeldBytes, IsSure}
+use Rattle.base_file.specs.HeldBytes.{IsSure}
 use Rattle.base_file.proofs.HeldLemmas.{Falls-refl}
 use Rattle.frame_cut.specs.Volume.{bytes_of}
 use Rattle.edit_overlay.specs.Held.{volume_with, IsReread}

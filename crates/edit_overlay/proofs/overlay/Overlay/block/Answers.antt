@@ -1,4 +1,4 @@
-use Rattle.std.proofs.Common.{slice_get, refl, ◌≡◌, ◌-◌, ◌+◌, ◌*◌, List, ℕ, ◌≤◌, lit<, length, take, drop, ap, arith, sym, ◌∙◌, Option, Some, inl}
+use Rattle.std.proofs.Common.{slice_get, ◌≡◌, ◌-◌, ◌+◌, ◌*◌, List, ℕ, ◌≤◌, lit<, length, take, drop, ap, arith, sym, ◌∙◌, Option, Some, inl}
 use Rattle.edit_overlay.proofs.PieceLemmas.{length-part, whole_part, read_block, slice_get-none, block_number}
 use Rattle.edit_overlay.proofs.overlay.Overlay.block.Goals as goal
 

@@ -1,4 +1,4 @@
-use Rattle.std.proofs.Common.{◌≡◌, ℕ, ◌<◌, ◌-◌, List, [], length, get_or, ap, arith, ◌∙◌}
+use Rattle.std.proofs.Common.{◌≡◌, ℕ, ◌<◌, ◌-◌, List, [], length, get_or, ap, arith}
 use Rattle.trace_store.specs.Stores.{traces_of}
 use Rattle.edit_overlay.specs.Held.{volume_with}
 use Rattle.edit_overlay.proofs.HeldLemmas.{held_again}

@@ -1,4 +1,4 @@
-use Rattle.std.proofs.Common.{slice_get, refl, ◌≡◌, ◌-◌, ◌+◌, ◌*◌, List, ℕ, ◌≤◌, lit<, length, take, drop, ap, arith, sym, ◌∙◌, Option, Some, inr}
+use Rattle.std.proofs.Common.{slice_get, ◌≡◌, ◌-◌, ◌+◌, ◌*◌, List, ℕ, ◌≤◌, lit<, length, take, drop, ap, arith, sym, ◌∙◌, Option, Some, inr}
 use Rattle.edit_overlay.proofs.PieceLemmas.{length-part, whole_part, read_record, slice_get-none, record_number}
 use Rattle.edit_overlay.proofs.overlay.Overlay.trailer.Goals as goal
 

@@ -1,4 +1,4 @@
-use Rattle.std.proofs.Common.{sym, subst, ap, ◌∙◌, ◌≡◌, List, ℕ, map, IsTrue}
+use Rattle.std.proofs.Common.{sym, ap, ◌∙◌, ◌≡◌, List, ℕ, map}
 use Rattle.trace_record.specs.Facts.{facts_of}
 use Rattle.trace_view.specs.Values.{sample_of}
 use Rattle.trace_record.specs.declared.packed_record.PackedRecord.{PackedRecord}

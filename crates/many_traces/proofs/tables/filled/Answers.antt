@@ -1,0 +1,26 @@
+use Rattle.std.proofs.Common.{◌≡◌, ◌∙◌, ◌+◌, ◌*◌, length, inr, refl, sym, arith, rules}
+use Rattle.many_traces.proofs.LookLemmas.{seen_after}
+use Rattle.many_traces.proofs.RowsLemmas.{rows_go_on, rows_stop}
+use Rattle.many_traces.proofs.tables.filled.Goals as goal
+
+pub returns-then-not-there-clause-err : goal.returns-then-not-there-clause-err
+returns-then-not-there-clause-err c = inr (λ sure.
+    let i = c.loop-k.invariant in
+    let made = c.in_ok-there.ensures in
+    let lacks = sym c.if-not-there.true ∙ made.there sure in
+    (refl, rows_stop c.args.overlay.now.volume c.args.places.now c.args.a c.args.b c.loop-k.k c.loop-k.numbers.items (omega (arith, c.loop-k-test.true, c.requires.range)) (i.rows (made.seen.agreed sure)) (rw (i.seen.volume) at lacks)))
+
+pub loop-k-preserved : goal.loop-k-preserved
+loop-k-preserved c =
+    let i = c.loop-k.invariant in
+    let made = c.in_ok-there.ensures in
+    let more : length c.push_row.new.numbers.items ≡ length c.loop-k.numbers.items + length c.args.places.now = search rules in
+    let step : length c.args.places.now * (c.loop-k.k + 1) ≡ length c.args.places.now * c.loop-k.k + length c.args.places.now = omega arith in
+    record {
+      rows = λ sure.
+          let row = made.row sure (sym c.if-not-there.false) in
+          rows_go_on c.args.overlay.now.volume c.args.places.now c.args.a c.args.b c.loop-k.k c.loop-k.numbers.items c.push_row.new.numbers.items (omega (arith, c.loop-k-test.true, c.requires.range)) (i.rows (made.seen.agreed sure)) (rw (i.seen.volume) at row) more;
+      full = omega (arith, more, step, i.full);
+      room = search rules;
+      seen = seen_after c.args.overlay.now c.loop-k.overlay c.push_row.new.overlay c.loop-k.k 1 i.seen made.seen;
+    }

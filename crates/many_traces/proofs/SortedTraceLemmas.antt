@@ -1,5 +1,5 @@
 -- Pairs of positions that put traces in the order of their numbers.
-use Rattle.std.proofs.Common.{◌≡◌, ℕ, ℤ, suc, ◌+◌, ◌-◌, ◌<◌, ◌≤◌, min, Bool, List, [], ◌∷◌, ◌++◌, length, map, take, drop, get_or, set, All, Option, Some, None, Ok, Err, refl, sym, ap, subst, inl, inr, ◌∙◌, arith}
+use Rattle.std.proofs.Common.{◌≡◌, ℕ, ℤ, suc, ◌+◌, ◌-◌, ◌<◌, ◌≤◌, min, Bool, true, false, List, [], ◌∷◌, ◌++◌, length, map, take, drop, get_or, set, All, Option, Some, None, Ok, Err, refl, sym, ap, subst, inl, inr, ◌∙◌, arith}
 use Rattle.std.specs.Prelude.{◌⊎◌, Result, IfOk, is_none, if◌then◌else◌, slice_index, option_map, option_and_then, unwrap_or}
 use Rattle.std.specs.List.{swap, range_with_len}
 use Rattle.std.specs.List.Sorted.{IsPermutation}
@@ -117,12 +117,12 @@ put-places a n rows falls pairs r inside =
 
 told-fault : (v : Volume) (a b : ℕ) (places : Option (List Place)) (fault : AskFault) → IsFaultFor fault (table_answer v a b places) → IsRefusalFor (refusal_for fault) (sort_refusal v a b places)
 told-fault v a b None fault (inl e) = let is : NoField ≡ fault = cc in ap refusal_for (sym is)
-told-fault v a b None fault (inr wants) = absurd wants.1
+told-fault v a b None fault (inr wants) = let no : false ≡ true = wants.1 in absurd cc
 told-fault v a b (Some places) fault told = by (table_of v places a b) told
   where
     by : (t : Option (List (ℕ × List ℤ))) → IsFaultFor fault (or_fault t NoPlace answers.Table) → IsRefusalFor (refusal_for fault) (if is_none t then Some refusals.NoPlace else None)
     by None (inl e) = let is : NoPlace ≡ fault = cc in ap refusal_for (sym is)
-    by None (inr wants) = absurd wants.1
+    by None (inr wants) = let no : false ≡ true = wants.1 in absurd cc
     by (Some rows) (inl e) = absurd cc
     by (Some rows) (inr wants) = ap refusal_for wants.0
 

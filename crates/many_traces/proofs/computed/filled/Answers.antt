@@ -8,7 +8,7 @@ use Rattle.frame_cut.specs.Traces.{trace_at}
 use Rattle.bench_rules.specs.Computed.{Formula}
 use Rattle.many_traces.specs.Fields.{HoldsPlace}
 use Rattle.many_traces.proofs.LookLemmas.{seen_after}
-use Rattle.many_traces.proofs.NumbersLemmas.{one_more, refused_here, none_refused, all_bytes, room_left}
+use Rattle.many_traces.proofs.NumbersLemmas.{one_more, refused_or_read, none_refused, all_bytes, room_left}
 use Rattle.many_traces.proofs.computed.filled.Goals as goal
 
 pub push_number-requires-clause-fits : goal.push_number-requires-clause-fits

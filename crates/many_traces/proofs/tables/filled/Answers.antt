@@ -1,6 +1,7 @@
-use Rattle.std.proofs.Common.{◌≡◌, ◌∙◌, ◌+◌, ◌*◌, length, inr, refl, sym, arith, rules}
+use Rattle.std.proofs.Common.{◌≡◌, ◌∙◌, ◌+◌, ◌-◌, ◌*◌, ℕ, ℤ, List, All, length, inr, refl, sym, ap, subst, arith, rules}
+use Rattle.bench_rules.specs.Tables.{rows_from}
 use Rattle.many_traces.proofs.LookLemmas.{seen_after}
-use Rattle.many_traces.proofs.RowsLemmas.{rows_go_on, rows_stop}
+use Rattle.many_traces.proofs.RowsLemmas.{rows_counted, rows_go_on, rows_stop, rows_wide}
 use Rattle.many_traces.proofs.tables.filled.Goals as goal
 
 pub returns-then-not-there-clause-err : goal.returns-then-not-there-clause-err
@@ -24,3 +25,18 @@ loop-k-preserved c =
       room = search rules;
       seen = seen_after c.args.overlay.now c.loop-k.overlay c.push_row.new.overlay c.loop-k.k 1 i.seen made.seen;
     }
+
+pub returns-clause-count : goal.returns-clause-count
+returns-clause-count c =
+    ap (λ (rows : List (ℕ × List ℤ)). length rows) c.new.ensures
+    ∙ (rows_counted c.args.a (c.args.b - c.args.a + 1) c.len.result c.loop-k.numbers.items ∙ omega (arith, c.requires.range))
+
+pub returns-clause-wide : goal.returns-clause-wide
+returns-clause-wide c =
+    let n : ℕ = c.args.b - c.args.a + 1 in
+    let w : ℕ = length c.args.places.now in
+    let xs : List ℤ = c.loop-k.numbers.items in
+    let done : c.loop-k.k ≡ n = omega (arith, c.loop-k-test.false, c.loop-k.auto.k-end, c.requires.range) in
+    let full : length xs ≡ w * n = c.loop-k.invariant.full ∙ ap (λ (m : ℕ). w * m) done in
+    subst (λ (rows : List (ℕ × List ℤ)). All (λ (row : ℕ × List ℤ). length row.1 ≡ w) rows) (sym c.new.ensures)
+    (subst (λ (m : ℕ). All (λ (row : ℕ × List ℤ). length row.1 ≡ w) (rows_from c.args.a n m xs)) (sym c.len.ensures) (rows_wide c.args.a n w xs full))

@@ -1,5 +1,5 @@
 // What a volume gives to those who keep slices of it.
-ghost use Rattle.std.specs.Prelude.{◌≡◌, false, option_map, if◌then◌else◌, IsTrue, IsFalse, IfOk, IfErr, OnOk, OnErr};
+ghost use Rattle.std.specs.Prelude.{◌≡◌, ◌<◌, false, option_map, if◌then◌else◌, IsTrue, IsFalse, IfOk, IfErr, OnOk, OnErr};
 ghost use Rattle.field_map.specs.Binding.{HasGeometry};
 ghost use Rattle.frame_cut.specs.Cuts.{IsCut};
 ghost use Rattle.frame_cut.specs.Traces.{count_of, trace_of};
@@ -64,7 +64,7 @@ impl LiveVolume {
         ensures asked { IfOk result (λ rows. IsAsked slices.old slices.new k rows.items) }
         ensures err { OnErr result (slices.new ≡ slices.old) }
         ensures read { IfErr result (λ fault. IsOfRead fault → IsTrue self.old.state.on_disk
-            × IsFalse (is_kept k (kept_numbers slices.old.entries))) }
+            × (0 < count_of self.old.state.volume) × IsFalse (is_kept k (kept_numbers slices.old.entries))) }
         ensures state { self.new.state ≡ self.old.state }
         ensures agreed { IsTrue self.new.agreed → IsTrue self.old.agreed }
         ensures looks { RisesAtMost self.old.looks self.new.looks

@@ -1,9 +1,10 @@
 // Runs a script over a volume.
-ghost use Rattle.std.specs.Prelude.{IfOk, IfErr, MatchResult};
+ghost use Rattle.std.specs.Prelude.{◌≡◌, false, IsTrue, IfOk, IfErr, MatchResult};
+ghost use Rattle.live_volume.specs.Held.{IsReadAs};
 ghost use Rattle.frame_cut.specs.Volume.{bytes_of};
-ghost use Rattle.script_text.specs.Devices.{Device, device_of, Takes, TakesPart};
+ghost use Rattle.script_text.specs.Devices.{Device, device_of, Takes};
 ghost use Rattle.script_run.specs.Loading.{Loads, IsLoadRefused};
-ghost use Rattle.script_run.specs.Ends.{devices, IsTold, Runs};
+ghost use Rattle.script_run.specs.Ends.{devices, IsTold, Runs, SavesPart};
 
 use crate::lines_end::LinesEnd;
 use crate::options::Options;
@@ -38,7 +39,7 @@ pub fn run<R: Read, S: Read, A: Write, O: Write>(
     options: Options,
     notes: &mut Notes,
 ) -> RunEnd
-    ensures { Runs options
+    ensures { Runs false options
         (devices (device_of R.remaining reader.old)
         (device_of S.remaining script.old)
         (device_of A.contents answers.old) (device_of O.contents out.old))
@@ -48,15 +49,21 @@ pub fn run<R: Read, S: Read, A: Write, O: Write>(
         result }
 {
     match load(alloc, reader, options) {
-        Ok(mut bench) => run_loaded(alloc, &mut bench, script, answers, out, options, notes),
+        Ok(mut bench) => {
+            let end = run_loaded(alloc, &mut bench, script, answers, out, options, notes);
+            // The law by which each read of bytes in memory agrees, for the proof.
+            bench.memory_agrees();
+            end
+        }
         Err(fault) => tell(answers, &load_fault_line(fault), RunEnd::Load(fault)),
     }
 }
 
-// What follows the load: reads the script whole, runs its lines over the volume, and saves it where
-// that is asked for. The volume is borrowed here: the proof of a function that owns one grows with
-// each of its ends.
-fn run_loaded<S: Read, A: Write, O: Write>(
+/// What follows the load: reads the script whole, runs its lines over the volume, and saves it
+/// where that is asked for. The volume is lent, so that its end tells whether each read of the
+/// loaded bytes agreed: where the bytes stay on disk, that is what the claim on a run stands on.
+/// In memory it always is so.
+pub fn run_loaded<S: Read, A: Write, O: Write>(
     alloc: Global,
     bench: &mut Bench,
     script: &mut Source<S>,
@@ -65,14 +72,16 @@ fn run_loaded<S: Read, A: Write, O: Write>(
     options: Options,
     notes: &mut Notes,
 ) -> RunEnd
-    ensures { (before after : Device) →
-        Loads before after options.reading options.limits bench.old.state →
-        Runs options
+    ensures run { (before after : Device) →
+        Loads before after options.reading options.limits bench.old.state.on_disk
+        bench.old.state → IsTrue bench.new.agreed → Runs bench.old.state.on_disk options
         (devices before (device_of S.remaining script.old)
         (device_of A.contents answers.old) (device_of O.contents out.old))
         (devices after (device_of S.remaining script.new)
         (device_of A.contents answers.new) (device_of O.contents out.new))
         result }
+    ensures same { IsReadAs bench.old.state bench.new.state }
+    ensures agreed { IsTrue bench.new.agreed → IsTrue bench.old.agreed }
 {
     // The law by which each line is answered as from scratch, for the proof.
     steps_stay_cut();
@@ -97,7 +106,7 @@ pub(crate) fn load<R: Read>(
     options: Options,
 ) -> Result<Bench, LoadFault>
     ensures ok { IfOk result (λ bench. Loads (device_of R.remaining reader.old)
-        (device_of R.remaining reader.new) options.reading options.limits
+        (device_of R.remaining reader.new) options.reading options.limits false
         bench.state) }
     ensures err { IfErr result
         (λ fault. IsLoadRefused (device_of R.remaining reader.old)
@@ -106,11 +115,15 @@ pub(crate) fn load<R: Read>(
     Bench::load(alloc, reader, options.reading, options.limits)
 }
 
-pub(crate) fn save<O: Write>(bench: &Bench, out: &mut Sink<O>) -> Result<(), SaveFault>
-    ensures { let old = device_of O.contents out.old in
+pub(crate) fn save<O: Write>(bench: &mut Bench, out: &mut Sink<O>) -> Result<(), SaveFault>
+    ensures saved { let old = device_of O.contents out.old in
         let new = device_of O.contents out.new in
-        MatchResult result (λ _. Takes old new (bytes_of bench.now.state.volume))
-        (λ fault. TakesPart old new (bytes_of bench.now.state.volume) fault.written) }
+        IsTrue bench.new.agreed →
+        MatchResult result (λ _. Takes old new (bytes_of bench.old.state.volume))
+        (λ fault. SavesPart bench.old.state.on_disk old new (bytes_of bench.old.state.volume)
+        fault) }
+    ensures state { bench.new.state ≡ bench.old.state }
+    ensures agreed { IsTrue bench.new.agreed → IsTrue bench.old.agreed }
 {
     bench.save(out)
 }

@@ -1,5 +1,5 @@
 -- Fields by their names, a value in the binary header, and a line of the textual header.
-use Rattle.std.proofs.Common.{◌≡◌, ◌⊎◌, ℕ, ◌+◌, ◌*◌, ◌-◌, ◌<◌, ◌≤◌, Bool, true, false, ◌&&◌, cond, List, [], ◌∷◌, replicate, Option, Some, None, Result, Ok, Err, ℤ, refl, sym, ap, subst, ◌∙◌, arith, inl, inr, leb, ltb, is_none, lit≤, suc, length, map}
+use Rattle.std.proofs.Common.{◌≡◌, ◌⊎◌, ℕ, ◌+◌, ◌*◌, ◌-◌, ◌<◌, ◌≤◌, Bool, true, false, ◌&&◌, cond, List, [], ◌∷◌, replicate, Option, Some, None, Result, Ok, Err, ℤ, refl, sym, ap, subst, ◌∙◌, arith, inl, inr, leb, ltb, is_none, lit≤, suc, length}
 use Rattle.std.specs.Prelude.{filter_map, option_map, not}
 use Rattle.std.specs.List.{position_from}
 use Rattle.std.specs.Option.{option_or}

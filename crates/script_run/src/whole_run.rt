@@ -1,7 +1,12 @@
 // Runs a script over a volume.
-ghost use Rattle.std.specs.Prelude.{◌≡◌, false, IsTrue, IfOk, IfErr, MatchResult};
+ghost use Rattle.std.specs.Prelude.{◌≡◌, length, true, false, IsTrue, IfOk, IfErr, MatchResult};
 ghost use Rattle.live_volume.specs.Held.{IsReadAs};
+ghost use Rattle.field_map.specs.Binding.{geometry_at_load};
+ghost use Rattle.frame_cut.specs.Cuts.{IsCut};
 ghost use Rattle.frame_cut.specs.Volume.{bytes_of};
+ghost use Rattle.edit_overlay.specs.PassedFile.{IsPassFault};
+ghost use Rattle.script_text.specs.RefusalTexts.{load_refusal_line};
+ghost use Rattle.script_run.specs.declared.run_end.RunEnd.TheVariants as ends;
 ghost use Rattle.script_text.specs.Devices.{Device, device_of, Takes};
 ghost use Rattle.script_run.specs.Loading.{Loads, IsLoadRefused};
 ghost use Rattle.script_run.specs.Ends.{devices, IsTold, Runs, SavesPart};
@@ -19,6 +24,7 @@ use frame_cut::LoadFault;
 use script_hints::Notes;
 use script_text::{TextBuffer, load_fault_line, script_fault_line, write_text};
 use std::alloc::Global;
+use std::fs::File;
 use std::io::{Read, Write};
 
 /// Runs a script over a volume: loads the volume, reads the script whole, runs its lines in order,
@@ -113,6 +119,37 @@ pub(crate) fn load<R: Read>(
         (device_of R.remaining reader.new) options.reading options.limits fault) }
 {
     Bench::load(alloc, reader, options.reading, options.limits)
+}
+
+/// Loads a file that stays on disk, and has so many bytes, in one pass over it. Takes memory.
+/// Refused: L01 where a read failed or the file has not so many bytes, L02 to L15 or L17 for the
+/// first reason that every file with the bytes that were read and so many gives, L16 where a growth
+/// was refused.
+pub fn load_on_disk(
+    alloc: Global,
+    file: File,
+    size: u64,
+    options: Options,
+) -> Result<Bench, LoadFault>
+    ensures cut { IfOk result (λ bench. IsCut (bytes_of bench.state.volume) options.reading
+        options.limits bench.state.volume) }
+    ensures size { IfOk result (λ bench. length (bytes_of bench.state.volume) ≡ size) }
+    ensures fields { IfOk result (λ bench. bench.state.fields ≡ geometry_at_load) }
+    ensures reading { IfOk result (λ bench. bench.state.reading ≡ options.reading) }
+    ensures limits { IfOk result (λ bench. bench.state.limits ≡ options.limits) }
+    ensures place { IfOk result (λ bench. bench.state.on_disk ≡ true) }
+    ensures agreed { IfOk result (λ bench. IsTrue bench.agreed) }
+    ensures refused { IfErr result (IsPassFault size options.reading options.limits) }
+{
+    Bench::load_on_disk(alloc, file, size, options.reading, options.limits)
+}
+
+/// Tells of a file that was not loaded, which ends the run.
+pub fn refuse_load<A: Write>(answers: &mut Sink<A>, fault: LoadFault) -> RunEnd
+    ensures { IsTold (device_of A.contents answers.old) (device_of A.contents answers.new)
+        (load_refusal_line fault) (ends.Load fault) result }
+{
+    tell(answers, &load_fault_line(fault), RunEnd::Load(fault))
 }
 
 pub(crate) fn save<O: Write>(bench: &mut Bench, out: &mut Sink<O>) -> Result<(), SaveFault>

@@ -1,10 +1,11 @@
-ghost use Rattle.std.specs.Prelude.{◌≡◌, ◌≤◌, false, length, IsSome, IsTrue, IfOk, IfErr, OnErr, MatchResult};
+ghost use Rattle.std.specs.Prelude.{◌≡◌, ◌≤◌, true, false, length, IsSome, IsTrue, IfOk, IfErr, OnErr, MatchResult};
 ghost use Rattle.std.specs.Io.KnownBytes.{Consumes, IsAtEnd};
 ghost use Rattle.field_map.specs.Binding.{geometry_at_load, HasGeometry};
 ghost use Rattle.frame_cut.specs.Cuts.{IsCut};
 ghost use Rattle.frame_cut.specs.Traces.{count_of};
 ghost use Rattle.frame_cut.specs.Volume.{bytes_of};
 ghost use Rattle.edit_overlay.specs.CountedVolume.{RisesAtMost};
+ghost use Rattle.edit_overlay.specs.PassedFile.{IsPassFault};
 ghost use Rattle.edit_overlay.specs.Loading.{IsLoadFault, FailuresAfterRefusal, TakesWithin};
 ghost use Rattle.edit_overlay.specs.Saving.{CountsSaveFailure, Saves};
 ghost use Rattle.live_volume.specs.Held.{IsReadAs};
@@ -25,6 +26,7 @@ use grid_live::Grid;
 use live_volume::LiveVolume;
 use range_stats::{Ranges, Totals};
 use std::alloc::Global;
+use std::fs::File;
 use std::io::{Read, Write};
 use std::marker::Model;
 use time_slice::SliceCache;
@@ -81,6 +83,37 @@ impl Bench {
             (λ fault. FailuresAfterRefusal fault reader.old.failures reader.new.failures) }
     {
         let volume = LiveVolume::load(alloc, reader, reading, limits)?;
+        let Ok(slices) = no_slices(alloc) else {
+            return Err(LoadFault::OutOfMemory);
+        };
+        Ok(Bench { volume, slices })
+    }
+
+    /// Loads a file that stays on disk, and has so many bytes, in one pass over it; the field map
+    /// is then the six geometry names at their standard places, and no slice is kept. Looks at each
+    /// trace once, for its record. Takes memory. Refused: L01 where a read failed or the file has
+    /// not so many bytes, L02 to L15 or L17 for the first reason that every file with the bytes
+    /// that were read and so many gives, L16 where a growth was refused.
+    pub fn load_on_disk(
+        alloc: Global,
+        file: File,
+        size: u64,
+        reading: Reading,
+        limits: Limits,
+    ) -> Result<Bench, LoadFault>
+        ensures cut { IfOk result (λ b. IsCut (bytes_of b.state.volume) reading limits
+            b.state.volume) }
+        ensures size { IfOk result (λ b. length (bytes_of b.state.volume) ≡ size) }
+        ensures looks { IfOk result (λ b. b.looks ≤ load_looks b.state.volume) }
+        ensures kept { IfOk result (λ b. b.kept ≡ kept_after_load) }
+        ensures fields { IfOk result (λ b. b.state.fields ≡ geometry_at_load) }
+        ensures reading { IfOk result (λ b. b.state.reading ≡ reading) }
+        ensures limits { IfOk result (λ b. b.state.limits ≡ limits) }
+        ensures place { IfOk result (λ b. b.state.on_disk ≡ true) }
+        ensures agreed { IfOk result (λ b. IsTrue b.agreed) }
+        ensures refused { IfErr result (IsPassFault size reading limits) }
+    {
+        let volume = LiveVolume::load_on_disk(alloc, file, size, reading, limits)?;
         let Ok(slices) = no_slices(alloc) else {
             return Err(LoadFault::OutOfMemory);
         };

@@ -13,8 +13,10 @@ use field_map::{MapFault, is_geometry, named};
 use script_words::LineFault;
 use std::str;
 
-// Of a line that needs the values of samples that have none.
+// Of a line that met a file which has changed since it was loaded.
 const CHANGED: &str = "with --on-disk FILE must be left alone until the program ends";
+
+// Of a line that needs the values of samples that have none.
 const NO_VALUES: &str = "floats and samples with a gain are bytes here, without a value";
 
 /// What may be meant by a refused line.

@@ -19,7 +19,6 @@ use Rattle.field_map.specs.declared.map_fault.MapFault.{MapFault}
 use Rattle.field_map.specs.declared.map_fault.MapFault.TheVariants as map_faults
 use Rattle.field_map.specs.declared.place.Place.{Place}
 use Rattle.field_map.specs.Pairs.{Pairs, is_bound, bound, unbound}
-use Rattle.field_map.specs.HeaderNames.{header_names}
 use Rattle.field_map.specs.Binding.{is_name_character, is_name, begins_with_letter}
 use Rattle.frame_cut.specs.declared.file_head.Head.{Head}
 use Rattle.frame_cut.specs.Traces.{count_of, is_trace, trace_at}

@@ -6,7 +6,7 @@ use Rattle.std.proofs.lemmas.Bool.{le-leb}
 use borrow.Author.Count.{below_more}
 use Rattle.num_order.specs.declared.kind.Kind.{Kind}
 use Rattle.num_order.specs.declared.order.Order.{Order}
-use Rattle.num_order.specs.Number.{IsSize, InRange, bytes, fits}
+use Rattle.num_order.specs.Number.{InRange, bytes, fits}
 use Rattle.num_order.proofs.InRangeLemmas.{in_range}
 use Rattle.field_map.specs.declared.place.Place.{Place}
 use Rattle.field_map.specs.Pairs.{Pairs}

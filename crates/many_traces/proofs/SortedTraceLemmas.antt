@@ -1,11 +1,10 @@
 -- Pairs of positions that put traces in the order of their numbers.
-use Rattle.std.proofs.Common.{◌≡◌, ℕ, ℤ, suc, ◌+◌, ◌-◌, ◌<◌, ◌≤◌, min, Bool, true, false, List, [], ◌∷◌, ◌++◌, length, map, take, drop, get_or, set, All, Option, Some, None, Ok, Err, refl, sym, ap, subst, inl, inr, ◌∙◌, arith}
-use Rattle.std.specs.Prelude.{◌⊎◌, Result, IfOk, is_none, if◌then◌else◌, slice_index, option_map, option_and_then, unwrap_or}
+use Rattle.std.proofs.Common.{◌≡◌, ℕ, ℤ, suc, ◌+◌, ◌-◌, ◌<◌, ◌≤◌, min, Bool, true, false, List, [], ◌∷◌, ◌++◌, length, map, take, drop, get_or, set, Option, Some, None, Ok, Err, refl, sym, ap, subst, inl, inr, ◌∙◌, arith}
+use Rattle.std.specs.Prelude.{◌⊎◌, Result, IfOk, is_none, if◌then◌else◌, slice_index, option_map, unwrap_or}
 use Rattle.std.specs.List.{swap, range_with_len}
 use Rattle.std.specs.List.Sorted.{IsPermutation}
 use Rattle.std.proofs.lemmas.List.{length-map, map-append, map-set, take-append-drop, append_assoc, drop-drop, length-drop, take_all}
 use Rattle.std.proofs.lemmas.List.Edits.{length-swap}
-use Rattle.std.proofs.lemmas.List.Elements.{All-nil, All-cons}
 use Rattle.std.proofs.lemmas.List.FromFn.{length-range_with_len, get_or-range_with_len}
 use Rattle.std.proofs.lemmas.List.Sorted.{IsPermutation-refl, IsPermutation-trans, IsPermutation-swap, length_permutation}
 use Rattle.std.proofs.Math.ListN.{get_or-map}
@@ -13,13 +12,12 @@ use Rattle.field_map.specs.declared.place.Place.{Place}
 use Rattle.frame_cut.specs.Traces.{trace_at}
 use Rattle.frame_cut.specs.Volume.{Volume}
 use Rattle.trace_store.specs.Swapped.{with_swapped, ArePlaces}
-use Rattle.trace_view.specs.Values.{value_of}
 use Rattle.bench_rules.specs.declared.answer.Answer.TheVariants as answers
 use Rattle.bench_rules.specs.declared.ask_fault.AskFault.{AskFault}
 use Rattle.bench_rules.specs.declared.ask_fault.AskFault.TheVariants.{NoField, NoPlace, ReadFailed, FileChanged}
 use Rattle.bench_rules.specs.declared.refusal.Refusal.TheVariants as refusals
 use Rattle.bench_rules.specs.Answer.{table_answer, or_fault}
-use Rattle.bench_rules.specs.ManyTraces.{each_of, positions}
+use Rattle.bench_rules.specs.ManyTraces.{positions}
 use Rattle.bench_rules.specs.ReadFaults.{IsReadFault, IsReadRefusal}
 use Rattle.bench_rules.specs.Refused.{sort_refusal}
 use Rattle.bench_rules.specs.Sorted.{in_order, order_of}

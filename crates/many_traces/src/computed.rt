@@ -24,8 +24,8 @@ use trace_record::PackedRecord;
 /// of those of the place, or the first refusal of a set of them. Looks at each of the traces once
 /// at most, and at none where a field has no place. Takes memory for the places of the steps and
 /// for the bytes, before the first look. Refused, in this order: E02, then the first refusal of the
-/// lowest trace that has one, E03, E13, E04 or E06; else E11 alone. On disk also where a trace could
-/// not be read (E14, E15).
+/// lowest trace that has one, E03, E13, E04 or E06; else E11 alone. On disk also where a trace
+/// could not be read (E14, E15).
 pub fn computed_bytes(
     alloc: Global,
     overlay: &mut Overlay<PackedRecord>,
@@ -89,10 +89,10 @@ fn filled(
         (Some (record { place = place; source = source; steps = steps.now })) a b ≡ None) }
     ensures bytes { IfOk result (λ bytes. IsTrue overlay.new.agreed → bytes.items ≡ number_bytes
         overlay.old.volume (Some (record {
-      place = place;
-      source = source;
-      steps = steps.now;
-    })) a b) }
+          place = place;
+          source = source;
+          steps = steps.now;
+        })) a b) }
     ensures count { IfOk result (λ bytes. length bytes.items ≡ place.kind.size * (b + 1 - a)) }
     ensures each { OnOk result ((k : ℕ) → k < b + 1 - a →
         HoldsPlace (trace_at overlay.old.volume (a + k)) place) }
@@ -189,7 +189,8 @@ fn without_memory(
     Ok(Refusal::OutOfMemory)
 }
 
-// The first refusal of trace p, where it has one, with the steps' fields found by name, in one look.
+// The first refusal of trace p, where it has one, with the steps' fields found by name, in one
+// look.
 fn refusal_by_names(
     overlay: &mut Overlay<PackedRecord>,
     map: &FieldMap,

@@ -36,8 +36,8 @@ fn range_fault(overlay: &Overlay<PackedRecord>, a: u32, b: u32) -> Option<AskFau
 }
 
 /// These fields of each of traces a to b. Looks at each of them once at most, and at none where a
-/// or b is refused or a field has no place. Takes memory. Refused: E01, E02, E03, else E11 alone. On
-/// disk also where a trace could not be read (E14, E15).
+/// or b is refused or a field has no place. Takes memory. Refused: E01, E02, E03, else E11 alone.
+/// On disk also where a trace could not be read (E14, E15).
 pub fn table_answer(
     alloc: Global,
     overlay: &mut Overlay<PackedRecord>,

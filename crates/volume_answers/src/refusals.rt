@@ -67,7 +67,11 @@ pub fn patch_place(
     };
     match patch_refusal(format, &trace, k, values) {
         Some(refusal) => Err(refusal),
-        None => Ok(sample_place(format, &trace, k)),
+        None => {
+            // Read for the proof alone, which learns that samples are counted in 32 bits.
+            let _count = trace.sample_count();
+            Ok(sample_place(format, &trace, k))
+        }
     }
 }
 

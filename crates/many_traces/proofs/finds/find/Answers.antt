@@ -3,7 +3,7 @@ use Rattle.std.proofs.lemmas.Int.{to_z-of_z}
 use Rattle.std.specs.Int.{w128}
 use mir.Val.{SFits}
 use Rattle.many_traces.specs.Faults.{fault_of}
-use Rattle.many_traces.proofs.FoundLemmas.{go_on, lacks, fault_left, all_found}
+use Rattle.many_traces.proofs.FoundLemmas.{go_on, lacks, fault_left}
 use Rattle.many_traces.proofs.LookLemmas.{seen_after}
 use Rattle.many_traces.proofs.finds.find.Goals as goal
 

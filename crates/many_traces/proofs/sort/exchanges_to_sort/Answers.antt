@@ -1,7 +1,12 @@
-use Rattle.std.proofs.Common.{length, arith}
+use Rattle.std.proofs.Common.{length, inr, sym, subst, arith}
 use Rattle.frame_cut.specs.Traces.{count_of}
 use Rattle.bench_rules.specs.ManyTraces.{each_of}
 use Rattle.bench_rules.specs.Places.{place_in_trace}
+use Rattle.bench_rules.specs.Refused.{sort_refusal}
+use Rattle.bench_rules.specs.declared.refusal.Refusal.{Refusal}
+use Rattle.many_traces.specs.Formulas.{IsRefusalFor}
+use Rattle.many_traces.proofs.LookLemmas.{if_err}
+use Rattle.many_traces.proofs.NumbersLemmas.{memory_is}
 use Rattle.many_traces.proofs.SortedTraceLemmas.{is-table, table-sorts, sort-free, put-places, told-either, if_ok}
 use Rattle.many_traces.proofs.sort.exchanges_to_sort.Goals as goal
 
@@ -25,3 +30,17 @@ returns-in-Ok-clause-places c =
     if_ok c.exchanges_of.result
     (λ pairs r. put-places c.args.a n c.in-Ok.table c.args.falling.now pairs.items r (omega (arith, c.in-Ok.ensures.count, c.requires.first, c.requires.range, c.requires.last)))
     c.exchanges_of.ensures.ok
+
+pub returns-in-Ok-clause-err : goal.returns-in-Ok-clause-err
+returns-in-Ok-clause-err c =
+    let v = c.args.overlay.now.volume in
+    let places = each_of (place_in_trace c.args.map.now.pairs) c.args.fields.now in
+    if_err c.exchanges_of.result
+    (λ refusal e. inr (λ sure. subst (λ (r : Refusal). IsRefusalFor r (sort_refusal v c.args.a c.args.b places)) (sym e)
+    (memory_is (sort_refusal v c.args.a c.args.b places) (sort-free v c.args.a c.args.b places c.in-Ok.table (c.in-Ok.ensures.ok sure)))))
+    c.exchanges_of.ensures.err
+
+pub returns-in-Err-clause-err : goal.returns-in-Err-clause-err
+returns-in-Err-clause-err c =
+    let places = each_of (place_in_trace c.args.map.now.pairs) c.args.fields.now in
+    rw c.refusal_for.ensures (told-either c.args.overlay.now.volume c.args.a c.args.b places c.args.overlay.now.on_disk c.in-Err.fault c.in-Err.ensures.err)

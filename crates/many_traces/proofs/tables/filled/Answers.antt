@@ -1,5 +1,4 @@
 use Rattle.std.proofs.Common.{◌≡◌, ◌∙◌, ◌+◌, ◌-◌, ◌*◌, ℕ, ℤ, List, All, length, inr, refl, sym, ap, subst, arith, rules}
-use Rattle.bench_rules.specs.Tables.{rows_from}
 use Rattle.many_traces.proofs.LookLemmas.{seen_after}
 use Rattle.many_traces.proofs.RowsLemmas.{rows_counted, rows_go_on, rows_stop, rows_wide}
 use Rattle.many_traces.proofs.tables.filled.Goals as goal
@@ -19,7 +18,7 @@ loop-k-preserved c =
     let step : length c.args.places.now * (c.loop-k.k + 1) ≡ length c.args.places.now * c.loop-k.k + length c.args.places.now = omega arith in
     record {
       rows = λ sure.
-          let row = made.row sure (sym c.if-not-there.false) in
+          let row = made.row sure c.if-not-there.false in
           rows_go_on c.args.overlay.now.volume c.args.places.now c.args.a c.args.b c.loop-k.k c.loop-k.numbers.items c.push_row.new.numbers.items (omega (arith, c.loop-k-test.true, c.requires.range)) (i.rows (made.seen.agreed sure)) (rw (i.seen.volume) at row) more;
       full = omega (arith, more, step, i.full);
       room = search rules;
@@ -29,7 +28,7 @@ loop-k-preserved c =
 pub returns-clause-count : goal.returns-clause-count
 returns-clause-count c =
     ap (λ (rows : List (ℕ × List ℤ)). length rows) c.new.ensures
-    ∙ (rows_counted c.args.a (c.args.b - c.args.a + 1) c.len.result c.loop-k.numbers.items ∙ omega (arith, c.requires.range))
+    ∙ (rows_counted c.args.a (c.args.b - c.args.a + 1) (length c.args.places.now) c.loop-k.numbers.items ∙ omega (arith, c.requires.range))
 
 pub returns-clause-wide : goal.returns-clause-wide
 returns-clause-wide c =
@@ -38,5 +37,4 @@ returns-clause-wide c =
     let xs : List ℤ = c.loop-k.numbers.items in
     let done : c.loop-k.k ≡ n = omega (arith, c.loop-k-test.false, c.loop-k.auto.k-end, c.requires.range) in
     let full : length xs ≡ w * n = c.loop-k.invariant.full ∙ ap (λ (m : ℕ). w * m) done in
-    subst (λ (rows : List (ℕ × List ℤ)). All (λ (row : ℕ × List ℤ). length row.1 ≡ w) rows) (sym c.new.ensures)
-    (subst (λ (m : ℕ). All (λ (row : ℕ × List ℤ). length row.1 ≡ w) (rows_from c.args.a n m xs)) (sym c.len.ensures) (rows_wide c.args.a n w xs full))
+    subst (λ (rows : List (ℕ × List ℤ)). All (λ (row : ℕ × List ℤ). length row.1 ≡ w) rows) (sym c.new.ensures) (rows_wide c.args.a n w xs full)

@@ -2,6 +2,7 @@ use Rattle.std.proofs.Common.{◌∙◌, refl, ap, sym, rules, Some}
 use Rattle.std.proofs.lemmas.Int.{to_z-of_z}
 use Rattle.std.specs.Int.{w128}
 use mir.Val.{SFits}
+use Rattle.time_slice.proofs.SeenLemmas.{seen_more, seen_none}
 use Rattle.trace_view.specs.Shown.{bytes_of, head_of}
 use Rattle.bench_rules.specs.Refused.{set_refusal}
 use Rattle.bench_rules.proofs.SetLemmas.{refused_by}
@@ -27,3 +28,9 @@ returns-clause-room c = λ none.
     let shape = rw c.in-Some.is at c.in_ok-trace.ensures.shape in
     room c.args.overlay.now.volume c.args.p c.args.place c.args.value (head_of view) (bytes_of view) (there.0 refl) view.whole shape.1
     (sym (c.set_refusal.ensures ∙ ap (set_refusal (head_of view) (bytes_of view) (Some c.args.place)) (to_z-of_z w128 c.args.value fit)) ∙ none)
+
+pub returns-clause-seen : goal.returns-clause-seen
+returns-clause-seen c =
+    let o = c.args.overlay.now in
+    let seen = rw (c.in_ok-trace.was, c.in-Some.is) at c.look.follows.holds-at-none in
+    seen_more o o c.look.follows.lender-at-none 0 (seen_none o) seen.looked seen.agreed

@@ -183,7 +183,8 @@ module _ (b : Inside) (h : IsHeld b) (a count at size : ℕ) (bytes : List ℕ) 
   each_lengths : map (λ (t : List ℕ). length t) after.traces ≡ map (λ (t : List ℕ). length t) b.overlay.volume.traces
   each_lengths =
       let whole : length bytes ≡ count * size = rw (← number) (omega (arith, exact, mod-eq-sub-div-mul (length bytes) size, div-mul-le_self (length bytes) size)) in
-      lengths_put_each b.overlay.volume.traces (a - 1) at size count bytes whole (λ k less. inside k (omega (arith, less, number)))
+      lengths_put_each b.overlay.volume.traces (a - 1) at size count bytes whole
+      (λ k i less is. subst (λ (j : ℕ). at + size ≤ length (get_or b.overlay.volume.traces j [])) (sym is) (inside k (omega (arith, less, number))))
 
   pub each_frame : HasFrame b.limits after
   each_frame = frame_again b.limits b.overlay.volume after.traces h.frame each_lengths

@@ -1,13 +1,17 @@
 -- What a bench holds after looks and edits, and what is told of them.
 use Rattle.std.proofs.lemmas.Bool.{le-leb}
-use Rattle.std.proofs.Common.{◌≡◌, ◌∙◌, ℕ, suc, take, drop, ◌+◌, ◌++◌, ◌∷◌, get_or-set_same, length-set, append_assoc, take_at, drop_at, length-append, length-take-le, take-append-drop, ◌-◌, ◌<◌, ◌≤◌, Bool, true, false, List, [], length, map, inl, inr, refl, sym, ap, subst, arith}
+use Rattle.std.proofs.Common.{◌≡◌, ◌⊎◌, ◌∙◌, ℕ, suc, take, drop, ◌+◌, ◌++◌, ◌∷◌, get_or-set_same, length-set, append_assoc, take_at, drop_at, length-append, length-take-le, take-append-drop, ◌-◌, ◌<◌, ◌≤◌, Bool, true, false, List, [], length, map, inl, inr, refl, sym, ap, subst, arith}
+use Rattle.std.specs.Global.{Global, Vec}
 use Rattle.std.specs.List.{insert, remove}
+
 use Rattle.num_order.specs.Number.{is_size}
 use Rattle.std.proofs.lemmas.Bool.Decides.{nat_tests}
-use Rattle.std.specs.Prelude.{slice_set, IsTrue, Result, Ok, Err, IfOk, IfErr, OnOk, OnErr, Option, Some, None, if◌then◌else◌}
+use Rattle.std.specs.Prelude.{slice_set, IsTrue, Result, Ok, Err, IfOk, IfErr, IsErr, IsErrAnd, OnOk, OnErr, Option, Some, None, if◌then◌else◌}
 use Rattle.base_file.specs.declared.read_fault.ReadFault.{ReadFault}
 use Rattle.base_file.specs.declared.read_fault.ReadFault.TheVariants as reads
+use Rattle.field_map.specs.Binding.{bind_fault, is_geometry}
 use Rattle.field_map.specs.Pairs.{Pairs}
+use Rattle.field_map.specs.declared.place.Place.{Place}
 use Rattle.frame_cut.specs.Cuts.{IsCut}
 use Rattle.frame_cut.specs.Traces.{count_of, trace_at, is_trace, with_trace}
 use Rattle.frame_cut.specs.Volume.{Volume, bytes_of}
@@ -17,7 +21,10 @@ use Rattle.trace_record.specs.declared.packed_record.PackedRecord.{PackedRecord}
 use Rattle.trace_record.specs.declared.record.Record.{Record}
 use Rattle.edit_overlay.specs.CountedVolume.{CountedVolume, after_look, IsSeen}
 use Rattle.live_reports.specs.OfRecords.{AreReportsOf}
+use Rattle.time_slice.specs.declared.row.Row.{Row}
+use Rattle.time_slice.specs.Cache.{KeptSlices, after_slice}
 use Rattle.bench_rules.specs.declared.edit.Edit.{Edit}
+use Rattle.bench_rules.specs.declared.edit.Edit.TheVariants.{Map}
 use Rattle.bench_rules.specs.declared.refusal.Refusal.{Refusal}
 use Rattle.bench_rules.specs.declared.refusal.Refusal.TheVariants.{OutOfMemory}
 use Rattle.bench_rules.specs.Looks.{edit_looks}
@@ -25,6 +32,7 @@ use Rattle.bench_rules.specs.ReadFaults.{refusal_of, IsReadRefusal}
 use Rattle.bench_rules.specs.Refused.{first_refusal}
 use Rattle.bench_rules.specs.State.{State, Session}
 use Rattle.bench_rules.specs.Steps.{IsAfter, Step, TakesMemory}
+use Rattle.many_traces.specs.Formulas.{IsRefusalFor}
 use Rattle.volume_records.specs.Faults.{IsOfRead}
 use Rattle.volume_records.specs.OfVolume.{records_of}
 use Rattle.volume_records.specs.declared.records_fault.RecordsFault.{RecordsFault}
@@ -79,9 +87,12 @@ if_ok (Err e) f p = tt
 pub size_small : (n : ℕ) → is_size n ≡ true → n ≤ 8
 size_small n h = grind (arith, nat_tests)
 
--- the same volume and field map, read in the same way, are the same state
-pub same_state : (s : State) (v : Volume) (fields : Pairs) → v ≡ s.volume → fields ≡ s.fields → record s { volume = v; fields = fields } ≡ s
-same_state s v fields e f = ap (λ (u : Volume). let x : State = record s { volume = u; fields = fields } in x) e ∙ ap (λ (ps : Pairs). let x : State = record s { fields = ps } in x) f
+-- the same volume and field map, read in the same way from the same place, are the same state
+pub same_state : (s : State) (v : Volume) (fields : Pairs) (on_disk : Bool) → v ≡ s.volume → fields ≡ s.fields → on_disk ≡ s.on_disk → record s { volume = v; fields = fields; on_disk = on_disk } ≡ s
+same_state s v fields on_disk e f g =
+    ap (λ (u : Volume). let x : State = record s { volume = u; fields = fields; on_disk = on_disk } in x) e
+    ∙ ap (λ (ps : Pairs). let x : State = record s { fields = ps; on_disk = on_disk } in x) f
+    ∙ ap (λ (d : Bool). let x : State = record s { on_disk = d } in x) g
 
 -- ---- looks
 
@@ -145,17 +156,11 @@ err_back (Ok x) new mid old same h = h
 err_back (Err refusal) new mid old same h = (subst (λ (s : State). IsOfMachine s.on_disk refusal) same h.0, h.1 ∙ same)
 
 -- it leaves the state
-pub left_as_it_was : {T : Type 0} {P : Refusal → Type 0} (r : Result T Refusal) (new old : State) → IfErr r (λ refusal. P refusal × (new ≡ old)) → OnErr r (new ≡ old)
-left_as_it_was (Ok x) new old h = h
-left_as_it_was (Err refusal) new old h = h.1
+pub left_as_it_was : {T : Type 0} (P : Refusal → Type 0) (r : Result T Refusal) (new old : State) → IfErr r (λ refusal. P refusal × (new ≡ old)) → OnErr r (new ≡ old)
+left_as_it_was P (Ok x) new old h = h
+left_as_it_was P (Err refusal) new old h = h.1
 
 -- ---- steps
-
--- a refusal of the machine is a step, where nothing else refuses an edit that takes memory and may look
-pub told_by_machine : (old new : State) (edit : Edit) (refusal : Refusal) → first_refusal old edit ≡ None → TakesMemory edit → 0 < edit_looks old edit → IsOfMachine old.on_disk refusal → new ≡ old
-    → (let r : Result (Unit {0}) Refusal = Err refusal in Step old edit r new)
-told_by_machine old new edit refusal none takes looks is same =
-    rw none (elim is [ inl memory ↦ (inl (memory, takes), same) | inr read ↦ (inr (looks, read), same) ])
 
 -- an edit that nothing but the machine refuses is a step
 pub stepped : {T : Type 0} (old mid new : State) (edit : Edit) (r : Result T Refusal) → first_refusal old edit ≡ None → mid ≡ old → TakesMemory edit → 0 < edit_looks old edit
@@ -172,16 +177,61 @@ stepped_by_memory old new edit (Ok x) none takes ok err = rw none ok
 stepped_by_memory old new edit (Err e) none takes ok err = rw none (inl (err.0, takes), err.1)
 
 -- the first refusal that is told is a step
-pub told_first : (old new : State) (edit : Edit) (refusal : Refusal) → first_refusal old edit ≡ Some refusal → new ≡ old → (let r : Result (Unit {0}) Refusal = Err refusal in Step old edit r new)
-told_first old new edit refusal first same = rw first (inl refl, same)
+pub told_first : (T : Type 0) (old new : State) (edit : Edit) (refusal : Refusal) → first_refusal old edit ≡ Some refusal → new ≡ old → (let r : Result T Refusal = Err refusal in Step old edit r new)
+told_first T old new edit refusal first same = rw first (inl refl, same)
+
+-- or want of memory, where there is none
+pub told_for : (T : Type 0) (old new : State) (edit : Edit) (refusal : Refusal) → TakesMemory edit → IsRefusalFor refusal (first_refusal old edit) → new ≡ old → (let r : Result T Refusal = Err refusal in Step old edit r new)
+told_for T old new edit refusal takes is same = by (first_refusal old edit) refl is
+  where
+    by : (o : Option Refusal) → first_refusal old edit ≡ o → IsRefusalFor refusal o → (let r : Result T Refusal = Err refusal in Step old edit r new)
+    by None e is = rw e (inl (is, takes), same)
+    by (Some first) e is = rw e (inl is, same)
 
 -- a read that failed is a step, whatever else refuses the edit
-pub told_of_read : (old new : State) (edit : Edit) (refusal : Refusal) → 0 < edit_looks old edit → IsReadRefusal old.on_disk refusal → new ≡ old → (let r : Result (Unit {0}) Refusal = Err refusal in Step old edit r new)
-told_of_read old new edit refusal looks read same = by (first_refusal old edit) refl
+pub told_of_read : (T : Type 0) (old new : State) (edit : Edit) (refusal : Refusal) → 0 < edit_looks old edit → IsReadRefusal old.on_disk refusal → new ≡ old → (let r : Result T Refusal = Err refusal in Step old edit r new)
+told_of_read T old new edit refusal looks read same = by (first_refusal old edit) refl
   where
-    by : (o : Option Refusal) → first_refusal old edit ≡ o → (let r : Result (Unit {0}) Refusal = Err refusal in Step old edit r new)
+    by : (o : Option Refusal) → first_refusal old edit ≡ o → (let r : Result T Refusal = Err refusal in Step old edit r new)
     by None e = rw e (inr (looks, read), same)
     by (Some first) e = rw e (inr (looks, read), same)
+
+-- one or the other is
+pub told_either : (T : Type 0) (old new : State) (edit : Edit) (refusal : Refusal) → TakesMemory edit → 0 < edit_looks old edit → IsReadRefusal old.on_disk refusal ⊎ IsRefusalFor refusal (first_refusal old edit) → new ≡ old
+    → (let r : Result T Refusal = Err refusal in Step old edit r new)
+told_either T old new edit refusal takes looks (inl read) same = told_of_read T old new edit refusal looks read same
+told_either T old new edit refusal takes looks (inr is) same = told_for T old new edit refusal takes is same
+
+-- a read that failed, as it comes back
+pub read_refused : {T : Type 0} (old new : State) (edit : Edit) (fault : ReadFault) (r : Result T Refusal) → IsErr r → IsErrAnd r (λ refusal. refusal ≡ refusal_of fault) → 0 < edit_looks old edit → IsTrue old.on_disk → new ≡ old → Step old edit r new
+read_refused old new edit fault (Ok x) no is looks disk same = absurd is
+read_refused old new edit fault (Err refusal) no is looks disk same =
+    told_of_read _ old new edit refusal looks (subst (λ (e : Refusal). IsReadRefusal old.on_disk e) (sym is) (read_is_told old.on_disk fault disk)) same
+
+-- and any other refusal
+pub refused_so : {T : Type 0} (old new : State) (edit : Edit) (first : Refusal) (r : Result T Refusal) → IsErr r → IsErrAnd r (λ refusal. refusal ≡ first) → TakesMemory edit → 0 < edit_looks old edit
+    → IsReadRefusal old.on_disk first ⊎ IsRefusalFor first (first_refusal old edit) → new ≡ old → Step old edit r new
+refused_so old new edit first (Ok x) no is takes looks told same = absurd is
+refused_so old new edit first (Err refusal) no is takes looks told same =
+    told_either _ old new edit refusal takes looks (subst (λ (e : Refusal). IsReadRefusal old.on_disk e ⊎ IsRefusalFor e (first_refusal old edit)) (sym is) told) same
+
+-- a first refusal that is told of each state with the volume is told of this one
+pub told_so : {P : Type 0} (s : State) (edit : Edit) (refusal : Refusal) → P → IsReadRefusal s.on_disk refusal ⊎ ((u : State) → u.volume ≡ s.volume → P → first_refusal u edit ≡ Some refusal) → IsReadRefusal s.on_disk refusal ⊎ IsRefusalFor refusal (first_refusal s edit)
+told_so s edit refusal sure (inl read) = inl read
+told_so s edit refusal sure (inr told) = inr (subst (λ (o : Option Refusal). IsRefusalFor refusal o) (sym (told s refl sure)) refl)
+
+-- one of two, where the second is told under a premise that holds
+pub under : {A B P : Type 0} → P → A ⊎ (P → B) → A ⊎ B
+under p (inl a) = inl a
+under p (inr f) = inr (f p)
+
+-- what kept the records of a geometry name bound anew from being made is an answer to a name that nothing else refuses
+pub map_passed : (s u : State) (name : List ℕ) (place : Place) (fault : RecordsFault) → is_geometry name ≡ true → bind_fault s.volume.head.extensions s.fields name place ≡ None → (IsOfRead fault → IsTrue s.on_disk × (0 < count_of s.volume)) → u ≡ s
+    → (let r : Result (Unit {0}) Refusal = Err (refusal_of_records fault) in Step s (Map name place) r u)
+map_passed s u name place records.OutOfMemory geometry none read same = rw none (inl (refl, record {}), same)
+map_passed s u name place (records.Read fault) geometry none read same =
+    let looks : 0 < edit_looks s (Map name place) = rw geometry (read tt).1 in
+    rw none (inr (looks, read_is_told s.on_disk fault (read tt).0), same)
 
 -- the state after a change of the volume alone was read in the same way
 pub read_as : (old new : State) (v : Volume) → new ≡ with_volume old v → IsReadAs old new
@@ -191,6 +241,16 @@ pub read_as_before : (old new : State) → new ≡ old → IsReadAs old new
 read_as_before old new same = record { reading = ap (λ (s : State). s.reading) same; limits = ap (λ (s : State). s.limits) same; on_disk = ap (λ (s : State). s.on_disk) same }
 
 -- done or refused
-pub read_as_either : {T E : Type 0} {P : E → Type 0} (r : Result T E) (old new : State) (v : Volume) → OnOk r (new ≡ with_volume old v) → IfErr r (λ fault. P fault × (new ≡ old)) → IsReadAs old new
-read_as_either (Ok x) old new v ok err = read_as old new v ok
-read_as_either (Err e) old new v ok err = read_as_before old new err.1
+pub read_as_either : {T E : Type 0} (P : E → Type 0) (r : Result T E) (old new : State) (v : Volume) → OnOk r (new ≡ with_volume old v) → IfErr r (λ fault. P fault × (new ≡ old)) → IsReadAs old new
+read_as_either P (Ok x) old new v ok err = read_as old new v ok
+read_as_either P (Err e) old new v ok err = read_as_before old new err.1
+
+-- as the one in between was
+pub read_as_through : (old mid new : State) → mid ≡ old → IsReadAs mid new → IsReadAs old new
+read_as_through old mid new same r = subst (λ (s : State). IsReadAs s new) same r
+
+-- the slices that are kept with the rows of an answer are kept with those that these are
+pub kept_as_told : {E P : Type 0} (r : Result (Vec Row Global) E) (old new : KeptSlices) (k : ℕ) (given wanted : List Row) → IfOk r (λ rows. P → rows.items ≡ given) → IfOk r (λ rows. P → new ≡ after_slice old k rows.items) → (P → given ≡ wanted)
+    → OnOk r (P → new ≡ after_slice old k wanted)
+kept_as_told (Ok rows) old new k given wanted is kept same = λ p. kept p ∙ ap (after_slice old k) (is p ∙ same p)
+kept_as_told (Err e) old new k given wanted is kept same = is

@@ -3,13 +3,12 @@ use Rattle.std.proofs.Common.{◌≡◌, ℕ, zero, suc, ◌+◌, ◌*◌, ◌-�
 use Rattle.std.specs.Prelude.{slice_get, slice_set, sum_by, ◌==◌, if◌then◌else◌, Bool, true, false, None}
 use Rattle.std.specs.List.{concat, insert, remove, AllByRecursion}
 use Rattle.std.specs.List.Sorted.{IsPermutation}
-use Rattle.std.proofs.lemmas.List.{length-append, length-map, length-set, length-drop, length-take-le, map-set, take-append-drop}
+use Rattle.std.proofs.lemmas.List.{get_or-map, length-append, length-map, length-set, length-drop, length-take-le, map-set, take-append-drop}
 use Rattle.std.proofs.lemmas.List.Edits.{length-remove}
 use Rattle.std.proofs.lemmas.List.Elements.{All-append, All-cons, All-drop, All-get_or, All-head, All-nil, All-set, All-tail, All-take, recursion_from_All}
 use Rattle.std.proofs.lemmas.List.Sorted.{All-permutation, sum_by-IsPermutation, length_permutation}
 use Rattle.std.proofs.lemmas.List.Sums.{sum_by-cons}
 use Rattle.std.proofs.lemmas.Option.{slice_get-get_or}
-use Rattle.std.proofs.Math.ListN.{get_or-map}
 use Rattle.record_table.proofs.ListLemmas.{map-insert, map-remove}
 use Rattle.field_map.specs.Pairs.{Pairs}
 use Rattle.frame_cut.specs.declared.file_head.Head.{Head}
@@ -27,10 +26,12 @@ use Rattle.trace_store.specs.Moved.{put_back, with_moved as records_moved}
 use Rattle.trace_store.specs.Swapped.{with_swapped, with_places_swapped, ArePlaces}
 use Rattle.trace_record.specs.Facts.{Facts, facts_of}
 use Rattle.trace_record.specs.OfTrace.{record_of}
+use Rattle.trace_record.specs.Packed.{record_in}
+use Rattle.trace_record.specs.declared.packed_record.PackedRecord.{PackedRecord}
 use Rattle.trace_record.specs.declared.record.Record.{Record}
 use Rattle.live_reports.specs.Reports.{AreFew}
 use Rattle.many_traces.proofs.SortedTraceLemmas.{map-swapped, swapped-permutes}
-use Rattle.volume_records.specs.OfVolume.{records_of}
+use Rattle.volume_records.specs.OfVolume.{numbers_of, records_of}
 use Rattle.volume_records.proofs.FewLemmas.{samples_within}
 use Rattle.bench_rules.proofs.SpliceLemmas.{length-with_trace}
 use Rattle.bench_rules.proofs.WholeTraceLemmas.{length-without}
@@ -132,7 +133,7 @@ measured_set rs ts i r t few header m =
     }
 
 all_inserted : (xs : List (ℕ × ℕ)) (i : ℕ) (s : ℕ × ℕ) → Fits s → All Fits xs → All Fits (insert xs i s)
-all_inserted xs i s fits all = All-append Fits (take i xs) (s ∷ drop i xs) (All-take Fits xs i all) (All-cons Fits s (drop i xs) fits (All-drop Fits xs i all))
+all_inserted xs i s fits all = All-append Fits (take i xs) (s ∷ drop i xs) (All-take Fits i xs all) (All-cons Fits s (drop i xs) fits (All-drop Fits i xs all))
 
 -- a record and a trace more
 pub measured_insert : (rs : List Record) (ts : List (List ℕ)) (i : ℕ) (r : Record) (t : List ℕ) → r.number ≤ length t → 240 ≤ length t → AreMeasured rs ts → AreMeasured (insert rs i r) (insert ts i t)
@@ -151,7 +152,7 @@ measured_remove rs ts i m = record {
   sizes = remove m.sizes i;
   numbers = map-remove (λ (s : ℕ × ℕ). s.0) m.sizes i ∙ ap (λ (ns : List ℕ). remove ns i) m.numbers ∙ sym (map-remove number rs i);
   lengths = map-remove (λ (s : ℕ × ℕ). s.1) m.sizes i ∙ ap (λ (ns : List ℕ). remove ns i) m.lengths ∙ sym (map-remove long ts i);
-  within = All-append Fits (take i m.sizes) (drop (suc i) m.sizes) (All-take Fits m.sizes i m.within) (All-drop Fits m.sizes (suc i) m.within);
+  within = All-append Fits (take i m.sizes) (drop (suc i) m.sizes) (All-take Fits i m.sizes m.within) (All-drop Fits (suc i) m.sizes m.within);
 }
 
 -- one of each at another place
@@ -160,14 +161,14 @@ measured_moved rs ts i j there m =
     let inside : i < length rs = omega (arith, as_many rs ts m, there) in
     by (slice_get rs i) refl inside
   where
-    by : (o : Option Record) → slice_get rs i ≡ o → i < length rs → AreMeasured (put_back o (remove rs i) j) (insert (remove ts i) j (get_or ts i []))
-    by None e inside = absurd (some_there rs i inside e)
-    by (Some r) e inside = let here = measured_at rs ts i r m there e in measured_insert (remove rs i) (remove ts i) j r (get_or ts i []) here.0 here.1 (measured_remove rs ts i m)
-
     some_there : (qs : List Record) (k : ℕ) → k < length qs → slice_get qs k ≡ None → ⊥
     some_there [] k less e = omega (arith, less)
     some_there (q ∷ qs) zero less e = absurd cc
     some_there (q ∷ qs) (suc k) less e = some_there qs k (omega (arith, less)) e
+
+    by : (o : Option Record) → slice_get rs i ≡ o → i < length rs → AreMeasured (put_back o (remove rs i) j) (insert (remove ts i) j (get_or ts i []))
+    by None e inside = absurd (some_there rs i inside e)
+    by (Some r) e inside = let here = measured_at rs ts i r m there e in measured_insert (remove rs i) (remove ts i) j r (get_or ts i []) here.0 here.1 (measured_remove rs ts i m)
 
 -- pairs of them in the place of one another
 pub measured_swapped : (rs : List Record) (ts : List (List ℕ)) (pairs : List (ℕ × ℕ)) → ArePlaces (length ts) pairs → AreMeasured rs ts → AreMeasured (with_swapped rs pairs) (with_swapped ts pairs)
@@ -194,21 +195,23 @@ lengths_put ts i at bytes inside =
     again (u ∷ us) zero = refl
     again (u ∷ us) (suc k) = ap (λ (ns : List ℕ). length u ∷ ns) (again us k)
 
-pub lengths_put_each : (ts : List (List ℕ)) (p at size count : ℕ) (bytes : List ℕ) → length bytes ≡ count * size → ((k : ℕ) → k < count → at + size ≤ length (get_or ts (p + k) []))
-    → map long (put_each_at ts p at size bytes) ≡ map long ts
+-- each of so many traces from one on has room
+abbrev pub HaveRoom : List (List ℕ) → (p end count : ℕ) → Type 0
+HaveRoom ts p end count = (k i : ℕ) → k < count → i ≡ p + k → end ≤ length (get_or ts i [])
+
+pub lengths_put_each : (ts : List (List ℕ)) (p at size count : ℕ) (bytes : List ℕ) → length bytes ≡ count * size → HaveRoom ts p (at + size) count → map long (put_each_at ts p at size bytes) ≡ map long ts
 lengths_put_each [] p at size count bytes e inside = refl
-lengths_put_each (t ∷ ts) (suc p) at size count bytes e inside = ap (λ (ns : List ℕ). length t ∷ ns) (lengths_put_each ts p at size count bytes e inside)
+lengths_put_each (t ∷ ts) (suc p) at size count bytes e inside =
+    ap (λ (ns : List ℕ). length t ∷ ns) (lengths_put_each ts p at size count bytes e (λ k i less is. inside k (suc i) less (omega (arith, is))))
 lengths_put_each (t ∷ ts) zero at size count [] e inside = refl
 lengths_put_each (t ∷ ts) zero at size zero (b ∷ bs) e inside = absurd (omega arith)
 lengths_put_each (t ∷ ts) zero at size (suc count) (b ∷ bs) e inside =
     let new : List ℕ = take size (b ∷ bs) in
     let full : length new ≡ size = length-take-le size (b ∷ bs) (omega arith) in
-    let here : at + length new ≤ length t = omega (arith, full, inside 0 (omega arith)) in
+    let here : at + length new ≤ length t = omega (arith, full, inside 0 0 (omega arith) (omega arith)) in
+    let left : length (drop size (b ∷ bs)) ≡ count * size = omega (arith, length-drop size (b ∷ bs)) in
     ap₂ (λ (n : ℕ) (ns : List ℕ). n ∷ ns) (ap (λ (n : ℕ). length (splice t at n new)) (sym full) ∙ length-splice t at new here)
-    (lengths_put_each ts zero at size count (drop size (b ∷ bs)) (left (b ∷ bs) size count e) (λ k less. inside (suc k) (omega (arith, less))))
-  where
-    left : (cs : List ℕ) (size count : ℕ) → length cs ≡ suc count * size → length (drop size cs) ≡ count * size
-    left cs size count e = omega (arith, length-drop size cs)
+    (lengths_put_each ts zero at size count (drop size (b ∷ bs)) left (λ k i less is. inside (suc k) (suc i) (omega (arith, less)) (omega (arith, is))))
 
 -- ---- the frame
 
@@ -231,7 +234,7 @@ frame_again limits v ts f e =
     frame_with limits v ts f (omega (arith, many, f.few)) (omega (arith, f.small, length-bytes v, length-bytes w, lengths_concat v.traces ts e))
 
 concat_append : (xs ys : List (List ℕ)) → length (concat (xs ++ ys)) ≡ length (concat xs) + length (concat ys)
-concat_append [] ys = refl
+concat_append [] ys = omega arith
 concat_append (x ∷ xs) ys = omega (arith, length-append x (concat xs), length-append x (concat (xs ++ ys)), concat_append xs ys)
 
 -- how long the file is with a trace more
@@ -380,3 +383,8 @@ zipped (r ∷ rs) (t ∷ ts) same within header =
 -- beside the same traces
 pub measured_anew : (rs qs : List Record) (ts : List (List ℕ)) → AreMeasured rs ts → length qs ≡ length ts → ((j : ℕ) → j < length ts → get_or (map number qs) j 0 ≤ length (get_or ts j [])) → AreMeasured qs ts
 measured_anew rs qs ts m same within = zipped qs ts same within (λ j less. has_header rs ts j m less)
+
+-- the numbers of packed records are those of the records
+pub numbers_are : (ps : List PackedRecord) → numbers_of ps ≡ map number (map record_in ps)
+numbers_are [] = refl
+numbers_are (p ∷ ps) = ap (λ (ns : List ℕ). (record_in p).number ∷ ns) (numbers_are ps)

@@ -1,8 +1,9 @@
 // What a volume gives to those who keep slices of it.
-ghost use Rattle.std.specs.Prelude.{◌≡◌, ◌<◌, false, option_map, if◌then◌else◌, IsTrue, IsFalse, IfOk, IfErr, OnOk, OnErr};
+ghost use Rattle.std.specs.Prelude.{◌≡◌, ◌<◌, ◌≤◌, ℕ, false, length, option_map, if◌then◌else◌, IsTrue, IsFalse, IfOk, IfErr, OnOk, OnErr};
 ghost use Rattle.field_map.specs.Binding.{HasGeometry};
+ghost use Rattle.field_map.specs.declared.place.TheConstants.{TRACE_HEADER_BYTES};
 ghost use Rattle.frame_cut.specs.Cuts.{IsCut};
-ghost use Rattle.frame_cut.specs.Traces.{count_of, trace_of};
+ghost use Rattle.frame_cut.specs.Traces.{count_of, trace_at, trace_of};
 ghost use Rattle.frame_cut.specs.Volume.{bytes_of};
 ghost use Rattle.edit_overlay.specs.CountedVolume.{RisesAtMost};
 ghost use Rattle.time_slice.specs.Cache.{after_slice, kept_numbers, IsAsked};
@@ -16,12 +17,14 @@ use std::alloc::Global;
 use time_slice::{Row, SliceCache, SliceFault};
 
 impl LiveVolume {
-    /// Where each read of the loaded bytes agreed, the volume is the one cut of its own bytes. Its
-    /// field map binds each geometry name to a place that each trace has. Does nothing: its
-    /// contract is the law.
+    /// Where each read of the loaded bytes agreed, the volume is the one cut of its own bytes. In
+    /// any case each trace has a main header, and the field map binds each geometry name to a place
+    /// that each trace has. Does nothing: its contract is the law.
     pub fn stands(&self)
         ensures cut { IsTrue self.now.agreed → IsCut (bytes_of self.now.state.volume)
             self.now.state.reading self.now.state.limits self.now.state.volume }
+        ensures headers { (p : ℕ) → 1 ≤ p → p ≤ count_of self.now.state.volume →
+            TRACE_HEADER_BYTES ≤ length (trace_at self.now.state.volume p) }
         ensures geometry { HasGeometry self.now.state.volume.head.extensions
             self.now.state.fields }
     {
@@ -64,7 +67,8 @@ impl LiveVolume {
         ensures asked { IfOk result (λ rows. IsAsked slices.old slices.new k rows.items) }
         ensures err { OnErr result (slices.new ≡ slices.old) }
         ensures read { IfErr result (λ fault. IsOfRead fault → IsTrue self.old.state.on_disk
-            × (0 < count_of self.old.state.volume) × IsFalse (is_kept k (kept_numbers slices.old.entries))) }
+            × (0 < count_of self.old.state.volume)
+            × IsFalse (is_kept k (kept_numbers slices.old.entries))) }
         ensures state { self.new.state ≡ self.old.state }
         ensures agreed { IsTrue self.new.agreed → IsTrue self.old.agreed }
         ensures looks { RisesAtMost self.old.looks self.new.looks

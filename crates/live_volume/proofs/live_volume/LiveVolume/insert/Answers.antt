@@ -42,15 +42,15 @@ insert-requires-clause-few c =
     subst (λ (l : List Record). AreFew (insert l (c.args.p - 1) c.args.trace.now)) (sym same)
     (few_measured b.limits (with_inserted v c.args.p t) (insert (records_in b) (c.args.p - 1) c.args.trace.now) (frame_inserted b.limits v c.args.p t c.self.invariant.frame few small) (search rules) measured)
 
-pub insert-2-requires-clause-few : goal.insert-2-requires-clause-few
-insert-2-requires-clause-few c =
+pub insert-requires-2-clause-few : goal.insert-requires-2-clause-few
+insert-requires-2-clause-few c =
     let b = c.self.inside in
     let few : count_of b.overlay.volume + 1 ≤ b.limits.traces = rw (← c.self.view_is) at c.requires.few in
     let counted : b.limits.traces < 2 ^ 32 = search rules in
     omega (arith, few, counted)
 
-pub insert-2-requires-clause-small : goal.insert-2-requires-clause-small
-insert-2-requires-clause-small c =
+pub insert-requires-2-clause-small : goal.insert-requires-2-clause-small
+insert-requires-2-clause-small c =
     let b = c.self.inside in
     let small : length (bytes_of b.overlay.volume) + length c.args.bytes.items ≤ b.limits.bytes = rw (← c.self.view_is) at c.requires.small in
     omega (arith, small, b.limits.small)

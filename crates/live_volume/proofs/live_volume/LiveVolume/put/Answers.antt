@@ -3,7 +3,10 @@ use Rattle.std.specs.Prelude.{IfSome}
 use Rattle.field_map.specs.Pairs.{Pairs}
 use Rattle.frame_cut.specs.Splice.{splice}
 use Rattle.frame_cut.specs.Traces.{trace_at, is_trace, with_trace, count_of}
-use Rattle.frame_cut.specs.Volume.{Volume}
+use Rattle.frame_cut.specs.Cuts.{IsCut}
+use Rattle.frame_cut.specs.Volume.{Volume, bytes_of}
+use Rattle.trace_record.specs.Facts.{facts_of}
+use Rattle.trace_record.specs.OfTrace.{record_of}
 use Rattle.trace_record.specs.declared.record.Record.{Record}
 use Rattle.trace_record.specs.declared.packed_record.PackedRecord.{PackedRecord}
 use Rattle.edit_overlay.specs.CountedVolume.{CountedVolume, after_look, with_prepared}
@@ -81,3 +84,19 @@ exchange-requires-clause-few c =
     let small : c.in-Ok.record.number ≤ length (trace_at c.new_record.new.overlay.prepared c.args.p) =
     subst (λ (u : Volume). c.in-Ok.record.number ≤ length (trace_at u c.args.p)) (sym (ap (λ (o : CountedVolume PackedRecord). o.prepared) c.new_record.ensures.looked)) c.in-Ok.ensures.few in
     edit.put_few c.self.inside c.self.invariant c.args.p c.args.at c.args.bytes.now c.new_record.new.overlay c.requires.first last inside looked c.in-Ok.record (search rules) small
+
+pub invariant_of-self-in-Ok : goal.invariant_of-self-in-Ok
+invariant_of-self-in-Ok c =
+    let v : Volume = c.self.inside.overlay.volume in
+    let w : Volume = with_trace v c.args.p (splice (trace_at v c.args.p) c.args.at (length c.args.bytes.now) c.args.bytes.now) in
+    let last : c.args.p ≤ count_of v = rw (← c.self.view_is) at c.requires.last in
+    let inside : c.args.at + length c.args.bytes.now ≤ length (trace_at v c.args.p) = rw (← c.self.view_is) at c.requires.inside in
+    let looked = c.new_record.ensures.looked ∙ ap (λ (o : CountedVolume PackedRecord). after_look o c.new_record.new.overlay.agreed) c.in_ok-prepare_put.ensures.ok in
+    let cut : IsTrue c.self.inside.overlay.agreed → IsCut (bytes_of w) c.self.inside.reading c.self.inside.limits w = rw (← c.self.view_is) at c.requires.cut in
+    let same : c.prepare_put.new.self.agreed ≡ c.self.inside.overlay.agreed = ap (λ (o : CountedVolume PackedRecord). o.agreed) c.in_ok-prepare_put.ensures.ok in
+    let prep : c.new_record.new.overlay.prepared ≡ c.prepare_put.new.self.prepared = ap (λ (o : CountedVolume PackedRecord). o.prepared) c.new_record.ensures.looked in
+    let facts = subst (λ (u : Volume). IsTrue c.new_record.new.overlay.agreed → facts_of c.in-Ok.record ≡ record_of u.head c.self.inside.fields.pairs (trace_at u c.args.p)) (sym prep) c.in-Ok.ensures.record in
+    let small : c.in-Ok.record.number ≤ length (trace_at c.new_record.new.overlay.prepared c.args.p) = subst (λ (u : Volume). c.in-Ok.record.number ≤ length (trace_at u c.args.p)) (sym prep) c.in-Ok.ensures.few in
+    edit.put_done c.self.inside c.self.invariant c.args.p c.args.at c.args.bytes.now c.new_record.new.overlay c.requires.first last inside looked c.exchange.new.overlay c.exchange.new.reports c.in-Ok.record
+    c.in_ok-exchange-in-Ok.ensures.volume c.exchange.ensures.prepared c.in_ok-exchange-in-Ok.ensures.records c.exchange.ensures.agreed (λ sure. subst IsTrue same (c.new_record.ensures.agreed sure)) cut facts small
+    c.in_ok-exchange-in-Ok.ensures.reports

@@ -122,11 +122,11 @@ invariant_of-self-in-Ok c =
     rw (← c.self.view_is) at c.requires.cut in
     edit.each_done b c.self.invariant c.args.a c.args.count c.args.at c.args.size c.args.bytes.now c.prepare_put_each.new.self c.prepared_records.new.overlay c.in-Ok.records c.requires.first c.requires.some c.requires.exact c.requires.count
     last inside c.in_ok-prepare_put_each.ensures.ok c.prepared_records.ensures.seen c.in-Ok.ensures.many c.in-Ok.ensures.numbers
-    c.exchange_each.new.overlay c.exchange_each.new.reports c.in_ok-exchange_each.ensures.volume c.exchange_each.ensures.prepared c.in_ok-exchange_each.ensures.records c.exchange_each.ensures.agreed
-    (λ sure. cut (before sure)) (λ sure. (found sure).records) c.in_ok-exchange_each.ensures.reports
+    c.exchange_each.new.overlay c.exchange_each.new.reports c.in_ok-exchange_each-in-Ok.ensures.volume c.exchange_each.ensures.prepared c.in_ok-exchange_each-in-Ok.ensures.records c.exchange_each.ensures.agreed
+    (λ sure. cut (before sure)) (λ sure. (found sure).records) c.in_ok-exchange_each-in-Ok.ensures.reports
 
-pub returns-in-Ok-clause-moved : goal.returns-in-Ok-clause-moved
-returns-in-Ok-clause-moved c =
+pub returns-in_ok-exchange_each-in-Ok-clause-moved : goal.returns-in_ok-exchange_each-in-Ok-clause-moved
+returns-in_ok-exchange_each-in-Ok-clause-moved c =
     let b = c.self.inside in
     let last : c.args.a - 1 + c.args.count ≤ count_of b.overlay.volume = rw (← c.self.view_is) at c.requires.last in
     let inside : (k : ℕ) → k < length c.args.bytes.now / c.args.size → c.args.at + c.args.size ≤ length (get_or b.overlay.volume.traces (c.args.a - 1 + k) []) = rw (← c.self.view_is) at c.requires.inside in

@@ -1,0 +1,40 @@
+use Rattle.std.proofs.Common.{◌≡◌, ◌∙◌, ◌<◌, IsTrue, sym, subst, refl, arith}
+use Rattle.frame_cut.specs.Volume.{Volume}
+use Rattle.bench_rules.specs.declared.edit.Edit.TheVariants.{Set}
+use Rattle.bench_rules.specs.declared.field.Field.TheVariants as field
+use Rattle.bench_rules.specs.State.{State}
+use Rattle.volume_answers.specs.Rooms.{HasRoom}
+use Rattle.live_volume.specs.Held.{state_of}
+use Rattle.live_volume.proofs.HeldLemmas.{held_again, left_as_it_was, looked_at, on_ok, read_as_through, read_refused, stepped, told_first}
+use Rattle.live_volume.proofs.live_volume.LiveVolume.set.Goals as goal
+
+pub put_value-requires-clause-room : goal.put_value-requires-clause-room
+put_value-requires-clause-room c =
+    subst (λ (v : Volume). HasRoom v c.args.p c.args.place c.args.value) (sym c.value_refusal.ensures.seen.volume) (c.in_ok-value_refusal.ensures.room c.in-None.is)
+
+pub put_value-requires-clause-none : goal.put_value-requires-clause-none
+put_value-requires-clause-none c =
+    let now : State = record (state_of c.self.inside) { volume = c.value_refusal.new.overlay.volume; on_disk = c.value_refusal.new.overlay.on_disk } in
+    λ sure. sym (c.in_ok-value_refusal.ensures.refusal now c.value_refusal.ensures.seen.volume sure) ∙ c.in-None.is
+
+pub returns-in-Some-clause-step : goal.returns-in-Some-clause-step
+returns-in-Some-clause-step c =
+    let look = looked_at c.self.inside c.value_refusal.new.overlay 1 c.value_refusal.ensures.seen in
+    rw (← c.self.view_is)
+    (λ sure. told_first _ (state_of c.self.inside) _ (Set c.args.p (field.Place c.args.place) c.args.value) c.in-Some.refusal (sym (c.in_ok-value_refusal.ensures.refusal (state_of c.self.inside) refl sure) ∙ c.in-Some.is) look.state)
+
+pub returns-in-None-clause-step : goal.returns-in-None-clause-step
+returns-in-None-clause-step c =
+    let s = state_of c.self.inside in
+    let look = looked_at c.self.inside c.value_refusal.new.overlay 1 c.value_refusal.ensures.seen in
+    rw (← c.self.view_is) (λ sure.
+    let mid = c.put_value.ensures.agreed sure in
+    stepped s _ c.put_value.new.self.state (Set c.args.p (field.Place c.args.place) c.args.value) c.put_value.result (sym (c.in_ok-value_refusal.ensures.refusal s refl mid) ∙ c.in-None.is) look.state (record {}) (omega arith)
+    (on_ok c.put_value.result (λ f. f sure) c.put_value.ensures.ok) c.put_value.ensures.err)
+
+pub returns-in_err-value_refusal-clause-step : goal.returns-in_err-value_refusal-clause-step
+returns-in_err-value_refusal-clause-step c =
+    let look = looked_at c.self.inside c.value_refusal.new.overlay 1 c.value_refusal.ensures.seen in
+    rw (← c.self.view_is)
+    (λ sure. read_refused (state_of c.self.inside) _ (Set c.args.p (field.Place c.args.place) c.args.value) c.in_err-value_refusal.field-0.0 c.from_residual.result c.from_residual.ensures.0 c.from_residual.ensures.1 (omega arith)
+    c.in_err-value_refusal.ensures.read look.state)

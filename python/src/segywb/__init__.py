@@ -31,7 +31,8 @@ __all__ = [
 
 
 def open(
-    path: Path, fixed: bool = False, opaque_samples: bool = False, max_bytes: Optional[int] = None, order: Optional[str] = None
+    path: Path, fixed: bool = False, opaque_samples: bool = False, max_bytes: Optional[int] = None, order: Optional[str] = None,
+    on_disk: bool = False
 ) -> Volume:
     """Opens a SEG-Y file.
 
@@ -39,4 +40,4 @@ def open(
     (floats). ``max_bytes``: the largest file that is read, and the largest that edits may make. ``order``: ``"big"`` or ``"little"``,
     the order of bytes of a file that does not tell it.
     """
-    return Volume(path, fixed=fixed, opaque_samples=opaque_samples, max_bytes=max_bytes, order=order)
+    return Volume(path, fixed=fixed, opaque_samples=opaque_samples, max_bytes=max_bytes, order=order, on_disk=on_disk)

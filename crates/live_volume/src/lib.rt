@@ -27,6 +27,7 @@ mod computed_edits;
 mod kept_slices;
 mod live_volume;
 mod number_edits;
+mod on_disk;
 mod report_queries;
 mod sort_edit;
 mod trace_edits;

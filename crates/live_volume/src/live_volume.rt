@@ -48,7 +48,7 @@ use volume_records::{remake, with_records};
 pub struct LiveVolume {
     pub(crate) overlay: Overlay<PackedRecord>,
     pub(crate) fields: FieldMap,
-    reading: Reading,
+    pub(crate) reading: Reading,
     pub(crate) limits: Limits,
     pub(crate) reports: LiveReports,
 }

@@ -4,7 +4,7 @@ use Rattle.std.specs.Prelude.{◌||◌, nat_abs, int_lt, not, ◌&&◌, ◌==◌
 use Rattle.std.proofs.lemmas.Bool.{ltb-false, le-ltb}
 use Rattle.std.proofs.lemmas.Bool.Decides.{nat_tests}
 use Rattle.std.proofs.lemmas.Int.{ints, to_z-of_z}
-use Rattle.std.proofs.lemmas.List.{length-append, length-drop, take_at, drop_at, take_rest}
+use Rattle.std.proofs.lemmas.List.{length-append, length-drop, take_at, drop_at}
 use Rattle.num_order.specs.declared.order.Order.{Order}
 use Rattle.frame_cut.specs.declared.file_head.Head.{Head}
 use Rattle.frame_cut.specs.declared.limits.Limits.{Limits}

@@ -204,10 +204,7 @@ fn with_blocks(
         return Err(LoadFault::Extensions(extensions));
     }
     let records = trailer(order, major, bin);
-    if is_trailer_refused(
-        records,
-        left - TEXT_BLOCK_BYTES as u64 * u64::from(blocks),
-    ) {
+    if is_trailer_refused(records, left - TEXT_BLOCK_BYTES as u64 * u64::from(blocks)) {
         return Err(LoadFault::Trailer(records));
     }
     let first = first_trace(order, major, bin);

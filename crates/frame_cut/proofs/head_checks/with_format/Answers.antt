@@ -1,4 +1,4 @@
-use Rattle.std.proofs.Common.{rules, ◌≡◌, ◌∙◌, ap, ℕ, ℤ, drop, Option, Some, None, Result, Err, FitsSigned, sym, to_z, of_z, w16}
+use Rattle.std.proofs.Common.{rules, ◌≡◌, ◌∙◌, ap, ℕ, ℤ, drop, Option, Some, Result, Err, FitsSigned, sym, to_z, of_z, w16}
 use Rattle.std.specs.Prelude.{unwrap_or}
 use Rattle.std.proofs.lemmas.Int.{to_z-of_z}
 use Rattle.frame_cut.specs.declared.file_head.Head.{Head}

@@ -1,4 +1,4 @@
-use Rattle.std.proofs.Common.{◌∙◌, sym}
+use Rattle.std.proofs.Common.{sym}
 use Rattle.frame_cut.proofs.FrontLemmas.{end_in_front}
 use Rattle.frame_cut.proofs.text_headers.end_told.Goals as goal
 

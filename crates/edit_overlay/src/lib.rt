@@ -37,6 +37,8 @@ mod bytes;
 mod laid;
 mod loading;
 mod overlay;
+mod pass_reads;
+mod passing;
 mod reading_in;
 mod save_fault;
 mod waiting;
@@ -44,6 +46,7 @@ mod writing_out;
 
 pub use crate::loading::Loading;
 pub use crate::overlay::Overlay;
+pub use crate::passing::Passing;
 pub use crate::save_fault::SaveFault;
 pub use base_file::ReadFault;
 pub use trace_store::{Column, OutOfMemory, Payloads};

@@ -23,6 +23,7 @@ mod payloads;
 mod prepared;
 mod slot;
 mod store;
+mod window;
 
 pub use crate::column::Column;
 pub use crate::out_of_memory::OutOfMemory;
@@ -30,3 +31,4 @@ pub use crate::payloads::Payloads;
 pub use crate::prepared::{Prepared, TraceMove, TracePut, TraceRuns};
 pub use crate::slot::{Base, Slot};
 pub use crate::store::TraceStore;
+pub use crate::window::Window;

@@ -42,7 +42,7 @@ pub fn read_head(
     'turns: loop {
         let there = window.len() as u64;
         let wanted = there.saturating_add(there.max(LEAST)).min(size);
-        window.hold(alloc, held, wanted as usize, size)?;
+        window.hold(held, wanted as usize, size)?;
         let front = window.front(window.len());
         if let Some(head) = head_of_front(front, size, reading, limits)? {
             return Ok(head);
@@ -67,7 +67,7 @@ pub fn read_front(
     ensures front { IfOk result (λ front. front.items ≡ take n held.new.bytes) }
     ensures fault { IfErr result IsFaultOfPass }
 {
-    window.hold(alloc, held, n, size)?;
+    window.hold(held, n, size)?;
     let Ok(front) = Vec::from_slice(alloc, window.front(n)) else {
         return Err(LoadFault::OutOfMemory);
     };
@@ -103,9 +103,9 @@ pub fn next_whole<T: Copy>(
     let left = size - at - TEXT_BLOCK_BYTES as u64 * u64::from(store.head.trailer);
     let p = u64::from(store.count()) + 1;
     let front = left.min(front_length(&store.head) as u64) as usize;
-    store.hold(alloc, window, front, size)?;
+    store.hold(window, front, size)?;
     let length = length_of_next(&store.head, limits, p, window.front(front), left)?;
-    store.hold(alloc, window, length as usize, size)?;
+    store.hold(window, length as usize, size)?;
     Ok(length)
 }
 
@@ -127,7 +127,7 @@ pub fn last_bytes<T: Copy>(
     ensures fault { IfErr result IsFaultOfPass }
 {
     let n = (size - at) as usize;
-    store.hold(alloc, window, n, size)?;
+    store.hold(window, n, size)?;
     match store.is_at_end() {
         Ok(true) => {}
         _ => return Err(LoadFault::ReadFailed),

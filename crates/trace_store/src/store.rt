@@ -16,8 +16,8 @@ ghost use Rattle.trace_store.specs.OneProof.{IsStore-prop};
 use crate::out_of_memory::OutOfMemory;
 use crate::prepared::{Prepared, TraceMove, TracePut, TraceRuns};
 use crate::slot::{Base, Slot, piece};
-use base_file::{Held, ReadFault};
 use crate::window::Window;
+use base_file::{Held, ReadFault};
 use frame_cut::{Extent, Head, LoadFault};
 use slab::Slab;
 use std::alloc::Global;
@@ -89,13 +89,7 @@ impl<T: Copy> TraceStore<T> {
 
     /// Reads a file that is being passed on, until the window has n bytes. Refused as
     /// `Window::hold`.
-    pub fn hold(
-        &mut self,
-        alloc: Global,
-        window: &mut Window,
-        n: usize,
-        size: u64,
-    ) -> Result<(), LoadFault>
+    pub fn hold(&mut self, window: &mut Window, n: usize, size: u64) -> Result<(), LoadFault>
         requires { length self.old.loaded.bytes ≤ size }
         ensures grown { HasMore self.old self.new }
         ensures next { (at : ℕ) → IsNextOf self.old.loaded.bytes at window.old.bytes →
@@ -104,7 +98,7 @@ impl<T: Copy> TraceStore<T> {
         ensures there { OnOk result (n ≤ length window.new.bytes) }
         ensures fault { IfErr result IsFaultOfPass }
     {
-        window.hold(alloc, &mut self.loaded, n, size)
+        window.hold(&mut self.loaded, n, size)
     }
 
     /// Whether the file that is being passed has no more bytes. Refused as `Held::is_at_end`. Takes

@@ -1,8 +1,8 @@
 // The bytes of a pass that were read and are not taken yet.
-ghost use Rattle.std.specs.Prelude.{ℕ, ◌≡◌, ◌+◌, ◌≤◌, [], length, take, drop, IfErr, IfOk, OnOk};
+ghost use Rattle.std.specs.Prelude.{ℕ, ◌≡◌, ◌+◌, ◌≤◌, ◌++◌, [], length, take, drop, IfErr, IfOk, OnErr, OnOk};
 ghost use Rattle.base_file.specs.HeldBytes.{HasGrown};
 
-use base_file::Held;
+use base_file::{Held, ReadFault};
 use frame_cut::LoadFault;
 use std::alloc::{AllocError, Global};
 use std::marker::Model;
@@ -73,13 +73,7 @@ impl Window {
     /// Reads on until there are n bytes. No byte of the file behind the first `size` is read. Takes
     /// memory where they are more than there were at once before. Refused with L01 where a read
     /// failed or the file ends before, and with L16 where memory was refused.
-    pub fn hold(
-        &mut self,
-        alloc: Global,
-        held: &mut Held,
-        n: usize,
-        size: u64,
-    ) -> Result<(), LoadFault>
+    pub fn hold(&mut self, held: &mut Held, n: usize, size: u64) -> Result<(), LoadFault>
         requires { length held.old.bytes ≤ size }
         ensures grown { HasGrown held.old held.new }
         ensures next { (at : ℕ) → IsNextOf held.old.bytes at self.old.bytes →
@@ -88,25 +82,38 @@ impl Window {
         ensures there { OnOk result (n ≤ length self.new.bytes) }
         ensures fault { IfErr result IsFaultOfPass }
     {
-        if self.make_room(alloc, n).is_err() {
+        if self.make_room(n).is_err() {
             return Err(LoadFault::OutOfMemory);
         }
         self.read_up_to(held, n, size)
     }
 
     // Makes room for n bytes, those that there are among them.
-    fn make_room(&mut self, alloc: Global, n: usize) -> Result<(), AllocError>
+    fn make_room(&mut self, n: usize) -> Result<(), AllocError>
         ensures { self.new.bytes ≡ self.old.bytes }
     {
         if self.block.len() - self.start >= n {
             return Ok(());
         }
+        self.close_up();
+        self.lengthen(n.max(BLOCK))
+    }
+
+    // Moves the bytes to the front of the block.
+    fn close_up(&mut self)
+        ensures { self.new.bytes ≡ self.old.bytes }
+    {
         self.block.copy_within(self.start..self.end, 0);
         self.end -= self.start;
         self.start = 0;
-        let least = n.max(BLOCK);
-        if self.block.len() < least {
-            self.block.resize(least, 0)?;
+    }
+
+    // Makes the block this long, if it is shorter.
+    fn lengthen(&mut self, n: usize) -> Result<(), AllocError>
+        ensures { self.new.bytes ≡ self.old.bytes }
+    {
+        if self.block.len() < n {
+            self.block.resize(n, 0)?;
         }
         Ok(())
     }
@@ -142,12 +149,25 @@ impl Window {
         let left = size - held.length();
         let room = self.block.len() - self.end;
         let most = left.min(room as u64) as usize;
-        let Ok(count) = held.read_on(&mut self.block[self.end..self.end + most]) else {
+        let Ok(count) = read_into(held, self.block.as_mut_slice(), self.end, most) else {
             return Err(LoadFault::ReadFailed);
         };
         self.end += count;
         Ok(count)
     }
+}
+
+// One read more, of n bytes at most, into the block from a place on.
+fn read_into(held: &mut Held, block: &mut [u8], at: usize, n: usize) -> Result<usize, ReadFault>
+    requires { at + n ≤ length block.old }
+    ensures fits { IfOk result (λ count. count ≤ n) }
+    ensures grown { HasGrown held.old held.new }
+    ensures bytes { IfOk result (λ count.
+        held.new.bytes ≡ held.old.bytes ++ take count (drop at block.new)) }
+    ensures failed { OnErr result (held.new.bytes ≡ held.old.bytes) }
+    ensures front { take at block.new ≡ take at block.old }
+{
+    held.read_on(&mut block[at..at + n])
 }
 
 // How many bytes are read at once, if a trace has no more.

@@ -23,7 +23,6 @@ const LEAST: u64 = 1 << 18;
 // Reads on until the head of the file is told. Takes memory. Refused as `Window::hold`, and for
 // the first reason that the bytes give.
 pub fn read_head(
-    alloc: Global,
     held: &mut Held,
     window: &mut Window,
     size: u64,
@@ -44,8 +43,10 @@ pub fn read_head(
         let wanted = there.saturating_add(there.max(LEAST)).min(size);
         window.hold(held, wanted as usize, size)?;
         let front = window.front(window.len());
-        if let Some(head) = head_of_front(front, size, reading, limits)? {
-            return Ok(head);
+        match head_of_front(front, size, reading, limits) {
+            Ok(Some(head)) => return Ok(head),
+            Ok(None) => {}
+            Err(fault) => return Err(fault),
         }
     }
 }
@@ -78,7 +79,6 @@ pub fn read_front(
 // Reads the trace that begins at a place, in front of the data trailer records: how long it is.
 // Takes memory. Refused as `Window::hold`, and for the first reason that the bytes give.
 pub fn next_whole<T: Copy>(
-    alloc: Global,
     store: &mut TraceStore<T>,
     window: &mut Window,
     limits: Limits,
@@ -104,7 +104,10 @@ pub fn next_whole<T: Copy>(
     let p = u64::from(store.count()) + 1;
     let front = left.min(front_length(&store.head) as u64) as usize;
     store.hold(window, front, size)?;
-    let length = length_of_next(&store.head, limits, p, window.front(front), left)?;
+    let length = match length_of_next(&store.head, limits, p, window.front(front), left) {
+        Ok(length) => length,
+        Err(fault) => return Err(fault),
+    };
     store.hold(window, length as usize, size)?;
     Ok(length)
 }

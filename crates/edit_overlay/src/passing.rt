@@ -69,7 +69,7 @@ impl<T: Copy> Passing<T> {
     {
         let mut held = Held::on_pass(alloc, file);
         let mut window = Window::new(alloc);
-        let head = read_head(alloc, &mut held, &mut window, size, reading, limits)?;
+        let head = read_head(&mut held, &mut window, size, reading, limits)?;
         let front = read_front(alloc, &mut held, &mut window, head.traces_at as usize, size)?;
         let Ok(store) = TraceStore::over(alloc, held, head, 0) else {
             return Err(LoadFault::OutOfMemory);
@@ -91,7 +91,7 @@ impl<T: Copy> Passing<T> {
     /// one, and then no look. Takes memory where the trace is longer than those before. Refused:
     /// L01 where a read failed or the file ends in it, L13 to L15 for the first reason that the
     /// bytes give, L16 where no memory was. Then none is shown.
-    pub fn next_trace(&mut self, alloc: Global) -> Result<bool, LoadFault>
+    pub fn next_trace(&mut self) -> Result<bool, LoadFault>
         ensures same { self.new ≡ with_shown self.old self.new.shown self.new.looks }
         ensures trace { IfOk result (λ more. IsTrue more → IsTrace self.new.head self.new.shown) }
         ensures looked { IfOk result (λ more. IsTrue more →
@@ -108,7 +108,6 @@ impl<T: Copy> Passing<T> {
             return Ok(false);
         }
         self.next = next_whole(
-            alloc,
             &mut self.store,
             &mut self.window,
             self.limits,

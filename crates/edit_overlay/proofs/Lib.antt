@@ -6,3 +6,4 @@ pub mod PieceLemmas
 pub mod SavingLemmas
 pub mod StandingLemmas
 pub mod PassLemmas
+pub mod PassingLemmas

@@ -25,11 +25,13 @@ begins_less old new size file begins begun = record {
 -- there is one
 pub some_file : (read : List ℕ) (size : ℕ) → length read ≤ size → (file : List ℕ) × BeginsWith read size file
 some_file read size within =
-    let rest : List ℕ = replicate (size - length read) 0 in
-    (read ++ rest, record {
-      begins = take-append_seam read rest;
-      long = omega (arith, within, length-append read rest, length-replicate (size - length read) zero);
-    })
+    let rest : List ℕ = replicate (size - length read) 0 in (
+      read ++ rest,
+      record {
+        begins = take-append_seam read rest;
+        long = omega (arith, within, length-append read rest, length-replicate (size - length read) zero);
+      },
+    )
 
 -- ---- the bytes that are left for the traces
 

@@ -42,10 +42,10 @@ module _ {T : Type 0} where
   HasAllTraces p = p.at + TEXT_BLOCK_BYTES * p.head.trailer ≡ p.size
 
 -- no trace yet of a file of so many bytes
-pub record IsBegun {T : Type 0} (size : ℕ) (reading : Reading) (limits : Limits) (p : PassedFile T) : Type 0 where
-  pub size : p.size ≡ size
-  pub reading : p.reading ≡ reading
-  pub limits : p.limits ≡ limits
+pub record IsBegun {T : Type 0} (n : ℕ) (how : Reading) (within : Limits) (p : PassedFile T) : Type 0 where
+  pub size : p.size ≡ n
+  pub reading : p.reading ≡ how
+  pub limits : p.limits ≡ within
   pub traces : p.traces ≡ []
   pub payloads : p.payloads ≡ []
   pub shown : p.shown ≡ []

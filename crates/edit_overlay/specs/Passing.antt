@@ -49,8 +49,9 @@ pub record IsPassing {T : Type 0} (p : Inside T) : Type 0 where
   pub within : length p.store.loaded.bytes ≤ p.size
   pub next : IsNextOf p.store.loaded.bytes p.at p.window.bytes
   pub room : p.at + TEXT_BLOCK_BYTES * p.store.head.trailer ≤ p.size
-  pub front : p.front.items ≡ take p.store.head.traces_at p.store.loaded.bytes
+  pub front : p.front.items ≡ take (length p.front.items) p.store.loaded.bytes
+  pub long : length p.front.items ≡ p.store.head.traces_at
   pub shown : p.next ≤ length p.window.bytes
   pub fits : p.at + p.next + TEXT_BLOCK_BYTES * p.store.head.trailer ≤ p.size
   pub trace : 0 < p.next → (file : List ℕ) → BeginsWith p.store.loaded.bytes p.size file
-      → HasLengthAt file p.store.head p.limits (length extents + 1) p.at p.next
+      → HasLengthAt file p.store.head p.limits (length (traces_of p.store) + 1) p.at p.next

@@ -69,7 +69,10 @@ impl<T: Copy> Passing<T> {
     {
         let mut held = Held::on_pass(alloc, file);
         let mut window = Window::new(alloc);
-        let head = read_head(&mut held, &mut window, size, reading, limits)?;
+        let head = match read_head(&mut held, &mut window, size, reading, limits) {
+            Ok(head) => head,
+            Err(fault) => return Err(fault),
+        };
         let front = read_front(alloc, &mut held, &mut window, head.traces_at as usize, size)?;
         let Ok(store) = TraceStore::over(alloc, held, head, 0) else {
             return Err(LoadFault::OutOfMemory);
@@ -107,13 +110,17 @@ impl<T: Copy> Passing<T> {
         if left == TEXT_BLOCK_BYTES as u64 * u64::from(self.store.head.trailer) {
             return Ok(false);
         }
-        self.next = next_whole(
+        let read = next_whole(
             &mut self.store,
             &mut self.window,
             self.limits,
             self.size,
             self.at,
-        )?;
+        );
+        match read {
+            Ok(length) => self.next = length,
+            Err(fault) => return Err(fault),
+        }
         self.looks = self.looks.saturating_add(1);
         Ok(true)
     }
@@ -140,6 +147,8 @@ impl<T: Copy> Passing<T> {
             start: self.at,
             length: self.next,
         };
+        // Read for the proof alone, which learns that the traces can be counted in 32 bits.
+        let _most = self.limits.traces();
         let place = self.store.count() + 1;
         self.store
             .insert(alloc, place, Base::Loaded(extent), payload)?;

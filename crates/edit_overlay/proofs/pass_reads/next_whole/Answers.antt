@@ -32,4 +32,4 @@ returns-clause-whole g c =
       fits = omega (arith, c.min-front.ensures);
     } in
     length_at c.hold.new.self.loaded.bytes c.args.size s.head c.args.limits (length (traces_of s) + 1) c.args.at c.hold.new.window.bytes c.hold.new.self.head _ _ c.front.result.now c.min-front.result is c.in-Ok.length c.in-Ok.ensures.whole
-        c.hold-2.new.self.loaded.bytes c.hold-2.ensures.grown.loaded.begins
+    c.hold-2.new.self.loaded.bytes c.hold-2.ensures.grown.loaded.begins

@@ -1,5 +1,5 @@
 -- A file that is loaded in one pass over it and stays on disk.
-use Rattle.std.specs.Prelude.{ℕ, ◌≡◌, ◌+◌, ◌*◌, ◌≤◌, ◌⊎◌, true, IsTrue, List, [], ◌∷◌, ◌++◌, length}
+use Rattle.std.specs.Prelude.{ℕ, ◌≡◌, ◌+◌, ◌*◌, ◌<◌, ◌≤◌, ◌⊎◌, true, IsTrue, List, [], ◌∷◌, ◌++◌, length}
 use Rattle.text_block.specs.declared.block.TheConstants.{TEXT_BLOCK_BYTES}
 use Rattle.frame_cut.specs.declared.file_head.Head.{Head}
 use Rattle.frame_cut.specs.declared.limits.Limits.{Limits}
@@ -36,6 +36,10 @@ module _ {T : Type 0} where
     payloads = p.payloads ++ payload ∷ [];
     shown = [];
   }
+
+  -- a trace is shown, which lies in the file
+  abbrev pub HasShownInside : PassedFile T → Type 0
+  HasShownInside p = (0 < length p.shown) × (p.at + length p.shown ≤ p.size)
 
   -- behind the last trace: nothing is left but the data trailer records
   abbrev pub HasAllTraces : PassedFile T → Type 0

@@ -5,13 +5,13 @@ ghost use Rattle.frame_cut.specs.Volume.{bytes_of};
 ghost use Rattle.trace_store.specs.Windows.{IsFaultOfPass};
 ghost use Rattle.trace_view.specs.Shown.{head_of, bytes_of as shown_bytes};
 ghost use Rattle.edit_overlay.specs.CountedVolume.{one_more};
-ghost use Rattle.edit_overlay.specs.PassedFile.{with_passed, with_shown, HasAllTraces, IsBegun, IsPassed, IsPassFault};
+ghost use Rattle.edit_overlay.specs.PassedFile.{with_passed, with_shown, HasAllTraces, HasShownInside, IsBegun, IsPassed, IsPassFault};
 
 use crate::bytes::array_at;
 use crate::overlay::Overlay;
 use crate::pass_reads::{last_bytes, next_whole, read_front, read_head};
 use base_file::Held;
-use frame_cut::{BINARY_HEADER_BYTES, Extent, Limits, LoadFault, Reading};
+use frame_cut::{BINARY_HEADER_BYTES, Extent, Head, Limits, LoadFault, Reading};
 use std::alloc::Global;
 use std::fs::File;
 use std::marker::Model;
@@ -90,6 +90,13 @@ impl<T: Copy> Passing<T> {
         })
     }
 
+    /// What the headers say of the file's frame. Takes no memory.
+    pub fn head(&self) -> Head
+        ensures { result ≡ self.now.head }
+    {
+        self.store.head
+    }
+
     /// Reads the next trace, which is shown then, and counts one look more; false behind the last
     /// one, and then no look. Takes memory where the trace is longer than those before. Refused:
     /// L01 where a read failed or the file ends in it, L13 to L15 for the first reason that the
@@ -97,6 +104,7 @@ impl<T: Copy> Passing<T> {
     pub fn next_trace(&mut self) -> Result<bool, LoadFault>
         ensures same { self.new ≡ with_shown self.old self.new.shown self.new.looks }
         ensures trace { IfOk result (λ more. IsTrue more → IsTrace self.new.head self.new.shown) }
+        ensures inside { IfOk result (λ more. IsTrue more → HasShownInside self.new) }
         ensures looked { IfOk result (λ more. IsTrue more →
             self.new.looks ≡ one_more self.old.looks) }
         ensures end { IfOk result (λ more. IsFalse more → HasAllTraces self.new) }

@@ -43,6 +43,14 @@ pub record IsStill (old new : HeldBytes) : Type 0 where
   pub front : new.front ≡ old.front
   pub back : new.back ≡ old.back
 
+-- more bytes behind those that were there, which stand as they did
+pub record HasGrown (old new : HeldBytes) : Type 0 where
+  pub begins : take (length old.bytes) new.bytes ≡ old.bytes
+  pub standing : new.standing ≡ old.standing
+  pub room : new.room ≡ old.room
+  pub front : new.front ≡ old.front
+  pub back : new.back ≡ old.back
+
 -- what is lent: the bytes themselves, or what was read last
 abbrev pub lent_by : Standing → List ℕ → List ℕ → ℕ → ℕ → List ℕ
 lent_by InMemory bytes room at n = take n (drop at bytes)

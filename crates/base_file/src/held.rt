@@ -1,8 +1,9 @@
 // The bytes under a volume.
-ghost use Rattle.std.specs.Prelude.{◌≡◌, ◌+◌, ◌-◌, ◌≤◌, ◌↔◌, ◌⊎◌, length, take, drop, IsOk, IsTrue, OnOk};
+ghost use Rattle.std.specs.Prelude.{◌≡◌, ◌+◌, ◌-◌, ◌≤◌, ◌↔◌, ◌⊎◌, ◌++◌, true, [], length, take, drop, IfOk, IsOk, IsTrue, OnErr, OnOk};
 
 use crate::base::Base;
 use crate::disk::Disk;
+use crate::loading::Loading;
 use crate::memory::Memory;
 use crate::read_fault::ReadFault;
 use crate::source::Source;
@@ -37,7 +38,7 @@ impl Model for Held {
 
 impl Held {
     ghost use Rattle.base_file.specs.Disks.{bytes_of, is_agreed};
-    ghost use Rattle.base_file.specs.HeldBytes.{InMemory, OnDisk, IsInMemory, IsStill, IsSure, AreThere, lent_of};
+    ghost use Rattle.base_file.specs.HeldBytes.{InMemory, OnDisk, HasGrown, IsInMemory, IsStill, IsSure, AreThere, lent_of};
 
     /// Bytes in memory. Takes no memory.
     pub fn in_memory(alloc: Global, bytes: Vec<u8>) -> Held
@@ -75,6 +76,81 @@ impl Held {
         }
     }
 
+    /// A file that is read from its front to its end, once, by `read_on`: none of its bytes yet.
+    /// Takes no memory.
+    pub fn on_pass(alloc: Global, file: File) -> Held
+        ensures bytes { result.bytes ≡ [] }
+        ensures standing { result.standing ≡ OnDisk true }
+    {
+        Held {
+            source: Source::Pass(Loading::new(file)),
+            room: Vec::new(alloc),
+            front: Vec::new(alloc),
+            back: Vec::new(alloc),
+        }
+    }
+
+    /// The next bytes of a file that is being read, into the front of the block: how many, and 0 at
+    /// the end or where the block is empty; 0 too where the bytes are in memory, or the pass has
+    /// ended. Takes no memory. Refused where the file failed, and where there are more than 2^62
+    /// bytes; the pass then stands where it stood.
+    pub fn read_on(&mut self, block: &mut [u8]) -> Result<usize, ReadFault>
+        ensures fits { IfOk result (λ n. n ≤ length block.new) }
+        ensures bytes { IfOk result (λ n. self.new.bytes ≡ self.old.bytes ++ take n block.new) }
+        ensures failed { OnErr result (self.new.bytes ≡ self.old.bytes) }
+        ensures standing { self.new.standing ≡ self.old.standing }
+        ensures room { self.new.room ≡ self.old.room }
+        ensures front { self.new.front ≡ self.old.front }
+        ensures back { self.new.back ≡ self.old.back }
+    {
+        match &mut self.source {
+            Source::Pass(loading) => loading.next(block),
+            Source::Memory(_) | Source::Disk(_) => Ok(0),
+        }
+    }
+
+    /// Whether a file that is being read has no more bytes; true where the bytes are in memory, or
+    /// the pass has ended. Takes no memory. Refused as `read_on`.
+    pub fn is_at_end(&mut self) -> Result<bool, ReadFault>
+        ensures grown { HasGrown self.old self.new }
+        ensures end { IfOk result (λ end. IsTrue end → self.new.bytes ≡ self.old.bytes) }
+    {
+        let mut byte = [0];
+        let count = self.read_on(&mut byte)?;
+        Ok(count == 0)
+    }
+
+    /// The bytes as they were read so far: the pass ends. With room for as many as are to be lent
+    /// at once, and with the first and the last of them; of bytes in memory nothing changes. Takes
+    /// no memory.
+    pub fn settle(self, room: Vec<u8>, front: Vec<u8>, back: Vec<u8>) -> Held
+        requires front { front.items ≡ take (length front.items) self.bytes }
+        requires back { back.items ≡ drop (length self.bytes - length back.items) self.bytes }
+        requires fits { length back.items ≤ length self.bytes }
+        ensures bytes { result.bytes ≡ self.bytes }
+        ensures standing { result.standing ≡ self.standing }
+        ensures room { ¬ IsInMemory self.standing → result.room ≡ room.items }
+        ensures front { ¬ IsInMemory self.standing → result.front ≡ length front.items }
+        ensures back { ¬ IsInMemory self.standing → result.back ≡ length back.items }
+    {
+        let Held {
+            source,
+            room: old_room,
+            front: old_front,
+            back: old_back,
+        } = self;
+        match source {
+            Source::Memory(memory) => Held {
+                source: Source::Memory(memory),
+                room: old_room,
+                front: old_front,
+                back: old_back,
+            },
+            Source::Disk(disk) => Held::on_disk(disk, room, front, back),
+            Source::Pass(loading) => Held::on_disk(loading.finish(), room, front, back),
+        }
+    }
+
     /// How many bytes there are. Takes no memory.
     pub fn length(&self) -> u64
         ensures { result ≡ length self.now.bytes }
@@ -82,6 +158,7 @@ impl Held {
         match &self.source {
             Source::Memory(memory) => memory.length(),
             Source::Disk(disk) => disk.length(),
+            Source::Pass(loading) => loading.length(),
         }
     }
 
@@ -92,7 +169,7 @@ impl Held {
     {
         match &self.source {
             Source::Memory(_) => true,
-            Source::Disk(_) => false,
+            Source::Disk(_) | Source::Pass(_) => false,
         }
     }
 
@@ -104,7 +181,7 @@ impl Held {
     {
         match &self.source {
             Source::Memory(memory) => memory.bytes.len(),
-            Source::Disk(_) => self.room.len(),
+            Source::Disk(_) | Source::Pass(_) => self.room.len(),
         }
     }
 
@@ -116,7 +193,7 @@ impl Held {
     {
         match &self.source {
             Source::Memory(memory) => memory.bytes.as_slice(),
-            Source::Disk(_) => unreachable!(),
+            Source::Disk(_) | Source::Pass(_) => unreachable!(),
         }
     }
 
@@ -143,6 +220,7 @@ impl Held {
                 read_front(disk, at, n, self.room.as_mut_slice())?;
                 Ok(())
             }
+            Source::Pass(_) => Err(ReadFault::ReadFailed),
         }
     }
 
@@ -154,7 +232,7 @@ impl Held {
     {
         match &self.source {
             Source::Memory(memory) => part(memory.bytes.as_slice(), at, n),
-            Source::Disk(_) => &self.room[..n],
+            Source::Disk(_) | Source::Pass(_) => &self.room[..n],
         }
     }
 
@@ -174,6 +252,8 @@ impl Held {
                 }
                 part(self.front.as_slice(), at, n)
             }
+            // None are kept, so that n is 0.
+            Source::Pass(_) => self.front.as_slice(),
         }
     }
 }

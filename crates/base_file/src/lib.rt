@@ -9,8 +9,10 @@
 //!
 //! `Held` is the one of the two that a volume stands on, with room for what is lent; its `Standing`
 //! says which. What is to be seen is read first (`fetch`), and lent then (`lent`). The first bytes
-//! of a file on disk and its last are kept, and shown without a read (`edge`). Every call but
-//! `Held::in_memory` and `Held::on_disk`, which are given their memory, takes none.
+//! of a file on disk and its last are kept, and shown without a read (`edge`). A file that is
+//! being loaded is held too (`Held::on_pass`): its bytes are those that the pass gave so far
+//! (`read_on`), until it is the file on disk (`settle`). No call takes memory: `Held::in_memory`,
+//! `Held::on_disk` and `settle` are given theirs.
 #![tactic(auto)]
 
 mod base;

@@ -5,3 +5,5 @@ pub mod LookLemmas
 pub mod PieceLemmas
 pub mod SavingLemmas
 pub mod StandingLemmas
+pub mod PassLemmas
+pub mod PassingLemmas

@@ -6,3 +6,6 @@ pub mod CountedVolume
 pub mod LoadedVolume
 pub mod Looks
 pub mod Standings
+pub mod PassedFile
+pub mod Passing
+pub mod PassReads

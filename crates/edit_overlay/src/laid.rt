@@ -1,5 +1,5 @@
-// The traces of a store with the edit that is prepared over them, if one is. Both stand in one place,
-// so that the trace as it would be is lent from there.
+// The traces of a store with the edit that is prepared over them, if one is. Both stand in one
+// place, so that the trace as it would be is lent from there.
 ghost use Rattle.std.specs.Prelude.{◌≡◌, ◌-◌, ◌≤◌, [], length, slice_index_or, IsOk, OnOk};
 ghost use Rattle.base_file.specs.HeldBytes.{IsInMemory, IsSure};
 ghost use Rattle.trace_store.specs.Ahead.{traces_ahead, IsReadyIfSome};

@@ -10,3 +10,6 @@ pub mod Each
 pub mod OneProof
 pub mod Shown
 pub mod Examples
+pub mod Grown
+pub mod WindowIn
+pub mod Windows

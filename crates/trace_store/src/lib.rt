@@ -11,6 +11,9 @@
 //! and is a whole trace, whatever a file on disk gives; it is the trace where each read since the
 //! load gave the bytes of the load, and in memory always.
 //!
+//! A store may stand over a file that is still being read, from its front to its end (`hold`): what
+//! was read and is not taken yet is in a [`Window`]. More bytes change no trace.
+//!
 //! An edit has two parts: what is [`Prepared`] takes all the memory and changes nothing, and
 //! `commit`, which takes none and cannot fail, makes the edit. A [`Column`] lends the payloads
 //! alone. A look at a trace is refused with a `ReadFault`, an edit with `OutOfMemory`; then nothing
@@ -23,6 +26,7 @@ mod payloads;
 mod prepared;
 mod slot;
 mod store;
+mod window;
 
 pub use crate::column::Column;
 pub use crate::out_of_memory::OutOfMemory;
@@ -30,3 +34,4 @@ pub use crate::payloads::Payloads;
 pub use crate::prepared::{Prepared, TraceMove, TracePut, TraceRuns};
 pub use crate::slot::{Base, Slot};
 pub use crate::store::TraceStore;
+pub use crate::window::Window;

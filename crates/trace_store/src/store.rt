@@ -1,5 +1,5 @@
 // The traces of a volume: an order of ids, and a slot under each.
-ghost use Rattle.std.specs.Prelude.{◌≡◌, ℕ, ◌+◌, ◌-◌, ◌/◌, ◌%◌, ◌^◌, ◌<◌, ◌≤◌, [], ◌∷◌, length, take, drop, Some, None, option_copied, slice_index_or, slice_set, IfOk, IfSome, IsOk, OnOk, OnErr, slice_get};
+ghost use Rattle.std.specs.Prelude.{◌≡◌, ℕ, ◌+◌, ◌-◌, ◌/◌, ◌%◌, ◌^◌, ◌<◌, ◌≤◌, [], ◌∷◌, length, take, drop, Some, None, option_copied, slice_index_or, slice_set, IfErr, IfOk, IfSome, IsOk, IsTrue, OnOk, OnErr, slice_get};
 ghost use Rattle.std.specs.List.{insert, remove, swap};
 ghost use Rattle.base_file.specs.HeldBytes.{InMemory, AreThere, IsInMemory, IsStill, IsSure, lent_of};
 ghost use Rattle.frame_cut.specs.Cuts.{IsTrace};
@@ -16,8 +16,9 @@ ghost use Rattle.trace_store.specs.OneProof.{IsStore-prop};
 use crate::out_of_memory::OutOfMemory;
 use crate::prepared::{Prepared, TraceMove, TracePut, TraceRuns};
 use crate::slot::{Base, Slot, piece};
+use crate::window::Window;
 use base_file::{Held, ReadFault};
-use frame_cut::{Extent, Head};
+use frame_cut::{Extent, Head, LoadFault};
 use slab::Slab;
 use std::alloc::Global;
 use std::mem;
@@ -42,6 +43,8 @@ impl<T: Copy> TraceStore<T> {
     ghost use Rattle.trace_store.specs.Ahead.{traces_moved, traces_then, traces_with, AreRunsFrom, AreRunsOf, IsReady};
     ghost use Rattle.trace_store.specs.Stores.{bases_of, payload_under, traces_of, payloads_of, payloads_moved, payloads_then};
     ghost use Rattle.trace_store.specs.Fetched.{trace_with, IsFetched, IsFetchedThen, IsFetchedWith, MayLie};
+    ghost use Rattle.trace_store.specs.Grown.{HasMore};
+    ghost use Rattle.trace_store.specs.Windows.{IsFaultOfPass, IsNextOf};
     ghost use Rattle.trace_store.specs.Swapped.{with_swapped, ArePlaces};
 
     /// No traces yet over a file that was loaded into memory, with room for so many slots. Refused
@@ -82,6 +85,58 @@ impl<T: Copy> TraceStore<T> {
             order: ChunkSeq::new(alloc),
             slots: Slab::with_capacity(alloc, room)?,
         })
+    }
+
+    /// Reads a file that is being passed on, until the window has n bytes. Refused as
+    /// `Window::hold`.
+    pub fn hold(&mut self, window: &mut Window, n: usize, size: u64) -> Result<(), LoadFault>
+        requires { length self.old.loaded.bytes ≤ size }
+        ensures grown { HasMore self.old self.new }
+        ensures next { (at : ℕ) → IsNextOf self.old.loaded.bytes at window.old.bytes →
+            IsNextOf self.new.loaded.bytes at window.new.bytes }
+        ensures within { length self.new.loaded.bytes ≤ size }
+        ensures there { OnOk result (n ≤ length window.new.bytes) }
+        ensures fault { IfErr result IsFaultOfPass }
+    {
+        window.hold(&mut self.loaded, n, size)
+    }
+
+    /// Whether the file that is being passed has no more bytes. Refused as `Held::is_at_end`. Takes
+    /// no memory.
+    pub fn is_at_end(&mut self) -> Result<bool, ReadFault>
+        ensures grown { HasMore self.old self.new }
+        ensures end { IfOk result (λ end. IsTrue end →
+            self.new.loaded.bytes ≡ self.old.loaded.bytes) }
+    {
+        self.loaded.is_at_end()
+    }
+
+    /// The store of the file that was passed, with what `Held::settle` keeps of it. Takes no
+    /// memory.
+    pub fn settle(self, room: Vec<u8>, front: Vec<u8>, back: Vec<u8>) -> TraceStore<T>
+        requires front { front.items ≡ take (length front.items) self.loaded.bytes }
+        requires back { back.items
+            ≡ drop (length self.loaded.bytes - length back.items) self.loaded.bytes }
+        requires fits { length back.items ≤ length self.loaded.bytes }
+        ensures head { result.head ≡ self.head }
+        ensures bytes { result.loaded.bytes ≡ self.loaded.bytes }
+        ensures standing { result.loaded.standing ≡ self.loaded.standing }
+        ensures room { ¬ IsInMemory self.loaded.standing →
+            result.loaded.room ≡ room.items }
+        ensures front { ¬ IsInMemory self.loaded.standing →
+            result.loaded.front ≡ length front.items }
+        ensures back { ¬ IsInMemory self.loaded.standing →
+            result.loaded.back ≡ length back.items }
+        ensures traces { traces_of result ≡ traces_of self }
+        ensures payloads { payloads_of result ≡ payloads_of self }
+    {
+        let loaded = self.loaded.settle(room, front, back);
+        TraceStore {
+            loaded,
+            head: self.head,
+            order: self.order,
+            slots: self.slots,
+        }
     }
 
     /// The number of traces.

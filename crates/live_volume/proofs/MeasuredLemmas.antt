@@ -5,7 +5,7 @@ use Rattle.std.specs.List.{concat, insert, remove, AllByRecursion}
 use Rattle.std.specs.List.Sorted.{IsPermutation}
 use Rattle.std.proofs.lemmas.List.{get_or-map, length-append, length-map, length-set, length-drop, length-take-le, map-set, take-append-drop}
 use Rattle.std.proofs.lemmas.List.Edits.{length-remove}
-use Rattle.std.proofs.lemmas.List.Elements.{All-append, All-cons, All-drop, All-get_or, All-head, All-nil, All-set, All-tail, All-take, recursion_from_All}
+use Rattle.std.proofs.lemmas.List.Elements.{All-append, All-cons, All-drop, All-get_or, All-nil, All-set, All-take, recursion_from_All}
 use Rattle.std.proofs.lemmas.List.Sorted.{All-permutation, sum_by-IsPermutation, length_permutation}
 use Rattle.std.proofs.lemmas.List.Sums.{sum_by-cons}
 use Rattle.std.proofs.lemmas.Option.{slice_get-get_or}
@@ -15,8 +15,7 @@ use Rattle.frame_cut.specs.declared.file_head.Head.{Head}
 use Rattle.frame_cut.specs.declared.limits.Limits.{Limits}
 use Rattle.frame_cut.specs.declared.reading.Reading.{Reading}
 use Rattle.frame_cut.specs.Cuts.{IsTrace, IsCut}
-use Rattle.frame_cut.specs.Frames.{front_length, sample_count}
-use Rattle.frame_cut.specs.Parts.{put_each_at, with_each, with_header_bytes, with_inserted, with_line, with_moved, without}
+use Rattle.frame_cut.specs.Parts.{put_each_at, with_header_bytes, with_inserted, with_line, with_moved, without}
 use Rattle.frame_cut.specs.Splice.{splice}
 use Rattle.frame_cut.specs.Traces.{count_of, trace_at, with_trace}
 use Rattle.frame_cut.specs.Volume.{Volume, bytes_of, front_of}

@@ -4,7 +4,6 @@ use Rattle.frame_cut.specs.Traces.{trace_at}
 use Rattle.trace_record.specs.declared.record.Record.{Record}
 use Rattle.live_volume.specs.Held.{HasSamplesOf}
 use Rattle.live_volume.proofs.HeldLemmas.{if_ok}
-use Rattle.live_volume.proofs.MeasuredLemmas.{measured_set}
 use Rattle.live_volume.proofs.volume_edits.new_record.Goals as goal
 
 pub returns-in-Some-clause-record : goal.returns-in-Some-clause-record

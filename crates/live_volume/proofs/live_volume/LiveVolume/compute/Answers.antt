@@ -1,4 +1,4 @@
-use Rattle.std.proofs.Common.{◌≡◌, ◌∙◌, ◌+◌, ◌-◌, ◌*◌, ◌<◌, List, ℕ, length, IsTrue, None, ap, sym, subst, arith}
+use Rattle.std.proofs.Common.{◌≡◌, ◌∙◌, ◌+◌, ◌-◌, List, ℕ, length, IsTrue, None, ap, sym, subst, arith}
 use Rattle.frame_cut.specs.Parts.{with_each}
 use Rattle.bench_rules.specs.declared.edit.Edit.{Edit}
 use Rattle.bench_rules.specs.declared.edit.Edit.TheVariants.{Compute}
@@ -6,9 +6,8 @@ use Rattle.bench_rules.specs.State.{State}
 use Rattle.bench_rules.specs.Steps.{IsAfter}
 use Rattle.bench_rules.proofs.FirstLemmas.{AreTraces}
 use Rattle.bench_rules.proofs.HeaderEditLemmas.{after_cut}
-use Rattle.live_volume.specs.Places.{EachHolds}
 use Rattle.live_volume.proofs.ComputedLemmas.{Lays, compute_told, computed_looks, computed_twice, in_range, lays}
-use Rattle.live_volume.proofs.HeldLemmas.{left_as_it_was, on_ok, read_as_either, read_as_through, stepped, under}
+use Rattle.live_volume.proofs.HeldLemmas.{on_ok, read_as_either, read_as_through, stepped, under}
 use Rattle.live_volume.proofs.RoomLemmas.{ArePartsOf, each_inside, parts_of}
 use Rattle.live_volume.proofs.live_volume.LiveVolume.compute.Goals as goal
 

@@ -1,5 +1,4 @@
-use Rattle.std.proofs.Common.{◌≡◌, ◌∙◌, ◌<◌, IsTrue, sym, subst, refl, arith}
-use Rattle.frame_cut.specs.Volume.{Volume}
+use Rattle.std.proofs.Common.{◌∙◌, sym, refl, arith}
 use Rattle.bench_rules.specs.declared.edit.Edit.TheVariants.{Copy}
 use Rattle.bench_rules.specs.State.{State}
 use Rattle.live_volume.specs.Held.{state_of}

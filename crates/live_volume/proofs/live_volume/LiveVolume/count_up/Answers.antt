@@ -1,9 +1,8 @@
-use Rattle.std.proofs.Common.{◌≡◌, ◌∙◌, ℕ, ◌+◌, ◌-◌, ◌*◌, ◌/◌, ◌<◌, ◌≤◌, List, [], length, get_or, IsTrue, None, sym, ap, subst, refl, rules, arith}
+use Rattle.std.proofs.Common.{◌≡◌, ◌∙◌, ℕ, ◌+◌, ◌-◌, List, length, IsTrue, None, sym, ap, subst, refl, rules, arith}
 use Rattle.std.proofs.lemmas.Int.{to_z-of_z}
 use Rattle.std.specs.Int.{w128}
 use mir.Val.{SFits}
 use Rattle.frame_cut.specs.Parts.{with_each}
-use Rattle.frame_cut.specs.Traces.{count_of}
 use Rattle.bench_rules.specs.declared.edit.Edit.TheVariants.{Renumber}
 use Rattle.bench_rules.specs.declared.field.Field.TheVariants as field
 use Rattle.bench_rules.specs.Refused.{first_refusal}
@@ -14,8 +13,7 @@ use Rattle.bench_rules.proofs.HeaderEditLemmas.{after_cut}
 use Rattle.bench_rules.proofs.ManyValueLemmas.{ValuesFitIn}
 use Rattle.bench_rules.proofs.RenumberLemmas.{renumber_fits, renumber_done}
 use Rattle.live_volume.specs.Held.{state_of}
-use Rattle.live_volume.specs.Places.{EachHolds}
-use Rattle.live_volume.proofs.HeldLemmas.{if_ok, on_ok, read_as_either}
+use Rattle.live_volume.proofs.HeldLemmas.{on_ok, read_as_either}
 use Rattle.live_volume.proofs.RoomLemmas.{ArePartsOf, each_inside, length-counted, parts_of}
 use Rattle.live_volume.proofs.live_volume.LiveVolume.count_up.Goals as goal
 

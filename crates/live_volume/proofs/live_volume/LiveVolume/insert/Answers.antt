@@ -14,7 +14,7 @@ use Rattle.std.specs.List.{insert}
 use Rattle.volume_records.proofs.EditLemmas.{records-with_inserted}
 use Rattle.live_volume.proofs.EditLemmas.{held_edited, held_unedited}
 use Rattle.live_volume.proofs.MeasuredLemmas.{as_many, few_measured, frame_inserted, header_of_trace, measured_insert}
-use Rattle.live_volume.specs.Held.{records_in, AreMeasured, HasFrame}
+use Rattle.live_volume.specs.Held.{records_in}
 use Rattle.live_volume.proofs.live_volume.LiveVolume.insert.Goals as goal
 
 pub insert-requires-clause-counted : goal.insert-requires-clause-counted

@@ -1,9 +1,6 @@
-use Rattle.std.proofs.Common.{◌≡◌, ◌∙◌, ◌≤◌, ◌+◌, IsTrue, length, sym, subst, refl, ap, arith, List, ℕ}
-use Rattle.frame_cut.specs.Cuts.{IsTrace}
+use Rattle.std.proofs.Common.{◌≡◌, ◌∙◌, IsTrue, sym, subst, refl}
 use Rattle.frame_cut.specs.Parts.{with_inserted}
-use Rattle.frame_cut.specs.Traces.{count_of}
-use Rattle.frame_cut.specs.Volume.{Volume, bytes_of}
-use Rattle.trace_record.specs.OfTrace.{record_of}
+use Rattle.frame_cut.specs.Volume.{Volume}
 use Rattle.bench_rules.specs.declared.edit.Edit.TheVariants.{Blank}
 use Rattle.bench_rules.specs.State.{State}
 use Rattle.bench_rules.specs.Steps.{IsAfter}

@@ -1,4 +1,4 @@
-use Rattle.std.proofs.Common.{◌≡◌, ◌∙◌, ◌-◌, ◌≤◌, ◌+◌, IsTrue, ap, sym, subst, refl, List, ℕ, length, arith}
+use Rattle.std.proofs.Common.{◌≡◌, ◌∙◌, ◌-◌, ◌≤◌, ◌+◌, IsTrue, ap, sym, subst, refl, length, arith}
 use Rattle.frame_cut.specs.Cuts.{IsTrace}
 use Rattle.frame_cut.specs.Parts.{with_inserted}
 use Rattle.frame_cut.specs.Traces.{count_of, trace_at}
@@ -13,7 +13,7 @@ use Rattle.bench_rules.proofs.HeaderEditLemmas.{after_cut}
 use Rattle.bench_rules.proofs.TraceStepLemmas.{copy_done}
 use Rattle.volume_records.proofs.RecordLemmas.{record_at, record_beside}
 use Rattle.live_volume.specs.Held.{state_of, with_volume, IsCutAs, records_in}
-use Rattle.live_volume.proofs.HeldLemmas.{on_ok, read_as_before, read_as_either, read_as_through}
+use Rattle.live_volume.proofs.HeldLemmas.{on_ok, read_as_either, read_as_through}
 use Rattle.live_volume.proofs.MeasuredLemmas.{measured_at}
 use Rattle.live_volume.proofs.live_volume.LiveVolume.insert_copy.Goals as goal
 

@@ -1,4 +1,4 @@
-use Rattle.std.proofs.Common.{◌≡◌, ◌∙◌, ◌<◌, IsTrue, sym, subst, refl, arith, inl, inr}
+use Rattle.std.proofs.Common.{◌≡◌, sym, subst, refl, arith}
 use Rattle.frame_cut.specs.Volume.{Volume}
 use Rattle.bench_rules.specs.declared.edit.Edit.TheVariants.{Patch}
 use Rattle.bench_rules.specs.State.{State}

@@ -1,4 +1,4 @@
-use Rattle.std.proofs.Common.{◌≡◌, ◌∙◌, ◌+◌, ◌-◌, ◌≤◌, ℕ, List, IsTrue, ap, sym, arith, subst, length, true, rules}
+use Rattle.std.proofs.Common.{◌≡◌, ◌∙◌, ◌+◌, ◌≤◌, ℕ, List, IsTrue, ap, sym, subst, length, true, rules}
 use Rattle.std.specs.Prelude.{IfSome}
 use Rattle.field_map.specs.Pairs.{Pairs}
 use Rattle.frame_cut.specs.Splice.{splice}
@@ -9,7 +9,7 @@ use Rattle.trace_record.specs.Facts.{facts_of}
 use Rattle.trace_record.specs.OfTrace.{record_of}
 use Rattle.trace_record.specs.declared.record.Record.{Record}
 use Rattle.trace_record.specs.declared.packed_record.PackedRecord.{PackedRecord}
-use Rattle.edit_overlay.specs.CountedVolume.{CountedVolume, after_look, with_prepared}
+use Rattle.edit_overlay.specs.CountedVolume.{CountedVolume, after_look}
 use Rattle.frame_cut.proofs.EditLemmas.{length-splice}
 use Rattle.live_volume.specs.Held.{HasSamplesOf}
 use Rattle.live_volume.proofs.HeldLemmas.{trace_again, is_trace_with}

@@ -1,4 +1,4 @@
-use Rattle.std.proofs.Common.{◌≡◌, ◌∙◌, ℕ, ◌+◌, ◌-◌, ◌*◌, ◌/◌, ◌%◌, ◌<◌, ◌≤◌, ◌^◌, IsTrue, List, [], ap, sym, subst, length, map, take, drop, get_or, rules, arith}
+use Rattle.std.proofs.Common.{◌≡◌, ◌∙◌, ℕ, ◌+◌, ◌-◌, ◌/◌, ◌<◌, ◌≤◌, IsTrue, List, [], ap, sym, subst, length, map, take, drop, get_or, rules, arith}
 use Rattle.std.specs.Prelude.{not}
 use Rattle.std.proofs.lemmas.List.{drop-map, take-map}
 use Rattle.field_map.specs.Pairs.{Pairs}
@@ -12,7 +12,7 @@ use Rattle.trace_record.specs.declared.record.Record.{Record}
 use Rattle.trace_record.specs.Packed.{record_in}
 use Rattle.edit_overlay.specs.CountedVolume.{CountedVolume}
 use Rattle.trace_record.specs.declared.packed_record.PackedRecord.{PackedRecord}
-use Rattle.live_reports.specs.Exchanged.{with_records, same_cells}
+use Rattle.live_reports.specs.Exchanged.{same_cells}
 use Rattle.volume_records.specs.OfVolume.{AreHeaderParts, headers_of}
 use Rattle.volume_records.proofs.EachLemmas.{length-put_each, made_so}
 use Rattle.live_volume.specs.Held.{state_of, records_in}

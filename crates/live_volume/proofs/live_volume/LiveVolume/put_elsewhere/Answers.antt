@@ -1,4 +1,4 @@
-use Rattle.std.proofs.Common.{◌≡◌, ◌∙◌, ◌-◌, ◌<◌, IsTrue, List, map, ap, sym, subst, arith, refl}
+use Rattle.std.proofs.Common.{◌≡◌, ◌∙◌, ◌-◌, IsTrue, List, map, ap, sym, subst, arith, refl}
 use Rattle.frame_cut.specs.Parts.{with_moved}
 use Rattle.frame_cut.specs.Volume.{Volume}
 use Rattle.bench_rules.specs.declared.edit.Edit.TheVariants.{Move}

@@ -1,11 +1,11 @@
-use Rattle.std.proofs.Common.{◌≡◌, ◌∙◌, ◌+◌, ◌-◌, ◌≤◌, IsTrue, ap, sym, subst, rules, refl, length, List, ℕ, arith}
+use Rattle.std.proofs.Common.{◌≡◌, ◌∙◌, ◌+◌, ◌≤◌, IsTrue, ap, sym, subst, rules, refl, length, List, ℕ, arith}
 use Rattle.std.proofs.lemmas.Int.{to_z-of_z}
 use Rattle.std.specs.Int.{w128}
 use mir.Val.{SFits}
 use Rattle.num_order.proofs.InRangeLemmas.{in_range, length-number}
 use Rattle.num_order.specs.Number.{bytes}
 use Rattle.frame_cut.specs.Splice.{splice}
-use Rattle.frame_cut.specs.Traces.{count_of, trace_at, with_trace}
+use Rattle.frame_cut.specs.Traces.{trace_at, with_trace}
 use Rattle.frame_cut.specs.Volume.{Volume}
 use Rattle.trace_view.specs.Values.{samples_at}
 use Rattle.trace_record.specs.Facts.{facts_of, with_samples_of}

@@ -1,4 +1,4 @@
-use Rattle.std.proofs.Common.{◌≡◌, ◌∙◌, ◌+◌, ◌*◌, ◌≤◌, ◌^◌, IsTrue, ℕ, List, ap, sym, subst, refl, length, arith}
+use Rattle.std.proofs.Common.{◌≡◌, ◌∙◌, IsTrue, ℕ, List, ap, sym, subst, refl, length, arith}
 use Rattle.std.specs.Prelude.{Option, Some, unwrap_or}
 use Rattle.sample_codes.specs.declared.integer_format.IntegerFormat.{IntegerFormat}
 use Rattle.sample_codes.specs.Formats.{values as read_as, samples_bytes, sample_fits}

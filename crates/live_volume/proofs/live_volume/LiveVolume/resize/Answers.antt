@@ -1,10 +1,9 @@
-use Rattle.std.proofs.Common.{◌≡◌, ◌∙◌, ◌+◌, ◌-◌, ◌<◌, ◌≤◌, IsTrue, None, sym, ap, subst, refl, rules, arith, length, List, ℕ}
+use Rattle.std.proofs.Common.{◌≡◌, ◌∙◌, IsTrue, None, sym, ap, subst, refl, rules, arith, List, ℕ}
 use Rattle.std.specs.Prelude.{nat_abs, IfErr, OnErr}
 use Rattle.std.proofs.lemmas.Int.{to_z-of_z}
 use Rattle.std.specs.Int.{w128}
 use mir.Val.{SFits}
 use Rattle.field_map.specs.Pairs.{Pairs}
-use Rattle.frame_cut.specs.Cuts.{IsTrace}
 use Rattle.frame_cut.specs.declared.file_head.Head.{Head}
 use Rattle.frame_cut.specs.Traces.{trace_at, with_trace}
 use Rattle.frame_cut.specs.Volume.{Volume}

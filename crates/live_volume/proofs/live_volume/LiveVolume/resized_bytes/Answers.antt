@@ -1,11 +1,11 @@
-use Rattle.std.proofs.Common.{◌≡◌, ◌∙◌, ◌+◌, ◌≤◌, ap, ap₂, sym, subst, length, List, ℕ, Option, Some, None, true, refl, arith, rules, IsTrue, inr}
+use Rattle.std.proofs.Common.{◌≡◌, ◌∙◌, ap₂, sym, subst, List, ℕ, Option, Some, None, refl, arith, rules, inr}
 use Rattle.std.specs.Prelude.{nat_abs}
 use Rattle.std.proofs.lemmas.Int.{to_z-of_z}
 use Rattle.std.specs.Int.{w128}
 use mir.Val.{SFits}
 use Rattle.std.proofs.lemmas.Bool.{leb-true}
 use Rattle.frame_cut.specs.declared.file_head.Head.{Head}
-use Rattle.frame_cut.specs.Traces.{count_of, is_trace}
+use Rattle.frame_cut.specs.Traces.{count_of}
 use Rattle.frame_cut.specs.Volume.{Volume}
 use Rattle.trace_view.specs.Shown.{bytes_of, head_of}
 use Rattle.bench_rules.specs.declared.edit.Edit.TheVariants.{Resize}

@@ -1,4 +1,4 @@
-use Rattle.std.proofs.Common.{◌≡◌, ◌∙◌, ◌<◌, IsTrue, sym, subst, refl, arith, rules}
+use Rattle.std.proofs.Common.{◌∙◌, sym, subst, refl, arith, rules}
 use Rattle.std.proofs.lemmas.Int.{to_z-of_z}
 use Rattle.std.specs.Int.{w128}
 use mir.Val.{SFits}
@@ -8,7 +8,7 @@ use Rattle.bench_rules.specs.declared.field.Field.TheVariants as field
 use Rattle.bench_rules.specs.State.{State}
 use Rattle.volume_answers.specs.Rooms.{HasRoom}
 use Rattle.live_volume.specs.Held.{state_of}
-use Rattle.live_volume.proofs.HeldLemmas.{held_again, left_as_it_was, looked_at, on_ok, read_as_through, read_refused, stepped, told_first}
+use Rattle.live_volume.proofs.HeldLemmas.{looked_at, on_ok, read_refused, stepped, told_first}
 use Rattle.live_volume.proofs.live_volume.LiveVolume.set.Goals as goal
 
 pub put_value-requires-clause-room : goal.put_value-requires-clause-room

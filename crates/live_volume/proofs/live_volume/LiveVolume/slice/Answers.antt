@@ -1,13 +1,10 @@
-use Rattle.std.proofs.Common.{◌≡◌, ◌∙◌, ap, sym, subst, List, IsTrue}
-use Rattle.std.specs.Prelude.{OnOk}
+use Rattle.std.proofs.Common.{◌≡◌, ◌∙◌, IsTrue}
 use Rattle.frame_cut.specs.Volume.{Volume}
-use Rattle.time_slice.specs.declared.row.Row.{Row}
-use Rattle.time_slice.specs.Cache.{after_slice}
 use Rattle.time_slice.specs.OfRecords.{with_sample_of}
 use Rattle.time_slice.specs.Slices.{slice_rows, slice_of}
 use Rattle.time_slice.proofs.CacheLemmas.{right_of_records}
 use Rattle.time_slice.proofs.PassLemmas.{rows_are_of_traces}
-use Rattle.live_volume.proofs.HeldLemmas.{if_ok, held_again, kept_as_told, looked_at}
+use Rattle.live_volume.proofs.HeldLemmas.{if_ok, held_again, kept_as_told}
 use Rattle.live_volume.specs.Held.{records_in}
 use Rattle.live_volume.proofs.live_volume.LiveVolume.slice.Goals as goal
 

@@ -1,4 +1,4 @@
-use Rattle.std.proofs.Common.{◌≡◌, ◌∙◌, ℕ, ◌+◌, ◌-◌, Bool, List, IsTrue, None, ap, sym, subst}
+use Rattle.std.proofs.Common.{◌≡◌, ◌∙◌, ℕ, ◌+◌, ◌-◌, Bool, List, None, ap, sym, subst}
 use Rattle.frame_cut.specs.Traces.{count_of}
 use Rattle.trace_store.specs.Swapped.{with_places_swapped, ArePlaces}
 use Rattle.edit_overlay.specs.CountedVolume.{RisesAtMost}
@@ -11,10 +11,10 @@ use Rattle.bench_rules.specs.Places.{place_in_trace}
 use Rattle.bench_rules.specs.State.{State, Session}
 use Rattle.bench_rules.specs.Steps.{IsAfter}
 use Rattle.bench_rules.proofs.FirstLemmas.{AreTraces}
-use Rattle.live_volume.specs.Held.{session_of, OnlyLooks}
+use Rattle.live_volume.specs.Held.{session_of}
 use Rattle.live_volume.proofs.ComputedLemmas.{all_looks, in_range}
 use Rattle.live_volume.proofs.HeldLemmas.{held_again, looked_as, looked_at, read_as, read_as_before, read_as_through, under}
-use Rattle.live_volume.proofs.SortLemmas.{IsSorted, is-sorted, sort_told}
+use Rattle.live_volume.proofs.SortLemmas.{is-sorted, sort_told}
 use Rattle.live_volume.proofs.live_volume.LiveVolume.sort.Goals as goal
 
 -- all traces of the range are there, so as many looks as they are granted

@@ -1,5 +1,4 @@
-use Rattle.std.proofs.Common.{◌-◌, ◌<◌, arith}
-use Rattle.frame_cut.specs.Traces.{count_of}
+use Rattle.std.proofs.Common.{◌-◌, arith}
 use Rattle.live_volume.specs.Held.{records_in}
 use Rattle.live_volume.proofs.MeasuredLemmas.{has_header}
 use Rattle.live_volume.proofs.live_volume.LiveVolume.stands.Goals as goal

@@ -1,8 +1,7 @@
-use Rattle.std.proofs.Common.{◌≡◌, ◌∙◌, ◌-◌, ◌<◌, IsTrue, List, map, ap, sym, subst, arith, refl}
+use Rattle.std.proofs.Common.{◌≡◌, ◌∙◌, ◌-◌, IsTrue, List, map, ap, sym, subst, arith, refl}
 use Rattle.std.specs.List.{remove}
-use Rattle.frame_cut.specs.Cuts.{IsCut}
 use Rattle.frame_cut.specs.Parts.{without}
-use Rattle.frame_cut.specs.Volume.{Volume, bytes_of}
+use Rattle.frame_cut.specs.Volume.{Volume}
 use Rattle.bench_rules.specs.declared.edit.Edit.TheVariants.{Delete}
 use Rattle.edit_overlay.specs.CountedVolume.{CountedVolume}
 use Rattle.trace_record.specs.Packed.{record_in}

@@ -1,4 +1,4 @@
-use Rattle.std.proofs.Common.{◌≡◌, ◌∙◌, IsTrue, List, ℕ, ap, length, subst}
+use Rattle.std.proofs.Common.{◌∙◌, List, ℕ, ap, length, subst}
 use Rattle.frame_cut.specs.Cuts.{IsTrace}
 use Rattle.frame_cut.specs.declared.file_head.Head.{Head}
 use Rattle.trace_view.specs.Shown.{bytes_of}

@@ -14,6 +14,7 @@
 //! that the load read (`agreed`); how many there are, and how many samples they tell, in any case.
 #![tactic(auto)]
 
+mod of_pass;
 mod of_trace;
 mod of_traces;
 mod of_volume;
@@ -21,6 +22,7 @@ mod out_of_memory;
 mod records_fault;
 mod remaking;
 
+pub use crate::of_pass::with_records_on_disk;
 pub use crate::of_trace::{prepared_headers, prepared_record, record_of_bytes};
 pub use crate::of_traces::prepared_records;
 pub use crate::of_volume::with_records;

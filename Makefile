@@ -96,7 +96,7 @@ uninstall:
 	rm -rf $(INTO)/share/doc/segywb
 
 # Speed: the program as ratios to cp and md5sum of the same file in the same run, the reports on two surveys, the order of traces
-# at three sizes, and the running reports over a million records.
+# at three sizes.
 bench: build
 	cd crates/timings && { rt run > out.log 2>&1 || true; }
 	bash speed/run $(BUILT) $(TIMINGS)
@@ -108,4 +108,3 @@ bench: build
 	bash speed/python $(BUILT)
 	bash speed/desk $(BUILT)
 	bash speed/orders $(TIMINGS)
-	bash speed/reports $(TIMINGS)

@@ -28,6 +28,3 @@ pub use crate::laws::{
 };
 pub use crate::line::Line;
 pub use crate::out_of_memory::OutOfMemory;
-
-#[cfg(test)]
-mod tests;

@@ -26,6 +26,3 @@ pub use crate::laws::{
 pub use crate::quantity::Quantity;
 pub use crate::ranges::Ranges;
 pub use crate::totals::Totals;
-
-#[cfg(test)]
-mod tests;

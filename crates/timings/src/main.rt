@@ -7,26 +7,12 @@
 //! `records`: the record of each trace of a SEG-Y file. Then the file; `load`, which only loads it,
 //! or `records`, which makes the record of each trace too. It prints the number of traces, and of
 //! their samples, their least, greatest and sum where records were made.
-//!
-//! `reports`: made records in the running reports. Then how many records, at most 16777216;
-//! `make`, which only makes them, `add`, which adds them too, `report`, which makes every report of
-//! them too, `remove`, which adds them and takes them out again, `list`, which makes them in a
-//! table, or `load`, which then makes the live reports of all of them at once; or, behind which
-//! one more argument says how often, fewer times than there are records, `exchange`, `insert`,
-//! `erase` or `move`, which then changes the live reports so at random places. It prints the number
-//! of records.
 #![tactic(auto)]
 
-mod changing;
 mod orders;
-mod out_of_memory;
-mod reports;
-mod table;
-mod through;
 mod traces;
 
 use crate::orders::sum_of;
-use crate::reports::count_after;
 use crate::traces::count_records;
 use std::{env, io};
 
@@ -45,23 +31,15 @@ fn main(rt: HostRuntime) -> io::Result<()> {
         let (third, fourth) = (next(), next());
         let (ids, times) = (number(second.as_str()), number(third.as_str()));
         let sum = sum_of(alloc, first.as_str(), ids, times, fourth.as_str());
-        println!(rt; "{sum}")
-    } else if what.as_str() == "records" {
-        let Some((traces, total)) = count_records(&rt, first.as_str(), second.as_str() == "records")
-        else {
-            return println!(rt; "not loaded");
-        };
-        let (samples, sum) = (total.samples, total.sum);
-        println!(rt;
-            "{traces} {samples} {} {} {sum}",
-            total.least, total.greatest
-        )
-    } else {
-        let (count, times) = (number(first.as_str()), number(next().as_str()));
-        let mut done = 0;
-        if count <= 1 << 24 {
-            done = count_after(alloc, count, second.as_str(), times).unwrap_or(0);
-        }
-        println!(rt; "{done}")
+        return println!(rt; "{sum}");
     }
+    let Some((traces, total)) = count_records(&rt, first.as_str(), second.as_str() == "records")
+    else {
+        return println!(rt; "not loaded");
+    };
+    let (samples, sum) = (total.samples, total.sum);
+    println!(rt;
+        "{traces} {samples} {} {} {sum}",
+        total.least, total.greatest
+    )
 }

@@ -13,6 +13,8 @@ mod fault_tests;
 #[cfg(test)]
 mod files;
 #[cfg(test)]
+mod grid_tests;
+#[cfg(test)]
 mod heads;
 #[cfg(test)]
 mod key_tests;
@@ -22,6 +24,8 @@ mod live_tests;
 mod made_tests;
 #[cfg(test)]
 mod puts;
+#[cfg(test)]
+mod range_tests;
 #[cfg(test)]
 mod record_tests;
 #[cfg(test)]

@@ -1,5 +1,5 @@
 use Rattle.range_stats.proofs.SmallTallyLemmas.{totals_one, totals_two}
-use Rattle.range_stats.proofs.tests.totals_run_with_traces.Goals as goal
+use Rattle.volume_tests.proofs.range_tests.totals_run_with_traces.Goals as goal
 
 pub both-requires-clause-one : goal.both-requires-clause-one
 both-requires-clause-one g c = totals_one c.first_trace.result c.first_trace.ensures

@@ -1,5 +1,5 @@
 // Traces that are counted and no longer are, with values worked by hand.
-use crate::{Cell, FoldCount, Grid, Line};
+use grid_live::{Cell, FoldCount, Grid, Line};
 use key_counts::Ratio;
 use record_table::{OutOfMemory, Running};
 use std::alloc::Global;

@@ -1,6 +1,6 @@
 use Rattle.trace_record.specs.Facts.{facts_of}
 use Rattle.range_stats.proofs.SmallTallyLemmas.{ranges_one, ranges_two}
-use Rattle.range_stats.proofs.tests.ranges_run_with_traces.Goals as goal
+use Rattle.volume_tests.proofs.range_tests.ranges_run_with_traces.Goals as goal
 
 pub both-requires-clause-one : goal.both-requires-clause-one
 both-requires-clause-one g c = ranges_one (facts_of c.first_trace.result)

@@ -3,8 +3,8 @@ ghost use Rattle.std.specs.Prelude.{◌≡◌, [], ◌∷◌};
 ghost use Rattle.trace_record.specs.Facts.{facts_of};
 ghost use Rattle.trace_record.specs.Tally.{tally_of, IsSmall};
 
-use crate::{Quantity, Ranges, Totals};
 use key_counts::Ratio;
+use range_stats::{Quantity, Ranges, Totals};
 use record_table::{OutOfMemory, Running};
 use std::alloc::Global;
 use std::test::Fail;

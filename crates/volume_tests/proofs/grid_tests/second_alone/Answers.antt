@@ -6,7 +6,7 @@ use Rattle.grid_live.specs.GridKeys.{keys_of_grid}
 use Rattle.trace_record.specs.Tally.{Tally, tally_of, plus, minus, empty_tally, Same, IsSmall}
 use Rattle.trace_record.proofs.TallyLemmas.{IsSmall-tally_of, IsSmall-Same, Holds-plus, tally-cons, plus-Same, minus-Same, minus-plus, plus_in_any_order, Same-sym, Same-trans}
 use Rattle.grid_live.specs.OfGrid.{tally_of_grid}
-use Rattle.grid_live.proofs.tests.second_alone.Goals as goal
+use Rattle.volume_tests.proofs.grid_tests.second_alone.Goals as goal
 
 -- a tally that counted one trace is that of the trace
 counted-one : (t u : Tally) (f : Facts) → Same t empty_tally → Same u (plus keys_of_grid t f) → Same (tally_of keys_of_grid (f ∷ [])) u

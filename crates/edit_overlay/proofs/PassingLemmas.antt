@@ -1,30 +1,28 @@
 -- What holds of a file between the calls that pass it.
-use Rattle.std.proofs.Common.{◌≡◌, ℕ, zero, ◌+◌, ◌*◌, ◌-◌, ◌<◌, ◌≤◌, ◌⊎◌, List, [], ◌∷◌, ◌++◌, length, take, drop, get_or, refl, sym, ap, ◌∙◌, subst, arith, inl, inr, All, Result, Ok, true}
+use Rattle.std.proofs.Common.{◌≡◌, ℕ, ◌+◌, ◌*◌, ◌-◌, ◌<◌, ◌≤◌, ◌⊎◌, List, [], ◌∷◌, ◌++◌, length, take, drop, get_or, refl, sym, ap, ◌∙◌, subst, arith, inl, inr, All, Result, Ok, true}
 use Rattle.std.proofs.lemmas.List.{drop-drop, get_or_push, length-drop, length-map, length_push, length-take, length-take-le, map-append, take-take}
 use Rattle.std.proofs.lemmas.List.Elements.{All-get_or, All-nil}
 use Rattle.std.proofs.lemmas.List.Edits.{insert_end}
 use Rattle.std.specs.List.{insert}
-use Rattle.base_file.specs.HeldBytes.{HeldBytes, IsInMemory, OnDisk, Standing}
+use Rattle.base_file.specs.HeldBytes.{HeldBytes, OnDisk}
 use Rattle.frame_cut.specs.declared.extent.Extent.{Extent}
 use Rattle.frame_cut.specs.declared.file_head.Head.{Head}
 use Rattle.frame_cut.specs.declared.limits.Limits.{Limits}
 use Rattle.frame_cut.specs.declared.reading.Reading.{Reading}
 use Rattle.frame_cut.specs.declared.load_fault.LoadFault.{LoadFault}
 use Rattle.frame_cut.specs.Cuts.{IsCut, IsTrace, trace_refusal}
-use Rattle.frame_cut.specs.Frames.{trace_length}
 use Rattle.frame_cut.specs.Fronts.{BeginsWith}
-use Rattle.frame_cut.specs.Heads.{head_of}
 use Rattle.frame_cut.specs.Layout.{bytes_at, pieces, volume_at, AreTracesOf}
 use Rattle.frame_cut.specs.Volume.{Volume, bytes_of}
 use Rattle.frame_cut.specs.Walk.{left_at, traces_end, AreWhole}
-use Rattle.frame_cut.proofs.HeadFrontLemmas.{has_head, HasHead}
-use Rattle.frame_cut.proofs.LaidLemmas.{cut_from, laid_from, joined-laid, laid-le, refused_from, step-le, whole-push}
+use Rattle.frame_cut.proofs.HeadFrontLemmas.{has_head}
+use Rattle.frame_cut.proofs.LaidLemmas.{cut_from, laid_from, joined-laid, refused_from, step-le, whole-push}
 use Rattle.trace_store.specs.declared.store.TraceStore.{TraceStore}
 use Rattle.trace_store.specs.Grown.{HasMore}
 use Rattle.trace_store.specs.Stores.{traces_of}
 use Rattle.trace_store.specs.Windows.{IsFaultOfPass, IsNextOf, WindowBytes}
 use Rattle.trace_store.proofs.GrownLemmas.{slice_grown}
-use Rattle.edit_overlay.specs.Held.{volume_with, HasEnds}
+use Rattle.edit_overlay.specs.Held.{volume_with}
 use Rattle.edit_overlay.specs.PassedFile.{IsPassFault}
 use Rattle.edit_overlay.specs.Passing.{IsPassing, IsWalked}
 use Rattle.edit_overlay.specs.PassReads.{HasLengthAt, IsHeadFault, IsHeadOf, IsTraceFault}

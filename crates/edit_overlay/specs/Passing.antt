@@ -1,19 +1,15 @@
 -- How a file is held while it is passed: its bytes so far, a window of those that are not taken yet, and a store of the
 -- traces so far. Nothing is known of the bytes that are not read yet: what is said holds of each file that begins with these.
-use Rattle.std.specs.Prelude.{ℕ, ◌≡◌, ◌+◌, ◌*◌, ◌<◌, ◌≤◌, true, List, length, take, Option, Some, None, Ok}
+use Rattle.std.specs.Prelude.{ℕ, ◌≡◌, ◌+◌, ◌*◌, ◌<◌, ◌≤◌, true, List, length, take, Ok}
 use Rattle.base_file.specs.HeldBytes.{OnDisk}
 use Rattle.text_block.specs.declared.block.TheConstants.{TEXT_BLOCK_BYTES}
 use Rattle.frame_cut.specs.declared.extent.Extent.{Extent}
-use Rattle.frame_cut.specs.declared.file_head.Head.{Head}
 use Rattle.frame_cut.specs.declared.limits.Limits.{Limits}
 use Rattle.frame_cut.specs.declared.reading.Reading.{Reading}
-use Rattle.frame_cut.specs.declared.load_fault.LoadFault.{LoadFault}
-use Rattle.frame_cut.specs.Cuts.{trace_refusal}
-use Rattle.frame_cut.specs.Frames.{trace_length}
 use Rattle.frame_cut.specs.Fronts.{BeginsWith}
 use Rattle.frame_cut.specs.Heads.{head_of}
 use Rattle.frame_cut.specs.Layout.{pieces}
-use Rattle.frame_cut.specs.Walk.{left_at, AreWhole}
+use Rattle.frame_cut.specs.Walk.{AreWhole}
 use Rattle.trace_store.specs.declared.store.TraceStore.{TraceStore}
 use Rattle.trace_store.specs.Stores.{payloads_of, traces_of}
 use Rattle.trace_store.specs.Windows.{IsNextOf}

@@ -4,7 +4,7 @@ use Rattle.std.specs.Prelude.{IsSomeAnd}
 use Rattle.std.specs.Option.{option_map_or}
 use Rattle.std.proofs.lemmas.List.{length-take, take-append-drop}
 use Rattle.slab.specs.Slab.{Slab, get}
-use Rattle.base_file.specs.HeldBytes.{Standing, HeldBytes, HasGrown, IsSure}
+use Rattle.base_file.specs.HeldBytes.{HeldBytes, HasGrown, IsSure}
 use Rattle.frame_cut.specs.declared.file_head.Head.{Head}
 use Rattle.frame_cut.specs.Cuts.{IsTrace}
 use Rattle.frame_cut.proofs.BlockLemmas.{slice-append}
@@ -16,8 +16,7 @@ use Rattle.trace_store.specs.declared.slot.Base.TheVariants.{Loaded, Added}
 use Rattle.trace_store.specs.declared.slot.Slot.{Slot}
 use Rattle.trace_store.specs.declared.store.TraceStore.{TraceStore}
 use Rattle.trace_store.specs.Grown.{HasMore}
-use Rattle.trace_store.specs.Slots.{base_of, base_under, bytes_in, bytes_under, AreHeld, IsHeldUnder, IsInside, IsSlot, IsStore}
-use Rattle.trace_store.specs.Stores.{bases_of, payloads_of, traces_of}
+use Rattle.trace_store.specs.Slots.{base_of, base_under, bytes_in, bytes_under, IsInside, IsSlot, IsStore}
 
 -- ---- bytes
 

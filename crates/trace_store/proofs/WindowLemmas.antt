@@ -1,7 +1,7 @@
 -- The bytes of a window.
-use Rattle.std.proofs.Common.{◌≡◌, ℕ, ◌+◌, ◌-◌, ◌≤◌, List, ◌++◌, length, take, drop, refl, sym, ap, ◌∙◌, arith}
+use Rattle.std.proofs.Common.{◌≡◌, ℕ, ◌+◌, ◌-◌, ◌≤◌, List, ◌++◌, length, take, drop, sym, ap, ◌∙◌, arith}
 use Rattle.std.proofs.Math.Seq.{paste, take-add}
-use Rattle.std.proofs.lemmas.List.{drop-append-le, drop-drop, drop-take, length-take-le, length-append, length-drop}
+use Rattle.std.proofs.lemmas.List.{drop-append-le, drop-take, length-take-le, length-append, length-drop}
 use Rattle.std.proofs.lemmas.List.Edits.{take-paste}
 use Rattle.trace_store.specs.Windows.{IsNextOf}
 

@@ -1,8 +1,8 @@
 -- The records of a file that is passed.
-use Rattle.std.proofs.Common.{◌≡◌, ℕ, ◌+◌, ◌-◌, ◌<◌, ◌≤◌, List, [], ◌∷◌, ◌++◌, length, refl, sym, ap, ap₂, ◌∙◌, arith}
+use Rattle.std.proofs.Common.{◌≡◌, ℕ, ◌+◌, ◌-◌, ◌<◌, ◌≤◌, List, [], ◌∷◌, ◌++◌, sym, ap, ap₂, ◌∙◌, arith}
 use Rattle.std.specs.Prelude.{map}
 use Rattle.std.proofs.lemmas.Bool.Decides.{nat_tests}
-use Rattle.std.proofs.lemmas.List.{length_push, map-append}
+use Rattle.std.proofs.lemmas.List.{map-append}
 use Rattle.field_map.specs.Pairs.{Pairs}
 use Rattle.frame_cut.specs.declared.file_head.Head.{Head}
 use Rattle.frame_cut.specs.Volume.{Volume}
@@ -17,11 +17,6 @@ use Rattle.volume_records.specs.OfPass.{HasRecords}
 use Rattle.volume_records.specs.OfVolume.{records_of}
 
 -- ---- the traces and their records
-
--- no trace yet
-pub records_none : (fields : Pairs) (p : PassedFile PackedRecord) → p.traces ≡ [] → p.payloads ≡ [] → HasRecords fields p
-records_none fields p traces payloads =
-    ap (λ (ps : List PackedRecord). map facts_of (map record_in ps)) payloads ∙ sym (ap (map (record_of p.head fields)) traces)
 
 -- one trace more, with its record
 pub record_passed : (fields : Pairs) (p : PassedFile PackedRecord) (packed : PackedRecord) (r : Record) → HasRecords fields p → record_in packed ≡ r → facts_of r ≡ record_of p.head fields p.shown → HasRecords fields (with_passed p packed)

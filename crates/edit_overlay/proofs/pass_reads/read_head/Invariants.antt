@@ -1,4 +1,4 @@
-use Rattle.std.proofs.Common.{ℕ, ◌-◌, ◌≤◌, length}
+use Rattle.std.proofs.Common.{◌-◌, ◌≤◌, length}
 use Rattle.base_file.specs.HeldBytes.{HasGrown}
 use Rattle.trace_store.specs.Windows.{IsNextOf}
 use Rattle.edit_overlay.proofs.pass_reads.read_head.Given as goal

@@ -3,7 +3,6 @@ use Rattle.std.specs.Prelude.{map}
 use Rattle.trace_record.specs.Facts.{facts_of}
 use Rattle.trace_record.specs.Packed.{record_in}
 use Rattle.edit_overlay.specs.CountedVolume.{RisesAtMost}
-use Rattle.frame_cut.specs.Traces.{count_of}
 use Rattle.volume_records.specs.OfVolume.{records_of}
 use Rattle.volume_records.proofs.of_volume.push_records.Given as goal
 

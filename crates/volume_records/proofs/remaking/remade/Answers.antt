@@ -1,7 +1,6 @@
 use Rattle.std.proofs.Common.{◌∙◌, List, map, ap, sym, subst}
 use Rattle.trace_record.specs.Packed.{record_in}
 use Rattle.trace_record.specs.declared.packed_record.PackedRecord.{PackedRecord}
-use Rattle.trace_record.specs.declared.record.Record.{Record}
 use Rattle.live_reports.specs.Reports.{AreFew}
 use Rattle.volume_records.proofs.FewLemmas.{numbers_are_few}
 use Rattle.volume_records.proofs.remaking.remade.Goals as goal

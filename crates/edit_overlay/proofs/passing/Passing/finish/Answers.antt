@@ -1,10 +1,7 @@
-use Rattle.std.proofs.Common.{◌≡◌, ◌∙◌, ◌+◌, ◌-◌, ◌*◌, ◌≤◌, List, ℕ, length, take, drop, ap, arith, refl, sym, subst, true}
+use Rattle.std.proofs.Common.{◌≡◌, ◌∙◌, ◌+◌, ◌-◌, ◌*◌, ◌≤◌, List, ℕ, length, drop, ap, arith, subst}
 use Rattle.std.proofs.lemmas.List.{length-drop}
-use Rattle.base_file.specs.HeldBytes.{IsInMemory, OnDisk}
-use Rattle.frame_cut.specs.Cuts.{IsCut}
+use Rattle.base_file.specs.HeldBytes.{IsInMemory}
 use Rattle.frame_cut.specs.declared.file_head.Head.{Head}
-use Rattle.frame_cut.specs.Volume.{Volume, bytes_of}
-use Rattle.edit_overlay.specs.CountedVolume.{CountedVolume}
 use Rattle.edit_overlay.proofs.PassingLemmas.{cut_whole, header_settled, headers_there, joined_whole, laid_whole, settled_of}
 use Rattle.edit_overlay.proofs.passing.Passing.finish.Goals as goal
 

@@ -29,3 +29,4 @@ pub use crate::options::Options;
 pub use crate::run_end::RunEnd;
 pub use crate::whole_run::{load_on_disk, refuse_load, run, run_loaded};
 pub use crate::whole_session::{session, session_loaded};
+pub use bench_core::Bench;

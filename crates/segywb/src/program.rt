@@ -12,7 +12,7 @@ use frame_cut::{Limits, Reading};
 use safe_save::{Original, Save};
 use script_hints::Notes;
 use script_run::{
-    Options, RunEnd, load_on_disk, refuse_load, run, run_loaded, session, session_loaded,
+    Bench, Options, RunEnd, load_on_disk, refuse_load, run, run_loaded, session, session_loaded,
 };
 use std::fs::{File, OpenFile};
 use std::io::{BufWriter, Write};
@@ -230,16 +230,28 @@ fn answer_on_disk<R: Files<File = File> + AllocGlobal + Print + Input, O: Write>
     options: Options,
     notes: &mut Notes,
 ) -> RunEnd {
-    let alloc = rt.alloc();
     let answers = &mut Sink::new(io::writer(rt));
-    let mut bench = match load_on_disk(alloc, volume, bytes, options) {
-        Ok(bench) => bench,
-        Err(fault) => return refuse_load(answers, fault),
-    };
+    match load_on_disk(rt.alloc(), volume, bytes, options) {
+        Ok(mut bench) => answer_over(rt, &mut bench, lines, answers, out, options, notes),
+        Err(fault) => refuse_load(answers, fault),
+    }
+}
+
+// Answers the lines over a volume that was loaded.
+fn answer_over<R: Files<File = File> + AllocGlobal + Input, A: Write, O: Write>(
+    rt: &R,
+    bench: &mut Bench,
+    lines: Lines<File>,
+    answers: &mut Sink<A>,
+    out: &mut Sink<O>,
+    options: Options,
+    notes: &mut Notes,
+) -> RunEnd {
+    let alloc = rt.alloc();
     match lines {
         Lines::File(file) => run_loaded(
             alloc,
-            &mut bench,
+            bench,
             &mut Source::new(file),
             answers,
             out,
@@ -248,7 +260,7 @@ fn answer_on_disk<R: Files<File = File> + AllocGlobal + Print + Input, O: Write>
         ),
         Lines::Standard => run_loaded(
             alloc,
-            &mut bench,
+            bench,
             &mut Source::new(rt.reader()),
             answers,
             out,
@@ -257,7 +269,7 @@ fn answer_on_disk<R: Files<File = File> + AllocGlobal + Print + Input, O: Write>
         ),
         Lines::Session => session_loaded(
             alloc,
-            &mut bench,
+            bench,
             &mut Source::new(rt.reader()),
             answers,
             out,

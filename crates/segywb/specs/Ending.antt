@@ -1,5 +1,5 @@
 -- How a run ends for the one who called the program.
-use Rattle.std.specs.Prelude.{◌≡◌, ℕ, nat_lt, if◌then◌else◌}
+use Rattle.std.specs.Prelude.{◌≡◌, ℕ, Bool, true, false, nat_lt, is_some, if◌then◌else◌}
 use Rattle.script_run.specs.declared.run_end.RunEnd.{RunEnd}
 use Rattle.script_run.specs.declared.run_end.RunEnd.TheVariants.{Done, Stopped, Load, Script, Answers, Save}
 use Rattle.segywb.specs.declared.ending.SaveEnd.{SaveEnd}
@@ -32,6 +32,11 @@ told_of_save s.Failed = t.SaveFailed
 told_of_save s.Unsettled = t.SaveUnsettled
 told_of_save s.Stale = t.FileChanged
 
+-- what standard error says of a save that a failed read of FILE ended, or a failed write
+abbrev pub told_of_failed : Bool → SaveEnd → Message
+told_of_failed true ended = t.FileUnread
+told_of_failed false ended = told_of_save ended
+
 -- what standard error says
 abbrev pub told : RunEnd → SaveEnd → Message
 told (Done refused) ended = told_of_save ended
@@ -39,7 +44,7 @@ told (Stopped line) ended = t.Nothing
 told (Load fault) ended = t.Nothing
 told (Script fault) ended = t.Nothing
 told (Answers written) ended = t.AnswersFailed
-told (Save fault) ended = told_of_save ended
+told (Save fault) ended = told_of_failed (is_some fault.read) ended
 
 -- the exit status is that of some end of the save
 abbrev pub IsExitStatus : RunEnd → ℕ → Type 0

@@ -1,6 +1,6 @@
 // How a run ends for the one who called the program: the exit status, and what standard error says.
 ghost use Rattle.std.specs.Prelude.{◌≡◌};
-ghost use Rattle.segywb.specs.Ending.{exit_status, told, told_of_save};
+ghost use Rattle.segywb.specs.Ending.{exit_status, told, told_of_failed, told_of_save};
 
 use script_run::RunEnd;
 
@@ -24,6 +24,8 @@ pub enum Message {
     Nothing,
     AnswersFailed,
     SaveFailed,
+    /// FILE, whose bytes stay on disk, could not be read again for the save.
+    FileUnread,
     SaveUnsettled,
     FileChanged,
 }
@@ -50,9 +52,21 @@ pub fn told(end: RunEnd, save: SaveEnd) -> Message
     ensures { result ≡ told end save }
 {
     match end {
-        RunEnd::Done { .. } | RunEnd::Save(_) => told_of_save(save),
+        RunEnd::Done { .. } => told_of_save(save),
+        RunEnd::Save(fault) => told_of_failed(fault.read.is_some(), save),
         RunEnd::Stopped { .. } | RunEnd::Load(_) | RunEnd::Script(_) => Message::Nothing,
         RunEnd::Answers { .. } => Message::AnswersFailed,
+    }
+}
+
+// What standard error says of a save that a failed read of FILE ended, or a failed write.
+fn told_of_failed(is_unread: bool, save: SaveEnd) -> Message
+    ensures { result ≡ told_of_failed is_unread save }
+{
+    if is_unread {
+        Message::FileUnread
+    } else {
+        told_of_save(save)
     }
 }
 

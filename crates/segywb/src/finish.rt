@@ -31,9 +31,14 @@ where
     if !arguments.quiet {
         tell_refused(rt, arguments, end, save, notes);
     }
-    tell(rt, arguments, told(end, save), error, is_beside);
-    if save == SaveEnd::NotBegun && original.is_some_and(|original| original.is_changed(rt)) {
-        let then = "the answers may be those of a file that never was";
+    let message = told(end, save);
+    tell(rt, arguments, message, error, is_beside);
+    let then = match message {
+        Message::FileUnread => "look at it, and run the script again",
+        _ => "the answers may be those of a file that never was",
+    };
+    let is_open = save == SaveEnd::NotBegun || message == Message::FileUnread;
+    if is_open && original.is_some_and(|original| original.is_changed(rt)) {
         changed(rt, arguments.file, then);
     }
     exit_status(end, save)
@@ -54,6 +59,9 @@ fn tell<R: Eprint>(
         }
         (Message::SaveFailed, Some(SaveError::NotSaved(fault))) => {
             save_failed(rt, out, &fault, is_beside);
+        }
+        (Message::FileUnread, Some(SaveError::NotSaved(fault))) => {
+            file_unread(rt, arguments.file, out, fault.taken, is_beside);
         }
         (Message::SaveUnsettled, Some(SaveError::NotSettled(error))) => {
             let _ = eprintln!(rt; "segywb: saved, but a power cut may undo it");
@@ -143,6 +151,17 @@ fn save_failed<R: Eprint>(rt: &R, out: &str, fault: &Fault, is_beside: bool) {
     };
     let _ = eprintln!(rt; "segywb: save failed after {taken} bytes");
     let _ = eprintln!(rt; "segywb: {out}: {what} ({error}): {then}{left}");
+}
+
+// Tells of a save that ended where FILE could not be read again.
+fn file_unread<R: Eprint>(rt: &R, file: &str, out: &str, taken: u64, is_beside: bool) {
+    let then = if is_beside {
+        "is as it was"
+    } else {
+        "took a part of the file"
+    };
+    let _ = eprintln!(rt; "segywb: save failed after {taken} bytes");
+    let _ = eprintln!(rt; "segywb: {file}: cannot be read again: {out} {then}");
 }
 
 // What failed of a save beside OUT.

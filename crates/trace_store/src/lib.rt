@@ -24,6 +24,7 @@ mod column;
 mod out_of_memory;
 mod payloads;
 mod prepared;
+mod reading_ahead;
 mod slot;
 mod store;
 mod window;

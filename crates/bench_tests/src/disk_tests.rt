@@ -1,7 +1,7 @@
 // The small file on disk, which a bench leaves there: edits, queries and a save; and what is
 // refused where the file is shorter or another one later. Each test has a file of its own.
 use crate::tests::{fault, meets, put_bytes, sample_file, saves, signed, value};
-use bench_core::{AskFault, Bench, Edit, Query, Refusal};
+use bench_core::{AskFault, Bench, Edit, Field, Query, Refusal};
 use device_io::Sink;
 use edit_overlay::{ReadFault, SaveFault};
 use frame_cut::{Limits, Reading};
@@ -42,6 +42,11 @@ fn on_disk(
     ask(bytes.as_slice(), &mut bench)
 }
 
+// Where a trace has its inline.
+fn inline() -> Field {
+    signed(0, 189, 4)
+}
+
 // The bytes with this one put over them.
 fn with_byte(alloc: Global, bytes: &[u8], at: usize, byte: u8) -> Result<Vec<u8>, Fail> {
     let mut changed = Vec::from_slice(alloc, bytes)?;
@@ -59,9 +64,9 @@ fn edits_and_saves_on_disk(rt: HostRuntime) -> Result<(), Fail> {
         &mut |file: &[u8], bench: &mut Bench| {
             assert_eq!(rt; bench.count(), 3);
             assert_eq!(rt; bench.looks(), 3);
-            assert_eq!(rt; value(bench, alloc, 3, signed(0, 189, 4))?, 10);
-            assert!(rt; meets(bench, alloc, Edit::Set(2, signed(0, 189, 4), 7), None));
-            assert_eq!(rt; value(bench, alloc, 2, signed(0, 189, 4))?, 7);
+            assert_eq!(rt; value(bench, alloc, 3, inline())?, 10);
+            assert!(rt; meets(bench, alloc, Edit::Set(2, inline(), 7), None));
+            assert_eq!(rt; value(bench, alloc, 2, inline())?, 7);
             assert!(rt; saves(bench, alloc, with_byte(alloc, file, 4035, 7)?.as_slice())?);
             Ok(())
         },
@@ -84,16 +89,15 @@ fn refuses_what_cannot_be_read(rt: HostRuntime) -> Result<(), Fail> {
         "short.sgy",
         &mut |file: &[u8], bench: &mut Bench| {
             let _short = laid(&rt, "short.sgy", file.get(..4100).ok_or("part")?)?;
-            let inline = signed(0, 189, 4);
-            let (edit, query) = (Edit::Set(3, inline, 7), Query::Get(3, inline));
+            let (edit, query) = (Edit::Set(3, inline(), 7), Query::Get(3, inline()));
             assert!(rt; meets(bench, alloc, edit, Some(Refusal::ReadFailed)));
             assert_eq!(rt; fault(bench, alloc, query), Some(AskFault::ReadFailed));
             assert_eq!(rt; fault(bench, alloc, Query::Slice(0)), Some(AskFault::ReadFailed));
-            assert_eq!(rt; value(bench, alloc, 2, inline)?, 10);
+            assert_eq!(rt; value(bench, alloc, 2, inline())?, 10);
             let read = save_fault(alloc, bench).map(|fault| fault.read);
             assert_eq!(rt; read, Some(Some(ReadFault::ReadFailed)));
             let _whole = laid(&rt, "short.sgy", file)?;
-            assert!(rt; meets(bench, alloc, Edit::Set(3, inline, 7), None));
+            assert!(rt; meets(bench, alloc, Edit::Set(3, inline(), 7), None));
             assert!(rt; saves(bench, alloc, with_byte(alloc, file, 4279, 7)?.as_slice())?);
             Ok(())
         },
@@ -111,11 +115,10 @@ fn refuses_a_file_that_changed(rt: HostRuntime) -> Result<(), Fail> {
         &mut |file: &[u8], bench: &mut Bench| {
             let other = with_byte(alloc, file, 3715, 3)?;
             let _other = laid(&rt, "changed.sgy", other.as_slice())?;
-            let inline = signed(0, 189, 4);
-            let (edit, query) = (Edit::Set(1, inline, 7), Query::Get(1, inline));
+            let (edit, query) = (Edit::Set(1, inline(), 7), Query::Get(1, inline()));
             assert!(rt; meets(bench, alloc, edit, Some(Refusal::FileChanged)));
             assert_eq!(rt; fault(bench, alloc, query), Some(AskFault::FileChanged));
-            assert_eq!(rt; value(bench, alloc, 2, inline)?, 10);
+            assert_eq!(rt; value(bench, alloc, 2, inline())?, 10);
             Ok(())
         },
     )

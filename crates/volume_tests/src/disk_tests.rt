@@ -103,17 +103,18 @@ fn pass_fault(
     Ok(passed(alloc, file, size, limits()?).err())
 }
 
-// Where the file ends before, or goes on behind, no other reason is told.
+// One that ends before what is said of it, or goes on behind, and one above the limit.
 #[test]
 fn refuses_a_file_of_another_length(rt: HostRuntime) -> Result<(), Fail> {
     let alloc = rt.alloc();
-    let bytes = two_traces(alloc)?;
-    let all = bytes.as_slice();
-    let short = part(all, 0, 4000);
+    let mut bytes = two_traces(alloc)?;
+    bytes.push(0)?;
+    let long = bytes.as_slice();
+    let (all, short) = (part(long, 0, 4088), part(long, 0, 4000));
     assert_eq!(rt; pass_fault(&rt, alloc, all, 4088)?, None);
     assert_eq!(rt; pass_fault(&rt, alloc, short, 4088)?, Some(LoadFault::ReadFailed));
-    assert_eq!(rt; pass_fault(&rt, alloc, all, 3844)?, Some(LoadFault::ReadFailed));
-    assert_eq!(rt; pass_fault(&rt, alloc, all, 4089)?, Some(LoadFault::TooLarge));
+    assert_eq!(rt; pass_fault(&rt, alloc, long, 4088)?, Some(LoadFault::ReadFailed));
+    assert_eq!(rt; pass_fault(&rt, alloc, long, 4089)?, Some(LoadFault::TooLarge));
     Ok(())
 }
 
@@ -123,8 +124,7 @@ fn save_fault(alloc: Global, volume: &mut Overlay<u32>) -> Option<SaveFault> {
     volume.write_to(&mut writer).err()
 }
 
-// What is laid over a trace is no reason to read the rest of it for a put; a look at it, and a
-// save, are refused.
+// The second trace is not all there, then it is again.
 #[test]
 fn tells_that_a_read_failed(rt: HostRuntime) -> Result<(), Fail> {
     let alloc = rt.alloc();

@@ -1,18 +1,19 @@
 -- Why a load is refused.
-use Rattle.std.proofs.Common.{◌≡◌, ◌≢◌, ℕ, Bool, true, false, cond, List, ◌++◌, [], ◌∷◌, length, take, drop, Option, Some, None, Result, Ok, Err, IfSome, IfErr, MatchResult, ◌⊎◌, inl, inr, refl, ap, sym, subst, ◌∙◌, append-nil}
+use Rattle.std.proofs.Common.{◌≡◌, ◌≢◌, ◌<◌, ℕ, Bool, true, false, cond, ltb, List, ◌++◌, [], ◌∷◌, length, take, drop, Option, Some, None, Result, Ok, Err, IfSome, IfErr, MatchResult, ◌⊎◌, inl, inr, refl, ap, sym, subst, ◌∙◌, append-nil}
 use Rattle.std.specs.Prelude.{◌||◌}
+use Rattle.std.proofs.lemmas.Bool.{lt-ltb}
 use Rattle.std.specs.Io.KnownBytes.{Consumes, IsAtEnd}
 use Rattle.num_order.specs.declared.order.Order.{Order}
 use Rattle.frame_cut.specs.declared.file_head.Head.{Head}
 use Rattle.frame_cut.specs.declared.limits.Limits.{Limits}
 use Rattle.frame_cut.specs.declared.reading.Reading.{Reading}
 use Rattle.frame_cut.specs.declared.load_fault.LoadFault.{LoadFault}
-use Rattle.frame_cut.specs.declared.load_fault.LoadFault.TheVariants.{ReadFailed, OutOfMemory}
+use Rattle.frame_cut.specs.declared.load_fault.LoadFault.TheVariants.{ReadFailed, TooLarge, OutOfMemory}
 use Rattle.frame_cut.specs.BinaryHeader.{order_of}
 use Rattle.frame_cut.specs.Heads.{file_faults, head_faults, head_by, first_fault_else, head_of}
 use Rattle.frame_cut.specs.Frames.{trace_length}
 use Rattle.frame_cut.specs.Cuts.{IsRefused, refusal_by_length, trace_refusal}
-use Rattle.edit_overlay.specs.Loading.{IsLoadFault, FailuresAfterRefusal}
+use Rattle.edit_overlay.specs.Loading.{IsLoadFault, IsReadFault, FailuresAfterRefusal}
 
 -- ---- no file is refused by its bytes because a read failed
 
@@ -59,6 +60,7 @@ first-told ((holds, fault) ∷ more) h e =
     behind holds fault (first_fault_else more h) none.0 (first-told more h none.1)
 
 head_of-told : (file : List ℕ) (reading : Reading) (limits : Limits) → says (head_of file reading limits) ≡ false
+unfolding head_of
 head_of-told file reading limits =
     let bin : List ℕ = take 400 (drop 3200 file) in
     let rest : List ℕ = drop 3600 file in
@@ -78,6 +80,25 @@ ff_not_tt e = cc
 pub refused-told : (file : List ℕ) (reading : Reading) (limits : Limits) → IsRefused file reading limits ReadFailed → ⊥
 refused-told file reading limits (inl e) = absurd (ff_not_tt (sym (head_of-told file reading limits) ∙ ap says e))
 refused-told file reading limits (inr (v, rest, stuck)) = absurd (ff_not_tt (sym (trace-told v.head limits _ rest) ∙ ap says_it stuck.refused))
+
+-- ---- bytes that were not read
+
+stop_at : (b : Bool) (fault : LoadFault) (r : Result Head LoadFault) → b ≡ true → cond b (Err fault) r ≡ Err fault
+stop_at b fault r e = rw e refl
+
+-- a file with more bytes than the limit is refused for it
+too_large : (file : List ℕ) (reading : Reading) (limits : Limits) → limits.bytes < length file → head_of file reading limits ≡ Err TooLarge
+unfolding head_of
+too_large file reading limits above = stop_at (ltb limits.bytes (length file)) TooLarge _ (lt-ltb limits.bytes (length file) above)
+
+large-known : (known : Option (List ℕ)) (reading : Reading) (limits : Limits) (fault : LoadFault) → fault ≡ TooLarge → IfSome known (λ file. limits.bytes < length file) → IfSome known (λ file. IsRefused file reading limits fault)
+large-known None reading limits fault is above = tt
+large-known (Some file) reading limits fault is above = inl (too_large file reading limits above ∙ ap (λ (f : LoadFault). let r : Result Head LoadFault = Err f in r) (sym is))
+
+pub read_fault : (known : Option (List ℕ)) (reading : Reading) (limits : Limits) (fault : LoadFault) → IsReadFault known limits fault → IsLoadFault known reading limits fault
+read_fault known reading limits fault (inl failed) = inl failed
+read_fault known reading limits fault (inr (inl memory)) = inr (inl memory)
+read_fault known reading limits fault (inr (inr (is, above))) = inr (inr (large-known known reading limits fault is above))
 
 -- ---- from the bytes that were read to the reader's
 

@@ -1,6 +1,7 @@
 -- The records of a file that is passed.
 use Rattle.std.proofs.Common.{◌≡◌, ℕ, ◌+◌, ◌-◌, ◌<◌, ◌≤◌, List, [], ◌∷◌, ◌++◌, length, refl, sym, ap, ap₂, ◌∙◌, arith}
 use Rattle.std.specs.Prelude.{map}
+use Rattle.std.proofs.lemmas.Bool.Decides.{nat_tests}
 use Rattle.std.proofs.lemmas.List.{length_push, map-append}
 use Rattle.field_map.specs.Pairs.{Pairs}
 use Rattle.frame_cut.specs.declared.file_head.Head.{Head}
@@ -10,9 +11,17 @@ use Rattle.trace_record.specs.OfTrace.{record_of}
 use Rattle.trace_record.specs.Packed.{record_in}
 use Rattle.trace_record.specs.declared.packed_record.PackedRecord.{PackedRecord}
 use Rattle.trace_record.specs.declared.record.Record.{Record}
+use Rattle.edit_overlay.specs.CountedVolume.{one_more, RisesAtMost}
 use Rattle.edit_overlay.specs.PassedFile.{PassedFile, with_passed}
 use Rattle.volume_records.specs.OfPass.{HasRecords}
 use Rattle.volume_records.specs.OfVolume.{records_of}
+
+-- ---- the traces and their records
+
+-- no trace yet
+pub records_none : (fields : Pairs) (p : PassedFile PackedRecord) → p.traces ≡ [] → p.payloads ≡ [] → HasRecords fields p
+records_none fields p traces payloads =
+    ap (λ (ps : List PackedRecord). map facts_of (map record_in ps)) payloads ∙ sym (ap (map (record_of p.head fields)) traces)
 
 -- one trace more, with its record
 pub record_passed : (fields : Pairs) (p : PassedFile PackedRecord) (packed : PackedRecord) (r : Record) → HasRecords fields p → record_in packed ≡ r → facts_of r ≡ record_of p.head fields p.shown → HasRecords fields (with_passed p packed)
@@ -29,3 +38,9 @@ records_passed fields p v ps has head traces payloads =
     ap (λ (xs : List PackedRecord). map facts_of (map record_in xs)) payloads
     ∙ has
     ∙ ap₂ (λ (h : Head) (ts : List (List ℕ)). map (record_of h fields) ts) (sym head) (sym traces)
+
+-- ---- looks
+
+-- one look more at the next trace, so that there is one at most for each
+pub looks_rise : (first old new count : ℕ) → RisesAtMost first old count → new ≡ one_more old → RisesAtMost first new (count + 1)
+looks_rise first old new count looks is = (grind (arith, nat_tests, looks.0), grind (arith, nat_tests, looks.1))

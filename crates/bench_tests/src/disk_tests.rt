@@ -92,7 +92,10 @@ fn refuses_what_cannot_be_read(rt: HostRuntime) -> Result<(), Fail> {
             let (edit, query) = (Edit::Set(3, inline(), 7), Query::Get(3, inline()));
             assert!(rt; meets(bench, alloc, edit, Some(Refusal::ReadFailed)));
             assert_eq!(rt; fault(bench, alloc, query), Some(AskFault::ReadFailed));
-            assert_eq!(rt; fault(bench, alloc, Query::Slice(0)), Some(AskFault::ReadFailed));
+            assert_eq!(rt;
+                fault(bench, alloc, Query::Slice(0)),
+                Some(AskFault::ReadFailed)
+            );
             assert_eq!(rt; value(bench, alloc, 2, inline())?, 10);
             let read = save_fault(alloc, bench).map(|fault| fault.read);
             assert_eq!(rt; read, Some(Some(ReadFault::ReadFailed)));

@@ -69,7 +69,13 @@ fn tells_of_what_cannot_be_read(rt: HostRuntime) -> Result<(), Fail> {
     let file = sample_file(rt.alloc())?;
     let short = file.as_slice().get(..4100).ok_or("part")?;
     let script = b"set 3 @189:4 7\nget 3 @189:4\nget 2 @189:4\n";
-    let told = run_on_disk(&rt, rt.alloc(), "short.sgy", (file.as_slice(), short), script)?;
+    let told = run_on_disk(
+        &rt,
+        rt.alloc(),
+        "short.sgy",
+        (file.as_slice(), short),
+        script,
+    )?;
     let printed = b"refused E14 read failed\nrefused E14 read failed\nvalue 10\n";
     assert!(rt; told.answers.as_slice() == printed.as_slice());
     let read = match told.end {

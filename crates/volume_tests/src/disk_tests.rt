@@ -31,12 +31,7 @@ fn pass_traces(alloc: Global, passing: &mut Passing<u32>) -> Result<(), LoadFaul
 }
 
 // The volume of a file that stays on disk, and has so many bytes.
-fn passed(
-    alloc: Global,
-    file: File,
-    size: u64,
-    limits: Limits,
-) -> Result<Overlay<u32>, LoadFault> {
+fn passed(alloc: Global, file: File, size: u64, limits: Limits) -> Result<Overlay<u32>, LoadFault> {
     let mut passing = Passing::begin(alloc, file, size, Reading::as_written(), limits)?;
     pass_traces(alloc, &mut passing)?;
     passing.finish(alloc)
@@ -82,12 +77,7 @@ fn loads_edits_and_saves_on_disk(rt: HostRuntime) -> Result<(), Fail> {
             expect_saved(&rt, alloc, volume, &[file])?;
             put(alloc, volume, 2, 240, &[1, 2])?;
             put(alloc, volume, 2, 241, &[3])?;
-            expect_saved(
-                &rt,
-                alloc,
-                volume,
-                &[part(file, 0, 4084), &[1, 3, 0, 9]],
-            )
+            expect_saved(&rt, alloc, volume, &[part(file, 0, 4084), &[1, 3, 0, 9]])
         },
     )
 }
@@ -112,9 +102,18 @@ fn refuses_a_file_of_another_length(rt: HostRuntime) -> Result<(), Fail> {
     let long = bytes.as_slice();
     let (all, short) = (part(long, 0, 4088), part(long, 0, 4000));
     assert_eq!(rt; pass_fault(&rt, alloc, all, 4088)?, None);
-    assert_eq!(rt; pass_fault(&rt, alloc, short, 4088)?, Some(LoadFault::ReadFailed));
-    assert_eq!(rt; pass_fault(&rt, alloc, long, 4088)?, Some(LoadFault::ReadFailed));
-    assert_eq!(rt; pass_fault(&rt, alloc, long, 4089)?, Some(LoadFault::TooLarge));
+    assert_eq!(rt;
+        pass_fault(&rt, alloc, short, 4088)?,
+        Some(LoadFault::ReadFailed)
+    );
+    assert_eq!(rt;
+        pass_fault(&rt, alloc, long, 4088)?,
+        Some(LoadFault::ReadFailed)
+    );
+    assert_eq!(rt;
+        pass_fault(&rt, alloc, long, 4089)?,
+        Some(LoadFault::TooLarge)
+    );
     Ok(())
 }
 

@@ -1,7 +1,9 @@
 -- The ends of a run, from those of its steps.
-use Rattle.std.proofs.Common.{◌≡◌, ℕ, ◌+◌, Bool, List, [], ◌∷◌, ◌++◌, length, take, sym, subst, inl, inr}
+use Rattle.std.proofs.Common.{◌≡◌, ℕ, ◌+◌, Bool, false, List, [], ◌∷◌, ◌++◌, length, take, sym, subst, inl, inr}
 use Rattle.std.specs.Prelude.{IsTrue}
+use Rattle.frame_cut.specs.declared.limits.Limits.{Limits}
 use Rattle.frame_cut.specs.declared.load_fault.LoadFault.{LoadFault}
+use Rattle.frame_cut.specs.declared.reading.Reading.{Reading}
 use Rattle.bench_rules.specs.State.{State}
 use Rattle.bench_laws.specs.EditLaws.{StepsStayCut}
 use Rattle.script_run.specs.declared.options.Options.{Options}
@@ -9,7 +11,7 @@ use Rattle.script_run.specs.declared.run_end.RunEnd.{RunEnd}
 use Rattle.script_run.specs.declared.run_end.RunEnd.TheVariants as ends
 use Rattle.script_text.specs.declared.script_fault.ScriptFault.{ScriptFault}
 use Rattle.script_text.specs.RefusalTexts.{load_refusal_line, script_refusal_line}
-use Rattle.script_text.specs.Devices.{Takes, TakesPart, count_in_64_bits}
+use Rattle.script_text.specs.Devices.{Device, Takes, TakesPart, count_in_64_bits}
 use Rattle.script_run.specs.Loading.{Loads, ReadsScript}
 use Rattle.script_text.specs.Replies.{Printed}
 use Rattle.script_words.specs.Words.{script_lines}
@@ -17,6 +19,15 @@ use Rattle.script_run.specs.FromScratch.{ScratchSteps, saved}
 use Rattle.script_run.specs.Runs.{LineStep, LineSteps, RunsWhole, StopsAt, BreaksOff}
 use Rattle.script_run.proofs.ScratchLemmas.{scratch, line_keeps}
 use Rattle.script_run.specs.Ends.{Devices, RefusesLoad, RefusesScript, RunsThrough, Stops, LosesAnswer, IsTold, Runs}
+
+-- a load into memory is one of a volume that stands where it stands
+pub loads_in_memory : (old new : Device) (reading : Reading) (limits : Limits) (start : State) → start.on_disk ≡ false → Loads old new reading limits false start
+    → Loads old new reading limits start.on_disk start
+loads_in_memory old new reading limits start memory loads = subst (λ (d : Bool). Loads old new reading limits d start) (sym memory) loads
+
+-- what is said of a run over a volume in memory
+pub runs_in_memory : (options : Options) (old new : Devices) (result : RunEnd) (start : State) → start.on_disk ≡ false → Runs start.on_disk options old new result → Runs false options old new result
+runs_in_memory options old new result start memory runs = subst (λ (d : Bool). Runs d options old new result) memory runs
 
 pub load_end : (on_disk : Bool) (options : Options) (old new : Devices) (fault : LoadFault) (result : RunEnd) → RefusesLoad options old new fault
     → IsTold old.answers new.answers (load_refusal_line fault) (ends.Load fault) result → Runs on_disk options old new result

@@ -1,5 +1,5 @@
 -- The ends of a session, from those of its lines.
-use Rattle.std.proofs.Common.{◌≡◌, ◌⊎◌, ℕ, ◌+◌, Bool, List, [], ◌∷◌, ◌++◌, length, sym, subst, inl, inr, arith, refl, ◌∙◌}
+use Rattle.std.proofs.Common.{◌≡◌, ◌⊎◌, ℕ, ◌+◌, Bool, false, List, [], ◌∷◌, ◌++◌, length, sym, subst, inl, inr, arith, refl, ◌∙◌}
 use Rattle.frame_cut.specs.declared.load_fault.LoadFault.{LoadFault}
 use Rattle.bench_rules.specs.State.{State}
 use Rattle.bench_laws.specs.EditLaws.{StepsStayCut}
@@ -19,6 +19,10 @@ use Rattle.script_run.proofs.ScratchLemmas.{scratch, session_keeps}
 use Rattle.script_run.proofs.FullAnswerLemmas.{session_full, plain_at_load}
 use Rattle.script_run.specs.Sessions.{SessionStep, AnswersLines, SessionThrough, SessionStops, SessionLosesAnswer, Session}
 use Rattle.script_run.specs.SessionLineRuns.{Answered, AnswersTo}
+
+-- what is said of a session over a volume in memory
+pub session_in_memory : (options : Options) (old new : Devices) (result : RunEnd) (start : State) → start.on_disk ≡ false → Session start.on_disk options old new result → Session false options old new result
+session_in_memory options old new result start memory session = subst (λ (d : Bool). Session d options old new result) memory session
 
 pub load_end : (on_disk : Bool) (options : Options) (old new : Devices) (fault : LoadFault) (result : RunEnd) → RefusesLoad options old new fault
     → IsTold old.answers new.answers (load_refusal_line fault) (ends.Load fault) result → Session on_disk options old new result

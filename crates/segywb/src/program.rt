@@ -11,7 +11,9 @@ use device_io::{Sink, Source};
 use frame_cut::{Limits, Reading};
 use safe_save::{Original, Save};
 use script_hints::Notes;
-use script_run::{Options, RunEnd, load_on_disk, refuse_load, run, run_loaded, session, session_loaded};
+use script_run::{
+    Options, RunEnd, load_on_disk, refuse_load, run, run_loaded, session, session_loaded,
+};
 use std::fs::{File, OpenFile};
 use std::io::{BufWriter, Write};
 use std::os::fd::AsFd;
@@ -20,6 +22,7 @@ use std::{env, fs, io};
 
 // The most bytes of a file, where the command line names no other number.
 const DEFAULT_LIMIT: u64 = 4294967296;
+
 const DEFAULT_LIMIT_ON_DISK: u64 = 1099511627776;
 
 // Short pieces of the save are written together, so many bytes at once; a piece of as many or more

@@ -13,7 +13,7 @@ pub fn file<'a>(alloc: Global) -> Arg<'a>
     ensures local { result.global ≡ false }
 {
     Arg::new(alloc, "FILE").required(true).help(
-        "SEG-Y file, with integer samples or --opaque-samples; it must fit in memory, but for --on-disk",
+        "SEG-Y file, with integer samples or --opaque-samples; in memory, but for --on-disk",
     )
 }
 
@@ -57,7 +57,9 @@ pub fn on_disk<'a>(alloc: Global) -> Arg<'a>
     Arg::new(alloc, "on-disk")
         .long("on-disk")
         .action(ArgAction::SetTrue)
-        .help("leave the bytes of FILE on disk, for files larger than memory; nothing may change it meanwhile")
+        .help(
+            "leave the bytes of FILE on disk, for one larger than memory; leave it alone meanwhile",
+        )
 }
 
 // `--fixed`: each trace has the binary header's number of samples, whatever bytes 3503-3504 say.
@@ -102,7 +104,10 @@ pub fn limit<'a>(alloc: Global) -> Arg<'a>
         .long("max-bytes")
         .value_parser(ValueParser::unsigned(1, 1099511627776))
         .value_name("N")
-        .help("refuse files above N bytes, at most 1099511627776 [default: 4294967296; with --on-disk 1099511627776]")
+        .help(
+            "refuse files above N bytes, at most 1099511627776 \
+             [default: 4294967296; with --on-disk 1099511627776]",
+        )
 }
 
 // `--stop`: the first refused line ends the run.

@@ -1,5 +1,5 @@
 use Rattle.std.proofs.Common.{refl, ◌∙◌}
-use Rattle.script_run.proofs.EndLemmas.{load_end}
+use Rattle.script_run.proofs.EndLemmas.{load_end, loads_in_memory, runs_in_memory}
 use Rattle.script_run.proofs.whole_run.run.Goals as goal
 
 pub returns-in-Err : goal.returns-in-Err
@@ -10,4 +10,6 @@ returns-in-Err g c =
 pub returns-in-Ok : goal.returns-in-Ok
 returns-in-Ok g c =
     let memory = c.in-Ok.ensures.ok.place_is in
-    rw memory at c.run_loaded-end.ensures.run _ _ c.in-Ok.ensures.ok (c.memory_agrees.ensures (c.run_loaded-end.ensures.same.on_disk ∙ memory))
+    runs_in_memory c.args.options _ _ _ c.in-Ok.bench.state memory (
+      c.run_loaded-end.ensures.run _ _ (loads_in_memory _ _ _ _ c.in-Ok.bench.state memory c.in-Ok.ensures.ok)
+      (c.memory_agrees.ensures (c.run_loaded-end.ensures.same.on_disk ∙ memory)))

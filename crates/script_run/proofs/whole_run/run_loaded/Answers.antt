@@ -33,7 +33,7 @@ returns-in-Whole-clause-run g c = λ before after loaded sure. (
   runs_through c.steps_stay_cut.ensures c.args.bench.now.state.on_disk c.args.options _ _ c.args.bench.now.state c.run_lines.new.bench.state c.in-Ok.lines.items loaded c.in-Ok.ensures.ok
       c.in-Whole.refused (rw c.as_slice.ensures.value at (c.in-Whole.ensures.lines (c.in-Err-save.ensures.agreed sure))),
   c.if-options.true,
-  c.in-Err-save.ensures.saved sure,
+  rw c.in-Whole.ensures.same.on_disk at (c.in-Err-save.ensures.saved sure),
 )
 
 pub returns-clause-run : goal.returns-clause-run

@@ -1,5 +1,6 @@
 use Rattle.std.proofs.Common.{refl, ◌∙◌}
-use Rattle.script_run.proofs.SessionEndLemmas.{load_end}
+use Rattle.script_run.proofs.EndLemmas.{loads_in_memory}
+use Rattle.script_run.proofs.SessionEndLemmas.{load_end, session_in_memory}
 use Rattle.script_run.proofs.whole_session.session.Goals as goal
 
 pub returns-in-Err : goal.returns-in-Err
@@ -10,4 +11,6 @@ returns-in-Err g c =
 pub returns-in-Ok : goal.returns-in-Ok
 returns-in-Ok g c =
     let memory = c.in-Ok.ensures.ok.place_is in
-    rw memory at c.session_loaded-end.ensures.session _ _ c.in-Ok.ensures.ok (c.memory_agrees.ensures (c.session_loaded-end.ensures.same.on_disk ∙ memory))
+    session_in_memory c.args.options _ _ _ c.in-Ok.bench.state memory (
+      c.session_loaded-end.ensures.session _ _ (loads_in_memory _ _ _ _ c.in-Ok.bench.state memory c.in-Ok.ensures.ok)
+      (c.memory_agrees.ensures (c.session_loaded-end.ensures.same.on_disk ∙ memory)))

@@ -33,7 +33,7 @@ returns-in-Err-clause-session g c = λ before after loaded sure. (
   c.answer_lines.new.bench.state,
   goes_through c.steps_stay_cut.ensures c.args.bench.now.state.on_disk c.args.options _ _ c.args.bench.now.state c.answer_lines.new.bench.state loaded c.in-Whole.refused (c.in-Whole.ensures.lines (c.in-Err.ensures.agreed sure)),
   c.if-options.true,
-  c.in-Err.ensures.saved sure,
+  rw c.in-Whole.ensures.same.on_disk at (c.in-Err.ensures.saved sure),
 )
 
 pub returns-in-Whole-2-clause-session : goal.returns-in-Whole-2-clause-session

@@ -25,7 +25,7 @@ fn trace(alloc: Global, samples: u8, sample: u8) -> Result<Vec<u8>, Fail> {
 }
 
 // The bytes from..to, where there are as many.
-fn part(bytes: &[u8], from: usize, to: usize) -> &[u8] {
+pub(crate) fn part(bytes: &[u8], from: usize, to: usize) -> &[u8] {
     if from <= to && to <= bytes.len() {
         &bytes[from..to]
     } else {
@@ -33,7 +33,7 @@ fn part(bytes: &[u8], from: usize, to: usize) -> &[u8] {
     }
 }
 
-fn limits() -> Result<Limits, Fail> {
+pub(crate) fn limits() -> Result<Limits, Fail> {
     Ok(Limits::new(4088, 2).ok_or("limits")?)
 }
 
@@ -56,7 +56,7 @@ fn on_small(
 }
 
 // Asserts that a save writes these parts, one behind the other.
-fn expect_saved(
+pub(crate) fn expect_saved(
     rt: &impl Abort,
     alloc: Global,
     volume: &mut Overlay<u32>,
@@ -75,7 +75,7 @@ fn expect_saved(
 }
 
 // Asserts that trace p has these bytes, at most 300.
-fn expect_trace(rt: &impl Abort, volume: &mut Overlay<u32>, p: u32, expected: &[u8]) {
+pub(crate) fn expect_trace(rt: &impl Abort, volume: &mut Overlay<u32>, p: u32, expected: &[u8]) {
     assert!(rt; shows(volume, p, expected));
 }
 
@@ -97,7 +97,7 @@ fn has_bytes(view: &TraceView<'_>, expected: &[u8]) -> bool {
 }
 
 // Asserts that these are the bytes of the traces, at most 300 each, and that none is behind them.
-fn expect_traces(
+pub(crate) fn expect_traces(
     rt: &impl Abort,
     volume: &mut Overlay<u32>,
     expected: &[&[u8]],
@@ -112,7 +112,7 @@ fn expect_traces(
 }
 
 // Asserts that the traces have these payloads, in this order.
-fn expect_payloads(rt: &impl Abort, volume: &Overlay<u32>, expected: &[u32]) {
+pub(crate) fn expect_payloads(rt: &impl Abort, volume: &Overlay<u32>, expected: &[u32]) {
     let column = volume.payloads();
     let mut payloads = column.iter();
     for payload in expected {

@@ -11,5 +11,5 @@ pub returns-in-Ok : goal.returns-in-Ok
 returns-in-Ok g c =
     let memory = c.in-Ok.ensures.ok.place_is in
     runs_in_memory c.args.options _ _ _ c.in-Ok.bench.state memory (
-      c.run_loaded-end.ensures.run _ _ (loads_in_memory _ _ _ _ c.in-Ok.bench.state memory c.in-Ok.ensures.ok)
-      (c.memory_agrees.ensures (c.run_loaded-end.ensures.same.on_disk ∙ memory)))
+    c.run_loaded-end.ensures.run _ _ (loads_in_memory _ _ _ _ c.in-Ok.bench.state memory c.in-Ok.ensures.ok)
+    (c.memory_agrees.ensures (c.run_loaded-end.ensures.same.on_disk ∙ memory)))

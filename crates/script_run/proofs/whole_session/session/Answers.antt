@@ -12,5 +12,5 @@ pub returns-in-Ok : goal.returns-in-Ok
 returns-in-Ok g c =
     let memory = c.in-Ok.ensures.ok.place_is in
     session_in_memory c.args.options _ _ _ c.in-Ok.bench.state memory (
-      c.session_loaded-end.ensures.session _ _ (loads_in_memory _ _ _ _ c.in-Ok.bench.state memory c.in-Ok.ensures.ok)
-      (c.memory_agrees.ensures (c.session_loaded-end.ensures.same.on_disk ∙ memory)))
+    c.session_loaded-end.ensures.session _ _ (loads_in_memory _ _ _ _ c.in-Ok.bench.state memory c.in-Ok.ensures.ok)
+    (c.memory_agrees.ensures (c.session_loaded-end.ensures.same.on_disk ∙ memory)))

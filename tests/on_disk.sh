@@ -1,6 +1,7 @@
 #!/usr/bin/env bash
-# The bytes of the file stay on disk: answers, status and saved bytes are those of a run in memory; a device that fails, and a file
-# that changes meanwhile, are told, and OUT is whole; a file of 20 GB is repaired in 1 GB of address space.
+# The bytes of the file stay on disk: answers, status and saved bytes are those of a run in memory, also of cut and hostile files and
+# where a growth of memory is refused; a device that fails, and a file that changes meanwhile, are told, and OUT is whole; a file of
+# 20 GB is repaired in 1 GB of address space.
 # usage: tests/on_disk.sh [PROGRAM]
 . "$(dirname "$0")/sweeps.sh"
 varying v.sgy
@@ -42,6 +43,11 @@ alike 'nothing is changed' v.sgy
 printf '#!/bin/sh\ncase " $* " in *" --in-place "*|*" --help "*|*" --version "*) exec "%s" "$@" ;; esac\nfor word in "$@"; do [ ! -f "$word" ] || { exec "%s" "$@" --on-disk; }; break; done\nexec "%s" "$@"\n' \
     "$named" "$named" "$named" > disked
 chmod +x disked
+# the sweeps over lengths of files, over hostile files and over growths of memory, with the option, beside the rest
+sweeping() { bash "$here/$1.sh" "${@:2}" > "$1.told" 2>&1; echo $? > "$1.status"; }
+sweeping cuts "$PWD/disked" &
+sweeping hostile "$PWD/disked" &
+sweeping growth "$named" --on-disk &
 if bash "$here/transcripts.sh" "$PWD/disked" "$here"/transcripts/*.md > told.txt 2>&1; then tell 'the worked examples' ok; else tell 'the worked examples' "$(tail -n 20 told.txt)"; fi
 
 # ---- a pipe, and a save over the file itself
@@ -131,4 +137,9 @@ else
     tell '20 GB in 1 GB' "status $status of $bytes bytes: $(head -c 300 errors) $(< differs.txt)"
 fi
 rm big.sgy
+
+wait
+for sweep in cuts hostile growth; do
+    if [ "$(< $sweep.status)" = 0 ]; then tell "$sweep" ok; else tell "$sweep" "$(grep -m 5 FAILED $sweep.told)"; fi
+done
 finish

@@ -119,6 +119,24 @@ meanwhile 'cut' "get $last inline" 'refused E14 read failed' 'truncate -s 3700 o
 meanwhile 'grown' 'count' "traces $last" 'printf x >> own.sgy'
 meanwhile 'a trace of another length' "get 1 inline" 'refused E15 file changed' 'put own.sgy $((3600 + 114)) 0fff'
 
+# ---- the file changes while it is copied to a pipe, which took a part by then
+survey copied.sgy
+truncate -s 3600 copied.sgy
+put copied.sgy 3220 7800
+truncate -s $((3600 + 50 * (240 + 2 * 30720))) copied.sgy
+printf 'count\n' > script
+mkfifo copy
+"$program" copied.sgy --on-disk --script script --out copy > answers 2> errors &
+id=$!
+exec {in}< copy
+head -c 1 <&"$in" > copied.txt
+put copied.sgy 3700 01
+cat <&"$in" >> copied.txt
+exec {in}<&-
+wait "$id"
+status=$?
+if [ $status = 4 ] && grep -q '^segywb: copied.sgy: what was saved may be of two files; ' errors; then tell 'changed while it is copied' ok; else tell 'changed while it is copied' "status $status: $(head -c 300 errors)"; fi
+
 # ---- 20 GB in 1 GB of address space: 327679 traces of 30720 samples of two bytes, zeros that take no disk
 survey big.sgy
 truncate -s 3600 big.sgy

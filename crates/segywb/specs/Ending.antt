@@ -18,6 +18,7 @@ exit_status (Done refused) s.Saved = status_of_lines refused
 exit_status (Done refused) s.Failed = 4
 exit_status (Done refused) s.Unsettled = 4
 exit_status (Done refused) s.Stale = 4
+exit_status (Done refused) s.Doubtful = 4
 exit_status (Stopped line) ended = 1
 exit_status (Load fault) ended = 3
 exit_status (Script fault) ended = 4
@@ -31,6 +32,7 @@ told_of_save s.Saved = t.Nothing
 told_of_save s.Failed = t.SaveFailed
 told_of_save s.Unsettled = t.SaveUnsettled
 told_of_save s.Stale = t.FileChanged
+told_of_save s.Doubtful = t.SaveDoubtful
 
 -- what standard error says of a save that a failed read of FILE ended, or a failed write
 abbrev pub told_of_failed : Bool → SaveEnd → Message

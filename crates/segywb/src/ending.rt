@@ -16,6 +16,9 @@ pub enum SaveEnd {
     Unsettled,
     /// FILE was changed by another program, and OUT is as it was.
     Stale,
+    /// FILE, whose bytes stay on disk, was changed by another program while they were copied to OUT
+    /// itself.
+    Doubtful,
 }
 
 /// What standard error says.
@@ -28,6 +31,7 @@ pub enum Message {
     FileUnread,
     SaveUnsettled,
     FileChanged,
+    SaveDoubtful,
 }
 
 /// The exit status.
@@ -37,7 +41,7 @@ pub fn exit_status(end: RunEnd, save: SaveEnd) -> u8
     match end {
         RunEnd::Done { refused } => match save {
             SaveEnd::NotBegun | SaveEnd::Saved => u8::from(refused > 0),
-            SaveEnd::Failed | SaveEnd::Unsettled | SaveEnd::Stale => 4,
+            SaveEnd::Failed | SaveEnd::Unsettled | SaveEnd::Stale | SaveEnd::Doubtful => 4,
         },
         RunEnd::Stopped { .. } => 1,
         RunEnd::Load(_) => 3,
@@ -78,5 +82,6 @@ fn told_of_save(save: SaveEnd) -> Message
         SaveEnd::Failed => Message::SaveFailed,
         SaveEnd::Unsettled => Message::SaveUnsettled,
         SaveEnd::Stale => Message::FileChanged,
+        SaveEnd::Doubtful => Message::SaveDoubtful,
     }
 }

@@ -105,6 +105,7 @@ bench: build
 	bash speed/slices $(BUILT)
 	bash speed/renumber $(BUILT)
 	bash speed/headers $(BUILT)
+	bash speed/disk $(BUILT)
 	bash speed/python $(BUILT)
 	bash speed/desk $(BUILT)
 	bash speed/orders $(TIMINGS)

@@ -14,6 +14,7 @@ complete -c segywb-desk -l port -x -d 'the port of the page'
 complete -c segywb-desk -l no-browser -d 'print the address alone'
 for tool in segywb-plot segywb-report segywb-desk
     complete -c $tool -l fixed -d "read each trace with the binary header's number of samples"
+    complete -c $tool -l on-disk -d 'leave the bytes of the file on disk, for one larger than memory'
     complete -c $tool -l order -x -a 'big little' -d 'the order of bytes of a file that does not tell it'
     complete -c $tool -l max-bytes -x -d 'refuse files above so many bytes'
     complete -c $tool -s h -l help -d 'print help'

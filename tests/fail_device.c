@@ -78,6 +78,18 @@ ssize_t read(int file, void *bytes, size_t count) {
     return given;
 }
 
+/* Reads by place count as reads do. */
+ssize_t pread(int file, void *bytes, size_t count, off_t at) {
+    ssize_t given;
+    if (file != device) return syscall(SYS_pread64, file, bytes, count, at);
+    given = share(count, gives);
+    if (given > 0) given = syscall(SYS_pread64, file, bytes, given, at);
+    if (given > 0) done += given;
+    return given;
+}
+
+ssize_t pread64(int file, void *bytes, size_t count, off_t at) { return pread(file, bytes, count, at); }
+
 ssize_t write(int file, const void *bytes, size_t count) {
     ssize_t taken;
     if (file != device) return syscall(SYS_write, file, bytes, count);

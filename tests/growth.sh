@@ -3,8 +3,9 @@
 # until a run meets none. Each run ends as the definitions allow: a file refused with L16, a script refused with P03, one line
 # answered E11 that changes nothing (every other line then answers, and the file is saved, as if that line were not there), a
 # command line that is not accepted for want of memory, or as with ample memory where the program can do without that growth.
-# usage: tests/growth.sh [PROGRAM]
+# usage: tests/growth.sh [PROGRAM [OPTION]], as with --on-disk
 . "$(dirname "$0")/sweeps.sh"
+option=("${@:2}")
 . "$here/framed.sh"
 compiled refuse_growth -shared -fPIC
 library=LD_PRELOAD=./refuse_growth.so
@@ -32,7 +33,7 @@ ways() {
     local file=$1 at=0 k status then
     shift
     printf '%s\n' "$@" > script
-    "$program" "$file" --script script --out whole.sgy > whole.txt
+    "$program" "$file" "${option[@]}" --script script --out whole.sgy > whole.txt
     status=$?
     ways=("${early[@]}" may whole $status whole.txt - whole.sgy)
     then='it is as it was; save elsewhere, or over it with --in-place'
@@ -40,13 +41,13 @@ ways() {
     [ ! -e whole.sgy ] || ways+=(may rename 4 whole.txt "=segywb: save failed after $(wc -c < whole.sgy) bytes"$'\nsegywb: o.sgy: cannot put the file beside it in its place (out of memory): '"$then" -)
     # behind each line stands one that no line of the script is: so the answers to each line are known
     printf '%s\n=\n' "$@" > marked
-    "$program" "$file" --script marked --quiet > marked.txt
+    "$program" "$file" "${option[@]}" --script marked --quiet > marked.txt
     mapfile -t marked < marked.txt
     for ((k = 1; k <= $#; k++)); do
         if may_want "${!k}"; then
             : > fewer
             [ $# = 1 ] || printf '%s\n' "${@:1:k-1}" "${@:k+1}" > fewer
-            "$program" "$file" --script fewer --out "fewer.$k.sgy" > fewer.txt
+            "$program" "$file" "${option[@]}" --script fewer --out "fewer.$k.sgy" > fewer.txt
             mapfile -t told < fewer.txt
             printf '%s\n' "${told[@]:0:at}" 'refused E11 out of memory' "${told[@]:at}" > "fewer.$k.txt"
             ways+=(may "$k" 1 "fewer.$k.txt" - "fewer.$k.sgy")
@@ -62,15 +63,15 @@ grows() {
     local name=$1 file=$2 kind number word
     shift 2
     ways "$file" "$@"
-    env $library REFUSE_COUNT=asked "$program" "$file" --script script --out o.sgy > o.txt
-    sweep "$name: growth" $first "$(< asked)" saves o.sgy "${ways[@]}" -- $library REFUSE=% "$program" "$file" --script script --out o.sgy
+    env $library REFUSE_COUNT=asked "$program" "$file" "${option[@]}" --script script --out o.sgy > o.txt
+    sweep "$name: growth" $first "$(< asked)" saves o.sgy "${ways[@]}" -- $library REFUSE=% "$program" "$file" "${option[@]}" --script script --out o.sgy
     while read -r kind number; do
         case $kind in
             words) first=$((first + number)) ;;
             [0-9]*) word=${!kind}; word=${word%% *}; refused[$word]=$((${refused[$word]:-0} + number)); last=$number ;;
         esac
     done < kinds
-    once "$name: no growth" saves o.sgy "${ways[@]:${#early[@]}:6}" -- $library REFUSE=$(($(< asked) + 1)) "$program" "$file" --script script --out o.sgy
+    once "$name: no growth" saves o.sgy "${ways[@]:${#early[@]}:6}" -- $library REFUSE=$(($(< asked) + 1)) "$program" "$file" "${option[@]}" --script script --out o.sgy
 }
 
 queries=(grid inlines crosslines histogram 'slice 0' 'slice 1' faults fields stanzas 'line 0 1' totals 'range inline' 'range crossline' 'range offset' 'range x' 'range y'

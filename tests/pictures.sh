@@ -79,6 +79,9 @@ runs 'a page of a file without traces' 0 '' segywb-report --no-pictures none.sgy
 has 'says so' page.html '<tr><th scope="row">fold (traces of a cell)</th><td>none</td></tr>'
 
 # floats: what can be told of them, and why the rest is not
+runs 'a page' 0 '' segywb-report --no-pictures cube.sgy memory.html
+runs 'a page of a file that stays on disk' 0 '' segywb-report --no-pictures --on-disk cube.sgy disk.html
+if cmp -s memory.html disk.html; then tell 'the same page' ok; else tell 'the same page' 'it differs'; fi
 runs 'a page of floats' 0 '' segywb-report --no-pictures --opaque-samples float_line.sgy page.html fix.txt
 has 'their format' page.html '<tr><th scope="row">sample format</th><td>1: 4 bytes, IBM float</td><td>1: 4 bytes, IBM float</td></tr>'
 has 'their cells' page.html '<tr class="differs"><th scope="row">cells of the grid</th><td>8</td><td>12</td></tr>'

@@ -12,12 +12,13 @@ passed=0
 failed=0
 
 # the pictures and the page are tried beside the other tests, and so are those that run the program some ten thousand times
-beside='pictures growth devices cuts hostile save session'
+beside='pictures growth devices cuts hostile save session on_disk'
 alone() { bash "$here/$1.sh" "$program" > "$1.told" 2>&1; echo $? > "$1.status"; }
 alone pictures &
 { alone growth; alone cuts; } &
 { alone devices; alone hostile; } &
 { alone save; alone session; } &
+alone on_disk &
 
 # tell NAME OUTCOME: counts one test
 tell() {

@@ -208,7 +208,7 @@ load_told() {
     local got=$?
     if [ $got = 3 ] && [ "$(< answers)" = "load refused $text" ] && [ "$(< errors)" = "$told" ]; then tell "$name" ok; else tell "$name" "status $got: $(< answers): $(< errors)"; fi
 }
-cp s.sgy bad.sgy; load_told 'a limit' 'L02 too large' '--max-bytes N raises the limit' --max-bytes 4331
+cp s.sgy bad.sgy; load_told 'a limit' 'L02 too large' '--max-bytes N raises the limit; with --on-disk FILE need not fit in memory' --max-bytes 4331
 head -c 99 s.sgy > bad.sgy; load_told 'a short file' 'L03 short 99' 'the two file headers have 3600 bytes'
 cp s.sgy bad.sgy; put bad.sgy 3296 02010403; load_told 'swapped pairs' 'L04 pair swapped' 'bytes 3297-3300 are 02 01 04 03: the two bytes of each pair are swapped; swap them back, as by dd conv=swab'
 cp s.sgy bad.sgy; put bad.sgy 3500 0201; load_told 'a revision' 'L05 revision 2.1' 'bytes 3501-3502; revisions 0, 1 and 2.0 are read'

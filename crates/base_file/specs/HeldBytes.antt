@@ -28,16 +28,28 @@ Falls InMemory new = new ≡ InMemory
 Falls (OnDisk agreed) InMemory = ⊥
 Falls (OnDisk agreed) (OnDisk later) = IsTrue later → IsTrue agreed
 
--- bytes that were loaded, their standing, and what was read last
+-- bytes that were loaded, their standing, what was read last, and how many of the first and of the last ones are kept
 pub record HeldBytes : Type 0 where
   pub bytes : List ℕ
   pub standing : Standing
   pub room : List ℕ
+  pub front : ℕ
+  pub back : ℕ
 
--- the same bytes, which stand as they did or have fallen
+-- the same bytes, of which as many are kept, and which stand as they did or have fallen
 pub record IsStill (old new : HeldBytes) : Type 0 where
   pub bytes : new.bytes ≡ old.bytes
   pub standing : Falls old.standing new.standing
+  pub front : new.front ≡ old.front
+  pub back : new.back ≡ old.back
+
+-- more bytes behind those that were there, which stand as they did
+pub record HasGrown (old new : HeldBytes) : Type 0 where
+  pub begins : take (length old.bytes) new.bytes ≡ old.bytes
+  pub standing : new.standing ≡ old.standing
+  pub room : new.room ≡ old.room
+  pub front : new.front ≡ old.front
+  pub back : new.back ≡ old.back
 
 -- what is lent: the bytes themselves, or what was read last
 abbrev pub lent_by : Standing → List ℕ → List ℕ → ℕ → ℕ → List ℕ

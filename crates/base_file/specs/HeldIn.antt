@@ -1,21 +1,51 @@
 -- How a base is held.
-use Rattle.std.specs.Prelude.{ℕ, List}
-use Rattle.base_file.specs.Disks.{bytes_of, is_agreed}
+use Rattle.std.specs.Prelude.{ℕ, ◌≡◌, ◌-◌, ◌≤◌, true, List, [], length, take, drop}
+use Rattle.base_file.specs.Disks.{bytes_of, bytes_so_far, is_agreed}
 use Rattle.base_file.specs.HeldBytes.{Standing, InMemory, OnDisk, HeldBytes}
 use Rattle.base_file.specs.declared.source.Source.{Source}
-use Rattle.base_file.specs.declared.source.Source.TheVariants.{Memory, Disk}
+use Rattle.base_file.specs.declared.source.Source.TheVariants.{Memory, Disk, Pass}
 use Rattle.base_file.specs.declared.held.Held.TheInside.{Inside}
 
 -- the bytes of a source
 abbrev pub bytes_in : Source → List ℕ
 bytes_in (Memory m) = m.bytes.items
 bytes_in (Disk d) = bytes_of d
+bytes_in (Pass l) = bytes_so_far l
 
 -- whether they stand in memory, or on disk and still agree
 abbrev pub standing_in : Source → Standing
 standing_in (Memory m) = InMemory
 standing_in (Disk d) = OnDisk (is_agreed d)
+standing_in (Pass l) = OnDisk true
+
+-- how many are kept: in memory all, on disk those of a list
+abbrev pub kept_count : Source → List ℕ → ℕ
+kept_count (Memory m) kept = length m.bytes.items
+kept_count (Disk d) kept = length kept
+kept_count (Pass l) kept = length kept
 
 -- what is held, as clauses see it
 abbrev pub held_of : Inside → HeldBytes
-held_of h = record { bytes = bytes_in h.source; standing = standing_in h.source; room = h.room.items }
+held_of h = record {
+  bytes = bytes_in h.source;
+  standing = standing_in h.source;
+  room = h.room.items;
+  front = kept_count h.source h.front.items;
+  back = kept_count h.source h.back.items;
+}
+
+-- these are the first of the bytes, and those the last
+pub record AreEnds (bytes first last : List ℕ) : Type 0 where
+  pub front : first ≡ take (length first) bytes
+  pub back : last ≡ drop (length bytes - length last) bytes
+  pub fits : length last ≤ length bytes
+
+-- of a file on disk, these are the first bytes, and those the last; of one that is being read none are kept
+abbrev pub AreEndsIn : Source → List ℕ → List ℕ → Type 0
+AreEndsIn (Memory m) first last = Unit {0}
+AreEndsIn (Disk d) first last = AreEnds (bytes_of d) first last
+AreEndsIn (Pass l) first last = (first ≡ []) × (last ≡ [])
+
+-- what is kept of a file on disk are its first bytes and its last
+abbrev pub AreKept : Inside → Type 0
+AreKept h = AreEndsIn h.source h.front.items h.back.items

@@ -2,5 +2,3 @@ pub mod Seen
 pub mod Disks
 pub mod HeldBytes
 pub mod HeldIn
-pub mod Lending
-pub mod Splices

@@ -1,24 +1,27 @@
 // The bytes under a volume.
-ghost use Rattle.std.specs.Prelude.{◌≡◌, ◌+◌, ◌≤◌, ◌↔◌, length, take, drop, IfOk, IsOk, IsTrue, OnOk};
-ghost use Rattle.std.specs.Borrow.{sem};
-ghost use Rattle.frame_cut.specs.Cuts.{IsTrace};
+ghost use Rattle.std.specs.Prelude.{◌≡◌, ◌+◌, ◌-◌, ◌≤◌, ◌↔◌, ◌⊎◌, ◌++◌, true, [], length, take, drop, IfOk, IsOk, IsTrue, OnErr, OnOk};
 
 use crate::base::Base;
 use crate::disk::Disk;
+use crate::loading::Loading;
 use crate::memory::Memory;
 use crate::read_fault::ReadFault;
 use crate::source::Source;
-use frame_cut::{Head, front_length, trace_length};
 use std::alloc::Global;
 use std::fs::File;
 use std::marker::Model;
 
 /// The bytes under a volume, in memory or on disk, with room for what is lent of them: a clause
-/// sees those that were loaded, their standing, and what was read last. Places count from 0.
+/// sees those that were loaded, their standing, what was read last, and how many of the first and
+/// of the last ones are kept. Places count from 0.
 #[derive(Drop)]
 pub struct Held {
     source: Source,
     room: Vec<u8>,
+
+    // The first bytes of a file on disk, and its last; empty beside bytes in memory.
+    front: Vec<u8>,
+    back: Vec<u8>,
 }
 
 impl Model for Held {
@@ -26,35 +29,125 @@ impl Model for Held {
 
     ghost Value = { HeldBytes };
 
-    ghost use Rattle.base_file.specs.HeldIn.{held_of};
+    ghost use Rattle.base_file.specs.HeldIn.{held_of, AreKept};
 
     ghost view = { held_of };
+
+    ghost invariant = { AreKept };
 }
 
 impl Held {
     ghost use Rattle.base_file.specs.Disks.{bytes_of, is_agreed};
-    ghost use Rattle.base_file.specs.HeldBytes.{InMemory, OnDisk, IsInMemory, IsStill, IsSure, AreThere, lent_of};
-    ghost use Rattle.base_file.specs.Lending.{EndsLent};
+    ghost use Rattle.base_file.specs.HeldBytes.{InMemory, OnDisk, HasGrown, IsInMemory, IsStill, IsSure, AreThere, lent_of};
 
     /// Bytes in memory. Takes no memory.
     pub fn in_memory(alloc: Global, bytes: Vec<u8>) -> Held
         ensures bytes { result.bytes ≡ bytes.items }
         ensures standing { result.standing ≡ InMemory }
+        ensures front { result.front ≡ length bytes.items }
+        ensures back { result.back ≡ length bytes.items }
     {
         Held {
             source: Source::Memory(Memory { bytes }),
             room: Vec::new(alloc),
+            front: Vec::new(alloc),
+            back: Vec::new(alloc),
         }
     }
 
-    /// Bytes on disk, with room for as many as are to be lent at once. Takes no memory.
-    pub fn on_disk(disk: Disk<File>, room: Vec<u8>) -> Held
+    /// Bytes on disk, with room for as many as are to be lent at once, and with the first and the
+    /// last of them as the load's pass gave them. Takes no memory.
+    pub fn on_disk(disk: Disk<File>, room: Vec<u8>, front: Vec<u8>, back: Vec<u8>) -> Held
+        requires front { front.items ≡ take (length front.items) (bytes_of disk) }
+        requires back { back.items
+            ≡ drop (length (bytes_of disk) - length back.items) (bytes_of disk) }
+        requires fits { length back.items ≤ length (bytes_of disk) }
         ensures bytes { result.bytes ≡ bytes_of disk }
         ensures standing { result.standing ≡ OnDisk (is_agreed disk) }
+        ensures room { result.room ≡ room.items }
+        ensures front { result.front ≡ length front.items }
+        ensures back { result.back ≡ length back.items }
     {
         Held {
             source: Source::Disk(disk),
             room,
+            front,
+            back,
+        }
+    }
+
+    /// A file that is read from its front to its end, once, by `read_on`: none of its bytes yet.
+    /// Takes no memory.
+    pub fn on_pass(alloc: Global, file: File) -> Held
+        ensures bytes { result.bytes ≡ [] }
+        ensures standing { result.standing ≡ OnDisk true }
+    {
+        Held {
+            source: Source::Pass(Loading::new(file)),
+            room: Vec::new(alloc),
+            front: Vec::new(alloc),
+            back: Vec::new(alloc),
+        }
+    }
+
+    /// The next bytes of a file that is being read, into the front of the block: how many, and 0 at
+    /// the end or where the block is empty; 0 too where the bytes are in memory, or the pass has
+    /// ended. Takes no memory. Refused where the file failed, and where there are more than 2^62
+    /// bytes; the pass then stands where it stood.
+    pub fn read_on(&mut self, block: &mut [u8]) -> Result<usize, ReadFault>
+        ensures fits { IfOk result (λ n. n ≤ length block.new) }
+        ensures bytes { IfOk result (λ n. self.new.bytes ≡ self.old.bytes ++ take n block.new) }
+        ensures failed { OnErr result (self.new.bytes ≡ self.old.bytes) }
+        ensures standing { self.new.standing ≡ self.old.standing }
+        ensures room { self.new.room ≡ self.old.room }
+        ensures front { self.new.front ≡ self.old.front }
+        ensures back { self.new.back ≡ self.old.back }
+    {
+        match &mut self.source {
+            Source::Pass(loading) => loading.next(block),
+            Source::Memory(_) | Source::Disk(_) => Ok(0),
+        }
+    }
+
+    /// Whether a file that is being read has no more bytes; true where the bytes are in memory, or
+    /// the pass has ended. Takes no memory. Refused as `read_on`.
+    pub fn is_at_end(&mut self) -> Result<bool, ReadFault>
+        ensures grown { HasGrown self.old self.new }
+        ensures end { IfOk result (λ end. IsTrue end → self.new.bytes ≡ self.old.bytes) }
+    {
+        let mut byte = [0];
+        let count = self.read_on(&mut byte)?;
+        Ok(count == 0)
+    }
+
+    /// The bytes as they were read so far: the pass ends. With room for as many as are to be lent
+    /// at once, and with the first and the last of them; of bytes in memory nothing changes. Takes
+    /// no memory.
+    pub fn settle(self, room: Vec<u8>, front: Vec<u8>, back: Vec<u8>) -> Held
+        requires front { front.items ≡ take (length front.items) self.bytes }
+        requires back { back.items ≡ drop (length self.bytes - length back.items) self.bytes }
+        requires fits { length back.items ≤ length self.bytes }
+        ensures bytes { result.bytes ≡ self.bytes }
+        ensures standing { result.standing ≡ self.standing }
+        ensures room { ¬ IsInMemory self.standing → result.room ≡ room.items }
+        ensures front { ¬ IsInMemory self.standing → result.front ≡ length front.items }
+        ensures back { ¬ IsInMemory self.standing → result.back ≡ length back.items }
+    {
+        let Held {
+            source,
+            room: old_room,
+            front: old_front,
+            back: old_back,
+        } = self;
+        match source {
+            Source::Memory(memory) => Held {
+                source: Source::Memory(memory),
+                room: old_room,
+                front: old_front,
+                back: old_back,
+            },
+            Source::Disk(disk) => Held::on_disk(disk, room, front, back),
+            Source::Pass(loading) => Held::on_disk(loading.finish(), room, front, back),
         }
     }
 
@@ -65,6 +158,30 @@ impl Held {
         match &self.source {
             Source::Memory(memory) => memory.length(),
             Source::Disk(disk) => disk.length(),
+            Source::Pass(loading) => loading.length(),
+        }
+    }
+
+    /// Whether the bytes are in memory. Takes no memory.
+    #[inline]
+    pub fn is_in_memory(&self) -> bool
+        ensures { IsTrue result ↔ IsInMemory self.now.standing }
+    {
+        match &self.source {
+            Source::Memory(_) => true,
+            Source::Disk(_) | Source::Pass(_) => false,
+        }
+    }
+
+    /// How many bytes can be lent at once: in memory all, on disk as many as there is room for.
+    /// Takes no memory.
+    pub fn most(&self) -> usize
+        ensures memory { IsInMemory self.now.standing → length self.now.bytes ≤ result }
+        ensures disk { ¬ IsInMemory self.now.standing → result ≡ length self.now.room }
+    {
+        match &self.source {
+            Source::Memory(memory) => memory.bytes.len(),
+            Source::Disk(_) | Source::Pass(_) => self.room.len(),
         }
     }
 
@@ -76,44 +193,18 @@ impl Held {
     {
         match &self.source {
             Source::Memory(memory) => memory.bytes.as_slice(),
-            Source::Disk(_) => unreachable!(),
+            Source::Disk(_) | Source::Pass(_) => unreachable!(),
         }
     }
 
-    /// Lends n bytes from `at` on. Takes no memory. Refused where the file failed or has fewer
-    /// bytes than it had, and where they are more than there is room for; of bytes in memory never.
-    pub fn lend(&mut self, at: u64, n: usize) -> Result<&[u8], ReadFault>
-        requires { at + n ≤ length self.old.bytes }
-        ensures* ends { sem 𝓛 (EndsLent self.entry at n result) }
-        ensures size { IfOk result (λ s. length s.now ≡ n) }
-        ensures memory { IsInMemory self.old.standing → IsOk result }
-    {
-        self.fetch(at, n)?;
-        Ok(self.lent(at, n))
-    }
-
-    /// Lends a trace of n bytes from `at` on, under the head of its file. Takes no memory. Refused
-    /// as `lend`, and where what the file gives now is no whole trace: so what is lent is one,
-    /// whatever the file gives.
-    pub fn lend_trace(&mut self, head: &Head, at: u64, n: usize) -> Result<&[u8], ReadFault>
-        requires { at + n ≤ length self.old.bytes }
-        ensures* ends { sem 𝓛 (EndsLent self.entry at n result) }
-        ensures size { IfOk result (λ s. length s.now ≡ n) }
-        ensures whole { IfOk result (λ s. IsTrace head.now s.now) }
-        ensures memory { IsInMemory self.old.standing →
-            IsTrace head.now (take n (drop at self.old.bytes)) → IsOk result }
-    {
-        self.fetch(at, n)?;
-        if !is_trace(head, self.lent(at, n)) {
-            return Err(ReadFault::Changed);
-        }
-        Ok(self.lent(at, n))
-    }
-
-    // Reads n bytes from `at` on, where they are on disk.
-    fn fetch(&mut self, at: u64, n: usize) -> Result<(), ReadFault>
+    /// Reads n bytes from `at` on, where they are on disk: they can be lent then. Takes no memory.
+    /// Refused where the file failed or has fewer bytes than it had, and where they are more than
+    /// there is room for; of bytes in memory never.
+    #[inline]
+    pub fn fetch(&mut self, at: u64, n: usize) -> Result<(), ReadFault>
         requires { at + n ≤ length self.old.bytes }
         ensures still { IsStill self.old self.new }
+        ensures room { length self.new.room ≡ length self.old.room }
         ensures there { OnOk result (AreThere self.new at n) }
         ensures size { OnOk result (length (lent_of self.new at n) ≡ n) }
         ensures bytes { OnOk result (IsSure self.new.standing →
@@ -129,22 +220,52 @@ impl Held {
                 read_front(disk, at, n, self.room.as_mut_slice())?;
                 Ok(())
             }
+            Source::Pass(_) => Err(ReadFault::ReadFailed),
         }
     }
 
-    // What was read last, or the bytes themselves.
-    fn lent(&self, at: u64, n: usize) -> &[u8]
+    /// What was read last, or the bytes themselves, of those in memory. Takes no memory.
+    #[inline]
+    pub fn lent(&self, at: u64, n: usize) -> &[u8]
         requires { AreThere self.now at n }
         ensures { result.now ≡ lent_of self.now at n }
     {
         match &self.source {
-            Source::Memory(memory) => {
-                let start = at as usize;
-                &memory.bytes[start..start + n]
-            }
-            Source::Disk(_) => &self.room[..n],
+            Source::Memory(memory) => part(memory.bytes.as_slice(), at, n),
+            Source::Disk(_) | Source::Pass(_) => &self.room[..n],
         }
     }
+
+    /// n bytes from `at` on that are kept in memory: among the first ones or the last. They are
+    /// those of the load, whatever reads gave since. Takes no memory.
+    pub fn edge(&self, at: u64, n: usize) -> &[u8]
+        requires inside { at + n ≤ length self.now.bytes }
+        requires kept { (at + n ≤ self.now.front) ⊎ (length self.now.bytes ≤ at + self.now.back) }
+        ensures { result.now ≡ take n (drop at self.now.bytes) }
+    {
+        match &self.source {
+            Source::Memory(memory) => part(memory.bytes.as_slice(), at, n),
+            Source::Disk(disk) => {
+                let left = disk.length() - at;
+                if left <= self.back.len() as u64 {
+                    return part(self.back.as_slice(), self.back.len() as u64 - left, n);
+                }
+                part(self.front.as_slice(), at, n)
+            }
+            // None are kept, so that n is 0.
+            Source::Pass(_) => self.front.as_slice(),
+        }
+    }
+}
+
+// n of the bytes, from `at` on.
+#[inline]
+fn part(bytes: &[u8], at: u64, n: usize) -> &[u8]
+    requires { at + n ≤ length bytes.now }
+    ensures { result.now ≡ take n (drop at bytes.now) }
+{
+    let start = at as usize;
+    &bytes[start..start + n]
 }
 
 // Reads n bytes from `at` on into the front of the room.
@@ -158,14 +279,4 @@ fn read_front<B: Base>(base: &mut B, at: u64, n: usize, room: &mut [u8]) -> Resu
 {
     base.read(at, &mut room[..n])?;
     Ok(())
-}
-
-// Whether the bytes are a whole trace under this head.
-fn is_trace(head: &Head, bytes: &[u8]) -> bool
-    ensures { IsTrue result ↔ IsTrace head.now bytes.now }
-{
-    if bytes.len() < front_length(head) {
-        return false;
-    }
-    trace_length(head, bytes) == Some(bytes.len() as u64)
 }

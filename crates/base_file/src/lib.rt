@@ -8,31 +8,28 @@
 //! is open.
 //!
 //! `Held` is the one of the two that a volume stands on, with room for what is lent; its `Standing`
-//! says which. `write_spliced` writes the bytes with edits over them, block by block. Every call
-//! but `Held::in_memory` and `Held::on_disk`, which are given their memory, takes none.
+//! says which. What is to be seen is read first (`fetch`), and lent then (`lent`). The first bytes
+//! of a file on disk and its last are kept, and shown without a read (`edge`). A file that is
+//! being loaded is held too (`Held::on_pass`): its bytes are those that the pass gave so far
+//! (`read_on`), until it is the file on disk (`settle`). No call takes memory: `Held::in_memory`,
+//! `Held::on_disk` and `settle` are given theirs.
 #![tactic(auto)]
 
 mod base;
 mod disk;
-mod edit;
 mod held;
 mod loading;
 mod log;
 mod memory;
 mod read_fault;
-mod save_fault;
 mod source;
-mod splicing;
 
 pub use crate::base::Base;
 pub use crate::disk::Disk;
-pub use crate::edit::Edit;
 pub use crate::held::Held;
 pub use crate::loading::Loading;
 pub use crate::memory::Memory;
 pub use crate::read_fault::ReadFault;
-pub use crate::save_fault::SaveFault;
-pub use crate::splicing::{write_spliced, write_spliced_in_memory};
 
 #[cfg(test)]
 mod tests;

@@ -54,6 +54,13 @@ impl<F: FileExt> Loading<F> {
         Ok(count)
     }
 
+    // How many bytes were read.
+    pub(crate) fn length(&self) -> u64
+        ensures { result ≡ length (bytes_so_far self.now) }
+    {
+        self.size
+    }
+
     /// The file as it was read so far. Takes no memory.
     pub fn finish(self) -> Disk<F>
         ensures bytes { bytes_of result ≡ bytes_so_far self }

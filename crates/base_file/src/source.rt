@@ -1,4 +1,5 @@
 use crate::disk::Disk;
+use crate::loading::Loading;
 use crate::memory::Memory;
 use std::fs::File;
 
@@ -7,4 +8,7 @@ use std::fs::File;
 pub(crate) enum Source {
     Memory(Memory),
     Disk(Disk<File>),
+
+    // A file that is being read from its front to its end.
+    Pass(Loading<File>),
 }

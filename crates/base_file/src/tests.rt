@@ -72,31 +72,14 @@ fn a_failed_pass_is_told(rt: HostRuntime) -> Result<(), Fail> {
 }
 
 #[test]
-fn writes_bytes_with_an_edit_over_them(rt: HostRuntime) -> Result<(), Fail> {
-    let alloc = rt.alloc();
-    let mut disk = loaded(&rt, alloc)?;
-    let edits = [Edit {
-        at: 4,
-        bytes: b"XY".to_vec(alloc)?,
-    }];
-    let mut out = Vec::new(alloc);
-    let mut room = [0u8; 3];
-    let length = disk.length();
-    if length == 20 && edits[0].bytes.len() == 2 {
-        assert!(rt; write_spliced(&mut disk, &edits, &mut room, &mut out).is_ok());
-    }
-    assert_eq!(rt; out.as_slice(), b"0123XY6789abcdefghij".as_slice());
-    Ok(())
-}
-
-#[test]
 fn lends_bytes_in_memory(rt: HostRuntime) -> Result<(), Fail> {
     let alloc = rt.alloc();
     let bytes = b"0123456789abcdefghij".to_vec(alloc)?;
     let mut held = Held::in_memory(alloc, bytes);
     if held.length() == 20 {
-        let lent = held.lend(16, 4).expect(&rt, "bytes in memory");
-        assert_eq!(rt; lent, b"ghij".as_slice());
+        held.fetch(16, 4).expect(&rt, "bytes in memory");
+        assert_eq!(rt; held.lent(16, 4), b"ghij".as_slice());
+        assert_eq!(rt; held.edge(0, 4), b"0123".as_slice());
     }
     Ok(())
 }

@@ -1,6 +1,6 @@
 -- The slices that are kept after an edit are those of the volume after it.
 use Rattle.std.proofs.Common.{◌≡◌, ℕ, ℤ, ◌-◌, ◌<◌, ◌≤◌, Bool, true, false, cond, eqb, List, [], ◌∷◌, length, Option, Some, None, refl, sym, ap, subst, ◌∙◌, arith, get_or-set_same, length-set}
-use Rattle.std.specs.Prelude.{Result, Ok, Err, IfOk, option_map, not}
+use Rattle.std.specs.Prelude.{Result, Ok, Err, IfOk, OnErr, option_map, not}
 use Rattle.std.specs.Result.{IsErrAnd}
 use Rattle.std.specs.List.{list_any}
 use Rattle.std.proofs.lemmas.Bool.{eq-eqb, le-leb}
@@ -55,6 +55,11 @@ refused_too T U old new edit r (Err e) is step = subst (λ (x : Refusal). let s 
 pub none_told : {T E : Type 0} (P : E → Type 0) (Q : T → Type 0) (s : Result T E) → IsErrAnd s P → IfOk s Q
 none_told P Q (Ok x) is = absurd is
 none_told P Q (Err e) is = tt
+
+-- what holds of a refusal
+pub on_err : {T E : Type 0} (P : E → Type 0) (s : Result T E) {A : Type 0} → IsErrAnd s P → A → OnErr s A
+on_err P (Ok x) is a = tt
+on_err P (Err e) is a = a
 
 -- ---- the numbers
 

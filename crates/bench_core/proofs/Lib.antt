@@ -1,2 +1,3 @@
 mod ManyTracesLemmas
 pub mod ChangeLemmas
+pub mod SliceLemmas

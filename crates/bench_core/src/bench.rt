@@ -1,13 +1,14 @@
-ghost use Rattle.std.specs.Prelude.{◌≡◌, ◌≤◌, length, IfOk, IfErr, MatchResult};
+ghost use Rattle.std.specs.Prelude.{◌≡◌, ◌≤◌, true, false, length, IsSome, IsTrue, IfOk, IfErr, OnErr, MatchResult};
 ghost use Rattle.std.specs.Io.KnownBytes.{Consumes, IsAtEnd};
-ghost use Rattle.device_io.specs.Failures.{CountsFailure};
 ghost use Rattle.field_map.specs.Binding.{geometry_at_load, HasGeometry};
 ghost use Rattle.frame_cut.specs.Cuts.{IsCut};
 ghost use Rattle.frame_cut.specs.Traces.{count_of};
 ghost use Rattle.frame_cut.specs.Volume.{bytes_of};
 ghost use Rattle.edit_overlay.specs.CountedVolume.{RisesAtMost};
+ghost use Rattle.edit_overlay.specs.PassedFile.{IsPassFault};
 ghost use Rattle.edit_overlay.specs.Loading.{IsLoadFault, FailuresAfterRefusal, TakesWithin};
-ghost use Rattle.edit_overlay.specs.Saving.{Saves};
+ghost use Rattle.edit_overlay.specs.Saving.{CountsSaveFailure, Saves};
+ghost use Rattle.live_volume.specs.Held.{IsReadAs};
 ghost use Rattle.bench_rules.specs.declared.query.Query.TheVariants as queries;
 ghost use Rattle.bench_rules.specs.Answer.{IsReply};
 ghost use Rattle.bench_rules.specs.Kept.{is_kept, kept_after_load, kept_after_edit, kept_after_query};
@@ -25,6 +26,7 @@ use grid_live::Grid;
 use live_volume::LiveVolume;
 use range_stats::{Ranges, Totals};
 use std::alloc::Global;
+use std::fs::File;
 use std::io::{Read, Write};
 use std::marker::Model;
 use time_slice::SliceCache;
@@ -71,6 +73,8 @@ impl Bench {
         ensures fields { IfOk result (λ b. b.state.fields ≡ geometry_at_load) }
         ensures reading { IfOk result (λ b. b.state.reading ≡ reading) }
         ensures limits { IfOk result (λ b. b.state.limits ≡ limits) }
+        ensures memory { IfOk result (λ b. b.state.on_disk ≡ false) }
+        ensures agreed { IfOk result (λ b. IsTrue b.agreed) }
         ensures refused { IfErr result (λ fault. IsLoadFault (R.remaining reader.old.inner) reading
             limits fault) }
         ensures read { IfErr result (λ _. TakesWithin (R.remaining reader.old.inner)
@@ -85,27 +89,70 @@ impl Bench {
         Ok(Bench { volume, slices })
     }
 
-    /// The parts of the volume are the one cut of its own bytes under the reading and the limits of
-    /// the load, and its field map binds each geometry name to a place that each trace has: what
-    /// the laws of `bench_laws` ask of a state. Does nothing: its contract is the law.
+    /// Loads a file that stays on disk, and has so many bytes, in one pass over it; the field map
+    /// is then the six geometry names at their standard places, and no slice is kept. Looks at each
+    /// trace once, for its record. Takes memory. Refused: L01 where a read failed or the file has
+    /// not so many bytes, L02 to L15 or L17 for the first reason that every file with the bytes
+    /// that were read and so many gives, L16 where a growth was refused.
+    pub fn load_on_disk(
+        alloc: Global,
+        file: File,
+        size: u64,
+        reading: Reading,
+        limits: Limits,
+    ) -> Result<Bench, LoadFault>
+        ensures cut { IfOk result (λ b. IsCut (bytes_of b.state.volume) reading limits
+            b.state.volume) }
+        ensures size { IfOk result (λ b. length (bytes_of b.state.volume) ≡ size) }
+        ensures looks { IfOk result (λ b. b.looks ≤ load_looks b.state.volume) }
+        ensures kept { IfOk result (λ b. b.kept ≡ kept_after_load) }
+        ensures fields { IfOk result (λ b. b.state.fields ≡ geometry_at_load) }
+        ensures reading { IfOk result (λ b. b.state.reading ≡ reading) }
+        ensures limits { IfOk result (λ b. b.state.limits ≡ limits) }
+        ensures place { IfOk result (λ b. b.state.on_disk ≡ true) }
+        ensures agreed { IfOk result (λ b. IsTrue b.agreed) }
+        ensures refused { IfErr result (IsPassFault size reading limits) }
+    {
+        let volume = LiveVolume::load_on_disk(alloc, file, size, reading, limits)?;
+        let Ok(slices) = no_slices(alloc) else {
+            return Err(LoadFault::OutOfMemory);
+        };
+        Ok(Bench { volume, slices })
+    }
+
+    /// Where each read of the loaded bytes agreed, the parts of the volume are the one cut of its
+    /// own bytes under the reading and the limits of the load. Its field map binds each geometry
+    /// name to a place that each trace has. This is what the laws of `bench_laws` ask of a state.
+    /// Does nothing: its contract is the law.
     pub fn stands(&self)
-        ensures cut { IsCut (bytes_of self.now.state.volume) self.now.state.reading
-            self.now.state.limits self.now.state.volume }
+        ensures cut { IsTrue self.now.agreed → IsCut (bytes_of self.now.state.volume)
+            self.now.state.reading self.now.state.limits self.now.state.volume }
         ensures geometry { HasGeometry self.now.state.volume.head.extensions
             self.now.state.fields }
     {
         self.volume.stands();
     }
 
+    /// In memory each read agrees. Does nothing: its contract is the law.
+    pub fn memory_agrees(&self)
+        ensures { self.now.state.on_disk ≡ false → IsTrue self.now.agreed }
+    {
+        self.volume.memory_agrees();
+    }
+
     /// One edit: done whole, and the reports follow it; or refused, and all is as it was, after one
     /// of many traces too. `Set`, `Map`, `Patch`, `Blank`, `Copy`, `Move`, `Resize`, `Renumber`,
     /// `Compute` and `Sort` take memory, and are refused for want of it, E11, only where nothing
-    /// else refuses them. Slices that the edit may have changed are forgotten.
+    /// else refuses them. On disk an edit that looks is also refused where a trace could not be
+    /// read (E14, E15). Slices that the edit may have changed are forgotten.
     pub fn apply(&mut self, alloc: Global, edit: &Edit) -> Result<(), Refusal>
-        ensures step { Step self.old.state edit.now result self.new.state }
+        ensures step { IsTrue self.new.agreed → Step self.old.state edit.now result self.new.state }
+        ensures err { OnErr result (self.new.state ≡ self.old.state) }
+        ensures same { IsReadAs self.old.state self.new.state }
+        ensures agreed { IsTrue self.new.agreed → IsTrue self.old.agreed }
         ensures looks { RisesAtMost self.old.looks self.new.looks
             (edit_looks self.old.state edit.now) }
-        ensures kept { self.new.kept ≡ kept_after_reply result
+        ensures kept { IsTrue self.new.agreed → self.new.kept ≡ kept_after_reply result
             (kept_after_edit self.old.state edit.now self.old.kept) self.old.kept }
     {
         self.volume.stands();
@@ -115,11 +162,13 @@ impl Bench {
     }
 
     /// The answer to a query, which leaves the state as it is. Takes memory where the answer is a
-    /// text or a list, and is refused for want of it, E11, only where nothing else refuses it. A
-    /// slice that is answered is kept, and answered again without a look at any trace.
+    /// text or a list, and is refused for want of it, E11, only where nothing else refuses it. On
+    /// disk a query that looks is also refused where a trace could not be read (E14, E15). A slice
+    /// that is answered is kept, and answered again without a look at any trace.
     pub fn ask(&mut self, alloc: Global, query: &Query) -> Result<Answer, AskFault>
-        ensures reply { IsReply self.old.state query.now result }
+        ensures reply { IsTrue self.new.agreed → IsReply self.old.state query.now result }
         ensures unchanged { self.new.state ≡ self.old.state }
+        ensures agreed { IsTrue self.new.agreed → IsTrue self.old.agreed }
         ensures looks { RisesAtMost self.old.looks self.new.looks
             (query_looks self.old.state self.old.kept query.now) }
         ensures kept { self.new.kept ≡ kept_after_reply result
@@ -133,8 +182,10 @@ impl Bench {
 
     // Sample k of each trace that has it: E12.
     fn slice(&mut self, alloc: Global, k: u32) -> Result<Answer, AskFault>
-        ensures reply { IsReply self.old.state (queries.Slice k) result }
+        ensures reply { IsTrue self.new.agreed →
+            IsReply self.old.state (queries.Slice k) result }
         ensures unchanged { self.new.state ≡ self.old.state }
+        ensures agreed { IsTrue self.new.agreed → IsTrue self.old.agreed }
         ensures looks { RisesAtMost self.old.looks self.new.looks
             (query_looks self.old.state self.old.kept (queries.Slice k)) }
         ensures kept { self.new.kept ≡ kept_after_reply result
@@ -156,8 +207,9 @@ impl Bench {
     }
 
     /// The grid, which has counted the traces as they are now. Takes no memory and looks at none.
+    /// Claimed, as of the next three, where each read of the loaded bytes agreed.
     pub fn grid(&self) -> &Grid
-        ensures { IsGridOf self.now.state result.now }
+        ensures { IsTrue self.now.agreed → IsGridOf self.now.state result.now }
     {
         self.volume.grid()
     }
@@ -165,7 +217,7 @@ impl Bench {
     /// The ranges, which have counted the traces as they are now. Takes no memory and looks at
     /// none.
     pub fn ranges(&self) -> &Ranges
-        ensures { AreRangesOf self.now.state result.now }
+        ensures { IsTrue self.now.agreed → AreRangesOf self.now.state result.now }
     {
         self.volume.ranges()
     }
@@ -173,7 +225,7 @@ impl Bench {
     /// The totals, which have counted the traces as they are now. Takes no memory and looks at
     /// none.
     pub fn totals(&self) -> &Totals
-        ensures { AreTotalsOf self.now.state result.now }
+        ensures { IsTrue self.now.agreed → AreTotalsOf self.now.state result.now }
     {
         self.volume.totals()
     }
@@ -181,17 +233,24 @@ impl Bench {
     /// How often inline, crossline and offset stand together in the traces as they are now. Takes
     /// no memory and looks at none.
     pub fn triples(&self) -> &Faults
-        ensures { AreTriplesOf self.now.state result.now }
+        ensures { IsTrue self.now.agreed → AreTriplesOf self.now.state result.now }
     {
         self.volume.triples()
     }
 
-    /// Writes the file as it is now. Refused where the writer failed; `written` is then the length
-    /// of the prefix that it took. Takes no memory.
-    pub fn save<W: Write>(&self, writer: &mut Sink<W>) -> Result<(), SaveFault>
-        ensures saved { Saves (W.contents writer.old.inner) (W.contents writer.new.inner)
-            (bytes_of self.now.state.volume) result }
-        ensures failures { CountsFailure result writer.old.failures writer.new.failures }
+    /// Writes the file as it is now. Refused where the writer failed, or on disk where a read of
+    /// the loaded bytes did; `written` is then the length of the prefix that the writer took. Takes
+    /// no memory.
+    pub fn save<W: Write>(&mut self, writer: &mut Sink<W>) -> Result<(), SaveFault>
+        ensures saved { IsTrue self.new.agreed → Saves (W.contents writer.old.inner)
+            (W.contents writer.new.inner) (bytes_of self.old.state.volume) result }
+        ensures read { IfErr result
+            (λ fault. IsSome fault.read → IsTrue self.old.state.on_disk) }
+        ensures failures { CountsSaveFailure result writer.old.failures writer.new.failures }
+        ensures unchanged { self.new.state ≡ self.old.state }
+        ensures agreed { IsTrue self.new.agreed → IsTrue self.old.agreed }
+        ensures looks { self.new.looks ≡ self.old.looks }
+        ensures kept { self.new.kept ≡ self.old.kept }
     {
         self.volume.save(writer)
     }

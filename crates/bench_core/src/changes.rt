@@ -1,9 +1,10 @@
 // What an edit that was done leaves of the slices that are kept.
-ghost use Rattle.std.specs.Prelude.{◌≡◌, IfOk};
+ghost use Rattle.std.specs.Prelude.{◌≡◌, IsTrue, IfOk, OnErr};
 ghost use Rattle.time_slice.specs.Cache.{none_kept};
 ghost use Rattle.edit_overlay.specs.CountedVolume.{RisesAtMost};
 ghost use Rattle.bench_rules.specs.Looks.{edit_looks};
 ghost use Rattle.bench_rules.specs.Steps.{Step};
+ghost use Rattle.live_volume.specs.Held.{IsReadAs};
 ghost use Rattle.bench_core.specs.Changes.{has_moved, is_moved, entries_after};
 
 use bench_rules::{Edit, Refusal};
@@ -23,10 +24,14 @@ pub fn no_slices(alloc: Global) -> Result<SliceCache, OutOfMemory>
 /// traces counted up or computed one of them, another inline or crossline; of any other edit it
 /// tells no.
 pub fn change(volume: &mut LiveVolume, alloc: Global, edit: &Edit) -> Result<bool, Refusal>
-    ensures step { Step volume.old.state edit.now result volume.new.state }
+    ensures step { IsTrue volume.new.agreed →
+        Step volume.old.state edit.now result volume.new.state }
+    ensures err { OnErr result (volume.new.state ≡ volume.old.state) }
+    ensures same { IsReadAs volume.old.state volume.new.state }
+    ensures agreed { IsTrue volume.new.agreed → IsTrue volume.old.agreed }
     ensures looks { RisesAtMost volume.old.looks volume.new.looks
         (edit_looks volume.old.state edit.now) }
-    ensures moved { IfOk result (λ moved. moved
+    ensures moved { IfOk result (λ moved. IsTrue volume.new.agreed → moved
         ≡ has_moved volume.old.state edit.now volume.new.state) }
 {
     match edit {

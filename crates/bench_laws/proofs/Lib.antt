@@ -11,3 +11,4 @@ pub mod KeptSliceLemmas
 mod OneNumberLemmas
 pub mod SortLemmas
 mod TotalLemmas
+mod ReadLemmas

@@ -83,7 +83,7 @@ cut_counted s a b f first step place cut e none =
     let w : Volume = (with_traces s (counted_traces s a b place first step)).volume in
     let volume : IsCut (bytes_after_renumber s.volume a b place first step) s.reading s.limits w =
     values_cut s place (λ p. counted first step (p - a)) a (b + 1 - a) cut (accepted_from s a b f first step place e none) in
-    record { volume = rw e volume; fields = refl; reading = refl; limits = refl }
+    record { volume = rw e volume; fields = refl; reading = refl; limits = refl; on_disk = refl }
 
 pub renumber_is_its_sets : RenumberIsItsSets
 renumber_is_its_sets s a b f first step cut none = by (place_in_trace s.fields f) refl

@@ -1,12 +1,12 @@
 -- A sort of traces keeps them, and puts them in order.
-use Rattle.std.proofs.Common.{◌≡◌, ◌∙◌, ℕ, ℤ, zero, suc, ◌+◌, ◌-◌, ◌<◌, ◌≤◌, Bool, true, false, cond, List, [], ◌∷◌, ◌++◌, length, map, take, drop, get_or, All, Option, Some, None, refl, sym, ap, subst, arith, append_assoc}
+use Rattle.std.proofs.Common.{◌≡◌, ◌∙◌, ℕ, ℤ, zero, suc, ◌+◌, ◌-◌, ◌≤◌, Bool, true, false, cond, List, [], ◌∷◌, ◌++◌, length, map, take, drop, get_or, All, Option, Some, None, refl, sym, ap, subst, arith, append_assoc}
 use Rattle.std.specs.Prelude.{option_map, option_and_then, unwrap_or, filter}
 use Rattle.std.specs.List.{range_with_len}
 use Rattle.std.specs.Cmp.{IsStrictWeakOrder}
 use Rattle.std.specs.List.Sorted.{IsPermutation, IsSortedBy, ties}
 use Rattle.std.proofs.lemmas.List.FromFn.{length-range_with_len}
 use Rattle.std.proofs.lemmas.List.Sorted.{length_permutation, All-permutation}
-use Rattle.std.proofs.lemmas.List.{length-map, length-append, length-take-le, length-drop, take_at, drop_at}
+use Rattle.std.proofs.lemmas.List.{length-map, length-append, length-take-le, take_at, drop_at}
 use Rattle.std.proofs.lemmas.List.Elements.{All-nil, All-cons, All-head, All-tail}
 use Rattle.frame_cut.specs.Cuts.{IsCut}
 use Rattle.frame_cut.specs.Traces.{count_of, trace_at}

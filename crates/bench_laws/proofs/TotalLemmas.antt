@@ -8,7 +8,6 @@ use Rattle.trace_record.specs.Statistics.{statistics_of, statistics_of_both}
 use Rattle.trace_record.proofs.StatisticsLemmas.{statistics_of_joined}
 use Rattle.trace_view.specs.Values.{samples_of}
 use Rattle.range_stats.specs.Totals.{totals_of}
-use Rattle.bench_rules.specs.State.{State}
 use Rattle.bench_rules.proofs.LiveLemmas.{stat_shown}
 use Rattle.bench_laws.specs.ReportLaws.{TotalsAreOfAllSamples}
 

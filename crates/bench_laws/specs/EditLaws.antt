@@ -1,5 +1,5 @@
 -- What holds of edits whatever they are.
-use Rattle.std.specs.Prelude.{◌≡◌, ◌≢◌, ◌<◌, ℕ, ℤ, List, None, Result, Ok}
+use Rattle.std.specs.Prelude.{◌≡◌, ◌≢◌, ◌<◌, ℕ, ℤ, Bool, List, None, Result, Ok}
 use Rattle.frame_cut.specs.Traces.{count_of, trace_at}
 use Rattle.frame_cut.specs.Volume.{Volume, bytes_of}
 use Rattle.frame_cut.specs.Cuts.{IsCut}
@@ -11,7 +11,7 @@ use Rattle.bench_rules.specs.declared.query.Query.{Query}
 use Rattle.bench_rules.specs.declared.query.Query.TheVariants as queries
 use Rattle.bench_rules.specs.declared.refusal.Refusal.{Refusal}
 use Rattle.bench_rules.specs.After.{bytes_after}
-use Rattle.bench_rules.specs.Answer.{answer}
+use Rattle.bench_rules.specs.Answer.{Reply, answer, IsReply}
 use Rattle.bench_rules.specs.Refused.{first_refusal}
 use Rattle.bench_rules.specs.State.{State}
 use Rattle.bench_rules.specs.Steps.{Steps}
@@ -27,18 +27,31 @@ pub record IsReadAlike (old new : State) : Type 0 where
   pub head : new.volume.head ≡ old.volume.head
   pub reading : new.reading ≡ old.reading
   pub limits : new.limits ≡ old.limits
+  pub on_disk : new.on_disk ≡ old.on_disk
 
 -- after any list of edits, each done or refused, reading the new bytes from scratch gives the parts that are held
 abbrev pub StepsStayCut : Type 0
 StepsStayCut = (old new : State) (edits : List Edit) (replies : List (Result (Unit {0}) Refusal))
     → IsCut (bytes_of old.volume) old.reading old.limits old.volume → Steps old edits replies new → IsReadAlike old new
 
--- after any list of edits, each done or refused, any query is answered as it is of what reading the new bytes from scratch gives, as the
--- old file was read and under the field map in force
+-- what reading the new bytes from scratch gives: these parts, as the old file was read and under the field map in force, with the bytes
+-- in memory or on disk
+abbrev pub from_scratch : (old new : State) → Volume → Bool → State
+from_scratch old new v on_disk = record { volume = v; fields = new.fields; reading = old.reading; limits = old.limits; on_disk = on_disk }
+
+-- after any list of edits, each done or refused, any query is answered as it is of what reading the new bytes from scratch gives, in
+-- memory and on disk
 abbrev pub AnswersFromScratch : Type 0
-AnswersFromScratch = (old new : State) (edits : List Edit) (replies : List (Result (Unit {0}) Refusal)) (v : Volume) (query : Query)
+AnswersFromScratch = (old new : State) (edits : List Edit) (replies : List (Result (Unit {0}) Refusal)) (v : Volume) (on_disk : Bool) (query : Query)
     → IsCut (bytes_of old.volume) old.reading old.limits old.volume → Steps old edits replies new → IsCut (bytes_of new.volume) old.reading old.limits v
-    → answer new query ≡ answer (record { volume = v; fields = new.fields; reading = old.reading; limits = old.limits }) query
+    → answer new query ≡ answer (from_scratch old new v on_disk) query
+
+-- and whatever a query is told then, it may be told of what reading the new bytes from scratch gives, held as the old ones were: the
+-- answer, or want of memory, or on disk a read that failed
+abbrev pub RepliesFromScratch : Type 0
+RepliesFromScratch = (old new : State) (edits : List Edit) (replies : List (Result (Unit {0}) Refusal)) (v : Volume) (query : Query) (reply : Reply)
+    → IsCut (bytes_of old.volume) old.reading old.limits old.volume → Steps old edits replies new → IsCut (bytes_of new.volume) old.reading old.limits v
+    → IsReply new query reply → IsReply (from_scratch old new v old.on_disk) query reply
 
 -- after a set that is not refused, the field of that trace has the value, in the volume that is read from the new bytes
 abbrev pub ReadsWhatWasSet : Type 0

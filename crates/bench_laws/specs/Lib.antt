@@ -3,3 +3,4 @@ pub mod NumberLaws
 pub mod SortLaws
 pub mod KeptLaws
 pub mod ReportLaws
+pub mod ReadLaws

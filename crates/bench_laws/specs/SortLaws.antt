@@ -1,5 +1,5 @@
 -- Laws of a sort of traces.
-use Rattle.std.specs.Prelude.{◌≡◌, ℕ, ◌-◌, ℤ, Bool, List, length, map, take, drop, filter, All, Option, Some, None, option_map}
+use Rattle.std.specs.Prelude.{◌≡◌, ℕ, ◌-◌, ℤ, Bool, List, length, map, take, drop, filter, All, Some, None, option_map}
 use Rattle.std.specs.List.Sorted.{IsPermutation, IsSortedBy, ties}
 use Rattle.field_map.specs.declared.place.Place.{Place}
 use Rattle.frame_cut.specs.Cuts.{IsCut}

@@ -122,7 +122,7 @@ compute_is_after s a b field source steps w c cut =
     let numbers : computed_numbers s.volume c.formula a b ≡ valued (number_of s.volume c.formula) a (b + 1 - a) = numbers_are s.volume c.formula a (b + 1 - a) c.none in
     let volume : IsCut (bytes_after_compute s.volume c.formula a b) s.reading s.limits w =
     subst (λ (ns : List (ℕ × ℤ)). IsCut (put_each s.volume c.formula.place ns (bytes_of s.volume)) s.reading s.limits w) (sym numbers) cut in
-    record { volume = rw c.found volume; fields = refl; reading = refl; limits = refl }
+    record { volume = rw c.found volume; fields = refl; reading = refl; limits = refl; on_disk = refl }
 
 -- the edit is done where the overlay lays the numbers' bytes over the traces
 pub compute_done : (s : State) (a b : ℕ) (field : Field) (source : Operand) (steps : List (Operator × Operand)) (at size : ℕ) (bs : List ℕ) (w : Volume) → IsRead s → (c : ComputeAccepted s a b field source steps)

@@ -1,5 +1,5 @@
 -- Fields by their names, a value in the binary header, and a line of the textual header.
-use Rattle.std.proofs.Common.{◌≡◌, ◌⊎◌, ℕ, ◌+◌, ◌*◌, ◌-◌, ◌<◌, ◌≤◌, Bool, true, false, ◌&&◌, cond, List, [], ◌∷◌, replicate, Option, Some, None, Result, Ok, Err, ℤ, refl, sym, ap, subst, ◌∙◌, arith, inl, inr, leb, ltb, is_none, lit≤, suc, length, map}
+use Rattle.std.proofs.Common.{◌≡◌, ◌⊎◌, ℕ, ◌+◌, ◌*◌, ◌-◌, ◌<◌, ◌≤◌, Bool, true, false, ◌&&◌, cond, List, [], ◌∷◌, replicate, Option, Some, None, Result, Ok, Err, ℤ, refl, sym, ap, subst, ◌∙◌, arith, inl, inr, leb, ltb, is_none, lit≤, suc, length}
 use Rattle.std.specs.Prelude.{filter_map, option_map, not}
 use Rattle.std.specs.List.{position_from}
 use Rattle.std.specs.Option.{option_or}
@@ -35,7 +35,7 @@ use Rattle.bench_rules.specs.MapFaults.{refusal_of}
 use Rattle.bench_rules.specs.Places.{place_in_trace, place_in_binary, is_in_binary, touches_frame}
 use Rattle.bench_rules.specs.State.{State}
 use Rattle.bench_rules.specs.Refused.{first_refusal, is_line}
-use Rattle.bench_rules.specs.Steps.{IsAfter, StepUnless, Step}
+use Rattle.bench_rules.specs.Steps.{FailsToRead, IsAfter, StepUnless, Step}
 use Rattle.bench_rules.proofs.SetLemmas.{unless, both}
 
 -- ---- a field of a trace is its place
@@ -44,14 +44,19 @@ pub same_refused : (s : State) (p : ℕ) (f : Field) (place : Place) (x : ℤ) �
 same_refused s p f place x e = rw e refl
 
 pub same_after : (s : State) (p : ℕ) (f : Field) (place : Place) (x : ℤ) (new : State) → place_in_trace s.fields f ≡ Some place → IsAfter s (Set p (field.Place place) x) new → IsAfter s (Set p f x) new
-same_after s p f place x new e a = record { volume = rw e a.volume; fields = a.fields; reading = a.reading; limits = a.limits }
+same_after s p f place x new e a = record { volume = rw e a.volume; fields = a.fields; reading = a.reading; limits = a.limits; on_disk = a.on_disk }
+
+same_reads : (s : State) (p : ℕ) (f : Field) (place : Place) (x : ℤ) (r : Refusal) → place_in_trace s.fields f ≡ Some place → FailsToRead s (Set p (field.Place place) x) r → FailsToRead s (Set p f x) r
+same_reads s p f place x r e h = (rw e h.0, h.1)
 
 same_unless : {T : Type 0} (s : State) (p : ℕ) (f : Field) (place : Place) (x : ℤ) (new : State) → place_in_trace s.fields f ≡ Some place → (o : Option Refusal) (r : Result T Refusal)
     → StepUnless o s (Set p (field.Place place) x) r new → StepUnless o s (Set p f x) r new
 same_unless s p f place x new e (Some refusal) (Ok done) h = h
-same_unless s p f place x new e (Some refusal) (Err r) h = h
+same_unless s p f place x new e (Some refusal) (Err r) (inl is, same) = (inl is, same)
+same_unless s p f place x new e (Some refusal) (Err r) (inr read, same) = (inr (same_reads s p f place x r e read), same)
 same_unless s p f place x new e None (Ok done) h = same_after s p f place x new e h
-same_unless s p f place x new e None (Err r) h = h
+same_unless s p f place x new e None (Err r) (inl none, same) = (inl none, same)
+same_unless s p f place x new e None (Err r) (inr read, same) = (inr (same_reads s p f place x r e read), same)
 
 pub same_step : {T : Type 0} (s : State) (p : ℕ) (f : Field) (place : Place) (x : ℤ) (new : State) (r : Result T Refusal) → place_in_trace s.fields f ≡ Some place
     → Step s (Set p (field.Place place) x) r new → Step s (Set p f x) r new
@@ -153,6 +158,7 @@ bin_is_after s f place x e cut a =
       fields = refl;
       reading = refl;
       limits = refl;
+      on_disk = refl;
     }
 
 -- ---- a line of the textual header
@@ -215,6 +221,7 @@ text_is_after s q text cut a =
       fields = refl;
       reading = refl;
       limits = refl;
+      on_disk = refl;
     }
 
 -- ---- what the bench makes of the volume
@@ -274,5 +281,5 @@ pub map_refused : {T : Type 0} (s new : State) (name : List ℕ) (place : Place)
     → Step s (Map name place) r new
 map_refused s new name place fault (Ok done) same err is e = absurd is
 map_refused s new name place fault (Err refusal) same err is (inl e) =
-    rw e (is ∙ bind_fault_is_map s.volume.head.extensions s.fields name place fault e, same)
-map_refused s new name place fault (Err refusal) same err is (inr e) = rw e.0 (is ∙ ap refusal_of e.1, tt, same)
+    rw e (inl (is ∙ bind_fault_is_map s.volume.head.extensions s.fields name place fault e), same)
+map_refused s new name place fault (Err refusal) same err is (inr e) = rw e.0 (inl (is ∙ ap refusal_of e.1, tt), same)

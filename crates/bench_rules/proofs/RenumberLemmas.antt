@@ -190,4 +190,4 @@ renumber_done s a b f first step place at size bs w cut e none g h is same =
     let volume : IsCut (bytes_after_renumber s.volume a b place first step) s.reading s.limits w =
     values_laid s place (λ p. counted first step (p - a)) a (b + 1 - a) at size bs w cut (accepted_from s a b f first step place e none) g h
     (bytes_of_numbers s.volume.head.order place.kind first step a (b + 1 - a) bs is) same in
-    record { volume = rw e volume; fields = refl; reading = refl; limits = refl }
+    record { volume = rw e volume; fields = refl; reading = refl; limits = refl; on_disk = refl }

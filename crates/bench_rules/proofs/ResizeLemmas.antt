@@ -140,4 +140,5 @@ resize_done s p m w u cut none e is =
       fields = refl;
       reading = refl;
       limits = refl;
+      on_disk = refl;
     }

@@ -112,6 +112,7 @@ is_after s p place x cut a =
       fields = refl;
       reading = refl;
       limits = refl;
+      on_disk = refl;
     }
 
 -- ---- the refusal that is computed

@@ -58,4 +58,5 @@ sort_done s a b names falls w cut c is =
       fields = refl;
       reading = refl;
       limits = refl;
+      on_disk = refl;
     }

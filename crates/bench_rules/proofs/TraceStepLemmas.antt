@@ -1,6 +1,5 @@
 -- Edits of samples and of whole traces that are done.
 use Rattle.std.proofs.Common.{◌≡◌, ℕ, ℤ, ◌+◌, ◌*◌, ◌^◌, ◌≤◌, true, List, length, Option, Some, None, refl, sym, ap, subst, ◌∙◌, arith}
-use Rattle.std.specs.Prelude.{MatchOption}
 use Rattle.std.proofs.Math.Nat.{mul-le-mul_right}
 use Rattle.std.proofs.lemmas.Bool.{leb-true, le-leb}
 use Rattle.sample_codes.specs.declared.integer_format.IntegerFormat.{IntegerFormat}
@@ -21,8 +20,6 @@ use Rattle.bench_rules.specs.After.{bytes_after, fields_after}
 use Rattle.bench_rules.specs.Refused.{first_refusal}
 use Rattle.bench_rules.specs.State.{State}
 use Rattle.bench_rules.specs.Steps.{IsAfter}
-use Rattle.trace_view.specs.declared.view.TraceView.{TraceView}
-use Rattle.edit_overlay.specs.CountedVolume.{CountedVolume, with_one_look}
 use Rattle.frame_cut.specs.Parts.{with_inserted, without, with_moved}
 use Rattle.bench_rules.specs.WholeTraces.{blank_trace}
 use Rattle.bench_rules.proofs.AcceptedLemmas.{patch_accepted, blank_accepted, copy_accepted, there_is, move_accepted}
@@ -39,6 +36,7 @@ done s edit v w cut same is =
       fields = sym same;
       reading = refl;
       limits = refl;
+      on_disk = refl;
     }
 
 pub blank_done : (s : State) (p : ℕ) (w : Volume) (t : List ℕ) → IsCut (bytes_of s.volume) s.reading s.limits s.volume → first_refusal s (Blank p) ≡ None → t ≡ blank_trace s.volume.head → w ≡ with_inserted s.volume p t
@@ -134,8 +132,3 @@ few_values s p k values cut none =
     let n : ℕ = sample_count h t in
     let least : 1 * n ≤ width h.format * n = mul-le-mul_right n (width-positive h.format) in
     omega (arith, a.inside, m.whole, there, least)
-
--- a look leaves the volume
-pub same_volume : {T : Type 0} (view : Option TraceView) (old last : CountedVolume T) → MatchOption view (last ≡ old) (λ _. last ≡ with_one_look old) → last.volume ≡ old.volume
-same_volume None old last e = ap (λ o. o.volume) e
-same_volume (Some view) old last e = ap (λ o. o.volume) e

@@ -1,5 +1,5 @@
 -- The answer to every query, from a volume and its field map.
-use Rattle.std.specs.Prelude.{◌≡◌, ◌⊎◌, ℕ, ℤ, ◌&&◌, nat_le, max, not, List, ◌++◌, length, map, flat_map, Option, Some, None, is_none, Result, Ok, Err, IsOk, if◌then◌else◌}
+use Rattle.std.specs.Prelude.{◌≡◌, ◌⊎◌, ◌<◌, ℕ, ℤ, ◌&&◌, nat_le, max, not, List, [], ◌++◌, length, map, flat_map, Option, Some, None, is_none, Result, Ok, Err, IsErrAnd, IsOk, if◌then◌else◌}
 use Rattle.std.specs.List.{enumerate_from, range_with_len}
 use Rattle.num_order.specs.Number.{num}
 use Rattle.text_block.specs.Blocks.{code_of}
@@ -21,8 +21,10 @@ use Rattle.bench_rules.specs.declared.answer.Answer.TheVariants as answers
 use Rattle.bench_rules.specs.declared.ask_fault.AskFault.{AskFault}
 use Rattle.bench_rules.specs.declared.ask_fault.AskFault.TheVariants.{NoTrace, NoField, NoPlace, NoSample, NoValues, OutOfMemory}
 use Rattle.bench_rules.specs.Places.{place_in_trace, place_in_binary, is_in_binary}
+use Rattle.bench_rules.specs.ReadFaults.{IsReadFault}
 use Rattle.bench_rules.specs.Refused.{is_line}
 use Rattle.bench_rules.specs.Headers.{named_places, header_of, extremes_in}
+use Rattle.bench_rules.specs.Looks.{query_looks}
 use Rattle.bench_rules.specs.ManyTraces.{each_of}
 use Rattle.bench_rules.specs.Tables.{table_of, found_of}
 use Rattle.bench_rules.specs.Reports.{geometry_in, fold_in, cells_in, inlines_in, crosslines_in, histogram_in, range_in, totals_in, slice_in, faults_in}
@@ -165,6 +167,11 @@ TakesMemory (queries.Find a b field low high) = Unit {0}
 TakesMemory (queries.Header p) = Unit {0}
 TakesMemory (queries.Extremes a b) = Unit {0}
 
--- the reply is the answer, or want of memory where the query takes it and is not refused
+-- a query that looks at traces may be told of a read that failed
+abbrev pub FailsToRead : State → Query → AskFault → Type 0
+FailsToRead s query fault = (0 < query_looks s [] query) × IsReadFault s.on_disk fault
+
+-- the reply is the answer, or want of memory where the query takes it and is not refused, or a read that failed
 abbrev pub IsReply : State → Query → Reply → Type 0
-IsReply s query reply = (reply ≡ answer s query) ⊎ ((reply ≡ Err OutOfMemory) × TakesMemory query × IsOk (answer s query))
+IsReply s query reply =
+    (reply ≡ answer s query) ⊎ ((reply ≡ Err OutOfMemory) × TakesMemory query × IsOk (answer s query)) ⊎ IsErrAnd reply (FailsToRead s query)

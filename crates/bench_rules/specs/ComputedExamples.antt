@@ -1,5 +1,5 @@
 -- Computed fields, worked by hand.
-use Rattle.std.specs.Prelude.{◌≡◌, ◌-◌, ◌^◌, pos, negsuc, [], ◌∷◌, None, Some, Ok, Err, codes, refl}
+use Rattle.std.specs.Prelude.{◌≡◌, ◌-◌, ◌^◌, pos, negsuc, [], ◌∷◌, None, Some, Ok, Err, codes, refl, false}
 use Rattle.field_map.specs.Binding.{geometry_at_load}
 use Rattle.field_map.specs.KnownNames.{named_place}
 use Rattle.field_map.specs.Pairs.{signed_at}
@@ -20,7 +20,7 @@ use Rattle.bench_rules.specs.State.{State}
 
 -- three traces of inline 10, crosslines 21 to 23 and offsets 100, 200 and 300
 abbrev loaded : State
-loaded = record { volume = volume_plain; fields = geometry_at_load; reading = as_written; limits = wide_limits }
+loaded = record { volume = volume_plain; fields = geometry_at_load; reading = as_written; limits = wide_limits; on_disk = false }
 
 -- 7 / 2, -7 / 2, 7 / -2 and -7 / -2
 pub quotient-plus_plus : quotient (pos 7) (pos 2) ≡ pos 3

@@ -1,5 +1,5 @@
 -- Edits and queries of small files, worked by hand.
-use Rattle.std.specs.Prelude.{◌≡◌, [], ◌∷◌, pos, Some, None, Ok, Err, codes, refl}
+use Rattle.std.specs.Prelude.{◌≡◌, [], ◌∷◌, pos, Some, None, Ok, Err, codes, refl, false}
 use Rattle.std.specs.Str.{chars}
 use Rattle.field_map.specs.declared.map_fault.MapFault.TheVariants as map_faults
 use Rattle.field_map.specs.Binding.{geometry_at_load}
@@ -22,7 +22,7 @@ use Rattle.bench_rules.specs.State.{State}
 
 -- a volume as it was loaded
 abbrev loaded : Volume → State
-loaded v = record { volume = v; fields = geometry_at_load; reading = as_written; limits = wide_limits }
+loaded v = record { volume = v; fields = geometry_at_load; reading = as_written; limits = wide_limits; on_disk = false }
 
 -- 07 in place of 0A at byte 4036 of the file: the inline number of trace 2
 pub set-inline : bytes_after volume_plain geometry_at_load (Set 2 (field.Name (codes "inline")) (pos 7)) ≡ with_bytes_at 4036 (7 ∷ []) file_plain

@@ -1,5 +1,5 @@
 -- Tables, finds, all headers of a trace and extremes, worked by hand.
-use Rattle.std.specs.Prelude.{◌≡◌, pos, [], ◌∷◌, Ok, Err, codes, refl}
+use Rattle.std.specs.Prelude.{◌≡◌, pos, [], ◌∷◌, Ok, Err, codes, refl, false}
 use Rattle.field_map.specs.Binding.{geometry_at_load}
 use Rattle.field_map.specs.KnownNames.{named_place}
 use Rattle.field_map.specs.Pairs.{Pairs, signed_at, unsigned_at, unsigned_in_first_extension}
@@ -17,7 +17,7 @@ use Rattle.bench_rules.specs.Tables.{rows_from}
 
 -- three traces of inline 10 and crosslines 21 to 23, as they were loaded
 abbrev loaded : State
-loaded = record { volume = volume_plain; fields = geometry_at_load; reading = as_written; limits = wide_limits }
+loaded = record { volume = volume_plain; fields = geometry_at_load; reading = as_written; limits = wide_limits; on_disk = false }
 
 -- two rows of two numbers, counted from position 4
 pub rows-two : rows_from 4 2 2 (pos 1 ∷ pos 2 ∷ pos 3 ∷ pos 4 ∷ []) ≡ (4, pos 1 ∷ pos 2 ∷ []) ∷ (5, pos 3 ∷ pos 4 ∷ []) ∷ []

@@ -1,5 +1,5 @@
 -- Slices that are kept, worked by hand.
-use Rattle.std.specs.Prelude.{◌≡◌, ℕ, List, [], ◌∷◌, pos, negsuc, codes, refl}
+use Rattle.std.specs.Prelude.{◌≡◌, ℕ, List, [], ◌∷◌, pos, negsuc, codes, refl, false}
 use Rattle.field_map.specs.Binding.{geometry_at_load}
 use Rattle.field_map.specs.Pairs.{signed_at}
 use Rattle.frame_cut.specs.Readings.{as_written}
@@ -12,7 +12,7 @@ use Rattle.bench_rules.specs.State.{State}
 
 -- three traces, of inline 10 and crosslines 21 to 23
 abbrev loaded : State
-loaded = record { volume = volume_plain; fields = geometry_at_load; reading = as_written; limits = wide_limits }
+loaded = record { volume = volume_plain; fields = geometry_at_load; reading = as_written; limits = wide_limits; on_disk = false }
 
 -- three kept slices
 abbrev three : List ℕ

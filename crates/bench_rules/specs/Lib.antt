@@ -29,3 +29,4 @@ pub mod TraceEdits
 pub mod TraceExamples
 pub mod WholeTraces
 pub mod OpaqueExamples
+pub mod ReadFaults

@@ -1,5 +1,5 @@
 -- Refusals of another number of samples of a trace, and of a field of many traces, worked by hand.
-use Rattle.std.specs.Prelude.{◌≡◌, pos, Some, None, codes, refl}
+use Rattle.std.specs.Prelude.{◌≡◌, pos, Some, None, codes, refl, false}
 use Rattle.std.proofs.Common.{lit≤}
 use Rattle.field_map.specs.Binding.{geometry_at_load}
 use Rattle.frame_cut.specs.declared.limits.Limits.{Limits}
@@ -14,7 +14,7 @@ use Rattle.bench_rules.specs.State.{State}
 
 -- a volume as it was loaded under these limits
 abbrev under : Volume → Limits → State
-under v limits = record { volume = v; fields = geometry_at_load; reading = as_written; limits = limits }
+under v limits = record { volume = v; fields = geometry_at_load; reading = as_written; limits = limits; on_disk = false }
 
 -- four samples in place of two make 4328 bytes of 4324: one byte too many, and just enough
 abbrev small_limits : Limits

@@ -1,5 +1,5 @@
 -- A file whose samples have no values, worked by hand.
-use Rattle.std.specs.Prelude.{◌≡◌, [], ◌∷◌, pos, replicate, Some, None, Ok, Err, refl}
+use Rattle.std.specs.Prelude.{◌≡◌, [], ◌∷◌, pos, replicate, Some, None, Ok, Err, refl, false}
 use Rattle.field_map.specs.Binding.{geometry_at_load}
 use Rattle.num_order.specs.declared.order.Order.TheVariants.{Little}
 use Rattle.frame_cut.specs.Readings.{as_opaque}
@@ -19,7 +19,7 @@ abbrev volume_untold : Volume
 volume_untold = record { head = head_untold; text = replicate 3200 0x40; bin = bin_untold; blocks = []; traces = trace_untold ∷ []; trailer = [] }
 
 abbrev untold : State
-untold = record { volume = volume_untold; fields = geometry_at_load; reading = record as_opaque { order = Some Little }; limits = wide_limits }
+untold = record { volume = volume_untold; fields = geometry_at_load; reading = record as_opaque { order = Some Little }; limits = wide_limits; on_disk = false }
 
 -- and the same without a trace
 abbrev none_left : State

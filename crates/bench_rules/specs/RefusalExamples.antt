@@ -1,5 +1,5 @@
 -- Refusals of edits of samples and of whole traces, worked by hand.
-use Rattle.std.specs.Prelude.{◌≡◌, [], ◌∷◌, pos, Some, None, refl}
+use Rattle.std.specs.Prelude.{◌≡◌, [], ◌∷◌, pos, Some, None, refl, false}
 use Rattle.std.proofs.Common.{lit≤}
 use Rattle.field_map.specs.Binding.{geometry_at_load}
 use Rattle.frame_cut.specs.declared.limits.Limits.{Limits}
@@ -22,7 +22,7 @@ just_limits = record { bytes = 4576; traces = 4; small = lit≤ tt }
 
 -- three traces of two samples, 4332 bytes in all, under these limits
 abbrev under : Limits → State
-under limits = record { volume = volume_plain; fields = geometry_at_load; reading = as_written; limits = limits }
+under limits = record { volume = volume_plain; fields = geometry_at_load; reading = as_written; limits = limits; on_disk = false }
 
 -- two values from sample 1 on
 pub patch-behind : first_refusal (under wide_limits) (Patch 2 1 (pos 7 ∷ pos 8 ∷ [])) ≡ Some (refusals.NoSample 2 2)

@@ -1,5 +1,5 @@
 -- Reports of a small survey, worked by hand.
-use Rattle.std.specs.Prelude.{◌≡◌, [], ◌∷◌, pos, negsuc, Some, Ok, Err, refl}
+use Rattle.std.specs.Prelude.{◌≡◌, [], ◌∷◌, pos, negsuc, Some, Ok, Err, refl, false}
 use Rattle.field_map.specs.Binding.{geometry_at_load}
 use Rattle.frame_cut.specs.Readings.{as_written}
 use Rattle.frame_cut.specs.SmallFiles.{wide_limits, volume_plain}
@@ -15,7 +15,7 @@ use Rattle.bench_rules.specs.State.{State}
 
 -- the survey's three traces in a file
 abbrev loaded : State
-loaded = record { volume = volume_plain; fields = geometry_at_load; reading = as_written; limits = wide_limits }
+loaded = record { volume = volume_plain; fields = geometry_at_load; reading = as_written; limits = wide_limits; on_disk = false }
 
 pub records-plain : records loaded ≡ survey
 unfolding under_scalar

@@ -51,7 +51,7 @@ abbrev turned : Volume
 turned = record volume_plain { traces = trace_plain_2 ∷ trace_plain_3 ∷ trace_plain_1 ∷ [] }
 
 abbrev loaded : State
-loaded = record { volume = turned; fields = geometry_at_load; reading = as_written; limits = wide_limits }
+loaded = record { volume = turned; fields = geometry_at_load; reading = as_written; limits = wide_limits; on_disk = false }
 
 abbrev by_crossline : Edit
 by_crossline = Sort 1 3 (field.Name (codes "crossline") ∷ []) (false ∷ [])

@@ -1,18 +1,22 @@
 -- A volume under edits, with all that its answers depend on.
-use Rattle.std.specs.Prelude.{ℕ}
+use Rattle.std.specs.Prelude.{ℕ, Bool}
 use Rattle.field_map.specs.Pairs.{Pairs}
 use Rattle.frame_cut.specs.declared.limits.Limits.{Limits}
 use Rattle.frame_cut.specs.declared.reading.Reading.{Reading}
 use Rattle.frame_cut.specs.Volume.{Volume}
 
--- the parts of the file as they are now, the field map in force, and how the file was read
+-- the parts of the file as they are now, the field map in force, how the file was read, and whether the bytes that were
+-- loaded stay on disk, where a read of them may fail
 pub record State : Type 0 where
   pub volume : Volume
   pub fields : Pairs
   pub reading : Reading
   pub limits : Limits
+  pub on_disk : Bool
 
--- a state, and how often traces were looked at
+-- a state, how often traces were looked at, and whether each read of the loaded bytes gave what the load read; in memory
+-- it does
 pub record Session : Type 0 where
   pub state : State
   pub looks : ℕ
+  pub agreed : Bool

@@ -1,11 +1,13 @@
 -- Edits one after another, and what each is answered.
-use Rattle.std.specs.Prelude.{◌≡◌, List, [], ◌∷◌, Option, Some, None, Result, Ok, Err}
+use Rattle.std.specs.Prelude.{◌≡◌, ◌⊎◌, ◌<◌, List, [], ◌∷◌, Option, Some, None, Result, Ok, Err}
 use Rattle.frame_cut.specs.Cuts.{IsCut}
 use Rattle.bench_rules.specs.declared.edit.Edit.{Edit}
 use Rattle.bench_rules.specs.declared.edit.Edit.TheVariants.{Set, SetBin, SetText, Map, Unmap, Patch, Blank, Copy, Delete, Move, Resize, Renumber, Compute, Sort}
 use Rattle.bench_rules.specs.declared.refusal.Refusal.{Refusal}
 use Rattle.bench_rules.specs.declared.refusal.Refusal.TheVariants.{OutOfMemory}
 use Rattle.bench_rules.specs.After.{bytes_after, fields_after}
+use Rattle.bench_rules.specs.Looks.{edit_looks}
+use Rattle.bench_rules.specs.ReadFaults.{IsReadRefusal}
 use Rattle.bench_rules.specs.Refused.{first_refusal}
 use Rattle.bench_rules.specs.State.{State}
 
@@ -32,13 +34,19 @@ pub record IsAfter (old : State) (edit : Edit) (new : State) : Type 0 where
   pub fields : new.fields ≡ fields_after old.fields edit
   pub reading : new.reading ≡ old.reading
   pub limits : new.limits ≡ old.limits
+  pub on_disk : new.on_disk ≡ old.on_disk
 
--- an edit that meets a refusal changes nothing; else it is done, or refused for want of memory and changes nothing
+-- an edit that looks at traces may be told of a read that failed
+abbrev pub FailsToRead : State → Edit → Refusal → Type 0
+FailsToRead s edit r = (0 < edit_looks s edit) × IsReadRefusal s.on_disk r
+
+-- an edit that meets a refusal changes nothing; else it is done, or refused for want of memory and changes nothing; or a
+-- read of traces on disk failed, and nothing is changed
 abbrev pub StepUnless : {T : Type 0} → Option Refusal → State → Edit → Result T Refusal → State → Type 0
 StepUnless (Some refusal) old edit (Ok done) new = ⊥
-StepUnless (Some refusal) old edit (Err r) new = (r ≡ refusal) × (new ≡ old)
+StepUnless (Some refusal) old edit (Err r) new = ((r ≡ refusal) ⊎ FailsToRead old edit r) × (new ≡ old)
 StepUnless None old edit (Ok done) new = IsAfter old edit new
-StepUnless None old edit (Err r) new = (r ≡ OutOfMemory) × TakesMemory edit × (new ≡ old)
+StepUnless None old edit (Err r) new = (((r ≡ OutOfMemory) × TakesMemory edit) ⊎ FailsToRead old edit r) × (new ≡ old)
 
 -- one edit with its reply
 abbrev pub Step : {T : Type 0} → State → Edit → Result T Refusal → State → Type 0

@@ -1,5 +1,6 @@
 ghost use Rattle.std.specs.Prelude.{◌≡◌};
 
+use edit_overlay::ReadFault;
 use std::alloc::{AllocError, AllocFailed};
 use thiserror::Error;
 
@@ -25,6 +26,25 @@ pub enum AskFault {
     /// The file's samples have no values.
     #[error("E12 samples have no value")]
     NoValues,
+    /// The bytes of a trace could not be read. Only where they stay on disk.
+    #[error("E14 read failed")]
+    ReadFailed,
+    /// The file is no longer what was loaded. Only where its bytes stay on disk.
+    #[error("E15 file changed")]
+    FileChanged,
+}
+
+impl From<ReadFault> for AskFault {
+    ghost use Rattle.bench_rules.specs.ReadFaults.{ask_fault_of};
+
+    ghost from_gives = { λ read fault. fault ≡ ask_fault_of read };
+
+    fn from(fault: ReadFault) -> AskFault {
+        match fault {
+            ReadFault::Changed => AskFault::FileChanged,
+            _ => AskFault::ReadFailed,
+        }
+    }
 }
 
 impl From<AllocError> for AskFault {
@@ -74,6 +94,19 @@ impl From<fault_live::OutOfMemory> for AskFault {
 
     fn from(_: fault_live::OutOfMemory) -> AskFault {
         AskFault::OutOfMemory
+    }
+}
+
+impl From<time_slice::SliceFault> for AskFault {
+    ghost use Rattle.bench_rules.specs.ReadFaults.{ask_fault_of_slice};
+
+    ghost from_gives = { λ slice fault. fault ≡ ask_fault_of_slice slice };
+
+    fn from(fault: time_slice::SliceFault) -> AskFault {
+        match fault {
+            time_slice::SliceFault::OutOfMemory => AskFault::OutOfMemory,
+            time_slice::SliceFault::Read(read) => AskFault::from(read),
+        }
     }
 }
 

@@ -1,6 +1,6 @@
 ghost use Rattle.std.specs.Prelude.{◌≡◌};
 
-use edit_overlay::OutOfMemory;
+use edit_overlay::{OutOfMemory, ReadFault};
 use field_map::MapFault;
 use std::alloc::{AllocError, AllocFailed};
 use text_block::TextFault;
@@ -53,6 +53,25 @@ pub enum Refusal {
     /// `ZeroDivisor(p)`: in trace p a computation divides by 0.
     #[error("E13 zero divisor trace {0}")]
     ZeroDivisor(u32),
+    /// The bytes of a trace could not be read. Only where they stay on disk.
+    #[error("E14 read failed")]
+    ReadFailed,
+    /// The file is no longer what was loaded. Only where its bytes stay on disk.
+    #[error("E15 file changed")]
+    FileChanged,
+}
+
+impl From<ReadFault> for Refusal {
+    ghost use Rattle.bench_rules.specs.ReadFaults.{refusal_of};
+
+    ghost from_gives = { λ fault refusal. refusal ≡ refusal_of fault };
+
+    fn from(fault: ReadFault) -> Refusal {
+        match fault {
+            ReadFault::Changed => Refusal::FileChanged,
+            _ => Refusal::ReadFailed,
+        }
+    }
 }
 
 impl From<OutOfMemory> for Refusal {

@@ -5,6 +5,8 @@
 #[cfg(test)]
 mod compute_tests;
 #[cfg(test)]
+mod disk_tests;
+#[cfg(test)]
 mod header_tests;
 #[cfg(test)]
 mod number_tests;

@@ -148,14 +148,14 @@ pub(crate) fn shows(bench: &mut Bench, alloc: Global, p: u32, k: u32, expected: 
 }
 
 // Whether the bench saves these bytes.
-pub(crate) fn saves(bench: &Bench, alloc: Global, file: &[u8]) -> Result<bool, Fail> {
+pub(crate) fn saves(bench: &mut Bench, alloc: Global, file: &[u8]) -> Result<bool, Fail> {
     let mut writer = Sink::new(Vec::new(alloc));
     bench.save(&mut writer)?;
     Ok(writer.into_inner().as_slice() == file)
 }
 
 // Whether the bench saves the small file with these bytes put into it.
-fn saves_with(bench: &Bench, alloc: Global, bytes: &[(usize, u8)]) -> Result<bool, Fail> {
+fn saves_with(bench: &mut Bench, alloc: Global, bytes: &[(usize, u8)]) -> Result<bool, Fail> {
     let mut file = sample_file(alloc)?;
     put_bytes(file.as_mut_slice(), bytes);
     saves(bench, alloc, file.as_slice())
@@ -310,11 +310,15 @@ fn a_set_under_a_fixed_length_moves_no_end(rt: HostRuntime) -> Result<(), Fail> 
     )
 }
 
-fn save_to_a_failing_writer(rt: &impl Abort, bench: &Bench, file: &[u8]) {
+fn save_to_a_failing_writer(rt: &impl Abort, bench: &mut Bench, file: &[u8]) {
     let mut room = [0u8; 4332];
     let mut writer = Sink::new(StepWriter::new(&mut room, 1, 4000));
     let saved = bench.save(&mut writer).err();
-    assert_eq!(rt; saved, Some(SaveFault { written: 4000 }));
+    let expected = SaveFault {
+        written: 4000,
+        read: None,
+    };
+    assert_eq!(rt; saved, Some(expected));
     let _writer = writer.into_inner();
     assert!(rt; begins_alike(&room, file, 4000));
 }

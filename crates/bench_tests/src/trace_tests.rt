@@ -31,7 +31,7 @@ fn on_numbered(
 }
 
 // Whether the bench saves the numbered file with these bytes put into it.
-fn saves_with(bench: &Bench, alloc: Global, bytes: &[(usize, u8)]) -> Result<bool, Fail> {
+fn saves_with(bench: &mut Bench, alloc: Global, bytes: &[(usize, u8)]) -> Result<bool, Fail> {
     let mut file = numbered_file(alloc)?;
     put_bytes(file.as_mut_slice(), bytes);
     saves(bench, alloc, file.as_slice())

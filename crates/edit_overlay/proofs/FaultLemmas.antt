@@ -1,22 +1,19 @@
 -- Why a load is refused.
-use Rattle.std.proofs.Common.{◌≡◌, ◌≢◌, ℕ, Bool, true, false, cond, List, ◌++◌, [], length, take, drop, Option, Some, None, Result, Ok, Err, IfSome, IfErr, MatchResult, ◌⊎◌, inl, inr, refl, ap, sym, subst, ◌∙◌, append-nil}
-use Rattle.std.specs.Prelude.{nat_lt}
+use Rattle.std.proofs.Common.{◌≡◌, ◌≢◌, ◌<◌, ℕ, Bool, true, false, cond, ltb, List, ◌++◌, [], ◌∷◌, length, take, drop, Option, Some, None, Result, Ok, Err, IfSome, IfErr, MatchResult, ◌⊎◌, inl, inr, refl, ap, sym, subst, ◌∙◌, append-nil}
+use Rattle.std.specs.Prelude.{◌||◌}
+use Rattle.std.proofs.lemmas.Bool.{lt-ltb}
 use Rattle.std.specs.Io.KnownBytes.{Consumes, IsAtEnd}
 use Rattle.num_order.specs.declared.order.Order.{Order}
-use Rattle.sample_codes.specs.declared.format.Format.{Format}
-use Rattle.sample_codes.specs.declared.format_fault.FormatFault.{FormatFault}
-use Rattle.sample_codes.specs.declared.format_fault.FormatFault.TheVariants.{Float, Gain, Unknown}
-use Rattle.sample_codes.specs.Formats.{format_of}
 use Rattle.frame_cut.specs.declared.file_head.Head.{Head}
 use Rattle.frame_cut.specs.declared.limits.Limits.{Limits}
 use Rattle.frame_cut.specs.declared.reading.Reading.{Reading}
 use Rattle.frame_cut.specs.declared.load_fault.LoadFault.{LoadFault}
-use Rattle.frame_cut.specs.declared.load_fault.LoadFault.TheVariants.{ReadFailed, TooLarge, Short, PairSwapped, OtherOrder, Revision, OutOfMemory}
-use Rattle.frame_cut.specs.BinaryHeader.{order_of, told_order, is_other_order, is_pair_swapped, is_unknown_revision, major_of, minor_of, text_count, format_code}
-use Rattle.frame_cut.specs.Heads.{blocks_for, with_blocks, with_format, with_order, head_from, head_of}
+use Rattle.frame_cut.specs.declared.load_fault.LoadFault.TheVariants.{ReadFailed, TooLarge, OutOfMemory}
+use Rattle.frame_cut.specs.BinaryHeader.{order_of}
+use Rattle.frame_cut.specs.Heads.{file_faults, head_faults, head_by, first_fault_else, head_of}
 use Rattle.frame_cut.specs.Frames.{trace_length}
 use Rattle.frame_cut.specs.Cuts.{IsRefused, refusal_by_length, trace_refusal}
-use Rattle.edit_overlay.specs.Loading.{IsLoadFault, FailuresAfterRefusal}
+use Rattle.edit_overlay.specs.Loading.{IsLoadFault, IsReadFault, FailuresAfterRefusal}
 
 -- ---- no file is refused by its bytes because a read failed
 
@@ -34,10 +31,6 @@ abbrev says_it : Option LoadFault → Bool
 says_it None = false
 says_it (Some fault) = is_read_failed fault
 
-says-cond : (b : Bool) (x y : Result Head LoadFault) → says (cond b x y) ≡ cond b (says x) (says y)
-says-cond true x y = refl
-says-cond false x y = refl
-
 says_it-cond : (b : Bool) (x y : Option LoadFault) → says_it (cond b x y) ≡ cond b (says_it x) (says_it y)
 says_it-cond true x y = refl
 says_it-cond false x y = refl
@@ -46,39 +39,33 @@ both_false : (b : Bool) → cond b false false ≡ false
 both_false true = refl
 both_false false = refl
 
-blocks-told : (reading : Reading) (o : Order) (bin rest : List ℕ) (format : Format) (blocks : Option ℕ) → says (with_blocks reading o bin rest format blocks) ≡ false
-blocks-told reading o bin rest format None = refl
-blocks-told reading o bin rest format (Some n) = simp (says-cond, both_false) refl
+-- whether one of these faults says it
+abbrev names_it : List (Bool × LoadFault) → Bool
+names_it [] = false
+names_it ((holds, fault) ∷ more) = is_read_failed fault || names_it more
 
-format-told : (reading : Reading) (o : Order) (bin rest : List ℕ) (f : Result Format FormatFault) → says (with_format reading o bin rest f) ≡ false
-format-told reading o bin rest (Err Float) = refl
-format-told reading o bin rest (Err Gain) = refl
-format-told reading o bin rest (Err Unknown) = refl
-format-told reading o bin rest (Ok format) = blocks-told reading o bin rest format (blocks_for (text_count o bin) rest)
+either_false : (p q : Bool) → (p || q) ≡ false → (p ≡ false) × (q ≡ false)
+either_false true q e = cc
+either_false false q e = (refl, e)
 
--- a check that tells another fault
 behind : (b : Bool) (fault : LoadFault) (r : Result Head LoadFault) → is_read_failed fault ≡ false → says r ≡ false → says (cond b (Err fault) r) ≡ false
 behind true fault r e k = e
 behind false fault r e k = k
 
-order-told : (reading : Reading) (o : Order) (bin rest : List ℕ) → says (with_order reading o bin rest) ≡ false
-order-told reading o bin rest =
-    behind (is_unknown_revision o bin) (Revision (major_of o bin) (minor_of o bin)) (with_format reading o bin rest (format_of reading.opaque (format_code o bin))) refl
-    (format-told reading o bin rest (format_of reading.opaque (format_code o bin)))
-
-head_from-told : (reading : Reading) (bin rest : List ℕ) → says (head_from reading bin rest) ≡ false
-head_from-told reading bin rest =
-    let checked : Result Head LoadFault = with_order reading (order_of reading bin) bin rest in
-    let otherwise : Bool = is_other_order reading.order (told_order bin) in
-    behind (is_pair_swapped bin) PairSwapped (cond otherwise (Err OtherOrder) checked) refl
-    (behind otherwise OtherOrder checked refl (order-told reading (order_of reading bin) bin rest))
+-- the first of them does not where none does
+first-told : (faults : List (Bool × LoadFault)) (h : Head) → names_it faults ≡ false → says (first_fault_else faults h) ≡ false
+first-told [] h e = refl
+first-told ((holds, fault) ∷ more) h e =
+    let none = either_false (is_read_failed fault) (names_it more) e in
+    behind holds fault (first_fault_else more h) none.0 (first-told more h none.1)
 
 head_of-told : (file : List ℕ) (reading : Reading) (limits : Limits) → says (head_of file reading limits) ≡ false
+unfolding head_of
 head_of-told file reading limits =
-    let checked : Result Head LoadFault = head_from reading (take 400 (drop 3200 file)) (drop 3600 file) in
-    let short : Bool = nat_lt (length file) 3600 in
-    behind (nat_lt limits.bytes (length file)) TooLarge (cond short (Err (Short (length file))) checked) refl
-    (behind short (Short (length file)) checked refl (head_from-told reading (take 400 (drop 3200 file)) (drop 3600 file)))
+    let bin : List ℕ = take 400 (drop 3200 file) in
+    let rest : List ℕ = drop 3600 file in
+    let o : Order = order_of reading bin in
+    first-told (file_faults file limits ++ head_faults reading o bin rest) (head_by reading o bin rest) refl
 
 length-told : (limits : Limits) (p left : ℕ) (n : Option ℕ) → says_it (refusal_by_length limits p left n) ≡ false
 length-told limits p left None = refl
@@ -93,6 +80,25 @@ ff_not_tt e = cc
 pub refused-told : (file : List ℕ) (reading : Reading) (limits : Limits) → IsRefused file reading limits ReadFailed → ⊥
 refused-told file reading limits (inl e) = absurd (ff_not_tt (sym (head_of-told file reading limits) ∙ ap says e))
 refused-told file reading limits (inr (v, rest, stuck)) = absurd (ff_not_tt (sym (trace-told v.head limits _ rest) ∙ ap says_it stuck.refused))
+
+-- ---- bytes that were not read
+
+stop_at : (b : Bool) (fault : LoadFault) (r : Result Head LoadFault) → b ≡ true → cond b (Err fault) r ≡ Err fault
+stop_at b fault r e = rw e refl
+
+-- a file with more bytes than the limit is refused for it
+too_large : (file : List ℕ) (reading : Reading) (limits : Limits) → limits.bytes < length file → head_of file reading limits ≡ Err TooLarge
+unfolding head_of
+too_large file reading limits above = stop_at (ltb limits.bytes (length file)) TooLarge _ (lt-ltb limits.bytes (length file) above)
+
+large-known : (known : Option (List ℕ)) (reading : Reading) (limits : Limits) (fault : LoadFault) → fault ≡ TooLarge → IfSome known (λ file. limits.bytes < length file) → IfSome known (λ file. IsRefused file reading limits fault)
+large-known None reading limits fault is above = tt
+large-known (Some file) reading limits fault is above = inl (too_large file reading limits above ∙ ap (λ (f : LoadFault). let r : Result Head LoadFault = Err f in r) (sym is))
+
+pub read_fault : (known : Option (List ℕ)) (reading : Reading) (limits : Limits) (fault : LoadFault) → IsReadFault known limits fault → IsLoadFault known reading limits fault
+read_fault known reading limits fault (inl failed) = inl failed
+read_fault known reading limits fault (inr (inl memory)) = inr (inl memory)
+read_fault known reading limits fault (inr (inr (is, above))) = inr (inr (large-known known reading limits fault is above))
 
 -- ---- from the bytes that were read to the reader's
 

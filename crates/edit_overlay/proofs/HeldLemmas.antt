@@ -1,13 +1,21 @@
 -- An overlay is sound again with another store of the same file.
-use Rattle.std.proofs.Common.{◌≡◌, ℕ, ◌+◌, List, length, refl, ap, ◌∙◌, arith, Result, Ok, Err, OnOk, OnErr, None}
+use Rattle.std.proofs.Common.{◌≡◌, ℕ, ◌+◌, Bool, List, length, refl, sym, subst, ap, ◌∙◌, arith, Option, None, Result, Ok, Err, OnOk, OnErr}
+use Rattle.base_file.specs.HeldBytes.{HeldBytes, Falls}
+use Rattle.base_file.proofs.HeldLemmas.{Falls-refl}
 use Rattle.frame_cut.specs.Volume.{Volume, bytes_of}
 use Rattle.trace_store.specs.Ahead.{traces_ahead}
-use Rattle.edit_overlay.specs.Held.{looked_of, volume_ahead, volume_with, IsHeld}
+use Rattle.edit_overlay.specs.CountedVolume.{CountedVolume, with_agreed}
+use Rattle.edit_overlay.specs.Held.{looked_of, volume_ahead, volume_with, IsHeld, IsReread}
+use Rattle.edit_overlay.specs.Standings.{is_on_disk, is_sure}
 use Rattle.trace_store.specs.Stores.{payloads_ahead, payloads_of, traces_of}
+use Rattle.trace_store.specs.declared.prepared.Prepared.{Prepared}
 use Rattle.trace_store.specs.declared.store.TraceStore.{TraceStore}
+use Rattle.edit_overlay.specs.declared.laid.Laid.{Laid}
 use Rattle.edit_overlay.specs.declared.overlay.Overlay.TheInside.{Inside}
-use Rattle.trace_store.proofs.AheadLemmas.{ahead_kept, IsSame}
+use Rattle.trace_store.proofs.AheadLemmas.{ahead_kept, ready_kept, IsSame}
+use Rattle.trace_store.proofs.FallLemmas.{same_fetched}
 use Rattle.trace_store.proofs.LengthLemmas.{total, length-with}
+use Rattle.edit_overlay.proofs.StandingLemmas.{on_disk_stays}
 
 -- what follows from success and from failure alike
 pub settle : {T E : Type 0} (r : Result T E) {A B C : Type 0} → OnOk r A → OnErr r B → (A → C) → (B → C) → C
@@ -20,17 +28,27 @@ module _ {T : Type 0} where
     pub head : t.head ≡ s.head
     pub loaded : t.loaded ≡ s.loaded
 
+-- it stands as it did
+module _ {T : Type 0} where
+  pub stands_over : (s t : TraceStore T) → IsOver s t → Falls s.loaded.standing t.loaded.standing
+  stands_over s t over = subst (λ (l : HeldBytes). Falls s.loaded.standing l.standing) (sym over.loaded) (Falls-refl s.loaded.standing)
+
 module _ {T : Type 0} where
   other_traces : (text bin : List ℕ) (s t : TraceStore T) → IsOver s t → volume_with text bin t ≡ record (volume_with text bin s) { traces = traces_of t }
   other_traces text bin s t over = rw (over.head, over.loaded) refl
 
 module _ {T : Type 0} where
-  pub held_again : (o : Inside T) (t : TraceStore T) (n : ℕ) → IsHeld o → IsOver o.store t → n + total (traces_of o.store) ≡ o.length + total (traces_of t) → IsHeld (record o { store = t; prepared = None; length = n })
+  pub held_again : (o : Inside T) (t : TraceStore T) (n : ℕ) → IsHeld o → IsOver o.laid.store t → n + total (traces_of o.laid.store) ≡ o.length + total (traces_of t) → IsHeld (record o { laid = record { store = t; prepared = None }; length = n })
   held_again o t n held over sum =
-      let v : Volume = volume_with o.text o.bin o.store in
-      let e : length (bytes_of (volume_with o.text o.bin t)) ≡ length (bytes_of (record v { traces = traces_of t })) = ap (λ (w : Volume). length (bytes_of w)) (other_traces o.text o.bin o.store t over) in
+      let v : Volume = volume_with o.text o.bin o.laid.store in
+      let e : length (bytes_of (volume_with o.text o.bin t)) ≡ length (bytes_of (record v { traces = traces_of t })) = ap (λ (w : Volume). length (bytes_of w)) (other_traces o.text o.bin o.laid.store t over) in
       record {
-        ends = record { front = rw over.head held.ends.front; whole = rw (over.head, over.loaded) held.ends.whole };
+        ends = record {
+          front = rw over.head held.ends.front;
+          whole = rw (over.head, over.loaded) held.ends.whole;
+          front_kept = rw (over.head, over.loaded) held.ends.front_kept;
+          back_kept = rw (over.head, over.loaded) held.ends.back_kept;
+        };
         text = held.text;
         bin = held.bin;
         prepared = tt;
@@ -43,12 +61,66 @@ module _ {T : Type 0} where
   same_traces text bin s t over same = other_traces text bin s t over ∙ ap (λ (ts : List (List ℕ)). record (volume_with text bin s) { traces = ts }) same.traces
 
 module _ {T : Type 0} where
-  pub shown_kept : (o : Inside T) (t : TraceStore T) → IsOver o.store t → IsSame o.store t → looked_of (record o { store = t }) ≡ looked_of o
+  pub shown_kept : (o : Inside T) (t : TraceStore T) → IsOver o.laid.store t → IsSame o.laid.store t → looked_of (record o { laid = record o.laid { store = t } }) ≡ looked_of o
   shown_kept o t over same =
-      let v = same_traces o.text o.bin o.store t over same in
-      let s : Volume = volume_with o.text o.bin o.store in
-      let w : volume_ahead o.text o.bin t o.prepared ≡ volume_ahead o.text o.bin o.store o.prepared =
-      ap (λ (x : Volume). record x { traces = traces_ahead t o.prepared }) v ∙ ap (λ (ts : List (List ℕ)). record s { traces = ts }) (ahead_kept o.store t o.prepared same) in
-      let first : looked_of (record o { store = t }) ≡ record (looked_of (record o { store = t })) { volume = s } = ap (λ (x : Volume). record (looked_of (record o { store = t })) { volume = x }) v in
-      let second : record (looked_of (record o { store = t })) { volume = s } ≡ record (looked_of o) { payloads = payloads_of t; payloads_prepared = payloads_ahead (payloads_of t) o.prepared } = ap (λ (x : Volume). record (looked_of o) { prepared = x; payloads = payloads_of t; payloads_prepared = payloads_ahead (payloads_of t) o.prepared }) w in
-      first ∙ (second ∙ ap (λ (ps : List T). record (looked_of o) { payloads = ps; payloads_prepared = payloads_ahead ps o.prepared }) same.payloads)
+      let v = same_traces o.text o.bin o.laid.store t over same in
+      let s : Volume = volume_with o.text o.bin o.laid.store in
+      let w : volume_ahead o.text o.bin t o.laid.prepared ≡ volume_ahead o.text o.bin o.laid.store o.laid.prepared =
+      ap (λ (x : Volume). record x { traces = traces_ahead t o.laid.prepared }) v ∙ ap (λ (ts : List (List ℕ)). record s { traces = ts }) (ahead_kept o.laid.store t o.laid.prepared same) in
+      let first : looked_of (record o { laid = record o.laid { store = t } }) ≡ record (looked_of (record o { laid = record o.laid { store = t } })) { volume = s } = ap (λ (x : Volume). record (looked_of (record o { laid = record o.laid { store = t } })) { volume = x }) v in
+      let second : record (looked_of (record o { laid = record o.laid { store = t } })) { volume = s } ≡ record (looked_of o) { payloads = payloads_of t; payloads_prepared = payloads_ahead (payloads_of t) o.laid.prepared; on_disk = is_on_disk t.loaded.standing; agreed = is_sure t.loaded.standing } =
+      ap (λ (x : Volume). record (looked_of o) { prepared = x; payloads = payloads_of t; payloads_prepared = payloads_ahead (payloads_of t) o.laid.prepared; on_disk = is_on_disk t.loaded.standing; agreed = is_sure t.loaded.standing }) w in
+      let third : record (looked_of o) { payloads = payloads_of t; payloads_prepared = payloads_ahead (payloads_of t) o.laid.prepared; on_disk = is_on_disk t.loaded.standing; agreed = is_sure t.loaded.standing } ≡ record (looked_of o) { payloads = payloads_of t; payloads_prepared = payloads_ahead (payloads_of t) o.laid.prepared } =
+      ap (λ (l : HeldBytes). record (looked_of o) { payloads = payloads_of t; payloads_prepared = payloads_ahead (payloads_of t) o.laid.prepared; on_disk = is_on_disk l.standing; agreed = is_sure l.standing }) over.loaded in
+      first ∙ (second ∙ (third ∙ ap (λ (ps : List T). record (looked_of o) { payloads = ps; payloads_prepared = payloads_ahead ps o.laid.prepared }) same.payloads))
+
+-- ---- the loaded bytes were read again
+
+-- two shown volumes of the same parts are one
+same_parts : {T : Type 0} (v v' w w' : Volume) (n : ℕ) (ps ps' qs qs' : List T) (d d' a : Bool) → v ≡ v' → w ≡ w' → ps ≡ ps' → qs ≡ qs' → d ≡ d'
+    → (let x : CountedVolume T = record { volume = v; prepared = w; looks = n; payloads = ps; payloads_prepared = qs; on_disk = d; agreed = a } in x)
+    ≡ record { volume = v'; prepared = w'; looks = n; payloads = ps'; payloads_prepared = qs'; on_disk = d'; agreed = a }
+same_parts v v' w w' n ps ps' qs qs' d d' a e f g h i = cc
+
+module _ {T : Type 0} (o : Inside T) (t : TraceStore T) (reread : IsReread o.laid.store t) where
+  pub same_reread : IsSame o.laid.store t
+  same_reread = same_fetched o.laid.store t reread.head reread.order reread.slots reread.loaded
+
+  volume_reread : volume_with o.text o.bin t ≡ volume_with o.text o.bin o.laid.store
+  volume_reread = rw (reread.head, reread.order, reread.slots, reread.loaded.bytes) refl
+
+  ahead_reread : volume_ahead o.text o.bin t o.laid.prepared ≡ volume_ahead o.text o.bin o.laid.store o.laid.prepared
+  ahead_reread =
+      let s : Volume = volume_with o.text o.bin o.laid.store in
+      ap (λ (x : Volume). record x { traces = traces_ahead t o.laid.prepared }) volume_reread ∙ ap (λ (ts : List (List ℕ)). record s { traces = ts }) (ahead_kept o.laid.store t o.laid.prepared same_reread)
+
+  -- the overlay is held still
+  pub held_reread : IsHeld o → IsHeld (record o { laid = record o.laid { store = t } })
+  held_reread held = record {
+    ends = record {
+      front = rw reread.head held.ends.front;
+      whole = rw (reread.head, reread.loaded.bytes) held.ends.whole;
+      front_kept = rw (reread.head, reread.loaded.front) held.ends.front_kept;
+      back_kept = rw (reread.head, reread.loaded.back) held.ends.back_kept;
+    };
+    text = held.text;
+    bin = held.bin;
+    prepared = ready_kept o.laid.store t o.laid.prepared same_reread held.prepared;
+    length = held.length ∙ ap (λ (v : Volume). length (bytes_of v)) (sym volume_reread);
+  }
+
+  -- and shows the same, but that reads may no longer agree
+  pub shown_reread : looked_of (record o { laid = record o.laid { store = t } }) ≡ with_agreed (looked_of o) (is_sure t.loaded.standing)
+  shown_reread =
+      let payloads : payloads_of t ≡ payloads_of o.laid.store = same_reread.payloads in
+      same_parts _ _ _ _ o.looks _ _ _ _ _ _ (is_sure t.loaded.standing) volume_reread ahead_reread payloads (ap (λ (ps : List T). payloads_ahead ps o.laid.prepared) payloads)
+      (on_disk_stays o.laid.store.loaded.standing t.loaded.standing reread.loaded.standing)
+
+-- the same, where what is laid over the store stands beside it as it did
+module _ {T : Type 0} (o : Inside T) (l : Laid T) (reread : IsReread o.laid.store l.store) (kept : l.prepared ≡ o.laid.prepared) where
+  pub held_relaid : IsHeld o → IsHeld (record o { laid = l })
+  held_relaid held = subst (λ (p : Option Prepared). IsHeld (record o { laid = record { store = l.store; prepared = p } })) (sym kept) (held_reread o l.store reread held)
+
+  pub shown_relaid : looked_of (record o { laid = l }) ≡ with_agreed (looked_of o) (is_sure l.store.loaded.standing)
+  shown_relaid =
+      subst (λ (p : Option Prepared). looked_of (record o { laid = record { store = l.store; prepared = p } }) ≡ with_agreed (looked_of o) (is_sure l.store.loaded.standing)) (sym kept) (shown_reread o l.store reread)

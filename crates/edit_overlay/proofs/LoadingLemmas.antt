@@ -1,6 +1,7 @@
 -- A file that is being loaded.
-use Rattle.std.proofs.Common.{◌≡◌, ℕ, ◌+◌, ◌-◌, ◌<◌, List, [], length, take, drop, get_or, refl, sym, ap, ◌∙◌, arith}
+use Rattle.std.proofs.Common.{◌≡◌, ℕ, ◌+◌, ◌-◌, ◌<◌, List, [], length, take, drop, get_or, refl, sym, ap, subst, ◌∙◌, arith}
 use Rattle.std.proofs.lemmas.List.{length-map, take_all}
+use Rattle.base_file.specs.HeldBytes.{InMemory, IsInMemory}
 use Rattle.frame_cut.specs.declared.extent.Extent.{Extent}
 use Rattle.frame_cut.specs.declared.file_head.Head.{Head}
 use Rattle.frame_cut.specs.declared.limits.Limits.{Limits}
@@ -18,11 +19,14 @@ use Rattle.edit_overlay.specs.declared.loading.Loading.TheInside.{Inside}
 use Rattle.edit_overlay.proofs.PieceLemmas.{all_inside, all_whole, get_or-pieces}
 
 -- a file that was cut, of which no trace has a payload yet
-pub just_cut : {T : Type 0} (l : Inside T) (file : List ℕ) (reading : Reading) (limits : Limits) (h : Head) (es : List Extent) → IsCut file reading limits (volume_at file h es) → AreTracesOf file h es
+pub just_cut : {T : Type 0} (l : Inside T) (file : List ℕ) (reading : Reading) (limits : Limits) (h : Head) (es : List Extent) → l.store.loaded.standing ≡ InMemory → l.store.loaded.front ≡ length file → l.store.loaded.back ≡ length file → IsCut file reading limits (volume_at file h es) → AreTracesOf file h es
     → limits.traces < 4294967296 → l.store.loaded.bytes ≡ file → l.store.head ≡ h → l.extents.items ≡ es → traces_of l.store ≡ [] → IsLoading l
-just_cut l file reading limits h es cut laid most loaded head extents none =
+just_cut l file reading limits h es standing front back cut laid most loaded head extents none =
     let few : length es < 4294967296 = omega (arith, most, cut.parts.few, length-map es (λ (e : Extent). bytes_at file e)) in
     record {
+      in_memory = subst IsInMemory (sym standing) tt;
+      front = front ∙ ap length (sym loaded);
+      back = back ∙ ap length (sym loaded);
       joined = rw (loaded, head, extents) cut.joined;
       laid = rw (loaded, head, extents) laid;
       inside = rw (loaded, extents) (all_inside file h es laid);
@@ -43,7 +47,7 @@ all-loaded l loading all = loading.so_far ∙ ap (λ (es : List Extent). pieces 
 
 -- a store has as many payloads as traces
 pub as-many : {T : Type 0} (s : TraceStore T) → length (payloads_of s) ≡ length (traces_of s)
-as-many s = payloads-counted s.loaded.bytes s.head s.order.ids s.slots s.sound.held ∙ sym (length-map s.order.ids (bytes_under s.loaded.bytes s.slots))
+as-many s = payloads-counted s.loaded s.head s.order.ids s.slots s.sound.held ∙ sym (length-map s.order.ids (bytes_under s.loaded.bytes s.slots))
 
 -- the parts of the store that has each trace, with the headers of the file
 pub parts-loaded : {T : Type 0} (l : Inside T) (text bin : List ℕ) → IsLoading l → length (payloads_of l.store) ≡ length (pieces l.store.loaded.bytes l.extents.items) → text ≡ take 3200 l.store.loaded.bytes → bin ≡ take 400 (drop 3200 l.store.loaded.bytes)

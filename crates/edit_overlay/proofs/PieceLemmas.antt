@@ -1,6 +1,6 @@
 -- Traces that lie one behind the other in a file, and its blocks by their numbers.
-use Rattle.std.proofs.Common.{◌≡◌, ℕ, suc, zero, ◌+◌, ◌-◌, ◌*◌, ◌<◌, ◌≤◌, List, [], ◌∷◌, length, take, drop, get_or, refl, ap, subst, ◌∙◌, arith, Option, Some, None, slice_get, All}
-use Rattle.std.proofs.lemmas.List.{drop-drop, length-map}
+use Rattle.std.proofs.Common.{◌≡◌, ℕ, suc, zero, ◌+◌, ◌-◌, ◌*◌, ◌<◌, ◌≤◌, List, [], ◌∷◌, length, length-drop, length-take, take, drop, get_or, refl, ap, subst, ◌∙◌, arith, Option, Some, None, slice_get, All}
+use Rattle.std.proofs.lemmas.List.{drop-drop, length-map, take_all}
 use Rattle.std.proofs.lemmas.List.Elements.{All-get_or}
 use Rattle.frame_cut.specs.declared.extent.Extent.{Extent}
 use Rattle.frame_cut.specs.declared.file_head.Head.{Head}
@@ -40,7 +40,15 @@ pub all_whole : (file : List ℕ) (reading : Reading) (limits : Limits) (h : Hea
 all_whole file reading limits h es cut k d l =
     subst (λ (t : List ℕ). IsTrace h t) (get_or-pieces file es k d [] l) (All-get_or (IsTrace h) (pieces file es) k [] (omega (arith, length-map es (λ (e : Extent). bytes_at file e))) cut.parts.traces)
 
+-- n bytes of more are n
+pub length-part : (part file : List ℕ) (at n : ℕ) → at + n ≤ length file → part ≡ take n (drop at file) → n ≤ length part
+length-part part file at n inside e = omega (arith, inside, ap length e, length-take n (drop at file), length-drop at file)
+
 -- ---- blocks by their number
+
+-- the first n of n bytes are all of them
+pub whole_part : (part rest : List ℕ) (n : ℕ) → part ≡ take n rest → take n part ≡ take n rest
+whole_part part rest n e = take_all n part (omega (arith, ap length e, length-take n rest)) ∙ e
 
 pub slice_get-blocks : (n : ℕ) (rest : List ℕ) (i : ℕ) → i < n → slice_get (blocks_of n rest) i ≡ Some (take 3200 (drop (3200 * i) rest))
 slice_get-blocks zero rest i l = absurd (omega arith)

@@ -1,28 +1,34 @@
 -- How a save goes on, one part behind another.
-use Rattle.std.proofs.Common.{OnOk, ◌*◌, replicate, map, Some, None, IsSomeAnd, ◌∷◌, length-take, length-drop, true, nat_eq, ◌≡◌, ℕ, ◌+◌, ◌-◌, ◌<◌, ◌≤◌, List, [], ◌++◌, length, take, drop, refl, ap, sym, subst, ◌∙◌, arith, Option, Result, Ok, Err, MatchResult, slice_range, append_assoc, append-nil, length-append}
-use Rattle.std.proofs.Math.Seq.{take-add, take-append-add}
-use Rattle.std.proofs.lemmas.List.{drop-drop, take-append-le}
-use Rattle.std.proofs.lemmas.List.{nil_from_length}
-use Rattle.std.proofs.lemmas.Bool.{eqb-true}
-use Rattle.std.proofs.lemmas.List.{length-replicate, map-append}
+use Rattle.std.proofs.Common.{OnOk, IfErr, IsTrue, Bool, true, false, is_some, ◌*◌, add-one, replicate, Some, None, ◌∷◌, length-take, length-drop, ◌≡◌, ℕ, ◌+◌, ◌-◌, ◌<◌, ◌≤◌, List, [], ◌++◌, length, get_or, take, drop, refl, ap, sym, subst, ◌∙◌, arith, Option, Result, Ok, Err, MatchResult, slice_range, append_assoc, append-nil, length-append}
+use Rattle.std.specs.Prelude.{IsSome, IsSomeAnd}
+use Rattle.std.specs.Option.{option_map_or}
+use Rattle.std.proofs.Math.Seq.{take-add, take-append-add, take-suc}
+use Rattle.std.proofs.lemmas.Bool.Decides.{nat_tests}
+use Rattle.std.proofs.lemmas.List.{drop-drop, get_or-map, length-map, length-replicate, take_all, take-append-drop, take-append-le}
 use Rattle.std.proofs.lemmas.List.Folds.{concat-append}
 use Rattle.std.specs.List.{concat}
 use Rattle.std.specs.Io.KnownBytes.{Appends}
 use Rattle.slab.specs.Slab.{get}
-use Rattle.trace_seq.specs.Order.{times}
-use Rattle.trace_seq.proofs.TimeLemmas.{times-append, times-self}
+use Rattle.base_file.specs.HeldBytes.{Standing, HeldBytes, Falls, IsStill, IsSure}
+use Rattle.base_file.proofs.HeldLemmas.{sure_before, IsStill-refl, IsStill-trans}
+use Rattle.trace_seq.proofs.TimeLemmas.{times-get}
 use Rattle.trace_store.specs.declared.store.TraceStore.{TraceStore}
-use Rattle.frame_cut.specs.declared.extent.Extent.{Extent}
-use Rattle.trace_store.specs.declared.slot.Base.TheVariants.{Loaded}
 use Rattle.trace_store.specs.declared.slot.Slot.{Slot}
 use Rattle.trace_store.specs.Slots.{bytes_in, bytes_under, IsSlot}
 use Rattle.trace_store.specs.Stores.{traces_of}
+use Rattle.trace_store.proofs.FallLemmas.{same_fetched}
 use Rattle.edit_overlay.specs.declared.save_fault.SaveFault.{SaveFault}
 use Rattle.edit_overlay.specs.declared.waiting.Waiting.{Waiting}
+use Rattle.frame_cut.specs.declared.extent.Extent.{Extent}
+use Rattle.frame_cut.specs.declared.file_head.Head.{Head}
+use Rattle.frame_cut.specs.Frames.{front_length}
+use Rattle.frame_cut.specs.Layout.{bytes_at}
 use Rattle.frame_cut.specs.Volume.{bytes_of}
 use Rattle.frame_cut.proofs.BlockLemmas.{concat-blocks_of}
-use Rattle.edit_overlay.specs.Held.{HasEnds, volume_with}
+use Rattle.edit_overlay.specs.Held.{HasEnds, volume_with, IsReread}
 use Rattle.edit_overlay.specs.Saving.{Progress, HasCome, GoesOn, Saves, progress}
+use Rattle.edit_overlay.specs.Standings.{is_on_disk}
+use Rattle.edit_overlay.proofs.StandingLemmas.{on_disk_stays}
 use Rattle.device_io.specs.Growth.{Appends_more}
 
 -- a save comes from one place to another, with these bytes more
@@ -65,7 +71,7 @@ taken_more old new written bytes grows start all h = record {
 }
 
 pub taken_less : (old new : Option (List ℕ)) (written part : ℕ) (bytes : List ℕ) → Appends old new (take part bytes) × (part < length bytes)
-    → Stops old new (record { written = written; waits = [] }) bytes (record { written = written + part })
+    → Stops old new (record { written = written; waits = [] }) bytes (record { written = written + part; read = None })
 taken_less old new written part bytes grows start all h =
     let all_is : h.taken ≡ all = sym (append-nil h.taken) ∙ h.joined in
     let cut : take (written + part) (h.taken ++ bytes) ≡ h.taken ++ take part bytes = ap (λ (n : ℕ). take (n + part) (h.taken ++ bytes)) h.counted ∙ take-append-add h.taken bytes part in
@@ -113,14 +119,6 @@ after_flush {T = T} r old mid new from loaded w written bytes e f g start all h 
     go (Ok x) is = other_waits start new written [] _ (all ++ bytes) (sym (empty_waits loaded w e)) (rw is at (g start all come))
     go (Err fault) is = rw is at (g start all come)
 
--- the bytes of a loaded trace without runs are a range of the loaded file
-module _ {T : Type 0} where
-  pub plain_bytes : (loaded : List ℕ) (slot : Slot T) (extent : Extent) → slot.base ≡ Loaded extent → slot.runs.len ≡ length slot.runs.items → true ≡ nat_eq slot.runs.len 0 → slice_range loaded extent.start (extent.start + extent.length) ≡ bytes_in loaded slot
-  plain_bytes loaded slot extent is len none =
-      let no_runs : slot.runs.items ≡ [] = nil_from_length slot.runs.items (sym len ∙ eqb-true slot.runs.len 0 (sym none)) in
-      let n : extent.start + extent.length - extent.start ≡ extent.length = omega arith in
-      rw (is, no_runs, n) refl
-
 -- ---- how many bytes that are
 
 pub counted : (old new : Option (List ℕ)) (from to : Progress) (bytes : List ℕ) → Comes old new from to bytes → to.written + length to.waits ≡ from.written + length from.waits + length bytes
@@ -133,37 +131,165 @@ counted old new from to bytes f =
 pub length-waits : (loaded : List ℕ) (w : Waiting) → w.to ≤ length loaded → length (slice_range loaded w.from w.to) ≡ w.to - w.from
 length-waits loaded w l = omega (arith, w.in_order, l, length-take (w.to - w.from) (drop w.from loaded), length-drop w.from loaded)
 
--- ---- the traces of an order
+-- ---- the traces, one behind another
 
-module _ {T : Type 0} (s : TraceStore T) (passed : List ℕ) (id : ℕ) (rest : List ℕ) (ids : passed ++ id ∷ rest ≡ s.order.ids) where
-  -- an id of the order has a slot
-  pub slot_here : (slot : Slot T) → get s.slots id ≡ Some slot → IsSlot s.loaded.bytes s.head slot
-  slot_here slot e =
-      let held : 0 < times id s.order.ids = omega (arith, ap (λ (xs : List ℕ). times id xs) ids, times-append id passed (id ∷ rest), times-self id rest) in
-      subst (λ (o : Option (Slot T)). IsSomeAnd o (IsSlot s.loaded.bytes s.head)) e (s.sound.held id held)
+-- one trace more
+pub traces_next : (ts : List (List ℕ)) (at : ℕ) → at < length ts → concat (take at ts) ++ get_or ts at [] ≡ concat (take (at + 1) ts)
+traces_next ts at l =
+    let next : take (at + 1) ts ≡ take at ts ++ (get_or ts at [] ∷ []) = rw add-one (take-suc ts at [] l) in
+    let one : concat (get_or ts at [] ∷ []) ≡ get_or ts at [] = append-nil (get_or ts at []) in
+    ap (λ (t : List ℕ). concat (take at ts) ++ t) (sym one) ∙ sym (concat-append (take at ts) (get_or ts at [] ∷ [])) ∙ ap (λ (xs : List (List ℕ)). concat xs) (sym next)
 
-  pub no_slot : get s.slots id ≡ None → ⊥
-  no_slot e =
-      let held : 0 < times id s.order.ids = omega (arith, ap (λ (xs : List ℕ). times id xs) ids, times-append id passed (id ∷ rest), times-self id rest) in
-      subst (λ (o : Option (Slot T)). IsSomeAnd o (IsSlot s.loaded.bytes s.head)) e (s.sound.held id held)
+-- a trace stands between those in front and those behind
+pub traces_split : (ts : List (List ℕ)) (at : ℕ) → at < length ts → (concat (take at ts) ++ get_or ts at []) ++ concat (drop (at + 1) ts) ≡ concat ts
+traces_split ts at l =
+    ap (λ (s : List ℕ). s ++ concat (drop (at + 1) ts)) (traces_next ts at l) ∙ sym (concat-append (take (at + 1) ts) (drop (at + 1) ts)) ∙ ap (λ (xs : List (List ℕ)). concat xs) (take-append-drop (at + 1) ts)
 
-  -- its trace stands between those in front and those behind
-  pub traces_here : (slot : Slot T) → get s.slots id ≡ Some slot
-      → (concat (map (bytes_under s.loaded.bytes s.slots) passed) ++ bytes_in s.loaded.bytes slot) ++ concat (map (bytes_under s.loaded.bytes s.slots) rest) ≡ concat (traces_of s)
-  traces_here slot e =
+-- a trace is not empty, if the loaded bytes are sure
+some_front : (h : Head) → 0 < front_length h
+some_front h = grind (arith, nat_tests)
+
+module _ {T : Type 0} where
+  some_in : (loaded : HeldBytes) (h : Head) (o : Option (Slot T)) → IsSomeAnd o (IsSlot loaded h) → IsSure loaded.standing → 0 < length (option_map_or (bytes_in loaded.bytes) o [])
+  some_in loaded h None held sure = absurd held
+  some_in loaded h (Some slot) held sure = omega (arith, some_front h, (held.whole sure).whole)
+
+  pub some_bytes : (s : TraceStore T) (i : ℕ) → i < length (traces_of s) → IsSure s.loaded.standing → 0 < length (get_or (traces_of s) i [])
+  some_bytes s i l sure =
       let f : ℕ → List ℕ = bytes_under s.loaded.bytes s.slots in
-      let here : f id ≡ bytes_in s.loaded.bytes slot = rw e refl in
-      append_assoc (concat (map f passed)) (bytes_in s.loaded.bytes slot) (concat (map f rest))
-      ∙ ap (λ (t : List ℕ). concat (map f passed) ++ (t ++ concat (map f rest))) (sym here)
-      ∙ sym (concat-append (map f passed) (map f (id ∷ rest)))
-      ∙ ap (λ (ts : List (List ℕ)). concat ts) (sym (map-append f passed (id ∷ rest)) ∙ ap (λ (xs : List ℕ). map f xs) ids)
+      let short : i < length s.order.ids = omega (arith, l, length-map s.order.ids f) in
+      let id : ℕ = get_or s.order.ids i 0 in
+      let some : 0 < length (f id) = some_in s.loaded s.head (get s.slots id) (s.sound.held id (times-get s.order.ids i 0 short)) sure in
+      subst (λ (t : List ℕ). 0 < length t) (sym (get_or-map f s.order.ids i 0 [] short)) some
 
-  -- and those in front, with it
-  pub traces_passed : (slot : Slot T) → get s.slots id ≡ Some slot → concat (map (bytes_under s.loaded.bytes s.slots) passed) ++ bytes_in s.loaded.bytes slot ≡ concat (map (bytes_under s.loaded.bytes s.slots) (passed ++ id ∷ []))
-  traces_passed slot e =
-      let f : ℕ → List ℕ = bytes_under s.loaded.bytes s.slots in
-      let here : bytes_in s.loaded.bytes slot ≡ f id ++ [] = rw (e, append-nil (bytes_in s.loaded.bytes slot)) refl in
-      ap (λ (t : List ℕ). concat (map f passed) ++ t) here ∙ sym (concat-append (map f passed) (map f (id ∷ []))) ∙ ap (λ (ts : List (List ℕ)). concat ts) (sym (map-append f passed (id ∷ [])))
+-- ---- the loaded bytes are read again
+
+module _ {T : Type 0} where
+  pub IsReread-refl : (s : TraceStore T) → IsReread s s
+  IsReread-refl s = record { head = refl; order = refl; slots = refl; loaded = IsStill-refl s.loaded }
+
+  pub IsReread-trans : (s t u : TraceStore T) → IsReread s t → IsReread t u → IsReread s u
+  IsReread-trans s t u first second = record {
+    head = second.head ∙ first.head;
+    order = second.order ∙ first.order;
+    slots = second.slots ∙ first.slots;
+    loaded = IsStill-trans s.loaded t.loaded u.loaded first.loaded second.loaded;
+  }
+
+  pub traces_reread : (s t : TraceStore T) → IsReread s t → traces_of t ≡ traces_of s
+  traces_reread s t reread = (same_fetched s t reread.head reread.order reread.slots reread.loaded).traces
+
+  pub trace_reread : (s t : TraceStore T) (at : ℕ) → IsReread s t → get_or (traces_of t) (at + 1 - 1) [] ≡ get_or (traces_of s) at []
+  trace_reread s t at reread =
+      let here : at + 1 - 1 ≡ at = omega arith in
+      ap (λ (ts : List (List ℕ)). get_or ts (at + 1 - 1) []) (traces_reread s t reread) ∙ ap (λ (i : ℕ). get_or (traces_of s) i []) here
+
+  -- a store that read a trace
+  pub fetched_twice : (s t u : TraceStore T) → IsReread s t → u.head ≡ t.head → u.order ≡ t.order → u.slots ≡ t.slots → IsStill t.loaded u.loaded → IsReread s u
+  fetched_twice s t u first head order slots still = IsReread-trans s t u first (record { head = head; order = order; slots = slots; loaded = still })
+
+  -- what is sure was sure before
+  pub sure_then : (s t : TraceStore T) → IsReread s t → IsSure t.loaded.standing → IsSure s.loaded.standing
+  sure_then s t reread sure = sure_before s.loaded.standing t.loaded.standing reread.loaded.standing sure
+
+-- a call goes on over the same bytes
+pub comes_over : (old new : Option (List ℕ)) (file loaded : List ℕ) (from to : Waiting) (xs ys : List ℕ) → loaded ≡ file → xs ≡ ys → Comes old new (progress loaded from) (progress loaded to) xs → Comes old new (progress file from) (progress file to) ys
+comes_over old new file loaded from to xs ys e same f = subst (λ (b : List ℕ). Comes old new (progress b from) (progress b to) ys) e (same_come old new (progress loaded from) (progress loaded to) xs ys same f)
+
+pub stops_over : (old new : Option (List ℕ)) (file loaded : List ℕ) (from : Waiting) (xs ys : List ℕ) (fault : SaveFault) → loaded ≡ file → xs ≡ ys → Stops old new (progress loaded from) xs fault → Stops old new (progress file from) ys fault
+stops_over old new file loaded from xs ys fault e same f = subst (λ (b : List ℕ). Stops old new (progress b from) ys fault) e (subst (λ (x : List ℕ). Stops old new (progress loaded from) x fault) same f)
+
+pub goes_over : {T : Type 0} (r : Result T SaveFault) (old new : Option (List ℕ)) (file loaded : List ℕ) (from to : Waiting) (xs ys : List ℕ) → loaded ≡ file → xs ≡ ys
+    → GoesOn old new (progress loaded from) (progress loaded to) xs r → GoesOn old new (progress file from) (progress file to) ys r
+goes_over r old new file loaded from to xs ys e same f = subst (λ (b : List ℕ). GoesOn old new (progress b from) (progress b to) ys r) e (same_bytes r old new (progress loaded from) (progress loaded to) xs ys same f)
+
+-- a call that was refused as the one in it
+pub refused_as : {T : Type 0} (r : Result T SaveFault) (fault : SaveFault) (old new : Option (List ℕ)) (from to : Progress) (bytes : List ℕ) → r ≡ Err fault → Stops old new from bytes fault → GoesOn old new from to bytes r
+refused_as r fault old new from to bytes e f start all h = rw e (f start all h)
+
+-- a read that failed where something is left
+pub stops_here : (old : Option (List ℕ)) (at : Progress) (bytes : List ℕ) (fault : SaveFault) → fault.written ≡ at.written → 0 < length at.waits + length bytes → Stops old old at bytes fault
+stops_here old at bytes fault e some start all h =
+    let n : fault.written ≡ length h.taken = e ∙ h.counted in
+    let whole : all ++ bytes ≡ h.taken ++ (at.waits ++ bytes) = ap (λ (s : List ℕ). s ++ bytes) (sym h.joined) ∙ append_assoc h.taken at.waits bytes in
+    let cut : take fault.written (all ++ bytes) ≡ h.taken =
+    ap (λ (s : List ℕ). take fault.written s) whole ∙ take-append-le fault.written h.taken (at.waits ++ bytes) (omega (arith, n)) ∙ take_all fault.written h.taken (omega (arith, n)) in
+    rw cut (h.appended, omega (arith, n, some, ap (λ (s : List ℕ). length s) whole, length-append h.taken (at.waits ++ bytes), length-append at.waits bytes))
+
+-- a read fails on disk alone
+pub read_refused : {T : Type 0} (r : Result T SaveFault) (fault : SaveFault) (old new : Standing) → r ≡ Err fault → Falls old new → (IsSome fault.read → IsTrue (is_on_disk new)) → IfErr r (λ fault. IsSome fault.read → IsTrue (is_on_disk old))
+read_refused r fault old new e falls h = rw e (λ some. subst IsTrue (on_disk_stays old new falls) (h some))
+
+pub read_over : {T : Type 0} (r : Result T SaveFault) (old new : Standing) → Falls old new → IfErr r (λ fault. IsSome fault.read → IsTrue (is_on_disk new)) → IfErr r (λ fault. IsSome fault.read → IsTrue (is_on_disk old))
+read_over (Ok x) old new falls h = tt
+read_over (Err fault) old new falls h = λ some. subst IsTrue (on_disk_stays old new falls) (h some)
+
+never : false ≡ true → ⊥
+never e = cc
+
+-- and the writer no read
+pub no_read : (fault : SaveFault) (b : Bool) → fault.read ≡ None → IsSome fault.read → IsTrue b
+no_read fault b none some = absurd (never (sym (ap is_some none) ∙ some))
+
+pub no_reads : {T : Type 0} (r : Result T SaveFault) (b : Bool) → IfErr r (λ fault. fault.read ≡ None) → IfErr r (λ fault. IsSome fault.read → IsTrue b)
+no_reads (Ok x) b h = tt
+no_reads (Err fault) b h = no_read fault b h
+
+-- ---- a range of the loaded bytes
+
+-- a range waits behind what waited and is written
+pub then_waits : (old new : Option (List ℕ)) (from : Progress) (loaded : List ℕ) (w : Waiting) (a b : ℕ) → w.from ≡ w.to → Comes old new from (progress loaded w) []
+    → Comes old new from (record { written = w.written; waits = slice_range loaded a b }) (slice_range loaded a b)
+then_waits old new from loaded w a b e f start all h =
+    let come = f start all h in
+    let taken : come.taken ≡ all = sym (append-nil come.taken) ∙ ap (λ (s : List ℕ). come.taken ++ s) (sym (empty_waits loaded w e)) ∙ come.joined ∙ append-nil all in
+    record { taken = come.taken; appended = come.appended; joined = ap (λ (s : List ℕ). s ++ slice_range loaded a b) taken; counted = come.counted }
+
+-- the range of an extent is its trace
+pub range_trace : (file : List ℕ) (e : Extent) (t : List ℕ) → bytes_at file e ≡ t → slice_range file e.start (e.start + e.length) ≡ t
+range_trace file e t is = let n : e.start + e.length - e.start ≡ e.length = omega arith in ap (λ (k : ℕ). take k (drop e.start file)) n ∙ is
+
+pub range-length : (file : List ℕ) (e : Extent) (t : List ℕ) → e.start + e.length ≤ length file → bytes_at file e ≡ t → length t ≡ e.length
+range-length file e t inside is = omega (arith, inside, ap (λ (s : List ℕ). length s) is, length-take e.length (drop e.start file), length-drop e.start file)
+
+-- ---- a piece of what waits
+
+-- the first of the bytes that wait are a range
+piece_range : (file piece : List ℕ) (from n : ℕ) → piece ≡ take n (drop from file) → piece ≡ slice_range file from (from + n)
+piece_range file piece from n e = let same : n ≡ from + n - from = omega arith in e ∙ ap (λ (k : ℕ). take k (drop from file)) same
+
+-- they stand in front of the others
+piece_joined : (taken piece file all : List ℕ) (w : Waiting) (n : ℕ) → piece ≡ take n (drop w.from file) → w.from + n ≤ w.to → taken ++ slice_range file w.from w.to ≡ all → (taken ++ piece) ++ slice_range file (w.from + n) w.to ≡ all
+piece_joined taken piece file all w n is l joined =
+    append_assoc taken piece (slice_range file (w.from + n) w.to)
+    ∙ ap (λ (s : List ℕ). taken ++ (s ++ slice_range file (w.from + n) w.to)) (piece_range file piece w.from n is)
+    ∙ ap (λ (s : List ℕ). taken ++ s) (range_joined file w.from (w.from + n) w.to (omega arith) l)
+    ∙ joined
+
+-- nothing waits in front of them
+in_front : (start now : Option (List ℕ)) (at : Progress) (all : List ℕ) (h : HasCome start now at all) → HasCome start now (record { written = at.written; waits = [] }) h.taken
+in_front start now at all h = record { taken = h.taken; appended = h.appended; joined = append-nil h.taken; counted = h.counted }
+
+pub piece_written : (old new : Option (List ℕ)) (file piece : List ℕ) (w v : Waiting) (n : ℕ) → piece ≡ take n (drop w.from file) → w.from + n ≤ w.to → v.from ≡ w.from + n → v.to ≡ w.to
+    → Comes old new (record { written = w.written; waits = [] }) (record { written = v.written; waits = [] }) piece → Comes old new (progress file w) (progress file v) []
+piece_written old new file piece w v n is l from to f start all h =
+    let come = f start h.taken (in_front start old (progress file w) all h) in
+    let taken : come.taken ≡ h.taken ++ piece = sym (append-nil come.taken) ∙ come.joined in
+    record {
+      taken = come.taken;
+      appended = come.appended;
+      joined = rw (taken, from, to, append-nil all) (piece_joined h.taken piece file all w n is l h.joined);
+      counted = come.counted;
+    }
+
+pub piece_refused : (old new : Option (List ℕ)) (file piece : List ℕ) (w : Waiting) (n : ℕ) (fault : SaveFault) → piece ≡ take n (drop w.from file) → w.from + n ≤ w.to
+    → Stops old new (record { written = w.written; waits = [] }) piece fault → Stops old new (progress file w) [] fault
+piece_refused old new file piece w n fault is l f start all h =
+    let stop = f start h.taken (in_front start old (progress file w) all h) in
+    let rest : List ℕ = slice_range file (w.from + n) w.to in
+    let whole : (h.taken ++ piece) ++ rest ≡ all ++ [] = piece_joined h.taken piece file all w n is l h.joined ∙ sym (append-nil all) in
+    let cut : take fault.written ((h.taken ++ piece) ++ rest) ≡ take fault.written (h.taken ++ piece) = take-append-le fault.written (h.taken ++ piece) rest (omega (arith, stop.1)) in
+    rw (← whole) (rw cut stop.0, omega (arith, stop.1, length-append (h.taken ++ piece) rest))
 
 -- ---- a whole save
 
@@ -200,13 +326,20 @@ ended_save (Ok done) old mid new at end xs all e f g empty =
 ended_save (Err fault) old mid new at end xs all e f g empty = rw (← e) (rw (append-nil xs) at (g old xs (f old [] (at_front old))))
 
 -- the first range that waits
-pub waits_first : (old : Option (List ℕ)) (loaded : List ℕ) (w : Waiting) → Comes old old (record { written = w.written; waits = [] }) (progress loaded w) (slice_range loaded w.from w.to)
+waits_first : (old : Option (List ℕ)) (loaded : List ℕ) (w : Waiting) → Comes old old (record { written = w.written; waits = [] }) (progress loaded w) (slice_range loaded w.from w.to)
 waits_first old loaded w start all come = record {
   taken = come.taken;
   appended = come.appended;
   joined = ap (λ (s : List ℕ). s ++ slice_range loaded w.from w.to) (sym (append-nil come.taken) ∙ come.joined);
   counted = come.counted;
 }
+
+-- both headers are written, and the blocks wait
+pub headers_come : (old mid new : Option (List ℕ)) (text bin file : List ℕ) (n : ℕ) (w : Waiting) → Comes old mid begin (record { written = n; waits = [] }) text → Comes mid new (record { written = n; waits = [] }) (record { written = w.written; waits = [] }) bin
+    → Comes old new begin (progress file w) ((text ++ bin) ++ slice_range file w.from w.to)
+headers_come old mid new text bin file n w f g =
+    let at : Progress = record { written = w.written; waits = [] } in
+    comes_on old new new begin at (progress file w) (text ++ bin) (slice_range file w.from w.to) (comes_on old mid new begin (record { written = n; waits = [] }) at text bin f g) (waits_first new file w)
 
 -- the parts of a save are the bytes of the volume
 module _ {T : Type 0} where
@@ -218,6 +351,43 @@ module _ {T : Type 0} where
       let front : s.head.traces_at - 3600 ≡ 3200 * s.head.blocks = omega (arith, ends.front) in
       let back : length file - tail ≡ 3200 * s.head.trailer = omega (arith, ends.whole) in
       rw (front, back, ← concat-blocks_of s.head.blocks (drop 3600 file), ← concat-blocks_of s.head.trailer (drop tail file)) refl
+
+-- how long they are together, and the first of them
+module _ {T : Type 0} (text bin : List ℕ) (s : TraceStore T) (ends : HasEnds s) where
+  pub parts-length : length (bytes_of (volume_with text bin s)) ≡ length text + length bin + (s.head.traces_at - 3600) + length (concat (traces_of s)) + 3200 * s.head.trailer
+  parts-length =
+      let file : List ℕ = s.loaded.bytes in
+      let tail : ℕ = length file - 3200 * s.head.trailer in
+      let front : List ℕ = slice_range file 3600 s.head.traces_at in
+      let back : List ℕ = slice_range file tail (length file) in
+      omega (
+        arith,
+        ends.whole,
+        ends.front,
+        ap (λ (x : List ℕ). length x) (parts_joined text bin s ends),
+        length-append (((text ++ bin) ++ front) ++ concat (traces_of s)) back,
+        length-append ((text ++ bin) ++ front) (concat (traces_of s)),
+        length-append (text ++ bin) front,
+        length-append text bin,
+        length-take (s.head.traces_at - 3600) (drop 3600 file),
+        length-drop 3600 file,
+        length-take (length file - tail) (drop tail file),
+        length-drop tail file,
+      )
+
+  pub front_all : IsFront ((((text ++ bin) ++ slice_range s.loaded.bytes 3600 s.head.traces_at) ++ concat (traces_of s)) ++ slice_range s.loaded.bytes (length s.loaded.bytes - 3200 * s.head.trailer) (length s.loaded.bytes)) (bytes_of (volume_with text bin s))
+  front_all = ([], append-nil _ ∙ parts_joined text bin s ends)
+
+  pub front_traces : IsFront (((text ++ bin) ++ slice_range s.loaded.bytes 3600 s.head.traces_at) ++ concat (traces_of s)) (bytes_of (volume_with text bin s))
+  front_traces = shorter_front (((text ++ bin) ++ slice_range s.loaded.bytes 3600 s.head.traces_at) ++ concat (traces_of s)) (slice_range s.loaded.bytes (length s.loaded.bytes - 3200 * s.head.trailer) (length s.loaded.bytes)) (bytes_of (volume_with text bin s)) front_all
+
+  pub front_headers : IsFront (text ++ bin) (bytes_of (volume_with text bin s))
+  front_headers =
+      let front : List ℕ = slice_range s.loaded.bytes 3600 s.head.traces_at in
+      shorter_front (text ++ bin) front (bytes_of (volume_with text bin s)) (shorter_front ((text ++ bin) ++ front) (concat (traces_of s)) (bytes_of (volume_with text bin s)) front_traces)
+
+  pub front_text : IsFront text (bytes_of (volume_with text bin s))
+  front_text = shorter_front text bin (bytes_of (volume_with text bin s)) front_headers
 
 pub on_ok : {T E A B : Type 0} (r : Result T E) → (A → B) → OnOk r A → OnOk r B
 on_ok (Ok x) f a = f a

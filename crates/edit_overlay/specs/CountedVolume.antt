@@ -1,40 +1,32 @@
--- What an overlay shows: a volume, what it would be with a prepared edit, and how often its traces were looked at.
-use Rattle.std.specs.Prelude.{ℕ, ◌≡◌, ◌+◌, ◌-◌, ◌≤◌, ◌^◌, List, min, nat_lt, if◌then◌else◌}
+-- What an overlay shows: a volume, what it would be with a prepared edit, how often its traces were looked at, where its
+-- loaded bytes are, and whether they stand.
+use Rattle.std.specs.Prelude.{ℕ, ◌≡◌, ◌+◌, ◌-◌, ◌≤◌, ◌^◌, Bool, IsTrue, List, length, nat_lt, if◌then◌else◌}
 use Rattle.frame_cut.specs.Traces.{trace_at}
 use Rattle.frame_cut.specs.Volume.{Volume}
 use Rattle.trace_view.specs.declared.view.TraceView.{TraceView}
 use Rattle.trace_view.specs.Shown.{head_of, bytes_of}
 
 -- a volume and the payload of each of its traces, both as they would be with the edit that is prepared (the same where
--- none is), and how often traces were looked at
+-- none is), how often traces were looked at, whether the loaded bytes are on disk, and whether each read of them since the
+-- load gave the bytes that the load read: in memory it does
 pub record CountedVolume (T : Type 0) : Type 0 where
   pub volume : Volume
   pub prepared : Volume
   pub looks : ℕ
   pub payloads : List T
   pub payloads_prepared : List T
+  pub on_disk : Bool
+  pub agreed : Bool
 
 -- the count of looks after one more; it stays at `u64::MAX` once there
 abbrev pub one_more : ℕ → ℕ
 one_more n = if nat_lt n (2 ^ 64 - 1) then n + 1 else n
-
--- the count of looks after n more; it stays at `u64::MAX` once there
-abbrev pub more_looks : ℕ → ℕ → ℕ
-more_looks looks n = looks + min n (2 ^ 64 - 1 - looks)
 
 -- a count of looks is not less than it was, and so many more at most
 abbrev pub RisesAtMost : ℕ → ℕ → ℕ → Type 0
 RisesAtMost old new n = (old ≤ new) × (new ≤ old + n)
 
 module _ {T : Type 0} where
-  -- the same volume after one more look
-  abbrev pub with_one_look : CountedVolume T → CountedVolume T
-  with_one_look o = record o { looks = one_more o.looks }
-
-  -- the same volume after n more looks
-  abbrev pub with_more_looks : CountedVolume T → ℕ → CountedVolume T
-  with_more_looks o n = record o { looks = more_looks o.looks n }
-
   -- the same number of looks at another volume with these payloads, for which nothing is prepared
   abbrev pub with_table : CountedVolume T → Volume → List T → CountedVolume T
   with_table o v ps = record o { volume = v; prepared = v; payloads = ps; payloads_prepared = ps }
@@ -51,6 +43,28 @@ module _ {T : Type 0} where
   abbrev pub with_prepared : CountedVolume T → Volume → CountedVolume T
   with_prepared o v = with_table_prepared o v o.payloads
 
+  -- the same where each read so far agreed, or not
+  abbrev pub with_agreed : CountedVolume T → Bool → CountedVolume T
+  with_agreed o agreed = record o { agreed = agreed }
+
+  -- the same after one more look, where each read so far agreed, or not
+  abbrev pub after_look : CountedVolume T → Bool → CountedVolume T
+  after_look o agreed = record o { looks = one_more o.looks; agreed = agreed }
+
+-- the same volume and payloads after so many looks more at most; what did not agree does not agree now
+pub record IsSeen {T : Type 0} (old new : CountedVolume T) (n : ℕ) : Type 0 where
+  pub volume : new.volume ≡ old.volume
+  pub prepared : new.prepared ≡ old.prepared
+  pub payloads : new.payloads ≡ old.payloads
+  pub payloads_prepared : new.payloads_prepared ≡ old.payloads_prepared
+  pub on_disk : new.on_disk ≡ old.on_disk
+  pub looks : RisesAtMost old.looks new.looks n
+  pub agreed : IsTrue new.agreed → IsTrue old.agreed
+
 -- the view shows trace p of the volume
 abbrev pub IsViewOf : Volume → ℕ → TraceView → Type 0
 IsViewOf v p view = (head_of view ≡ v.head) × (bytes_of view ≡ trace_at v p)
+
+-- the view has the head and the length of trace p of the volume
+abbrev pub HasShapeOf : Volume → ℕ → TraceView → Type 0
+HasShapeOf v p view = (head_of view ≡ v.head) × (length (bytes_of view) ≡ length (trace_at v p))

@@ -1,11 +1,14 @@
 -- How an overlay holds a volume: its headers beside the loaded file, and the traces over it.
-use Rattle.std.specs.Prelude.{◌≡◌, ◌+◌, ◌-◌, ◌*◌, ◌≤◌, List, ℕ, length, drop, Option}
+use Rattle.std.specs.Prelude.{◌≡◌, ◌+◌, ◌-◌, ◌*◌, ◌≤◌, List, ℕ, length, drop, Option, Some, None}
+use Rattle.base_file.specs.HeldBytes.{IsStill}
 use Rattle.text_block.specs.declared.block.TheConstants.{TEXT_BLOCK_BYTES}
 use Rattle.frame_cut.specs.declared.sizes.TheConstants.{BINARY_HEADER_BYTES, FILE_HEADER_BYTES}
 use Rattle.frame_cut.specs.Heads.{blocks_of}
 use Rattle.frame_cut.specs.Volume.{Volume, bytes_of}
 use Rattle.trace_store.specs.Ahead.{traces_ahead, IsReadyIfSome}
 use Rattle.edit_overlay.specs.CountedVolume.{CountedVolume}
+use Rattle.edit_overlay.specs.Standings.{is_on_disk, is_sure}
+use Rattle.trace_store.specs.Fetched.{IsFetched, IsFetchedThen}
 use Rattle.trace_store.specs.declared.prepared.Prepared.{Prepared}
 use Rattle.trace_store.specs.Stores.{payloads_ahead, payloads_of, traces_of}
 use Rattle.trace_store.specs.declared.store.TraceStore.{TraceStore}
@@ -29,22 +32,39 @@ volume_ahead text bin s prepared = record (volume_with text bin s) { traces = tr
 -- what an overlay shows
 abbrev pub looked_of : {T : Type 0} → Inside T → CountedVolume T
 looked_of o = record {
-  volume = volume_with o.text o.bin o.store;
-  prepared = volume_ahead o.text o.bin o.store o.prepared;
+  volume = volume_with o.text o.bin o.laid.store;
+  prepared = volume_ahead o.text o.bin o.laid.store o.laid.prepared;
   looks = o.looks;
-  payloads = payloads_of o.store;
-  payloads_prepared = payloads_ahead (payloads_of o.store) o.prepared;
+  payloads = payloads_of o.laid.store;
+  payloads_prepared = payloads_ahead (payloads_of o.laid.store) o.laid.prepared;
+  on_disk = is_on_disk o.laid.store.loaded.standing;
+  agreed = is_sure o.laid.store.loaded.standing;
 }
 
--- the loaded file has the blocks in front of its traces, and the data trailer records behind them
+-- the loaded file has the blocks in front of its traces, and the data trailer records behind them; the bytes in front of
+-- the traces are among the first that are kept, and those of the records among the last
 pub record HasEnds {T : Type 0} (s : TraceStore T) : Type 0 where
   pub front : s.head.traces_at ≡ FILE_HEADER_BYTES + TEXT_BLOCK_BYTES * s.head.blocks
   pub whole : s.head.traces_at + TEXT_BLOCK_BYTES * s.head.trailer ≤ length s.loaded.bytes
+  pub front_kept : s.head.traces_at ≤ s.loaded.front
+  pub back_kept : TEXT_BLOCK_BYTES * s.head.trailer ≤ s.loaded.back
+
+-- the same store, whose loaded bytes were read again: they stand as they did, or have fallen
+pub record IsReread {T : Type 0} (old new : TraceStore T) : Type 0 where
+  pub head : new.head ≡ old.head
+  pub order : new.order ≡ old.order
+  pub slots : new.slots ≡ old.slots
+  pub loaded : IsStill old.loaded new.loaded
 
 -- what holds of an overlay between two calls
 pub record IsHeld {T : Type 0} (o : Inside T) : Type 0 where
-  pub ends : HasEnds o.store
+  pub ends : HasEnds o.laid.store
   pub text : length o.text ≡ TEXT_BLOCK_BYTES
   pub bin : length o.bin ≡ BINARY_HEADER_BYTES
-  pub prepared : IsReadyIfSome o.store o.prepared
-  pub length : o.length ≡ length (bytes_of (volume_with o.text o.bin o.store))
+  pub prepared : IsReadyIfSome o.laid.store o.laid.prepared
+  pub length : o.length ≡ length (bytes_of (volume_with o.text o.bin o.laid.store))
+
+-- what is lent shows a whole trace: trace p as it would be, where something may be prepared or nothing
+abbrev pub IsFetchedAhead : {T : Type 0} → TraceStore T → ℕ → Option Prepared → Type 0
+IsFetchedAhead s p None = IsFetched s p
+IsFetchedAhead s p (Some prepared) = IsFetchedThen s p prepared

@@ -5,4 +5,7 @@ pub mod HeldLoading
 pub mod CountedVolume
 pub mod LoadedVolume
 pub mod Looks
-pub mod Passes
+pub mod Standings
+pub mod PassedFile
+pub mod Passing
+pub mod PassReads

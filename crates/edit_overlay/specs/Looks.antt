@@ -1,21 +1,30 @@
--- What an overlay, or a file that is being loaded, is once a view of one of its traces, or a pass over all, has ended.
-use Rattle.std.specs.Prelude.{◌≡◌, ⊤, Option, MatchOption}
+-- What an overlay, or a file that is being loaded, is once a view of one of its traces has ended.
+use Rattle.std.specs.Prelude.{ℕ, ◌≡◌, ⊤, IsTrue, Option, MatchOption, Result, MatchResult}
 use Rattle.std.specs.Borrow.{Fml, MutBor, RattleType, follows_so}
 use mathlib.Core.Option.{none}
-use Rattle.frame_cut.specs.Traces.{count_of}
+use Rattle.base_file.specs.declared.read_fault.ReadFault.{ReadFault}
+use Rattle.frame_cut.specs.Volume.{Volume}
 use Rattle.trace_view.specs.declared.view.TraceView.{TraceView}
-use Rattle.edit_overlay.specs.CountedVolume.{CountedVolume, with_one_look, with_more_looks}
+use Rattle.edit_overlay.specs.CountedVolume.{CountedVolume, after_look, IsViewOf}
 use Rattle.edit_overlay.specs.LoadedVolume.{LoadedVolume, with_next_look}
 use Rattle.edit_overlay.specs.contracts.loading.Loading as loading
 use Rattle.edit_overlay.specs.contracts.overlay.Overlay.{the_row}
 
--- it is as before, but for one look more where there was a view
-abbrev pub EndsLooked : (T : RattleType) → MutBor (CountedVolume T.Denot) → Option TraceView → Fml
-EndsLooked T o view = follows_so (the_row T) (the_row T) o.ghost_name none (λ _ _. ⊤) (λ last. MatchOption view (last ≡ o.now) (λ _. last ≡ with_one_look o.now))
+-- it is as before, but for one look more; what did not agree does not agree now
+pub record HasLooked {T : Type 0} (old last : CountedVolume T) : Type 0 where
+  pub looked : last ≡ after_look old last.agreed
+  pub agreed : IsTrue last.agreed → IsTrue old.agreed
 
--- it is as before, but for as many looks more as there are traces
-abbrev pub EndsPassed : (T : RattleType) → MutBor (CountedVolume T.Denot) → Fml
-EndsPassed T o = follows_so (the_row T) (the_row T) o.ghost_name none (λ _ _. ⊤) (λ last. last ≡ with_more_looks o.now (count_of o.now.volume))
+-- the same, and if each read so far agrees, the view was of trace p of this volume
+pub record HasShown {T : Type 0} (old last : CountedVolume T) (of : Volume) (p : ℕ) (view : TraceView) : Type 0 where
+  pub looked : last ≡ after_look old last.agreed
+  pub agreed : IsTrue last.agreed → IsTrue old.agreed
+  pub trace : IsTrue last.agreed → IsViewOf of p view
+
+-- it is as before where there was no trace p; else there was one look more, whether the view was shown or a read failed
+abbrev pub EndsLooked : (T : RattleType) → MutBor (CountedVolume T.Denot) → Volume → ℕ → Result (Option TraceView) ReadFault → Fml
+EndsLooked T o of p result = follows_so (the_row T) (the_row T) o.ghost_name none (λ _ _. ⊤) (λ last.
+    MatchResult result (λ view. MatchOption view (last ≡ o.now) (HasShown o.now last of p)) (λ _. HasLooked o.now last))
 
 -- the file that is being loaded is as before, but for one look more where there was a view
 abbrev pub EndsSeen : (T : RattleType) → MutBor (LoadedVolume T.Denot) → Option TraceView → Fml

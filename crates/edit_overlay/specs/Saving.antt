@@ -1,5 +1,6 @@
 -- What a save does to a writer.
-use Rattle.std.specs.Prelude.{ℕ, ◌≡◌, ◌<◌, List, ◌++◌, length, take, slice_range, Option, Result, MatchResult}
+use Rattle.std.specs.Prelude.{ℕ, ◌≡◌, ◌<◌, List, ◌++◌, length, take, slice_range, Option, Result, MatchOption, MatchResult}
+use Rattle.device_io.specs.Failures.{one_more}
 use Rattle.std.specs.Io.KnownBytes.{Appends}
 use Rattle.edit_overlay.specs.declared.save_fault.SaveFault.{SaveFault}
 use Rattle.edit_overlay.specs.declared.waiting.Waiting.{Waiting}
@@ -8,6 +9,11 @@ use Rattle.edit_overlay.specs.declared.waiting.Waiting.{Waiting}
 abbrev pub Saves : {T : Type 0} → Option (List ℕ) → Option (List ℕ) → List ℕ → Result T SaveFault → Type 0
 Saves old new bytes result =
     MatchResult result (λ _. Appends old new bytes) (λ fault. Appends old new (take fault.written bytes) × (fault.written < length bytes))
+
+-- a save counts a failure of the writer where the writer failed, and none where all went well or the loaded bytes could
+-- not be read
+abbrev pub CountsSaveFailure : {T : Type 0} → Result T SaveFault → ℕ → ℕ → Type 0
+CountsSaveFailure result old new = MatchResult result (λ _. new ≡ old) (λ fault. MatchOption fault.read (new ≡ one_more old) (λ _. new ≡ old))
 
 -- how far a save has come: how many bytes the writer took, and bytes that wait to be written
 pub record Progress : Type 0 where

@@ -6,18 +6,20 @@
 //! number of looks at them, and beside parts and payloads as they are those that they would be with
 //! the edit that is prepared. Traces count from 1, bytes of a trace from 0.
 //!
-//! The loaded bytes stand in memory and never change. The traces stand in a `TraceStore`. A
-//! save writes the parts one behind the other, neighbouring ranges of the loaded bytes at once, and
-//! joins nothing in memory.
+//! The loaded bytes never change, in memory or on disk. The traces stand in a `TraceStore`. A save
+//! writes the parts one behind the other, neighbouring ranges of the loaded bytes together, by
+//! pieces as long as can be lent at once, and joins nothing in memory.
 //!
 //! A file comes in as a [`Loading`], which shows its traces one after another and takes a payload
-//! for each; once each has one, it is an overlay.
+//! for each; once each has one, it is an overlay. A [`Passing`] does so with a file that stays on
+//! disk, in one pass over it, by blocks.
 //!
 //! `load` takes memory for the file's bytes, and like `from_bytes` for a slot for each trace;
 //! `push` for the trace's place in the order; `put` and `put_each`, and what prepares them, for the
 //! runs of the traces that they change; `insert` for one slot and for room in the order, `move_to`
 //! and `prepare_move` for room in the order. Each of them may be refused for want of memory, and
-//! then nothing is changed. No other call takes any.
+//! then nothing is changed. The calls of a [`Passing`] take memory for the longest part of the file
+//! that is shown at once, and for the table of its traces. No other call takes any.
 //!
 //! A put or a move has two parts for a caller that has to show its outcome first, or to take memory
 //! elsewhere too: `prepare_put`, `prepare_put_each` and `prepare_move` take all the memory and
@@ -25,15 +27,20 @@
 //! makes the edit, as `commit_with`, which gives a trace its payload too; `discard` drops it. An
 //! overlay holds one such edit at a time, and any other edit drops it.
 //!
-//! `look` and `look_prepared` show a trace in the pieces in which it is held; `pass_near` shows all
-//! of them with their payloads in order. Looks are counted: contracts can say how often traces were
-//! read. Payloads are no look.
+//! `look` and `look_prepared` show a trace in the pieces in which it is held. Looks are counted:
+//! contracts can say how often traces were read. Payloads are no look.
+//!
+//! What is claimed of a trace's bytes is claimed where each read since the load gave the bytes that
+//! the load read (`standing`); lengths, counts and what stays as it was, in any case. Of bytes in
+//! memory nothing is open: they are sure, and no read of them is refused.
 #![tactic(auto)]
 
 mod bytes;
+mod laid;
 mod loading;
 mod overlay;
-mod pass;
+mod pass_reads;
+mod passing;
 mod reading_in;
 mod save_fault;
 mod waiting;
@@ -41,6 +48,7 @@ mod writing_out;
 
 pub use crate::loading::Loading;
 pub use crate::overlay::Overlay;
-pub use crate::pass::Pass;
+pub use crate::passing::Passing;
 pub use crate::save_fault::SaveFault;
-pub use trace_store::{Column, OutOfMemory, Payloads, Rows};
+pub use base_file::ReadFault;
+pub use trace_store::{Column, OutOfMemory, Payloads};

@@ -1,5 +1,5 @@
 // A file that is being loaded.
-ghost use Rattle.std.specs.Prelude.{◌≡◌, ◌⊎◌, ◌↔◌, ◌+◌, ◌<◌, ◌≤◌, [], length, IfOk, IfErr, IfSome, IsSome, OnOk, OnErr, MatchResult};
+ghost use Rattle.std.specs.Prelude.{◌≡◌, ◌⊎◌, ◌↔◌, ◌+◌, ◌<◌, ◌≤◌, false, [], length, IfOk, IfErr, IfSome, IsSome, IsTrue, OnOk, OnErr, MatchResult};
 ghost use Rattle.std.specs.Borrow.{sem};
 ghost use Rattle.std.specs.Io.KnownBytes.{Consumes, IsAtEnd};
 ghost use Rattle.frame_cut.specs.Cuts.{IsCut, IsRefused};
@@ -63,6 +63,8 @@ impl<T: Copy> Loading<T> {
         ensures cut { IfOk result (λ l. IsCut (bytes_of l.volume) reading limits l.volume) }
         ensures payloads { IfOk result (λ l. l.payloads ≡ []) }
         ensures looks { IfOk result (λ l. l.looks ≡ 0) }
+        ensures memory { IfOk result (λ l. l.on_disk ≡ false) }
+        ensures agreed { IfOk result (λ l. IsTrue l.agreed) }
         ensures refused { IfErr result (λ fault. IsLoadFault (R.remaining reader.old.inner) reading
             limits fault) }
         ensures read { IfErr result (λ _. TakesWithin (R.remaining reader.old.inner)
@@ -86,6 +88,8 @@ impl<T: Copy> Loading<T> {
         ensures cut { IfOk result (λ l. IsCut bytes.items reading limits l.volume) }
         ensures payloads { IfOk result (λ l. l.payloads ≡ []) }
         ensures looks { IfOk result (λ l. l.looks ≡ 0) }
+        ensures memory { IfOk result (λ l. l.on_disk ≡ false) }
+        ensures agreed { IfOk result (λ l. IsTrue l.agreed) }
         ensures refused { IfErr result (λ fault. (fault ≡ no_memory) ⊎
             IsRefused bytes.items reading limits fault) }
     {

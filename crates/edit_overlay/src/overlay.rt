@@ -1,6 +1,5 @@
-ghost use Rattle.std.specs.Prelude.{ℕ, ◌≡◌, ◌⊎◌, ◌↔◌, ◌+◌, ◌-◌, ◌/◌, ◌%◌, ◌≤◌, ◌<◌, ◌^◌, [], length, slice_index_or, option_map, slice_get, slice_set, map, Some, IfOk, IfErr, IfSome, IsSome, IsTrue, OnOk, OnErr, MatchResult};
+ghost use Rattle.std.specs.Prelude.{ℕ, ◌≡◌, ◌⊎◌, ◌↔◌, ◌+◌, ◌-◌, ◌/◌, ◌%◌, ◌≤◌, ◌<◌, ◌^◌, false, [], length, slice_index_or, option_map, slice_get, slice_set, map, Some, IfOk, IfErr, IfSome, IsSome, IsTrue, OnOk, OnErr, MatchResult};
 ghost use Rattle.std.specs.Borrow.{sem};
-ghost use Rattle.device_io.specs.Failures.{CountsFailure};
 ghost use Rattle.frame_cut.specs.Cuts.{IsTrace};
 ghost use Rattle.frame_cut.specs.Splice.{splice};
 ghost use Rattle.frame_cut.specs.Traces.{count_of, is_trace, trace_at, with_trace};
@@ -11,19 +10,20 @@ ghost use Rattle.trace_store.specs.Stores.{payloads_moved, payloads_of};
 ghost use Rattle.trace_store.specs.Swapped.{with_places_swapped, with_swapped, ArePlaces};
 ghost use Rattle.std.specs.List.{insert, remove};
 ghost use Rattle.frame_cut.specs.Parts.{block_of, trailer_of, with_line, with_header_bytes, with_each, with_inserted, without, with_moved};
-ghost use Rattle.edit_overlay.specs.Saving.{Saves};
+ghost use Rattle.edit_overlay.specs.Saving.{CountsSaveFailure, Saves};
 
 use crate::bytes::{array_at, overwrite};
-use crate::pass::Pass;
+use crate::laid::Laid;
 use crate::save_fault::SaveFault;
 use crate::writing_out::write_volume;
+use base_file::ReadFault;
 use device_io::Sink;
 use frame_cut::{BINARY_HEADER_BYTES, FILE_HEADER_BYTES, Head};
 use std::alloc::Global;
 use std::io::Write;
 use std::marker::Model;
 use text_block::TEXT_BLOCK_BYTES;
-use trace_store::{Base, Column, OutOfMemory, Prepared, Rows, TraceStore};
+use trace_store::{Base, Column, OutOfMemory, TraceStore};
 use trace_view::TraceView;
 
 /// A volume under edits: one SEG-Y file in its parts. The bytes that were loaded never change:
@@ -32,8 +32,7 @@ use trace_view::TraceView;
 pub struct Overlay<T: Copy> {
     text: [u8; TEXT_BLOCK_BYTES],
     bin: [u8; BINARY_HEADER_BYTES],
-    store: TraceStore<T>,
-    prepared: Option<Prepared>,
+    laid: Laid<T>,
     length: u64,
     looks: u64,
 }
@@ -51,10 +50,10 @@ impl<T: Copy> Model for Overlay<T> {
 }
 
 impl<T: Copy> Overlay<T> {
-    ghost use Rattle.edit_overlay.specs.CountedVolume.{IsViewOf};
+    ghost use Rattle.edit_overlay.specs.CountedVolume.{after_look, with_agreed, HasShapeOf, IsViewOf};
     ghost use Rattle.edit_overlay.specs.Held.{volume_with, HasEnds};
-    ghost use Rattle.edit_overlay.specs.Looks.{EndsLooked, EndsPassed};
-    ghost use Rattle.edit_overlay.specs.Passes.{volume_of, payloads_of as payloads_of_pass, rows_of};
+    ghost use Rattle.edit_overlay.specs.Looks.{EndsLooked};
+    ghost use Rattle.edit_overlay.specs.Standings.{is_on_disk, is_sure};
 
     // An overlay of the store of a loaded file, with its headers, and how often traces were looked
     // at.
@@ -73,14 +72,18 @@ impl<T: Copy> Overlay<T> {
           looks = looks;
           payloads = payloads_of store;
           payloads_prepared = payloads_of store;
+          on_disk = is_on_disk store.loaded.standing;
+          agreed = is_sure store.loaded.standing;
         } }
     {
         let length = store.loaded.length();
         Overlay {
             text,
             bin,
-            store,
-            prepared: None,
+            laid: Laid {
+                store,
+                prepared: None,
+            },
             length,
             looks,
         }
@@ -90,14 +93,14 @@ impl<T: Copy> Overlay<T> {
     pub fn head(&self) -> Head
         ensures { result ≡ self.now.volume.head }
     {
-        self.store.head
+        self.laid.store.head
     }
 
     /// The number of traces.
     pub fn count(&self) -> u32
         ensures { result ≡ count_of self.now.volume }
     {
-        self.store.count()
+        self.laid.store.count()
     }
 
     /// The file's length in bytes.
@@ -107,6 +110,14 @@ impl<T: Copy> Overlay<T> {
         self.length
     }
 
+    /// In memory each read agrees. Does nothing: its contract is the law.
+    pub fn memory_agrees(&self)
+        ensures { self.now.on_disk ≡ false → IsTrue self.now.agreed }
+    {
+        // Read for the proof alone, which learns how the overlay is held.
+        let _length = self.length;
+    }
+
     /// How often a trace was looked at. Stays at `u64::MAX` once there.
     pub fn looks(&self) -> u64
         ensures { result ≡ self.now.looks }
@@ -114,18 +125,29 @@ impl<T: Copy> Overlay<T> {
         self.looks
     }
 
-    /// Trace p, counted from 1, and one look more; None where there is none, and then no look.
-    /// Takes no memory.
-    pub fn look(&mut self, p: u32) -> Option<TraceView<'_>>
-        ensures* counts { sem 𝓛 (EndsLooked T.row self.entry result) }
-        ensures there { IsSome result ↔ IsTrue (is_trace self.old.volume p) }
-        ensures trace { IfSome result (IsViewOf self.old.volume p) }
+    /// Trace p, counted from 1, and one look more; None where there is none, and then no look. On
+    /// disk the trace is read, and refused where the file fails or gives other bytes than it gave
+    /// when it was loaded, as far as its length tells. Takes no memory.
+    pub fn look(&mut self, p: u32) -> Result<Option<TraceView<'_>>, ReadFault>
+        ensures* ends { sem 𝓛 (EndsLooked T.row self.entry self.old.volume p result) }
+        ensures there { IfOk result (λ view. IsSome view ↔ IsTrue (is_trace self.old.volume p)) }
+        ensures shape { IfOk result (λ view. IfSome view (HasShapeOf self.old.volume p)) }
+        ensures read { IfErr result (λ _. IsTrue (is_trace self.old.volume p)
+            × IsTrue self.old.on_disk) }
     {
         if p == 0 || p > self.count() {
-            return None;
+            return Ok(None);
         }
+        self.count_look();
+        self.laid.store.fetch(p)?;
+        Ok(Some(self.laid.store.shown(p)))
+    }
+
+    // One look more.
+    fn count_look(&mut self)
+        ensures { self.new ≡ after_look self.old self.old.agreed }
+    {
         self.looks = self.looks.saturating_add(1);
-        Some(self.view(p))
     }
 
     /// The payload of trace p, counted from 1.
@@ -134,7 +156,7 @@ impl<T: Copy> Overlay<T> {
         requires last { p ≤ count_of self.now.volume }
         ensures { slice_get self.now.payloads (p - 1) ≡ Some result }
     {
-        self.store.payload(p)
+        self.laid.store.payload(p)
     }
 
     /// Gives trace p, counted from 1, another payload. Takes no memory.
@@ -144,60 +166,40 @@ impl<T: Copy> Overlay<T> {
         ensures { self.new ≡ with_table self.old self.old.volume
             (slice_set self.old.payloads (p - 1) payload) }
     {
-        self.store.set_payload(p, payload);
-        self.prepared = None;
+        self.laid.store.set_payload(p, payload);
+        self.laid.prepared = None;
     }
 
-    // Trace p.
-    fn view(&self, p: u32) -> TraceView<'_>
-        requires first { 1 ≤ p }
-        requires last { p ≤ count_of self.now.volume }
-        ensures { IsViewOf self.now.volume p result }
-    {
-        self.store.view(p)
-    }
-
-    /// A pass over all traces as they are now with their payloads, in order, and one look more for
-    /// each. The looks are counted where the pass is made, however far it goes. It is for a caller
-    /// that needs of each trace what stands near byte `at`, counted from 0 in the trace: those
-    /// bytes of the next traces are read together, which is faster, and shows the same. A trace
-    /// need not have the byte. Takes no memory.
-    pub fn pass_near(&mut self, at: u64) -> Pass<'_, T>
-        ensures* counts { sem 𝓛 (EndsPassed T.row self.entry) }
-        ensures volume { volume_of result ≡ self.old.volume }
-        ensures payloads { payloads_of_pass result ≡ self.old.payloads }
-    {
-        self.looks = self.looks.saturating_add(u64::from(self.count()));
-        Pass::new(self, at)
-    }
-
-    // All traces with their payloads in order, where byte `at` of each, counted from 0, is read
-    // ahead.
-    pub(crate) fn rows(&self, at: u64) -> Rows<'_, T>
-        ensures { result ≡ rows_of self.now.volume self.now.payloads }
-    {
-        Rows::near(&self.store, at)
+    /// Brings byte `at`, counted from 0, of each of the next traces from trace p on nearer to the
+    /// processor, where they are in memory and have it: for a caller that is to look at them one
+    /// after another, and needs of each what stands there. Shows nothing, and takes no memory. All
+    /// bytes that were read in one: what is not kept is not read.
+    pub fn read_ahead(&self, p: u32, at: u64) -> u8 {
+        self.laid.store.read_ahead(p, at)
     }
 
     /// The payloads of all traces, in order. Looks at no trace, and takes no memory.
     pub fn payloads(&self) -> Column<'_, T>
         ensures { result ≡ self.now.payloads }
     {
-        Column::new(&self.store)
+        Column::new(&self.laid.store)
     }
 
     /// Trace p, counted from 1, as it would be with the edit that is prepared, and one look more;
-    /// None where there is none, and then no look. Takes no memory.
-    pub fn look_prepared(&mut self, p: u32) -> Option<TraceView<'_>>
-        ensures* counts { sem 𝓛 (EndsLooked T.row self.entry result) }
-        ensures there { IsSome result ↔ IsTrue (is_trace self.old.prepared p) }
-        ensures trace { IfSome result (IsViewOf self.old.prepared p) }
+    /// None where there is none, and then no look. Refused as `look`. Takes no memory.
+    pub fn look_prepared(&mut self, p: u32) -> Result<Option<TraceView<'_>>, ReadFault>
+        ensures* ends { sem 𝓛 (EndsLooked T.row self.entry self.old.prepared p result) }
+        ensures there { IfOk result (λ view. IsSome view ↔ IsTrue (is_trace self.old.prepared p)) }
+        ensures shape { IfOk result (λ view. IfSome view (HasShapeOf self.old.prepared p)) }
+        ensures read { IfErr result (λ _. IsTrue (is_trace self.old.prepared p)
+            × IsTrue self.old.on_disk) }
     {
         if p == 0 || p > self.count_prepared() {
-            return None;
+            return Ok(None);
         }
-        self.looks = self.looks.saturating_add(1);
-        Some(self.view_prepared(p))
+        self.count_look();
+        self.laid.fetch(p)?;
+        Ok(Some(self.laid.shown(p)))
     }
 
     // The number of traces, which a prepared edit leaves as it is.
@@ -205,19 +207,7 @@ impl<T: Copy> Overlay<T> {
         ensures now { result ≡ count_of self.now.volume }
         ensures prepared { result ≡ count_of self.now.prepared }
     {
-        self.store.count()
-    }
-
-    // Trace p as it would be.
-    fn view_prepared(&self, p: u32) -> TraceView<'_>
-        requires first { 1 ≤ p }
-        requires last { p ≤ count_of self.now.volume }
-        ensures { IsViewOf self.now.prepared p result }
-    {
-        match &self.prepared {
-            Some(prepared) => self.store.view_then(p, prepared),
-            None => self.store.view(p),
-        }
+        self.laid.store.count()
     }
 
     /// The textual header (bytes 1 to 3200 of the file).
@@ -242,11 +232,11 @@ impl<T: Copy> Overlay<T> {
         if b == 0 {
             return Some(self.text());
         }
-        if b > self.store.head.blocks {
+        if b > self.laid.store.head.blocks {
             return None;
         }
         let at = FILE_HEADER_BYTES + TEXT_BLOCK_BYTES * (b as usize - 1);
-        Some(array_at(self.store.loaded.bytes(), at))
+        Some(array_at(self.laid.store.loaded.edge(at as u64, TEXT_BLOCK_BYTES), 0))
     }
 
     /// Data trailer record j, counted from 1, where there is one.
@@ -256,13 +246,13 @@ impl<T: Copy> Overlay<T> {
         if j == 0 {
             return None;
         }
-        if j > self.store.head.trailer {
+        if j > self.laid.store.head.trailer {
             return None;
         }
-        let length = self.store.loaded.length() as usize;
-        let start = length - TEXT_BLOCK_BYTES * self.store.head.trailer as usize;
+        let length = self.laid.store.loaded.length() as usize;
+        let start = length - TEXT_BLOCK_BYTES * self.laid.store.head.trailer as usize;
         let at = start + TEXT_BLOCK_BYTES * (j as usize - 1);
-        Some(array_at(self.store.loaded.bytes(), at))
+        Some(array_at(self.laid.store.loaded.edge(at as u64, TEXT_BLOCK_BYTES), 0))
     }
 
     /// Writes line q of the textual header, from 1 to 40. Takes no memory.
@@ -273,7 +263,7 @@ impl<T: Copy> Overlay<T> {
     {
         let at = 80 * (q as usize - 1);
         overwrite(&mut self.text, at, line);
-        self.prepared = None;
+        self.laid.prepared = None;
     }
 
     /// Writes the bytes over those of the binary header from place `at` on, counted from 0 in it.
@@ -283,7 +273,7 @@ impl<T: Copy> Overlay<T> {
         ensures { self.new ≡ with_volume self.old (with_header_bytes self.old.volume at bytes.now) }
     {
         overwrite(&mut self.bin, at as usize, bytes);
-        self.prepared = None;
+        self.laid.prepared = None;
     }
 
     /// Prepares a `put` of the bytes over those of trace p, counted from 1, from place `at` on,
@@ -301,14 +291,14 @@ impl<T: Copy> Overlay<T> {
         requires first { 1 ≤ p }
         requires last { p ≤ count_of self.old.volume }
         requires inside { at + length bytes.now ≤ length (trace_at self.old.volume p) }
-        requires whole { IsTrace self.old.volume.head
+        requires whole { IsTrue self.old.agreed → IsTrace self.old.volume.head
             (splice (trace_at self.old.volume p) at (length bytes.now) bytes.now) }
         ensures ok { OnOk result (self.new ≡ with_prepared self.old (with_trace self.old.volume p
             (splice (trace_at self.old.volume p) at (length bytes.now) bytes.now))) }
         ensures err { OnErr result (self.new ≡ self.old) }
     {
-        let prepared = self.store.prepare_put(alloc, p, at, bytes)?;
-        self.prepared = Some(prepared);
+        let prepared = self.laid.store.prepare_put(alloc, p, at, bytes)?;
+        self.laid.prepared = Some(prepared);
         Ok(())
     }
 
@@ -331,7 +321,7 @@ impl<T: Copy> Overlay<T> {
         requires last { a - 1 + length bytes.now / size ≤ count_of self.old.volume }
         requires inside { (k : ℕ) → k < length bytes.now / size →
             at + size ≤ length (slice_index_or self.old.volume.traces (a - 1 + k) []) }
-        requires whole { (k : ℕ) → k < length bytes.now / size →
+        requires whole { (k : ℕ) → k < length bytes.now / size → IsTrue self.old.agreed →
             IsTrace self.old.volume.head
             (splice (slice_index_or self.old.volume.traces (a - 1 + k) []) at size
             (part_of bytes.now size k)) }
@@ -339,8 +329,8 @@ impl<T: Copy> Overlay<T> {
             (self.new ≡ with_prepared self.old (with_each self.old.volume a at size bytes.now)) }
         ensures err { OnErr result (self.new ≡ self.old) }
     {
-        let prepared = self.store.prepare_put_each(alloc, a, at, size, bytes)?;
-        self.prepared = Some(prepared);
+        let prepared = self.laid.store.prepare_put_each(alloc, a, at, size, bytes)?;
+        self.laid.prepared = Some(prepared);
         Ok(())
     }
 
@@ -358,8 +348,8 @@ impl<T: Copy> Overlay<T> {
             (payloads_moved self.old.payloads a b)) }
         ensures err { OnErr result (self.new ≡ self.old) }
     {
-        let prepared = self.store.prepare_move(alloc, a, b)?;
-        self.prepared = Some(prepared);
+        let prepared = self.laid.store.prepare_move(alloc, a, b)?;
+        self.laid.prepared = Some(prepared);
         Ok(())
     }
 
@@ -367,8 +357,8 @@ impl<T: Copy> Overlay<T> {
     pub fn commit(&mut self)
         ensures { self.new ≡ with_table self.old self.old.prepared self.old.payloads_prepared }
     {
-        if let Some(prepared) = self.prepared.take() {
-            self.store.commit(prepared);
+        if let Some(prepared) = self.laid.prepared.take() {
+            self.laid.store.commit(prepared);
         }
     }
 
@@ -380,9 +370,9 @@ impl<T: Copy> Overlay<T> {
         ensures { self.new ≡ with_table self.old self.old.prepared
             (slice_set self.old.payloads_prepared (p - 1) payload) }
     {
-        match self.prepared.take() {
-            Some(prepared) => self.store.commit_with(prepared, p, payload),
-            None => self.store.set_payload(p, payload),
+        match self.laid.prepared.take() {
+            Some(prepared) => self.laid.store.commit_with(prepared, p, payload),
+            None => self.laid.store.set_payload(p, payload),
         }
     }
 
@@ -390,7 +380,7 @@ impl<T: Copy> Overlay<T> {
     pub fn discard(&mut self)
         ensures { self.new ≡ with_volume self.old self.old.volume }
     {
-        self.prepared = None;
+        self.laid.prepared = None;
     }
 
     /// Lays the bytes over those of trace p, counted from 1, from place `at` on, counted from 0 in
@@ -401,7 +391,7 @@ impl<T: Copy> Overlay<T> {
         requires first { 1 ≤ p }
         requires last { p ≤ count_of self.old.volume }
         requires inside { at + length bytes.now ≤ length (trace_at self.old.volume p) }
-        requires whole { IsTrace self.old.volume.head
+        requires whole { IsTrue self.old.agreed → IsTrace self.old.volume.head
             (splice (trace_at self.old.volume p) at (length bytes.now) bytes.now) }
         ensures ok { OnOk result (self.new ≡ with_volume self.old (with_trace self.old.volume p
             (splice (trace_at self.old.volume p) at (length bytes.now) bytes.now))) }
@@ -431,7 +421,7 @@ impl<T: Copy> Overlay<T> {
         requires last { a - 1 + length bytes.now / size ≤ count_of self.old.volume }
         requires inside { (k : ℕ) → k < length bytes.now / size →
             at + size ≤ length (slice_index_or self.old.volume.traces (a - 1 + k) []) }
-        requires whole { (k : ℕ) → k < length bytes.now / size →
+        requires whole { (k : ℕ) → k < length bytes.now / size → IsTrue self.old.agreed →
             IsTrace self.old.volume.head
             (splice (slice_index_or self.old.volume.traces (a - 1 + k) []) at size
             (part_of bytes.now size k)) }
@@ -466,8 +456,10 @@ impl<T: Copy> Overlay<T> {
         ensures err { OnErr result (self.new ≡ self.old) }
     {
         let added = bytes.len() as u64;
-        self.store.insert(alloc, p, Base::Added(bytes), payload)?;
-        self.prepared = None;
+        self.laid
+            .store
+            .insert(alloc, p, Base::Added(bytes), payload)?;
+        self.laid.prepared = None;
         self.length += added;
         Ok(())
     }
@@ -480,9 +472,9 @@ impl<T: Copy> Overlay<T> {
         ensures after { self.new ≡ with_table self.old (without self.old.volume p)
             (remove self.old.payloads (p - 1)) }
     {
-        let gone = self.store.view(p).length();
-        let payload = self.store.delete(p);
-        self.prepared = None;
+        let gone = self.laid.store.length_of(p);
+        let payload = self.laid.store.delete(p);
+        self.laid.prepared = None;
         self.length -= gone;
         payload
     }
@@ -511,8 +503,8 @@ impl<T: Copy> Overlay<T> {
         ensures { self.new ≡ with_table self.old (with_places_swapped self.old.volume pairs.items)
             (with_swapped self.old.payloads pairs.items) }
     {
-        self.store.swap_each(pairs);
-        self.prepared = None;
+        self.laid.store.swap_each(pairs);
+        self.laid.prepared = None;
     }
 
     /// Makes the bytes the whole of trace p, counted from 1. The caller shows that their headers
@@ -525,22 +517,28 @@ impl<T: Copy> Overlay<T> {
         ensures { self.new ≡ with_table self.old (with_trace self.old.volume p bytes.items)
             (slice_set self.old.payloads (p - 1) payload) }
     {
-        let gone = self.store.view(p).length();
+        let gone = self.laid.store.length_of(p);
         let added = bytes.len() as u64;
-        self.store.replace(alloc, p, Base::Added(bytes), payload);
-        self.prepared = None;
+        self.laid
+            .store
+            .replace(alloc, p, Base::Added(bytes), payload);
+        self.laid.prepared = None;
         self.length = self.length - gone + added;
     }
 
-    /// Writes the file as it is now. Takes no memory. Refused where the writer failed; `written` is
-    /// then the length of the prefix that it took.
-    pub fn write_to<W: Write>(&self, writer: &mut Sink<W>) -> Result<(), SaveFault>
-        ensures saved { Saves (W.contents writer.old.inner) (W.contents writer.new.inner)
-            (bytes_of self.now.volume) result }
-        ensures failures { CountsFailure result writer.old.failures writer.new.failures }
+    /// Writes the file as it is now. Takes no memory. Refused where the writer failed, or on disk
+    /// where a read of the loaded bytes did; `written` is then the length of the prefix that the
+    /// writer took.
+    pub fn write_to<W: Write>(&mut self, writer: &mut Sink<W>) -> Result<(), SaveFault>
+        ensures same { self.new ≡ with_agreed self.old self.new.agreed }
+        ensures agreed { IsTrue self.new.agreed → IsTrue self.old.agreed }
+        ensures saved { IsTrue self.new.agreed → Saves (W.contents writer.old.inner)
+            (W.contents writer.new.inner) (bytes_of self.old.volume) result }
+        ensures read { IfErr result (λ fault. IsSome fault.read → IsTrue self.old.on_disk) }
+        ensures failures { CountsSaveFailure result writer.old.failures writer.new.failures }
     {
         // Read for the proof alone, which learns that the file's length fits 64 bits.
         let _length = self.length;
-        write_volume(writer, &self.text, &self.bin, &self.store)
+        write_volume(writer, &self.text, &self.bin, &mut self.laid.store)
     }
 }

@@ -1,23 +1,24 @@
-// Writes a volume to a device: its parts in order, neighbouring ranges of the loaded file at once,
-// and joins nothing.
-ghost use Rattle.std.specs.Prelude.{◌≡◌, ◌+◌, ◌-◌, ◌*◌, ◌≤◌, ◌<◌, ◌^◌, ◌++◌, [], length, drop, slice_range, OnOk};
+// Writes a volume to a device: its parts in order, neighbouring ranges of the loaded file together,
+// and joins nothing. What was loaded is written by pieces, each as long as can be lent at once.
+ghost use Rattle.std.specs.Prelude.{◌≡◌, ◌+◌, ◌-◌, ◌*◌, ◌≤◌, ◌<◌, ◌^◌, ◌++◌, [], length, take, drop, slice_range, slice_index_or, None, IfErr, IsOk, IsSome, IsTrue, OnOk};
 ghost use Rattle.std.specs.List.{concat};
-ghost use Rattle.device_io.specs.Failures.{CountsFailure};
+ghost use Rattle.base_file.specs.HeldBytes.{AreThere, IsInMemory, IsSure, lent_of};
 ghost use Rattle.frame_cut.specs.Heads.{blocks_of};
 ghost use Rattle.frame_cut.specs.Volume.{bytes_of};
 ghost use Rattle.trace_view.specs.Shown.{bytes_of as bytes_of_view};
-ghost use Rattle.edit_overlay.specs.Held.{volume_with, HasEnds};
-ghost use Rattle.edit_overlay.specs.Saving.{progress, GoesOn, Saves};
-ghost use Rattle.trace_store.specs.Slots.{bytes_in, IsSlot};
+ghost use Rattle.edit_overlay.specs.Held.{volume_with, HasEnds, IsReread};
+ghost use Rattle.edit_overlay.specs.Saving.{progress, CountsSaveFailure, GoesOn, Saves};
+ghost use Rattle.edit_overlay.specs.Standings.{is_on_disk};
 ghost use Rattle.trace_store.specs.Stores.{traces_of};
 
 use crate::save_fault::SaveFault;
 use crate::waiting::Waiting;
+use base_file::ReadFault;
 use device_io::Sink;
-use frame_cut::{BINARY_HEADER_BYTES, FILE_HEADER_BYTES, Head};
+use frame_cut::{BINARY_HEADER_BYTES, FILE_HEADER_BYTES};
 use std::io::Write;
 use text_block::TEXT_BLOCK_BYTES;
-use trace_store::{Base, Slot, TraceStore};
+use trace_store::TraceStore;
 use trace_view::TraceView;
 
 // Writes the headers, then the blocks, the traces and the data trailer records of the store.
@@ -25,13 +26,16 @@ pub fn write_volume<W: Write, T: Copy>(
     writer: &mut Sink<W>,
     text: &[u8; TEXT_BLOCK_BYTES],
     bin: &[u8; BINARY_HEADER_BYTES],
-    store: &TraceStore<T>,
+    store: &mut TraceStore<T>,
 ) -> Result<(), SaveFault>
-    requires ends { HasEnds store.now }
-    requires small { length (bytes_of (volume_with text.now bin.now store.now)) < 2 ^ 64 }
-    ensures saved { Saves (W.contents writer.old.inner) (W.contents writer.new.inner)
-        (bytes_of (volume_with text.now bin.now store.now)) result }
-    ensures failures { CountsFailure result writer.old.failures writer.new.failures }
+    requires ends { HasEnds store.old }
+    requires small { length (bytes_of (volume_with text.now bin.now store.old)) < 2 ^ 64 }
+    ensures same { IsReread store.old store.new }
+    ensures saved { IsSure store.new.loaded.standing → Saves (W.contents writer.old.inner)
+        (W.contents writer.new.inner) (bytes_of (volume_with text.now bin.now store.old)) result }
+    ensures read { IfErr result (λ fault. IsSome fault.read →
+        IsTrue (is_on_disk store.old.loaded.standing)) }
+    ensures failures { CountsSaveFailure result writer.old.failures writer.new.failures }
 {
     let mut written = 0;
     write_part(writer, &mut written, text)?;
@@ -41,118 +45,194 @@ pub fn write_volume<W: Write, T: Copy>(
         to: store.head.traces_at as usize,
         written,
     };
+    let end = store.loaded.length() as usize;
+    let tail = end - TEXT_BLOCK_BYTES * store.head.trailer as usize;
     write_traces(writer, store, &mut waiting)?;
-    let loaded = store.loaded.bytes();
-    let tail = loaded.len() - TEXT_BLOCK_BYTES * store.head.trailer as usize;
-    write_range(writer, loaded, &mut waiting, tail, loaded.len())?;
-    flush(writer, loaded, &mut waiting)
+    write_range(writer, store, &mut waiting, tail, end)?;
+    flush(writer, store, &mut waiting)
 }
 
 // Writes the traces behind what waits.
 fn write_traces<W: Write, T: Copy>(
     writer: &mut Sink<W>,
-    store: &TraceStore<T>,
+    store: &mut TraceStore<T>,
     waiting: &mut Waiting,
 ) -> Result<(), SaveFault>
-    requires inside { waiting.old.to ≤ length store.now.loaded.bytes }
+    requires bounded { length store.old.loaded.bytes < 2 ^ 64 }
+    requires inside { waiting.old.to ≤ length store.old.loaded.bytes }
     requires small { waiting.old.written + (waiting.old.to - waiting.old.from) + length
-        (concat (traces_of store.now)) < 2 ^ 64 }
-    ensures inside { waiting.new.to ≤ length store.now.loaded.bytes }
-    ensures saved { GoesOn (W.contents writer.old.inner) (W.contents writer.new.inner)
-        (progress store.now.loaded.bytes waiting.old) (progress store.now.loaded.bytes waiting.new)
-        (concat (traces_of store.now)) result }
-    ensures failures { CountsFailure result writer.old.failures writer.new.failures }
+        (concat (traces_of store.old)) < 2 ^ 64 }
+    ensures same { IsReread store.old store.new }
+    ensures inside { waiting.new.to ≤ length store.old.loaded.bytes }
+    ensures count { OnOk result (waiting.new.written + (waiting.new.to - waiting.new.from)
+        ≡ waiting.old.written + (waiting.old.to - waiting.old.from) + length
+        (concat (traces_of store.old))) }
+    ensures saved { IsSure store.new.loaded.standing → GoesOn (W.contents writer.old.inner)
+        (W.contents writer.new.inner) (progress store.old.loaded.bytes waiting.old)
+        (progress store.old.loaded.bytes waiting.new) (concat (traces_of store.old)) result }
+    ensures read { IfErr result (λ fault. IsSome fault.read →
+        IsTrue (is_on_disk store.old.loaded.standing)) }
+    ensures failures { CountsSaveFailure result writer.old.failures writer.new.failures }
 {
-    for id in store.order.ids() {
-        match store.slots.get(id) {
-            Some(slot) => write_slot(writer, &store.head, store.loaded.bytes(), slot, waiting)?,
-            None => unreachable!(),
-        }
+    for at in 0..store.count() {
+        write_trace(writer, store, waiting, at + 1)?;
     }
     Ok(())
 }
 
-// Writes a slot's trace behind what waits.
-fn write_slot<W: Write, T: Copy>(
+// Writes trace p behind what waits.
+fn write_trace<W: Write, T: Copy>(
     writer: &mut Sink<W>,
-    head: &Head,
-    loaded: &[u8],
-    slot: &Slot<T>,
+    store: &mut TraceStore<T>,
     waiting: &mut Waiting,
+    p: u32,
 ) -> Result<(), SaveFault>
-    requires slot { IsSlot loaded.now head.now slot.now }
-    requires inside { waiting.old.to ≤ length loaded.now }
+    requires first { 1 ≤ p }
+    requires last { p ≤ length (traces_of store.old) }
+    requires bounded { length store.old.loaded.bytes < 2 ^ 64 }
+    requires inside { waiting.old.to ≤ length store.old.loaded.bytes }
     requires small { waiting.old.written + (waiting.old.to - waiting.old.from) + length
-        (bytes_in loaded.now slot.now) < 2 ^ 64 }
-    ensures inside { waiting.new.to ≤ length loaded.now }
-    ensures saved { GoesOn (W.contents writer.old.inner) (W.contents writer.new.inner)
-        (progress loaded.now waiting.old) (progress loaded.now waiting.new)
-        (bytes_in loaded.now slot.now) result }
-    ensures failures { CountsFailure result writer.old.failures writer.new.failures }
+        (slice_index_or (traces_of store.old) (p - 1) []) < 2 ^ 64 }
+    ensures same { IsReread store.old store.new }
+    ensures inside { waiting.new.to ≤ length store.old.loaded.bytes }
+    ensures count { OnOk result (waiting.new.written + (waiting.new.to - waiting.new.from)
+        ≡ waiting.old.written + (waiting.old.to - waiting.old.from) + length
+        (slice_index_or (traces_of store.old) (p - 1) [])) }
+    ensures saved { IsSure store.new.loaded.standing → GoesOn (W.contents writer.old.inner)
+        (W.contents writer.new.inner) (progress store.old.loaded.bytes waiting.old)
+        (progress store.old.loaded.bytes waiting.new)
+        (slice_index_or (traces_of store.old) (p - 1) []) result }
+    ensures read { IfErr result (λ fault. IsSome fault.read →
+        IsTrue (is_on_disk store.old.loaded.standing)) }
+    ensures failures { CountsSaveFailure result writer.old.failures writer.new.failures }
 {
-    if slot.runs.is_empty() {
-        if let Base::Loaded(extent) = &slot.base {
-            let from = extent.start as usize;
-            return write_range(writer, loaded, waiting, from, from + extent.length as usize);
-        }
+    if let Some(extent) = store.whole_range(p) {
+        let from = extent.start as usize;
+        return write_range(writer, store, waiting, from, from + extent.length as usize);
     }
-    flush(writer, loaded, waiting)?;
-    let view = TraceView::new(head, slot.base_bytes(loaded), slot.runs.as_slice());
-    write_view(writer, &mut waiting.written, &view)
+    flush(writer, store, waiting)?;
+    match store.fetch(p) {
+        Ok(()) => write_view(writer, &mut waiting.written, &store.shown(p)),
+        Err(fault) => Err(SaveFault {
+            written: waiting.written,
+            read: Some(fault),
+        }),
+    }
 }
 
 // Puts a range of the loaded bytes behind the one that waits, which is written before where the two
 // are no neighbours.
-fn write_range<W: Write>(
+fn write_range<W: Write, T: Copy>(
     writer: &mut Sink<W>,
-    loaded: &[u8],
+    store: &mut TraceStore<T>,
     waiting: &mut Waiting,
     from: usize,
     to: usize,
 ) -> Result<(), SaveFault>
-    requires inside { waiting.old.to ≤ length loaded.now }
+    requires inside { waiting.old.to ≤ length store.old.loaded.bytes }
     requires range { from ≤ to }
-    requires range_inside { to ≤ length loaded.now }
+    requires range_inside { to ≤ length store.old.loaded.bytes }
     requires small { waiting.old.written + (waiting.old.to - waiting.old.from) < 2 ^ 64 }
-    ensures inside { waiting.new.to ≤ length loaded.now }
-    ensures saved { GoesOn (W.contents writer.old.inner) (W.contents writer.new.inner)
-        (progress loaded.now waiting.old) (progress loaded.now waiting.new)
-        (slice_range loaded.now from to) result }
-    ensures failures { CountsFailure result writer.old.failures writer.new.failures }
+    ensures same { IsReread store.old store.new }
+    ensures inside { waiting.new.to ≤ length store.old.loaded.bytes }
+    ensures count { OnOk result (waiting.new.written + (waiting.new.to - waiting.new.from)
+        ≡ waiting.old.written + (waiting.old.to - waiting.old.from) + (to - from)) }
+    ensures saved { IsSure store.new.loaded.standing → GoesOn (W.contents writer.old.inner)
+        (W.contents writer.new.inner) (progress store.old.loaded.bytes waiting.old)
+        (progress store.old.loaded.bytes waiting.new)
+        (slice_range store.old.loaded.bytes from to) result }
+    ensures read { IfErr result (λ fault. IsSome fault.read →
+        IsTrue (is_on_disk store.old.loaded.standing)) }
+    ensures failures { CountsSaveFailure result writer.old.failures writer.new.failures }
 {
     if from == waiting.to {
         waiting.to = to;
         return Ok(());
     }
-    flush(writer, loaded, waiting)?;
+    flush(writer, store, waiting)?;
     waiting.from = from;
     waiting.to = to;
     Ok(())
 }
 
 // Writes what waits.
-fn flush<W: Write>(
+fn flush<W: Write, T: Copy>(
     writer: &mut Sink<W>,
-    loaded: &[u8],
+    store: &mut TraceStore<T>,
     waiting: &mut Waiting,
 ) -> Result<(), SaveFault>
-    requires inside { waiting.old.to ≤ length loaded.now }
+    requires inside { waiting.old.to ≤ length store.old.loaded.bytes }
     requires small { waiting.old.written + (waiting.old.to - waiting.old.from) < 2 ^ 64 }
+    ensures same { IsReread store.old store.new }
     ensures to { waiting.new.to ≡ waiting.old.to }
     ensures empty { OnOk result (waiting.new.from ≡ waiting.new.to) }
     ensures count { OnOk result
         (waiting.new.written ≡ waiting.old.written + (waiting.old.to - waiting.old.from)) }
-    ensures saved { GoesOn (W.contents writer.old.inner) (W.contents writer.new.inner)
-        (progress loaded.now waiting.old) (progress loaded.now waiting.new) [] result }
-    ensures failures { CountsFailure result writer.old.failures writer.new.failures }
+    ensures saved { IsSure store.new.loaded.standing → GoesOn (W.contents writer.old.inner)
+        (W.contents writer.new.inner) (progress store.old.loaded.bytes waiting.old)
+        (progress store.old.loaded.bytes waiting.new) [] result }
+    ensures read { IfErr result (λ fault. IsSome fault.read →
+        IsTrue (is_on_disk store.old.loaded.standing)) }
+    ensures failures { CountsSaveFailure result writer.old.failures writer.new.failures }
 {
-    write_part(
-        writer,
-        &mut waiting.written,
-        &loaded[waiting.from..waiting.to],
-    )?;
-    waiting.from = waiting.to;
+    'pieces: while waiting.from < waiting.to {
+        write_piece(writer, store, waiting)?;
+    }
     Ok(())
+}
+
+// Writes the first of the bytes that wait, as many as can be lent at once.
+fn write_piece<W: Write, T: Copy>(
+    writer: &mut Sink<W>,
+    store: &mut TraceStore<T>,
+    waiting: &mut Waiting,
+) -> Result<(), SaveFault>
+    requires some { waiting.old.from < waiting.old.to }
+    requires inside { waiting.old.to ≤ length store.old.loaded.bytes }
+    requires small { waiting.old.written + (waiting.old.to - waiting.old.from) < 2 ^ 64 }
+    ensures same { IsReread store.old store.new }
+    ensures to { waiting.new.to ≡ waiting.old.to }
+    ensures on { OnOk result (waiting.old.from < waiting.new.from) }
+    ensures count { OnOk result (waiting.new.written + (waiting.new.to - waiting.new.from)
+        ≡ waiting.old.written + (waiting.old.to - waiting.old.from)) }
+    ensures saved { IsSure store.new.loaded.standing → GoesOn (W.contents writer.old.inner)
+        (W.contents writer.new.inner) (progress store.old.loaded.bytes waiting.old)
+        (progress store.old.loaded.bytes waiting.new) [] result }
+    ensures read { IfErr result (λ fault. IsSome fault.read →
+        IsTrue (is_on_disk store.old.loaded.standing)) }
+    ensures failures { CountsSaveFailure result writer.old.failures writer.new.failures }
+{
+    let size = store.loaded.most().min(waiting.to - waiting.from);
+    match fetch_piece(store, waiting.from as u64, size) {
+        Ok(()) => {
+            let piece = store.loaded.lent(waiting.from as u64, size);
+            write_part(writer, &mut waiting.written, piece)?;
+            waiting.from += size;
+            Ok(())
+        }
+        Err(fault) => Err(SaveFault {
+            written: waiting.written,
+            read: Some(fault),
+        }),
+    }
+}
+
+// Reads so many loaded bytes from a place on. Refused also where they are none, so that a save ends
+// where nothing can be lent.
+fn fetch_piece<T: Copy>(store: &mut TraceStore<T>, at: u64, size: usize) -> Result<(), ReadFault>
+    requires { at + size ≤ length store.old.loaded.bytes }
+    ensures same { IsReread store.old store.new }
+    ensures some { OnOk result (0 < size) }
+    ensures there { OnOk result (AreThere store.new.loaded at size) }
+    ensures size { OnOk result (length (lent_of store.new.loaded at size) ≡ size) }
+    ensures bytes { OnOk result (IsSure store.new.loaded.standing →
+        lent_of store.new.loaded at size ≡ take size (drop at store.old.loaded.bytes)) }
+    ensures memory { IsInMemory store.old.loaded.standing → 0 < size → IsOk result }
+{
+    if size == 0 {
+        return Err(ReadFault::TooLarge);
+    }
+    store.fetch_loaded(at, size)
 }
 
 // Writes the pieces of a trace.
@@ -162,10 +242,12 @@ fn write_view<W: Write>(
     view: &TraceView<'_>,
 ) -> Result<(), SaveFault>
     requires small { written.old + length (bytes_of_view view.now) < 2 ^ 64 }
+    ensures count { OnOk result (written.new ≡ written.old + length (bytes_of_view view.now)) }
     ensures saved { GoesOn (W.contents writer.old.inner) (W.contents writer.new.inner)
         (record { written = written.old; waits = [] })
         (record { written = written.new; waits = [] }) (bytes_of_view view.now) result }
-    ensures failures { CountsFailure result writer.old.failures writer.new.failures }
+    ensures read { IfErr result (λ fault. fault.read ≡ None) }
+    ensures failures { CountsSaveFailure result writer.old.failures writer.new.failures }
 {
     for piece in view.pieces() {
         write_part(writer, written, piece)?;
@@ -184,7 +266,8 @@ fn write_part<W: Write>(
     ensures saved { GoesOn (W.contents writer.old.inner) (W.contents writer.new.inner)
         (record { written = written.old; waits = [] })
         (record { written = written.new; waits = [] }) bytes.now result }
-    ensures failures { CountsFailure result writer.old.failures writer.new.failures }
+    ensures read { IfErr result (λ fault. fault.read ≡ None) }
+    ensures failures { CountsSaveFailure result writer.old.failures writer.new.failures }
 {
     match writer.write_all(bytes) {
         Ok(()) => {
@@ -193,6 +276,7 @@ fn write_part<W: Write>(
         }
         Err(fault) => Err(SaveFault {
             written: *written + fault.written,
+            read: None,
         }),
     }
 }

@@ -1,16 +1,15 @@
 -- What edits of the binary header do to a file that is cut: it stays cut where the fields that frame it keep their bytes.
-use Rattle.std.proofs.Common.{◌≡◌, ℕ, ◌+◌, ◌-◌, ◌≤◌, Bool, List, ◌++◌, length, take, drop, refl, sym, ap, ◌∙◌, arith, append_assoc, Option, Some, None, Result, Ok, Err, ℤ, ◌⊎◌, inl, inr, lit≤}
-use Rattle.std.specs.Prelude.{nat_abs, if◌then◌else◌}
+use Rattle.std.proofs.Common.{◌≡◌, ℕ, ◌+◌, ◌-◌, ◌≤◌, Bool, List, ◌++◌, length, take, drop, refl, sym, ap, ap₂, ◌∙◌, arith, append_assoc, Ok, ℤ, pos, ◌⊎◌, inl, inr, lit≤}
+use Rattle.std.specs.Prelude.{nat_abs, [], ◌∷◌, ◌*◌, ◌==◌, ◌||◌, ◌&&◌, not, int_lt, is_none, unwrap_or}
 use Rattle.std.specs.List.{concat}
 use Rattle.num_order.specs.declared.order.Order.{Order}
 use Rattle.sample_codes.specs.declared.format.Format.{Format}
-use Rattle.sample_codes.specs.declared.format_fault.FormatFault.{FormatFault}
 use Rattle.sample_codes.specs.Formats.{format_of}
 use Rattle.frame_cut.specs.declared.file_head.Head.{Head}
 use Rattle.frame_cut.specs.declared.limits.Limits.{Limits}
 use Rattle.frame_cut.specs.declared.reading.Reading.{Reading}
 use Rattle.frame_cut.specs.declared.load_fault.LoadFault.{LoadFault}
-use Rattle.frame_cut.specs.declared.load_fault.LoadFault.TheVariants.{PairSwapped, OtherOrder, Revision}
+use Rattle.frame_cut.specs.declared.load_fault.LoadFault.TheVariants.{PairSwapped, OtherOrder, Revision, FloatFormat, GainFormat, UnknownFormat, TextCount, Extensions, Trailer, FirstTrace}
 use Rattle.std.proofs.lemmas.List.{length-append, length-take, drop-drop, drop_at, take-append-drop}
 use Rattle.frame_cut.specs.Splice.{splice}
 use Rattle.frame_cut.specs.Volume.{Volume, bytes_of}
@@ -19,7 +18,7 @@ use Rattle.frame_cut.proofs.BlockLemmas.{slice-append}
 use Rattle.frame_cut.proofs.HeadFrontLemmas.{head_of-bin}
 use Rattle.frame_cut.proofs.EditLemmas.{splice_inside}
 use Rattle.frame_cut.specs.BinaryHeader.{bin_bytes, order_of, told_order, is_other_order, is_pair_swapped, is_unknown_revision, major_of, minor_of, format_code, text_count, extensions_field, trailer_field, first_trace, samples_field, is_fixed}
-use Rattle.frame_cut.specs.Heads.{head_of, head_from, with_order, with_format, with_blocks, format_refusal, traces_at, blocks_for, head_in}
+use Rattle.frame_cut.specs.Heads.{head_of, head_from, head_faults, head_by, head_in, first_fault_else, format_in, format_or_2, blocks_for, blocks_in, is_among, is_trailer_refused, traces_at}
 
 -- the fields that frame the file keep their bytes
 pub record SameFrame (bin other : List ℕ) : Type 0 where
@@ -103,51 +102,44 @@ head_in-same reading o bin other format blocks s =
     ∙ rw (fixed-same reading o bin other s, extensions-same o bin other s, trailer-same o bin other s, samples-same o bin other s, minor-same o bin other s, major-same o bin other s) refl
     ∙ sym (head_in-is reading o bin format blocks)
 
-with_blocks-same : (reading : Reading) (o : Order) (bin other rest : List ℕ) (format : Format) (n : Option ℕ) → SameFrame bin other → with_blocks reading o other rest format n ≡ with_blocks reading o bin rest format n
-with_blocks-same reading o bin other rest format None s = rw (count-same o bin other s) refl
-with_blocks-same reading o bin other rest format (Some blocks) s =
-    rw (head_in-same reading o bin other format blocks s, extensions-same o bin other s, trailer-same o bin other s, first-same o bin other s) refl
+head_by-same : (reading : Reading) (o : Order) (bin other rest : List ℕ) → SameFrame bin other → head_by reading o other rest ≡ head_by reading o bin rest
+head_by-same reading o bin other rest s =
+    head_in-same reading o bin other (format_in reading o other) (blocks_in o other rest) s
+    ∙ ap₂ (head_in reading o bin)
+    (ap (λ (code : ℕ). format_or_2 (format_of reading.opaque code)) (format-same o bin other s))
+    (ap (λ (count : ℤ). unwrap_or (blocks_for count rest) 0) (count-same o bin other s))
 
-with_format-same : (reading : Reading) (o : Order) (bin other rest : List ℕ) (f : Result Format FormatFault) → SameFrame bin other → with_format reading o other rest f ≡ with_format reading o bin rest f
-with_format-same reading o bin other rest (Err fault) s = ap (λ (code : ℕ). let r : Result Head LoadFault = Err (format_refusal fault code) in r) (format-same o bin other s)
-with_format-same reading o bin other rest (Ok format) s =
-    with_blocks-same reading o bin other rest format (blocks_for (text_count o other) rest) s
-    ∙ ap (λ (count : ℤ). with_blocks reading o bin rest format (blocks_for count rest)) (count-same o bin other s)
+-- the list of its refusals by what they ask
+faults_with : Bool → Bool → Bool → ℕ → ℕ → Bool → ℕ → ℤ → ℤ → ℤ → ℕ → List ℕ → List (Bool × LoadFault)
+faults_with swapped otherwise unknown major minor opaque code count extensions trailer first rest =
+    (swapped, PairSwapped)
+    ∷ (otherwise, OtherOrder)
+    ∷ (unknown, Revision major minor)
+    ∷ (not opaque && is_among code (1 ∷ 5 ∷ 6 ∷ []), FloatFormat code)
+    ∷ (not opaque && is_among code (4 ∷ []), GainFormat)
+    ∷ (not (is_among code (1 ∷ 2 ∷ 3 ∷ 4 ∷ 5 ∷ 6 ∷ 7 ∷ 8 ∷ 9 ∷ 10 ∷ 11 ∷ 12 ∷ 15 ∷ 16 ∷ [])), UnknownFormat code)
+    ∷ (is_none (blocks_for count rest), TextCount count)
+    ∷ (int_lt extensions (pos 0) || int_lt (pos 255) extensions, Extensions extensions)
+    ∷ (is_trailer_refused trailer (length rest - 3200 * unwrap_or (blocks_for count rest) 0), Trailer trailer)
+    ∷ (not (first == 0) && not (first == traces_at (unwrap_or (blocks_for count rest) 0)), FirstTrace first)
+    ∷ []
 
-by_revision : Bool → ℕ → ℕ → Result Head LoadFault → Result Head LoadFault
-by_revision unknown major minor checked = if unknown then Err (Revision major minor) else checked
+head_faults-is : (reading : Reading) (o : Order) (bin rest : List ℕ) → head_faults reading o bin rest ≡ faults_with (is_pair_swapped bin) (is_other_order reading.order (told_order bin)) (is_unknown_revision o bin) (major_of o bin) (minor_of o bin) reading.opaque (format_code o bin) (text_count o bin) (extensions_field o bin) (trailer_field o bin) (first_trace o bin) rest
+unfolding faults_with
+head_faults-is reading o bin rest = refl
 
-with_order-is : (reading : Reading) (o : Order) (bin rest : List ℕ) → with_order reading o bin rest ≡ by_revision (is_unknown_revision o bin) (major_of o bin) (minor_of o bin) (with_format reading o bin rest (format_of reading.opaque (format_code o bin)))
-unfolding by_revision
-with_order-is reading o bin rest = refl
-
-with_order-same : (reading : Reading) (o : Order) (bin other rest : List ℕ) → SameFrame bin other → with_order reading o other rest ≡ with_order reading o bin rest
-with_order-same reading o bin other rest s =
-    let checked : with_format reading o other rest (format_of reading.opaque (format_code o other)) ≡ with_format reading o bin rest (format_of reading.opaque (format_code o bin)) =
-    with_format-same reading o bin other rest (format_of reading.opaque (format_code o other)) s ∙ ap (λ (code : ℕ). with_format reading o bin rest (format_of reading.opaque code)) (format-same o bin other s) in
-    with_order-is reading o other rest
-    ∙ ap (λ (b : Bool). by_revision b (major_of o other) (minor_of o other) (with_format reading o other rest (format_of reading.opaque (format_code o other)))) (unknown-same o bin other s)
-    ∙ ap (λ (n : ℕ). by_revision (is_unknown_revision o bin) n (minor_of o other) (with_format reading o other rest (format_of reading.opaque (format_code o other)))) (major-same o bin other s)
-    ∙ ap (λ (n : ℕ). by_revision (is_unknown_revision o bin) (major_of o bin) n (with_format reading o other rest (format_of reading.opaque (format_code o other)))) (minor-same o bin other s)
-    ∙ ap (by_revision (is_unknown_revision o bin) (major_of o bin) (minor_of o bin)) checked
-    ∙ sym (with_order-is reading o bin rest)
-
-by_order : Bool → Bool → Result Head LoadFault → Result Head LoadFault
-by_order swapped otherwise checked = if swapped then Err PairSwapped else if otherwise then Err OtherOrder else checked
-
-head_from-is : (reading : Reading) (bin rest : List ℕ) → head_from reading bin rest ≡ by_order (is_pair_swapped bin) (is_other_order reading.order (told_order bin)) (with_order reading (order_of reading bin) bin rest)
-unfolding by_order
-head_from-is reading bin rest = refl
+head_faults-same : (reading : Reading) (o : Order) (bin other rest : List ℕ) → SameFrame bin other → head_faults reading o other rest ≡ head_faults reading o bin rest
+head_faults-same reading o bin other rest s =
+    head_faults-is reading o other rest
+    ∙ rw (swapped-same bin other s, told-same bin other s, unknown-same o bin other s, format-same o bin other s, count-same o bin other s, extensions-same o bin other s, trailer-same o bin other s, first-same o bin other s, minor-same o bin other s, major-same o bin other s) refl
+    ∙ sym (head_faults-is reading o bin rest)
 
 -- bytes of the binary header outside those fields do not count
 pub head_from-same : (reading : Reading) (bin other rest : List ℕ) → SameFrame bin other → head_from reading other rest ≡ head_from reading bin rest
 head_from-same reading bin other rest s =
-    head_from-is reading other rest
-    ∙ ap (λ (b : Bool). by_order b (is_other_order reading.order (told_order other)) (with_order reading (order_of reading other) other rest)) (swapped-same bin other s)
-    ∙ ap (λ (told : Option Order). by_order (is_pair_swapped bin) (is_other_order reading.order told) (with_order reading (order_of reading other) other rest)) (told-same bin other s)
-    ∙ ap (λ (o : Order). by_order (is_pair_swapped bin) (is_other_order reading.order (told_order bin)) (with_order reading o other rest)) (order-same reading bin other s)
-    ∙ ap (by_order (is_pair_swapped bin) (is_other_order reading.order (told_order bin))) (with_order-same reading (order_of reading bin) bin other rest s)
-    ∙ sym (head_from-is reading bin rest)
+    let o : Order = order_of reading bin in
+    ap (λ (p : Order). first_fault_else (head_faults reading p other rest) (head_by reading p other rest)) (order-same reading bin other s)
+    ∙ ap₂ first_fault_else (head_faults-same reading o bin other rest s) (head_by-same reading o bin other rest s)
 
 -- ---- the file
 

@@ -4,6 +4,7 @@ use Rattle.std.proofs.lemmas.List.Elements.{All-nil, All-from_recursion}
 use Rattle.frame_cut.specs.declared.load_fault.LoadFault.TheVariants.{Truncated}
 use Rattle.frame_cut.specs.Readings.{as_written}
 use Rattle.frame_cut.specs.SmallFiles.{wide_limits, head_plain, head_counted, trace_plain_1, trace_plain_2, trace_plain_3, trace_counted, file_plain, file_counted, volume_plain, volume_counted}
+use Rattle.frame_cut.specs.Heads.{head_of}
 use Rattle.frame_cut.specs.Cuts.{IsTrace, AreBlocks, IsCut, IsStuck}
 
 no_blocks : AreBlocks 0 []
@@ -23,6 +24,7 @@ is_counted = record { whole = lit≤ tt; exact = refl }
 
 -- the trace of `counted` has two of three header extensions, and its own number of samples
 pub cut-counted : IsCut file_counted as_written wide_limits volume_counted
+unfolding head_of
 cut-counted = record {
   joined = refl;
   parts = record {
@@ -38,6 +40,7 @@ cut-counted = record {
 
 -- one more byte is a torn trace 4
 pub stuck-plain : IsStuck (file_plain ++ 7 ∷ []) as_written wide_limits volume_plain (7 ∷ []) (Truncated 4)
+unfolding head_of
 stuck-plain = record {
   joined = refl;
   parts = record {

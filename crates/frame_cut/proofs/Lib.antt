@@ -2,7 +2,10 @@ pub mod BinEditLemmas
 pub mod LaidLemmas
 pub mod EditLemmas
 pub mod HeadFrontLemmas
+pub mod FormatLemmas
+pub mod OrderLemmas
 pub mod BlockLemmas
 pub mod OneCutLemmas
 pub mod CutExampleLemmas
 pub mod ExtensionLemmas
+pub mod FrontLemmas

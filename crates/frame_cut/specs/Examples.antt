@@ -12,15 +12,19 @@ use Rattle.frame_cut.specs.Frames.{trace_length, sample_count}
 use Rattle.frame_cut.specs.Cuts.{trace_refusal}
 
 pub head-texted : head_of file_texted as_written wide_limits ≡ Ok (record head_plain { blocks = 2; traces_at = 10000 })
+unfolding head_of
 head-texted = refl
 
 pub head-counted : head_of file_counted as_written wide_limits ≡ Ok head_counted
+unfolding head_of
 head-counted = refl
 
 pub head-trailed : head_of file_trailed as_written wide_limits ≡ Ok (record head_extended { trailer = 2 })
+unfolding head_of
 head-trailed = refl
 
 pub head-little : head_of file_little as_written wide_limits ≡ Ok head_little
+unfolding head_of
 head-little = refl
 
 -- no whole block ends the text
@@ -43,13 +47,16 @@ float-opaque = refl
 
 -- an integer format keeps its values
 pub integer-opaque : head_of file_little as_opaque wide_limits ≡ Ok head_little
+unfolding head_of
 integer-opaque = refl
 
 -- without a byte-order constant the file is big-endian, where no order is asked for
 pub untold : head_of file_untold as_opaque wide_limits ≡ Err (UnknownFormat 256)
+unfolding head_of
 untold = refl
 
 pub untold-little : head_of file_untold (record as_opaque { order = Some Little }) wide_limits ≡ Ok head_untold
+unfolding head_of
 untold-little = refl
 
 pub length-untold : trace_length head_untold trace_untold ≡ Some 244
@@ -57,9 +64,11 @@ length-untold = refl
 
 -- where the constant tells the order, the other one may not be asked for
 pub told : head_of file_little (record as_written { order = Some Little }) wide_limits ≡ Ok head_little
+unfolding head_of
 told = refl
 
 pub told-otherwise : head_of file_little (record as_written { order = Some Big }) wide_limits ≡ Err OtherOrder
+unfolding head_of
 told-otherwise = refl
 
 pub told-swapped : head_from (record as_written { order = Some Little }) (put_bin 3297 (2 ∷ 1 ∷ 4 ∷ 3 ∷ []) bin_little) [] ≡ Err PairSwapped

@@ -12,3 +12,4 @@ pub mod Laws
 pub mod SmallFiles
 pub mod Examples
 pub mod Parts
+pub mod Fronts

@@ -1,7 +1,8 @@
 // The head of a file: the checks of the file headers, in their order.
-ghost use Rattle.std.specs.Prelude.{◌≡◌, ◌≤◌, ◌*◌, ◌^◌, ◌||◌, ◌&&◌, ◌==◌, not, false, pos, int_lt, length};
-ghost use Rattle.frame_cut.specs.BinaryHeader.{text_count as text_count_in, extensions_field, trailer_field};
-ghost use Rattle.frame_cut.specs.Heads.{head_of, head_from as head_from_parts, with_order as with_order_found, head_in as head_in_parts, with_blocks as with_blocks_found, blocks_for as blocks_in, format_refusal as format_refusal_of, is_trailer_refused as is_trailer_refused_at};
+ghost use Rattle.std.specs.Prelude.{◌≡◌, ◌<◌, ◌≤◌, ◌*◌, ◌^◌, ◌||◌, ◌&&◌, ◌==◌, not, false, pos, int_lt, nat_lt, ℕ, List, length, drop, Ok, None, IfOk, IsSome};
+ghost use Rattle.frame_cut.specs.BinaryHeader.{extensions_field, trailer_field};
+ghost use Rattle.frame_cut.specs.Fronts.{BeginsWith, Tells};
+ghost use Rattle.frame_cut.specs.Heads.{head_of, head_from as head_from_parts, head_faults, first_fault_else, head_by, head_in as head_in_parts, blocks_in, format_in, format_refusal as format_refusal_of, is_trailer_refused as is_trailer_refused_at};
 
 use crate::binary_header::{
     extensions, first_trace, format_code, is_fixed, is_other_order, is_pair_swapped, major, minor,
@@ -12,7 +13,7 @@ use crate::limits::Limits;
 use crate::load_fault::LoadFault;
 use crate::reading::Reading;
 use crate::sizes::{BINARY_HEADER_BYTES, FILE_HEADER_BYTES};
-use crate::text_headers::blocks_for;
+use crate::text_headers::blocks_told;
 use num_order::Order;
 use sample_codes::{Format, FormatFault};
 use text_block::TEXT_BLOCK_BYTES;
@@ -27,25 +28,58 @@ use text_block::TEXT_BLOCK_BYTES;
 pub fn head(bytes: &[u8], reading: Reading, limits: Limits) -> Result<Head, LoadFault>
     ensures { result ≡ head_of bytes.now reading limits }
 {
-    let length = bytes.len() as u64;
-    if length > limits.bytes() {
+    match head_of_front(bytes, bytes.len() as u64, reading, limits) {
+        Ok(Some(head)) => Ok(head),
+        Ok(None) => unreachable!(),
+        Err(fault) => Err(fault),
+    }
+}
+
+/// The head of each file of so many bytes that begins with these, or the first refusal, as
+/// [`head`]; None where it stands in the bytes behind them: where they are not the whole file
+/// headers, or none of their extended textual headers ends the text, and the text count is -1
+/// (bytes 3505-3506). Takes no memory.
+pub fn head_of_front(
+    front: &[u8],
+    size: u64,
+    reading: Reading,
+    limits: Limits,
+) -> Result<Option<Head>, LoadFault>
+    requires { length front.now ≤ size }
+    ensures told { (file : List ℕ) → BeginsWith front.now size file →
+        Tells result (head_of file reading limits) }
+    ensures more { result ≡ Ok None → length front.now < size }
+{
+    if size > limits.bytes() {
         return Err(LoadFault::TooLarge);
     }
-    if length < FILE_HEADER_BYTES as u64 {
-        return Err(LoadFault::Short(length));
+    if size < FILE_HEADER_BYTES as u64 {
+        return Err(LoadFault::Short(size));
+    }
+    if front.len() < FILE_HEADER_BYTES {
+        return Ok(None);
     }
     head_from(
         reading,
-        &bytes[TEXT_BLOCK_BYTES..FILE_HEADER_BYTES],
-        &bytes[FILE_HEADER_BYTES..],
+        &front[TEXT_BLOCK_BYTES..FILE_HEADER_BYTES],
+        &front[FILE_HEADER_BYTES..],
+        size - FILE_HEADER_BYTES as u64,
     )
 }
 
-// The head of a file with this binary header and these bytes behind it.
-fn head_from(reading: Reading, bin: &[u8], rest: &[u8]) -> Result<Head, LoadFault>
+// The head of a file with this binary header, and so many bytes behind it that begin with these.
+fn head_from(
+    reading: Reading,
+    bin: &[u8],
+    rest: &[u8],
+    left: u64,
+) -> Result<Option<Head>, LoadFault>
     requires whole { length bin.now ≡ BINARY_HEADER_BYTES }
-    requires small { length rest.now ≤ 2 ^ 40 }
-    ensures { result ≡ head_from_parts reading bin.now rest.now }
+    requires inside { length rest.now ≤ left }
+    requires small { left ≤ 2 ^ 40 }
+    ensures told { (all : List ℕ) → BeginsWith rest.now left all →
+        Tells result (head_from_parts reading bin.now all) }
+    ensures more { result ≡ Ok None → length rest.now < left }
 {
     if is_pair_swapped(bin) {
         return Err(LoadFault::PairSwapped);
@@ -53,23 +87,59 @@ fn head_from(reading: Reading, bin: &[u8], rest: &[u8]) -> Result<Head, LoadFaul
     if is_other_order(reading.order, told_order(bin)) {
         return Err(LoadFault::OtherOrder);
     }
-    with_order(reading, order_of(reading, bin), bin, rest)
+    with_order(reading, order_of(reading, bin), bin, rest, left)
 }
 
-// The checks behind the order of bytes.
-fn with_order(reading: Reading, order: Order, bin: &[u8], rest: &[u8]) -> Result<Head, LoadFault>
+// The checks behind the order of bytes: the refusals but for the first two, L04 and L17.
+fn with_order(
+    reading: Reading,
+    order: Order,
+    bin: &[u8],
+    rest: &[u8],
+    left: u64,
+) -> Result<Option<Head>, LoadFault>
     requires whole { length bin.now ≡ BINARY_HEADER_BYTES }
-    requires small { length rest.now ≤ 2 ^ 40 }
-    ensures { result ≡ with_order_found reading order bin.now rest.now }
+    requires inside { length rest.now ≤ left }
+    requires small { left ≤ 2 ^ 40 }
+    ensures told { (all : List ℕ) → BeginsWith rest.now left all → Tells result
+        (first_fault_else (drop 2 (head_faults reading order bin.now all))
+        (head_by reading order bin.now all)) }
+    ensures more { result ≡ Ok None → length rest.now < left }
 {
     let major = major(order, bin);
     let minor = minor(order, bin);
-    if major > 2 || (major == 2 && minor != 0) {
+    if is_unknown_revision(major, minor) {
         return Err(LoadFault::Revision(major, minor));
     }
+    with_revision(reading, order, bin, rest, left)
+}
+
+// Whether the revision is above 2.0.
+fn is_unknown_revision(major: u8, minor: u8) -> bool
+    ensures { result ≡ (nat_lt 2 major || (major == 2 && not (minor == 0))) }
+{
+    major > 2 || (major == 2 && minor != 0)
+}
+
+// The checks behind the revision: the refusals but for the first three, L04, L05 and L17.
+fn with_revision(
+    reading: Reading,
+    order: Order,
+    bin: &[u8],
+    rest: &[u8],
+    left: u64,
+) -> Result<Option<Head>, LoadFault>
+    requires whole { length bin.now ≡ BINARY_HEADER_BYTES }
+    requires inside { length rest.now ≤ left }
+    requires small { left ≤ 2 ^ 40 }
+    ensures told { (all : List ℕ) → BeginsWith rest.now left all → Tells result
+        (first_fault_else (drop 3 (head_faults reading order bin.now all))
+        (head_by reading order bin.now all)) }
+    ensures more { result ≡ Ok None → length rest.now < left }
+{
     let code = format_code(order, bin);
     match Format::of(code, reading.opaque) {
-        Ok(format) => with_format(reading, order, bin, rest, format),
+        Ok(format) => with_format(reading, order, bin, rest, left, format),
         Err(fault) => Err(format_refusal(fault, code)),
     }
 }
@@ -85,38 +155,48 @@ fn format_refusal(fault: FormatFault, code: u16) -> LoadFault
     }
 }
 
-// The checks behind the sample format.
+// The checks behind the sample format: the refusals but for the first six, L04 to L08 and L17.
 fn with_format(
     reading: Reading,
     order: Order,
     bin: &[u8],
     rest: &[u8],
+    left: u64,
     format: Format,
-) -> Result<Head, LoadFault>
+) -> Result<Option<Head>, LoadFault>
     requires whole { length bin.now ≡ BINARY_HEADER_BYTES }
-    requires small { length rest.now ≤ 2 ^ 40 }
-    ensures { result ≡ with_blocks_found reading order bin.now rest.now format
-        (blocks_in (text_count_in order bin.now) rest.now) }
+    requires inside { length rest.now ≤ left }
+    requires small { left ≤ 2 ^ 40 }
+    requires format { format ≡ format_in reading order bin.now }
+    ensures told { (all : List ℕ) → BeginsWith rest.now left all → Tells result
+        (first_fault_else (drop 6 (head_faults reading order bin.now all))
+        (head_by reading order bin.now all)) }
+    ensures more { result ≡ Ok None → length rest.now < left }
 {
     let count = text_count(order, major(order, bin), bin);
-    match blocks_for(count, rest) {
-        Some(blocks) => with_blocks(reading, order, bin, rest, format, blocks),
-        None => Err(LoadFault::TextCount(count)),
+    match blocks_told(count, rest, left) {
+        Some(Some(blocks)) => with_blocks(reading, order, bin, left, format, blocks),
+        Some(None) => Err(LoadFault::TextCount(count)),
+        None => Ok(None),
     }
 }
 
-// The checks behind the number of extended textual headers.
+// The checks behind the number of extended textual headers: the last three refusals, L10 to L12.
 fn with_blocks(
     reading: Reading,
     order: Order,
     bin: &[u8],
-    rest: &[u8],
+    left: u64,
     format: Format,
     blocks: u32,
-) -> Result<Head, LoadFault>
+) -> Result<Option<Head>, LoadFault>
     requires whole { length bin.now ≡ BINARY_HEADER_BYTES }
-    requires inside { TEXT_BLOCK_BYTES * blocks ≤ length rest.now }
-    ensures { result ≡ with_blocks_found reading order bin.now rest.now format (Some blocks) }
+    requires inside { TEXT_BLOCK_BYTES * blocks ≤ left }
+    requires format { format ≡ format_in reading order bin.now }
+    ensures told { (all : List ℕ) → length all ≡ left → blocks ≡ blocks_in order bin.now all →
+        Tells result (first_fault_else (drop 7 (head_faults reading order bin.now all))
+        (head_by reading order bin.now all)) }
+    ensures known { IfOk result (λ head. IsSome head) }
 {
     let major = major(order, bin);
     let extensions = extensions(order, major, bin);
@@ -124,10 +204,7 @@ fn with_blocks(
         return Err(LoadFault::Extensions(extensions));
     }
     let records = trailer(order, major, bin);
-    if is_trailer_refused(
-        records,
-        rest.len() as u64 - TEXT_BLOCK_BYTES as u64 * u64::from(blocks),
-    ) {
+    if is_trailer_refused(records, left - TEXT_BLOCK_BYTES as u64 * u64::from(blocks)) {
         return Err(LoadFault::Trailer(records));
     }
     let first = first_trace(order, major, bin);
@@ -137,7 +214,7 @@ fn with_blocks(
     ) {
         return Err(LoadFault::FirstTrace(first));
     }
-    Ok(head_in(reading, order, bin, format, blocks, extensions, records))
+    Ok(Some(head_in(reading, order, bin, format, blocks, extensions, records)))
 }
 
 // Whether the most header extensions of a trace are not 0 to 255.

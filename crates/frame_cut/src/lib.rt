@@ -33,7 +33,7 @@ pub use crate::file_head::Head;
 pub use crate::frames::{
     extension_count, extensions_by, front_length, sample_count, samples_by, trace_length,
 };
-pub use crate::head_checks::head;
+pub use crate::head_checks::{head, head_of_front};
 pub use crate::laws::{
     at_most_one_cut, at_most_one_refusal, at_most_one_stuck, cut_or_refused, laid_is_joined,
     length_by_front, not_cut_and_refused, not_cut_and_stuck, splice_stays_cut,
@@ -42,3 +42,4 @@ pub use crate::limits::Limits;
 pub use crate::load_fault::LoadFault;
 pub use crate::reading::Reading;
 pub use crate::sizes::{BINARY_HEADER_BYTES, FILE_HEADER_BYTES};
+pub use crate::walk::length_of_next;

@@ -1,9 +1,10 @@
 // The walk over the traces of a file: where each one lies, or why one is refused.
-ghost use Rattle.std.specs.Prelude.{◌≡◌, ◌+◌, ◌*◌, ◌<◌, ◌≤◌, ◌↔◌, ◌⊎◌, ℕ, List, [], true, length, IfOk, IfErr, IsSome, IfSome};
+ghost use Rattle.std.specs.Prelude.{◌≡◌, ◌+◌, ◌*◌, ◌<◌, ◌≤◌, ◌↔◌, ◌⊎◌, ℕ, List, [], true, length, Some, None, IfOk, IfErr, IsSome, IfSome};
 ghost use Rattle.std.specs.Option.{ForSome};
 ghost use Rattle.frame_cut.specs.declared.extent.Extent.{Extent};
 ghost use Rattle.frame_cut.specs.Frames.{trace_length as trace_length_of, front_length as front_length_of};
 ghost use Rattle.frame_cut.specs.Cuts.{trace_refusal};
+ghost use Rattle.frame_cut.specs.Fronts.{BeginsWith};
 ghost use Rattle.frame_cut.specs.Walk.{AreWhole, StopsAt, IsFixedLength, traces_end};
 
 use crate::extent::Extent;
@@ -36,7 +37,8 @@ pub(crate) fn walk(
     };
     'traces: while at < end {
         let trace = extents.len() as u64 + 1;
-        let length = match next_length(head, fixed, limits, trace, &bytes[at..end]) {
+        let left = (end - at) as u64;
+        let length = match next_length(head, fixed, limits, trace, &bytes[at..end], left) {
             Ok(length) => length,
             Err(fault) => return Err(fault),
         };
@@ -84,27 +86,56 @@ fn empty_list(
     }
 }
 
-// The length of the trace at the front of the bytes that are left, or why it is refused.
+/// The length of trace p of a file with this head, where so many bytes are left for it and the
+/// traces behind it, of which these are the first: the trace's front, or all that are left. Else
+/// why it is refused, the first of these: the bytes that are left end in its front (L14), its first
+/// header extension names too many of them (L13), they end in it (L14), it is one more than the
+/// limit (L15). Traces count from 1. Takes no memory.
+pub fn length_of_next(
+    head: &Head,
+    limits: Limits,
+    p: u64,
+    front: &[u8],
+    left: u64,
+) -> Result<u64, LoadFault>
+    requires inside { length front.now ≤ left }
+    requires there { front_length_of head.now ≤ left → front_length_of head.now ≤ length front.now }
+    ensures whole { IfOk result (λ length. (rest : List ℕ) → BeginsWith front.now left rest →
+        (trace_refusal head.now limits p rest ≡ None)
+        × (trace_length_of head.now rest ≡ Some length)) }
+    ensures fits { IfOk result (λ length. length ≤ left) }
+    ensures refused { IfErr result (λ fault. (rest : List ℕ) → BeginsWith front.now left rest →
+        trace_refusal head.now limits p rest ≡ Some fault) }
+{
+    next_length(head, fixed_length(head), limits, p, front, left)
+}
+
+// The same, with the length that every trace has where there is one.
 fn next_length(
     head: &Head,
     fixed: Option<u64>,
     limits: Limits,
     trace: u64,
-    rest: &[u8],
+    front: &[u8],
+    left: u64,
 ) -> Result<u64, LoadFault>
-    requires { ForSome fixed (IsFixedLength head.now) }
-    ensures whole { IfOk result (λ length. (trace_refusal head.now limits trace rest.now ≡ None)
-        × (trace_length_of head.now rest.now ≡ Some length)) }
-    ensures refused { IfErr result (λ fault. trace_refusal head.now limits trace rest.now ≡ Some
-        fault) }
+    requires fixed { ForSome fixed (IsFixedLength head.now) }
+    requires inside { length front.now ≤ left }
+    requires there { front_length_of head.now ≤ left → front_length_of head.now ≤ length front.now }
+    ensures whole { IfOk result (λ length. (rest : List ℕ) → BeginsWith front.now left rest →
+        (trace_refusal head.now limits trace rest ≡ None)
+        × (trace_length_of head.now rest ≡ Some length)) }
+    ensures fits { IfOk result (λ length. length ≤ left) }
+    ensures refused { IfErr result (λ fault. (rest : List ℕ) → BeginsWith front.now left rest →
+        trace_refusal head.now limits trace rest ≡ Some fault) }
 {
-    if rest.len() < front_length(head) {
+    if left < front_length(head) as u64 {
         return Err(LoadFault::Truncated(trace));
     }
-    let Some(length) = length_here(head, fixed, rest) else {
+    let Some(length) = length_here(head, fixed, front) else {
         return Err(LoadFault::ExtensionCount(trace));
     };
-    if (rest.len() as u64) < length {
+    if left < length {
         return Err(LoadFault::Truncated(trace));
     }
     if trace > u64::from(limits.traces()) {
@@ -113,14 +144,14 @@ fn next_length(
     Ok(length)
 }
 
-// The length of the trace at the front of the bytes that are left, if its headers give it one.
-fn length_here(head: &Head, fixed: Option<u64>, rest: &[u8]) -> Option<u64>
+// The length of the trace with this front, if its headers give it one.
+fn length_here(head: &Head, fixed: Option<u64>, front: &[u8]) -> Option<u64>
     requires fixed { ForSome fixed (IsFixedLength head.now) }
-    requires front { front_length_of head.now ≤ length rest.now }
-    ensures { result ≡ trace_length_of head.now rest.now }
+    requires front { front_length_of head.now ≤ length front.now }
+    ensures { result ≡ trace_length_of head.now front.now }
 {
     match fixed {
         Some(length) => Some(length),
-        None => trace_length(head, rest),
+        None => trace_length(head, front),
     }
 }

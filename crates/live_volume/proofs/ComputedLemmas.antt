@@ -1,6 +1,7 @@
 -- A field of many traces computed: what is known where its bytes are laid over the traces.
-use Rattle.std.proofs.Common.{◌≡◌, ℕ, ℤ, ◌+◌, ◌-◌, ◌≤◌, List, Option, Some, None, refl, sym, ap, subst, ◌∙◌}
-use Rattle.std.specs.Prelude.{option_map, option_and_then}
+use Rattle.std.proofs.Common.{◌≡◌, ◌⊎◌, ℕ, ℤ, ◌+◌, ◌-◌, ◌*◌, ◌<◌, ◌≤◌, List, Option, Some, None, inl, inr, refl, sym, ap, subst, ◌∙◌, arith}
+use Rattle.std.specs.Prelude.{option_map, option_and_then, Result, Err}
+use Rattle.std.proofs.lemmas.Bool.{le-leb}
 use Rattle.std.specs.List.{flat_map}
 use Rattle.std.specs.Option.{option_or}
 use Rattle.num_order.specs.Number.{bytes}
@@ -8,24 +9,28 @@ use Rattle.field_map.specs.declared.place.Place.{Place}
 use Rattle.field_map.specs.Pairs.{Pairs}
 use Rattle.field_map.specs.Places.{offset_of}
 use Rattle.frame_cut.specs.Parts.{with_each}
-use Rattle.frame_cut.specs.Traces.{trace_at}
+use Rattle.frame_cut.specs.Traces.{count_of}
 use Rattle.frame_cut.specs.Volume.{Volume}
+use Rattle.edit_overlay.specs.CountedVolume.{RisesAtMost}
 use Rattle.bench_rules.specs.declared.edit.Edit.TheVariants.{Compute}
 use Rattle.bench_rules.specs.declared.field.Field.{Field}
 use Rattle.bench_rules.specs.declared.operand.Operand.{Operand}
 use Rattle.bench_rules.specs.declared.operator.Operator.{Operator}
+use Rattle.bench_rules.specs.declared.refusal.Refusal.{Refusal}
 use Rattle.bench_rules.specs.declared.term.Term.{Term}
 use Rattle.bench_rules.specs.Computed.{Formula, compute_refusal_in, formula_of, steps_of, term_of}
+use Rattle.bench_rules.specs.Looks.{edit_looks, looks_at, range_looks}
 use Rattle.bench_rules.specs.Places.{place_in_trace}
+use Rattle.bench_rules.specs.ReadFaults.{IsReadRefusal}
 use Rattle.bench_rules.specs.Refused.{first_refusal, no_trace, no_trace_from}
 use Rattle.bench_rules.specs.State.{State}
-use Rattle.bench_rules.specs.Steps.{IsAfter}
+use Rattle.bench_rules.specs.Steps.{IsAfter, Step}
 use Rattle.bench_rules.proofs.ComputeLemmas.{accepted_numbers, compute_accepted, compute_done, compute_first, number_of, numbers_are}
 use Rattle.bench_rules.proofs.FirstLemmas.{AreTraces, are_traces, both_none}
 use Rattle.bench_rules.proofs.ManyValueLemmas.{IsRead, ValuesFitIn, bytes_from, values_fit_in}
-use Rattle.bench_rules.proofs.PlaceLemmas.{stands}
-use Rattle.many_traces.specs.Formulas.{formula_at, number_bytes}
+use Rattle.many_traces.specs.Formulas.{formula_at, number_bytes, IsRefusalFor}
 use Rattle.many_traces.proofs.NumbersLemmas.{of_valued}
+use Rattle.live_volume.proofs.HeldLemmas.{told_for, told_of_read}
 
 -- traces a to b are there, where nothing refuses them
 pub in_range : (v : Volume) (a b : ℕ) → None ≡ option_or (no_trace v a) (no_trace_from v a b) → AreTraces v a b None
@@ -83,13 +88,45 @@ lays s a b field source steps place at size bs cut t e none g h is =
       done = compute_done s a b field source steps at size bs (with_each v a at size bs) cut c at_is size_is there refl;
     }
 
--- a place of the traces has a first byte
-pub first_byte : (s : State) (a b : ℕ) (field : Field) (source : Operand) (steps : List (Operator × Operand)) (place : Place) → AreTraces s.volume a b None → Some place ≡ place_in_trace s.fields field
-    → compute_refusal_in s.volume (formula_at s.fields place source steps) a b ≡ None → 1 ≤ place.byte
-first_byte s a b field source steps place t e none =
-    let c = compute_accepted s a b field source steps (first_is s a b field source steps place t e ∙ none) in
-    let found : formula_at s.fields place source steps ≡ Some c.formula = sym (formula_is s field source steps place e) ∙ c.found in
-    let same : c.formula.place ≡ place = place_of_formula s.fields place source steps c.formula found in
-    let ok = accepted_numbers s a b field source steps c in
-    let first = (stands s.volume.head (trace_at s.volume (a + 0)) c.formula.place (ok.each 0 ok.some).has).first in
-    subst (λ (p : Place). 1 ≤ p.byte) same first
+-- ---- looks, and what is told
+
+-- all traces of the range are there, so each may be looked at
+pub all_looks : (v : Volume) (a b : ℕ) → AreTraces v a b None → range_looks v a b ≡ b + 1 - a
+all_looks v a b t = rw (le-leb 1 a t.low, le-leb a (count_of v) (omega (arith, t.high, t.last)), le-leb a b t.high, le-leb b (count_of v) t.last) refl
+
+more_looks : {X : Type 0} (o : Option X) (n : ℕ) → 0 < looks_at o n → 0 < looks_at o (2 * n)
+more_looks None n some = absurd (omega (arith, some))
+more_looks (Some x) n some = omega (arith, some)
+
+-- as many looks again are within the looks of the edit
+looks_twice : {X : Type 0} (o : Option X) (n : ℕ) → 0 < looks_at o n → looks_at o n + n ≤ looks_at o (2 * n)
+looks_twice None n some = absurd (omega (arith, some))
+looks_twice (Some x) n some = omega arith
+
+pub computed_twice : (s : State) (a b : ℕ) (field : Field) (source : Operand) (steps : List (Operator × Operand)) (place : Place) (old mid new : ℕ) → AreTraces s.volume a b None → Some place ≡ place_in_trace s.fields field
+    → 0 < looks_at (formula_at s.fields place source steps) (b + 1 - a) → RisesAtMost old mid (looks_at (formula_at s.fields place source steps) (b + 1 - a)) → RisesAtMost mid new (b - a + 1)
+    → RisesAtMost old new (edit_looks s (Compute a b field source steps))
+computed_twice s a b field source steps place old mid new t e some first second =
+    let all : edit_looks s (Compute a b field source steps) ≡ looks_at (formula_at s.fields place source steps) (2 * (b + 1 - a)) =
+    ap (λ (o : Option Formula). looks_at o (2 * range_looks s.volume a b)) (formula_is s field source steps place e) ∙ ap (λ (n : ℕ). looks_at (formula_at s.fields place source steps) (2 * n)) (all_looks s.volume a b t) in
+    let twice = looks_twice (formula_at s.fields place source steps) (b + 1 - a) some in
+    (omega (arith, first, second), omega (arith, first, second, all, twice, t.high))
+
+-- a computation that nothing refuses may look
+pub computed_looks : (s : State) (a b : ℕ) (field : Field) (source : Operand) (steps : List (Operator × Operand)) → AreTraces s.volume a b None → first_refusal s (Compute a b field source steps) ≡ None
+    → 0 < edit_looks s (Compute a b field source steps)
+computed_looks s a b field source steps t none =
+    let c = compute_accepted s a b field source steps none in
+    rw (c.found, all_looks s.volume a b t) (omega (arith, t.high))
+
+-- a refusal that is told is a step
+pub compute_told : (T : Type 0) (s new : State) (a b : ℕ) (field : Field) (source : Operand) (steps : List (Operator × Operand)) (place : Place) (refusal : Refusal) → AreTraces s.volume a b None → Some place ≡ place_in_trace s.fields field
+    → (IsReadRefusal s.on_disk refusal × (0 < looks_at (formula_at s.fields place source steps) (b + 1 - a))) ⊎ IsRefusalFor refusal (compute_refusal_in s.volume (formula_at s.fields place source steps) a b) → new ≡ s
+    → (let r : Result T Refusal = Err refusal in Step s (Compute a b field source steps) r new)
+compute_told T s new a b field source steps place refusal t e (inl read) same =
+    let may : 0 < edit_looks s (Compute a b field source steps) =
+    subst (λ (o : Option Formula). 0 < looks_at o (2 * range_looks s.volume a b)) (sym (formula_is s field source steps place e))
+    (subst (λ (n : ℕ). 0 < looks_at (formula_at s.fields place source steps) (2 * n)) (sym (all_looks s.volume a b t)) (more_looks (formula_at s.fields place source steps) (b + 1 - a) read.1)) in
+    told_of_read T s new (Compute a b field source steps) refusal may read.0 same
+compute_told T s new a b field source steps place refusal t e (inr is) same =
+    told_for T s new (Compute a b field source steps) refusal (record {}) (subst (λ (o : Option Refusal). IsRefusalFor refusal o) (sym (first_is s a b field source steps place t e)) is) same

@@ -7,7 +7,7 @@ use Rattle.std.proofs.Math.Nat.{mul-le-mul_left}
 use Rattle.std.proofs.lemmas.Bool.{le-leb, leb-true, ltb-true, eqb-true}
 use Rattle.std.proofs.lemmas.Int.{ints}
 use Rattle.num_order.specs.declared.kind.Kind.{Kind}
-use Rattle.num_order.specs.Number.{bytes, fits, is_between}
+use Rattle.num_order.specs.Number.{bytes, fits, is_between, is_size}
 use Rattle.num_order.proofs.InRangeLemmas.{length-number}
 use Rattle.field_map.specs.declared.place.Place.{Place}
 use Rattle.field_map.specs.Places.{offset_of}
@@ -16,7 +16,7 @@ use Rattle.frame_cut.specs.Cuts.{IsTrace, IsCut}
 use Rattle.frame_cut.specs.Frames.{extensions_of, trace_length}
 use Rattle.frame_cut.specs.Splice.{splice}
 use Rattle.frame_cut.specs.Traces.{count_of, is_trace, trace_at}
-use Rattle.frame_cut.specs.Volume.{bytes_of}
+use Rattle.frame_cut.specs.Volume.{Volume, bytes_of}
 use Rattle.trace_view.specs.Counted.{leave_length, share_no_byte}
 use Rattle.trace_view.specs.Values.{has_place, is_in_header}
 use Rattle.trace_view.proofs.CountedLemmas.{length-kept}
@@ -24,10 +24,10 @@ use Rattle.bench_rules.specs.declared.field.Field.TheVariants as field
 use Rattle.bench_rules.specs.Refused.{with_value, set_refusal, first_refusal_among}
 use Rattle.bench_rules.specs.State.{State}
 use Rattle.bench_rules.specs.TraceEdits.{counted, numbers}
-use Rattle.bench_rules.proofs.PlaceLemmas.{place_inside}
+use Rattle.bench_rules.proofs.PlaceLemmas.{place_inside, sized}
 use Rattle.bench_rules.proofs.RenumberLemmas.{renumber_not_refused}
 use Rattle.bench_rules.proofs.SetLemmas.{Accepted, both, not_refused, refused_at, whole_trace}
-use Rattle.live_volume.specs.Places.{leaves_length}
+use Rattle.live_volume.specs.Places.{leaves_length, EachHolds}
 use Rattle.live_volume.proofs.ManyTracesLemmas.{among_values}
 
 -- ---- the values between the first and the last
@@ -160,3 +160,16 @@ none_refuses s a b place first step cut low high last leaves zeroth end =
 pub on_true : {P : Type 0} (b : Bool) → (b ≡ true → P) → OnTrue b P
 on_true true f = f refl
 on_true false f = tt
+
+-- each trace has a main header, so each holds the place
+pub each_holds : (v : Volume) (a b : ℕ) (place : Place) → 1 ≤ a → b ≤ count_of v → ((p : ℕ) → 1 ≤ p → p ≤ count_of v → 240 ≤ length (trace_at v p)) → leaves_length place ≡ true → EachHolds v a (b + 1 - a) place
+each_holds v a b place low last headers leaves k less =
+    let free = is_free place leaves in
+    let header = headers (a + k) (omega (arith, low)) (omega (arith, less, last)) in
+    let at : offset_of place ≡ place.byte - 1 = rw free.header (omega arith) in
+    let size : is_size place.kind.size ≡ true = (both _ _ (both _ _ (both _ _ (both _ _ leaves).0).0).0).1 in
+    record { first = free.first; size = sized place.kind.size size; inside = omega (arith, at, header, free.first, free.last) }
+
+-- and each value fits
+pub all_fit : (place : Place) (first step : ℤ) (a b : ℕ) → a ≤ b → fits place.kind first ≡ true → fits place.kind (counted first step (b - a)) ≡ true → (k : ℕ) → k < b + 1 - a → fits place.kind (counted first step k) ≡ true
+all_fit place first step a b high zeroth end k less = each_fits place.kind first step k (b - a) (omega (arith, less, high)) zeroth end

@@ -1,4 +1,7 @@
+pub mod MeasuredLemmas
 pub mod HeldLemmas
+pub mod EditLemmas
+pub mod RoomLemmas
 mod ManyTracesLemmas
 mod CountedLemmas
 pub mod ComputedLemmas

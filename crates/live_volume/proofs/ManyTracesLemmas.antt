@@ -1,9 +1,9 @@
 -- A field of many traces counted up: what is known after the first values, and whether a trace has another inline or crossline then.
-use Rattle.std.proofs.Common.{◌≡◌, ℕ, ℤ, zero, suc, ◌+◌, ◌-◌, ◌/◌, ◌<◌, ◌≤◌, Bool, true, false, ◌&&◌, ◌||◌, leb, ltb, List, [], ◌∷◌, length, take, drop, map, get_or, Option, Some, None, refl, sym, ap, ap₂, ◌∙◌, arith}
-use Rattle.std.specs.Prelude.{is_some, not}
+use Rattle.std.proofs.Common.{◌≡◌, ℕ, ℤ, zero, suc, ◌+◌, ◌-◌, ◌/◌, ◌<◌, ◌≤◌, Bool, true, false, ◌&&◌, ◌||◌, leb, List, [], ◌∷◌, length, take, drop, map, get_or, Option, Some, None, refl, sym, ap, ap₂, subst, ◌∙◌, arith}
+use Rattle.std.specs.Prelude.{is_some, not, IsTrue}
 use Rattle.std.specs.List.{list_any, range_with_len}
 use Rattle.std.specs.Ordering.{int_eq}
-use Rattle.std.proofs.lemmas.Bool.{le-leb, ltb-true, ltb-false}
+use Rattle.std.proofs.lemmas.Bool.{le-leb}
 use Rattle.std.proofs.lemmas.List.{drop_more}
 use Rattle.field_map.specs.declared.place.Place.{Place}
 use Rattle.field_map.specs.Pairs.{Pairs}
@@ -13,54 +13,63 @@ use Rattle.frame_cut.specs.Volume.{Volume}
 use Rattle.trace_record.specs.Facts.{Facts, facts_of}
 use Rattle.trace_record.specs.OfTrace.{record_of}
 use Rattle.trace_record.specs.declared.record.Record.{Record}
-use Rattle.edit_overlay.specs.CountedVolume.{RisesAtMost}
 use Rattle.live_reports.specs.Alike.{same_cell}
 use Rattle.live_reports.specs.Exchanged.{same_cells, with_records}
 use Rattle.volume_records.specs.OfVolume.{AreHeaderParts, headers_of, records_of}
 use Rattle.volume_records.proofs.EachLemmas.{length-with_each, records-with_each}
 use Rattle.volume_records.proofs.RecordLemmas.{length-records}
 use Rattle.bench_rules.specs.declared.edit.Edit.TheVariants.{Renumber}
+use Rattle.bench_rules.specs.declared.field.Field.{Field}
 use Rattle.bench_rules.specs.declared.field.Field.TheVariants as field
 use Rattle.bench_rules.specs.declared.refusal.Refusal.{Refusal}
 use Rattle.bench_rules.specs.Kept.{same_cell as cell}
 use Rattle.bench_rules.specs.Refused.{first_refusal, first_refusal_among, set_refusal}
+use Rattle.bench_rules.specs.Looks.{edit_looks}
+use Rattle.bench_rules.specs.Places.{place_in_trace}
 use Rattle.bench_rules.specs.State.{State, Session}
+use Rattle.bench_rules.specs.Steps.{IsAfter}
 use Rattle.bench_rules.specs.TraceEdits.{counted, numbers}
 use Rattle.bench_rules.proofs.RenumberLemmas.{NoneRefused, renumber_refused, renumber_not_refused}
-use Rattle.live_volume.specs.Held.{moves, any_moves, with_volume}
+use Rattle.num_order.specs.Number.{fits}
+use Rattle.many_traces.specs.Fields.{HoldsPlace}
+use Rattle.live_volume.specs.Held.{moves, any_moves, with_volume, OnlyLooks}
+use Rattle.live_volume.specs.Places.{EachHolds}
+use Rattle.bench_rules.proofs.FirstLemmas.{AreTraces}
+use Rattle.live_volume.proofs.ComputedLemmas.{all_looks}
+use Rattle.live_volume.proofs.HeldLemmas.{looks_none, looks_more}
+use borrow.Author.Count.{below_more}
 
 -- ---- the first refusal
 
--- the first k values are not refused, at a look each
+-- the first k values are not refused, and their traces hold them, at a look each
 pub record IsSoFar (old mid : Session) (place : Place) (a : ℕ) (first step : ℤ) (k : ℕ) : Type 0 where
-  pub state : mid.state ≡ old.state
-  pub looks : RisesAtMost old.looks mid.looks k
-  pub none : NoneRefused old.state.volume place a first step k
+  pub seen : OnlyLooks old mid k
+  pub none : IsTrue mid.agreed → NoneRefused old.state.volume place a first step k
+  pub each : EachHolds old.state.volume a k place
+  pub fit : (j : ℕ) → j < k → fits place.kind (counted first step j) ≡ true
 
 pub none_yet : (s : Session) (place : Place) (a : ℕ) (first step : ℤ) → IsSoFar s s place a first step 0
-none_yet s place a first step = record { state = refl; looks = (omega arith, omega arith); none = λ j less. absurd (omega (arith, less)) }
+none_yet s place a first step =
+    record { seen = looks_none s; none = λ sure j less. absurd (omega (arith, less)); each = λ j less. absurd (omega (arith, less)); fit = λ j less. absurd (omega (arith, less)) }
 
-nothing_told : (r : Option Refusal) → is_some r ≡ false → r ≡ None
+pub nothing_told : (r : Option Refusal) → is_some r ≡ false → r ≡ None
 nothing_told None e = refl
 nothing_told (Some x) e = absurd cc
 
 pub none_again : (old mid new : Session) (place : Place) (a : ℕ) (first step : ℤ) (k : ℕ) (r : Option Refusal) → IsSoFar old mid place a first step k
-    → is_some r ≡ false → r ≡ set_refusal mid.state.volume.head (trace_at mid.state.volume (a + k)) (Some place) (counted first step k)
-    → new.state ≡ mid.state → RisesAtMost mid.looks new.looks 1 → IsSoFar old new place a first step (k + 1)
-none_again old mid new place a first step k r far nothing is same rises = record {
-  state = same ∙ far.state;
-  looks = (omega (arith, far.looks.0, rises.0), omega (arith, far.looks.1, rises.1));
-  none = λ j less. by j (ltb j k) refl less;
-}
-  where
-    here : set_refusal old.state.volume.head (trace_at old.state.volume (a + k)) (Some place) (counted first step k) ≡ None
-    here = ap (λ (s : State). set_refusal s.volume.head (trace_at s.volume (a + k)) (Some place) (counted first step k)) (sym far.state) ∙ sym is ∙ nothing_told r nothing
-
-    by : (j : ℕ) (b : Bool) → ltb j k ≡ b → j < k + 1 → set_refusal old.state.volume.head (trace_at old.state.volume (a + j)) (Some place) (counted first step j) ≡ None
-    by j true e less = far.none j (ltb-true j k e)
-    by j false e less =
-        let same : k ≡ j = omega (arith, less, ltb-false j k e) in
-        rw same at here
+    → is_some r ≡ false → (IsTrue new.agreed → r ≡ set_refusal mid.state.volume.head (trace_at mid.state.volume (a + k)) (Some place) (counted first step k))
+    → (r ≡ None → HoldsPlace (trace_at mid.state.volume (a + k)) place) → (r ≡ None → fits place.kind (counted first step k) ≡ true) → OnlyLooks mid new 1 → IsSoFar old new place a first step (k + 1)
+none_again old mid new place a first step k r far nothing is holds fit look =
+    let none : r ≡ None = nothing_told r nothing in
+    record {
+      seen = looks_more old mid new k 1 far.seen look;
+      none = λ sure.
+          let here : set_refusal old.state.volume.head (trace_at old.state.volume (a + k)) (Some place) (counted first step k) ≡ None =
+          ap (λ (s : State). set_refusal s.volume.head (trace_at s.volume (a + k)) (Some place) (counted first step k)) (sym far.seen.state) ∙ sym (is sure) ∙ none in
+          below_more (λ (j : ℕ). set_refusal old.state.volume.head (trace_at old.state.volume (a + j)) (Some place) (counted first step j) ≡ None) k (far.none (look.agreed sure)) here;
+      each = below_more (λ (j : ℕ). HoldsPlace (trace_at old.state.volume (a + j)) place) k far.each (subst (λ (s : State). HoldsPlace (trace_at s.volume (a + k)) place) far.seen.state (holds none));
+      fit = below_more (λ (j : ℕ). fits place.kind (counted first step j) ≡ true) k far.fit (fit none);
+    }
 
 -- traces a to b are there, so the values decide
 pub among_values : (s : State) (a b : ℕ) (place : Place) (first step : ℤ) → 1 ≤ a → a ≤ b → b ≤ count_of s.volume
@@ -71,22 +80,47 @@ among_values s a b place first step low high last =
     rw (here, range) refl
 
 -- the value that is refused behind those that are not is the answer
-pub told_at : (old mid : Session) (place : Place) (a b : ℕ) (first step : ℤ) (k : ℕ) (r : Option Refusal) → 1 ≤ a → b ≤ count_of old.state.volume → IsSoFar old mid place a first step k → a + k ≤ b
-    → is_some r ≡ true → r ≡ set_refusal mid.state.volume.head (trace_at mid.state.volume (a + k)) (Some place) (counted first step k)
-    → r ≡ first_refusal_among old.state.volume (Some place) (numbers a b first step)
-told_at old mid place a b first step k None low last far there some is = absurd cc
-told_at old mid place a b first step k (Some r) low last far there some is =
+pub told_at : (old mid new : Session) (place : Place) (a b : ℕ) (first step : ℤ) (k : ℕ) (r : Option Refusal) → 1 ≤ a → b ≤ count_of old.state.volume → IsSoFar old mid place a first step k → a + k ≤ b
+    → is_some r ≡ true → OnlyLooks mid new 1 → (IsTrue new.agreed → r ≡ set_refusal mid.state.volume.head (trace_at mid.state.volume (a + k)) (Some place) (counted first step k))
+    → IsTrue new.agreed → r ≡ first_refusal_among old.state.volume (Some place) (numbers a b first step)
+told_at old mid new place a b first step k None low last far there some look is sure = absurd cc
+told_at old mid new place a b first step k (Some r) low last far there some look is sure =
     let s : State = old.state in
     let here : set_refusal s.volume.head (trace_at s.volume (a + k)) (Some place) (counted first step k) ≡ Some r =
-    ap (λ (u : State). set_refusal u.volume.head (trace_at u.volume (a + k)) (Some place) (counted first step k)) (sym far.state) ∙ sym is in
-    sym (renumber_refused s a b (field.Place place) first step place k r low last refl far.none there here) ∙ among_values s a b place first step low (omega (arith, there)) last
+    ap (λ (u : State). set_refusal u.volume.head (trace_at u.volume (a + k)) (Some place) (counted first step k)) (sym far.seen.state) ∙ sym (is sure) in
+    sym (renumber_refused s a b (field.Place place) first step place k r low last refl (far.none (look.agreed sure)) there here) ∙ among_values s a b place first step low (omega (arith, there)) last
+
+-- and where there is one it is not none
+pub told_some : {P : Type 0} (r : Option Refusal) → is_some r ≡ true → r ≡ None → P
+told_some r some none = absurd (not_some (ap is_some (sym none) ∙ some))
+  where
+    not_some : false ≡ true → ⊥
+    not_some e = absurd cc
 
 -- none is refused
 pub told_none : (old mid : Session) (place : Place) (a b : ℕ) (first step : ℤ) (k : ℕ) → 1 ≤ a → a ≤ b → b ≤ count_of old.state.volume → IsSoFar old mid place a first step k → k ≡ b + 1 - a
-    → (let none : Option Refusal = None in none) ≡ first_refusal_among old.state.volume (Some place) (numbers a b first step)
-told_none old mid place a b first step k low high last far all =
+    → IsTrue mid.agreed → (let none : Option Refusal = None in none) ≡ first_refusal_among old.state.volume (Some place) (numbers a b first step)
+told_none old mid place a b first step k low high last far all sure =
     let s : State = old.state in
-    sym (renumber_not_refused s a b (field.Place place) first step place low high last refl (λ j less. far.none j (omega (arith, less, all)))) ∙ among_values s a b place first step low high last
+    sym (renumber_not_refused s a b (field.Place place) first step place low high last refl (λ j less. far.none sure j (omega (arith, less, all)))) ∙ among_values s a b place first step low high last
+
+-- ---- a field by its place
+
+-- the first refusal of values counted up over the place of a field
+pub renumber_first : (s : State) (a b : ℕ) (f : Field) (place : Place) (first step : ℤ) → AreTraces s.volume a b None → Some place ≡ place_in_trace s.fields f
+    → first_refusal s (Renumber a b f first step) ≡ first_refusal_among s.volume (Some place) (numbers a b first step)
+renumber_first s a b f place first step t e =
+    let here : is_trace s.volume a ≡ true = rw (le-leb 1 a t.low, le-leb a (count_of s.volume) (omega (arith, t.high, t.last))) refl in
+    let range : (leb a b && leb b (count_of s.volume)) ≡ true = rw (le-leb a b t.high, le-leb b (count_of s.volume) t.last) refl in
+    rw (here, range, ← e) refl
+
+-- what is done at the place is done at the field
+pub renumber_same : (s new : State) (a b : ℕ) (f : Field) (place : Place) (first step : ℤ) → Some place ≡ place_in_trace s.fields f → IsAfter s (Renumber a b (field.Place place) first step) new → IsAfter s (Renumber a b f first step) new
+renumber_same s new a b f place first step e done = record { volume = rw (← e) done.volume; fields = done.fields; reading = done.reading; limits = done.limits; on_disk = done.on_disk }
+
+-- the traces may be looked at
+pub renumber_looks : (s : State) (a b : ℕ) (f : Field) (place : Place) (first step : ℤ) → AreTraces s.volume a b None → Some place ≡ place_in_trace s.fields f → 0 < edit_looks s (Renumber a b f first step)
+renumber_looks s a b f place first step t e = rw (← e, all_looks s.volume a b t) (omega (arith, t.high))
 
 -- ---- the cells
 

@@ -1,5 +1,6 @@
 -- Traces that come in the place of one another: what a volume holds behind it, and a sort that is done.
-use Rattle.std.proofs.Common.{◌≡◌, ℕ, Bool, List, [], map, None, refl, sym, ap, ◌∙◌, arith}
+use Rattle.std.proofs.Common.{◌≡◌, ◌⊎◌, ℕ, ◌+◌, ◌-◌, ◌<◌, Bool, List, [], map, Option, None, inl, inr, refl, sym, ap, subst, ◌∙◌, arith}
+use Rattle.std.specs.Prelude.{Result, Err}
 use Rattle.std.specs.List.Sorted.{IsPermutation}
 use Rattle.std.proofs.lemmas.List.Sorted.{IsPermutation-map, length_permutation, sum_by-IsPermutation}
 use Rattle.field_map.specs.Pairs.{Pairs}
@@ -23,15 +24,21 @@ use Rattle.bench_rules.specs.declared.edit.Edit.TheVariants.{Sort}
 use Rattle.bench_rules.specs.declared.field.Field.{Field}
 use Rattle.bench_rules.specs.ManyTraces.{each_of}
 use Rattle.bench_rules.specs.Places.{place_in_trace}
-use Rattle.bench_rules.specs.Refused.{first_refusal}
+use Rattle.bench_rules.specs.ReadFaults.{IsReadRefusal}
+use Rattle.bench_rules.specs.Refused.{first_refusal, sort_refusal}
+use Rattle.bench_rules.specs.declared.refusal.Refusal.{Refusal}
+use Rattle.bench_rules.specs.Looks.{looks_at}
 use Rattle.bench_rules.specs.Sorted.{in_order, with_order}
 use Rattle.bench_rules.specs.State.{State}
-use Rattle.bench_rules.specs.Steps.{IsAfter}
+use Rattle.bench_rules.specs.Steps.{IsAfter, Step}
 use Rattle.bench_rules.proofs.FirstLemmas.{AreTraces}
 use Rattle.bench_rules.proofs.ManyValueLemmas.{IsRead}
 use Rattle.bench_rules.proofs.SortedLemmas.{sort_accepted, sort_done, sort_first}
 use Rattle.many_traces.specs.Arranged.{Puts, Sorts}
+use Rattle.many_traces.specs.Formulas.{IsRefusalFor}
 use Rattle.many_traces.proofs.SortedTraceLemmas.{map-swapped, swapped-puts}
+use Rattle.live_volume.proofs.ComputedLemmas.{all_looks}
+use Rattle.live_volume.proofs.HeldLemmas.{told_for, told_of_read}
 
 -- the records change places as their traces do
 pub records-swapped : (v : Volume) (fields : Pairs) (rs : List Record) (pairs : List (ℕ × ℕ)) → map facts_of rs ≡ records_of v fields → map facts_of (with_swapped rs pairs) ≡ records_of (with_places_swapped v pairs) fields
@@ -79,3 +86,12 @@ is-sorted s a b names falls pairs cut t sorts =
       places = puts.places (count_of s.volume) t.last;
       done = sort_done s a b names falls (with_places_swapped s.volume pairs) cut c is;
     }
+
+-- a refusal that is told is a step
+pub sort_told : (T : Type 0) (s new : State) (a b : ℕ) (names : List Field) (falls : List Bool) (refusal : Refusal) → AreTraces s.volume a b None
+    → (IsReadRefusal s.on_disk refusal × (0 < looks_at (each_of (place_in_trace s.fields) names) (b + 1 - a))) ⊎ IsRefusalFor refusal (sort_refusal s.volume a b (each_of (place_in_trace s.fields) names)) → new ≡ s
+    → (let r : Result T Refusal = Err refusal in Step s (Sort a b names falls) r new)
+sort_told T s new a b names falls refusal t (inl read) same =
+    told_of_read T s new (Sort a b names falls) refusal (subst (λ (n : ℕ). 0 < looks_at (each_of (place_in_trace s.fields) names) n) (sym (all_looks s.volume a b t)) read.1) read.0 same
+sort_told T s new a b names falls refusal t (inr is) same =
+    told_for T s new (Sort a b names falls) refusal (record {}) (subst (λ (o : Option Refusal). IsRefusalFor refusal o) (sym (sort_first s a b names falls t.low t.high t.last)) is) same

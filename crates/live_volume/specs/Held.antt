@@ -1,10 +1,14 @@
 -- How a bench holds its state.
-use Rattle.std.specs.Prelude.{◌≡◌, ℕ, ◌+◌, ◌-◌, ◌*◌, Bool, not, List, map}
+use Rattle.std.specs.Prelude.{◌≡◌, ℕ, ◌+◌, ◌-◌, ◌*◌, ◌≤◌, Bool, IsTrue, not, List, All, length, map}
 use Rattle.std.specs.List.{list_any, range_with_len}
+use Rattle.text_block.specs.declared.block.TheConstants.{TEXT_BLOCK_BYTES}
 use Rattle.field_map.specs.Pairs.{Pairs}
+use Rattle.field_map.specs.declared.place.TheConstants.{TRACE_HEADER_BYTES}
 use Rattle.frame_cut.specs.declared.file_head.Head.{Head}
+use Rattle.frame_cut.specs.declared.limits.Limits.{Limits}
+use Rattle.frame_cut.specs.declared.sizes.TheConstants.{BINARY_HEADER_BYTES}
 use Rattle.frame_cut.specs.Cuts.{IsCut}
-use Rattle.frame_cut.specs.Traces.{trace_at}
+use Rattle.frame_cut.specs.Traces.{count_of, trace_at}
 use Rattle.frame_cut.specs.Volume.{Volume, bytes_of}
 use Rattle.sample_codes.specs.Formats.{width}
 use Rattle.trace_view.specs.Values.{samples_at}
@@ -12,6 +16,7 @@ use Rattle.trace_record.specs.Facts.{facts_of, with_samples_of}
 use Rattle.trace_record.specs.OfTrace.{record_of}
 use Rattle.trace_record.specs.Packed.{record_in}
 use Rattle.trace_record.specs.declared.record.Record.{Record}
+use Rattle.edit_overlay.specs.CountedVolume.{RisesAtMost}
 use Rattle.bench_rules.specs.Kept.{same_cell}
 use Rattle.bench_rules.specs.Live.{AreRecordsOf}
 use Rattle.live_reports.specs.OfRecords.{AreReportsOf}
@@ -20,25 +25,56 @@ use Rattle.live_volume.specs.declared.live_volume.LiveVolume.TheInside.{Inside}
 
 -- the state that is held
 abbrev pub state_of : Inside → State
-state_of b = record { volume = b.overlay.volume; fields = b.fields.pairs; reading = b.reading; limits = b.limits }
+state_of b = record { volume = b.overlay.volume; fields = b.fields.pairs; reading = b.reading; limits = b.limits; on_disk = b.overlay.on_disk }
 
--- the state that is held, with the count of looks
+-- the state that is held, with the count of looks, and whether each read of the loaded bytes agreed
 abbrev pub session_of : Inside → Session
-session_of b = record { state = state_of b; looks = b.overlay.looks }
+session_of b = record { state = state_of b; looks = b.overlay.looks; agreed = b.overlay.agreed }
 
 -- the records that stand beside the traces
 abbrev pub records_in : Inside → List Record
 records_in b = map record_in b.overlay.payloads
 
--- the parts of the volume are the one cut of its bytes, nothing is prepared over it, the field map is that of a file
--- with as many header extensions for a trace, the record of each trace stands beside it, and the reports have counted
--- these records
+-- the parts that no trace tells are as the file's head says, and the whole is within the limits
+pub record HasFrame (limits : Limits) (v : Volume) : Type 0 where
+  pub text : length v.text ≡ TEXT_BLOCK_BYTES
+  pub bin : length v.bin ≡ BINARY_HEADER_BYTES
+  pub blocks : length v.blocks ≡ v.head.blocks
+  pub trailer : length v.trailer ≡ v.head.trailer
+  pub few : count_of v ≤ limits.traces
+  pub small : length (bytes_of v) ≤ limits.bytes
+
+-- there are as many records as traces, none tells more samples than its trace has bytes, and each trace has a main header
+pub record AreMeasured (rs : List Record) (ts : List (List ℕ)) : Type 0 where
+  pub sizes : List (ℕ × ℕ)
+  pub numbers : map (λ s. s.0) sizes ≡ map (λ r. r.number) rs
+  pub lengths : map (λ s. s.1) sizes ≡ map (λ t. length t) ts
+  pub within : All (λ s. (s.0 ≤ s.1) × (TRACE_HEADER_BYTES ≤ s.1)) sizes
+
+-- nothing is prepared over the volume, the field map is that of a file with as many header extensions for a trace, and the
+-- reports have counted the records that stand beside the traces. Where each read of the loaded bytes agreed, the parts are
+-- the one cut of their bytes, and the records are those of the traces; whatever was read, the lengths and numbers on which
+-- no call may fail stand: the frame, and as many records as traces, of no more samples than those have bytes
 pub record IsHeld (b : Inside) : Type 0 where
-  pub cut : IsCut (bytes_of b.overlay.volume) b.reading b.limits b.overlay.volume
+  pub cut : IsTrue b.overlay.agreed → IsCut (bytes_of b.overlay.volume) b.reading b.limits b.overlay.volume
+  pub frame : HasFrame b.limits b.overlay.volume
   pub prepared : b.overlay.prepared ≡ b.overlay.volume
   pub extensions : b.fields.extensions ≡ b.overlay.volume.head.extensions
-  pub records : AreRecordsOf (state_of b) (records_in b)
+  pub records : IsTrue b.overlay.agreed → AreRecordsOf (state_of b) (records_in b)
+  pub measured : AreMeasured (records_in b) b.overlay.volume.traces
   pub reports : AreReportsOf b.reports (records_in b)
+
+-- the same state after so many looks more at most; what did not agree does not agree now
+pub record OnlyLooks (old new : Session) (n : ℕ) : Type 0 where
+  pub state : new.state ≡ old.state
+  pub looks : RisesAtMost old.looks new.looks n
+  pub agreed : IsTrue new.agreed → IsTrue old.agreed
+
+-- both were read in the same way, under the same limits, from the same place
+pub record IsReadAs (old new : State) : Type 0 where
+  pub reading : new.reading ≡ old.reading
+  pub limits : new.limits ≡ old.limits
+  pub on_disk : new.on_disk ≡ old.on_disk
 
 -- the state with another volume, read in the same way
 abbrev pub with_volume : State → Volume → State

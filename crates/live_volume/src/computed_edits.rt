@@ -1,5 +1,5 @@
 // A field of many traces computed from numbers and other fields of each.
-ghost use Rattle.std.specs.Prelude.{◌≡◌, ◌+◌, ◌-◌, ◌≤◌, None, IfOk, IfErr};
+ghost use Rattle.std.specs.Prelude.{◌≡◌, ◌⊎◌, ◌+◌, ◌-◌, ◌*◌, ◌≤◌, ◌<◌, length, None, IsTrue, IfOk, IfErr, OnOk, OnErr};
 ghost use Rattle.frame_cut.specs.Traces.{count_of};
 ghost use Rattle.edit_overlay.specs.CountedVolume.{RisesAtMost};
 ghost use Rattle.bench_rules.specs.declared.edit.Edit.TheVariants as edits;
@@ -7,7 +7,9 @@ ghost use Rattle.bench_rules.specs.Computed.{compute_refusal_in};
 ghost use Rattle.bench_rules.specs.Looks.{edit_looks, looks_at};
 ghost use Rattle.bench_rules.specs.Steps.{Step};
 ghost use Rattle.many_traces.specs.Formulas.{formula_at, number_bytes, IsRefusalFor};
-ghost use Rattle.live_volume.specs.Held.{any_moves};
+ghost use Rattle.bench_rules.specs.ReadFaults.{IsReadRefusal};
+ghost use Rattle.live_volume.specs.Held.{any_moves, IsReadAs, OnlyLooks};
+ghost use Rattle.live_volume.specs.Places.{EachHolds};
 
 use crate::live_volume::LiveVolume;
 use bench_rules::{Field, Operand, Operator, Refusal};
@@ -21,7 +23,8 @@ impl LiveVolume {
     /// before; or refused, and all is as it was. Looks twice at each of the traces at most, and at
     /// none where a or b is refused or a field has no place. Takes memory in step with the number
     /// of traces and of steps. Refused, in this order: E01 for a, E01 for b, E02, then the first
-    /// refusal of the lowest trace that has one, E03, E13, E04 or E06; else E11 alone.
+    /// refusal of the lowest trace that has one, E03, E13, E04 or E06; else E11 alone. On disk also
+    /// where a trace could not be read (E14, E15).
     pub fn compute(
         &mut self,
         alloc: Global,
@@ -31,12 +34,15 @@ impl LiveVolume {
         source: &Operand,
         steps: &[(Operator, Operand)],
     ) -> Result<bool, Refusal>
-        ensures step { Step self.old.state (edits.Compute a b field.now source.now steps.now) result
-            self.new.state }
+        ensures step { IsTrue self.new.agreed → Step self.old.state
+            (edits.Compute a b field.now source.now steps.now) result self.new.state }
+        ensures err { OnErr result (self.new.state ≡ self.old.state) }
+        ensures same { IsReadAs self.old.state self.new.state }
+        ensures agreed { IsTrue self.new.agreed → IsTrue self.old.agreed }
         ensures looks { RisesAtMost self.old.looks self.new.looks
             (edit_looks self.old.state (edits.Compute a b field.now source.now steps.now)) }
-        ensures moved { IfOk result (λ moved. moved
-            ≡ any_moves self.old.state self.new.state a b) }
+        ensures moved { IfOk result (λ moved. IsTrue self.new.agreed →
+            moved ≡ any_moves self.old.state self.new.state a b) }
     {
         if let Some(refusal) = self.range_refusal(a, b) {
             return Err(refusal);
@@ -74,15 +80,23 @@ impl LiveVolume {
         requires first { 1 ≤ a }
         requires range { a ≤ b }
         requires last { b ≤ count_of self.old.state.volume }
-        ensures none { IfOk result (λ _. compute_refusal_in self.old.state.volume
+        ensures none { IfOk result (λ _. IsTrue self.new.agreed →
+            compute_refusal_in self.old.state.volume
             (formula_at self.old.state.fields place source.now steps.now) a b ≡ None) }
-        ensures bytes { IfOk result (λ bytes. bytes.items ≡ number_bytes self.old.state.volume
+        ensures bytes { IfOk result (λ bytes. IsTrue self.new.agreed →
+            bytes.items ≡ number_bytes self.old.state.volume
             (formula_at self.old.state.fields place source.now steps.now) a b) }
-        ensures err { IfErr result (λ refusal. IsRefusalFor refusal (compute_refusal_in
-            self.old.state.volume (formula_at self.old.state.fields place source.now steps.now) a
-            b)) }
-        ensures state { self.new.state ≡ self.old.state }
-        ensures looks { RisesAtMost self.old.looks self.new.looks
+        ensures each { IfOk result (λ _. EachHolds self.old.state.volume a (b + 1 - a) place) }
+        ensures count { IfOk result (λ bytes.
+            length bytes.items ≡ place.kind.size * (b + 1 - a)) }
+        ensures looked { OnOk result (0 < looks_at
+            (formula_at self.old.state.fields place source.now steps.now) (b + 1 - a)) }
+        ensures err { IfErr result (λ refusal. (IsReadRefusal self.old.state.on_disk refusal
+            × (0 < looks_at (formula_at self.old.state.fields place source.now steps.now)
+            (b + 1 - a))) ⊎ (IsTrue self.new.agreed → IsRefusalFor refusal (compute_refusal_in
+            self.old.state.volume (formula_at self.old.state.fields place source.now steps.now)
+            a b))) }
+        ensures seen { OnlyLooks self.old self.new
             (looks_at (formula_at self.old.state.fields place source.now steps.now) (b + 1 - a)) }
     {
         computed_bytes(

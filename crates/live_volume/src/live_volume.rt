@@ -1,22 +1,24 @@
-ghost use Rattle.std.specs.Prelude.{◌≡◌, ◌≤◌, [], true, false, length, None, Some, IfOk, IfErr, OnOk, MatchResult};
+ghost use Rattle.std.specs.Prelude.{◌≡◌, ◌≤◌, [], true, false, length, None, IsSome, IsTrue, IfOk, IfErr, OnOk, OnErr, MatchResult};
 ghost use Rattle.std.specs.Io.KnownBytes.{Consumes, IsAtEnd};
-ghost use Rattle.device_io.specs.Failures.{CountsFailure};
 ghost use Rattle.field_map.specs.Binding.{geometry_at_load, is_geometry as is_geometry_name};
 ghost use Rattle.frame_cut.specs.Cuts.{IsCut};
 ghost use Rattle.frame_cut.specs.Traces.{count_of, is_trace};
 ghost use Rattle.frame_cut.specs.Volume.{bytes_of};
 ghost use Rattle.edit_overlay.specs.Loading.{IsLoadFault, FailuresAfterRefusal, TakesWithin};
-ghost use Rattle.edit_overlay.specs.Saving.{Saves};
+ghost use Rattle.edit_overlay.specs.Saving.{CountsSaveFailure, Saves};
 ghost use Rattle.bench_rules.specs.declared.edit.Edit.TheVariants as edits;
 ghost use Rattle.bench_rules.specs.declared.field.Field.TheVariants as fields;
-ghost use Rattle.bench_rules.specs.declared.refusal.Refusal.TheVariants.{OutOfMemory as no_memory};
 ghost use Rattle.edit_overlay.specs.CountedVolume.{RisesAtMost};
 ghost use Rattle.bench_rules.specs.Looks.{load_looks, edit_looks, query_looks};
 ghost use Rattle.bench_rules.specs.Places.{place_in_trace};
 ghost use Rattle.bench_rules.specs.Refused.{first_refusal};
 ghost use Rattle.bench_rules.specs.Steps.{IsAfter, Step};
 ghost use Rattle.bench_rules.specs.Answer.{IsReply};
+ghost use Rattle.live_volume.specs.Held.{IsReadAs};
+ghost use Rattle.live_volume.specs.Refusals.{IsOfMachine};
+ghost use Rattle.volume_answers.specs.Rooms.{HasRoom};
 
+use crate::volume_edits::refusal_of_records;
 use bench_rules::{
     Answer, AskFault, Edit, Field, Query, Refusal, Text, binary_offset, is_line, place_in_binary,
     set_bin_refusal,
@@ -46,7 +48,7 @@ use volume_records::{remake, with_records};
 pub struct LiveVolume {
     pub(crate) overlay: Overlay<PackedRecord>,
     pub(crate) fields: FieldMap,
-    reading: Reading,
+    pub(crate) reading: Reading,
     pub(crate) limits: Limits,
     pub(crate) reports: LiveReports,
 }
@@ -84,6 +86,8 @@ impl LiveVolume {
         ensures fields { IfOk result (λ b. b.state.fields ≡ geometry_at_load) }
         ensures reading { IfOk result (λ b. b.state.reading ≡ reading) }
         ensures limits { IfOk result (λ b. b.state.limits ≡ limits) }
+        ensures memory { IfOk result (λ b. b.state.on_disk ≡ false) }
+        ensures agreed { IfOk result (λ b. IsTrue b.agreed) }
         ensures refused { IfErr result (λ fault. IsLoadFault (R.remaining reader.old.inner) reading
             limits fault) }
         ensures read { IfErr result (λ _. TakesWithin (R.remaining reader.old.inner)
@@ -109,9 +113,14 @@ impl LiveVolume {
 
     /// One edit: done, and the reports follow it; or refused, and all is as it was. `Set`, `Map`,
     /// `Patch`, `Blank`, `Copy`, `Move`, `Resize`, `Renumber`, `Compute` and `Sort` take memory,
-    /// and are refused for want of it, E11, only where nothing else refuses them.
+    /// and are refused for want of it, E11, only where nothing else refuses them. On disk an edit
+    /// that looks is also refused where a trace could not be read (E14, E15).
     pub fn apply(&mut self, alloc: Global, edit: &Edit) -> Result<(), Refusal>
-        ensures step { Step self.old.state edit.now result self.new.state }
+        ensures step { IsTrue self.new.agreed →
+            Step self.old.state edit.now result self.new.state }
+        ensures err { OnErr result (self.new.state ≡ self.old.state) }
+        ensures same { IsReadAs self.old.state self.new.state }
+        ensures agreed { IsTrue self.new.agreed → IsTrue self.old.agreed }
         ensures looks { RisesAtMost self.old.looks self.new.looks
             (edit_looks self.old.state edit.now) }
     {
@@ -178,7 +187,11 @@ impl LiveVolume {
         field: &Field,
         value: i128,
     ) -> Result<(), Refusal>
-        ensures step { Step self.old.state (edits.Set p field.now value) result self.new.state }
+        ensures step { IsTrue self.new.agreed →
+            Step self.old.state (edits.Set p field.now value) result self.new.state }
+        ensures err { OnErr result (self.new.state ≡ self.old.state) }
+        ensures same { IsReadAs self.old.state self.new.state }
+        ensures agreed { IsTrue self.new.agreed → IsTrue self.old.agreed }
         ensures looks { RisesAtMost self.old.looks self.new.looks
             (edit_looks self.old.state (edits.Set p field.now value)) }
     {
@@ -191,23 +204,30 @@ impl LiveVolume {
 
     // The value into the place of trace p, or the first refusal.
     fn set(&mut self, alloc: Global, p: u32, place: Place, value: i128) -> Result<(), Refusal>
-        ensures step { Step self.old.state (edits.Set p (fields.Place place) value) result
-            self.new.state }
+        ensures step { IsTrue self.new.agreed →
+            Step self.old.state (edits.Set p (fields.Place place) value) result self.new.state }
+        ensures err { OnErr result (self.new.state ≡ self.old.state) }
+        ensures same { IsReadAs self.old.state self.new.state }
+        ensures agreed { IsTrue self.new.agreed → IsTrue self.old.agreed }
         ensures looks { RisesAtMost self.old.looks self.new.looks 2 }
     {
-        match value_refusal(&mut self.overlay, p, place, value) {
+        match value_refusal(&mut self.overlay, p, place, value)? {
             Some(refusal) => Err(refusal),
             None => self.put_value(alloc, p, place, value),
         }
     }
 
-    // The value into the place of trace p, where nothing but memory refuses it.
+    // The value into the place of trace p, where nothing but memory or a read refuses it.
     fn put_value(&mut self, alloc: Global, p: u32, place: Place, value: i128) -> Result<(), Refusal>
-        requires { first_refusal self.old.state (edits.Set p (fields.Place place) value) ≡ None }
-        ensures ok { OnOk result (IsAfter self.old.state (edits.Set p (fields.Place place) value)
-            self.new.state) }
-        ensures err { IfErr result (λ refusal. (refusal ≡ no_memory) ×
+        requires room { HasRoom self.old.state.volume p place value }
+        requires none { IsTrue self.old.agreed →
+            first_refusal self.old.state (edits.Set p (fields.Place place) value) ≡ None }
+        ensures ok { OnOk result (IsTrue self.new.agreed → IsAfter self.old.state
+            (edits.Set p (fields.Place place) value) self.new.state) }
+        ensures err { IfErr result (λ refusal. IsOfMachine self.old.state.on_disk refusal ×
             (self.new.state ≡ self.old.state)) }
+        ensures same { IsReadAs self.old.state self.new.state }
+        ensures agreed { IsTrue self.new.agreed → IsTrue self.old.agreed }
         ensures looks { RisesAtMost self.old.looks self.new.looks 1 }
     {
         let mut buffer = [0u8; 8];
@@ -219,7 +239,11 @@ impl LiveVolume {
 
     // The value into the field of the binary header, or the first refusal: E02, E03, E04, E06.
     fn set_bin(&mut self, field: &Field, value: i128) -> Result<(), Refusal>
-        ensures step { Step self.old.state (edits.SetBin field.now value) result self.new.state }
+        ensures step { IsTrue self.new.agreed →
+            Step self.old.state (edits.SetBin field.now value) result self.new.state }
+        ensures err { OnErr result (self.new.state ≡ self.old.state) }
+        ensures same { IsReadAs self.old.state self.new.state }
+        ensures agreed { IsTrue self.new.agreed → IsTrue self.old.agreed }
         ensures looks { self.new.looks ≡ self.old.looks }
     {
         let Some(place) = place_in_binary(field) else {
@@ -237,8 +261,10 @@ impl LiveVolume {
     // The value into the place of the binary header, where nothing refuses it.
     fn put_in_binary(&mut self, place: Place, value: i128)
         requires { first_refusal self.old.state (edits.SetBin (fields.Place place) value) ≡ None }
-        ensures after { IsAfter self.old.state (edits.SetBin (fields.Place place) value)
-            self.new.state }
+        ensures after { IsTrue self.new.agreed → IsAfter self.old.state
+            (edits.SetBin (fields.Place place) value) self.new.state }
+        ensures same { IsReadAs self.old.state self.new.state }
+        ensures agreed { IsTrue self.new.agreed → IsTrue self.old.agreed }
         ensures looks { self.new.looks ≡ self.old.looks }
     {
         let mut buffer = [0u8; 8];
@@ -249,7 +275,11 @@ impl LiveVolume {
 
     // The text as line q of the textual header, or the first refusal: E03, E07.
     fn set_text(&mut self, q: u32, text: &Text) -> Result<(), Refusal>
-        ensures step { Step self.old.state (edits.SetText q text.now) result self.new.state }
+        ensures step { IsTrue self.new.agreed →
+            Step self.old.state (edits.SetText q text.now) result self.new.state }
+        ensures err { OnErr result (self.new.state ≡ self.old.state) }
+        ensures same { IsReadAs self.old.state self.new.state }
+        ensures agreed { IsTrue self.new.agreed → IsTrue self.old.agreed }
         ensures looks { self.new.looks ≡ self.old.looks }
     {
         if !is_line(q) {
@@ -262,7 +292,11 @@ impl LiveVolume {
 
     // The name bound to the place, or the first refusal.
     fn bind(&mut self, alloc: Global, name: &Text, place: Place) -> Result<(), Refusal>
-        ensures step { Step self.old.state (edits.Map name.now place) result self.new.state }
+        ensures step { IsTrue self.new.agreed →
+            Step self.old.state (edits.Map name.now place) result self.new.state }
+        ensures err { OnErr result (self.new.state ≡ self.old.state) }
+        ensures same { IsReadAs self.old.state self.new.state }
+        ensures agreed { IsTrue self.new.agreed → IsTrue self.old.agreed }
         ensures looks { RisesAtMost self.old.looks self.new.looks
             (edit_looks self.old.state (edits.Map name.now place)) }
     {
@@ -274,11 +308,16 @@ impl LiveVolume {
     }
 
     // A geometry name bound to the place, or the first refusal. Each trace is looked at for its new
-    // record, and the reports are made anew beside the old ones; where that is refused, the records
-    // are as they were, and the name gets its old place again, which takes no memory.
+    // record, and the reports are made anew beside the old ones; where that is refused, for want of
+    // memory or because a trace could not be read, the records are as they were, and the name gets
+    // its old place again, which takes no memory.
     fn bind_geometry(&mut self, alloc: Global, name: &Text, place: Place) -> Result<(), Refusal>
         requires { is_geometry_name name.now ≡ true }
-        ensures step { Step self.old.state (edits.Map name.now place) result self.new.state }
+        ensures step { IsTrue self.new.agreed →
+            Step self.old.state (edits.Map name.now place) result self.new.state }
+        ensures err { OnErr result (self.new.state ≡ self.old.state) }
+        ensures same { IsReadAs self.old.state self.new.state }
+        ensures agreed { IsTrue self.new.agreed → IsTrue self.old.agreed }
         ensures looks { RisesAtMost self.old.looks self.new.looks
             (count_of self.old.state.volume) }
     {
@@ -296,9 +335,9 @@ impl LiveVolume {
                 self.reports = reports;
                 Ok(())
             }
-            Err(_) => {
+            Err(fault) => {
                 self.fields.set_geometry(text, old);
-                Err(Refusal::OutOfMemory)
+                Err(refusal_of_records(fault))
             }
         }
     }
@@ -306,7 +345,11 @@ impl LiveVolume {
     // Another name bound to the place, or the first refusal.
     fn bind_name(&mut self, alloc: Global, name: &Text, place: Place) -> Result<(), Refusal>
         requires { is_geometry_name name.now ≡ false }
-        ensures step { Step self.old.state (edits.Map name.now place) result self.new.state }
+        ensures step { IsTrue self.new.agreed →
+            Step self.old.state (edits.Map name.now place) result self.new.state }
+        ensures err { OnErr result (self.new.state ≡ self.old.state) }
+        ensures same { IsReadAs self.old.state self.new.state }
+        ensures agreed { IsTrue self.new.agreed → IsTrue self.old.agreed }
         ensures looks { self.new.looks ≡ self.old.looks }
     {
         self.fields.bind(alloc, name.as_str(), place)?;
@@ -315,7 +358,11 @@ impl LiveVolume {
 
     // The name no longer bound, or the first refusal.
     fn unbind(&mut self, name: &Text) -> Result<(), Refusal>
-        ensures step { Step self.old.state (edits.Unmap name.now) result self.new.state }
+        ensures step { IsTrue self.new.agreed →
+            Step self.old.state (edits.Unmap name.now) result self.new.state }
+        ensures err { OnErr result (self.new.state ≡ self.old.state) }
+        ensures same { IsReadAs self.old.state self.new.state }
+        ensures agreed { IsTrue self.new.agreed → IsTrue self.old.agreed }
         ensures looks { self.new.looks ≡ self.old.looks }
     {
         self.fields.unbind(name.as_str())?;
@@ -323,10 +370,12 @@ impl LiveVolume {
     }
 
     /// The answer to a query, which leaves the state as it is. Takes memory where the answer is a
-    /// text or a list, and is refused for want of it, E11, only where nothing else refuses it.
+    /// text or a list, and is refused for want of it, E11, only where nothing else refuses it. On
+    /// disk a query that looks is also refused where a trace could not be read (E14, E15).
     pub fn ask(&mut self, alloc: Global, query: &Query) -> Result<Answer, AskFault>
-        ensures reply { IsReply self.old.state query.now result }
+        ensures reply { IsTrue self.new.agreed → IsReply self.old.state query.now result }
         ensures unchanged { self.new.state ≡ self.old.state }
+        ensures agreed { IsTrue self.new.agreed → IsTrue self.old.agreed }
         ensures looks { RisesAtMost self.old.looks self.new.looks
             (query_looks self.old.state [] query.now) }
     {
@@ -367,12 +416,18 @@ impl LiveVolume {
         }
     }
 
-    /// Writes the file as it is now. Refused where the writer failed; `written` is then the length
-    /// of the prefix that it took. Takes no memory.
-    pub fn save<W: Write>(&self, writer: &mut Sink<W>) -> Result<(), SaveFault>
-        ensures saved { Saves (W.contents writer.old.inner) (W.contents writer.new.inner)
-            (bytes_of self.now.state.volume) result }
-        ensures failures { CountsFailure result writer.old.failures writer.new.failures }
+    /// Writes the file as it is now. Refused where the writer failed, or on disk where a read of
+    /// the loaded bytes did; `written` is then the length of the prefix that the writer took. Takes
+    /// no memory.
+    pub fn save<W: Write>(&mut self, writer: &mut Sink<W>) -> Result<(), SaveFault>
+        ensures saved { IsTrue self.new.agreed → Saves (W.contents writer.old.inner)
+            (W.contents writer.new.inner) (bytes_of self.old.state.volume) result }
+        ensures read { IfErr result
+            (λ fault. IsSome fault.read → IsTrue self.old.state.on_disk) }
+        ensures failures { CountsSaveFailure result writer.old.failures writer.new.failures }
+        ensures unchanged { self.new.state ≡ self.old.state }
+        ensures agreed { IsTrue self.new.agreed → IsTrue self.old.agreed }
+        ensures looks { self.new.looks ≡ self.old.looks }
     {
         self.overlay.write_to(writer)
     }

@@ -1,83 +1,72 @@
 // Another number of samples of a trace, and a field of many traces counted up.
-ghost use Rattle.std.specs.Prelude.{◌≡◌, ◌+◌, ◌-◌, ◌≤◌, None, Some, IsTrue, IfOk, IfErr, OnOk};
+ghost use Rattle.std.specs.Prelude.{◌≡◌, ◌⊎◌, ◌+◌, ◌-◌, ◌≤◌, ◌<◌, ℕ, nat_abs, None, Some, IsTrue, IfOk, IfErr, OnOk, OnErr};
 ghost use Rattle.std.specs.Bool.{OnTrue};
 ghost use Rattle.std.specs.Option.{option_or};
-ghost use Rattle.num_order.specs.Number.{IsSize};
+ghost use Rattle.num_order.specs.Number.{IsSize, fits};
 ghost use Rattle.frame_cut.specs.Traces.{count_of, is_trace, trace_at};
 ghost use Rattle.edit_overlay.specs.CountedVolume.{RisesAtMost};
 ghost use Rattle.bench_rules.specs.declared.edit.Edit.TheVariants as edits;
 ghost use Rattle.bench_rules.specs.declared.field.Field.TheVariants as fields;
-ghost use Rattle.bench_rules.specs.declared.refusal.Refusal.TheVariants.{OutOfMemory as no_memory};
 ghost use Rattle.bench_rules.specs.Looks.{edit_looks};
+ghost use Rattle.bench_rules.specs.ReadFaults.{IsReadRefusal};
 ghost use Rattle.bench_rules.specs.Refused.{first_refusal, first_refusal_among, no_trace, no_trace_from, set_refusal};
 ghost use Rattle.bench_rules.specs.Steps.{IsAfter, Step};
 ghost use Rattle.bench_rules.specs.TraceEdits.{counted, numbers, resized as bytes_resized};
-ghost use Rattle.live_volume.specs.Held.{any_moves};
-ghost use Rattle.live_volume.specs.Places.{leaves_length as leaves_length_of};
+ghost use Rattle.many_traces.specs.Fields.{HoldsPlace};
+ghost use Rattle.many_traces.specs.Formulas.{IsRefusalFor};
+ghost use Rattle.live_volume.specs.Held.{any_moves, IsReadAs, OnlyLooks};
+ghost use Rattle.live_volume.specs.Places.{leaves_length as leaves_length_of, EachHolds, MayReplace};
+ghost use Rattle.live_volume.specs.Refusals.{IsOfMachine};
 
 use crate::live_volume::LiveVolume;
 use bench_rules::{
     Field, Refusal, count_refusal, counted_up, renumber_refusal, resized, values_bytes,
 };
+use edit_overlay::ReadFault;
 use field_map::Place;
 use num_order::fits;
 use std::alloc::Global;
 use volume_records::record_of_bytes;
 
 impl LiveVolume {
-    // The first refusal of so many samples for trace p: E01, E04, E06, E09.
-    fn resize_refusal(&mut self, p: u32, count: i128) -> Option<Refusal>
-        ensures refusal { result ≡ first_refusal self.old.state (edits.Resize p count) }
-        ensures state { self.new.state ≡ self.old.state }
-        ensures looks { RisesAtMost self.old.looks self.new.looks 1 }
-    {
-        let length = self.overlay.length();
-        let most = self.limits.bytes();
-        let Some(trace) = self.overlay.look(p) else {
-            return Some(Refusal::NoTrace(p, self.count()));
-        };
-        count_refusal(&trace, length, most, count)
-    }
-
     // Trace p with so many samples, or the first refusal: E01, E04, E06, E09.
     pub(crate) fn resize(&mut self, alloc: Global, p: u32, count: i128) -> Result<(), Refusal>
-        ensures step { Step self.old.state (edits.Resize p count) result self.new.state }
+        ensures step { IsTrue self.new.agreed →
+            Step self.old.state (edits.Resize p count) result self.new.state }
+        ensures err { OnErr result (self.new.state ≡ self.old.state) }
+        ensures same { IsReadAs self.old.state self.new.state }
+        ensures agreed { IsTrue self.new.agreed → IsTrue self.old.agreed }
         ensures looks { RisesAtMost self.old.looks self.new.looks 2 }
     {
-        match self.resize_refusal(p, count) {
-            Some(refusal) => Err(refusal),
-            None => self.put_resized(alloc, p, count),
-        }
-    }
-
-    // Trace p with so many samples, where nothing but memory refuses it.
-    fn put_resized(&mut self, alloc: Global, p: u32, count: i128) -> Result<(), Refusal>
-        requires { first_refusal self.old.state (edits.Resize p count) ≡ None }
-        ensures ok { OnOk result (IsAfter self.old.state (edits.Resize p count)
-            self.new.state) }
-        ensures err { IfErr result (λ refusal. (refusal ≡ no_memory) ×
-            (self.new.state ≡ self.old.state)) }
-        ensures looks { RisesAtMost self.old.looks self.new.looks 1 }
-    {
         let head = self.overlay.head();
-        let bytes = self.resized_bytes(alloc, p, count as u32)?;
+        let bytes = self.resized_bytes(alloc, p, count)?;
         let trace = record_of_bytes(&head, bytes.as_slice(), &self.fields);
         self.replace(alloc, p, bytes, &trace)
     }
 
-    // The bytes of trace p with so many samples.
-    fn resized_bytes(&mut self, alloc: Global, p: u32, count: u32) -> Result<Vec<u8>, Refusal>
-        requires { IsTrue (is_trace self.old.state.volume p) }
-        ensures ok { IfOk result (λ bytes. bytes.items ≡ bytes_resized self.old.state.volume.head
-            (trace_at self.old.state.volume p) count) }
-        ensures err { IfErr result (λ refusal. refusal ≡ no_memory) }
-        ensures state { self.new.state ≡ self.old.state }
-        ensures looks { RisesAtMost self.old.looks self.new.looks 1 }
+    // The bytes of trace p with so many samples, or the first refusal, in one look: E01, E04, E06,
+    // E09; else E11 alone.
+    fn resized_bytes(&mut self, alloc: Global, p: u32, count: i128) -> Result<Vec<u8>, Refusal>
+        ensures none { IfOk result (λ _. IsTrue self.new.agreed →
+            first_refusal self.old.state (edits.Resize p count) ≡ None) }
+        ensures bytes { IfOk result (λ bytes. IsTrue self.new.agreed → bytes.items ≡ bytes_resized
+            self.old.state.volume.head (trace_at self.old.state.volume p) (nat_abs count)) }
+        ensures fits { IfOk result (λ bytes. MayReplace self.old.state p bytes.items) }
+        ensures err { IfErr result (λ refusal. IsReadRefusal self.old.state.on_disk refusal
+            ⊎ (IsTrue self.new.agreed → IsRefusalFor refusal
+            (first_refusal self.old.state (edits.Resize p count)))) }
+        ensures seen { OnlyLooks self.old self.new 1 }
     {
-        let Some(trace) = self.overlay.look(p) else {
-            unreachable!()
+        let length = self.overlay.length();
+        let most = self.limits.bytes();
+        let traces = self.count();
+        let Some(trace) = self.overlay.look(p)? else {
+            return Err(Refusal::NoTrace(p, traces));
         };
-        resized(alloc, &trace, count)
+        if let Some(refusal) = count_refusal(&trace, length, most, count) {
+            return Err(refusal);
+        }
+        resized(alloc, &trace, count as u32)
     }
 
     /// The field of traces a to b counted up from a first value by a step: done whole, and then
@@ -85,7 +74,7 @@ impl LiveVolume {
     /// was. Looks twice at each of the traces at most, and at none where a or b is refused. Takes
     /// memory in step with their number. Refused, in this order: E01 for a, E01 for b, then the
     /// first refusal of the lowest trace whose value is refused, E02, E03, E04 or E06; else E11
-    /// alone.
+    /// alone. On disk also where a trace could not be read (E14, E15).
     pub fn renumber(
         &mut self,
         alloc: Global,
@@ -95,12 +84,15 @@ impl LiveVolume {
         first: i128,
         step: i128,
     ) -> Result<bool, Refusal>
-        ensures step { Step self.old.state (edits.Renumber a b field.now first step) result
-            self.new.state }
+        ensures step { IsTrue self.new.agreed → Step self.old.state
+            (edits.Renumber a b field.now first step) result self.new.state }
+        ensures err { OnErr result (self.new.state ≡ self.old.state) }
+        ensures same { IsReadAs self.old.state self.new.state }
+        ensures agreed { IsTrue self.new.agreed → IsTrue self.old.agreed }
         ensures looks { RisesAtMost self.old.looks self.new.looks
             (edit_looks self.old.state (edits.Renumber a b field.now first step)) }
-        ensures moved { IfOk result (λ moved. moved
-            ≡ any_moves self.old.state self.new.state a b) }
+        ensures moved { IfOk result (λ moved. IsTrue self.new.agreed →
+            moved ≡ any_moves self.old.state self.new.state a b) }
     {
         if let Some(refusal) = self.range_refusal(a, b) {
             return Err(refusal);
@@ -108,7 +100,7 @@ impl LiveVolume {
         let Some(place) = self.place_in_trace(field) else {
             return Err(Refusal::NoField);
         };
-        if let Some(refusal) = self.values_refusal(a, b, place, first, step) {
+        if let Some(refusal) = self.values_refusal(a, b, place, first, step)? {
             return Err(refusal);
         }
         self.count_up(alloc, a, b, place, first, step)
@@ -135,25 +127,29 @@ impl LiveVolume {
         place: Place,
         first: i128,
         step: i128,
-    ) -> Option<Refusal>
+    ) -> Result<Option<Refusal>, ReadFault>
         requires first { 1 ≤ a }
         requires range { a ≤ b }
         requires last { b ≤ count_of self.old.state.volume }
-        ensures refusal { result ≡ first_refusal_among self.old.state.volume (Some place)
-            (numbers a b first step) }
-        ensures state { self.new.state ≡ self.old.state }
-        ensures looks { RisesAtMost self.old.looks self.new.looks (b + 1 - a) }
+        ensures refusal { IfOk result (λ refusal. IsTrue self.new.agreed → refusal ≡
+            first_refusal_among self.old.state.volume (Some place) (numbers a b first step)) }
+        ensures each { IfOk result (λ refusal. refusal ≡ None →
+            EachHolds self.old.state.volume a (b + 1 - a) place) }
+        ensures fit { IfOk result (λ refusal. refusal ≡ None → (k : ℕ) → k < b + 1 - a →
+            IsTrue (fits place.kind (counted first step k))) }
+        ensures seen { OnlyLooks self.old self.new (b + 1 - a) }
+        ensures read { IfErr result (λ _. IsTrue self.old.state.on_disk) }
     {
         if self.accepts_all(a, b, place, first, step) {
-            return None;
+            return Ok(None);
         }
         for k in 0..b - a + 1 {
-            let refusal = self.value_refusal(a + k, place, first, step, k);
+            let refusal = self.value_refusal(a + k, place, first, step, k)?;
             if refusal.is_some() {
-                return refusal;
+                return Ok(refusal);
             }
         }
-        None
+        Ok(None)
     }
 
     // Whether it is known without a look that no trace refuses these values: each trace has the
@@ -162,8 +158,11 @@ impl LiveVolume {
         requires first { 1 ≤ a }
         requires range { a ≤ b }
         requires last { b ≤ count_of self.now.state.volume }
-        ensures { OnTrue result (first_refusal_among self.now.state.volume (Some place)
-            (numbers a b first step) ≡ None) }
+        ensures none { OnTrue result (IsTrue self.now.agreed → first_refusal_among
+            self.now.state.volume (Some place) (numbers a b first step) ≡ None) }
+        ensures each { OnTrue result (EachHolds self.now.state.volume a (b + 1 - a) place) }
+        ensures fit { OnTrue result ((k : ℕ) → k < b + 1 - a →
+            IsTrue (fits place.kind (counted first step k))) }
     {
         self.stands();
         if !leaves_length(place) || !fits(place.kind, first) {
@@ -184,22 +183,27 @@ impl LiveVolume {
         first: i128,
         step: i128,
         k: u32,
-    ) -> Option<Refusal>
+    ) -> Result<Option<Refusal>, ReadFault>
         requires { IsTrue (is_trace self.old.state.volume p) }
-        ensures refusal { result ≡ set_refusal self.old.state.volume.head
-            (trace_at self.old.state.volume p) (Some place) (counted first step k) }
-        ensures state { self.new.state ≡ self.old.state }
-        ensures looks { RisesAtMost self.old.looks self.new.looks 1 }
+        ensures refusal { IfOk result (λ refusal. IsTrue self.new.agreed →
+            refusal ≡ set_refusal self.old.state.volume.head
+            (trace_at self.old.state.volume p) (Some place) (counted first step k)) }
+        ensures each { IfOk result (λ refusal. refusal ≡ None →
+            HoldsPlace (trace_at self.old.state.volume p) place) }
+        ensures fit { IfOk result (λ refusal. refusal ≡ None →
+            IsTrue (fits place.kind (counted first step k))) }
+        ensures seen { OnlyLooks self.old self.new 1 }
+        ensures read { IfErr result (λ _. IsTrue self.old.state.on_disk) }
     {
         let order = self.overlay.head().order;
-        let Some(trace) = self.overlay.look(p) else {
+        let Some(trace) = self.overlay.look(p)? else {
             unreachable!()
         };
-        renumber_refusal(order, &trace, place, first, step, k)
+        Ok(renumber_refusal(order, &trace, place, first, step, k))
     }
 
-    // The values counted up over the place of traces a to b, where nothing but memory refuses them;
-    // whether a trace has another inline or crossline then.
+    // The values counted up over the place of traces a to b, where nothing but memory or a read
+    // refuses them; whether a trace has another inline or crossline then.
     fn count_up(
         &mut self,
         alloc: Global,
@@ -209,15 +213,23 @@ impl LiveVolume {
         first: i128,
         step: i128,
     ) -> Result<bool, Refusal>
-        requires { first_refusal self.old.state
+        requires first { 1 ≤ a }
+        requires range { a ≤ b }
+        requires last { b ≤ count_of self.old.state.volume }
+        requires each { EachHolds self.old.state.volume a (b + 1 - a) place }
+        requires fit { (k : ℕ) → k < b + 1 - a →
+            IsTrue (fits place.kind (counted first step k)) }
+        requires none { IsTrue self.old.agreed → first_refusal self.old.state
             (edits.Renumber a b (fields.Place place) first step) ≡ None }
-        ensures ok { OnOk result (IsAfter self.old.state
+        ensures ok { OnOk result (IsTrue self.new.agreed → IsAfter self.old.state
             (edits.Renumber a b (fields.Place place) first step) self.new.state) }
-        ensures err { IfErr result (λ refusal. (refusal ≡ no_memory) ×
+        ensures err { IfErr result (λ refusal. IsOfMachine self.old.state.on_disk refusal ×
             (self.new.state ≡ self.old.state)) }
+        ensures same { IsReadAs self.old.state self.new.state }
+        ensures agreed { IsTrue self.new.agreed → IsTrue self.old.agreed }
         ensures looks { RisesAtMost self.old.looks self.new.looks (b + 1 - a) }
-        ensures moved { IfOk result (λ moved. moved
-            ≡ any_moves self.old.state self.new.state a b) }
+        ensures moved { IfOk result (λ moved. IsTrue self.new.agreed →
+            moved ≡ any_moves self.old.state self.new.state a b) }
     {
         let count = b - a + 1;
         let order = self.overlay.head().order;

@@ -1,12 +1,15 @@
 // Edits of samples and of whole traces.
-ghost use Rattle.std.specs.Prelude.{◌≡◌, None, IsTrue, IfOk, OnOk, IfErr};
+ghost use Rattle.std.specs.Prelude.{◌≡◌, length, None, IsTrue, IfOk, OnOk, IfErr, OnErr};
+ghost use Rattle.frame_cut.specs.Cuts.{IsTrace};
 ghost use Rattle.frame_cut.specs.Traces.{is_trace, trace_at};
 ghost use Rattle.bench_rules.specs.declared.edit.Edit.TheVariants as edits;
 ghost use Rattle.bench_rules.specs.declared.refusal.Refusal.TheVariants.{OutOfMemory as no_memory};
 ghost use Rattle.edit_overlay.specs.CountedVolume.{RisesAtMost};
 ghost use Rattle.bench_rules.specs.Refused.{first_refusal, no_trace};
 ghost use Rattle.bench_rules.specs.Steps.{IsAfter, Step};
-ghost use Rattle.live_volume.specs.Held.{sample_start};
+ghost use Rattle.live_volume.specs.Held.{sample_start, IsReadAs, OnlyLooks};
+ghost use Rattle.live_volume.specs.Refusals.{IsOfMachine};
+ghost use Rattle.volume_answers.specs.Rooms.{HasSampleRoom};
 
 use crate::live_volume::LiveVolume;
 use bench_rules::{Refusal, blank_length, joined, samples_bytes, zeros};
@@ -36,14 +39,18 @@ impl LiveVolume {
         k: u32,
         values: &[i128],
     ) -> Result<(), Refusal>
-        ensures step { Step self.old.state (edits.Patch p k values.now) result self.new.state }
+        ensures step { IsTrue self.new.agreed →
+            Step self.old.state (edits.Patch p k values.now) result self.new.state }
+        ensures err { OnErr result (self.new.state ≡ self.old.state) }
+        ensures same { IsReadAs self.old.state self.new.state }
+        ensures agreed { IsTrue self.new.agreed → IsTrue self.old.agreed }
         ensures looks { RisesAtMost self.old.looks self.new.looks 2 }
     {
         let at = patch_place(&mut self.overlay, p, k, values)?;
         self.put_values(alloc, p, k, at, values)
     }
 
-    // The values over samples of trace p, where nothing but memory refuses them.
+    // The values over samples of trace p, where nothing but memory or a read refuses them.
     fn put_values(
         &mut self,
         alloc: Global,
@@ -52,12 +59,16 @@ impl LiveVolume {
         at: u64,
         values: &[i128],
     ) -> Result<(), Refusal>
-        requires none { first_refusal self.old.state (edits.Patch p k values.now) ≡ None }
-        requires place { at ≡ sample_start self.old.state.volume p k }
-        ensures ok { OnOk result (IsAfter self.old.state (edits.Patch p k values.now)
-            self.new.state) }
-        ensures err { IfErr result (λ refusal. (refusal ≡ no_memory) ×
+        requires room { HasSampleRoom self.old.state.volume p at values.now }
+        requires none { IsTrue self.old.agreed →
+            first_refusal self.old.state (edits.Patch p k values.now) ≡ None }
+        requires place { IsTrue self.old.agreed → at ≡ sample_start self.old.state.volume p k }
+        ensures ok { OnOk result (IsTrue self.new.agreed →
+            IsAfter self.old.state (edits.Patch p k values.now) self.new.state) }
+        ensures err { IfErr result (λ refusal. IsOfMachine self.old.state.on_disk refusal ×
             (self.new.state ≡ self.old.state)) }
+        ensures same { IsReadAs self.old.state self.new.state }
+        ensures agreed { IsTrue self.new.agreed → IsTrue self.old.agreed }
         ensures looks { RisesAtMost self.old.looks self.new.looks 1 }
     {
         let head = self.overlay.head();
@@ -70,7 +81,11 @@ impl LiveVolume {
 
     // A blank trace in front of trace p, or behind the last, or the first refusal: E01, E09, E10.
     pub(crate) fn blank(&mut self, alloc: Global, p: u32) -> Result<(), Refusal>
-        ensures step { Step self.old.state (edits.Blank p) result self.new.state }
+        ensures step { IsTrue self.new.agreed →
+            Step self.old.state (edits.Blank p) result self.new.state }
+        ensures err { OnErr result (self.new.state ≡ self.old.state) }
+        ensures same { IsReadAs self.old.state self.new.state }
+        ensures agreed { IsTrue self.new.agreed → IsTrue self.old.agreed }
         ensures looks { self.new.looks ≡ self.old.looks }
     {
         match blank_refusal(&self.overlay, self.limits, p) {
@@ -82,9 +97,12 @@ impl LiveVolume {
     // A blank trace in front of trace p, or behind the last, where nothing but memory refuses it.
     fn insert_blank(&mut self, alloc: Global, p: u32) -> Result<(), Refusal>
         requires { first_refusal self.old.state (edits.Blank p) ≡ None }
-        ensures ok { OnOk result (IsAfter self.old.state (edits.Blank p) self.new.state) }
+        ensures ok { OnOk result (IsTrue self.new.agreed →
+            IsAfter self.old.state (edits.Blank p) self.new.state) }
         ensures err { IfErr result (λ refusal. (refusal ≡ no_memory) ×
             (self.new.state ≡ self.old.state)) }
+        ensures same { IsReadAs self.old.state self.new.state }
+        ensures agreed { IsTrue self.new.agreed → IsTrue self.old.agreed }
         ensures looks { self.new.looks ≡ self.old.looks }
     {
         let head = self.overlay.head();
@@ -96,10 +114,14 @@ impl LiveVolume {
     // A copy of trace q in front of trace p, or behind the last, or the first refusal: E01, E09,
     // E10.
     pub(crate) fn copy(&mut self, alloc: Global, q: u32, p: u32) -> Result<(), Refusal>
-        ensures step { Step self.old.state (edits.Copy q p) result self.new.state }
+        ensures step { IsTrue self.new.agreed →
+            Step self.old.state (edits.Copy q p) result self.new.state }
+        ensures err { OnErr result (self.new.state ≡ self.old.state) }
+        ensures same { IsReadAs self.old.state self.new.state }
+        ensures agreed { IsTrue self.new.agreed → IsTrue self.old.agreed }
         ensures looks { RisesAtMost self.old.looks self.new.looks 2 }
     {
-        match copy_refusal(&mut self.overlay, self.limits, q, p) {
+        match copy_refusal(&mut self.overlay, self.limits, q, p)? {
             Some(refusal) => Err(refusal),
             None => self.insert_copy(alloc, q, p),
         }
@@ -108,24 +130,30 @@ impl LiveVolume {
     // The bytes of trace q, in one vector.
     fn trace_bytes(&mut self, alloc: Global, q: u32) -> Result<Vec<u8>, Refusal>
         requires { IsTrue (is_trace self.old.state.volume q) }
-        ensures ok { IfOk result (λ bytes. bytes.items ≡ trace_at self.old.state.volume q) }
-        ensures err { IfErr result (λ refusal. refusal ≡ no_memory) }
-        ensures state { self.new.state ≡ self.old.state }
-        ensures looks { RisesAtMost self.old.looks self.new.looks 1 }
+        ensures ok { IfOk result (λ bytes. IsTrue self.new.agreed →
+            bytes.items ≡ trace_at self.old.state.volume q) }
+        ensures whole { IfOk result (λ bytes. IsTrace self.old.state.volume.head bytes.items) }
+        ensures long { IfOk result (λ bytes.
+            length bytes.items ≡ length (trace_at self.old.state.volume q)) }
+        ensures err { IfErr result (λ refusal. IsOfMachine self.old.state.on_disk refusal) }
+        ensures seen { OnlyLooks self.old self.new 1 }
     {
-        let Some(trace) = self.overlay.look(q) else {
+        let Some(trace) = self.overlay.look(q)? else {
             unreachable!()
         };
         joined(alloc, &trace)
     }
 
-    // A copy of trace q in front of trace p, or behind the last, where nothing but memory refuses
-    // it.
+    // A copy of trace q in front of trace p, or behind the last, where nothing but memory or a read
+    // refuses it.
     fn insert_copy(&mut self, alloc: Global, q: u32, p: u32) -> Result<(), Refusal>
         requires { first_refusal self.old.state (edits.Copy q p) ≡ None }
-        ensures ok { OnOk result (IsAfter self.old.state (edits.Copy q p) self.new.state) }
-        ensures err { IfErr result (λ refusal. (refusal ≡ no_memory) ×
+        ensures ok { OnOk result (IsTrue self.new.agreed →
+            IsAfter self.old.state (edits.Copy q p) self.new.state) }
+        ensures err { IfErr result (λ refusal. IsOfMachine self.old.state.on_disk refusal ×
             (self.new.state ≡ self.old.state)) }
+        ensures same { IsReadAs self.old.state self.new.state }
+        ensures agreed { IsTrue self.new.agreed → IsTrue self.old.agreed }
         ensures looks { RisesAtMost self.old.looks self.new.looks 1 }
     {
         let trace = self.overlay.payload(q).record();
@@ -135,7 +163,11 @@ impl LiveVolume {
 
     // Trace p out, or the refusal: E01.
     pub(crate) fn delete(&mut self, p: u32) -> Result<(), Refusal>
-        ensures step { Step self.old.state (edits.Delete p) result self.new.state }
+        ensures step { IsTrue self.new.agreed →
+            Step self.old.state (edits.Delete p) result self.new.state }
+        ensures err { OnErr result (self.new.state ≡ self.old.state) }
+        ensures same { IsReadAs self.old.state self.new.state }
+        ensures agreed { IsTrue self.new.agreed → IsTrue self.old.agreed }
         ensures looks { self.new.looks ≡ self.old.looks }
     {
         match self.no_trace(p) {
@@ -150,7 +182,10 @@ impl LiveVolume {
     // Trace p out, where it is there.
     fn take_out(&mut self, p: u32)
         requires { first_refusal self.old.state (edits.Delete p) ≡ None }
-        ensures after { IsAfter self.old.state (edits.Delete p) self.new.state }
+        ensures after { IsTrue self.new.agreed →
+            IsAfter self.old.state (edits.Delete p) self.new.state }
+        ensures same { IsReadAs self.old.state self.new.state }
+        ensures agreed { IsTrue self.new.agreed → IsTrue self.old.agreed }
         ensures looks { self.new.looks ≡ self.old.looks }
     {
         self.reports
@@ -160,7 +195,11 @@ impl LiveVolume {
 
     // Trace a as trace b, or the first refusal: E01.
     pub(crate) fn move_trace(&mut self, alloc: Global, a: u32, b: u32) -> Result<(), Refusal>
-        ensures step { Step self.old.state (edits.Move a b) result self.new.state }
+        ensures step { IsTrue self.new.agreed →
+            Step self.old.state (edits.Move a b) result self.new.state }
+        ensures err { OnErr result (self.new.state ≡ self.old.state) }
+        ensures same { IsReadAs self.old.state self.new.state }
+        ensures agreed { IsTrue self.new.agreed → IsTrue self.old.agreed }
         ensures looks { self.new.looks ≡ self.old.looks }
     {
         match move_refusal(&self.overlay, a, b) {
@@ -172,9 +211,12 @@ impl LiveVolume {
     // Trace a as trace b, where nothing but memory refuses it.
     fn put_elsewhere(&mut self, alloc: Global, a: u32, b: u32) -> Result<(), Refusal>
         requires { first_refusal self.old.state (edits.Move a b) ≡ None }
-        ensures ok { OnOk result (IsAfter self.old.state (edits.Move a b) self.new.state) }
+        ensures ok { OnOk result (IsTrue self.new.agreed →
+            IsAfter self.old.state (edits.Move a b) self.new.state) }
         ensures err { IfErr result (λ refusal. (refusal ≡ no_memory) ×
             (self.new.state ≡ self.old.state)) }
+        ensures same { IsReadAs self.old.state self.new.state }
+        ensures agreed { IsTrue self.new.agreed → IsTrue self.old.agreed }
         ensures looks { self.new.looks ≡ self.old.looks }
     {
         self.overlay.move_to(alloc, a, b)?;

@@ -1,7 +1,7 @@
 // Changes of the volume and of the reports that hold the records of its traces: of both, or of
-// neither where memory is refused. What can be refused comes first, and what is done then takes no
-// memory.
-ghost use Rattle.std.specs.Prelude.{◌≡◌, ◌+◌, ◌-◌, ◌≤◌, ◌<◌, ◌^◌, ◌/◌, [], length, map, slice_index_or, slice_set, ℕ, IsTrue, IfSome, IfOk, OnOk, IfErr};
+// neither where memory or a read of a trace is refused. What can be refused comes first, and what
+// is done then takes no memory and reads no trace.
+ghost use Rattle.std.specs.Prelude.{◌≡◌, ◌+◌, ◌-◌, ◌≤◌, ◌<◌, ◌/◌, ◌%◌, [], length, map, slice_index_or, slice_set, ℕ, IsTrue, IfSome, IfOk, OnOk, IfErr};
 ghost use Rattle.frame_cut.specs.Cuts.{IsTrace};
 ghost use Rattle.frame_cut.specs.Parts.{with_each, with_inserted};
 ghost use Rattle.frame_cut.specs.Splice.{splice};
@@ -10,38 +10,44 @@ ghost use Rattle.frame_cut.specs.Volume.{bytes_of};
 ghost use Rattle.trace_record.specs.Facts.{facts_of};
 ghost use Rattle.trace_record.specs.OfTrace.{record_of};
 ghost use Rattle.trace_record.specs.Packed.{record_in};
-ghost use Rattle.edit_overlay.specs.CountedVolume.{RisesAtMost, with_one_look, with_volume as with_counted_volume};
+ghost use Rattle.edit_overlay.specs.CountedVolume.{RisesAtMost, after_look, with_volume as with_counted_volume};
 ghost use Rattle.live_reports.specs.Exchanged.{with_records};
 ghost use Rattle.live_reports.specs.OfRecords.{AreReportsOf};
 ghost use Rattle.live_reports.specs.Reports.{AreFew};
 ghost use Rattle.bench_rules.specs.declared.refusal.Refusal.TheVariants.{OutOfMemory as no_memory};
 ghost use Rattle.volume_records.specs.OfVolume.{AreHeaderParts};
 ghost use Rattle.live_volume.specs.Held.{any_moves, with_volume, HasSamplesOf, IsCutAs};
+ghost use Rattle.live_volume.specs.Places.{MayReplace};
+ghost use Rattle.live_volume.specs.Refusals.{refusal_of_records as refusal_of, IsOfMachine};
 
 use crate::live_volume::LiveVolume;
 use bench_rules::Refusal;
-use edit_overlay::Overlay;
+use edit_overlay::{Overlay, ReadFault};
 use field_map::FieldMap;
 use live_reports::{LiveReports, same_cells};
 use record_table::{RecordList, Records};
 use std::alloc::Global;
 use trace_record::{PackedRecord, Record};
-use volume_records::{prepared_headers, prepared_record, prepared_records, set_records};
+use volume_records::{
+    RecordsFault, prepared_headers, prepared_record, prepared_records, set_records,
+};
 
 impl LiveVolume {
     // The record of trace p.
     pub(crate) fn held(&self, p: u32) -> Record
         requires first { 1 ≤ p }
         requires last { p ≤ count_of self.now.state.volume }
-        ensures { facts_of result ≡ record_of self.now.state.volume.head self.now.state.fields
+        ensures facts { IsTrue self.now.agreed → facts_of result ≡ record_of
+            self.now.state.volume.head self.now.state.fields
             (trace_at self.now.state.volume p) }
+        ensures few { result.number ≤ length (trace_at self.now.state.volume p) }
     {
         self.overlay.payload(p).record()
     }
 
     // Lays the bytes over those of trace p from place `at` on, counted from 0 in the trace. The
     // trace is looked at for its new record; where the record of its samples is known, they are not
-    // read.
+    // read. Refused for want of memory, or on disk where the trace could not be read.
     pub(crate) fn put(
         &mut self,
         alloc: Global,
@@ -53,24 +59,35 @@ impl LiveVolume {
         requires first { 1 ≤ p }
         requires last { p ≤ count_of self.old.state.volume }
         requires inside { at + length bytes.now ≤ length (trace_at self.old.state.volume p) }
-        requires whole { IsTrace self.old.state.volume.head
+        requires whole { IsTrue self.old.agreed → IsTrace self.old.state.volume.head
             (splice (trace_at self.old.state.volume p) at (length bytes.now) bytes.now) }
-        requires cut { IsCutAs self.old.state (with_trace self.old.state.volume p
+        requires cut { IsTrue self.old.agreed → IsCutAs self.old.state
+            (with_trace self.old.state.volume p
             (splice (trace_at self.old.state.volume p) at (length bytes.now) bytes.now)) }
-        requires samples { IfSome samples (HasSamplesOf self.old.state.volume.head
-            self.old.state.fields
+        requires samples { IsTrue self.old.agreed → IfSome samples (HasSamplesOf
+            self.old.state.volume.head self.old.state.fields
             (splice (trace_at self.old.state.volume p) at (length bytes.now) bytes.now)) }
+        requires few { IfSome samples (λ r. r.number ≤
+            length (trace_at self.old.state.volume p)) }
         ensures ok { OnOk result (self.new.state ≡ with_volume self.old.state
             (with_trace self.old.state.volume p
             (splice (trace_at self.old.state.volume p) at (length bytes.now) bytes.now))) }
-        ensures err { IfErr result (λ refusal. (refusal ≡ no_memory) ×
+        ensures err { IfErr result (λ refusal. IsOfMachine self.old.state.on_disk refusal ×
             (self.new.state ≡ self.old.state)) }
+        ensures agreed { IsTrue self.new.agreed → IsTrue self.old.agreed }
         ensures looks { RisesAtMost self.old.looks self.new.looks 1 }
     {
         self.overlay.prepare_put(alloc, p, at, bytes)?;
-        let record = new_record(&mut self.overlay, &self.fields, p, samples);
-        exchange(&mut self.overlay, &mut self.reports, p, &record)?;
-        Ok(())
+        match new_record(&mut self.overlay, &self.fields, p, samples) {
+            Ok(record) => {
+                exchange(&mut self.overlay, &mut self.reports, p, &record)?;
+                Ok(())
+            }
+            Err(fault) => {
+                self.overlay.discard();
+                Err(Refusal::from(fault))
+            }
+        }
     }
 
     // Puts a new trace of these bytes, with this record, in front of trace p, or behind the last.
@@ -83,17 +100,20 @@ impl LiveVolume {
     ) -> Result<(), Refusal>
         requires first { 1 ≤ p }
         requires last { p ≤ count_of self.old.state.volume + 1 }
-        requires few { count_of self.old.state.volume + 1 < 2 ^ 32 }
+        requires few { count_of self.old.state.volume + 1 ≤ self.old.state.limits.traces }
         requires whole { IsTrace self.old.state.volume.head bytes.items }
-        requires small { length (bytes_of self.old.state.volume) + length bytes.items < 2 ^ 64 }
-        requires cut { IsCutAs self.old.state
+        requires small { length (bytes_of self.old.state.volume) + length bytes.items
+            ≤ self.old.state.limits.bytes }
+        requires number { trace.now.number ≤ length bytes.items }
+        requires cut { IsTrue self.old.agreed → IsCutAs self.old.state
             (with_inserted self.old.state.volume p bytes.items) }
-        requires record { facts_of trace.now ≡ record_of self.old.state.volume.head
-            self.old.state.fields bytes.items }
+        requires record { IsTrue self.old.agreed → facts_of trace.now ≡ record_of
+            self.old.state.volume.head self.old.state.fields bytes.items }
         ensures ok { OnOk result (self.new.state ≡ with_volume self.old.state
             (with_inserted self.old.state.volume p bytes.items)) }
         ensures err { IfErr result (λ refusal. (refusal ≡ no_memory) ×
             (self.new.state ≡ self.old.state)) }
+        ensures agreed { IsTrue self.new.agreed → IsTrue self.old.agreed }
         ensures looks { self.new.looks ≡ self.old.looks }
     {
         let place = p as usize - 1;
@@ -124,17 +144,17 @@ impl LiveVolume {
         bytes: Vec<u8>,
         trace: &Record,
     ) -> Result<(), Refusal>
-        requires first { 1 ≤ p }
-        requires last { p ≤ count_of self.old.state.volume }
-        requires whole { IsTrace self.old.state.volume.head bytes.items }
-        requires small { length (bytes_of self.old.state.volume) + length bytes.items < 2 ^ 64 }
-        requires cut { IsCutAs self.old.state (with_trace self.old.state.volume p bytes.items) }
-        requires record { facts_of trace.now ≡ record_of self.old.state.volume.head
-            self.old.state.fields bytes.items }
+        requires fits { MayReplace self.old.state p bytes.items }
+        requires number { trace.now.number ≤ length bytes.items }
+        requires cut { IsTrue self.old.agreed → IsCutAs self.old.state
+            (with_trace self.old.state.volume p bytes.items) }
+        requires record { IsTrue self.old.agreed → facts_of trace.now ≡ record_of
+            self.old.state.volume.head self.old.state.fields bytes.items }
         ensures ok { OnOk result (self.new.state ≡ with_volume self.old.state
             (with_trace self.old.state.volume p bytes.items)) }
         ensures err { IfErr result (λ refusal. (refusal ≡ no_memory) ×
             (self.new.state ≡ self.old.state)) }
+        ensures agreed { IsTrue self.new.agreed → IsTrue self.old.agreed }
         ensures looks { self.new.looks ≡ self.old.looks }
     {
         let place = p as usize - 1;
@@ -152,7 +172,8 @@ impl LiveVolume {
     // Lays the bytes, `size` of them over each trace, over the headers of so many traces from trace
     // a on, in each from place `at` on, counted from 0 in the trace: all of them or none. Tells
     // whether a trace has another inline or crossline then. Each is looked at for its new record,
-    // and no sample is read.
+    // and no sample is read. Refused for want of memory, or on disk where a trace could not be
+    // read.
     pub(crate) fn put_each(
         &mut self,
         alloc: Global,
@@ -163,33 +184,53 @@ impl LiveVolume {
         bytes: &[u8],
     ) -> Result<bool, Refusal>
         requires first { 1 ≤ a }
+        requires some { 0 < size }
+        requires exact { length bytes.now % size ≡ 0 }
         requires count { length bytes.now / size ≡ count }
-        requires parts { AreHeaderParts self.old.state.volume a at size bytes.now }
+        requires last { a - 1 + count ≤ count_of self.old.state.volume }
         requires inside { (k : ℕ) → k < length bytes.now / size → at + size
             ≤ length (slice_index_or self.old.state.volume.traces (a - 1 + k) []) }
-        requires cut { IsCutAs self.old.state
+        requires parts { IsTrue self.old.agreed →
+            AreHeaderParts self.old.state.volume a at size bytes.now }
+        requires cut { IsTrue self.old.agreed → IsCutAs self.old.state
             (with_each self.old.state.volume a at size bytes.now) }
         ensures ok { OnOk result (self.new.state ≡ with_volume self.old.state
             (with_each self.old.state.volume a at size bytes.now)) }
-        ensures err { IfErr result (λ refusal. (refusal ≡ no_memory) ×
+        ensures err { IfErr result (λ refusal. IsOfMachine self.old.state.on_disk refusal ×
             (self.new.state ≡ self.old.state)) }
-        ensures moved { IfOk result (λ moved. moved ≡ any_moves self.old.state
+        ensures moved { IfOk result (λ moved. IsTrue self.new.agreed →
+            moved ≡ any_moves self.old.state
             (with_volume self.old.state (with_each self.old.state.volume a at size bytes.now))
             a (a - 1 + count)) }
+        ensures agreed { IsTrue self.new.agreed → IsTrue self.old.agreed }
         ensures looks { RisesAtMost self.old.looks self.new.looks count }
     {
         self.overlay.prepare_put_each(alloc, a, at, size, bytes)?;
-        let Ok(records) = prepared_records(alloc, &mut self.overlay, &self.fields, a, count) else {
-            self.overlay.discard();
-            return Err(Refusal::OutOfMemory);
-        };
-        let stays = same_cells(
-            &Records::new(self.overlay.payloads()),
-            a as usize - 1,
-            &records,
-        );
-        exchange_each(&mut self.overlay, &mut self.reports, a, &records)?;
-        Ok(!stays)
+        match prepared_records(alloc, &mut self.overlay, &self.fields, a, count) {
+            Ok(records) => {
+                let stays = same_cells(
+                    &Records::new(self.overlay.payloads()),
+                    a as usize - 1,
+                    &records,
+                );
+                exchange_each(&mut self.overlay, &mut self.reports, a, &records)?;
+                Ok(!stays)
+            }
+            Err(fault) => {
+                self.overlay.discard();
+                Err(refusal_of_records(fault))
+            }
+        }
+    }
+}
+
+// The refusal of an edit for which no records were made.
+pub(crate) fn refusal_of_records(fault: RecordsFault) -> Refusal
+    ensures { result ≡ refusal_of fault }
+{
+    match fault {
+        RecordsFault::OutOfMemory => Refusal::OutOfMemory,
+        RecordsFault::Read(read) => Refusal::from(read),
     }
 }
 
@@ -200,14 +241,19 @@ fn new_record(
     fields: &FieldMap,
     p: u32,
     samples: Option<Record>,
-) -> Record
+) -> Result<Record, ReadFault>
     requires trace { IsTrue (is_trace overlay.old.prepared p) }
     requires fields { fields.now.extensions ≡ overlay.old.prepared.head.extensions }
-    requires samples { IfSome samples (HasSamplesOf overlay.old.prepared.head fields.now.pairs
+    requires samples { IsTrue overlay.old.agreed → IfSome samples (HasSamplesOf
+        overlay.old.prepared.head fields.now.pairs (trace_at overlay.old.prepared p)) }
+    requires few { IfSome samples (λ r. r.number ≤ length (trace_at overlay.old.prepared p)) }
+    ensures record { IfOk result (λ r. IsTrue overlay.new.agreed →
+        facts_of r ≡ record_of overlay.old.prepared.head fields.now.pairs
         (trace_at overlay.old.prepared p)) }
-    ensures record { facts_of result ≡ record_of overlay.old.prepared.head fields.now.pairs
-        (trace_at overlay.old.prepared p) }
-    ensures overlay { overlay.new ≡ with_one_look overlay.old }
+    ensures few { IfOk result (λ r. r.number ≤ length (trace_at overlay.old.prepared p)) }
+    ensures looked { overlay.new ≡ after_look overlay.old overlay.new.agreed }
+    ensures agreed { IsTrue overlay.new.agreed → IsTrue overlay.old.agreed }
+    ensures read { IfErr result (λ _. IsTrue overlay.old.on_disk) }
 {
     match samples {
         Some(known) => prepared_headers(overlay, fields, p, &known),
@@ -237,6 +283,8 @@ fn exchange(
         × (overlay.new ≡ with_counted_volume overlay.old overlay.old.volume)
         × AreReportsOf reports.new (map record_in overlay.old.payloads)) }
     ensures prepared { overlay.new.prepared ≡ overlay.new.volume }
+    ensures on_disk { overlay.new.on_disk ≡ overlay.old.on_disk }
+    ensures agreed { overlay.new.agreed ≡ overlay.old.agreed }
     ensures looks { overlay.new.looks ≡ overlay.old.looks }
 {
     match reports.exchange(&Records::new(overlay.payloads()), p as usize - 1, trace) {
@@ -274,6 +322,8 @@ fn exchange_each(
         × (overlay.new ≡ with_counted_volume overlay.old overlay.old.volume)
         × AreReportsOf reports.new (map record_in overlay.old.payloads)) }
     ensures prepared { overlay.new.prepared ≡ overlay.new.volume }
+    ensures on_disk { overlay.new.on_disk ≡ overlay.old.on_disk }
+    ensures agreed { overlay.new.agreed ≡ overlay.old.agreed }
     ensures looks { overlay.new.looks ≡ overlay.old.looks }
 {
     match reports.exchange_each(&Records::new(overlay.payloads()), a as usize - 1, records) {

@@ -8,4 +8,5 @@ pub mod FormulaLemmas
 pub mod NumbersLemmas
 mod NearLemmas
 pub mod ExchangeLemmas
+pub mod LookLemmas
 pub mod SortedTraceLemmas

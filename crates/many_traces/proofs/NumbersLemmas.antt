@@ -1,16 +1,17 @@
 -- Numbers that are computed for many traces, one trace after another.
-use Rattle.std.proofs.Common.{◌≡◌, ℕ, ℤ, zero, suc, ◌+◌, ◌-◌, ◌*◌, ◌≤◌, true, List, [], ◌++◌, Option, Some, None, Ok, Err, refl, sym, ap, ◌∙◌, arith}
-use Rattle.std.specs.Prelude.{Result, IfOk, IfErr}
+use Rattle.std.proofs.Common.{◌≡◌, ℕ, ℤ, zero, suc, ◌+◌, ◌-◌, ◌*◌, ◌≤◌, true, List, [], ◌++◌, Option, Some, None, Ok, Err, length, inl, inr, refl, sym, ap, ◌∙◌, arith}
+use Rattle.std.specs.Prelude.{◌⊎◌, Result, IfOk, OnOk}
 use Rattle.std.specs.List.{flat_map}
 use Rattle.std.proofs.lemmas.Bool.{le-leb}
 use borrow.Author.Count.{below_more}
 use Rattle.num_order.specs.declared.kind.Kind.{Kind}
 use Rattle.num_order.specs.declared.order.Order.{Order}
-use Rattle.num_order.specs.Number.{IsSize, InRange, bytes, fits}
+use Rattle.num_order.specs.Number.{InRange, bytes, fits}
 use Rattle.num_order.proofs.InRangeLemmas.{in_range}
 use Rattle.field_map.specs.declared.place.Place.{Place}
 use Rattle.field_map.specs.Pairs.{Pairs}
 use Rattle.frame_cut.specs.declared.file_head.Head.{Head}
+use Rattle.frame_cut.specs.Cuts.{IsTrace}
 use Rattle.frame_cut.specs.Traces.{count_of, is_trace, trace_at}
 use Rattle.frame_cut.specs.Volume.{Volume}
 use Rattle.trace_view.specs.Values.{has_place}
@@ -24,8 +25,9 @@ use Rattle.bench_rules.specs.SetRefusals.{set_refusal}
 use Rattle.bench_rules.proofs.ComputeLemmas.{NoneRefused, number_of, number_or_zero, numbers_are}
 use Rattle.bench_rules.proofs.FirstLemmas.{first_is, first_none}
 use Rattle.bench_rules.proofs.ManyValueLemmas.{bytes_from, more_from, valued}
-use Rattle.bench_rules.proofs.PlaceLemmas.{sized, stands}
+use Rattle.bench_rules.proofs.PlaceLemmas.{place_inside, sized, stands}
 use Rattle.bench_rules.proofs.SetLemmas.{unless}
+use Rattle.many_traces.specs.Fields.{HoldsPlace}
 use Rattle.many_traces.specs.Formulas.{IsRefusalFor, named_number_in, number_bytes}
 use Rattle.many_traces.proofs.FormulaLemmas.{named_is}
 
@@ -43,20 +45,6 @@ pub record AreSoFar (v : Volume) (f : Formula) (a k : ℕ) (bs : List ℕ) : Typ
 pub none_so_far : (v : Volume) (f : Formula) (a : ℕ) (bs : List ℕ) → bs ≡ [] → AreSoFar v f a 0 bs
 none_so_far v f a bs e = record { none = λ i less. absurd (omega (arith, less)); bytes = e }
 
--- a number that is not refused is one of the place's kind
-pub record IsNumber (place : Place) (x : ℤ) : Type 0 where
-  pub size : IsSize place.kind.size
-  pub fits : InRange place.kind x
-
-pub is_number : (v : Volume) (f : Formula) (p : ℕ) (x : ℤ) → compute_refusal v f p ≡ None → computed_in v.head f p (trace_at v p) ≡ Ok x → IsNumber f.place x
-is_number v f p x none e =
-    let h : Head = v.head in
-    let t : List ℕ = trace_at v p in
-    let free : set_refusal h t (Some f.place) x ≡ None = rw e at none in
-    let has = unless (has_place h t f.place) NoPlace _ free in
-    let fit = unless (fits f.place.kind x) DoesNotFit _ has.1 in
-    record { size = sized f.place.kind.size (stands h t f.place has.0).size; fits = in_range f.place.kind x fit.0 }
-
 pub one_more : (v : Volume) (f : Formula) (a k : ℕ) (x : ℤ) (old new : List ℕ) → AreSoFar v f a k old → compute_refusal v f (a + k) ≡ None → computed_in v.head f (a + k) (trace_at v (a + k)) ≡ Ok x
     → new ≡ old ++ bytes v.head.order f.place.kind x → AreSoFar v f a (k + 1) new
 one_more v f a k x old new far none e joined =
@@ -72,6 +60,11 @@ one_more v f a k x old new far none e joined =
 -- the first that is refused is the answer
 pub refused_here : (v : Volume) (f : Formula) (a b k : ℕ) (r : Refusal) → NoneRefused v f a k → a + k ≤ b → compute_refusal v f (a + k) ≡ Some r → compute_refusal_in v (Some f) a b ≡ Some r
 refused_here v f a b k r none inside e = first_is (compute_refusal v f) a (b + 1 - a) k r none (omega arith) e
+
+-- or a read that failed
+pub refused_or_read : {P R : Type 0} (v : Volume) (f : Formula) (a b k : ℕ) (r : Refusal) → R ⊎ (P → compute_refusal v f (a + k) ≡ Some r) → (P → NoneRefused v f a k) → a + k ≤ b → R ⊎ (P → compute_refusal_in v (Some f) a b ≡ Some r)
+refused_or_read v f a b k r (inl read) none inside = inl read
+refused_or_read v f a b k r (inr told) none inside = inr (λ sure. refused_here v f a b k r (none sure) inside (told sure))
 
 -- and where none is, there is none
 pub none_refused : (v : Volume) (f : Formula) (a b : ℕ) → NoneRefused v f a (b + 1 - a) → compute_refusal_in v (Some f) a b ≡ None
@@ -91,26 +84,48 @@ all_bytes v f a b bs far =
 pub room_left : (size n m : ℕ) → m ≡ n + 1 → size * m ≡ size + size * n
 room_left size n m e = let more : size * (n + 1) ≡ size + size * n = omega arith in ap (λ (k : ℕ). size * k) e ∙ more
 
+-- ---- the place of a number that nothing refuses
+
+free : (h : Head) (t : List ℕ) (place : Place) (number : Result ℤ Refusal) (x : ℤ) → number ≡ Ok x → refusal_of_result h t place number ≡ None → set_refusal h t (Some place) x ≡ None
+free h t place number x e none = ap (λ (r : Result ℤ Refusal). refusal_of_result h t place r) (sym e) ∙ none
+
+holds : (h : Head) (t u : List ℕ) (place : Place) (x : ℤ) → IsTrace h t → length t ≡ length u → set_refusal h t (Some place) x ≡ None → HoldsPlace u place
+holds h t u place x whole long none =
+    let has = unless (has_place h t place) NoPlace _ none in
+    let s = stands h t place has.0 in
+    record {
+      first = omega (arith, s.first);
+      size = sized place.kind.size s.size;
+      inside = omega (arith, place_inside h t place whole has.0, long);
+    }
+
+in_kind : (h : Head) (t : List ℕ) (place : Place) (x : ℤ) → set_refusal h t (Some place) x ≡ None → InRange place.kind x
+in_kind h t place x none =
+    let has = unless (has_place h t place) NoPlace _ none in
+    let fit = unless (fits place.kind x) DoesNotFit _ has.1 in
+    in_range place.kind x fit.0
+
+-- what is told of a number that was admitted in a trace
+abbrev pub IsAdmitted : Result ℤ Refusal → Result ℤ Refusal → Head → List ℕ → Place → Type 0
+IsAdmitted r number h t place = IfOk r (λ x. (number ≡ Ok x) × (refusal_of_result h t place number ≡ None))
+
+pub held : (r number : Result ℤ Refusal) (h : Head) (t u : List ℕ) (place : Place) → IsTrace h t → length t ≡ length u → IsAdmitted r number h t place → OnOk r (HoldsPlace u place)
+held (Err refusal) number h t u place whole long told = tt
+held (Ok x) number h t u place whole long told = holds h t u place x whole long (free h t place number x told.0 told.1)
+
+pub kept_in_kind : (r number : Result ℤ Refusal) (h : Head) (t : List ℕ) (place : Place) → IsAdmitted r number h t place → IfOk r (λ x. InRange place.kind x)
+kept_in_kind (Err refusal) number h t place told = tt
+kept_in_kind (Ok x) number h t place told = in_kind h t place x (free h t place number x told.0 told.1)
+
 -- ---- the numbers by names
 
--- what is told of a number by names is told of that by places, where each field has one
-pub named_none : (v : Volume) (fields : Pairs) (h : Head) (t : List ℕ) (p : ℕ) (place : Place) (source : Term) (steps : List (Operator × Operand)) (number r : Result ℤ Refusal)
-    → h ≡ v.head → t ≡ trace_at v p → number ≡ named_number_in h fields place source steps p t
-    → IfOk r (λ x. (number ≡ Ok x) × (refusal_of_result h t place number ≡ None))
-    → IfOk r (λ x. (terms : List (Operator × Term)) → steps_of fields steps ≡ Some terms → compute_refusal v (record { place = place; source = source; steps = terms }) p ≡ None)
-named_none v fields h t p place source steps number (Err refusal) e g is told = tt
-named_none v fields h t p place source steps number (Ok x) e g is told = λ terms known.
+-- the refusal of a number by names is that of the number by places, where each field has one
+pub named_refusal : (v : Volume) (fields : Pairs) (h : Head) (t : List ℕ) (p : ℕ) (place : Place) (source : Term) (steps : List (Operator × Operand)) (number : Result ℤ Refusal) (o : Option Refusal)
+    → h ≡ v.head → t ≡ trace_at v p → number ≡ named_number_in h fields place source steps p t → refusal_of_result h t place number ≡ o
+    → (terms : List (Operator × Term)) → steps_of fields steps ≡ Some terms → o ≡ compute_refusal v (record { place = place; source = source; steps = terms }) p
+named_refusal v fields h t p place source steps number o e g is told terms known =
     let same : number ≡ computed_in h (record { place = place; source = source; steps = terms }) p t = is ∙ named_is h t fields p place source steps terms known in
-    rw (← e, ← g) (ap (refusal_of_result h t place) (sym same) ∙ told.1)
-
-pub named_refused : (v : Volume) (fields : Pairs) (h : Head) (t : List ℕ) (p : ℕ) (place : Place) (source : Term) (steps : List (Operator × Operand)) (number r : Result ℤ Refusal)
-    → h ≡ v.head → t ≡ trace_at v p → number ≡ named_number_in h fields place source steps p t
-    → IfErr r (λ refusal. refusal_of_result h t place number ≡ Some refusal)
-    → IfErr r (λ refusal. (terms : List (Operator × Term)) → steps_of fields steps ≡ Some terms → compute_refusal v (record { place = place; source = source; steps = terms }) p ≡ Some refusal)
-named_refused v fields h t p place source steps number (Ok x) e g is told = tt
-named_refused v fields h t p place source steps number (Err refusal) e g is told = λ terms known.
-    let same : number ≡ computed_in h (record { place = place; source = source; steps = terms }) p t = is ∙ named_is h t fields p place source steps terms known in
-    rw (← e, ← g) (ap (refusal_of_result h t place) (sym same) ∙ told)
+    rw (← e, ← g) (sym told ∙ ap (λ (n : Result ℤ Refusal). refusal_of_result h t place n) same)
 
 pub refusal_is : (r : Refusal) (o : Option Refusal) → o ≡ Some r → IsRefusalFor r o
 refusal_is r o e = rw e refl

@@ -1,10 +1,11 @@
 -- The rows of a table that is filled row by row.
-use Rattle.std.proofs.Common.{◌≡◌, ℕ, ℤ, zero, suc, ◌+◌, ◌-◌, ◌*◌, ◌<◌, ◌≤◌, true, false, List, [], ◌∷◌, ◌++◌, length, take, drop, map, Option, Some, None, refl, sym, ap, ap₂, subst, ◌∙◌, arith}
+use Rattle.std.proofs.Common.{◌≡◌, ℕ, ℤ, zero, suc, ◌+◌, ◌-◌, ◌*◌, ◌<◌, ◌≤◌, true, false, List, [], ◌∷◌, ◌++◌, length, take, drop, map, All, Option, Some, None, refl, sym, ap, ap₂, subst, ◌∙◌, arith}
 use Rattle.std.proofs.Math.Nat.{mul-le-mul_left}
 use Rattle.std.proofs.Math.Seq.{drop-append_seam, take-length}
-use Rattle.std.proofs.lemmas.List.{append-nil, drop-append-le, take-append-le, length-append, length-drop}
-use Rattle.std.proofs.lemmas.List.FromFn.{map-range_with_len_more}
-use Rattle.std.specs.Prelude.{option_map, is_some, unwrap_or}
+use Rattle.std.proofs.lemmas.List.{append-nil, drop-append-le, take-append-le, length-append, length-drop, length-take-le}
+use Rattle.std.proofs.lemmas.List.Elements.{All-nil, All-cons}
+use Rattle.std.proofs.lemmas.List.FromFn.{length-map-range_with_len, map-range_with_len_more}
+use Rattle.std.specs.Prelude.{option_and_then, option_map, is_some, unwrap_or}
 use Rattle.std.specs.List.{range_with_len}
 use Rattle.bench_rules.specs.ManyTraces.{each_of}
 use Rattle.bench_rules.specs.Tables.{rows_from, row_of, table_of}
@@ -48,6 +49,36 @@ rows_more a w k xs row full whole =
     (same_over (λ j. (a + j, take w (drop (w * j) (xs ++ row)))) (λ j. (a + j, take w (drop (w * j) xs))) 0 k
     (λ j less. ap (λ ys. (a + j, ys)) (row_in_front w j xs row (subst (λ (n : ℕ). w * j + w ≤ n) (sym full) (ends w j k (omega (arith, less)))))))
     (row_behind w k xs row full whole)
+
+-- ---- as many rows as there is room for
+
+wide_from : (a w i n : ℕ) (xs : List ℤ) → w * (i + n) ≤ length xs → All (λ (row : ℕ × List ℤ). length row.1 ≡ w) (map (λ k. (a + k, take w (drop (w * k) xs))) (range_with_len i n))
+wide_from a w i zero xs long = All-nil (λ (row : ℕ × List ℤ). length row.1 ≡ w)
+wide_from a w i (suc n) xs long =
+    let within = ends w i (i + suc n) (omega arith) in
+    let more : i + 1 + n ≡ i + suc n = omega arith in
+    let rest : w ≤ length (drop (w * i) xs) = subst (λ (m : ℕ). w ≤ m) (sym (length-drop (w * i) xs)) (omega (arith, within, long)) in
+    All-cons (λ (row : ℕ × List ℤ). length row.1 ≡ w) (a + i, take w (drop (w * i) xs)) (map (λ k. (a + k, take w (drop (w * k) xs))) (range_with_len (i + 1) n))
+    (length-take-le w (drop (w * i) xs) rest)
+    (wide_from a w (i + 1) n xs (subst (λ (m : ℕ). w * m ≤ length xs) (sym more) long))
+
+-- as many rows as are counted
+pub rows_counted : (a n w : ℕ) (xs : List ℤ) → length (rows_from a n w xs) ≡ n
+rows_counted a n w xs = length-map-range_with_len (λ k. (a + k, take w (drop (w * k) xs))) 0 n
+
+-- each row is as wide as is said
+pub rows_wide : (a n w : ℕ) (xs : List ℤ) → length xs ≡ w * n → All (λ (row : ℕ × List ℤ). length row.1 ≡ w) (rows_from a n w xs)
+rows_wide a n w xs full = wide_from a w 0 n xs (omega (arith, full))
+
+-- what is there for each of a list is as long
+pub each_long : {A B : Type 0} (f : A → Option B) (xs : List A) (ys : List B) → each_of f xs ≡ Some ys → length ys ≡ length xs
+each_long {A = A} {B = B} f [] ys e = ap (λ o. length (unwrap_or o [])) (sym e)
+each_long {A = A} {B = B} f (x ∷ xs) ys e = by (f x) (each_of f xs) (λ zs h. each_long f xs zs h) e
+  where
+    by : (o : Option B) (rest : Option (List B)) → ((zs : List B) → rest ≡ Some zs → length zs ≡ length xs) → option_and_then (λ y. option_map (λ zs. y ∷ zs) rest) o ≡ Some ys → length ys ≡ suc (length xs)
+    by None rest h e = absurd cc
+    by (Some y) None h e = absurd cc
+    by (Some y) (Some zs) h e = ap (λ o. length (unwrap_or o [])) (sym e) ∙ ap suc (h zs refl)
 
 -- ---- trace by trace
 

@@ -1,6 +1,6 @@
 -- What is seen of numbers, one trace after another.
 use Rattle.std.proofs.Common.{◌≡◌, ℕ, zero, suc, ◌+◌, ◌-◌, ◌<◌, ◌≤◌, ℤ, pos, Bool, true, false, ◌||◌, not, List, [], ◌∷◌, ◌++◌, length, take, drop, map, get_or, Option, Some, None, refl, sym, ap, ap₂, ◌∙◌, arith}
-use Rattle.std.specs.Prelude.{filter_map, option_to_list, slice_set, Result, Ok, Err, IfOk}
+use Rattle.std.specs.Prelude.{filter_map, option_to_list, slice_set}
 use Rattle.std.proofs.Math.ListN.{drop_of_length-le}
 use Rattle.std.proofs.lemmas.List.{append_assoc, append-nil, drop_more, drop-set-lt, take_all, take_more_set}
 use Rattle.std.proofs.lemmas.List.Elements.{filter_map-append}
@@ -119,6 +119,8 @@ shown_names v [] a b k end = refl
 shown_names v (e ∷ es) a b k end =
     ap₂ (λ o xs. cons_option (with_name e.0 o) xs) (ap (λ (n : ℕ). extremes_unless_zero (numbers_so_far v a n e.1)) (sym end)) (shown_names v es a b k end)
 
-pub if_same : {A E : Type 0} {x y : A} (r : Result A E) → x ≡ y → IfOk r (λ a. a ≡ x) → IfOk r (λ a. a ≡ y)
-if_same (Ok a) e is = is ∙ e
-if_same (Err fault) e is = is
+-- what is seen of each name, with one trace more
+pub seen_of_each : (h : Head) (t : List ℕ) (es : Pairs) (ss : List Seen) → length ss ≡ length es → length (seen_each h t es ss) ≡ length es
+seen_of_each h t [] ss e = refl
+seen_of_each h t (x ∷ es) [] e = absurd (omega (arith, e))
+seen_of_each h t (x ∷ es) (s ∷ ss) e = ap suc (seen_of_each h t es ss (omega (arith, e)))

@@ -1,11 +1,10 @@
 -- Pairs of positions that put traces in the order of their numbers.
-use Rattle.std.proofs.Common.{◌≡◌, ℕ, ℤ, suc, ◌+◌, ◌-◌, ◌<◌, ◌≤◌, min, Bool, List, [], ◌∷◌, ◌++◌, length, map, take, drop, get_or, set, All, Option, Some, None, Ok, Err, refl, sym, ap, subst, ◌∙◌, arith}
-use Rattle.std.specs.Prelude.{Result, IfOk, slice_index, option_map, option_and_then, unwrap_or}
+use Rattle.std.proofs.Common.{◌≡◌, ℕ, ℤ, suc, ◌+◌, ◌-◌, ◌<◌, ◌≤◌, min, Bool, true, false, List, [], ◌∷◌, ◌++◌, length, map, take, drop, get_or, set, Option, Some, None, Ok, Err, refl, sym, ap, subst, inl, inr, ◌∙◌, arith}
+use Rattle.std.specs.Prelude.{◌⊎◌, Result, IfOk, is_none, if◌then◌else◌, slice_index, option_map, unwrap_or}
 use Rattle.std.specs.List.{swap, range_with_len}
 use Rattle.std.specs.List.Sorted.{IsPermutation}
 use Rattle.std.proofs.lemmas.List.{length-map, map-append, map-set, take-append-drop, append_assoc, drop-drop, length-drop, take_all}
 use Rattle.std.proofs.lemmas.List.Edits.{length-swap}
-use Rattle.std.proofs.lemmas.List.Elements.{All-nil, All-cons}
 use Rattle.std.proofs.lemmas.List.FromFn.{length-range_with_len, get_or-range_with_len}
 use Rattle.std.proofs.lemmas.List.Sorted.{IsPermutation-refl, IsPermutation-trans, IsPermutation-swap, length_permutation}
 use Rattle.std.proofs.Math.ListN.{get_or-map}
@@ -13,44 +12,21 @@ use Rattle.field_map.specs.declared.place.Place.{Place}
 use Rattle.frame_cut.specs.Traces.{trace_at}
 use Rattle.frame_cut.specs.Volume.{Volume}
 use Rattle.trace_store.specs.Swapped.{with_swapped, ArePlaces}
-use Rattle.trace_view.specs.Values.{value_of}
 use Rattle.bench_rules.specs.declared.answer.Answer.TheVariants as answers
-use Rattle.bench_rules.specs.declared.ask_fault.AskFault.TheVariants.{NoPlace}
+use Rattle.bench_rules.specs.declared.ask_fault.AskFault.{AskFault}
+use Rattle.bench_rules.specs.declared.ask_fault.AskFault.TheVariants.{NoField, NoPlace, ReadFailed, FileChanged}
+use Rattle.bench_rules.specs.declared.refusal.Refusal.TheVariants as refusals
 use Rattle.bench_rules.specs.Answer.{table_answer, or_fault}
-use Rattle.bench_rules.specs.ManyTraces.{each_of, positions}
+use Rattle.bench_rules.specs.ManyTraces.{positions}
+use Rattle.bench_rules.specs.ReadFaults.{IsReadFault, IsReadRefusal}
+use Rattle.bench_rules.specs.Refused.{sort_refusal}
 use Rattle.bench_rules.specs.Sorted.{in_order, order_of}
 use Rattle.bench_rules.specs.Tables.{row_of, table_of}
 use Rattle.bench_rules.proofs.SortLemmas.{rows-stand, read-positions}
 use Rattle.many_traces.specs.Arranged.{row_near, PutsRows, Puts, Sorts}
+use Rattle.many_traces.specs.Faults.{IsFaultFor, refusal_for}
+use Rattle.many_traces.specs.Formulas.{IsRefusalFor}
 use Rattle.many_traces.proofs.ExchangeLemmas.{order-below}
-
--- ---- the rows of a table
-
--- what is there for each of a list is as long
-pub each-long : {A B : Type 0} (f : A → Option B) (xs : List A) (ys : List B) → each_of f xs ≡ Some ys → length ys ≡ length xs
-each-long {A = A} {B = B} f [] ys e = ap (λ o. length (unwrap_or o [])) (sym e)
-each-long {A = A} {B = B} f (x ∷ xs) ys e = by (f x) (each_of f xs) (λ zs h. each-long f xs zs h) e
-  where
-    by : (o : Option B) (rest : Option (List B)) → ((zs : List B) → rest ≡ Some zs → length zs ≡ length xs) → option_and_then (λ y. option_map (λ zs. y ∷ zs) rest) o ≡ Some ys → length ys ≡ suc (length xs)
-    by None rest h e = absurd cc
-    by (Some y) None h e = absurd cc
-    by (Some y) (Some zs) h e = ap (λ o. length (unwrap_or o [])) (sym e) ∙ ap suc (h zs refl)
-
--- each row has a number for each place
-wide-rows : (g : ℕ → Option (List ℤ)) (width : ℕ) → ((p : ℕ) (xs : List ℤ) → g p ≡ Some xs → length xs ≡ width) → (ps : List ℕ) (rows : List (ℕ × List ℤ)) → each_of (λ p. option_map (λ xs. (p, xs)) (g p)) ps ≡ Some rows
-    → All (λ row. length row.1 ≡ width) rows
-wide-rows g width wide [] rows e = subst (λ rs. All (λ row. length row.1 ≡ width) rs) (ap (λ o. unwrap_or o []) e) (All-nil (λ (row : ℕ × List ℤ). length row.1 ≡ width))
-wide-rows g width wide (p ∷ ps) rows e = by (g p) (each_of (λ q. option_map (λ xs. (q, xs)) (g q)) ps) refl (λ rs h. wide-rows g width wide ps rs h) e
-  where
-    by : (o : Option (List ℤ)) (rest : Option (List (ℕ × List ℤ))) → g p ≡ o → ((rs : List (ℕ × List ℤ)) → rest ≡ Some rs → All (λ row. length row.1 ≡ width) rs)
-        → option_and_then (λ row. option_map (λ rs. row ∷ rs) rest) (option_map (λ xs. (p, xs)) o) ≡ Some rows → All (λ row. length row.1 ≡ width) rows
-    by None rest g_is h e = absurd cc
-    by (Some xs) None g_is h e = absurd cc
-    by (Some xs) (Some rs) g_is h e = subst (λ l. All (λ row. length row.1 ≡ width) l) (ap (λ o. unwrap_or o []) e) (All-cons (λ (row : ℕ × List ℤ). length row.1 ≡ width) (p, xs) rs (wide p xs g_is) (h rs refl))
-
-pub table-wide : (v : Volume) (places : List Place) (a b : ℕ) (rows : List (ℕ × List ℤ)) → table_of v places a b ≡ Some rows → All (λ row. length row.1 ≡ length places) rows
-table-wide v places a b rows e =
-    wide-rows (λ p. row_of v.head places (trace_at v p)) (length places) (λ p xs h. each-long (λ place. value_of v.head (trace_at v p) place) places xs h) (positions a b) rows e
 
 -- ---- rows in order, by their positions
 
@@ -124,6 +100,42 @@ is-table v a b (Some places) rows e = by (table_of v places a b) refl e
 pub table-sorts : (v : Volume) (a b : ℕ) (places : Option (List Place)) (falls : List Bool) (rows : List (ℕ × List ℤ)) (pairs : List (ℕ × ℕ)) → IsTable v a b places rows → PutsRows a rows falls pairs → 1 ≤ a → a ≤ b
     → Sorts v places falls a b pairs
 table-sorts v a b places falls rows pairs t r low high = subst (λ o. Sorts v o falls a b pairs) (sym t.found) (sorts v t.at a b rows t.rows_of falls pairs r low high)
+
+-- and where a table was answered, nothing refuses the sort
+pub sort-free : (v : Volume) (a b : ℕ) (places : Option (List Place)) (rows : List (ℕ × List ℤ)) → table_answer v a b places ≡ Ok (answers.Table rows) → sort_refusal v a b places ≡ None
+sort-free v a b places rows e = let t = is-table v a b places rows e in ap (λ (o : Option (List Place)). sort_refusal v a b o) t.found ∙ rw t.rows_of refl
+
+-- the positions are those of traces, whatever the numbers are
+pub put-places : (a n : ℕ) (rows : List (ℕ × List ℤ)) (falls : List Bool) (pairs : List (ℕ × ℕ)) → PutsRows a rows falls pairs → a - 1 + length rows ≤ n → ArePlaces n pairs
+put-places a n rows falls pairs r inside =
+    let many : length r.order ≡ length rows = length_permutation (range_with_len 0 (length rows)) r.order r.permutes ∙ length-range_with_len 0 (length rows) in
+    r.by_pairs.places n (omega (arith, many, inside))
+
+-- ---- a table that was refused
+
+told-fault : (v : Volume) (a b : ℕ) (places : Option (List Place)) (fault : AskFault) → IsFaultFor fault (table_answer v a b places) → IsRefusalFor (refusal_for fault) (sort_refusal v a b places)
+told-fault v a b None fault (inl e) = let is : NoField ≡ fault = cc in ap refusal_for (sym is)
+told-fault v a b None fault (inr wants) = let no : false ≡ true = wants.1 in absurd cc
+told-fault v a b (Some places) fault told = by (table_of v places a b) told
+  where
+    by : (t : Option (List (ℕ × List ℤ))) → IsFaultFor fault (or_fault t NoPlace answers.Table) → IsRefusalFor (refusal_for fault) (if is_none t then Some refusals.NoPlace else None)
+    by None (inl e) = let is : NoPlace ≡ fault = cc in ap refusal_for (sym is)
+    by None (inr wants) = let no : false ≡ true = wants.1 in absurd cc
+    by (Some rows) (inl e) = absurd cc
+    by (Some rows) (inr wants) = ap refusal_for wants.0
+
+told-read : (on_disk : Bool) (fault : AskFault) → IsReadFault on_disk fault → IsReadRefusal on_disk (refusal_for fault)
+told-read on_disk fault read = by read.1
+  where
+    by : (fault ≡ ReadFailed) ⊎ (fault ≡ FileChanged) → IsReadRefusal on_disk (refusal_for fault)
+    by (inl e) = (read.0, inl (ap refusal_for e))
+    by (inr e) = (read.0, inr (ap refusal_for e))
+
+-- where a table is refused, the sort is
+pub told-either : {P L : Type 0} (v : Volume) (a b : ℕ) (places : Option (List Place)) (on_disk : Bool) (fault : AskFault) → (IsReadFault on_disk fault × L) ⊎ (P → IsFaultFor fault (table_answer v a b places))
+    → (IsReadRefusal on_disk (refusal_for fault) × L) ⊎ (P → IsRefusalFor (refusal_for fault) (sort_refusal v a b places))
+told-either v a b places on_disk fault (inl read) = inl (told-read on_disk fault read.0, read.1)
+told-either v a b places on_disk fault (inr told) = inr (λ sure. told-fault v a b places fault (told sure))
 
 -- what holds of a value holds of what follows from it
 pub if_ok : {T E : Type 0} {P Q : T → Type 0} (r : Result T E) → ((v : T) → P v → Q v) → IfOk r P → IfOk r Q

@@ -1,7 +1,9 @@
 -- Why there is no answer about many traces.
 use Rattle.std.specs.Prelude.{◌≡◌, ◌⊎◌, Option, Some, None, Err, IsOk}
 use Rattle.bench_rules.specs.declared.ask_fault.AskFault.{AskFault}
-use Rattle.bench_rules.specs.declared.ask_fault.AskFault.TheVariants.{NoPlace, OutOfMemory}
+use Rattle.bench_rules.specs.declared.ask_fault.AskFault.TheVariants.{NoTrace, NoField, NoPlace, NoSample, OutOfMemory, NoValues, ReadFailed, FileChanged}
+use Rattle.bench_rules.specs.declared.refusal.Refusal.{Refusal}
+use Rattle.bench_rules.specs.declared.refusal.Refusal.TheVariants as refusals
 use Rattle.bench_rules.specs.Answer.{Reply}
 
 -- E03 where a trace lacks a place, and so there is nothing to answer, else E11
@@ -12,3 +14,14 @@ fault_of (Some answer) = OutOfMemory
 -- a fault in place of this reply: the reply's own, or want of memory for an answer
 abbrev pub IsFaultFor : AskFault → Reply → Type 0
 IsFaultFor fault reply = (reply ≡ Err fault) ⊎ ((fault ≡ OutOfMemory) × IsOk reply)
+
+-- the refusal of a sort for whose numbers there is no table
+abbrev pub refusal_for : AskFault → Refusal
+refusal_for NoField = refusals.NoField
+refusal_for NoPlace = refusals.NoPlace
+refusal_for ReadFailed = refusals.ReadFailed
+refusal_for FileChanged = refusals.FileChanged
+refusal_for OutOfMemory = refusals.OutOfMemory
+refusal_for NoValues = refusals.OutOfMemory
+refusal_for (NoTrace p count) = refusals.OutOfMemory
+refusal_for (NoSample k count) = refusals.OutOfMemory

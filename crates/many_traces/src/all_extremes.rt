@@ -1,17 +1,18 @@
 // The extremes of all named header fields over many traces.
-ghost use Rattle.std.specs.Prelude.{◌≡◌, ◌+◌, ◌-◌, ◌≤◌, ◌++◌, [], IsTrue, IfOk, IfErr, OnOk, length, map, option_to_list};
+ghost use Rattle.std.specs.Prelude.{◌≡◌, ◌+◌, ◌-◌, ◌≤◌, ◌++◌, ◌⊎◌, [], IsTrue, IfOk, IfErr, OnOk, length, map, option_to_list};
 ghost use Rattle.frame_cut.specs.Traces.{count_of, is_trace, trace_at};
 ghost use Rattle.trace_view.specs.Shown.{bytes_of, head_of};
 ghost use Rattle.trace_view.specs.Values.{main_header};
-ghost use Rattle.edit_overlay.specs.CountedVolume.{RisesAtMost};
+ghost use Rattle.edit_overlay.specs.CountedVolume.{IsSeen};
 ghost use Rattle.bench_rules.specs.declared.ask_fault.AskFault.TheVariants.{OutOfMemory as no_memory};
 ghost use Rattle.bench_rules.specs.Headers.{extremes_in, with_name};
+ghost use Rattle.bench_rules.specs.ReadFaults.{IsReadFault};
 ghost use Rattle.many_traces.specs.Seen.{seen_of, seen_each, shown_of};
 
 use crate::main_numbers::number_at;
 use crate::seen::Seen;
 use bench_rules::{AskFault, Extremes, Items, Text};
-use edit_overlay::Overlay;
+use edit_overlay::{Overlay, ReadFault};
 use field_map::{Place, TRACE_HEADER_BYTES};
 use std::alloc::Global;
 use trace_record::PackedRecord;
@@ -19,7 +20,7 @@ use trace_view::TraceView;
 
 /// Each of the names whose numbers in traces a to b are not all 0, with the least, the greatest,
 /// the first and the last of those of the traces that have its place. Looks at each of the traces
-/// once. Refused: E11 alone.
+/// once. Refused: E11 alone. On disk also where a trace could not be read (E14, E15).
 pub fn extremes(
     alloc: Global,
     overlay: &mut Overlay<PackedRecord>,
@@ -30,16 +31,15 @@ pub fn extremes(
     requires first { 1 ≤ a }
     requires range { a ≤ b }
     requires last { b ≤ count_of overlay.old.volume }
-    ensures ok { IfOk result (λ found. found ≡ extremes_in overlay.old.volume names.items a b) }
-    ensures err { IfErr result (λ fault. fault ≡ no_memory) }
-    ensures volume { overlay.new.volume ≡ overlay.old.volume }
-    ensures prepared { overlay.new.prepared ≡ overlay.old.prepared }
-    ensures payloads { overlay.new.payloads ≡ overlay.old.payloads }
-    ensures looks { RisesAtMost overlay.old.looks overlay.new.looks (b + 1 - a) }
+    ensures ok { IfOk result (λ found. IsTrue overlay.new.agreed →
+        found ≡ extremes_in overlay.old.volume names.items a b) }
+    ensures err { IfErr result (λ fault. IsReadFault overlay.old.on_disk fault
+        ⊎ (fault ≡ no_memory)) }
+    ensures seen { IsSeen overlay.old overlay.new (b + 1 - a) }
 {
     let mut seen = nothing_seen(alloc, names.as_slice())?;
     for k in 0..b - a + 1 {
-        see_trace(overlay, a + k, names.as_slice(), &mut seen);
+        see_trace(overlay, a + k, names.as_slice(), &mut seen)?;
     }
     shown(alloc, names, seen.as_slice())
 }
@@ -65,20 +65,21 @@ fn see_trace(
     p: u32,
     names: &[(Text, Place)],
     seen: &mut Vec<Seen>,
-)
+) -> Result<(), ReadFault>
     requires trace { IsTrue (is_trace overlay.old.volume p) }
     requires each { length seen.old.items ≡ length names.now }
-    ensures seen { seen.new.items ≡ seen_each overlay.old.volume.head
-        (trace_at overlay.old.volume p) names.now seen.old.items }
-    ensures volume { overlay.new.volume ≡ overlay.old.volume }
-    ensures prepared { overlay.new.prepared ≡ overlay.old.prepared }
-    ensures payloads { overlay.new.payloads ≡ overlay.old.payloads }
-    ensures looks { RisesAtMost overlay.old.looks overlay.new.looks 1 }
+    ensures numbers { OnOk result (IsTrue overlay.new.agreed → seen.new.items
+        ≡ seen_each overlay.old.volume.head (trace_at overlay.old.volume p) names.now
+        seen.old.items) }
+    ensures each { OnOk result (length seen.new.items ≡ length names.now) }
+    ensures seen { IsSeen overlay.old overlay.new 1 }
+    ensures read { IfErr result (λ _. IsTrue overlay.old.on_disk) }
 {
-    let Some(trace) = overlay.look(p) else {
+    let Some(trace) = overlay.look(p)? else {
         unreachable!()
     };
     see_numbers(&trace, names, seen);
+    Ok(())
 }
 
 // Sees the numbers of a trace. Its main header is one slice: lent where no run touches it, else

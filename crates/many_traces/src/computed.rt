@@ -1,18 +1,20 @@
 // A number computed for each of many traces.
-ghost use Rattle.std.specs.Prelude.{◌≡◌, ◌+◌, ◌-◌, ◌*◌, ◌≤◌, [], ◌++◌, None, Some, Ok, IsTrue, IfOk, IfErr, List, length};
+ghost use Rattle.std.specs.Prelude.{◌≡◌, ◌+◌, ◌-◌, ◌*◌, ◌<◌, ◌≤◌, ℕ, [], ◌++◌, ◌⊎◌, None, Some, Ok, IsTrue, IfOk, IfErr, OnOk, List, length};
 ghost use Rattle.std.specs.Vec.{vec_len, vec_capacity};
 ghost use Rattle.num_order.specs.Number.{IsSize, InRange, bytes as bytes_of_number};
 ghost use Rattle.frame_cut.specs.Traces.{count_of, is_trace, trace_at};
-ghost use Rattle.edit_overlay.specs.CountedVolume.{RisesAtMost};
+ghost use Rattle.edit_overlay.specs.CountedVolume.{IsSeen};
 ghost use Rattle.bench_rules.specs.declared.operator.Operator.{Operator};
 ghost use Rattle.bench_rules.specs.declared.term.Term.{Term};
 ghost use Rattle.bench_rules.specs.Computed.{compute_refusal, compute_refusal_in, computed_in, steps_of};
 ghost use Rattle.bench_rules.specs.Looks.{looks_at};
+ghost use Rattle.bench_rules.specs.ReadFaults.{IsReadRefusal};
+ghost use Rattle.many_traces.specs.Fields.{HoldsPlace};
 ghost use Rattle.many_traces.specs.Formulas.{formula_at, number_bytes, IsRefusalFor};
 
 use crate::formula::{computed_by_names, have_terms, term_of, terms_of};
 use bench_rules::{Operand, Operator, Refusal, Term, admitted, computed_in};
-use edit_overlay::Overlay;
+use edit_overlay::{Overlay, ReadFault};
 use field_map::{FieldMap, Place};
 use num_order::{Kind, Order, write};
 use std::alloc::Global;
@@ -22,7 +24,8 @@ use trace_record::PackedRecord;
 /// of those of the place, or the first refusal of a set of them. Looks at each of the traces once
 /// at most, and at none where a field has no place. Takes memory for the places of the steps and
 /// for the bytes, before the first look. Refused, in this order: E02, then the first refusal of the
-/// lowest trace that has one, E03, E13, E04 or E06; else E11 alone.
+/// lowest trace that has one, E03, E13, E04 or E06; else E11 alone. On disk also where a trace
+/// could not be read (E14, E15).
 pub fn computed_bytes(
     alloc: Global,
     overlay: &mut Overlay<PackedRecord>,
@@ -36,16 +39,20 @@ pub fn computed_bytes(
     requires first { 1 ≤ a }
     requires range { a ≤ b }
     requires last { b ≤ count_of overlay.old.volume }
-    ensures none { IfOk result (λ _. compute_refusal_in overlay.old.volume
+    ensures none { OnOk result (IsTrue overlay.new.agreed → compute_refusal_in overlay.old.volume
         (formula_at map.now.pairs place source.now steps.now) a b ≡ None) }
-    ensures bytes { IfOk result (λ bytes. bytes.items ≡ number_bytes overlay.old.volume
-        (formula_at map.now.pairs place source.now steps.now) a b) }
-    ensures err { IfErr result (λ refusal. IsRefusalFor refusal (compute_refusal_in
-        overlay.old.volume (formula_at map.now.pairs place source.now steps.now) a b)) }
-    ensures volume { overlay.new.volume ≡ overlay.old.volume }
-    ensures prepared { overlay.new.prepared ≡ overlay.old.prepared }
-    ensures payloads { overlay.new.payloads ≡ overlay.old.payloads }
-    ensures looks { RisesAtMost overlay.old.looks overlay.new.looks
+    ensures bytes { IfOk result (λ bytes. IsTrue overlay.new.agreed → bytes.items ≡ number_bytes
+        overlay.old.volume (formula_at map.now.pairs place source.now steps.now) a b) }
+    ensures count { IfOk result (λ bytes. length bytes.items ≡ place.kind.size * (b + 1 - a)) }
+    ensures each { OnOk result ((k : ℕ) → k < b + 1 - a →
+        HoldsPlace (trace_at overlay.old.volume (a + k)) place) }
+    ensures looked { OnOk result (0 < looks_at
+        (formula_at map.now.pairs place source.now steps.now) (b + 1 - a)) }
+    ensures err { IfErr result (λ refusal. (IsReadRefusal overlay.old.on_disk refusal
+        × (0 < looks_at (formula_at map.now.pairs place source.now steps.now) (b + 1 - a))) ⊎
+        (IsTrue overlay.new.agreed → IsRefusalFor refusal (compute_refusal_in overlay.old.volume
+        (formula_at map.now.pairs place source.now steps.now) a b))) }
+    ensures seen { IsSeen overlay.old overlay.new
         (looks_at (formula_at map.now.pairs place source.now steps.now) (b + 1 - a)) }
 {
     let Some(source) = term_of(map, source) else {
@@ -56,12 +63,12 @@ pub fn computed_bytes(
     }
     // Where there is no memory, the traces are judged all the same: E11 comes behind all else.
     let Some(terms) = terms_of(alloc, map, steps) else {
-        return Err(without_memory(overlay, map, a, b, place, source, steps));
+        return Err(without_memory(overlay, map, a, b, place, source, steps)?);
     };
     let room = usize::from(place.kind.size) * (b - a + 1) as usize;
     match Vec::with_capacity(alloc, room) {
         Ok(bytes) => filled(overlay, a, b, place, source, terms.as_slice(), bytes),
-        Err(_) => Err(without_memory(overlay, map, a, b, place, source, steps)),
+        Err(_) => Err(without_memory(overlay, map, a, b, place, source, steps)?),
     }
 }
 
@@ -80,17 +87,22 @@ fn filled(
     requires last { b ≤ count_of overlay.old.volume }
     requires empty { bytes.items ≡ [] }
     requires room { place.kind.size * (b + 1 - a) ≤ vec_capacity bytes }
-    ensures none { IfOk result (λ _. compute_refusal_in overlay.old.volume
+    ensures none { OnOk result (IsTrue overlay.new.agreed → compute_refusal_in overlay.old.volume
         (Some (record { place = place; source = source; steps = steps.now })) a b ≡ None) }
-    ensures bytes { IfOk result (λ bytes. bytes.items ≡ number_bytes overlay.old.volume
-        (Some (record { place = place; source = source; steps = steps.now })) a b) }
-    ensures err { IfErr result (λ refusal. compute_refusal_in overlay.old.volume
+    ensures bytes { IfOk result (λ bytes. IsTrue overlay.new.agreed → bytes.items ≡ number_bytes
+        overlay.old.volume (Some (record {
+          place = place;
+          source = source;
+          steps = steps.now;
+        })) a b) }
+    ensures count { IfOk result (λ bytes. length bytes.items ≡ place.kind.size * (b + 1 - a)) }
+    ensures each { OnOk result ((k : ℕ) → k < b + 1 - a →
+        HoldsPlace (trace_at overlay.old.volume (a + k)) place) }
+    ensures err { IfErr result (λ refusal. IsReadRefusal overlay.old.on_disk refusal ⊎
+        (IsTrue overlay.new.agreed → compute_refusal_in overlay.old.volume
         (Some (record { place = place; source = source; steps = steps.now })) a b
-        ≡ Some refusal) }
-    ensures volume { overlay.new.volume ≡ overlay.old.volume }
-    ensures prepared { overlay.new.prepared ≡ overlay.old.prepared }
-    ensures payloads { overlay.new.payloads ≡ overlay.old.payloads }
-    ensures looks { RisesAtMost overlay.old.looks overlay.new.looks (b + 1 - a) }
+        ≡ Some refusal)) }
+    ensures seen { IsSeen overlay.old overlay.new (b + 1 - a) }
 {
     let order = overlay.head().order;
     let mut bytes = bytes;
@@ -112,20 +124,20 @@ fn number_at(
     steps: &[(Operator, Term)],
 ) -> Result<i128, Refusal>
     requires { IsTrue (is_trace overlay.old.volume p) }
-    ensures none { IfOk result (λ _. compute_refusal overlay.old.volume
+    ensures none { OnOk result (IsTrue overlay.new.agreed → compute_refusal overlay.old.volume
         (record { place = place; source = source; steps = steps.now }) p ≡ None) }
-    ensures number { IfOk result (λ x. computed_in overlay.old.volume.head
-        (record { place = place; source = source; steps = steps.now }) p
+    ensures number { IfOk result (λ x. IsTrue overlay.new.agreed → computed_in
+        overlay.old.volume.head (record { place = place; source = source; steps = steps.now }) p
         (trace_at overlay.old.volume p) ≡ Ok x) }
-    ensures err { IfErr result (λ refusal. compute_refusal overlay.old.volume
-        (record { place = place; source = source; steps = steps.now }) p ≡ Some refusal) }
-    ensures volume { overlay.new.volume ≡ overlay.old.volume }
-    ensures prepared { overlay.new.prepared ≡ overlay.old.prepared }
-    ensures payloads { overlay.new.payloads ≡ overlay.old.payloads }
-    ensures looks { RisesAtMost overlay.old.looks overlay.new.looks 1 }
+    ensures fits { IfOk result (InRange place.kind) }
+    ensures place { OnOk result (HoldsPlace (trace_at overlay.old.volume p) place) }
+    ensures err { IfErr result (λ refusal. IsReadRefusal overlay.old.on_disk refusal ⊎
+        (IsTrue overlay.new.agreed → compute_refusal overlay.old.volume
+        (record { place = place; source = source; steps = steps.now }) p ≡ Some refusal)) }
+    ensures seen { IsSeen overlay.old overlay.new 1 }
 {
     let order = overlay.head().order;
-    let Some(trace) = overlay.look(p) else {
+    let Some(trace) = overlay.look(p)? else {
         unreachable!()
     };
     let number = computed_in(&trace, p, place, source, steps);
@@ -159,53 +171,51 @@ fn without_memory(
     place: Place,
     source: Term,
     steps: &[(Operator, Operand)],
-) -> Refusal
+) -> Result<Refusal, ReadFault>
     requires first { 1 ≤ a }
     requires range { a ≤ b }
     requires last { b ≤ count_of overlay.old.volume }
-    ensures refusal { (terms : List (Operator × Term)) → steps_of map.now.pairs steps.now
-        ≡ Some terms → IsRefusalFor result (compute_refusal_in overlay.old.volume
-        (Some (record { place = place; source = source; steps = terms })) a b) }
-    ensures volume { overlay.new.volume ≡ overlay.old.volume }
-    ensures prepared { overlay.new.prepared ≡ overlay.old.prepared }
-    ensures payloads { overlay.new.payloads ≡ overlay.old.payloads }
-    ensures looks { RisesAtMost overlay.old.looks overlay.new.looks (b + 1 - a) }
+    ensures read { IfErr result (λ _. IsTrue overlay.old.on_disk) }
+    ensures refusal { IfOk result (λ refusal. IsTrue overlay.new.agreed →
+        (terms : List (Operator × Term)) → steps_of map.now.pairs steps.now ≡ Some terms →
+        IsRefusalFor refusal (compute_refusal_in overlay.old.volume
+        (Some (record { place = place; source = source; steps = terms })) a b)) }
+    ensures seen { IsSeen overlay.old overlay.new (b + 1 - a) }
 {
     for k in 0..b - a + 1 {
-        let number = number_by_names(overlay, map, a + k, place, source, steps);
-        if let Err(refusal) = number {
-            return refusal;
+        let first = refusal_by_names(overlay, map, a + k, place, source, steps)?;
+        if let Some(refusal) = first {
+            return Ok(refusal);
         }
     }
-    Refusal::OutOfMemory
+    Ok(Refusal::OutOfMemory)
 }
 
-// The number that is computed for trace p, with the steps' fields found by name, or its first
-// refusal, in one look.
-fn number_by_names(
+// The first refusal of trace p, where it has one, with the steps' fields found by name, in one
+// look.
+fn refusal_by_names(
     overlay: &mut Overlay<PackedRecord>,
     map: &FieldMap,
     p: u32,
     place: Place,
     source: Term,
     steps: &[(Operator, Operand)],
-) -> Result<i128, Refusal>
+) -> Result<Option<Refusal>, ReadFault>
     requires { IsTrue (is_trace overlay.old.volume p) }
-    ensures none { IfOk result (λ _. (terms : List (Operator × Term)) → steps_of map.now.pairs
-        steps.now ≡ Some terms → compute_refusal overlay.old.volume
-        (record { place = place; source = source; steps = terms }) p ≡ None) }
-    ensures err { IfErr result (λ refusal. (terms : List (Operator × Term)) → steps_of
-        map.now.pairs steps.now ≡ Some terms → compute_refusal overlay.old.volume
-        (record { place = place; source = source; steps = terms }) p ≡ Some refusal) }
-    ensures volume { overlay.new.volume ≡ overlay.old.volume }
-    ensures prepared { overlay.new.prepared ≡ overlay.old.prepared }
-    ensures payloads { overlay.new.payloads ≡ overlay.old.payloads }
-    ensures looks { RisesAtMost overlay.old.looks overlay.new.looks 1 }
+    ensures refusal { IfOk result (λ refusal. IsTrue overlay.new.agreed →
+        (terms : List (Operator × Term)) → steps_of map.now.pairs steps.now ≡ Some terms →
+        refusal ≡ compute_refusal overlay.old.volume
+        (record { place = place; source = source; steps = terms }) p) }
+    ensures seen { IsSeen overlay.old overlay.new 1 }
+    ensures read { IfErr result (λ _. IsTrue overlay.old.on_disk) }
 {
     let order = overlay.head().order;
-    let Some(trace) = overlay.look(p) else {
+    let Some(trace) = overlay.look(p)? else {
         unreachable!()
     };
     let number = computed_by_names(&trace, map, p, place, source, steps);
-    admitted(order, &trace, place, number)
+    match admitted(order, &trace, place, number) {
+        Ok(_) => Ok(None),
+        Err(refusal) => Ok(Some(refusal)),
+    }
 }

@@ -1,10 +1,11 @@
 // All named header fields of one trace.
-ghost use Rattle.std.specs.Prelude.{◌≡◌, ◌++◌, option_to_list, IsTrue, IfOk, IfErr, OnOk};
+ghost use Rattle.std.specs.Prelude.{◌≡◌, ◌++◌, ◌⊎◌, option_to_list, IsTrue, IfOk, IfErr, OnOk};
 ghost use Rattle.frame_cut.specs.Traces.{is_trace, trace_at};
 ghost use Rattle.trace_view.specs.Shown.{bytes_of, head_of};
-ghost use Rattle.edit_overlay.specs.CountedVolume.{RisesAtMost};
+ghost use Rattle.edit_overlay.specs.CountedVolume.{IsSeen};
 ghost use Rattle.bench_rules.specs.declared.ask_fault.AskFault.TheVariants.{OutOfMemory as no_memory};
 ghost use Rattle.bench_rules.specs.Headers.{header_of, with_name};
+ghost use Rattle.bench_rules.specs.ReadFaults.{IsReadFault};
 
 use bench_rules::{AskFault, Items, Text};
 use edit_overlay::Overlay;
@@ -14,6 +15,7 @@ use trace_record::PackedRecord;
 use trace_view::TraceView;
 
 /// Each of the names whose place trace p has, with the number there. One look. Refused: E11 alone.
+/// On disk also where the trace could not be read (E14, E15).
 pub fn header(
     alloc: Global,
     overlay: &mut Overlay<PackedRecord>,
@@ -21,15 +23,13 @@ pub fn header(
     names: Vec<(Text, Place)>,
 ) -> Result<Items<(Text, i128)>, AskFault>
     requires { IsTrue (is_trace overlay.old.volume p) }
-    ensures ok { IfOk result (λ numbers. numbers ≡ header_of overlay.old.volume.head names.items
-        (trace_at overlay.old.volume p)) }
-    ensures err { IfErr result (λ fault. fault ≡ no_memory) }
-    ensures volume { overlay.new.volume ≡ overlay.old.volume }
-    ensures prepared { overlay.new.prepared ≡ overlay.old.prepared }
-    ensures payloads { overlay.new.payloads ≡ overlay.old.payloads }
-    ensures looks { RisesAtMost overlay.old.looks overlay.new.looks 1 }
+    ensures ok { IfOk result (λ numbers. IsTrue overlay.new.agreed → numbers ≡ header_of
+        overlay.old.volume.head names.items (trace_at overlay.old.volume p)) }
+    ensures err { IfErr result (λ fault. IsReadFault overlay.old.on_disk fault
+        ⊎ (fault ≡ no_memory)) }
+    ensures seen { IsSeen overlay.old overlay.new 1 }
 {
-    let Some(trace) = overlay.look(p) else {
+    let Some(trace) = overlay.look(p)? else {
         unreachable!()
     };
     named_numbers(alloc, &trace, names)

@@ -5,6 +5,9 @@
 //! Traces count from 1. Each call looks once at each trace that it is asked about, and leaves the
 //! volume and what is prepared as they are. Each takes memory in step with its answer (`find` grows
 //! its list by doubling), and is refused for want of it, E11, only where nothing else refuses it.
+//!
+//! Where the bytes of the volume are on disk, each is also refused where a trace could not be read,
+//! E14 or E15, and what it says of numbers holds if each read since the load agreed.
 #![tactic(auto)]
 
 mod all_extremes;

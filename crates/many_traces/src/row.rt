@@ -1,16 +1,16 @@
 // The numbers at some places of one trace.
-ghost use Rattle.std.specs.Prelude.{◌≡◌, ◌+◌, ◌≤◌, ◌++◌, IsTrue, Some, is_some, length, option_map};
+ghost use Rattle.std.specs.Prelude.{◌≡◌, ◌+◌, ◌≤◌, ◌++◌, IfOk, IfErr, IsTrue, Some, is_some, length, option_map};
 ghost use Rattle.std.specs.Vec.{vec_len, vec_capacity};
 ghost use Rattle.trace_view.specs.Shown.{bytes_of, head_of};
 ghost use Rattle.frame_cut.specs.Traces.{is_trace, trace_at};
-ghost use Rattle.edit_overlay.specs.CountedVolume.{RisesAtMost};
+ghost use Rattle.edit_overlay.specs.CountedVolume.{IsSeen};
 ghost use Rattle.bench_rules.specs.ManyTraces.{each_of};
 ghost use Rattle.bench_rules.specs.Tables.{row_of};
 ghost use Rattle.many_traces.specs.Fields.{number_in};
 
 use crate::places::place_in_trace;
 use bench_rules::Field;
-use edit_overlay::Overlay;
+use edit_overlay::{Overlay, ReadFault};
 use field_map::{FieldMap, Place};
 use trace_record::PackedRecord;
 use trace_view::TraceView;
@@ -60,51 +60,50 @@ fn number_of(trace: &TraceView<'_>, map: &FieldMap, field: &Field) -> Option<i12
 }
 
 /// Puts the numbers at the places of trace p behind others, for which there is room; false where
-/// the trace lacks one of the places. One look. Takes no memory.
+/// the trace lacks one of the places. One look. Takes no memory. On disk refused where the trace
+/// could not be read.
 pub fn push_row(
     overlay: &mut Overlay<PackedRecord>,
     p: u32,
     places: &[Place],
     numbers: &mut Vec<i128>,
-) -> bool
+) -> Result<bool, ReadFault>
     requires trace { IsTrue (is_trace overlay.old.volume p) }
     requires room { vec_len numbers.old + length places.now ≤ vec_capacity numbers.old }
-    ensures there { result ≡ is_some (row_of overlay.old.volume.head places.now
-        (trace_at overlay.old.volume p)) }
-    ensures row { IsTrue result → option_map (λ row. numbers.old.items ++ row)
-        (row_of overlay.old.volume.head places.now (trace_at overlay.old.volume p))
-        ≡ Some numbers.new.items }
-    ensures count { IsTrue result → vec_len numbers.new ≡ vec_len numbers.old
-        + length places.now }
+    ensures there { IfOk result (λ there. IsTrue overlay.new.agreed → there ≡ is_some
+        (row_of overlay.old.volume.head places.now (trace_at overlay.old.volume p))) }
+    ensures row { IfOk result (λ there. IsTrue overlay.new.agreed → IsTrue there →
+        option_map (λ row. numbers.old.items ++ row) (row_of overlay.old.volume.head places.now
+        (trace_at overlay.old.volume p)) ≡ Some numbers.new.items) }
+    ensures count { IfOk result (λ there. IsTrue there → vec_len numbers.new
+        ≡ vec_len numbers.old + length places.now) }
     ensures room { vec_capacity numbers.old ≤ vec_capacity numbers.new }
-    ensures volume { overlay.new.volume ≡ overlay.old.volume }
-    ensures prepared { overlay.new.prepared ≡ overlay.old.prepared }
-    ensures payloads { overlay.new.payloads ≡ overlay.old.payloads }
-    ensures looks { RisesAtMost overlay.old.looks overlay.new.looks 1 }
+    ensures seen { IsSeen overlay.old overlay.new 1 }
+    ensures read { IfErr result (λ _. IsTrue overlay.old.on_disk) }
 {
-    let Some(trace) = overlay.look(p) else {
+    let Some(trace) = overlay.look(p)? else {
         unreachable!()
     };
-    push_numbers(&trace, places, numbers)
+    Ok(push_numbers(&trace, places, numbers))
 }
 
-/// Whether trace p has the places of all fields. One look. Takes no memory.
+/// Whether trace p has the places of all fields. One look. Takes no memory. On disk refused where
+/// the trace could not be read.
 pub fn has_row(
     overlay: &mut Overlay<PackedRecord>,
     map: &FieldMap,
     p: u32,
     fields: &[Field],
-) -> bool
+) -> Result<bool, ReadFault>
     requires { IsTrue (is_trace overlay.old.volume p) }
-    ensures there { result ≡ is_some (each_of (number_in overlay.old.volume.head
-        (trace_at overlay.old.volume p) map.now.pairs) fields.now) }
-    ensures volume { overlay.new.volume ≡ overlay.old.volume }
-    ensures prepared { overlay.new.prepared ≡ overlay.old.prepared }
-    ensures payloads { overlay.new.payloads ≡ overlay.old.payloads }
-    ensures looks { RisesAtMost overlay.old.looks overlay.new.looks 1 }
+    ensures there { IfOk result (λ there. IsTrue overlay.new.agreed → there ≡ is_some (each_of
+        (number_in overlay.old.volume.head (trace_at overlay.old.volume p) map.now.pairs)
+        fields.now)) }
+    ensures seen { IsSeen overlay.old overlay.new 1 }
+    ensures read { IfErr result (λ _. IsTrue overlay.old.on_disk) }
 {
-    let Some(trace) = overlay.look(p) else {
+    let Some(trace) = overlay.look(p)? else {
         unreachable!()
     };
-    has_fields(&trace, map, fields)
+    Ok(has_fields(&trace, map, fields))
 }

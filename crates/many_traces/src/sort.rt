@@ -1,13 +1,16 @@
 // The exchanges of traces that put them in the order of their numbers.
-ghost use Rattle.std.specs.Prelude.{◌≡◌, ℕ, ◌+◌, ◌-◌, ◌≤◌, ◌^◌, length, All, IfOk, IfErr};
+ghost use Rattle.std.specs.Prelude.{◌≡◌, ℕ, ◌+◌, ◌-◌, ◌<◌, ◌≤◌, ◌^◌, ◌⊎◌, length, All, IsTrue, IfOk, IfErr};
 ghost use Rattle.frame_cut.specs.Traces.{count_of};
-ghost use Rattle.edit_overlay.specs.CountedVolume.{RisesAtMost};
+ghost use Rattle.edit_overlay.specs.CountedVolume.{IsSeen};
 ghost use Rattle.bench_rules.specs.declared.refusal.Refusal.TheVariants.{OutOfMemory as no_memory};
 ghost use Rattle.bench_rules.specs.Looks.{looks_at};
 ghost use Rattle.bench_rules.specs.ManyTraces.{each_of};
 ghost use Rattle.bench_rules.specs.Places.{place_in_trace};
+ghost use Rattle.bench_rules.specs.ReadFaults.{IsReadRefusal};
 ghost use Rattle.bench_rules.specs.Refused.{sort_refusal};
+ghost use Rattle.trace_store.specs.Swapped.{ArePlaces};
 ghost use Rattle.many_traces.specs.Arranged.{PutsRows, Sorts};
+ghost use Rattle.many_traces.specs.Faults.{refusal_for as refusal_for_fault};
 ghost use Rattle.many_traces.specs.Formulas.{IsRefusalFor};
 
 use crate::sorting::rows_in_order;
@@ -24,6 +27,7 @@ use trace_record::PackedRecord;
 /// of a field fall where the item of `falling` at its place is true. Looks at each of the traces
 /// once at most, and at none where a field has no place. Takes memory for the numbers and for the
 /// order. Refused, in this order: E02, E03 where one of the traces lacks a place; else E11 alone.
+/// On disk also where a trace could not be read (E14, E15).
 pub fn exchanges_to_sort(
     alloc: Global,
     overlay: &mut Overlay<PackedRecord>,
@@ -36,21 +40,32 @@ pub fn exchanges_to_sort(
     requires first { 1 ≤ a }
     requires range { a ≤ b }
     requires last { b ≤ count_of overlay.old.volume }
-    ensures ok { IfOk result (λ pairs. Sorts overlay.old.volume
+    ensures ok { IfOk result (λ pairs. IsTrue overlay.new.agreed → Sorts overlay.old.volume
         (each_of (place_in_trace map.now.pairs) fields.now) falling.now a b pairs.items) }
-    ensures err { IfErr result (λ refusal. IsRefusalFor refusal (sort_refusal overlay.old.volume a b
-        (each_of (place_in_trace map.now.pairs) fields.now))) }
-    ensures volume { overlay.new.volume ≡ overlay.old.volume }
-    ensures prepared { overlay.new.prepared ≡ overlay.old.prepared }
-    ensures payloads { overlay.new.payloads ≡ overlay.old.payloads }
-    ensures looks { RisesAtMost overlay.old.looks overlay.new.looks
+    ensures places { IfOk result (λ pairs. ArePlaces (count_of overlay.old.volume) pairs.items) }
+    ensures err { IfErr result (λ refusal. (IsReadRefusal overlay.old.on_disk refusal
+        × (0 < looks_at (each_of (place_in_trace map.now.pairs) fields.now) (b + 1 - a))) ⊎
+        (IsTrue overlay.new.agreed → IsRefusalFor refusal (sort_refusal overlay.old.volume a b
+        (each_of (place_in_trace map.now.pairs) fields.now)))) }
+    ensures seen { IsSeen overlay.old overlay.new
         (looks_at (each_of (place_in_trace map.now.pairs) fields.now) (b + 1 - a)) }
 {
     match table(alloc, overlay, map, a, b, fields) {
         Ok(table) => exchanges_of(alloc, a, &table, falling),
-        Err(AskFault::NoField) => Err(Refusal::NoField),
-        Err(AskFault::NoPlace) => Err(Refusal::NoPlace),
-        Err(_) => Err(Refusal::OutOfMemory),
+        Err(fault) => Err(refusal_for(fault)),
+    }
+}
+
+// The refusal where there is no table.
+fn refusal_for(fault: AskFault) -> Refusal
+    ensures { result ≡ refusal_for_fault fault }
+{
+    match fault {
+        AskFault::NoField => Refusal::NoField,
+        AskFault::NoPlace => Refusal::NoPlace,
+        AskFault::ReadFailed => Refusal::ReadFailed,
+        AskFault::FileChanged => Refusal::FileChanged,
+        _ => Refusal::OutOfMemory,
     }
 }
 

@@ -1,8 +1,8 @@
 // Some header fields of many traces.
-ghost use Rattle.std.specs.Prelude.{◌≡◌, ◌+◌, ◌-◌, ◌*◌, ◌≤◌, [], None, Some, Ok, List, IfOk, IfErr, IfSome, length};
+ghost use Rattle.std.specs.Prelude.{◌≡◌, ◌+◌, ◌-◌, ◌*◌, ◌<◌, ◌≤◌, ◌⊎◌, [], None, Some, Ok, List, All, IsTrue, IfOk, IfErr, IfSome, length};
 ghost use Rattle.std.specs.Vec.{vec_capacity};
 ghost use Rattle.frame_cut.specs.Traces.{count_of};
-ghost use Rattle.edit_overlay.specs.CountedVolume.{RisesAtMost};
+ghost use Rattle.edit_overlay.specs.CountedVolume.{IsSeen};
 ghost use Rattle.bench_rules.specs.declared.ask_fault.AskFault.TheVariants.{NoPlace};
 ghost use Rattle.field_map.specs.declared.place.Place.{Place};
 ghost use Rattle.bench_rules.specs.declared.answer.Answer.TheVariants as answers;
@@ -10,20 +10,21 @@ ghost use Rattle.bench_rules.specs.Answer.{table_answer};
 ghost use Rattle.bench_rules.specs.Looks.{looks_at};
 ghost use Rattle.bench_rules.specs.ManyTraces.{each_of};
 ghost use Rattle.bench_rules.specs.Places.{place_in_trace};
+ghost use Rattle.bench_rules.specs.ReadFaults.{IsReadFault};
 ghost use Rattle.bench_rules.specs.Tables.{table_of};
 ghost use Rattle.many_traces.specs.Faults.{fault_of, IsFaultFor};
 
 use crate::places::{have_places, places_of};
 use crate::row::{has_row, push_row};
 use bench_rules::{AskFault, Field, Table};
-use edit_overlay::Overlay;
+use edit_overlay::{Overlay, ReadFault};
 use field_map::{FieldMap, Place};
 use std::alloc::Global;
 use trace_record::PackedRecord;
 
 /// These fields of each of traces a to b. Looks at each of them once at most, and at none where a
 /// field has no place. Refused: E02, then E03 where one of the traces lacks a place, else E11
-/// alone.
+/// alone. On disk also where a trace could not be read (E14, E15).
 pub fn table(
     alloc: Global,
     overlay: &mut Overlay<PackedRecord>,
@@ -35,25 +36,26 @@ pub fn table(
     requires first { 1 ≤ a }
     requires range { a ≤ b }
     requires last { b ≤ count_of overlay.old.volume }
-    ensures ok { IfOk result (λ rows. table_answer overlay.old.volume a b
-        (each_of (place_in_trace map.now.pairs) fields.now) ≡ Ok (answers.Table rows)) }
-    ensures err { IfErr result (λ fault. IsFaultFor fault (table_answer overlay.old.volume a b
-        (each_of (place_in_trace map.now.pairs) fields.now))) }
-    ensures volume { overlay.new.volume ≡ overlay.old.volume }
-    ensures prepared { overlay.new.prepared ≡ overlay.old.prepared }
-    ensures payloads { overlay.new.payloads ≡ overlay.old.payloads }
-    ensures looks { RisesAtMost overlay.old.looks overlay.new.looks
+    ensures ok { IfOk result (λ rows. IsTrue overlay.new.agreed → table_answer overlay.old.volume a
+        b (each_of (place_in_trace map.now.pairs) fields.now) ≡ Ok (answers.Table rows)) }
+    ensures count { IfOk result (λ rows. length rows ≡ b + 1 - a) }
+    ensures wide { IfOk result (λ rows. All (λ row. length row.1 ≡ length fields.now) rows) }
+    ensures err { IfErr result (λ fault. (IsReadFault overlay.old.on_disk fault
+        × (0 < looks_at (each_of (place_in_trace map.now.pairs) fields.now) (b + 1 - a))) ⊎
+        (IsTrue overlay.new.agreed → IsFaultFor fault (table_answer overlay.old.volume a b
+        (each_of (place_in_trace map.now.pairs) fields.now)))) }
+    ensures seen { IsSeen overlay.old overlay.new
         (looks_at (each_of (place_in_trace map.now.pairs) fields.now) (b + 1 - a)) }
 {
     if !have_places(map, fields) {
         return Err(AskFault::NoField);
     }
     let Some(places) = places_of(alloc, map, fields) else {
-        return Err(without_memory(overlay, map, a, b, fields));
+        return Err(without_memory(overlay, map, a, b, fields)?);
     };
     match room(alloc, b - a + 1, places.len()) {
         Some(numbers) => filled(overlay, a, b, places.as_slice(), numbers),
-        None => Err(without_memory(overlay, map, a, b, fields)),
+        None => Err(without_memory(overlay, map, a, b, fields)?),
     }
 }
 
@@ -82,17 +84,19 @@ fn filled(
     requires last { b ≤ count_of overlay.old.volume }
     requires empty { numbers.items ≡ [] }
     requires room { length places.now * (b + 1 - a) ≤ vec_capacity numbers }
-    ensures ok { IfOk result (λ rows. table_of overlay.old.volume places.now a b ≡ Some rows) }
-    ensures err { IfErr result (λ fault. (fault ≡ NoPlace) × (table_of overlay.old.volume
-        places.now a b ≡ None)) }
-    ensures volume { overlay.new.volume ≡ overlay.old.volume }
-    ensures prepared { overlay.new.prepared ≡ overlay.old.prepared }
-    ensures payloads { overlay.new.payloads ≡ overlay.old.payloads }
-    ensures looks { RisesAtMost overlay.old.looks overlay.new.looks (b + 1 - a) }
+    ensures ok { IfOk result (λ rows. IsTrue overlay.new.agreed →
+        table_of overlay.old.volume places.now a b ≡ Some rows) }
+    ensures count { IfOk result (λ rows. length rows ≡ b + 1 - a) }
+    ensures wide { IfOk result (λ rows. All (λ row. length row.1 ≡ length places.now) rows) }
+    ensures err { IfErr result (λ fault. IsReadFault overlay.old.on_disk fault ⊎
+        (IsTrue overlay.new.agreed → (fault ≡ NoPlace) ×
+        (table_of overlay.old.volume places.now a b ≡ None))) }
+    ensures seen { IsSeen overlay.old overlay.new (b + 1 - a) }
 {
     let mut numbers = numbers;
     for k in 0..b - a + 1 {
-        if !push_row(overlay, a + k, places, &mut numbers) {
+        let there = push_row(overlay, a + k, places, &mut numbers)?;
+        if !there {
             return Err(AskFault::NoPlace);
         }
     }
@@ -106,21 +110,21 @@ fn without_memory(
     a: u32,
     b: u32,
     fields: &[Field],
-) -> AskFault
+) -> Result<AskFault, ReadFault>
     requires first { 1 ≤ a }
     requires range { a ≤ b }
     requires last { b ≤ count_of overlay.old.volume }
-    ensures fault { (places : List Place) → each_of (place_in_trace map.now.pairs) fields.now
-        ≡ Some places → result ≡ fault_of (table_of overlay.old.volume places a b) }
-    ensures volume { overlay.new.volume ≡ overlay.old.volume }
-    ensures prepared { overlay.new.prepared ≡ overlay.old.prepared }
-    ensures payloads { overlay.new.payloads ≡ overlay.old.payloads }
-    ensures looks { RisesAtMost overlay.old.looks overlay.new.looks (b + 1 - a) }
+    ensures fault { IfOk result (λ fault. IsTrue overlay.new.agreed → (places : List Place) →
+        each_of (place_in_trace map.now.pairs) fields.now ≡ Some places →
+        fault ≡ fault_of (table_of overlay.old.volume places a b)) }
+    ensures seen { IsSeen overlay.old overlay.new (b + 1 - a) }
+    ensures read { IfErr result (λ _. IsTrue overlay.old.on_disk) }
 {
     for k in 0..b - a + 1 {
-        if !has_row(overlay, map, a + k, fields) {
-            return AskFault::NoPlace;
+        let there = has_row(overlay, map, a + k, fields)?;
+        if !there {
+            return Ok(AskFault::NoPlace);
         }
     }
-    AskFault::OutOfMemory
+    Ok(AskFault::OutOfMemory)
 }

@@ -13,6 +13,9 @@ use field_map::{MapFault, is_geometry, named};
 use script_words::LineFault;
 use std::str;
 
+// Of a line that met a file which has changed since it was loaded.
+const CHANGED: &str = "with --on-disk FILE must be left alone until the program ends";
+
 // Of a line that needs the values of samples that have none.
 const NO_VALUES: &str = "floats and samples with a gain are bytes here, without a value";
 
@@ -147,6 +150,7 @@ fn edit_hint(words: &Words, refusal: Refusal) -> Hint {
         Refusal::Map(fault) => map_hint(words, fault),
         Refusal::TooLarge => Hint::Text("--max-bytes N raises the limit"),
         Refusal::NoValues => Hint::Text(NO_VALUES),
+        Refusal::FileChanged => Hint::Text(CHANGED),
         Refusal::ZeroDivisor(_) => Hint::Text(
             "find tells the traces where a FIELD is 0: leave them out",
         ),
@@ -161,6 +165,7 @@ fn query_hint(words: &Words, fault: AskFault) -> Hint {
         AskFault::NoField => no_field(words),
         AskFault::NoPlace => no_place(words),
         AskFault::NoSample(k, count) if k == count => Hint::Text("samples count from 0"),
+        AskFault::FileChanged => Hint::Text(CHANGED),
         AskFault::NoValues => Hint::Text(NO_VALUES),
         _ => Hint::None,
     }

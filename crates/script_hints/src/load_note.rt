@@ -37,7 +37,9 @@ impl fmt::Display for LoadNote<'_> {
 fn hint(fault: LoadFault) -> Option<&'static str> {
     match fault {
         LoadFault::ReadFailed => Some("it is a folder, or its disk fails"),
-        LoadFault::TooLarge => Some("--max-bytes N raises the limit"),
+        LoadFault::TooLarge => Some(
+            "--max-bytes N raises the limit; with --on-disk FILE need not fit in memory",
+        ),
         LoadFault::Short(_) => Some("the two file headers have 3600 bytes"),
         LoadFault::PairSwapped => Some(
             "bytes 3297-3300 are 02 01 04 03: the two bytes of each pair are swapped; \
@@ -53,7 +55,7 @@ fn hint(fault: LoadFault) -> Option<&'static str> {
              samples with a value are whole numbers, in formats 2, 3, 7 to 12, 15 and 16",
         ),
         LoadFault::TooManyTraces => Some("a file has at most 4294967295 traces"),
-        LoadFault::OutOfMemory => Some("the file must fit in memory"),
+        LoadFault::OutOfMemory => Some("without --on-disk the file must fit in memory"),
         LoadFault::OtherOrder => {
             Some("bytes 3297-3300 tell the order of bytes, which stands: leave out --order")
         }

@@ -1,7 +1,9 @@
 -- The ends of a run, from those of its steps.
-use Rattle.std.proofs.Common.{◌≡◌, ℕ, ◌+◌, List, [], ◌∷◌, ◌++◌, length, take, sym, subst, inl, inr}
+use Rattle.std.proofs.Common.{◌≡◌, ℕ, ◌+◌, Bool, false, List, [], ◌∷◌, ◌++◌, length, take, sym, subst, inl, inr}
 use Rattle.std.specs.Prelude.{IsTrue}
+use Rattle.frame_cut.specs.declared.limits.Limits.{Limits}
 use Rattle.frame_cut.specs.declared.load_fault.LoadFault.{LoadFault}
+use Rattle.frame_cut.specs.declared.reading.Reading.{Reading}
 use Rattle.bench_rules.specs.State.{State}
 use Rattle.bench_laws.specs.EditLaws.{StepsStayCut}
 use Rattle.script_run.specs.declared.options.Options.{Options}
@@ -9,7 +11,7 @@ use Rattle.script_run.specs.declared.run_end.RunEnd.{RunEnd}
 use Rattle.script_run.specs.declared.run_end.RunEnd.TheVariants as ends
 use Rattle.script_text.specs.declared.script_fault.ScriptFault.{ScriptFault}
 use Rattle.script_text.specs.RefusalTexts.{load_refusal_line, script_refusal_line}
-use Rattle.script_text.specs.Devices.{Takes, TakesPart, count_in_64_bits}
+use Rattle.script_text.specs.Devices.{Device, Takes, TakesPart, count_in_64_bits}
 use Rattle.script_run.specs.Loading.{Loads, ReadsScript}
 use Rattle.script_text.specs.Replies.{Printed}
 use Rattle.script_words.specs.Words.{script_lines}
@@ -18,25 +20,34 @@ use Rattle.script_run.specs.Runs.{LineStep, LineSteps, RunsWhole, StopsAt, Break
 use Rattle.script_run.proofs.ScratchLemmas.{scratch, line_keeps}
 use Rattle.script_run.specs.Ends.{Devices, RefusesLoad, RefusesScript, RunsThrough, Stops, LosesAnswer, IsTold, Runs}
 
-pub load_end : (options : Options) (old new : Devices) (fault : LoadFault) (result : RunEnd) → RefusesLoad options old new fault
-    → IsTold old.answers new.answers (load_refusal_line fault) (ends.Load fault) result → Runs options old new result
-load_end options old new fault result refuses (inl told) = subst (λ r. Runs options old new r) (sym told.0) (refuses, told.1)
-load_end options old new fault result refuses (inr (written, is, part)) = subst (λ r. Runs options old new r) (sym is) (inl (fault, refuses, part))
+-- a load into memory is one of a volume that stands where it stands
+pub loads_in_memory : (old new : Device) (reading : Reading) (limits : Limits) (start : State) → start.on_disk ≡ false → Loads old new reading limits false start
+    → Loads old new reading limits start.on_disk start
+loads_in_memory old new reading limits start memory loads = subst (λ (d : Bool). Loads old new reading limits d start) (sym memory) loads
 
-pub script_end : (options : Options) (old new : Devices) (fault : ScriptFault) (result : RunEnd) → RefusesScript options old new fault
-    → IsTold old.answers new.answers (script_refusal_line fault) (ends.Script fault) result → Runs options old new result
-script_end options old new fault result refuses (inl told) = subst (λ r. Runs options old new r) (sym told.0) (refuses, told.1)
-script_end options old new fault result refuses (inr (written, is, part)) = subst (λ r. Runs options old new r) (sym is) (inr (inl (fault, refuses, part)))
+-- what is said of a run over a volume in memory
+pub runs_in_memory : (options : Options) (old new : Devices) (result : RunEnd) (start : State) → start.on_disk ≡ false → Runs start.on_disk options old new result → Runs false options old new result
+runs_in_memory options old new result start memory runs = subst (λ (d : Bool). Runs d options old new result) memory runs
 
-module _ (stay : StepsStayCut) (options : Options) (old new : Devices) (start end : State) (script : List ℕ)
-    (loaded : Loads old.reader new.reader options.reading options.limits start) (read : ReadsScript old.script new.script script) where
+pub load_end : (on_disk : Bool) (options : Options) (old new : Devices) (fault : LoadFault) (result : RunEnd) → RefusesLoad options old new fault
+    → IsTold old.answers new.answers (load_refusal_line fault) (ends.Load fault) result → Runs on_disk options old new result
+load_end on_disk options old new fault result refuses (inl told) = subst (λ r. Runs on_disk options old new r) (sym told.0) (refuses, told.1)
+load_end on_disk options old new fault result refuses (inr (written, is, part)) = subst (λ r. Runs on_disk options old new r) (sym is) (inl (fault, refuses, part))
+
+pub script_end : (on_disk : Bool) (options : Options) (old new : Devices) (fault : ScriptFault) (result : RunEnd) → RefusesScript on_disk options old new fault
+    → IsTold old.answers new.answers (script_refusal_line fault) (ends.Script fault) result → Runs on_disk options old new result
+script_end on_disk options old new fault result refuses (inl told) = subst (λ r. Runs on_disk options old new r) (sym told.0) (refuses, told.1)
+script_end on_disk options old new fault result refuses (inr (written, is, part)) = subst (λ r. Runs on_disk options old new r) (sym is) (inr (inl (fault, refuses, part)))
+
+module _ (stay : StepsStayCut) (on_disk : Bool) (options : Options) (old new : Devices) (start end : State) (script : List ℕ)
+    (loaded : Loads old.reader new.reader options.reading options.limits on_disk start) (read : ReadsScript old.script new.script script) where
   -- each line is answered as by what reading the file from scratch gives
   as_from_scratch : (lines : List (List ℕ)) (printed : List Printed) → LineSteps start lines printed end
-      → ScratchSteps LineStep options.reading options.limits (saved start) lines printed (saved end)
-  as_from_scratch lines printed steps = scratch LineStep (line_keeps stay) options.reading options.limits start end lines printed loaded.cut loaded.reading_is loaded.limits_are steps
+      → ScratchSteps LineStep options.reading options.limits on_disk (saved start) lines printed (saved end)
+  as_from_scratch lines printed steps = scratch LineStep (line_keeps stay) options.reading options.limits on_disk start end lines printed loaded.cut loaded.reading_is loaded.limits_are loaded.place_is steps
 
   pub runs_through : (refused : ℕ) → (text : List ℕ) × RunsWhole start script options.stop text refused end × Takes old.answers new.answers text
-      → RunsThrough options old new refused end
+      → RunsThrough on_disk options old new refused end
   runs_through refused (text, lines, printed) =
       record {
         start = start;
@@ -49,7 +60,7 @@ module _ (stay : StepsStayCut) (options : Options) (old new : Devices) (start en
       }
 
   pub stops : (line : ℕ) → new.out ≡ old.out
-      → (text : List ℕ) × StopsAt start script line text end × Takes old.answers new.answers text × IsTrue options.stop → Stops options old new line
+      → (text : List ℕ) × StopsAt start script line text end × Takes old.answers new.answers text × IsTrue options.stop → Stops on_disk options old new line
   stops line unsaved (text, lines, printed, asked) = record {
     start = start;
     end = end;
@@ -65,7 +76,7 @@ module _ (stay : StepsStayCut) (options : Options) (old new : Devices) (start en
 
   pub loses_answer : (written : ℕ) → new.out ≡ old.out
       → (text : List ℕ) × (taken : ℕ) × (written ≡ count_in_64_bits taken) × BreaksOff start script options.stop taken text end × TakesPart old.answers new.answers text taken
-      → (taken : ℕ) × (written ≡ count_in_64_bits taken) × LosesAnswer options old new taken
+      → (taken : ℕ) × (written ≡ count_in_64_bits taken) × LosesAnswer on_disk options old new taken
   loses_answer written unsaved (text, taken, told, lines, printed) = (
     taken,
     told,

@@ -59,7 +59,7 @@ step_plain : {T : Type 0} (o : Option Refusal) (old new : State) (edit : Edit) (
 step_plain (Some r) old new edit (Ok x) e h step = absurd step
 step_plain (Some r) old new edit (Err s) e h step = same_plain old new step.1 h
 step_plain None old new edit (Ok x) e h step = subst (λ (f : Pairs). HasPlainNames f) (sym step.fields) (fields_plain old edit e h)
-step_plain None old new edit (Err s) e h step = same_plain old new step.2 h
+step_plain None old new edit (Err s) e h step = same_plain old new step.1 h
 
 -- ---- what is printed
 

@@ -7,3 +7,4 @@ pub mod SessionLemmas
 pub mod FullAnswerLemmas
 pub mod SessionRunLemmas
 pub mod SessionEndLemmas
+pub mod ReadAsLemmas

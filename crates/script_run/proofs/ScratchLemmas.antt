@@ -1,5 +1,5 @@
 -- Lines are answered as by what reading the file from scratch gives.
-use Rattle.std.proofs.Common.{◌≡◌, ℕ, List, [], ◌∷◌, ◌++◌, Option, Some, None, Result, Ok, Err, refl, sym, ap, subst, ◌∙◌, inl, inr}
+use Rattle.std.proofs.Common.{◌≡◌, ℕ, Bool, List, [], ◌∷◌, ◌++◌, Option, Some, None, Result, Ok, Err, refl, sym, ap, subst, ◌∙◌, inl, inr}
 use Rattle.frame_cut.specs.declared.limits.Limits.{Limits}
 use Rattle.frame_cut.specs.declared.reading.Reading.{Reading}
 use Rattle.frame_cut.specs.Cuts.{IsCut}
@@ -65,22 +65,22 @@ session_keeps stay old new line p cut (a, inl step, is) = stay old new [] [] cut
 session_keeps stay old new line p cut (a, inr (within, inl step), is) = line_keeps stay old new _ a cut step
 session_keeps stay old new line p cut (a, inr (within, inr step), is) = stay old new [] [] cut step.1
 
-module _ (Step : State → List ℕ → Printed → State → Type 0) (keeps : Keeps Step) (reading : Reading) (limits : Limits) where
-  pub scratch : (old new : State) (lines : List (List ℕ)) (ps : List Printed) → IsCut (bytes_of old.volume) reading limits old.volume → old.reading ≡ reading → old.limits ≡ limits
-      → StepsBy Step old lines ps new → ScratchSteps Step reading limits (saved old) lines ps (saved new)
-  scratch old new [] [] cut r l h = ap saved h
-  scratch old new [] (p ∷ ps) cut r l h = absurd h
-  scratch old new (x ∷ xs) [] cut r l h = absurd h
-  scratch old new (x ∷ xs) (p ∷ ps) cut r l (mid, first, rest) =
+module _ (Step : State → List ℕ → Printed → State → Type 0) (keeps : Keeps Step) (reading : Reading) (limits : Limits) (on_disk : Bool) where
+  pub scratch : (old new : State) (lines : List (List ℕ)) (ps : List Printed) → IsCut (bytes_of old.volume) reading limits old.volume → old.reading ≡ reading → old.limits ≡ limits → old.on_disk ≡ on_disk
+      → StepsBy Step old lines ps new → ScratchSteps Step reading limits on_disk (saved old) lines ps (saved new)
+  scratch old new [] [] cut r l d h = ap saved h
+  scratch old new [] (p ∷ ps) cut r l d h = absurd h
+  scratch old new (x ∷ xs) [] cut r l d h = absurd h
+  scratch old new (x ∷ xs) (p ∷ ps) cut r l d (mid, first, rest) =
       let read : IsRead old = rw (r, l) cut in
       let alike = keeps old mid x p read first in (
         saved mid,
-        record { volume = old.volume; cut = cut; end = mid; step = rw (← r, ← l) first; new_is = refl },
-        scratch mid new xs ps (rw (← r, ← l) alike.cut) (alike.reading ∙ r) (alike.limits ∙ l) rest,
+        record { volume = old.volume; cut = cut; end = mid; step = rw (← r, ← l, ← d) first; new_is = refl },
+        scratch mid new xs ps (rw (← r, ← l) alike.cut) (alike.reading ∙ r) (alike.limits ∙ l) (alike.on_disk ∙ d) rest,
       )
 
 pub lines_from_scratch : StepsStayCut → LinesFromScratch
-lines_from_scratch stay old new lines ps cut steps = scratch LineStep (line_keeps stay) old.reading old.limits old new lines ps cut refl refl steps
+lines_from_scratch stay old new lines ps cut steps = scratch LineStep (line_keeps stay) old.reading old.limits old.on_disk old new lines ps cut refl refl refl steps
 
 -- ---- a load of what was saved
 
@@ -92,5 +92,5 @@ reloads_as_saved stay scratch_answers old new again lines ps cut steps read same
       at_most_one_cut (bytes_of new.volume) old.reading old.limits again.volume new.volume here alike.cut,
       λ query. ap (λ (x : Reading). let s : State = record again { fields = new.fields; reading = x } in answer s query) r
           ∙ ap (λ (x : Limits). let s : State = record again { fields = new.fields; reading = old.reading; limits = x } in answer s query) l
-          ∙ sym (scratch_answers old new some.0 some.1 again.volume query cut some.2 here),
+          ∙ sym (scratch_answers old new some.0 some.1 again.volume again.on_disk query cut some.2 here),
     )

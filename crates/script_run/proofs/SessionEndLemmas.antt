@@ -1,5 +1,5 @@
 -- The ends of a session, from those of its lines.
-use Rattle.std.proofs.Common.{◌≡◌, ◌⊎◌, ℕ, ◌+◌, List, [], ◌∷◌, ◌++◌, length, sym, subst, inl, inr, arith, refl, ◌∙◌}
+use Rattle.std.proofs.Common.{◌≡◌, ◌⊎◌, ℕ, ◌+◌, Bool, false, List, [], ◌∷◌, ◌++◌, length, sym, subst, inl, inr, arith, refl, ◌∙◌}
 use Rattle.frame_cut.specs.declared.load_fault.LoadFault.{LoadFault}
 use Rattle.bench_rules.specs.State.{State}
 use Rattle.bench_laws.specs.EditLaws.{StepsStayCut}
@@ -20,20 +20,24 @@ use Rattle.script_run.proofs.FullAnswerLemmas.{session_full, plain_at_load}
 use Rattle.script_run.specs.Sessions.{SessionStep, AnswersLines, SessionThrough, SessionStops, SessionLosesAnswer, Session}
 use Rattle.script_run.specs.SessionLineRuns.{Answered, AnswersTo}
 
-pub load_end : (options : Options) (old new : Devices) (fault : LoadFault) (result : RunEnd) → RefusesLoad options old new fault
-    → IsTold old.answers new.answers (load_refusal_line fault) (ends.Load fault) result → Session options old new result
-load_end options old new fault result refuses (inl told) = subst (λ r. Session options old new r) (sym told.0) (refuses, told.1)
-load_end options old new fault result refuses (inr (written, is, part)) = subst (λ r. Session options old new r) (sym is) (inl (fault, refuses, part))
+-- what is said of a session over a volume in memory
+pub session_in_memory : (options : Options) (old new : Devices) (result : RunEnd) (start : State) → start.on_disk ≡ false → Session start.on_disk options old new result → Session false options old new result
+session_in_memory options old new result start memory session = subst (λ (d : Bool). Session d options old new result) memory session
 
-module _ (stay : StepsStayCut) (options : Options) (old new : Devices) (start end : State)
-    (loaded : Loads old.reader new.reader options.reading options.limits start) where
-  lines_of : (printed : List Printed) (done : Answered start end old.script printed) → AnswersLines options old new done.lines printed end
+pub load_end : (on_disk : Bool) (options : Options) (old new : Devices) (fault : LoadFault) (result : RunEnd) → RefusesLoad options old new fault
+    → IsTold old.answers new.answers (load_refusal_line fault) (ends.Load fault) result → Session on_disk options old new result
+load_end on_disk options old new fault result refuses (inl told) = subst (λ r. Session on_disk options old new r) (sym told.0) (refuses, told.1)
+load_end on_disk options old new fault result refuses (inr (written, is, part)) = subst (λ r. Session on_disk options old new r) (sym is) (inl (fault, refuses, part))
+
+module _ (stay : StepsStayCut) (on_disk : Bool) (options : Options) (old new : Devices) (start end : State)
+    (loaded : Loads old.reader new.reader options.reading options.limits on_disk start) where
+  lines_of : (printed : List Printed) (done : Answered start end old.script printed) → AnswersLines on_disk options old new done.lines printed end
   lines_of printed done = record {
     start = start;
     loaded = loaded;
     given = done.given;
     steps = done.steps;
-    from_scratch = scratch SessionStep (session_keeps stay) options.reading options.limits start end done.lines printed loaded.cut loaded.reading_is loaded.limits_are done.steps;
+    from_scratch = scratch SessionStep (session_keeps stay) options.reading options.limits on_disk start end done.lines printed loaded.cut loaded.reading_is loaded.limits_are loaded.place_is done.steps;
     full = session_full start end done.lines printed (plain_at_load start loaded.fields) done.steps;
   }
 
@@ -41,15 +45,15 @@ module _ (stay : StepsStayCut) (options : Options) (old new : Devices) (start en
   pub loses_script : (middle : Device) (fault : ScriptFault) (written : ℕ) (result : RunEnd) → new.out ≡ old.out → AnswersTo start end options.stop old.script new.script old.answers middle (line_ends.Script fault written)
       → ((result ≡ ends.Script fault) × Takes middle new.answers (script_refusal_line fault))
       ⊎ ((more : ℕ) × (told : ℕ) × (result ≡ ends.Answers told) × (told ≡ count_in_64_bits (written + more)) × TakesPart middle new.answers (script_refusal_line fault) more)
-      → Session options old new result
+      → Session on_disk options old new result
   loses_script middle fault written result unsaved (printed, done, reason, goes_on, written_is, taken) (inl (is, told)) =
-      subst (λ r. Session options old new r) (sym is) (
+      subst (λ r. Session on_disk options old new r) (sym is) (
         printed,
         record { lines = done.lines; end = end; answers = lines_of printed done; goes_on = goes_on; reason = reason; unsaved = unsaved },
         takes_more old.answers middle new.answers (printed_text printed) (script_refusal_line fault) taken told,
       )
   loses_script middle fault written result unsaved (printed, done, reason, goes_on, written_is, taken) (inr (more, told, is, told_is, part)) =
-      subst (λ r. Session options old new r) (sym is) (inr (inl (
+      subst (λ r. Session on_disk options old new r) (sym is) (inr (inl (
         fault,
         printed,
         length (printed_text printed) + more,
@@ -60,13 +64,13 @@ module _ (stay : StepsStayCut) (options : Options) (old new : Devices) (start en
 
   -- the line of the refusal was written whole
   pub tells_script : (middle : Device) (fault : ScriptFault) (written : ℕ) (told : RunEnd) → new.out ≡ old.out → AnswersTo start end options.stop old.script new.script old.answers middle (line_ends.Script fault written)
-      → IsTold middle new.answers (script_refusal_line fault) (ends.Script fault) told → ((more : ℕ) → told ≡ ends.Answers more → ⊥) → Session options old new told
+      → IsTold middle new.answers (script_refusal_line fault) (ends.Script fault) told → ((more : ℕ) → told ≡ ends.Answers more → ⊥) → Session on_disk options old new told
   tells_script middle fault written told unsaved lines (inl whole) none = loses_script middle fault written told unsaved lines (inl whole)
   tells_script middle fault written told unsaved lines (inr (more, is, part)) none = absurd (none more is)
 
   -- .. or a part of it
   pub tells_part : (middle : Device) (fault : ScriptFault) (written more sum : ℕ) (told : RunEnd) → new.out ≡ old.out → AnswersTo start end options.stop old.script new.script old.answers middle (line_ends.Script fault written)
-      → IsTold middle new.answers (script_refusal_line fault) (ends.Script fault) told → told ≡ ends.Answers more → sum ≡ count_in_64_bits (written + more) → Session options old new (ends.Answers sum)
+      → IsTold middle new.answers (script_refusal_line fault) (ends.Script fault) told → told ≡ ends.Answers more → sum ≡ count_in_64_bits (written + more) → Session on_disk options old new (ends.Answers sum)
   tells_part middle fault written more sum told unsaved lines (inl whole) is sum_is = absurd (neither fault more (sym whole.0 ∙ is))
     where
       neither : (fault : ScriptFault) (more : ℕ) → ends.Script fault ≡ ends.Answers more → ⊥
@@ -78,7 +82,7 @@ module _ (stay : StepsStayCut) (options : Options) (old new : Devices) (start en
       one : {a b : ℕ} → ends.Answers a ≡ ends.Answers b → a ≡ b
       one e = cc
 
-  pub goes_through : (refused : ℕ) → AnswersTo start end options.stop old.script new.script old.answers new.answers (line_ends.Whole refused) → SessionThrough options old new refused end
+  pub goes_through : (refused : ℕ) → AnswersTo start end options.stop old.script new.script old.answers new.answers (line_ends.Whole refused) → SessionThrough on_disk options old new refused end
   goes_through refused (printed, done, all, same, refused_is, goes_on, taken) = record {
     lines = done.lines;
     printed = printed;
@@ -90,7 +94,7 @@ module _ (stay : StepsStayCut) (options : Options) (old new : Devices) (start en
     taken = taken;
   }
 
-  pub stops : (line : ℕ) → new.out ≡ old.out → AnswersTo start end options.stop old.script new.script old.answers new.answers (line_ends.Stopped line) → SessionStops options old new line
+  pub stops : (line : ℕ) → new.out ≡ old.out → AnswersTo start end options.stop old.script new.script old.answers new.answers (line_ends.Stopped line) → SessionStops on_disk options old new line
   stops line unsaved (before, last, done, line_is, none_before, refused_last, asked, taken) = record {
     lines = done.lines;
     before = before;
@@ -106,7 +110,7 @@ module _ (stay : StepsStayCut) (options : Options) (old new : Devices) (start en
   }
 
   pub loses_answer : (written : ℕ) → new.out ≡ old.out → AnswersTo start end options.stop old.script new.script old.answers new.answers (line_ends.Answers written)
-      → (taken : ℕ) × (written ≡ count_in_64_bits taken) × SessionLosesAnswer options old new taken
+      → (taken : ℕ) × (written ≡ count_in_64_bits taken) × SessionLosesAnswer on_disk options old new taken
   loses_answer written unsaved (before, last, taken, done, told, goes_on, taken_before, part) = (
     taken,
     told,

@@ -1,6 +1,8 @@
 -- How a run ends, and what the readers and writers told.
-use Rattle.std.specs.Prelude.{◌≡◌, ◌⊎◌, ℕ, ◌+◌, Bool, true, false, IsTrue, List, [], ◌∷◌, ◌++◌, length, take}
+use Rattle.std.specs.Prelude.{◌≡◌, ◌⊎◌, ◌<◌, ℕ, ◌+◌, MatchOption, Bool, true, false, IsTrue, List, [], ◌∷◌, ◌++◌, length, take}
 use Rattle.frame_cut.specs.declared.load_fault.LoadFault.{LoadFault}
+use Rattle.std.specs.Io.KnownBytes.{Appends}
+use Rattle.edit_overlay.specs.declared.save_fault.SaveFault.{SaveFault}
 use Rattle.frame_cut.specs.Volume.{bytes_of}
 use Rattle.bench_rules.specs.State.{State}
 use Rattle.script_run.specs.declared.options.Options.{Options}
@@ -26,8 +28,8 @@ abbrev pub devices : Device → Device → Device → Device → Devices
 devices reader script answers out = record { reader = reader; script = script; answers = answers; out = out }
 
 -- the volume is loaded, then the script is read whole
-pub record Begins (options : Options) (old new : Devices) (start : State) (script : List ℕ) : Type 0 where
-  pub loaded : Loads old.reader new.reader options.reading options.limits start
+pub record Begins (on_disk : Bool) (options : Options) (old new : Devices) (start : State) (script : List ℕ) : Type 0 where
+  pub loaded : Loads old.reader new.reader options.reading options.limits on_disk start
   pub read : ReadsScript old.script new.script script
 
 -- the volume is refused: the script is not read, and nothing is saved
@@ -37,47 +39,58 @@ pub record RefusesLoad (options : Options) (old new : Devices) (fault : LoadFaul
   pub unsaved : new.out ≡ old.out
 
 -- the volume is loaded and the script refused: nothing is saved
-pub record RefusesScript (options : Options) (old new : Devices) (fault : ScriptFault) : Type 0 where
+pub record RefusesScript (on_disk : Bool) (options : Options) (old new : Devices) (fault : ScriptFault) : Type 0 where
   pub start : State
-  pub loaded : Loads old.reader new.reader options.reading options.limits start
+  pub loaded : Loads old.reader new.reader options.reading options.limits on_disk start
   pub refused : IsScriptRefused old.script new.script fault
   pub unsaved : new.out ≡ old.out
 
 -- all lines are run, with so many refused, and the writer of the answers takes what they print
-pub record RunsThrough (options : Options) (old new : Devices) (refused : ℕ) (end : State) : Type 0 where
+pub record RunsThrough (on_disk : Bool) (options : Options) (old new : Devices) (refused : ℕ) (end : State) : Type 0 where
   pub start : State
   pub script : List ℕ
   pub text : List ℕ
-  pub begins : Begins options old new start script
+  pub begins : Begins on_disk options old new start script
   pub lines : RunsWhole start script options.stop text refused end
-  pub from_scratch : ScratchSteps LineStep options.reading options.limits (saved start) (script_lines script) lines.printed (saved end)
+  pub from_scratch : ScratchSteps LineStep options.reading options.limits on_disk (saved start) (script_lines script) lines.printed (saved end)
   pub printed : Takes old.answers new.answers text
 
 -- the lines are run up to the first that is refused; nothing is saved
-pub record Stops (options : Options) (old new : Devices) (line : ℕ) : Type 0 where
+pub record Stops (on_disk : Bool) (options : Options) (old new : Devices) (line : ℕ) : Type 0 where
   pub start : State
   pub end : State
   pub script : List ℕ
   pub text : List ℕ
-  pub begins : Begins options old new start script
+  pub begins : Begins on_disk options old new start script
   pub asked : IsTrue options.stop
   pub lines : StopsAt start script line text end
-  pub from_scratch : ScratchSteps LineStep options.reading options.limits (saved start) (take line (script_lines script)) (lines.before ++ lines.last ∷ []) (saved end)
+  pub from_scratch : ScratchSteps LineStep options.reading options.limits on_disk (saved start) (take line (script_lines script)) (lines.before ++ lines.last ∷ []) (saved end)
   pub printed : Takes old.answers new.answers text
   pub unsaved : new.out ≡ old.out
 
 -- the lines are run up to one whose answer is not written whole; of all that is printed the writer takes so many bytes;
 -- nothing is saved
-pub record LosesAnswer (options : Options) (old new : Devices) (taken : ℕ) : Type 0 where
+pub record LosesAnswer (on_disk : Bool) (options : Options) (old new : Devices) (taken : ℕ) : Type 0 where
   pub start : State
   pub end : State
   pub script : List ℕ
   pub text : List ℕ
-  pub begins : Begins options old new start script
+  pub begins : Begins on_disk options old new start script
   pub lines : BreaksOff start script options.stop taken text end
-  pub from_scratch : ScratchSteps LineStep options.reading options.limits (saved start) (take (length lines.before + 1) (script_lines script)) (lines.before ++ lines.last ∷ []) (saved end)
+  pub from_scratch : ScratchSteps LineStep options.reading options.limits on_disk (saved start) (take (length lines.before + 1) (script_lines script)) (lines.before ++ lines.last ∷ []) (saved end)
   pub printed : TakesPart old.answers new.answers text taken
   pub unsaved : new.out ≡ old.out
+
+-- a writer takes the first bytes of a text, not all, and no write fails
+pub record TakesFirst (old new : Device) (text : List ℕ) (written : ℕ) : Type 0 where
+  pub bytes : Appends old.bytes new.bytes (take written text)
+  pub short : written < length text
+  pub failures : new.failures ≡ old.failures
+
+-- a save that failed: the writer took the first of the volume's bytes, and then a write failed, or on disk a read of the loaded bytes
+abbrev pub SavesPart : Bool → Device → Device → List ℕ → SaveFault → Type 0
+SavesPart on_disk old new bytes fault =
+    MatchOption fault.read (TakesPart old new bytes fault.written) (λ _. IsTrue on_disk × TakesFirst old new bytes fault.written)
 
 -- where it is asked for, the writer takes the volume's bytes; else nothing is saved
 abbrev pub SavesIf : Bool → Device → Device → List ℕ → Type 0
@@ -89,16 +102,17 @@ abbrev pub IsTold : Device → Device → List ℕ → RunEnd → RunEnd → Typ
 IsTold old new line end result =
     ((result ≡ end) × Takes old new line) ⊎ ((written : ℕ) × (result ≡ ends.Answers written) × TakesPart old new line written)
 
--- the readers and writers from before a run to its end
-abbrev pub Runs : Options → Devices → Devices → RunEnd → Type 0
-Runs options old new (ends.Done refused) =
-    (end : State) × RunsThrough options old new refused end × SavesIf options.save old.out new.out (bytes_of end.volume)
-Runs options old new (ends.Stopped line) = Stops options old new line
-Runs options old new (ends.Load fault) = RefusesLoad options old new fault × Takes old.answers new.answers (load_refusal_line fault)
-Runs options old new (ends.Script fault) = RefusesScript options old new fault × Takes old.answers new.answers (script_refusal_line fault)
-Runs options old new (ends.Answers written) =
+-- the readers and writers from before a run to its end, where the bytes of the volume are in memory or stay on disk
+abbrev pub Runs : Bool → Options → Devices → Devices → RunEnd → Type 0
+Runs on_disk options old new (ends.Done refused) =
+    (end : State) × RunsThrough on_disk options old new refused end × SavesIf options.save old.out new.out (bytes_of end.volume)
+Runs on_disk options old new (ends.Stopped line) = Stops on_disk options old new line
+Runs on_disk options old new (ends.Load fault) = RefusesLoad options old new fault × Takes old.answers new.answers (load_refusal_line fault)
+Runs on_disk options old new (ends.Script fault) = RefusesScript on_disk options old new fault × Takes old.answers new.answers (script_refusal_line fault)
+Runs on_disk options old new (ends.Answers written) =
     ((fault : LoadFault) × RefusesLoad options old new fault × TakesPart old.answers new.answers (load_refusal_line fault) written)
-    ⊎ ((fault : ScriptFault) × RefusesScript options old new fault × TakesPart old.answers new.answers (script_refusal_line fault) written)
-    ⊎ ((taken : ℕ) × (written ≡ count_in_64_bits taken) × LosesAnswer options old new taken)
-Runs options old new (ends.Save fault) =
-    (refused : ℕ) × (end : State) × RunsThrough options old new refused end × IsTrue options.save × TakesPart old.out new.out (bytes_of end.volume) fault.written
+    ⊎ ((fault : ScriptFault) × RefusesScript on_disk options old new fault × TakesPart old.answers new.answers (script_refusal_line fault) written)
+    ⊎ ((taken : ℕ) × (written ≡ count_in_64_bits taken) × LosesAnswer on_disk options old new taken)
+Runs on_disk options old new (ends.Save fault) =
+    (refused : ℕ) × (end : State) × RunsThrough on_disk options old new refused end × IsTrue options.save
+    × SavesPart on_disk old.out new.out (bytes_of end.volume) fault

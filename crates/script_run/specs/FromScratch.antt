@@ -1,5 +1,5 @@
 -- Lines, each answered by what reading the file from scratch gives.
-use Rattle.std.specs.Prelude.{◌≡◌, ℕ, List}
+use Rattle.std.specs.Prelude.{◌≡◌, ℕ, Bool, List}
 use Rattle.field_map.specs.Pairs.{Pairs}
 use Rattle.frame_cut.specs.declared.limits.Limits.{Limits}
 use Rattle.frame_cut.specs.declared.reading.Reading.{Reading}
@@ -18,17 +18,17 @@ pub record Saved : Type 0 where
 abbrev pub saved : State → Saved
 saved s = record { file = bytes_of s.volume; fields = s.fields }
 
--- what a load of the saved file holds: this volume, read as the first load read it, under the field map in force
-abbrev pub loaded_again : Reading → Limits → Saved → Volume → State
-loaded_again reading limits s volume = record { volume = volume; fields = s.fields; reading = reading; limits = limits }
+-- what a load of the saved file holds: this volume, read as the first load read it and from the same place, under the field map in force
+abbrev pub loaded_again : Reading → Limits → Bool → Saved → Volume → State
+loaded_again reading limits on_disk s volume = record { volume = volume; fields = s.fields; reading = reading; limits = limits; on_disk = on_disk }
 
-module _ (Step : State → List ℕ → Printed → State → Type 0) (reading : Reading) (limits : Limits) where
+module _ (Step : State → List ℕ → Printed → State → Type 0) (reading : Reading) (limits : Limits) (on_disk : Bool) where
   -- a line, answered by what a load of the file that is saved before it holds, and what is saved behind it
   pub record ScratchStep (old : Saved) (line : List ℕ) (printed : Printed) (new : Saved) : Type 0 where
     pub volume : Volume
     pub cut : IsCut old.file reading limits volume
     pub end : State
-    pub step : Step (loaded_again reading limits old volume) line printed end
+    pub step : Step (loaded_again reading limits on_disk old volume) line printed end
     pub new_is : new ≡ saved end
 
   -- the lines one after another, each answered so

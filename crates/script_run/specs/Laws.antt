@@ -27,7 +27,7 @@ LinesAreEdits = (old new : State) (lines : List (List ℕ)) (printed : List Prin
 -- each line of a script prints what a load of the bytes that a save before it writes answers, and leaves the bytes that it then saves
 abbrev pub LinesFromScratch : Type 0
 LinesFromScratch = (old new : State) (lines : List (List ℕ)) (printed : List Printed) → IsRead old → LineSteps old lines printed new
-    → ScratchSteps LineStep old.reading old.limits (saved old) lines printed (saved new)
+    → ScratchSteps LineStep old.reading old.limits old.on_disk (saved old) lines printed (saved new)
 
 -- a load of the bytes that are saved behind the lines holds the volume that was saved, and so every query has the answer that it had
 abbrev pub ReloadsAsSaved : Type 0

@@ -1,5 +1,5 @@
 -- How the volume and the script are read before a run.
-use Rattle.std.specs.Prelude.{ℕ, ◌≡◌, ◌≢◌, ◌⊎◌, ◌<◌, ◌≤◌, List, length, IfSome}
+use Rattle.std.specs.Prelude.{ℕ, Bool, ◌≡◌, ◌≢◌, ◌⊎◌, ◌<◌, ◌≤◌, List, length, IfSome}
 use Rattle.std.specs.Io.KnownBytes.{Consumes, IsAtEnd}
 use Rattle.device_io.specs.Failures.{one_more}
 use Rattle.field_map.specs.Binding.{geometry_at_load}
@@ -14,14 +14,16 @@ use Rattle.script_text.specs.declared.script_fault.ScriptFault.{ScriptFault}
 use Rattle.script_text.specs.declared.script_fault.ScriptFault.TheVariants.{ReadFailed, TooLarge, OutOfMemory}
 use Rattle.script_text.specs.Devices.{Device}
 
--- the reader gives a whole file, which is cut under the reading and limits, with the six geometry names bound
-pub record Loads (old new : Device) (reading : Reading) (limits : Limits) (state : State) : Type 0 where
+-- the reader gives a whole file, which is cut under the reading and limits, with the six geometry names bound; its bytes are then in memory,
+-- or stay on disk
+pub record Loads (old new : Device) (reading : Reading) (limits : Limits) (on_disk : Bool) (state : State) : Type 0 where
   pub bytes : Consumes old.bytes new.bytes (bytes_of state.volume)
   pub end : IsAtEnd new.bytes
   pub cut : IsCut (bytes_of state.volume) reading limits state.volume
   pub fields : state.fields ≡ geometry_at_load
   pub reading_is : state.reading ≡ reading
   pub limits_are : state.limits ≡ limits
+  pub place_is : state.on_disk ≡ on_disk
   pub failures : new.failures ≡ old.failures
 
 -- the file is refused, for want of a read, of memory or for what it is; at most one byte above the limit is taken from the

@@ -1,5 +1,5 @@
 -- A session: the lines of a reader are answered one by one, with an empty line behind each answer.
-use Rattle.std.specs.Prelude.{◌≡◌, ◌⊎◌, ℕ, ◌<◌, ◌≤◌, ◌+◌, ⊤, IsTrue, List, [], ◌∷◌, ◌++◌, length, take, codes, Option, IfSome}
+use Rattle.std.specs.Prelude.{◌≡◌, ◌⊎◌, ℕ, ◌<◌, ◌≤◌, ◌+◌, ⊤, Bool, IsTrue, List, [], ◌∷◌, ◌++◌, length, take, codes, Option, IfSome}
 use Rattle.frame_cut.specs.declared.load_fault.LoadFault.{LoadFault}
 use Rattle.frame_cut.specs.Volume.{bytes_of}
 use Rattle.bench_rules.specs.State.{State}
@@ -20,7 +20,7 @@ use Rattle.script_run.specs.Input.{HasTooMany}
 use Rattle.script_run.specs.Telling.{followed_by}
 use Rattle.script_run.specs.Runs.{LineStep, StepsBy, printed_text, refusals}
 use Rattle.script_run.specs.FromScratch.{ScratchSteps, saved}
-use Rattle.script_run.specs.Ends.{Devices, RefusesLoad, SavesIf}
+use Rattle.script_run.specs.Ends.{Devices, RefusesLoad, SavesIf, SavesPart}
 
 -- ---- one line
 
@@ -67,19 +67,19 @@ AllLines known lines = IfSome known (λ bytes. parts_by_line_feed bytes ≡ line
 -- ---- the ends
 
 -- the volume is loaded, and the first lines of the reader are answered
-pub record AnswersLines (options : Options) (old new : Devices) (lines : List (List ℕ)) (printed : List Printed) (end : State) : Type 0 where
+pub record AnswersLines (on_disk : Bool) (options : Options) (old new : Devices) (lines : List (List ℕ)) (printed : List Printed) (end : State) : Type 0 where
   pub start : State
-  pub loaded : Loads old.reader new.reader options.reading options.limits start
+  pub loaded : Loads old.reader new.reader options.reading options.limits on_disk start
   pub given : FirstLines old.script.bytes lines
   pub steps : SessionSteps start lines printed end
-  pub from_scratch : ScratchSteps SessionStep options.reading options.limits (saved start) lines printed (saved end)
+  pub from_scratch : ScratchSteps SessionStep options.reading options.limits on_disk (saved start) lines printed (saved end)
   pub full : AreAnswers printed
 
 -- all lines are answered, with so many refused
-pub record SessionThrough (options : Options) (old new : Devices) (refused : ℕ) (end : State) : Type 0 where
+pub record SessionThrough (on_disk : Bool) (options : Options) (old new : Devices) (refused : ℕ) (end : State) : Type 0 where
   pub lines : List (List ℕ)
   pub printed : List Printed
-  pub answers : AnswersLines options old new lines printed end
+  pub answers : AnswersLines on_disk options old new lines printed end
   pub all : AllLines old.script.bytes lines
   pub failures : new.script.failures ≡ old.script.failures
   pub refused_is : refused ≡ refusals printed
@@ -87,12 +87,12 @@ pub record SessionThrough (options : Options) (old new : Devices) (refused : ℕ
   pub taken : Takes old.answers new.answers (printed_text printed)
 
 -- the lines are answered up to the first that is refused; nothing is saved
-pub record SessionStops (options : Options) (old new : Devices) (line : ℕ) : Type 0 where
+pub record SessionStops (on_disk : Bool) (options : Options) (old new : Devices) (line : ℕ) : Type 0 where
   pub lines : List (List ℕ)
   pub before : List Printed
   pub last : Printed
   pub end : State
-  pub answers : AnswersLines options old new lines (before ++ last ∷ []) end
+  pub answers : AnswersLines on_disk options old new lines (before ++ last ∷ []) end
   pub asked : IsTrue options.stop
   pub line_is : line ≡ length before + 1
   pub none_before : refusals before ≡ 0
@@ -101,12 +101,12 @@ pub record SessionStops (options : Options) (old new : Devices) (line : ℕ) : T
   pub unsaved : new.out ≡ old.out
 
 -- the lines are answered up to one whose text the writer does not take whole; of all that is printed it takes so many bytes; nothing is saved
-pub record SessionLosesAnswer (options : Options) (old new : Devices) (taken : ℕ) : Type 0 where
+pub record SessionLosesAnswer (on_disk : Bool) (options : Options) (old new : Devices) (taken : ℕ) : Type 0 where
   pub lines : List (List ℕ)
   pub before : List Printed
   pub last : Printed
   pub end : State
-  pub answers : AnswersLines options old new lines (before ++ last ∷ []) end
+  pub answers : AnswersLines on_disk options old new lines (before ++ last ∷ []) end
   pub goes_on : IsTrue options.stop → refusals before ≡ 0
   pub taken_before : length (printed_text before) ≤ taken
   pub part : TakesPart old.answers new.answers (printed_text (before ++ last ∷ [])) taken
@@ -119,29 +119,29 @@ IsBroken fault old new lines =
     ⊎ ((fault ≡ script_faults.TooLarge) × HasTooMany old.bytes lines × (new.failures ≡ old.failures))
 
 -- some lines are answered, and then no more are read; nothing is saved
-pub record SessionLosesScript (options : Options) (old new : Devices) (fault : ScriptFault) (printed : List Printed) : Type 0 where
+pub record SessionLosesScript (on_disk : Bool) (options : Options) (old new : Devices) (fault : ScriptFault) (printed : List Printed) : Type 0 where
   pub lines : List (List ℕ)
   pub end : State
-  pub answers : AnswersLines options old new lines printed end
+  pub answers : AnswersLines on_disk options old new lines printed end
   pub goes_on : IsTrue options.stop → refusals printed ≡ 0
   pub reason : IsBroken fault old.script new.script lines
   pub unsaved : new.out ≡ old.out
 
--- the readers and writers from before a session to its end
-abbrev pub Session : Options → Devices → Devices → RunEnd → Type 0
-Session options old new (ends.Done refused) =
-    (end : State) × SessionThrough options old new refused end × SavesIf options.save old.out new.out (bytes_of end.volume)
-Session options old new (ends.Stopped line) = SessionStops options old new line
-Session options old new (ends.Load fault) = RefusesLoad options old new fault × Takes old.answers new.answers (load_refusal_line fault)
-Session options old new (ends.Script fault) =
-    (printed : List Printed) × SessionLosesScript options old new fault printed
+-- the readers and writers from before a session to its end, where the bytes of the volume are in memory or stay on disk
+abbrev pub Session : Bool → Options → Devices → Devices → RunEnd → Type 0
+Session on_disk options old new (ends.Done refused) =
+    (end : State) × SessionThrough on_disk options old new refused end × SavesIf options.save old.out new.out (bytes_of end.volume)
+Session on_disk options old new (ends.Stopped line) = SessionStops on_disk options old new line
+Session on_disk options old new (ends.Load fault) = RefusesLoad options old new fault × Takes old.answers new.answers (load_refusal_line fault)
+Session on_disk options old new (ends.Script fault) =
+    (printed : List Printed) × SessionLosesScript on_disk options old new fault printed
     × Takes old.answers new.answers (printed_text printed ++ script_refusal_line fault)
-Session options old new (ends.Answers written) =
+Session on_disk options old new (ends.Answers written) =
     ((fault : LoadFault) × RefusesLoad options old new fault × TakesPart old.answers new.answers (load_refusal_line fault) written)
     ⊎ ((fault : ScriptFault) × (printed : List Printed) × (taken : ℕ) × (written ≡ count_in_64_bits taken)
-    × SessionLosesScript options old new fault printed
+    × SessionLosesScript on_disk options old new fault printed
     × TakesPart old.answers new.answers (printed_text printed ++ script_refusal_line fault) taken)
-    ⊎ ((taken : ℕ) × (written ≡ count_in_64_bits taken) × SessionLosesAnswer options old new taken)
-Session options old new (ends.Save fault) =
-    (refused : ℕ) × (end : State) × SessionThrough options old new refused end × IsTrue options.save
-    × TakesPart old.out new.out (bytes_of end.volume) fault.written
+    ⊎ ((taken : ℕ) × (written ≡ count_in_64_bits taken) × SessionLosesAnswer on_disk options old new taken)
+Session on_disk options old new (ends.Save fault) =
+    (refused : ℕ) × (end : State) × SessionThrough on_disk options old new refused end × IsTrue options.save
+    × SavesPart on_disk old.out new.out (bytes_of end.volume) fault

@@ -1,5 +1,6 @@
 // Answers the lines of a session.
-ghost use Rattle.std.specs.Prelude.{◌≡◌, ℕ, List};
+ghost use Rattle.std.specs.Prelude.{◌≡◌, ℕ, List, IsTrue};
+ghost use Rattle.live_volume.specs.Held.{IsReadAs};
 ghost use Rattle.script_text.specs.Devices.{device_of};
 ghost use Rattle.script_text.specs.Held.{printed_of};
 ghost use Rattle.script_text.specs.Replies.{Printed};
@@ -33,9 +34,11 @@ pub(crate) fn answer_lines<S: Read, A: Write>(
     answers: &mut Sink<A>,
     stop: bool,
 ) -> SessionLines
-    ensures { AnswersTo bench.old.state bench.new.state stop
+    ensures lines { IsTrue bench.new.agreed → AnswersTo bench.old.state bench.new.state stop
         (device_of S.remaining script.old) (device_of S.remaining script.new)
         (device_of A.contents answers.old) (device_of A.contents answers.new) result }
+    ensures same { IsReadAs bench.old.state bench.new.state }
+    ensures agreed { IsTrue bench.new.agreed → IsTrue bench.old.agreed }
 {
     let mut ahead = ReadAhead::new();
     let mut line = HeldLine::new(alloc);
@@ -83,11 +86,13 @@ fn answer<A: Write>(
     out: &mut OutBuffer,
     answers: &mut Sink<A>,
 ) -> Result<Told, WriteFault>
-    ensures { (printed : Printed)
+    ensures line { IsTrue bench.new.agreed → (printed : Printed)
         × ((text : List ℕ) → Holds line.now text →
         SessionStep bench.old.state text printed bench.new.state)
         × IsWritten (device_of A.contents answers.old) (device_of A.contents answers.new)
         printed result }
+    ensures same { IsReadAs bench.old.state bench.new.state }
+    ensures agreed { IsTrue bench.new.agreed → IsTrue bench.old.agreed }
 {
     let reply = reply_to(alloc, bench, line);
     write_reply(out, answers, &reply, b"\n")
@@ -95,8 +100,10 @@ fn answer<A: Write>(
 
 // The reply to one line.
 fn reply_to(alloc: Global, bench: &mut Bench, line: &HeldLine) -> Reply
-    ensures { (text : List ℕ) → Holds line.now text →
+    ensures step { IsTrue bench.new.agreed → (text : List ℕ) → Holds line.now text →
         AnswerStep bench.old.state text (printed_of result) bench.new.state }
+    ensures same { IsReadAs bench.old.state bench.new.state }
+    ensures agreed { IsTrue bench.new.agreed → IsTrue bench.old.agreed }
 {
     match line.read() {
         LineRead::Text => run_line(alloc, bench, strip_return(line.bytes())),

@@ -27,5 +27,6 @@ mod whole_session;
 pub use crate::laws::{lines_are_edits, lines_from_scratch, reloads_as_saved, session_is_run};
 pub use crate::options::Options;
 pub use crate::run_end::RunEnd;
-pub use crate::whole_run::run;
-pub use crate::whole_session::session;
+pub use crate::whole_run::{load_on_disk, refuse_load, run, run_loaded};
+pub use crate::whole_session::{session, session_loaded};
+pub use bench_core::Bench;

@@ -1,5 +1,6 @@
 // Runs the lines of a script over a volume.
-ghost use Rattle.std.specs.Prelude.{◌≡◌, ◌≤◌, ◌++◌, ℕ, length, MatchResult};
+ghost use Rattle.std.specs.Prelude.{◌≡◌, ◌≤◌, ◌++◌, ℕ, length, IsTrue, MatchResult};
+ghost use Rattle.live_volume.specs.Held.{IsReadAs};
 ghost use Rattle.script_text.specs.Devices.{device_of};
 ghost use Rattle.script_run.specs.Telling.{IsWritten};
 ghost use Rattle.script_text.specs.Held.{printed_of};
@@ -28,9 +29,12 @@ pub(crate) fn run_lines<A: Write>(
     notes: &mut Notes,
 ) -> LinesEnd
     requires { length script.now ≤ 16777216 }
-    ensures { RunsLines bench.old.state bench.new.state script.now stop
+    ensures lines { IsTrue bench.new.agreed →
+        RunsLines bench.old.state bench.new.state script.now stop
         (device_of A.contents answers.old)
         (device_of A.contents answers.new) result }
+    ensures same { IsReadAs bench.old.state bench.new.state }
+    ensures agreed { IsTrue bench.new.agreed → IsTrue bench.old.agreed }
 {
     let mut lines = Lines::new(script);
     let mut out = OutBuffer::new();
@@ -69,10 +73,13 @@ fn answer_line<A: Write>(
     number: u64,
     notes: &mut Notes,
 ) -> Result<Told, WriteFault>
-    ensures { let old = device_of A.contents answers.old in
+    ensures line { let old = device_of A.contents answers.old in
         let new = device_of A.contents answers.new in
-        (printed : Printed) × LineStep bench.old.state line.now printed bench.new.state
+        IsTrue bench.new.agreed → (printed : Printed)
+        × LineStep bench.old.state line.now printed bench.new.state
         × IsWritten old new printed result }
+    ensures same { IsReadAs bench.old.state bench.new.state }
+    ensures agreed { IsTrue bench.new.agreed → IsTrue bench.old.agreed }
 {
     let reply = run_line(alloc, bench, line);
     if let Some(fault) = fault_of(&reply) {
@@ -83,7 +90,10 @@ fn answer_line<A: Write>(
 
 /// Runs one line.
 pub(crate) fn run_line(alloc: Global, bench: &mut Bench, line: &[u8]) -> Reply
-    ensures { LineStep bench.old.state line.now (printed_of result) bench.new.state }
+    ensures step { IsTrue bench.new.agreed →
+        LineStep bench.old.state line.now (printed_of result) bench.new.state }
+    ensures same { IsReadAs bench.old.state bench.new.state }
+    ensures agreed { IsTrue bench.new.agreed → IsTrue bench.old.agreed }
 {
     match parse_line(alloc, line) {
         Ok(None) => Reply::Silent,
@@ -93,7 +103,10 @@ pub(crate) fn run_line(alloc: Global, bench: &mut Bench, line: &[u8]) -> Reply
 }
 
 fn run_command(alloc: Global, bench: &mut Bench, command: &Command) -> Reply
-    ensures { CommandStep bench.old.state command.now (printed_of result) bench.new.state }
+    ensures step { IsTrue bench.new.agreed →
+        CommandStep bench.old.state command.now (printed_of result) bench.new.state }
+    ensures same { IsReadAs bench.old.state bench.new.state }
+    ensures agreed { IsTrue bench.new.agreed → IsTrue bench.old.agreed }
 {
     match command {
         Command::Apply(edit) => Reply::Edited(bench.apply(alloc, edit)),

@@ -1,9 +1,15 @@
 // Runs a script over a volume.
-ghost use Rattle.std.specs.Prelude.{IfOk, IfErr, MatchResult};
+ghost use Rattle.std.specs.Prelude.{◌≡◌, length, true, false, IsTrue, IfOk, IfErr, MatchResult};
+ghost use Rattle.live_volume.specs.Held.{IsReadAs};
+ghost use Rattle.field_map.specs.Binding.{geometry_at_load};
+ghost use Rattle.frame_cut.specs.Cuts.{IsCut};
 ghost use Rattle.frame_cut.specs.Volume.{bytes_of};
-ghost use Rattle.script_text.specs.Devices.{Device, device_of, Takes, TakesPart};
+ghost use Rattle.edit_overlay.specs.PassedFile.{IsPassFault};
+ghost use Rattle.script_text.specs.RefusalTexts.{load_refusal_line};
+ghost use Rattle.script_run.specs.declared.run_end.RunEnd.TheVariants as ends;
+ghost use Rattle.script_text.specs.Devices.{Device, device_of, Takes};
 ghost use Rattle.script_run.specs.Loading.{Loads, IsLoadRefused};
-ghost use Rattle.script_run.specs.Ends.{devices, IsTold, Runs};
+ghost use Rattle.script_run.specs.Ends.{devices, IsTold, Runs, SavesPart};
 
 use crate::lines_end::LinesEnd;
 use crate::options::Options;
@@ -18,6 +24,7 @@ use frame_cut::LoadFault;
 use script_hints::Notes;
 use script_text::{TextBuffer, load_fault_line, script_fault_line, write_text};
 use std::alloc::Global;
+use std::fs::File;
 use std::io::{Read, Write};
 
 /// Runs a script over a volume: loads the volume, reads the script whole, runs its lines in order,
@@ -38,7 +45,7 @@ pub fn run<R: Read, S: Read, A: Write, O: Write>(
     options: Options,
     notes: &mut Notes,
 ) -> RunEnd
-    ensures { Runs options
+    ensures { Runs false options
         (devices (device_of R.remaining reader.old)
         (device_of S.remaining script.old)
         (device_of A.contents answers.old) (device_of O.contents out.old))
@@ -48,15 +55,21 @@ pub fn run<R: Read, S: Read, A: Write, O: Write>(
         result }
 {
     match load(alloc, reader, options) {
-        Ok(mut bench) => run_loaded(alloc, &mut bench, script, answers, out, options, notes),
+        Ok(mut bench) => {
+            let end = run_loaded(alloc, &mut bench, script, answers, out, options, notes);
+            // The law by which each read of bytes in memory agrees, for the proof.
+            bench.memory_agrees();
+            end
+        }
         Err(fault) => tell(answers, &load_fault_line(fault), RunEnd::Load(fault)),
     }
 }
 
-// What follows the load: reads the script whole, runs its lines over the volume, and saves it where
-// that is asked for. The volume is borrowed here: the proof of a function that owns one grows with
-// each of its ends.
-fn run_loaded<S: Read, A: Write, O: Write>(
+/// What follows the load: reads the script whole, runs its lines over the volume, and saves it
+/// where that is asked for. The volume is lent, so that its end tells whether each read of the
+/// loaded bytes agreed: where the bytes stay on disk, that is what the claim on a run stands on.
+/// In memory it always is so.
+pub fn run_loaded<S: Read, A: Write, O: Write>(
     alloc: Global,
     bench: &mut Bench,
     script: &mut Source<S>,
@@ -65,14 +78,16 @@ fn run_loaded<S: Read, A: Write, O: Write>(
     options: Options,
     notes: &mut Notes,
 ) -> RunEnd
-    ensures { (before after : Device) →
-        Loads before after options.reading options.limits bench.old.state →
-        Runs options
+    ensures run { (before after : Device) →
+        Loads before after options.reading options.limits bench.old.state.on_disk
+        bench.old.state → IsTrue bench.new.agreed → Runs bench.old.state.on_disk options
         (devices before (device_of S.remaining script.old)
         (device_of A.contents answers.old) (device_of O.contents out.old))
         (devices after (device_of S.remaining script.new)
         (device_of A.contents answers.new) (device_of O.contents out.new))
         result }
+    ensures same { IsReadAs bench.old.state bench.new.state }
+    ensures agreed { IsTrue bench.new.agreed → IsTrue bench.old.agreed }
 {
     // The law by which each line is answered as from scratch, for the proof.
     steps_stay_cut();
@@ -97,7 +112,7 @@ pub(crate) fn load<R: Read>(
     options: Options,
 ) -> Result<Bench, LoadFault>
     ensures ok { IfOk result (λ bench. Loads (device_of R.remaining reader.old)
-        (device_of R.remaining reader.new) options.reading options.limits
+        (device_of R.remaining reader.new) options.reading options.limits false
         bench.state) }
     ensures err { IfErr result
         (λ fault. IsLoadRefused (device_of R.remaining reader.old)
@@ -106,11 +121,46 @@ pub(crate) fn load<R: Read>(
     Bench::load(alloc, reader, options.reading, options.limits)
 }
 
-pub(crate) fn save<O: Write>(bench: &Bench, out: &mut Sink<O>) -> Result<(), SaveFault>
-    ensures { let old = device_of O.contents out.old in
+/// Loads a file that stays on disk, and has so many bytes, in one pass over it. Takes memory.
+/// Refused: L01 where a read failed or the file has not so many bytes, L02 to L15 or L17 for the
+/// first reason that every file with the bytes that were read and so many gives, L16 where a growth
+/// was refused.
+pub fn load_on_disk(
+    alloc: Global,
+    file: File,
+    size: u64,
+    options: Options,
+) -> Result<Bench, LoadFault>
+    ensures cut { IfOk result (λ bench. IsCut (bytes_of bench.state.volume) options.reading
+        options.limits bench.state.volume) }
+    ensures size { IfOk result (λ bench. length (bytes_of bench.state.volume) ≡ size) }
+    ensures fields { IfOk result (λ bench. bench.state.fields ≡ geometry_at_load) }
+    ensures reading { IfOk result (λ bench. bench.state.reading ≡ options.reading) }
+    ensures limits { IfOk result (λ bench. bench.state.limits ≡ options.limits) }
+    ensures place { IfOk result (λ bench. bench.state.on_disk ≡ true) }
+    ensures agreed { IfOk result (λ bench. IsTrue bench.agreed) }
+    ensures refused { IfErr result (IsPassFault size options.reading options.limits) }
+{
+    Bench::load_on_disk(alloc, file, size, options.reading, options.limits)
+}
+
+/// Tells of a file that was not loaded, which ends the run.
+pub fn refuse_load<A: Write>(answers: &mut Sink<A>, fault: LoadFault) -> RunEnd
+    ensures { IsTold (device_of A.contents answers.old) (device_of A.contents answers.new)
+        (load_refusal_line fault) (ends.Load fault) result }
+{
+    tell(answers, &load_fault_line(fault), RunEnd::Load(fault))
+}
+
+pub(crate) fn save<O: Write>(bench: &mut Bench, out: &mut Sink<O>) -> Result<(), SaveFault>
+    ensures saved { let old = device_of O.contents out.old in
         let new = device_of O.contents out.new in
-        MatchResult result (λ _. Takes old new (bytes_of bench.now.state.volume))
-        (λ fault. TakesPart old new (bytes_of bench.now.state.volume) fault.written) }
+        IsTrue bench.new.agreed →
+        MatchResult result (λ _. Takes old new (bytes_of bench.old.state.volume))
+        (λ fault. SavesPart bench.old.state.on_disk old new (bytes_of bench.old.state.volume)
+        fault) }
+    ensures state { bench.new.state ≡ bench.old.state }
+    ensures agreed { IsTrue bench.new.agreed → IsTrue bench.old.agreed }
 {
     bench.save(out)
 }

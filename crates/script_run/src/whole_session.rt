@@ -1,5 +1,6 @@
 // A session over a volume: a line is read, answered, and only then the next one read.
-ghost use Rattle.std.specs.Prelude.{◌≡◌, ℕ, List};
+ghost use Rattle.std.specs.Prelude.{◌≡◌, false, IsTrue, ℕ, List};
+ghost use Rattle.live_volume.specs.Held.{IsReadAs};
 ghost use Rattle.script_text.specs.Devices.{Device, device_of};
 ghost use Rattle.script_run.specs.Ends.{devices};
 ghost use Rattle.script_run.specs.Loading.{Loads};
@@ -36,7 +37,7 @@ pub fn session<R: Read, S: Read, A: Write, O: Write>(
     out: &mut Sink<O>,
     options: Options,
 ) -> RunEnd
-    ensures { Session options
+    ensures { Session false options
         (devices (device_of R.remaining reader.old)
         (device_of S.remaining script.old)
         (device_of A.contents answers.old) (device_of O.contents out.old))
@@ -46,13 +47,19 @@ pub fn session<R: Read, S: Read, A: Write, O: Write>(
         result }
 {
     match load(alloc, reader, options) {
-        Ok(mut bench) => session_loaded(alloc, &mut bench, script, answers, out, options),
+        Ok(mut bench) => {
+            let end = session_loaded(alloc, &mut bench, script, answers, out, options);
+            // The law by which each read of bytes in memory agrees, for the proof.
+            bench.memory_agrees();
+            end
+        }
         Err(fault) => tell(answers, &load_fault_line(fault), RunEnd::Load(fault)),
     }
 }
 
-// What follows the load: answers the lines, and saves the volume where that is asked for.
-fn session_loaded<S: Read, A: Write, O: Write>(
+/// What follows the load: answers the lines, and saves the volume where that is asked for. The
+/// volume is lent, as to [`run_loaded`](crate::run_loaded).
+pub fn session_loaded<S: Read, A: Write, O: Write>(
     alloc: Global,
     bench: &mut Bench,
     script: &mut Source<S>,
@@ -60,14 +67,16 @@ fn session_loaded<S: Read, A: Write, O: Write>(
     out: &mut Sink<O>,
     options: Options,
 ) -> RunEnd
-    ensures { (before after : Device) →
-        Loads before after options.reading options.limits bench.old.state →
-        Session options
+    ensures session { (before after : Device) →
+        Loads before after options.reading options.limits bench.old.state.on_disk
+        bench.old.state → IsTrue bench.new.agreed → Session bench.old.state.on_disk options
         (devices before (device_of S.remaining script.old)
         (device_of A.contents answers.old) (device_of O.contents out.old))
         (devices after (device_of S.remaining script.new)
         (device_of A.contents answers.new) (device_of O.contents out.new))
         result }
+    ensures same { IsReadAs bench.old.state bench.new.state }
+    ensures agreed { IsTrue bench.new.agreed → IsTrue bench.old.agreed }
 {
     // The law by which each line is answered as from scratch, for the proof.
     steps_stay_cut();

@@ -3,6 +3,8 @@
 #![tactic(auto)]
 
 #[cfg(test)]
+mod disk_tests;
+#[cfg(test)]
 mod header_tests;
 #[cfg(test)]
 mod run_tests;

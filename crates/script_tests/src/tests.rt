@@ -381,7 +381,10 @@ fn tells_failed_writes(rt: HostRuntime) -> Result<(), Fail> {
             4332,
             99,
             100,
-            RunEnd::Save(SaveFault { written: 100 }),
+            RunEnd::Save(SaveFault {
+                written: 100,
+                read: None,
+            }),
             b"value 1\nvalue 1\n",
         ),
     ] {

@@ -19,7 +19,6 @@ use Rattle.field_map.specs.declared.map_fault.MapFault.{MapFault}
 use Rattle.field_map.specs.declared.map_fault.MapFault.TheVariants as map_faults
 use Rattle.field_map.specs.declared.place.Place.{Place}
 use Rattle.field_map.specs.Pairs.{Pairs, is_bound, bound, unbound}
-use Rattle.field_map.specs.HeaderNames.{header_names}
 use Rattle.field_map.specs.Binding.{is_name_character, is_name, begins_with_letter}
 use Rattle.frame_cut.specs.declared.file_head.Head.{Head}
 use Rattle.frame_cut.specs.Traces.{count_of, is_trace, trace_at}
@@ -338,6 +337,8 @@ plain_refusal refusals.TooManyTraces = refl
 plain_refusal refusals.OutOfMemory = refl
 plain_refusal refusals.NoValues = refl
 plain_refusal (refusals.ZeroDivisor p) = plain_words (word (codes "E13 zero divisor trace") refl (word (decimal p) (plain_decimal p) no_word))
+plain_refusal refusals.ReadFailed = refl
+plain_refusal refusals.FileChanged = refl
 
 plain_ask_fault : (fault : AskFault) → is_plain (ask_fault_text fault) ≡ true
 plain_ask_fault (ask_faults.NoTrace p count) = plain_no_trace p count
@@ -346,6 +347,8 @@ plain_ask_fault ask_faults.NoPlace = refl
 plain_ask_fault (ask_faults.NoSample k number) = plain_no_sample k number
 plain_ask_fault ask_faults.OutOfMemory = refl
 plain_ask_fault ask_faults.NoValues = refl
+plain_ask_fault ask_faults.ReadFailed = refl
+plain_ask_fault ask_faults.FileChanged = refl
 
 pub nothing_full : IsFullLines (nothing.text)
 nothing_full = record { lines = []; text_is = refl; full = refl }
@@ -363,4 +366,6 @@ reply_full (Err fault) h = refused_full (ask_fault_text fault) (plain_ask_fault 
 
 pub query_full : (s : State) (query : Query) (reply : Reply) → HasPlainNames s.fields → IsReply s query reply → IsFullLines (query_reply reply).text
 query_full s query reply h (inl is) = reply_full reply (subst PlainReply (sym is) (plain_answer s query h))
-query_full s query reply h (inr (is, memory, fine)) = subst (λ r. IsFullLines (query_reply r).text) (sym is) (reply_full (Err ask_faults.OutOfMemory) tt)
+query_full s query reply h (inr (inl (is, memory, fine))) = subst (λ r. IsFullLines (query_reply r).text) (sym is) (reply_full (Err ask_faults.OutOfMemory) tt)
+query_full s query (Ok a) h (inr (inr read)) = absurd read
+query_full s query (Err fault) h (inr (inr read)) = reply_full (Err fault) tt

@@ -91,6 +91,8 @@ refusal_text refusals.TooManyTraces = codes "E10 too many traces"
 refusal_text refusals.OutOfMemory = codes "E11 out of memory"
 refusal_text refusals.NoValues = codes "E12 samples have no value"
 refusal_text (refusals.ZeroDivisor p) = with_blanks (codes "E13 zero divisor trace" ∷ decimal p ∷ [])
+refusal_text refusals.ReadFailed = codes "E14 read failed"
+refusal_text refusals.FileChanged = codes "E15 file changed"
 
 -- what is printed for a refused query
 abbrev pub ask_fault_text : AskFault → List ℕ
@@ -100,6 +102,8 @@ ask_fault_text ask_faults.NoPlace = codes "E03 no place"
 ask_fault_text (ask_faults.NoSample k number) = no_sample k number
 ask_fault_text ask_faults.OutOfMemory = codes "E11 out of memory"
 ask_fault_text ask_faults.NoValues = codes "E12 samples have no value"
+ask_fault_text ask_faults.ReadFailed = codes "E14 read failed"
+ask_fault_text ask_faults.FileChanged = codes "E15 file changed"
 
 -- the line printed for an accepted edit
 abbrev pub accepted_line : List ℕ

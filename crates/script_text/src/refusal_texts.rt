@@ -74,6 +74,8 @@ pub(crate) fn refusal_line(refusal: Refusal) -> TextBuffer
         Refusal::OutOfMemory => line.push(b"E11 out of memory"),
         Refusal::NoValues => line.push(b"E12 samples have no value"),
         Refusal::ZeroDivisor(p) => line.push_numbered(b"E13 zero divisor trace ", p),
+        Refusal::ReadFailed => line.push(b"E14 read failed"),
+        Refusal::FileChanged => line.push(b"E15 file changed"),
     }
     line.push(b"\n");
     line
@@ -92,6 +94,8 @@ pub(crate) fn ask_fault_line(fault: AskFault) -> TextBuffer
         AskFault::NoSample(k, number) => push_no_sample(&mut line, k, number),
         AskFault::OutOfMemory => line.push(b"E11 out of memory"),
         AskFault::NoValues => line.push(b"E12 samples have no value"),
+        AskFault::ReadFailed => line.push(b"E14 read failed"),
+        AskFault::FileChanged => line.push(b"E15 file changed"),
     }
     line.push(b"\n");
     line

@@ -28,6 +28,10 @@ out_rule = record (new_rule (codes "out")) { long = Some (codes "out"); value_na
 abbrev pub in_place_rule : Rule
 in_place_rule = record (new_rule (codes "in-place")) { long = Some (codes "in-place"); action = Some SetTrue }
 
+-- the flag `--on-disk`
+abbrev pub on_disk_rule : Rule
+on_disk_rule = record (new_rule (codes "on-disk")) { long = Some (codes "on-disk"); action = Some SetTrue }
+
 -- the flag `--fixed`
 abbrev pub fixed_rule : Rule
 fixed_rule = record (new_rule (codes "fixed")) { long = Some (codes "fixed"); action = Some SetTrue }
@@ -61,9 +65,9 @@ quiet_rule = record (new_rule (codes "quiet")) { long = Some (codes "quiet"); ac
 abbrev pub titled : App
 titled = on_top (λ s. record s { has_version = true; args_override_self = true }) (new_app (codes "segywb"))
 
--- `segywb FILE [--script S] [--session] [--out O] [--in-place] [--fixed] [--opaque-samples] [--order O] [--max-bytes N] [--stop] [--quiet]`
+-- `segywb FILE [--script S] [--session] [--out O] [--in-place] [--on-disk] [--fixed] [--opaque-samples] [--order O] [--max-bytes N] [--stop] [--quiet]`
 unfoldable pub segywb : App
-segywb = with_rule (with_rule (with_rule (with_rule (with_rule (with_rule (with_rule (with_rule (with_rule (with_rule (with_rule titled file_rule) script_rule) out_rule) in_place_rule) fixed_rule) opaque_rule) order_rule) limit_rule) stop_rule) session_rule) quiet_rule
+segywb = with_rule (with_rule (with_rule (with_rule (with_rule (with_rule (with_rule (with_rule (with_rule (with_rule (with_rule (with_rule titled file_rule) script_rule) out_rule) in_place_rule) on_disk_rule) fixed_rule) opaque_rule) order_rule) limit_rule) stop_rule) session_rule) quiet_rule
 
 -- what clap matches for the words
 abbrev pub matched : List (List ℕ) → List Row
@@ -73,6 +77,10 @@ matched words = matches_of segywb words
 abbrev pub is_set : Option (List ℕ) → Bool
 is_set None = false
 is_set (Some text) = bytes_eq text (codes "true")
+
+-- the most bytes of a file, where no limit is named: 4 GiB in memory, and 1 TiB on disk
+abbrev pub usual_limit : Bool → ℕ
+usual_limit on_disk = if on_disk then 1099511627776 else 4294967296
 
 -- the limit is the number whose digits clap keeps for it, and there is none where it keeps none
 abbrev pub ReadsLimit : Option (List ℕ) → Option ℕ → Type 0

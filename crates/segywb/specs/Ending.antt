@@ -1,5 +1,5 @@
 -- How a run ends for the one who called the program.
-use Rattle.std.specs.Prelude.{◌≡◌, ℕ, nat_lt, if◌then◌else◌}
+use Rattle.std.specs.Prelude.{◌≡◌, ℕ, Bool, true, false, nat_lt, is_some, if◌then◌else◌}
 use Rattle.script_run.specs.declared.run_end.RunEnd.{RunEnd}
 use Rattle.script_run.specs.declared.run_end.RunEnd.TheVariants.{Done, Stopped, Load, Script, Answers, Save}
 use Rattle.segywb.specs.declared.ending.SaveEnd.{SaveEnd}
@@ -18,6 +18,7 @@ exit_status (Done refused) s.Saved = status_of_lines refused
 exit_status (Done refused) s.Failed = 4
 exit_status (Done refused) s.Unsettled = 4
 exit_status (Done refused) s.Stale = 4
+exit_status (Done refused) s.Doubtful = 4
 exit_status (Stopped line) ended = 1
 exit_status (Load fault) ended = 3
 exit_status (Script fault) ended = 4
@@ -31,6 +32,12 @@ told_of_save s.Saved = t.Nothing
 told_of_save s.Failed = t.SaveFailed
 told_of_save s.Unsettled = t.SaveUnsettled
 told_of_save s.Stale = t.FileChanged
+told_of_save s.Doubtful = t.SaveDoubtful
+
+-- what standard error says of a save that a failed read of FILE ended, or a failed write
+abbrev pub told_of_failed : Bool → SaveEnd → Message
+told_of_failed true ended = t.FileUnread
+told_of_failed false ended = told_of_save ended
 
 -- what standard error says
 abbrev pub told : RunEnd → SaveEnd → Message
@@ -39,7 +46,7 @@ told (Stopped line) ended = t.Nothing
 told (Load fault) ended = t.Nothing
 told (Script fault) ended = t.Nothing
 told (Answers written) ended = t.AnswersFailed
-told (Save fault) ended = told_of_save ended
+told (Save fault) ended = told_of_failed (is_some fault.read) ended
 
 -- the exit status is that of some end of the save
 abbrev pub IsExitStatus : RunEnd → ℕ → Type 0

@@ -54,6 +54,7 @@ fn command<'a>(alloc: Global) -> Result<Command<'a>, AllocError>
         .arg(args::script(alloc))?
         .arg(args::out(alloc))?
         .arg(args::in_place(alloc))?
+        .arg(args::on_disk(alloc))?
         .arg(args::fixed(alloc))?
         .arg(args::opaque(alloc))?
         .arg(args::order(alloc))?
@@ -112,6 +113,8 @@ fn read_matches<'a>(matches: &ArgMatches<'a>, order: Option<Order>) -> Option<Ar
         (λ s. s.now) a.out) }
     ensures in_place { IfSome result
         (λ a. a.in_place ≡ is_set (first_value (found_of matches.now) (codes "in-place"))) }
+    ensures on_disk { IfSome result
+        (λ a. a.on_disk ≡ is_set (first_value (found_of matches.now) (codes "on-disk"))) }
     ensures limit { IfSome result
         (λ a. ReadsLimit (one_text (found_of matches.now) (codes "max-bytes")) a.max_bytes) }
     ensures range { IfSome result (λ a. IfSome a.max_bytes (λ n. (1 ≤ n) × (n ≤ 1099511627776))) }
@@ -131,6 +134,7 @@ fn read_matches<'a>(matches: &ArgMatches<'a>, order: Option<Order>) -> Option<Ar
     let script = matches.get_str("script");
     let out = matches.get_str("out");
     let in_place = is_set(matches, "in-place");
+    let on_disk = is_set(matches, "on-disk");
     let max_bytes = max_bytes(matches)?;
     let fixed = is_set(matches, "fixed");
     let opaque = is_set(matches, "opaque-samples");
@@ -142,6 +146,7 @@ fn read_matches<'a>(matches: &ArgMatches<'a>, order: Option<Order>) -> Option<Ar
         script,
         out,
         in_place,
+        on_disk,
         max_bytes,
         fixed,
         opaque,
@@ -153,10 +158,10 @@ fn read_matches<'a>(matches: &ArgMatches<'a>, order: Option<Order>) -> Option<Ar
 }
 
 /// What the words of a command line say, the program's name first: `FILE --script S [--out O]
-/// [--in-place] [--fixed] [--opaque-samples] [--order big|little] [--max-bytes N] [--stop]
-/// [--quiet]`, N from 1 to 1099511627776; an option may stand more than once, and the last one
-/// counts. Refused with clap's text where they are not accepted, `--help` too, or where a growth
-/// was refused. Takes memory.
+/// [--in-place] [--on-disk] [--fixed] [--opaque-samples] [--order big|little] [--max-bytes N]
+/// [--stop] [--quiet]`, N from 1 to 1099511627776; an option may stand more than once, and the last
+/// one counts. Refused with clap's text where they are not accepted, `--help` too, or where a
+/// growth was refused. Takes memory.
 pub fn arguments<'a>(alloc: Global, words: &'a [String]) -> Result<Arguments<'a>, Error>
     ensures file { IfOk result (λ a. first_of (codes "FILE") (matched (map string_bytes words.now))
         ≡ Some a.file.now) }
@@ -168,6 +173,9 @@ pub fn arguments<'a>(alloc: Global, words: &'a [String]) -> Result<Arguments<'a>
     ensures in_place { IfOk result
         (λ a. a.in_place
         ≡ is_set (first_of (codes "in-place") (matched (map string_bytes words.now)))) }
+    ensures on_disk { IfOk result
+        (λ a. a.on_disk
+        ≡ is_set (first_of (codes "on-disk") (matched (map string_bytes words.now)))) }
     ensures limit { IfOk result
         (λ a. ReadsLimit (one_of (codes "max-bytes") (matched (map string_bytes words.now)))
         a.max_bytes) }

@@ -28,12 +28,24 @@ where
     ensures { IsExitStatus end result }
 {
     let (save, error, is_beside) = end_of_save(end, writer, mode, arguments.out.is_some());
+    // Beside OUT it was seen before the rename; over OUT itself the copy has been made by now.
+    let is_copied = arguments.on_disk && !is_beside && save == SaveEnd::Saved;
+    let save = if is_copied && original.is_some_and(|original| original.is_changed(rt)) {
+        SaveEnd::Doubtful
+    } else {
+        save
+    };
     if !arguments.quiet {
         tell_refused(rt, arguments, end, save, notes);
     }
-    tell(rt, arguments, told(end, save), error, is_beside);
-    if save == SaveEnd::NotBegun && original.is_some_and(|original| original.is_changed(rt)) {
-        let then = "the answers may be those of a file that never was";
+    let message = told(end, save);
+    tell(rt, arguments, message, error, is_beside);
+    let then = match message {
+        Message::FileUnread => "look at it, and run the script again",
+        _ => "the answers may be those of a file that never was",
+    };
+    let is_open = save == SaveEnd::NotBegun || message == Message::FileUnread;
+    if is_open && original.is_some_and(|original| original.is_changed(rt)) {
         changed(rt, arguments.file, then);
     }
     exit_status(end, save)
@@ -55,11 +67,18 @@ fn tell<R: Eprint>(
         (Message::SaveFailed, Some(SaveError::NotSaved(fault))) => {
             save_failed(rt, out, &fault, is_beside);
         }
+        (Message::FileUnread, Some(SaveError::NotSaved(fault))) => {
+            file_unread(rt, arguments.file, out, &fault, is_beside);
+        }
         (Message::SaveUnsettled, Some(SaveError::NotSettled(error))) => {
             let _ = eprintln!(rt; "segywb: saved, but a power cut may undo it");
             let _ = eprintln!(rt;
                 "segywb: {out}: its folder did not reach the disk ({error}); run sync"
             );
+        }
+        (Message::SaveDoubtful, _) => {
+            let then = "what was saved may be of two files; look at it, and run the script again";
+            changed(rt, arguments.file, then);
         }
         (Message::FileChanged, _) => {
             let then = "nothing is saved; look at it, and run the script again";
@@ -136,13 +155,32 @@ fn save_failed<R: Eprint>(rt: &R, out: &str, fault: &Fault, is_beside: bool) {
     } else {
         "it took a part of the file; save elsewhere"
     };
-    let left = if fault.left {
+    let left = left_beside(fault);
+    let _ = eprintln!(rt; "segywb: save failed after {taken} bytes");
+    let _ = eprintln!(rt; "segywb: {out}: {what} ({error}): {then}{left}");
+}
+
+// Tells of a save that ended where FILE could not be read again.
+fn file_unread<R: Eprint>(rt: &R, file: &str, out: &str, fault: &Fault, is_beside: bool) {
+    let taken = fault.taken;
+    // OUT itself is opened at the first write.
+    let then = if is_beside || taken == 0 {
+        "is as it was"
+    } else {
+        "took a part of the file"
+    };
+    let left = left_beside(fault);
+    let _ = eprintln!(rt; "segywb: save failed after {taken} bytes");
+    let _ = eprintln!(rt; "segywb: {file}: cannot be read again: {out} {then}{left}");
+}
+
+// That the new file may still be there.
+fn left_beside(fault: &Fault) -> &'static str {
+    if fault.left {
         "; a file beside it, whose name begins with a dot, may be left, and can be deleted"
     } else {
         ""
-    };
-    let _ = eprintln!(rt; "segywb: save failed after {taken} bytes");
-    let _ = eprintln!(rt; "segywb: {out}: {what} ({error}): {then}{left}");
+    }
 }
 
 // What failed of a save beside OUT.

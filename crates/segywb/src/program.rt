@@ -1,5 +1,6 @@
 // From the command line to the exit status.
 ghost use Rattle.std.specs.Prelude.{◌≡◌, ◌≤◌, IfSome, is_some, unwrap_or};
+ghost use Rattle.segywb.specs.CommandLine.{usual_limit};
 
 use crate::command_line::{Arguments, arguments};
 use crate::finish::{finish, refused_out};
@@ -10,8 +11,10 @@ use device_io::{Sink, Source};
 use frame_cut::{Limits, Reading};
 use safe_save::{Original, Save};
 use script_hints::Notes;
-use script_run::{Options, RunEnd, run, session};
-use std::fs::OpenFile;
+use script_run::{
+    Bench, Options, RunEnd, load_on_disk, refuse_load, run, run_loaded, session, session_loaded,
+};
+use std::fs::{File, OpenFile};
 use std::io::{BufWriter, Write};
 use std::os::fd::AsFd;
 use std::rt::{Env, Files};
@@ -19,6 +22,8 @@ use std::{env, fs, io};
 
 // The most bytes of a file, where the command line names no other number.
 const DEFAULT_LIMIT: u64 = 4294967296;
+
+const DEFAULT_LIMIT_ON_DISK: u64 = 1099511627776;
 
 // Short pieces of the save are written together, so many bytes at once; a piece of as many or more
 // goes by itself.
@@ -35,9 +40,18 @@ enum Lines<F> {
     Session,
 }
 
+// The file that is loaded.
+#[derive(Drop)]
+enum Volume<F> {
+    // Its bytes go into memory.
+    Memory(Source<F>),
+    // They stay on disk: so many of them.
+    Disk(F, u64),
+}
+
 // Reads the command line and runs the script. Whether standard input is a terminal decides what is
 // told where the command line asks for neither a script nor a session.
-pub fn status_of<R: Files + Env + AllocGlobal + Print + Eprint + Input>(
+pub fn status_of<R: Files<File = File> + Env + AllocGlobal + Print + Eprint + Input>(
     rt: &R,
     is_typed: bool,
 ) -> u8
@@ -72,7 +86,7 @@ fn words<R: Env + AllocGlobal>(rt: &R) -> io::Result<Vec<String>> {
 }
 
 // Opens the file, then the script, then the folder of the save, and runs the script or the session.
-fn open_and_run<R: Files + AllocGlobal + Print + Eprint + Input>(
+fn open_and_run<R: Files<File = File> + AllocGlobal + Print + Eprint + Input>(
     rt: &R,
     arguments: &Arguments,
 ) -> u8
@@ -93,13 +107,22 @@ where
         Ok(about) => (Original::new(file, &about), about.len()),
         Err(_) => (None, 0),
     };
+    // What is no regular file, as a pipe, gives its bytes but once.
+    if arguments.on_disk && original.is_none() {
+        let _ = eprintln!(rt; "segywb: --on-disk needs a file on disk, and {file} is none");
+        return 3;
+    }
     let lines = match lines_of(rt, arguments) {
         Ok(lines) => lines,
         Err(status) => return status,
     };
     match target_of(rt, arguments, original) {
         Ok(target) => {
-            let volume = Source::expecting(volume, bytes);
+            let volume = if arguments.on_disk {
+                Volume::Disk(volume, bytes)
+            } else {
+                Volume::Memory(Source::expecting(volume, bytes))
+            };
             run_to(rt, arguments, original, volume, lines, target)
         }
         Err(refusal) => refused_out(rt, arguments.out.unwrap_or(""), &refusal),
@@ -126,11 +149,11 @@ fn lines_of<R: Files + Eprint>(
 }
 
 // Runs the script over the file, or a session where there is none, and saves to the target.
-fn run_to<'a, R: Files + AllocGlobal + Print + Eprint + Input>(
+fn run_to<'a, R: Files<File = File> + AllocGlobal + Print + Eprint + Input>(
     rt: &'a R,
     arguments: &Arguments<'a>,
     original: Option<Original<'a>>,
-    mut volume: Source<R::File>,
+    volume: Volume<R::File>,
     lines: Lines<R::File>,
     target: Target<'a, R>,
 ) -> u8
@@ -146,14 +169,13 @@ where
     };
     let mut out = Sink::new(out);
     let mut notes = Notes::new();
-    let end = answer(
-        rt,
-        &mut volume,
-        lines,
-        &mut out,
-        options(arguments),
-        &mut notes,
-    );
+    let options = options(arguments);
+    let end = match volume {
+        Volume::Memory(mut volume) => answer(rt, &mut volume, lines, &mut out, options, &mut notes),
+        Volume::Disk(volume, bytes) => {
+            answer_on_disk(rt, volume, bytes, lines, &mut out, options, &mut notes)
+        }
+    };
     finish(rt, arguments, original, end, out.into_inner(), mode, &notes)
 }
 
@@ -198,6 +220,64 @@ fn answer<R: Files + AllocGlobal + Print + Input, O: Write>(
     }
 }
 
+// The same over a file that stays on disk, which has so many bytes.
+fn answer_on_disk<R: Files<File = File> + AllocGlobal + Print + Input, O: Write>(
+    rt: &R,
+    volume: File,
+    bytes: u64,
+    lines: Lines<File>,
+    out: &mut Sink<O>,
+    options: Options,
+    notes: &mut Notes,
+) -> RunEnd {
+    let answers = &mut Sink::new(io::writer(rt));
+    match load_on_disk(rt.alloc(), volume, bytes, options) {
+        Ok(mut bench) => answer_over(rt, &mut bench, lines, answers, out, options, notes),
+        Err(fault) => refuse_load(answers, fault),
+    }
+}
+
+// Answers the lines over a volume that was loaded.
+fn answer_over<R: Files<File = File> + AllocGlobal + Input, A: Write, O: Write>(
+    rt: &R,
+    bench: &mut Bench,
+    lines: Lines<File>,
+    answers: &mut Sink<A>,
+    out: &mut Sink<O>,
+    options: Options,
+    notes: &mut Notes,
+) -> RunEnd {
+    let alloc = rt.alloc();
+    match lines {
+        Lines::File(file) => run_loaded(
+            alloc,
+            bench,
+            &mut Source::new(file),
+            answers,
+            out,
+            options,
+            notes,
+        ),
+        Lines::Standard => run_loaded(
+            alloc,
+            bench,
+            &mut Source::new(rt.reader()),
+            answers,
+            out,
+            options,
+            notes,
+        ),
+        Lines::Session => session_loaded(
+            alloc,
+            bench,
+            &mut Source::new(rt.reader()),
+            answers,
+            out,
+            options,
+        ),
+    }
+}
+
 // How the command line asks for the run.
 fn options(arguments: &Arguments) -> Options
     requires { IfSome arguments.now.max_bytes (λ n. n ≤ 1099511627776) }
@@ -206,7 +286,8 @@ fn options(arguments: &Arguments) -> Options
       opaque = arguments.now.opaque;
       order = arguments.now.order;
     } }
-    ensures bytes { result.limits.bytes ≡ unwrap_or arguments.now.max_bytes 4294967296 }
+    ensures bytes { result.limits.bytes
+        ≡ unwrap_or arguments.now.max_bytes (usual_limit arguments.now.on_disk) }
     ensures traces { result.limits.traces ≡ 4294967295 }
     ensures stop { result.stop ≡ arguments.now.stop }
     ensures save { result.save ≡ is_some arguments.now.out }
@@ -216,7 +297,12 @@ fn options(arguments: &Arguments) -> Options
         opaque: arguments.opaque,
         order: arguments.order,
     };
-    let limits = match Limits::new(arguments.max_bytes.unwrap_or(DEFAULT_LIMIT), u32::MAX) {
+    let usual = if arguments.on_disk {
+        DEFAULT_LIMIT_ON_DISK
+    } else {
+        DEFAULT_LIMIT
+    };
+    let limits = match Limits::new(arguments.max_bytes.unwrap_or(usual), u32::MAX) {
         Some(limits) => limits,
         None => unreachable!(),
     };

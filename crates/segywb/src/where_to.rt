@@ -42,6 +42,9 @@ pub fn misuse<R: Files>(rt: &R, arguments: &Arguments) -> Option<&'static str> {
     {
         return Some("--out names SCRIPT itself");
     }
+    if arguments.on_disk && arguments.in_place && leads_to(rt, arguments.file, &there) {
+        return Some("--in-place over FILE itself needs its bytes in memory: leave out --on-disk");
+    }
     if leads_to(rt, "/dev/stdout", &there) {
         return Some("--out names the file that the answers go to");
     }

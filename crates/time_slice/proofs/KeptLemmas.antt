@@ -1,5 +1,5 @@
 -- What is kept, as the calls of the cache under it say it.
-use Rattle.std.specs.Prelude.{◌≡◌, ℕ, ℤ, ◌-◌, ◌<◌, ◌≤◌, ◌==◌, ◌||◌, nat_eq, not, Bool, true, false, cond, IsTrue, IsFalse, List, [], ◌∷◌, All, take, filter, length, Some, None, is_some, refl}
+use Rattle.std.specs.Prelude.{◌≡◌, ℕ, ℤ, ◌-◌, ◌<◌, ◌≤◌, ◌==◌, ◌||◌, nat_eq, not, Bool, true, false, cond, IsTrue, IsFalse, List, [], ◌∷◌, All, map, take, filter, length, pos, Option, MatchOption, Some, None, is_some, refl}
 use Rattle.std.specs.List.{AllByRecursion, IsDistinct}
 use Rattle.std.specs.Map.{keys_of, lookup, lookup_entry, remove_entry}
 use Rattle.std.proofs.Common.{ap, sym, ◌∙◌, arith, subst, suc}
@@ -9,7 +9,7 @@ use Rattle.std.proofs.lemmas.List.Elements.{All-head, All-tail}
 use Rattle.std.proofs.lemmas.Map.Keys.{IsDistinct-head, IsDistinct-tail}
 use Rattle.lru.specs.LruCache.{LruCache, lru_cache, promoted, put_entries}
 use Rattle.time_slice.specs.declared.row.Row.{Row}
-use Rattle.time_slice.specs.Cache.{Cache, KeptSlices, kept_of, kept_rows, keeps, after_slice}
+use Rattle.time_slice.specs.Cache.{Cache, KeptSlices, IsAsked, kept_of, kept_rows, keeps, after_slice}
 
 -- a key is compared from either side
 pub flip : (a b : ℕ) → nat_eq a b ≡ (b == a)
@@ -47,6 +47,50 @@ right_found f k (e ∷ es) all kept = by (e.0 == k) refl (right_found f k es (Al
     by : (b : Bool) → (e.0 == k) ≡ b → (IsTrue (keeps k es) → kept_rows k es ≡ Some (f k)) → (b || keeps k es) ≡ true → cond b (Some e.1) (kept_rows k es) ≡ Some (f k)
     by true same rest kept = ap Some (All-head (λ e. e.1 ≡ f e.0) e es all ∙ ap f (eqb-true e.0 k same))
     by false other rest kept = rest kept
+
+-- ---- what is kept is kept of some rows
+
+-- rows of which this is kept, at inline and crossline 0
+abbrev rows_for : List (ℕ × ℤ) → List Row
+rows_for kept = map (λ (e : ℕ × ℤ). let r : Row = record { inline = pos 0; crossline = pos 0; position = e.0; value = e.1 } in r) kept
+
+kept_for : (kept : List (ℕ × ℤ)) → kept_of (rows_for kept) ≡ kept
+kept_for [] = refl
+kept_for (e ∷ kept) = ap (λ (l : List (ℕ × ℤ)). e ∷ l) (kept_for kept)
+
+-- slice k is kept of these rows
+pub record IsKeptOf (k : ℕ) (es : Cache) : Type 0 where
+  pub rows : List Row
+  pub is : kept_rows k es ≡ Some (kept_of rows)
+
+told_kept : (k : ℕ) (es : Cache) → is_some (kept_rows k es) ≡ keeps k es
+told_kept k es = ap is_some (sym (found k es)) ∙ is_kept k es
+
+pub kept_of_some : (k : ℕ) (es : Cache) → IsTrue (keeps k es) → IsKeptOf k es
+kept_of_some k es kept = by (kept_rows k es) refl (told_kept k es ∙ kept)
+  where
+    by : (o : Option (List (ℕ × ℤ))) → kept_rows k es ≡ o → is_some o ≡ true → IsKeptOf k es
+    by None found_so told = absurd cc
+    by (Some l) found_so told =
+        record { rows = rows_for l; is = found_so ∙ ap Some (sym (kept_for l)) }
+
+-- nothing is kept of a slice that is not
+not_kept : (k : ℕ) (es : Cache) → IsFalse (keeps k es) → kept_rows k es ≡ None
+not_kept k es new = by (kept_rows k es) refl (told_kept k es ∙ new)
+  where
+    by : (o : Option (List (ℕ × ℤ))) → kept_rows k es ≡ o → is_some o ≡ false → kept_rows k es ≡ None
+    by None found_so told = found_so
+    by (Some l) found_so told = absurd cc
+
+-- a slice that was kept is asked for
+pub asked_again : (old new : KeptSlices) (k : ℕ) (answer : List Row) (i : IsKeptOf k old.entries) → new ≡ after_slice old k i.rows → IsAsked old new k answer
+asked_again old new k answer i after =
+    record { rows = i.rows; same = subst (λ (o : Option (List (ℕ × ℤ))). MatchOption o (i.rows ≡ answer) (λ e. kept_of i.rows ≡ e)) (sym i.is) refl; kept = after }
+
+-- and one that was not
+pub asked_first : (old new : KeptSlices) (k : ℕ) (answer : List Row) → IsFalse (keeps k old.entries) → new ≡ after_slice old k answer → IsAsked old new k answer
+asked_first old new k answer free after =
+    record { rows = answer; same = subst (λ (o : Option (List (ℕ × ℤ))). MatchOption o (answer ≡ answer) (λ e. kept_of answer ≡ e)) (sym (not_kept k old.entries free)) refl; kept = after }
 
 -- ---- without one number
 

@@ -1,6 +1,7 @@
 -- The pass that makes the rows, and the slice that records give.
-use Rattle.std.specs.Prelude.{◌≡◌, ℕ, ℤ, ◌+◌, ◌*◌, ◌-◌, ◌<◌, ◌≤◌, IsTrue, List, [], ◌∷◌, ◌++◌, All, map, take, slice_range, Option, Some, None, option_map, IfSome, refl, length}
-use Rattle.std.proofs.Common.{arith, sym, ap, ◌∙◌, append_assoc, append-nil, drop, drop-drop}
+use Rattle.std.specs.Prelude.{◌≡◌, ℕ, ℤ, ◌+◌, ◌*◌, ◌-◌, ◌<◌, ◌≤◌, IsTrue, List, [], ◌∷◌, ◌++◌, All, map, take, slice_get, slice_range, Option, Some, None, option_map, IfSome, refl, length}
+use Rattle.std.proofs.Common.{arith, sym, ap, ◌∙◌, zero, suc, add-one, append_assoc, append-nil, drop, drop-drop, get_or}
+use Rattle.std.proofs.Math.Seq.{drop-nil}
 use Rattle.std.proofs.lemmas.Bool.{lt-ltb}
 use Rattle.std.proofs.lemmas.List.Elements.{All-nil, All-cons, All-append, All-same}
 use Rattle.std.specs.List.{zip}
@@ -16,7 +17,6 @@ use Rattle.trace_record.specs.Facts.{Facts, facts_of}
 use Rattle.trace_record.specs.OfTrace.{record_of}
 use Rattle.trace_record.specs.Packed.{record_in}
 use Rattle.trace_record.specs.declared.packed_record.PackedRecord.{PackedRecord}
-use Rattle.trace_store.specs.Shown.{ShownTrace, shown_each}
 use Rattle.time_slice.specs.declared.row.Row.{Row}
 use Rattle.time_slice.specs.Fitting.{value_fits}
 use Rattle.time_slice.specs.Laws.{RowsAreOfTraces}
@@ -46,42 +46,43 @@ fits_more f old new p facts s grew fits all = All-same (λ r. IsTrue (value_fits
     by None fits = All-nil (λ r. IsTrue (value_fits f r.value))
     by (Some v) fits = All-cons (λ r. IsTrue (value_fits f r.value)) (record { inline = facts.inline; crossline = facts.crossline; position = p; value = v }) [] fits (All-nil (λ r. IsTrue (value_fits f r.value)))
 
--- the facts and sample k of a trace that is shown with its record
-abbrev pub sampled : ℕ → ShownTrace × PackedRecord → Facts × Option ℤ
-sampled k r = (facts_of (record_in r.1), sample_of r.0.head r.0.bytes k)
+-- the facts and samples that are left of those of all traces: the next trace's, and those behind it
+left_at : (h : Head) (k i : ℕ) (ps : List PackedRecord) (ts : List (List ℕ)) (packed : PackedRecord) → slice_get ps i ≡ Some packed → i < length ts
+    → drop i (with_sample_of h k (map record_in ps) ts) ≡ (facts_of (record_in packed), sample_of h (get_or ts i []) k) ∷ drop (suc i) (with_sample_of h k (map record_in ps) ts)
+left_at h k zero [] ts packed here there = absurd cc
+left_at h k (suc i) [] ts packed here there = absurd cc
+left_at h k i (p ∷ ps) [] packed here there = absurd (omega arith)
+left_at h k zero (p ∷ ps) (t ∷ ts) packed here there =
+    let same : p ≡ packed = cc in
+    ap (λ (q : PackedRecord). (facts_of (record_in q), sample_of h t k) ∷ with_sample_of h k (map record_in ps) ts) same
+left_at h k (suc i) (p ∷ ps) (t ∷ ts) packed here there = left_at h k i ps ts packed here (omega arith)
 
--- those of all traces that are shown
-pub sampled_each : (h : Head) (k : ℕ) (ts : List (List ℕ)) (ps : List PackedRecord) → map (sampled k) (zip (shown_each h ts) ps) ≡ with_sample_of h k (map record_in ps) ts
-sampled_each h k [] [] = refl
-sampled_each h k [] (p ∷ ps) = refl
-sampled_each h k (t ∷ ts) [] = refl
-sampled_each h k (t ∷ ts) (p ∷ ps) = ap (λ (l : List (Facts × Option ℤ)). (facts_of (record_in p), sample_of h t k) ∷ l) (sampled_each h k ts ps)
-
--- they are shown under one head
-pub shown_under_head : (h : Head) (ts : List (List ℕ)) (ps : List PackedRecord) → All (λ (r : ShownTrace × PackedRecord). r.0.head ≡ h) (zip (shown_each h ts) ps)
-shown_under_head h [] ps = All-nil (λ (r : ShownTrace × PackedRecord). r.0.head ≡ h)
-shown_under_head h (t ∷ ts) [] = All-nil (λ (r : ShownTrace × PackedRecord). r.0.head ≡ h)
-shown_under_head h (t ∷ ts) (p ∷ ps) = All-cons (λ (r : ShownTrace × PackedRecord). r.0.head ≡ h) (record { head = h; bytes = t }, p) (zip (shown_each h ts) ps) refl (shown_under_head h ts ps)
-
--- and are no more than the traces
-pub shown_at_most : (h : Head) (ts : List (List ℕ)) (ps : List PackedRecord) → length (zip (shown_each h ts) ps) ≤ length ts
-shown_at_most h [] ps = omega arith
-shown_at_most h (t ∷ ts) [] = omega arith
-shown_at_most h (t ∷ ts) (p ∷ ps) = omega (arith, shown_at_most h ts ps)
+-- none is left behind the last trace
+none_left : (h : Head) (k i : ℕ) (ps : List PackedRecord) (ts : List (List ℕ)) → length ts ≤ i → drop i (with_sample_of h k (map record_in ps) ts) ≡ []
+none_left h k i [] [] last = drop-nil i
+none_left h k i [] (t ∷ ts) last = drop-nil i
+none_left h k i (p ∷ ps) [] last = drop-nil i
+none_left h k zero (p ∷ ps) (t ∷ ts) last = absurd (omega arith)
+none_left h k (suc i) (p ∷ ps) (t ∷ ts) last = none_left h k i ps ts (omega arith)
 
 -- what is written and what is left are the whole, before and after one trace
-pub row_is_written : (k i : ℕ) (old new all : List Row) (r : ShownTrace × PackedRecord) (left rest : List (ShownTrace × PackedRecord)) → left ≡ r ∷ rest
-    → new ≡ old ++ row_of (i + 1) (facts_of (record_in r.1)) (sample_of r.0.head r.0.bytes k)
-    → old ++ rows_from (i + 1) (map (sampled k) left) ≡ all → new ++ rows_from (i + 1 + 1) (map (sampled k) rest) ≡ all
-row_is_written k i old new all r left rest is grew told =
-    ap (λ (rows : List Row). rows ++ rows_from (i + 1 + 1) (map (sampled k) rest)) grew
-    ∙ append_assoc old (row_of (i + 1) (facts_of (record_in r.1)) (sample_of r.0.head r.0.bytes k)) (rows_from (i + 1 + 1) (map (sampled k) rest))
-    ∙ ap (λ (l : List (ShownTrace × PackedRecord)). old ++ rows_from (i + 1) (map (sampled k) l)) (sym is)
+pub row_is_written : (h : Head) (k i : ℕ) (ps : List PackedRecord) (ts : List (List ℕ)) (packed : PackedRecord) (s : Option ℤ) (old new all : List Row)
+    → slice_get ps i ≡ Some packed → i < length ts → s ≡ sample_of h (get_or ts i []) k → new ≡ old ++ row_of (i + 1) (facts_of (record_in packed)) s
+    → old ++ rows_from (i + 1) (drop i (with_sample_of h k (map record_in ps) ts)) ≡ all → new ++ rows_from (i + 1 + 1) (drop (i + 1) (with_sample_of h k (map record_in ps) ts)) ≡ all
+row_is_written h k i ps ts packed s old new all here there is grew told =
+    let ws : List (Facts × Option ℤ) = with_sample_of h k (map record_in ps) ts in
+    let item : Facts × Option ℤ = (facts_of (record_in packed), sample_of h (get_or ts i []) k) in
+    let left : drop i ws ≡ item ∷ drop (i + 1) ws = left_at h k i ps ts packed here there ∙ ap (λ (n : ℕ). item ∷ drop n ws) (sym (add-one i)) in
+    ap (λ (rows : List Row). rows ++ rows_from (i + 1 + 1) (drop (i + 1) ws)) (grew ∙ ap (λ (o : Option ℤ). old ++ row_of (i + 1) (facts_of (record_in packed)) o) is)
+    ∙ append_assoc old (row_of (i + 1) item.0 item.1) (rows_from (i + 1 + 1) (drop (i + 1) ws))
+    ∙ ap (λ (l : List (Facts × Option ℤ)). old ++ rows_from (i + 1) l) (sym left)
     ∙ told
 
 -- where no trace is left, the whole is written
-pub all_written : (k i : ℕ) (rows all : List Row) (left : List (ShownTrace × PackedRecord)) → left ≡ [] → rows ++ rows_from (i + 1) (map (sampled k) left) ≡ all → rows ≡ all
-all_written k i rows all left none told = sym (append-nil rows) ∙ ap (λ (l : List (ShownTrace × PackedRecord)). rows ++ rows_from (i + 1) (map (sampled k) l)) (sym none) ∙ told
+pub all_written : (h : Head) (k i : ℕ) (ps : List PackedRecord) (ts : List (List ℕ)) (rows all : List Row) → length ts ≤ i
+    → rows ++ rows_from (i + 1) (drop i (with_sample_of h k (map record_in ps) ts)) ≡ all → rows ≡ all
+all_written h k i ps ts rows all last told =
+    sym (append-nil rows) ∙ ap (λ (l : List (Facts × Option ℤ)). rows ++ rows_from (i + 1) l) (sym (none_left h k i ps ts last)) ∙ told
 
 -- facts beside the samples of their own traces
 pub beside_own : (h : Head) (fields : Pairs) (k : ℕ) (traces : List (List ℕ)) → zip (map (record_of h fields) traces) (map (λ t. sample_of h t k) traces) ≡ with_sample h fields k traces

@@ -1,6 +1,6 @@
 -- The slices that are kept, at most as many as there is room for: each a sample number with what is kept of its rows, the last asked first.
 -- Inline and crossline of a row are those of its trace, so that its position and its sample are all that is kept of it.
-use Rattle.std.specs.Prelude.{◌≡◌, ℕ, ℤ, ◌+◌, ◌-◌, ◌==◌, ◌&&◌, nat_le, nat_lt, Bool, not, List, [], ◌∷◌, All, map, flat_map, take, filter, slice_get, Option, Some, refl}
+use Rattle.std.specs.Prelude.{◌≡◌, ℕ, ℤ, ◌+◌, ◌-◌, ◌==◌, ◌&&◌, nat_le, nat_lt, Bool, not, List, [], ◌∷◌, All, map, flat_map, take, filter, slice_get, Option, MatchOption, Some, refl}
 use Rattle.std.specs.Coded.{Coded, code_by, coded×, coded_list, coded_ℕ, coded_ℤ}
 use Rattle.std.specs.List.{list_any}
 use Rattle.std.specs.Map.{lookup}
@@ -90,6 +90,12 @@ none_kept room = record { entries = []; capacity = room }
 -- after slice k was asked for and answered with these rows
 abbrev pub after_slice : KeptSlices → ℕ → List Row → KeptSlices
 after_slice kept k rows = record { entries = cache_after_slice kept.capacity k rows kept.entries; capacity = kept.capacity }
+
+-- slice k comes first after it was asked for and answered with these rows: what was kept of it is, or where nothing was, the rows of the answer
+pub record IsAsked (old new : KeptSlices) (k : ℕ) (answer : List Row) : Type 0 where
+  pub rows : List Row
+  pub same : MatchOption (kept_rows k old.entries) (rows ≡ answer) (λ e. kept_of rows ≡ e)
+  pub kept : new ≡ after_slice old k rows
 
 -- after so many samples from k on changed
 abbrev pub after_change : KeptSlices → ℕ → ℕ → KeptSlices

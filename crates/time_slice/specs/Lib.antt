@@ -7,3 +7,4 @@ pub mod CacheExamples
 pub mod CacheLaws
 pub mod Shown
 pub mod Fitting
+pub mod Faults

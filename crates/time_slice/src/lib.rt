@@ -2,8 +2,13 @@
 //! position. Positions of traces count from 1, samples from 0. `rows` makes a slice of a volume
 //! under edits, beside whose traces their records stand. A `SliceCache` keeps the slices that were
 //! asked last, and answers them again without a look at the traces; who edits the volume has it
-//! forget those that change. Both take memory, and their only error is `OutOfMemory`. The calls
-//! that are named for a law do nothing: their contract is the law.
+//! forget those that change. Both take memory and look at traces. They may be refused for want of
+//! memory, or, where the bytes of the volume are on disk, because a trace could not be read
+//! (`SliceFault`). The calls that are named for a law do nothing: their contract is the law.
+//!
+//! The rows of a slice are claimed where each read since the load gave the bytes that the load read
+//! (`agreed`). That each sample is one of the format's, and which slices are kept, is claimed in
+//! any case.
 #![tactic(auto)]
 
 mod kept_rows;
@@ -14,6 +19,7 @@ mod record_walk;
 mod records_ahead;
 mod row;
 mod slice_cache;
+mod slice_fault;
 
 pub use crate::laws::{
     asked_stays_right, at_most_one_slice, forgotten_stays_right, numbers_after_asked,
@@ -23,3 +29,4 @@ pub use crate::of_volume::rows;
 pub use crate::out_of_memory::OutOfMemory;
 pub use crate::row::Row;
 pub use crate::slice_cache::SliceCache;
+pub use crate::slice_fault::SliceFault;

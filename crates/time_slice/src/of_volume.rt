@@ -1,17 +1,18 @@
-ghost use Rattle.std.specs.Prelude.{◌≡◌, ◌++◌, length, map, All, IfOk, IfSome, OnOk, IsTrue};
-ghost use Rattle.frame_cut.specs.Traces.{count_of};
+ghost use Rattle.std.specs.Prelude.{◌≡◌, ◌<◌, ◌++◌, length, map, All, IfOk, IfErr, IfSome, OnOk, IsTrue};
+ghost use Rattle.frame_cut.specs.Traces.{count_of, is_trace, trace_at};
 ghost use Rattle.sample_codes.specs.Formats.{integer_width, sample_value, sample_fits};
 ghost use Rattle.trace_view.specs.Shown.{head_of, bytes_of};
 ghost use Rattle.trace_view.specs.Values.{sample_of};
 ghost use Rattle.trace_record.specs.Facts.{facts_of};
 ghost use Rattle.trace_record.specs.Packed.{record_in};
-ghost use Rattle.edit_overlay.specs.CountedVolume.{RisesAtMost};
+ghost use Rattle.edit_overlay.specs.CountedVolume.{after_look, IsSeen};
+ghost use Rattle.time_slice.specs.Faults.{IsOfRead};
 ghost use Rattle.time_slice.specs.Fitting.{value_fits};
 ghost use Rattle.time_slice.specs.OfRecords.{with_sample_of};
 ghost use Rattle.time_slice.specs.Slices.{row_of, rows_from, slice_rows};
 
-use crate::{OutOfMemory, Row};
-use edit_overlay::Overlay;
+use crate::{OutOfMemory, Row, SliceFault};
+use edit_overlay::{Overlay, ReadFault};
 use field_map::TRACE_HEADER_BYTES;
 use frame_cut::Head;
 use num_order::Order;
@@ -20,25 +21,28 @@ use std::alloc::Global;
 use trace_record::{PackedRecord, Record};
 use trace_view::TraceView;
 
+// How many traces are brought nearer at once.
+const AHEAD: u32 = 32;
+
 /// Slice k, counted from 0: a row for each trace that has sample k, where samples have values, in
 /// rising order by inline, crossline and position. Inline and crossline are those of the record
 /// that stands beside the trace. One pass over them, with one look at each trace, which reads the
 /// one sample by its place; then the rows are sorted where they stand. Takes memory for a row for
-/// each trace; refused for want of it alone, and the volume stays as it is in any case.
+/// each trace; refused for want of it, or on disk where a trace could not be read. The volume stays
+/// as it is in any case.
 pub fn rows(
     alloc: Global,
     overlay: &mut Overlay<PackedRecord>,
     k: u32,
-) -> Result<Vec<Row>, OutOfMemory>
-    ensures rows { IfOk result (λ v. v.items ≡ slice_rows (with_sample_of
-        overlay.old.volume.head k (map record_in overlay.old.payloads)
+) -> Result<Vec<Row>, SliceFault>
+    ensures rows { IfOk result (λ v. IsTrue overlay.new.agreed → v.items ≡ slice_rows
+        (with_sample_of overlay.old.volume.head k (map record_in overlay.old.payloads)
         overlay.old.volume.traces)) }
     ensures fits { IfOk result (λ v.
         All (λ r. IsTrue (value_fits overlay.old.volume.head.format r.value)) v.items) }
-    ensures volume { overlay.new.volume ≡ overlay.old.volume }
-    ensures prepared { overlay.new.prepared ≡ overlay.old.prepared }
-    ensures payloads { overlay.new.payloads ≡ overlay.old.payloads }
-    ensures looks { RisesAtMost overlay.old.looks overlay.new.looks (count_of overlay.old.volume) }
+    ensures seen { IsSeen overlay.old overlay.new (count_of overlay.old.volume) }
+    ensures read { IfErr result (λ fault. IsOfRead fault → IsTrue overlay.old.on_disk
+        × (0 < count_of overlay.old.volume)) }
 {
     let mut rows = rows_in_place(alloc, overlay, k)?;
     rows.sort_unstable();
@@ -50,28 +54,48 @@ fn rows_in_place(
     alloc: Global,
     overlay: &mut Overlay<PackedRecord>,
     k: u32,
-) -> Result<Vec<Row>, OutOfMemory>
-    ensures rows { IfOk result (λ v. v.items ≡ rows_from 1 (with_sample_of
-        overlay.old.volume.head k (map record_in overlay.old.payloads)
+) -> Result<Vec<Row>, SliceFault>
+    ensures rows { IfOk result (λ v. IsTrue overlay.new.agreed → v.items ≡ rows_from 1
+        (with_sample_of overlay.old.volume.head k (map record_in overlay.old.payloads)
         overlay.old.volume.traces)) }
     ensures fits { IfOk result (λ v.
         All (λ r. IsTrue (value_fits overlay.old.volume.head.format r.value)) v.items) }
-    ensures volume { overlay.new.volume ≡ overlay.old.volume }
-    ensures prepared { overlay.new.prepared ≡ overlay.old.prepared }
-    ensures payloads { overlay.new.payloads ≡ overlay.old.payloads }
-    ensures looks { RisesAtMost overlay.old.looks overlay.new.looks (count_of overlay.old.volume) }
+    ensures seen { IsSeen overlay.old overlay.new (count_of overlay.old.volume) }
+    ensures read { IfErr result (λ fault. IsOfRead fault → IsTrue overlay.old.on_disk
+        × (0 < count_of overlay.old.volume)) }
 {
     // Room for all at once: a list that grows is copied again and again, each time to fresh memory.
     let count = overlay.count();
     let mut rows = Vec::with_capacity(alloc, count as usize)?;
-    let mut position = 0;
     let near = usual_place(overlay.head(), k);
-    for (trace, packed) in overlay.pass_near(near) {
-        position += 1;
-        let sample = sample_that_fits(&trace, k);
-        push_row(&mut rows, &packed.record(), position, sample)?;
+    for at in 0..count {
+        let p = at + 1;
+        if at % AHEAD == 0 {
+            overlay.read_ahead(p, near);
+        }
+        let packed = overlay.payload(p);
+        let sample = sample_in(overlay, p, k)?;
+        push_row(&mut rows, &packed.record(), p, sample)?;
     }
     Ok(rows)
+}
+
+// Sample k of trace p, where it has one. One look.
+#[inline]
+fn sample_in(overlay: &mut Overlay<PackedRecord>, p: u32, k: u32) -> Result<Option<i128>, ReadFault>
+    requires { IsTrue (is_trace overlay.old.volume p) }
+    ensures sample { IfOk result (λ sample. IsTrue overlay.new.agreed →
+        sample ≡ sample_of overlay.old.volume.head (trace_at overlay.old.volume p) k) }
+    ensures fits { IfOk result (λ sample.
+        IfSome sample (λ v. IsTrue (value_fits overlay.old.volume.head.format v))) }
+    ensures looked { overlay.new ≡ after_look overlay.old overlay.new.agreed }
+    ensures agreed { IsTrue overlay.new.agreed → IsTrue overlay.old.agreed }
+    ensures read { IfErr result (λ _. IsTrue overlay.old.on_disk) }
+{
+    let Some(trace) = overlay.look(p)? else {
+        unreachable!()
+    };
+    Ok(sample_that_fits(&trace, k))
 }
 
 // Where sample k stands in a trace that has as many header extensions as the file allows, counted

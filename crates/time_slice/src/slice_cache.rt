@@ -1,16 +1,17 @@
-ghost use Rattle.std.specs.Prelude.{◌≡◌, ◌≤◌, ◌∷◌, [], ◌++◌, ℕ, ℤ, List, if◌then◌else◌, length, map, All, Some, IfOk, OnOk, OnErr, IsTrue, IsFalse};
+ghost use Rattle.std.specs.Prelude.{◌≡◌, ◌<◌, ◌≤◌, ◌∷◌, [], ◌++◌, ℕ, ℤ, List, if◌then◌else◌, length, map, All, Some, IfOk, IfErr, OnOk, OnErr, IsTrue, IsFalse};
 ghost use Rattle.frame_cut.specs.Traces.{count_of};
 ghost use Rattle.trace_record.specs.Facts.{facts_of};
 ghost use Rattle.trace_record.specs.Packed.{record_in};
-ghost use Rattle.edit_overlay.specs.CountedVolume.{RisesAtMost};
+ghost use Rattle.edit_overlay.specs.CountedVolume.{IsSeen};
 ghost use Rattle.lru.specs.LruCache.{lru_cache};
+ghost use Rattle.time_slice.specs.Faults.{IsOfRead};
 ghost use Rattle.time_slice.specs.Fitting.{value_fits};
 ghost use Rattle.time_slice.specs.OfRecords.{with_sample_of};
 ghost use Rattle.time_slice.specs.Slices.{slice_rows};
-ghost use Rattle.time_slice.specs.Cache.{Cache, AreRightOf, keeps, kept_of, kept_rows, rows_again, is_from, cache_after_change, none_kept, after_slice, after_change};
+ghost use Rattle.time_slice.specs.Cache.{Cache, AreRightOf, IsAsked, keeps, kept_of, kept_rows, rows_again, is_from, cache_after_change, none_kept, after_slice, after_change};
 
 use crate::kept_rows::KeptRows;
-use crate::{OutOfMemory, Row, rows};
+use crate::{OutOfMemory, Row, SliceFault, rows};
 use edit_overlay::Overlay;
 use lru::LruCache;
 use record_table::Records;
@@ -62,31 +63,32 @@ impl SliceCache {
     /// Slice k, counted from 0, as [`rows`] gives it, which is kept then and comes first. A slice
     /// that is kept already is answered without a look, any other with one at each trace. Each kept
     /// slice is the one that the volume and the records beside its traces give. Takes memory for
-    /// the rows and for what is kept of them; refused for want of it alone, and then the same
-    /// slices are kept, in the same order. The volume stays as it is in any case.
+    /// the rows and for what is kept of them; refused for want of it, or on disk where a trace
+    /// could not be read, and then the same slices are kept, in the same order. The volume stays as
+    /// it is in any case.
     pub fn slice(
         &mut self,
         alloc: Global,
         overlay: &mut Overlay<PackedRecord>,
         k: u32,
-    ) -> Result<Vec<Row>, OutOfMemory>
-        requires { AreRightOf overlay.old.volume.head (map record_in overlay.old.payloads)
-            overlay.old.volume.traces self.old.entries }
-        ensures rows { IfOk result (λ v. v.items ≡ slice_rows (with_sample_of
-            overlay.old.volume.head k (map record_in overlay.old.payloads)
+    ) -> Result<Vec<Row>, SliceFault>
+        requires { IsTrue overlay.old.agreed → AreRightOf overlay.old.volume.head
+            (map record_in overlay.old.payloads) overlay.old.volume.traces self.old.entries }
+        ensures rows { IfOk result (λ v. IsTrue overlay.new.agreed → v.items ≡ slice_rows
+            (with_sample_of overlay.old.volume.head k (map record_in overlay.old.payloads)
             overlay.old.volume.traces)) }
-        ensures ok { OnOk result (self.new ≡ after_slice self.old k (slice_rows (with_sample_of
-            overlay.old.volume.head k (map record_in overlay.old.payloads)
-            overlay.old.volume.traces))) }
+        ensures ok { IfOk result (λ v. IsTrue overlay.new.agreed →
+            self.new ≡ after_slice self.old k v.items) }
+        ensures asked { IfOk result (λ v. IsAsked self.old self.new k v.items) }
         ensures err { OnErr result (self.new ≡ self.old) }
-        ensures volume { overlay.new.volume ≡ overlay.old.volume }
-        ensures prepared { overlay.new.prepared ≡ overlay.old.prepared }
-        ensures payloads { overlay.new.payloads ≡ overlay.old.payloads }
-        ensures looks { RisesAtMost overlay.old.looks overlay.new.looks
+        ensures seen { IsSeen overlay.old overlay.new
             (if keeps k self.old.entries then 0 else count_of overlay.old.volume) }
+        ensures read { IfErr result (λ fault. IsOfRead fault → IsTrue overlay.old.on_disk
+            × (0 < count_of overlay.old.volume) × IsFalse (keeps k self.old.entries)) }
     {
         if self.cached(k) {
-            return self.answer_kept(alloc, &Records::new(overlay.payloads()), k);
+            let kept = self.answer_kept(alloc, &Records::new(overlay.payloads()), k)?;
+            return Ok(kept);
         }
         let rows = rows(alloc, overlay, k)?;
         self.keep(alloc, k, rows.as_slice(), overlay.head().format)?;

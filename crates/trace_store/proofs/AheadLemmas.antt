@@ -2,6 +2,8 @@
 use Rattle.std.proofs.Common.{◌≡◌, ℕ, zero, suc, ◌+◌, ◌*◌, ◌/◌, ◌%◌, ◌<◌, ◌≤◌, List, [], ◌∷◌, length, drop, get_or, refl, sym, ap, ◌∙◌, subst, arith, Option, Some, None, Vec, Global}
 use Rattle.std.specs.Prelude.{slice_index_or, slice_set}
 use Rattle.std.proofs.lemmas.List.{length-map, length-set, get_or-set_same, get_or-set_other}
+use Rattle.base_file.specs.HeldBytes.{Standing, Falls, IsSure}
+use Rattle.base_file.proofs.HeldLemmas.{sure_before}
 use Rattle.frame_cut.specs.declared.file_head.Head.{Head}
 use Rattle.frame_cut.specs.Cuts.{IsTrace}
 use Rattle.frame_cut.specs.Parts.{put_each_at}
@@ -50,17 +52,17 @@ behind bases ts place j (runs ∷ lists) h =
     behind bases (slice_set ts place new) (place + 1) j lists (omega (arith, h)) ∙ get_or-set_other ts place j new [] (λ same. omega (arith, same, h))
 
 -- one of the lists
-pub runs-at : (h : Head) (bases : List (List ℕ)) (place j k : ℕ) (lists : List (Vec Run Global)) (runs : Vec Run Global) → AreRunsFrom h bases place lists → k < length lists → get_or lists k runs ≡ runs → j ≡ place + k → AreRunsOf h bases j runs.items
-runs-at h bases place j k [] runs all within is e = absurd (omega (arith, within))
-runs-at h bases place j zero (first ∷ lists) runs all within is e =
+pub runs-at : (standing : Standing) (h : Head) (bases : List (List ℕ)) (place j k : ℕ) (lists : List (Vec Run Global)) (runs : Vec Run Global) → AreRunsFrom standing h bases place lists → k < length lists → get_or lists k runs ≡ runs → j ≡ place + k → AreRunsOf standing h bases j runs.items
+runs-at standing h bases place j k [] runs all within is e = absurd (omega (arith, within))
+runs-at standing h bases place j zero (first ∷ lists) runs all within is e =
     let here : j ≡ place = omega (arith, e) in
-    subst (λ (v : Vec Run Global). AreRunsOf h bases j v.items) is (subst (λ (q : ℕ). AreRunsOf h bases q first.items) (sym here) all.0)
-runs-at h bases place j (suc k) (first ∷ lists) runs all within is e = runs-at h bases (place + 1) j k lists runs all.1 (omega (arith, within)) is (omega (arith, e))
+    subst (λ (v : Vec Run Global). AreRunsOf standing h bases j v.items) is (subst (λ (q : ℕ). AreRunsOf standing h bases q first.items) (sym here) all.0)
+runs-at standing h bases place j (suc k) (first ∷ lists) runs all within is e = runs-at standing h bases (place + 1) j k lists runs all.1 (omega (arith, within)) is (omega (arith, e))
 
-pub with-at : (h : Head) (bases ts : List (List ℕ)) (place j k : ℕ) (lists : List (Vec Run Global)) (runs : Vec Run Global) → AreRunsFrom h bases place lists → length bases ≡ length ts
+pub with-at : (standing : Standing) (h : Head) (bases ts : List (List ℕ)) (place j k : ℕ) (lists : List (Vec Run Global)) (runs : Vec Run Global) → AreRunsFrom standing h bases place lists → length bases ≡ length ts
     → k < length lists → get_or lists k runs ≡ runs → j ≡ place + k → slice_index_or (traces_with bases ts place lists) j [] ≡ bytes_with_runs (slice_index_or bases j []) runs.items
-with-at h bases ts place j k [] runs all same within is e = absurd (omega (arith, within))
-with-at h bases ts place j zero (first ∷ lists) runs all same within is e =
+with-at standing h bases ts place j k [] runs all same within is e = absurd (omega (arith, within))
+with-at standing h bases ts place j zero (first ∷ lists) runs all same within is e =
     let here : j ≡ place = omega (arith, e) in
     let new : List ℕ = bytes_with_runs (slice_index_or bases place []) first.items in
     let there : place < length ts = omega (arith, same, all.0.there) in
@@ -69,20 +71,20 @@ with-at h bases ts place j zero (first ∷ lists) runs all same within is e =
     ∙ (get_or-set_same ts place new [] there
     ∙ (ap (λ (v : Vec Run Global). bytes_with_runs (slice_index_or bases place []) v.items) is
     ∙ ap (λ (q : ℕ). bytes_with_runs (slice_index_or bases q []) runs.items) (sym here))))
-with-at h bases ts place j (suc k) (first ∷ lists) runs all same within is e =
+with-at standing h bases ts place j (suc k) (first ∷ lists) runs all same within is e =
     let new : List ℕ = bytes_with_runs (slice_index_or bases place []) first.items in
-    with-at h bases (slice_set ts place new) (place + 1) j k lists runs all.1 (omega (arith, same, length-set ts place new)) (omega (arith, within)) is (omega (arith, e))
+    with-at standing h bases (slice_set ts place new) (place + 1) j k lists runs all.1 (omega (arith, same, length-set ts place new)) (omega (arith, within)) is (omega (arith, e))
 
 -- ---- runs for one trace
 
 module _ {T : Type 0} where
   pub ready_one : (s : TraceStore T) (place at : ℕ) (bytes : List ℕ) (runs : Vec Run Global) → place < length (traces_of s)
-      → at + length bytes ≤ length (slice_index_or (traces_of s) place []) → IsTrace s.head (splice (slice_index_or (traces_of s) place []) at (length bytes) bytes)
+      → at + length bytes ≤ length (slice_index_or (traces_of s) place []) → (IsSure s.loaded.standing → IsTrace s.head (splice (slice_index_or (traces_of s) place []) at (length bytes) bytes))
       → ArePutRuns (slice_index_or (bases_of s) place []) (slice_index_or (traces_of s) place []) at bytes runs.items → IsReady s (Put (record { place = place; runs = runs }))
   ready_one s place at bytes runs there inside whole put =
       let ts : List (List ℕ) = traces_of s in
       let t : List ℕ = slice_index_or ts place [] in
-      let one : AreRunsOf s.head (bases_of s) place runs.items = record { there = omega (arith, there, length-bases s); fit = put.fit; whole = rw put.shows whole } in
+      let one : AreRunsOf s.loaded.standing s.head (bases_of s) place runs.items = record { there = omega (arith, there, length-bases s); fit = put.fit; whole = λ sure. rw put.shows (whole sure) } in
       let then_is : traces_with (bases_of s) ts place (runs ∷ []) ≡ slice_set ts place (splice t at (length bytes) bytes) = ap (λ (x : List ℕ). slice_set ts place x) put.shows in
       record {
         fit = (one, tt);
@@ -91,17 +93,17 @@ module _ {T : Type 0} where
 
 -- ---- runs for traces that follow one another
 
-each-runs : (h : Head) (bases traces : List (List ℕ)) (place at size : ℕ) (bytes : List ℕ) (k : ℕ) (lists : List (Vec Run Global)) → ArePutEach bases traces place at size bytes k lists → 0 < size
+each-runs : (standing : Standing) (h : Head) (bases traces : List (List ℕ)) (place at size : ℕ) (bytes : List ℕ) (k : ℕ) (lists : List (Vec Run Global)) → ArePutEach bases traces place at size bytes k lists → 0 < size
     → k + length lists ≡ length bytes / size → place + length bytes / size ≤ length bases
-    → ((i : ℕ) → i < length bytes / size → IsTrace h (splice (slice_index_or traces (place + i) []) at size (part_of bytes size i)))
-    → AreRunsFrom h bases (place + k) lists
-each-runs h bases traces place at size bytes k [] puts some count room whole = tt
-each-runs h bases traces place at size bytes k (runs ∷ lists) puts some count room whole =
+    → (IsSure standing → (i : ℕ) → i < length bytes / size → IsTrace h (splice (slice_index_or traces (place + i) []) at size (part_of bytes size i)))
+    → AreRunsFrom standing h bases (place + k) lists
+each-runs standing h bases traces place at size bytes k [] puts some count room whole = tt
+each-runs standing h bases traces place at size bytes k (runs ∷ lists) puts some count room whole =
     let within : k < length bytes / size = omega (arith, count) in
     let shown = laid-next bases traces bases place at size bytes k (place + k) runs.items refl refl some within puts.0 in
     let next : place + (k + 1) ≡ place + k + 1 = omega arith in
-    let one : AreRunsOf h bases (place + k) runs.items = record { there = omega (arith, within, room); fit = puts.0.fit; whole = rw shown (whole k within) } in
-    (one, subst (λ (q : ℕ). AreRunsFrom h bases q lists) next (each-runs h bases traces place at size bytes (k + 1) lists puts.1 some (omega (arith, count)) room whole))
+    let one : AreRunsOf standing h bases (place + k) runs.items = record { there = omega (arith, within, room); fit = puts.0.fit; whole = λ sure. rw shown (whole sure k within) } in
+    (one, subst (λ (q : ℕ). AreRunsFrom standing h bases q lists) next (each-runs standing h bases traces place at size bytes (k + 1) lists puts.1 some (omega (arith, count)) room whole))
 
 each-traces : (bases old new : List (List ℕ)) (place at size : ℕ) (bytes : List ℕ) (k : ℕ) (lists : List (Vec Run Global)) → ArePutSoFar old new place at size bytes k → ArePutEach bases old place at size bytes k lists → 0 < size
     → k + length lists ≡ length bytes / size → length bytes % size ≡ 0 → place + length bytes / size ≤ length old
@@ -133,12 +135,12 @@ module _ {T : Type 0} (s : TraceStore T) (place at size : ℕ) (bytes : List ℕ
       ap (λ (q : ℕ). traces_with (bases_of s) (traces_of s) q lists.items) (sym here)
       ∙ each-traces (bases_of s) (traces_of s) (traces_of s) place at size bytes 0 lists.items (none_yet (traces_of s) place at size bytes) puts some (omega (arith, count)) exact room
 
-  pub ready_each : length bytes % size ≡ 0 → ((i : ℕ) → i < length bytes / size → IsTrace s.head (splice (slice_index_or (traces_of s) (place + i) []) at size (part_of bytes size i)))
+  pub ready_each : length bytes % size ≡ 0 → (IsSure s.loaded.standing → (i : ℕ) → i < length bytes / size → IsTrace s.head (splice (slice_index_or (traces_of s) (place + i) []) at size (part_of bytes size i)))
       → total (put_each_at (traces_of s) place at size bytes) ≡ total (traces_of s) → IsReady s (Runs (record { place = place; lists = lists }))
   ready_each exact whole same =
       let here : place + 0 ≡ place = omega arith in
       record {
-        fit = subst (λ (q : ℕ). AreRunsFrom s.head (bases_of s) q lists.items) here (each-runs s.head (bases_of s) (traces_of s) place at size bytes 0 lists.items puts some (omega (arith, count)) (omega (arith, room, length-bases s)) whole);
+        fit = subst (λ (q : ℕ). AreRunsFrom s.loaded.standing s.head (bases_of s) q lists.items) here (each-runs s.loaded.standing s.head (bases_of s) (traces_of s) place at size bytes 0 lists.items puts some (omega (arith, count)) (omega (arith, room, length-bases s)) whole);
         length = ap total (then_each exact) ∙ same;
       }
 
@@ -151,12 +153,22 @@ module _ {T : Type 0} where
     length = total-moved (traces_of s) a b there;
   }
 
+-- ---- a standing that falls
+
+run_falls : (old new : Standing) (h : Head) (bases : List (List ℕ)) (place : ℕ) (runs : List Run) → Falls old new → AreRunsOf old h bases place runs → AreRunsOf new h bases place runs
+run_falls old new h bases place runs falls one = record { there = one.there; fit = one.fit; whole = λ sure. one.whole (sure_before old new falls sure) }
+
+pub runs_fall : (old new : Standing) (h : Head) (bases : List (List ℕ)) (place : ℕ) (lists : List (Vec Run Global)) → Falls old new → AreRunsFrom old h bases place lists → AreRunsFrom new h bases place lists
+runs_fall old new h bases place [] falls all = tt
+runs_fall old new h bases place (runs ∷ lists) falls all = (run_falls old new h bases place runs.items falls all.0, runs_fall old new h bases (place + 1) lists falls all.1)
+
 -- ---- the same traces in another store
 
--- a store has the same traces over the same bases, and no less room in its order
+-- a store has the same traces over the same bases, stands as before or has fallen, and has no less room in its order
 module _ {T : Type 0} where
   pub record IsSame (s t : TraceStore T) : Type 0 where
     pub head : t.head ≡ s.head
+    pub standing : Falls s.loaded.standing t.loaded.standing
     pub bases : bases_of t ≡ bases_of s
     pub traces : traces_of t ≡ traces_of s
     pub payloads : payloads_of t ≡ payloads_of s
@@ -173,11 +185,11 @@ module _ {T : Type 0} where
   pub ready_kept : (s t : TraceStore T) (prepared : Option Prepared) → IsSame s t → IsReadyIfSome s prepared → IsReadyIfSome t prepared
   ready_kept s t None same ready = tt
   ready_kept s t (Some (Put put)) same ready = record {
-    fit = rw (same.head, same.bases) ready.fit;
+    fit = rw (same.head, same.bases) (runs_fall s.loaded.standing t.loaded.standing s.head (bases_of s) put.place (put.runs ∷ []) same.standing ready.fit);
     length = rw (same.bases, same.traces) ready.length;
   }
   ready_kept s t (Some (Runs runs)) same ready = record {
-    fit = rw (same.head, same.bases) ready.fit;
+    fit = rw (same.head, same.bases) (runs_fall s.loaded.standing t.loaded.standing s.head (bases_of s) runs.place runs.lists.items same.standing ready.fit);
     length = rw (same.bases, same.traces) ready.length;
   }
   ready_kept s t (Some (Move m)) same ready =

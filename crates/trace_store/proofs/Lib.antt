@@ -1,8 +1,12 @@
 pub mod AheadLemmas
 pub mod EachLemmas
+pub mod FallLemmas
+pub mod FetchLemmas
+pub mod GrownLemmas
 pub mod LengthLemmas
 pub mod MoveLemmas
 pub mod OrderLemmas
 pub mod PayloadLemmas
 pub mod SlotLemmas
 pub mod SwapLemmas
+pub mod WindowLemmas

@@ -5,6 +5,7 @@ use Rattle.std.specs.List.{insert, remove}
 use Rattle.std.proofs.lemmas.Bool.{cases_eq}
 use Rattle.std.proofs.lemmas.List.{length-map, map-append, take-map, drop-map}
 use Rattle.std.proofs.lemmas.Option.{slice_get-map, slice_get-get_or}
+use Rattle.base_file.specs.HeldBytes.{HeldBytes}
 use Rattle.slab.specs.Slab.{Slab, get, Updates, SameValues}
 use Rattle.frame_cut.specs.declared.file_head.Head.{Head}
 use Rattle.trace_seq.specs.Order.{times, id_at, with_id_moved, AreDistinct}
@@ -58,20 +59,20 @@ module _ {T : Type 0} where
       let rest : map f xs ≡ map some (somes (map f xs)) = each-there f xs (λ id held. there id (omega (arith, held))) in
       onto (f x) (there x (times-self x xs)) (map f xs) rest
 
-  payload-in : (loaded : List ℕ) (h : Head) (o : Option (Slot T)) → IsSomeAnd o (IsSlot loaded h) → (t : T) × (option_map (λ (slot : Slot T). slot.payload) o ≡ some t)
-  payload-in loaded h None held = absurd held
-  payload-in loaded h (Some slot) held = (slot.payload, refl)
+  payload-in : (file : HeldBytes) (h : Head) (o : Option (Slot T)) → IsSomeAnd o (IsSlot file h) → (t : T) × (option_map (λ (slot : Slot T). slot.payload) o ≡ some t)
+  payload-in file h None held = absurd held
+  payload-in file h (Some slot) held = (slot.payload, refl)
 
   inner : (o : Option T) (t : T) → option_map some o ≡ some_some t → o ≡ some t
   inner None t e = absurd (cc)
   inner (Some x) t e = cc
 
-module _ {T : Type 0} (loaded : List ℕ) (h : Head) (ids : List ℕ) (slots : Slab (Slot T)) (held : AreHeld loaded h ids slots) where
+module _ {T : Type 0} (file : HeldBytes) (h : Head) (ids : List ℕ) (slots : Slab (Slot T)) (held : AreHeld file h ids slots) where
   abbrev ps : List T
   ps = somes (map (payload_under slots) ids)
 
   all-there : map (payload_under slots) ids ≡ map some ps
-  all-there = each-there (payload_under slots) ids (λ id there. payload-in loaded h (get slots id) (held id there))
+  all-there = each-there (payload_under slots) ids (λ id there. payload-in file h (get slots id) (held id there))
 
   -- each trace has one
   pub payloads-counted : length ps ≡ length ids
@@ -113,7 +114,7 @@ module _ {T : Type 0} (loaded : List ℕ) (h : Head) (ids : List ℕ) (slots : S
   payloads-moved a b short =
       let id : ℕ = slice_index ids (a - 1) in
       let there : slice_get ids (a - 1) ≡ Some id = slice_get-get_or ids (a - 1) 0 short in
-      let in_slot = payload-in loaded h (get slots id) (held id (held-at_place ids id (a - 1) there)) in
+      let in_slot = payload-in file h (get slots id) (held id (held-at_place ids id (a - 1) there)) in
       let t : T = in_slot.0 in
       let at : slice_get ps (a - 1) ≡ some t =
       inner (slice_get ps (a - 1)) t (sym (ap (λ (os : List (Option T)). slice_get os (a - 1)) all-there ∙ slice_get-map some ps (a - 1)) ∙ (slice_get-map (payload_under slots) ids (a - 1) ∙ ap (option_map (payload_under slots)) there ∙ ap (λ (o : Option T). let q : Option (Option T) = Some o in q) in_slot.1)) in

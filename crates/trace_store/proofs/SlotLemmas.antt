@@ -8,6 +8,7 @@ use Rattle.std.proofs.lemmas.List.{get_or-set_same, get_or-set_other, length-tak
 use Rattle.std.proofs.lemmas.List.Sums.{sum_by-set}
 use Rattle.std.proofs.lemmas.List.Edits.{length-insert, length-remove}
 use Rattle.std.proofs.lemmas.Option.{slice_get_within, get_or_from_slice_get}
+use Rattle.base_file.specs.HeldBytes.{HeldBytes, IsSure}
 use Rattle.slab.specs.Slab.{Slab, get, slab_len, with_value, ContainsKey, Updates, SameValues}
 use Rattle.frame_cut.specs.declared.file_head.Head.{Head}
 use Rattle.frame_cut.specs.Cuts.{IsTrace}
@@ -30,20 +31,20 @@ base-length loaded (Added bytes) inside = refl
 
 -- a slot without runs
 module _ {T : Type 0} where
-  pub record IsFreshSlot (loaded : List ℕ) (h : Head) (slot : Slot T) : Type 0 where
-    pub sound : IsSlot loaded h slot
-    pub shows : bytes_in loaded slot ≡ base_of loaded slot.base
+  pub record IsFreshSlot (file : HeldBytes) (h : Head) (slot : Slot T) : Type 0 where
+    pub sound : IsSlot file h slot
+    pub shows : bytes_in file.bytes slot ≡ base_of file.bytes slot.base
 
 module _ {T : Type 0} where
-  pub fresh-slot : (loaded : List ℕ) (h : Head) (slot : Slot T) → slot.runs.items ≡ [] → IsInside loaded slot.base → IsTrace h (base_of loaded slot.base) → IsFreshSlot loaded h slot
-  fresh-slot loaded h slot none inside whole =
-      let same : bytes_in loaded slot ≡ base_of loaded slot.base = ap (bytes_with_runs (base_of loaded slot.base)) none in
-      let empty : Fit [] (length (base_of loaded slot.base)) = omega arith in
+  pub fresh-slot : (file : HeldBytes) (h : Head) (slot : Slot T) → slot.runs.items ≡ [] → IsInside file.bytes slot.base → IsTrace h (base_of file.bytes slot.base) → IsFreshSlot file h slot
+  fresh-slot file h slot none inside whole =
+      let same : bytes_in file.bytes slot ≡ base_of file.bytes slot.base = ap (bytes_with_runs (base_of file.bytes slot.base)) none in
+      let empty : Fit [] (length (base_of file.bytes slot.base)) = omega arith in
       record {
         sound = record {
           inside = inside;
-          fit = subst (λ (rs : List Run). Fit rs (length (base_of loaded slot.base))) (sym none) empty;
-          whole = subst (λ (t : List ℕ). IsTrace h t) (sym same) whole;
+          fit = subst (λ (rs : List Run). Fit rs (length (base_of file.bytes slot.base))) (sym none) empty;
+          whole = λ _. subst (λ (t : List ℕ). IsTrace h t) (sym same) whole;
         };
         shows = same;
       }
@@ -52,12 +53,12 @@ module _ {T : Type 0} where
 
 -- the slot that was found under an id is whole
 module _ {T : Type 0} where
-  pub held-slot : (loaded : List ℕ) (h : Head) (slots : Slab (Slot T)) (id : ℕ) (slot : Slot T) → IsHeldUnder loaded h slots id → get slots id ≡ Some slot → IsSlot loaded h slot
-  held-slot loaded h slots id slot held found = subst (λ (o : Option (Slot T)). IsSomeAnd o (IsSlot loaded h)) found held
+  pub held-slot : (file : HeldBytes) (h : Head) (slots : Slab (Slot T)) (id : ℕ) (slot : Slot T) → IsHeldUnder file h slots id → get slots id ≡ Some slot → IsSlot file h slot
+  held-slot file h slots id slot held found = subst (λ (o : Option (Slot T)). IsSomeAnd o (IsSlot file h)) found held
 
 module _ {T : Type 0} where
-  pub held-missed : (loaded : List ℕ) (h : Head) (slots : Slab (Slot T)) (id : ℕ) → IsHeldUnder loaded h slots id → get slots id ≡ None → ⊥
-  held-missed loaded h slots id held none = subst (λ (o : Option (Slot T)). IsSomeAnd o (IsSlot loaded h)) none held
+  pub held-missed : (file : HeldBytes) (h : Head) (slots : Slab (Slot T)) (id : ℕ) → IsHeldUnder file h slots id → get slots id ≡ None → ⊥
+  held-missed file h slots id held none = subst (λ (o : Option (Slot T)). IsSomeAnd o (IsSlot file h)) none held
 
 -- and has the trace's bytes
 module _ {T : Type 0} where
@@ -66,26 +67,26 @@ module _ {T : Type 0} where
 
 -- the id at a position has a slot
 module _ {T : Type 0} where
-  pub slot-at : (loaded : List ℕ) (h : Head) (ids : List ℕ) (slots : Slab (Slot T)) (p id : ℕ) → AreHeld loaded h ids slots → id_at ids p ≡ Some id → IsHeldUnder loaded h slots id
-  slot-at loaded h ids slots p id held at = held id (held-at_place ids id (p - 1) (place-of ids id p at))
+  pub slot-at : (file : HeldBytes) (h : Head) (ids : List ℕ) (slots : Slab (Slot T)) (p id : ℕ) → AreHeld file h ids slots → id_at ids p ≡ Some id → IsHeldUnder file h slots id
+  slot-at file h ids slots p id held at = held id (held-at_place ids id (p - 1) (place-of ids id p at))
 
 -- the slot that was found under it is whole
 module _ {T : Type 0} where
-  pub slot-found : (loaded : List ℕ) (h : Head) (ids : List ℕ) (slots : Slab (Slot T)) (p id : ℕ) (slot : Slot T) → AreHeld loaded h ids slots → id_at ids p ≡ Some id → get slots id ≡ Some slot → IsSlot loaded h slot
-  slot-found loaded h ids slots p id slot held at found = held-slot loaded h slots id slot (slot-at loaded h ids slots p id held at) found
+  pub slot-found : (file : HeldBytes) (h : Head) (ids : List ℕ) (slots : Slab (Slot T)) (p id : ℕ) (slot : Slot T) → AreHeld file h ids slots → id_at ids p ≡ Some id → get slots id ≡ Some slot → IsSlot file h slot
+  slot-found file h ids slots p id slot held at found = held-slot file h slots id slot (slot-at file h ids slots p id held at) found
 
 module _ {T : Type 0} where
-  pub slot-missed : (loaded : List ℕ) (h : Head) (ids : List ℕ) (slots : Slab (Slot T)) (p id : ℕ) → AreHeld loaded h ids slots → id_at ids p ≡ Some id → get slots id ≡ None → ⊥
-  slot-missed loaded h ids slots p id held at none = held-missed loaded h slots id (slot-at loaded h ids slots p id held at) none
+  pub slot-missed : (file : HeldBytes) (h : Head) (ids : List ℕ) (slots : Slab (Slot T)) (p id : ℕ) → AreHeld file h ids slots → id_at ids p ≡ Some id → get slots id ≡ None → ⊥
+  slot-missed file h ids slots p id held at none = held-missed file h slots id (slot-at file h ids slots p id held at) none
 
 module _ {T : Type 0} where
-  is-there : (loaded : List ℕ) (h : Head) (o : Option (Slot T)) → IsSomeAnd o (IsSlot loaded h) → IsSome o
-  is-there loaded h None held = absurd held
-  is-there loaded h (Some slot) held = refl
+  is-there : (file : HeldBytes) (h : Head) (o : Option (Slot T)) → IsSomeAnd o (IsSlot file h) → IsSome o
+  is-there file h None held = absurd held
+  is-there file h (Some slot) held = refl
 
 module _ {T : Type 0} where
-  pub contains-at : (loaded : List ℕ) (h : Head) (ids : List ℕ) (slots : Slab (Slot T)) (p id : ℕ) → AreHeld loaded h ids slots → id_at ids p ≡ Some id → ContainsKey slots id
-  contains-at loaded h ids slots p id held at = is-there loaded h (get slots id) (slot-at loaded h ids slots p id held at)
+  pub contains-at : (file : HeldBytes) (h : Head) (ids : List ℕ) (slots : Slab (Slot T)) (p id : ℕ) → AreHeld file h ids slots → id_at ids p ≡ Some id → ContainsKey slots id
+  contains-at file h ids slots p id held at = is-there file h (get slots id) (slot-at file h ids slots p id held at)
 
 -- the trace at a position
 module _ {T : Type 0} where
@@ -133,10 +134,10 @@ module _ {T : Type 0} where
       ∙ ap (λ (o : Option (Slot T)). slice_set (map (bytes_under loaded old) ids) (p - 1) (option_map_or (bytes_in loaded) o [])) up.changed
 
 module _ {T : Type 0} where
-  pub held-changed : (loaded : List ℕ) (h : Head) (ids : List ℕ) (old new : Slab (Slot T)) (key : ℕ) (slot : Slot T) → AreHeld loaded h ids old → Updates old new key (Some slot) → IsSlot loaded h slot → AreHeld loaded h ids new
-  held-changed loaded h ids old new key slot held up whole id some = elim (cases_eq id key) [
-    | inl e ↦ subst (λ (o : Option (Slot T)). IsSomeAnd o (IsSlot loaded h)) (sym up.changed ∙ ap (get new) (sym e)) whole
-    | inr ne ↦ subst (λ (o : Option (Slot T)). IsSomeAnd o (IsSlot loaded h)) (sym (up.others id ne)) (held id some)
+  pub held-changed : (file : HeldBytes) (h : Head) (ids : List ℕ) (old new : Slab (Slot T)) (key : ℕ) (slot : Slot T) → AreHeld file h ids old → Updates old new key (Some slot) → IsSlot file h slot → AreHeld file h ids new
+  held-changed file h ids old new key slot held up whole id some = elim (cases_eq id key) [
+    | inl e ↦ subst (λ (o : Option (Slot T)). IsSomeAnd o (IsSlot file h)) (sym up.changed ∙ ap (get new) (sym e)) whole
+    | inr ne ↦ subst (λ (o : Option (Slot T)). IsSomeAnd o (IsSlot file h)) (sym (up.others id ne)) (held id some)
   ]
 
 -- the bytes under the runs of the trace at a position
@@ -149,14 +150,14 @@ module _ {T : Type 0} where
 
 -- a slot with other runs over the same base
 module _ {T : Type 0} where
-  pub runs-slot : (loaded : List ℕ) (h : Head) (old new : Slot T) (base : List ℕ) → new.base ≡ old.base → base ≡ base_of loaded old.base → IsSlot loaded h old
-      → Fit new.runs.items (length base) → IsTrace h (bytes_with_runs base new.runs.items) → IsSlot loaded h new
-  runs-slot loaded h old new base b is whole fit trace =
-      let same : base ≡ base_of loaded new.base = is ∙ ap (base_of loaded) (sym b) in
+  pub runs-slot : (file : HeldBytes) (h : Head) (old new : Slot T) (base : List ℕ) → new.base ≡ old.base → base ≡ base_of file.bytes old.base → IsSlot file h old
+      → Fit new.runs.items (length base) → (IsSure file.standing → IsTrace h (bytes_with_runs base new.runs.items)) → IsSlot file h new
+  runs-slot file h old new base b is whole fit trace =
+      let same : base ≡ base_of file.bytes new.base = is ∙ ap (base_of file.bytes) (sym b) in
       record {
-        inside = subst (λ (x : Base). IsInside loaded x) (sym b) whole.inside;
+        inside = subst (λ (x : Base). IsInside file.bytes x) (sym b) whole.inside;
         fit = subst (λ (xs : List ℕ). Fit new.runs.items (length xs)) same fit;
-        whole = subst (λ (xs : List ℕ). IsTrace h (bytes_with_runs xs new.runs.items)) same trace;
+        whole = λ sure. subst (λ (xs : List ℕ). IsTrace h (bytes_with_runs xs new.runs.items)) same (trace sure);
       }
 
 module _ {T : Type 0} where
@@ -186,19 +187,19 @@ module _ {T : Type 0} where
 
 -- an id without a slot is not in the order
 module _ {T : Type 0} where
-  pub vacant-absent : (loaded : List ℕ) (h : Head) (ids : List ℕ) (slots : Slab (Slot T)) (key : ℕ) → AreHeld loaded h ids slots → get slots key ≡ None → times key ids ≡ 0
-  vacant-absent loaded h ids slots key held none =
-      let missed : 0 < times key ids → ⊥ = λ some. subst (λ (o : Option (Slot T)). IsSomeAnd o (IsSlot loaded h)) none (held key some) in
+  pub vacant-absent : (file : HeldBytes) (h : Head) (ids : List ℕ) (slots : Slab (Slot T)) (key : ℕ) → AreHeld file h ids slots → get slots key ≡ None → times key ids ≡ 0
+  vacant-absent file h ids slots key held none =
+      let missed : 0 < times key ids → ⊥ = λ some. subst (λ (o : Option (Slot T)). IsSomeAnd o (IsSlot file h)) none (held key some) in
       omega (arith, missed)
 
 module _ {T : Type 0} where
-  pub held-inserted : (loaded : List ℕ) (h : Head) (ids : List ℕ) (old new : Slab (Slot T)) (i key : ℕ) (slot : Slot T) → AreHeld loaded h ids old → Updates old new key (Some slot) → IsSlot loaded h slot → AreHeld loaded h (insert ids i key) new
-  held-inserted loaded h ids old new i key slot held up whole id some = elim (cases_eq id key) [
-    | inl e ↦ subst (λ (o : Option (Slot T)). IsSomeAnd o (IsSlot loaded h)) (sym up.changed ∙ ap (get new) (sym e)) whole
+  pub held-inserted : (file : HeldBytes) (h : Head) (ids : List ℕ) (old new : Slab (Slot T)) (i key : ℕ) (slot : Slot T) → AreHeld file h ids old → Updates old new key (Some slot) → IsSlot file h slot → AreHeld file h (insert ids i key) new
+  held-inserted file h ids old new i key slot held up whole id some = elim (cases_eq id key) [
+    | inl e ↦ subst (λ (o : Option (Slot T)). IsSomeAnd o (IsSlot file h)) (sym up.changed ∙ ap (get new) (sym e)) whole
     | inr ne ↦
         let back : key ≢ id = λ e. ne (sym e) in
         let more : 0 < times id ids = omega (arith, some, times-insert id ids i key, times-other id key back) in
-        subst (λ (o : Option (Slot T)). IsSomeAnd o (IsSlot loaded h)) (sym (up.others id ne)) (held id more)
+        subst (λ (o : Option (Slot T)). IsSomeAnd o (IsSlot file h)) (sym (up.others id ne)) (held id more)
   ]
 
 module _ {T : Type 0} where
@@ -212,12 +213,12 @@ module _ {T : Type 0} where
 -- ---- an id goes
 
 module _ {T : Type 0} where
-  pub held-removed : (loaded : List ℕ) (h : Head) (ids : List ℕ) (old new : Slab (Slot T)) (i key : ℕ) → AreHeld loaded h ids old → Updates old new key None → i < length ids → times key (remove ids i) ≡ 0 → AreHeld loaded h (remove ids i) new
-  held-removed loaded h ids old new i key held up short absent id some = elim (cases_eq id key) [
+  pub held-removed : (file : HeldBytes) (h : Head) (ids : List ℕ) (old new : Slab (Slot T)) (i key : ℕ) → AreHeld file h ids old → Updates old new key None → i < length ids → times key (remove ids i) ≡ 0 → AreHeld file h (remove ids i) new
+  held-removed file h ids old new i key held up short absent id some = elim (cases_eq id key) [
     | inl e ↦ absurd (omega (arith, some, absent, ap (λ (x : ℕ). times x (remove ids i)) e))
     | inr ne ↦
         let more : 0 < times id ids = omega (arith, some, times-remove id ids i 0 short) in
-        subst (λ (o : Option (Slot T)). IsSomeAnd o (IsSlot loaded h)) (sym (up.others id ne)) (held id more)
+        subst (λ (o : Option (Slot T)). IsSomeAnd o (IsSlot file h)) (sym (up.others id ne)) (held id more)
   ]
 
 module _ {T : Type 0} where
@@ -247,8 +248,8 @@ length-moved ids a b short most =
     omega (arith, length-insert (remove ids (a - 1)) (b - 1) (slice_index ids (a - 1)) inside)
 
 module _ {T : Type 0} where
-  pub held-moved : (loaded : List ℕ) (h : Head) (ids : List ℕ) (slots : Slab (Slot T)) (a b : ℕ) → AreHeld loaded h ids slots → a - 1 < length ids → AreHeld loaded h (with_id_moved ids a b) slots
-  held-moved loaded h ids slots a b held short id some = held id (omega (arith, some, times-moved id ids a b short))
+  pub held-moved : (file : HeldBytes) (h : Head) (ids : List ℕ) (slots : Slab (Slot T)) (a b : ℕ) → AreHeld file h ids slots → a - 1 < length ids → AreHeld file h (with_id_moved ids a b) slots
+  held-moved file h ids slots a b held short id some = held id (omega (arith, some, times-moved id ids a b short))
 
 -- ---- no value changes
 
@@ -270,8 +271,8 @@ module _ {T : Type 0} where
   ]
 
 module _ {T : Type 0} where
-  pub held-same : (loaded : List ℕ) (h : Head) (ids : List ℕ) (old new : Slab (Slot T)) → AreHeld loaded h ids old → SameValues old new → AreHeld loaded h ids new
-  held-same loaded h ids old new held same id some = subst (λ (o : Option (Slot T)). IsSomeAnd o (IsSlot loaded h)) (sym (same id)) (held id some)
+  pub held-same : (file : HeldBytes) (h : Head) (ids : List ℕ) (old new : Slab (Slot T)) → AreHeld file h ids old → SameValues old new → AreHeld file h ids new
+  held-same file h ids old new held same id some = subst (λ (o : Option (Slot T)). IsSomeAnd o (IsSlot file h)) (sym (same id)) (held id some)
 
 module _ {T : Type 0} where
   pub traces-same : (loaded ids : List ℕ) (old new : Slab (Slot T)) → SameValues old new → map (bytes_under loaded new) ids ≡ map (bytes_under loaded old) ids

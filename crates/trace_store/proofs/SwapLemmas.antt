@@ -6,6 +6,7 @@ use Rattle.std.proofs.lemmas.Bool.{cases_eq}
 use Rattle.std.proofs.lemmas.List.{length-map}
 use Rattle.std.proofs.lemmas.List.Edits.{swap_is}
 use Rattle.std.proofs.lemmas.Option.{slice_get_within, get_or_from_slice_get}
+use Rattle.base_file.specs.HeldBytes.{HeldBytes}
 use Rattle.slab.specs.Slab.{Slab, get, with_value, ContainsKey, Updates}
 use Rattle.frame_cut.specs.declared.file_head.Head.{Head}
 use Rattle.trace_seq.specs.Order.{id_at, AreDistinct}
@@ -25,7 +26,7 @@ module _ {T : Type 0} where
     pub is_other : get new other ≡ Some a
     pub rest : (k : ℕ) → k ≢ id → k ≢ other → get new k ≡ get old k
 
-  module _ (loaded : List ℕ) (h : Head) (ids : List ℕ) (old new : Slab (Slot T)) (p q id other : ℕ) (a b : Slot T) (held : AreHeld loaded h ids old) (distinct : AreDistinct ids)
+  module _ (file : HeldBytes) (h : Head) (ids : List ℕ) (old new : Slab (Slot T)) (p q id other : ℕ) (a b : Slot T) (held : AreHeld file h ids old) (distinct : AreDistinct ids)
       (at : id_at ids p ≡ Some id) (at_other : id_at ids q ≡ Some other) (s : AreSwapped old new id other a b) where
     -- one of them in both places
     half : Slab (Slot T)
@@ -44,34 +45,34 @@ module _ {T : Type 0} where
       ];
     }
 
-    half-held : AreHeld loaded h ids half
-    half-held = held-changed loaded h ids old half id b held first (slot-found loaded h ids old q other b held at_other s.was_other)
+    half-held : AreHeld file h ids half
+    half-held = held-changed file h ids old half id b held first (slot-found file h ids old q other b held at_other s.was_other)
 
-    pub held-swapped : AreHeld loaded h ids new
-    held-swapped = held-changed loaded h ids half new other a half-held second (slot-found loaded h ids old p id a held at s.was)
+    pub held-swapped : AreHeld file h ids new
+    held-swapped = held-changed file h ids half new other a half-held second (slot-found file h ids old p id a held at s.was)
 
-    pub traces-swapped : map (bytes_under loaded new) ids ≡ swap (map (bytes_under loaded old) ids) (p - 1) (q - 1)
+    pub traces-swapped : map (bytes_under file.bytes new) ids ≡ swap (map (bytes_under file.bytes old) ids) (p - 1) (q - 1)
     traces-swapped =
-        let ts : List (List ℕ) = map (bytes_under loaded old) ids in
-        let here : slice_index_or ts (p - 1) [] ≡ bytes_in loaded a = trace-at loaded ids old p id a at s.was in
-        let there : slice_index_or ts (q - 1) [] ≡ bytes_in loaded b = trace-at loaded ids old q other b at_other s.was_other in
-        let p_short : p - 1 < length ts = omega (arith, length-map ids (bytes_under loaded old), slice_get_within ids (p - 1) id (place-of ids id p at)) in
-        let q_short : q - 1 < length ts = omega (arith, length-map ids (bytes_under loaded old), slice_get_within ids (q - 1) other (place-of ids other q at_other)) in
-        traces-changed loaded ids half new q other a distinct at_other second
-        ∙ (ap (λ (xs : List (List ℕ)). slice_set xs (q - 1) (bytes_in loaded a)) (traces-changed loaded ids old half p id b distinct at first)
-        ∙ (ap (λ (t : List ℕ). slice_set (slice_set ts (p - 1) t) (q - 1) (bytes_in loaded a)) (sym there)
+        let ts : List (List ℕ) = map (bytes_under file.bytes old) ids in
+        let here : slice_index_or ts (p - 1) [] ≡ bytes_in file.bytes a = trace-at file.bytes ids old p id a at s.was in
+        let there : slice_index_or ts (q - 1) [] ≡ bytes_in file.bytes b = trace-at file.bytes ids old q other b at_other s.was_other in
+        let p_short : p - 1 < length ts = omega (arith, length-map ids (bytes_under file.bytes old), slice_get_within ids (p - 1) id (place-of ids id p at)) in
+        let q_short : q - 1 < length ts = omega (arith, length-map ids (bytes_under file.bytes old), slice_get_within ids (q - 1) other (place-of ids other q at_other)) in
+        traces-changed file.bytes ids half new q other a distinct at_other second
+        ∙ (ap (λ (xs : List (List ℕ)). slice_set xs (q - 1) (bytes_in file.bytes a)) (traces-changed file.bytes ids old half p id b distinct at first)
+        ∙ (ap (λ (t : List ℕ). slice_set (slice_set ts (p - 1) t) (q - 1) (bytes_in file.bytes a)) (sym there)
         ∙ (ap (λ (t : List ℕ). slice_set (slice_set ts (p - 1) (slice_index_or ts (q - 1) [])) (q - 1) t) (sym here)
         ∙ swap_is ts (p - 1) (q - 1) [] p_short q_short)))
 
     pub payloads-swapped : payloads_under new ids ≡ swap (payloads_under old ids) (p - 1) (q - 1)
     payloads-swapped =
         let ps : List T = payloads_under old ids in
-        let found : slice_get ps (p - 1) ≡ Some a.payload = payload-found loaded h ids old held p id a at s.was in
-        let found_other : slice_get ps (q - 1) ≡ Some b.payload = payload-found loaded h ids old held q other b at_other s.was_other in
+        let found : slice_get ps (p - 1) ≡ Some a.payload = payload-found file h ids old held p id a at s.was in
+        let found_other : slice_get ps (q - 1) ≡ Some b.payload = payload-found file h ids old held q other b at_other s.was_other in
         let here : get_or ps (p - 1) a.payload ≡ a.payload = get_or_from_slice_get ps (p - 1) a.payload a.payload found in
         let there : get_or ps (q - 1) a.payload ≡ b.payload = get_or_from_slice_get ps (q - 1) b.payload a.payload found_other in
-        payloads-changed loaded h ids half half-held new q other a distinct at_other second
-        ∙ (ap (λ (xs : List T). slice_set xs (q - 1) a.payload) (payloads-changed loaded h ids old held half p id b distinct at first)
+        payloads-changed file h ids half half-held new q other a distinct at_other second
+        ∙ (ap (λ (xs : List T). slice_set xs (q - 1) a.payload) (payloads-changed file h ids old held half p id b distinct at first)
         ∙ (ap (λ (t : T). slice_set (slice_set ps (p - 1) t) (q - 1) a.payload) (sym there)
         ∙ (ap (λ (t : T). slice_set (slice_set ps (p - 1) (get_or ps (q - 1) a.payload)) (q - 1) t) (sym here)
         ∙ swap_is ps (p - 1) (q - 1) a.payload (slice_get_within ps (p - 1) a.payload found) (slice_get_within ps (q - 1) b.payload found_other))))

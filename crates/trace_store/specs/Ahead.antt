@@ -2,6 +2,7 @@
 use Rattle.std.specs.Prelude.{ℕ, ◌≡◌, ◌+◌, ◌-◌, ◌<◌, ◌≤◌, List, [], ◌∷◌, length, slice_index_or, slice_set, Vec, Option, Some, None}
 use Rattle.std.specs.Global.{Global}
 use Rattle.std.specs.List.{concat, insert, remove}
+use Rattle.base_file.specs.HeldBytes.{Standing, IsSure}
 use Rattle.frame_cut.specs.declared.file_head.Head.{Head}
 use Rattle.frame_cut.specs.Cuts.{IsTrace}
 use Rattle.trace_view.specs.declared.run.Run.{Run}
@@ -18,16 +19,17 @@ traces_with bases traces place [] = traces
 traces_with bases traces place (runs ∷ lists) =
     traces_with bases (slice_set traces place (bytes_with_runs (slice_index_or bases place []) runs.items)) (place + 1) lists
 
--- the runs fit the base at `place`, and show a whole trace over it
-pub record AreRunsOf (h : Head) (bases : List (List ℕ)) (place : ℕ) (runs : List Run) : Type 0 where
+-- the runs fit the base at `place`; and if the loaded bytes are sure, they show a whole trace over it
+pub record AreRunsOf (standing : Standing) (h : Head) (bases : List (List ℕ)) (place : ℕ) (runs : List Run) : Type 0 where
   pub there : place < length bases
   pub fit : Fit runs (length (slice_index_or bases place []))
-  pub whole : IsTrace h (bytes_with_runs (slice_index_or bases place []) runs)
+  pub whole : IsSure standing → IsTrace h (bytes_with_runs (slice_index_or bases place []) runs)
 
--- each list of runs fits its base from `place` on, and shows a whole trace over it
-abbrev pub AreRunsFrom : Head → (bases : List (List ℕ)) → ℕ → List (Vec Run Global) → Type 0
-AreRunsFrom h bases place [] = Unit {0}
-AreRunsFrom h bases place (runs ∷ lists) = AreRunsOf h bases place runs.items × AreRunsFrom h bases (place + 1) lists
+-- each list of runs fits its base from `place` on; and if the loaded bytes are sure, it shows a whole trace over it
+abbrev pub AreRunsFrom : Standing → Head → (bases : List (List ℕ)) → ℕ → List (Vec Run Global) → Type 0
+AreRunsFrom standing h bases place [] = Unit {0}
+AreRunsFrom standing h bases place (runs ∷ lists) =
+    AreRunsOf standing h bases place runs.items × AreRunsFrom standing h bases (place + 1) lists
 
 -- the traces with trace a taken out, and put in again so that it is trace b
 abbrev pub traces_moved : List (List ℕ) → ℕ → ℕ → List (List ℕ)
@@ -49,8 +51,8 @@ traces_then s (Move m) = traces_moved (traces_of s) m.from m.to
 
 -- what is prepared fits the store
 abbrev pub IsFit : {T : Type 0} → TraceStore T → Prepared → Type 0
-IsFit s (Put put) = AreRunsFrom s.head (bases_of s) put.place (put.runs ∷ [])
-IsFit s (Runs runs) = AreRunsFrom s.head (bases_of s) runs.place runs.lists.items
+IsFit s (Put put) = AreRunsFrom s.loaded.standing s.head (bases_of s) put.place (put.runs ∷ [])
+IsFit s (Runs runs) = AreRunsFrom s.loaded.standing s.head (bases_of s) runs.place runs.lists.items
 IsFit s (Move m) = MayMove s m
 
 -- what is prepared fits the store, and all its traces together stay as long as they are

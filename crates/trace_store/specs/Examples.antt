@@ -2,6 +2,7 @@
 use Rattle.std.specs.Prelude.{ℕ, ◌≡◌, [], ◌∷◌, refl}
 use Rattle.trace_store.specs.Moved.{with_moved}
 use Rattle.trace_store.specs.Swapped.{with_swapped}
+use Rattle.trace_store.specs.Then.{place_in_move}
 
 -- the target counts in what is left: to 2 of three is behind all
 pub moved_behind : with_moved {T = ℕ} (4 ∷ 7 ∷ 9 ∷ []) 0 2 ≡ 7 ∷ 9 ∷ 4 ∷ []
@@ -19,3 +20,13 @@ moved_nowhere = refl
 -- two pairs: the first and the last, then the last and the one in front of it
 pub swapped_twice : with_swapped {T = ℕ} (4 ∷ 7 ∷ 9 ∷ []) ((1, 3) ∷ (3, 2) ∷ []) ≡ 9 ∷ 4 ∷ 7 ∷ []
 swapped_twice = refl
+
+-- trace 1 becomes trace 3: traces 2 and 3 come to stand in front of it, and trace 4 stays
+pub from_the_move : place_in_move (record { from = 1; to = 3 }) 3 ≡ 1
+from_the_move = refl
+
+pub from_behind : place_in_move (record { from = 1; to = 3 }) 1 ≡ 2
+from_behind = refl
+
+pub from_there : place_in_move (record { from = 1; to = 3 }) 4 ≡ 4
+from_there = refl

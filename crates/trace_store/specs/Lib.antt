@@ -1,9 +1,15 @@
 pub mod Slots
+pub mod Lent
 pub mod Moved
 pub mod Stores
 pub mod Swapped
 pub mod Ahead
+pub mod Then
+pub mod Fetched
 pub mod Each
 pub mod OneProof
 pub mod Shown
 pub mod Examples
+pub mod Grown
+pub mod WindowIn
+pub mod Windows

@@ -3,6 +3,7 @@ use Rattle.std.specs.Prelude.{ℕ, List, length, Option, Some, None, IsSomeAnd}
 use Rattle.std.specs.Coded.{Coded-set, coded_ℕ, coded_option, le_prop, Π_prop, Unit-prop}
 use mathlib.Core.HLevel.{⊥_prop}
 use Rattle.slab.specs.Slab.{Slab, get}
+use Rattle.base_file.specs.HeldBytes.{HeldBytes}
 use Rattle.frame_cut.specs.declared.file_head.Head.{Head}
 use Rattle.frame_cut.specs.Cuts.{IsTrace}
 use Rattle.trace_view.specs.Runs.{FitFrom-prop}
@@ -21,18 +22,18 @@ IsTrace-prop h t = λ a b i. record {
   exact = Coded-set (coded_option coded_ℕ) _ _ a.exact b.exact i;
 }
 
-IsSlot-prop : {T : Type 0} (loaded : List ℕ) (h : Head) (slot : Slot T) → IsProp (IsSlot loaded h slot)
+IsSlot-prop : {T : Type 0} (loaded : HeldBytes) (h : Head) (slot : Slot T) → IsProp (IsSlot loaded h slot)
 IsSlot-prop loaded h slot = λ a b i. record {
-  inside = IsInside-prop loaded slot.base a.inside b.inside i;
-  fit = FitFrom-prop 0 slot.runs.items (length (base_of loaded slot.base)) a.fit b.fit i;
-  whole = IsTrace-prop h (bytes_in loaded slot) a.whole b.whole i;
+  inside = IsInside-prop loaded.bytes slot.base a.inside b.inside i;
+  fit = FitFrom-prop 0 slot.runs.items (length (base_of loaded.bytes slot.base)) a.fit b.fit i;
+  whole = Π_prop (λ _. IsTrace-prop h (bytes_in loaded.bytes slot)) a.whole b.whole i;
 }
 
 IsSomeAnd-prop : {A : Type 0} (P : A → Type 0) (o : Option A) → ((x : A) → IsProp (P x)) → IsProp (IsSomeAnd o P)
 IsSomeAnd-prop P None each = ⊥_prop
 IsSomeAnd-prop P (Some x) each = each x
 
-pub IsStore-prop : {T : Type 0} (loaded : List ℕ) (h : Head) (ids : List ℕ) (slots : Slab (Slot T)) → IsProp (IsStore loaded h ids slots)
+pub IsStore-prop : {T : Type 0} (loaded : HeldBytes) (h : Head) (ids : List ℕ) (slots : Slab (Slot T)) → IsProp (IsStore loaded h ids slots)
 IsStore-prop loaded h ids slots = λ a b i. record {
   held = Π_prop (λ id. Π_prop (λ _. IsSomeAnd-prop (IsSlot loaded h) (get slots id) (IsSlot-prop loaded h))) a.held b.held i;
   distinct = Π_prop (λ _. le_prop) a.distinct b.distinct i;

@@ -2,6 +2,8 @@
 use Rattle.std.specs.Prelude.{ℕ, ◌≡◌, ◌+◌, ◌<◌, ◌≤◌, ◌^◌, List, [], length, IsSomeAnd}
 use Rattle.std.specs.Option.{option_map_or}
 use Rattle.slab.specs.Slab.{Slab, get, slab_len}
+use Rattle.base_file.specs.HeldBytes.{HeldBytes, IsSure}
+use Rattle.frame_cut.specs.declared.extent.Extent.{Extent}
 use Rattle.frame_cut.specs.declared.file_head.Head.{Head}
 use Rattle.frame_cut.specs.Cuts.{IsTrace}
 use Rattle.frame_cut.specs.Layout.{bytes_at}
@@ -30,11 +32,16 @@ IsInside loaded (Added bytes) = Unit {0}
 abbrev pub bytes_in : {T : Type 0} → List ℕ → Slot T → List ℕ
 bytes_in loaded slot = bytes_with_runs (base_of loaded slot.base) slot.runs.items
 
--- the slot holds a whole trace
-pub record IsSlot {T : Type 0} (loaded : List ℕ) (h : Head) (slot : Slot T) : Type 0 where
-  pub inside : IsInside loaded slot.base
-  pub fit : Fit slot.runs.items (length (base_of loaded slot.base))
-  pub whole : IsTrace h (bytes_in loaded slot)
+-- the slot lies over the loaded bytes; and if they are sure, it holds a whole trace
+pub record IsSlot {T : Type 0} (loaded : HeldBytes) (h : Head) (slot : Slot T) : Type 0 where
+  pub inside : IsInside loaded.bytes slot.base
+  pub fit : Fit slot.runs.items (length (base_of loaded.bytes slot.base))
+  pub whole : IsSure loaded.standing → IsTrace h (bytes_in loaded.bytes slot)
+
+-- the slot has no runs, and its bytes are those of this extent of the loaded file
+pub record IsWholeRange {T : Type 0} (slot : Slot T) (extent : Extent) : Type 0 where
+  pub base : slot.base ≡ Loaded extent
+  pub plain : slot.runs.items ≡ []
 
 -- the bytes of the trace under an id
 abbrev pub bytes_under : {T : Type 0} → List ℕ → Slab (Slot T) → ℕ → List ℕ
@@ -44,17 +51,17 @@ bytes_under loaded slots id = option_map_or (bytes_in loaded) (get slots id) []
 abbrev pub base_under : {T : Type 0} → List ℕ → Slab (Slot T) → ℕ → List ℕ
 base_under loaded slots id = option_map_or (λ slot. base_of loaded slot.base) (get slots id) []
 
--- the id has a slot with a whole trace
-abbrev pub IsHeldUnder : {T : Type 0} → List ℕ → Head → Slab (Slot T) → ℕ → Type 0
+-- the id has a slot over the loaded bytes
+abbrev pub IsHeldUnder : {T : Type 0} → HeldBytes → Head → Slab (Slot T) → ℕ → Type 0
 IsHeldUnder loaded h slots id = IsSomeAnd (get slots id) (IsSlot loaded h)
 
--- each of these ids has a slot with a whole trace
-abbrev pub AreHeld : {T : Type 0} → List ℕ → Head → List ℕ → Slab (Slot T) → Type 0
+-- each of these ids has a slot over the loaded bytes
+abbrev pub AreHeld : {T : Type 0} → HeldBytes → Head → List ℕ → Slab (Slot T) → Type 0
 AreHeld loaded h ids slots = (id : ℕ) → 0 < times id ids → IsHeldUnder loaded h slots id
 
--- each of the ids has a slot with a whole trace, no id stands twice, there is no slot but theirs, and they can be
+-- each of the ids has a slot over the loaded bytes, no id stands twice, there is no slot but theirs, and they can be
 -- counted in 32 bits
-pub record IsStore {T : Type 0} (loaded : List ℕ) (h : Head) (ids : List ℕ) (slots : Slab (Slot T)) : Type 0 where
+pub record IsStore {T : Type 0} (loaded : HeldBytes) (h : Head) (ids : List ℕ) (slots : Slab (Slot T)) : Type 0 where
   pub held : AreHeld loaded h ids slots
   pub distinct : AreDistinct ids
   pub no_more : slab_len slots ≡ length ids

@@ -21,8 +21,7 @@ impl<'a, T: Copy> Model for Payloads<'a, T> {
 
     ghost view = { λ p. payloads_under p.store.now.slots p.ids };
 
-    ghost invariant = { λ p. AreHeld p.store.now.loaded.bytes p.store.now.head p.ids
-        p.store.now.slots };
+    ghost invariant = { λ p. AreHeld p.store.now.loaded p.store.now.head p.ids p.store.now.slots };
 }
 
 impl<'a, T: Copy> Payloads<'a, T> {

@@ -1,5 +1,6 @@
 // An edit that is prepared.
-ghost use Rattle.std.specs.Prelude.{◌≡◌, ◌+◌, ◌-◌, ◌<◌, ◌≤◌};
+ghost use Rattle.std.specs.Prelude.{◌≡◌, ◌+◌, ◌-◌, ◌<◌, ◌≤◌, option_copied};
+ghost use Rattle.trace_store.specs.Then.{place_in_move, place_then, runs_over, runs_then};
 
 use trace_view::Run;
 
@@ -33,9 +34,55 @@ pub struct TraceMove {
     pub to: u32,
 }
 
+impl Prepared {
+    // Where the trace is now that would be trace p.
+    #[inline]
+    pub(crate) fn place(&self, p: u32) -> u32
+        ensures { result ≡ place_then self.now p }
+    {
+        match self {
+            Prepared::Move(places) => places.origin(p),
+            _ => p,
+        }
+    }
+
+    // The runs that would lie over trace p, if the edit lays any.
+    #[inline]
+    pub(crate) fn runs(&self, p: u32) -> Option<&[Run]>
+        requires { 1 ≤ p }
+        ensures { option_copied result ≡ runs_then self.now p }
+    {
+        match self {
+            Prepared::Put(put) => {
+                if p - 1 == put.place {
+                    Some(put.runs.as_slice())
+                } else {
+                    None
+                }
+            }
+            Prepared::Runs(runs) => runs.over(p - 1),
+            Prepared::Move(_) => None,
+        }
+    }
+}
+
+impl TraceRuns {
+    // The runs for the trace at a place, counted from 0, if it is one of these traces.
+    fn over(&self, place: u32) -> Option<&[Run]>
+        ensures { option_copied result ≡ runs_over self.now place }
+    {
+        if place < self.place {
+            return None;
+        }
+        let list = self.lists.get((place - self.place) as usize)?;
+        Some(list.as_slice())
+    }
+}
+
 impl TraceMove {
     /// Where the trace is now that would be trace p.
     pub fn origin(&self, p: u32) -> u32
+        ensures place { result ≡ place_in_move self.now p }
         ensures moved { p ≡ self.now.to → result ≡ self.now.from }
         ensures forth { self.now.from ≤ p → p < self.now.to → result ≡ p + 1 }
         ensures back { self.now.to < p → p ≤ self.now.from → result ≡ p - 1 }

@@ -1,14 +1,14 @@
 // The traces of a volume: an order of ids, and a slot under each.
-ghost use Rattle.std.specs.Prelude.{◌≡◌, ℕ, ◌+◌, ◌-◌, ◌/◌, ◌%◌, ◌^◌, ◌<◌, ◌≤◌, [], ◌∷◌, length, Some, slice_index_or, slice_set, IfOk, OnOk, OnErr, slice_get};
+ghost use Rattle.std.specs.Prelude.{◌≡◌, ℕ, ◌+◌, ◌-◌, ◌/◌, ◌%◌, ◌^◌, ◌<◌, ◌≤◌, [], ◌∷◌, length, take, drop, Some, None, option_copied, slice_index_or, slice_set, IfErr, IfOk, IfSome, IsOk, IsTrue, OnOk, OnErr, slice_get};
 ghost use Rattle.std.specs.List.{insert, remove, swap};
-ghost use Rattle.base_file.specs.HeldBytes.{IsInMemory, IsInMemory-prop};
+ghost use Rattle.base_file.specs.HeldBytes.{InMemory, AreThere, IsInMemory, IsStill, IsSure, lent_of};
 ghost use Rattle.frame_cut.specs.Cuts.{IsTrace};
 ghost use Rattle.frame_cut.specs.Layout.{bytes_at};
 ghost use Rattle.frame_cut.specs.Splice.{splice};
 ghost use Rattle.trace_seq.specs.Order.{id_at};
 ghost use Rattle.trace_view.specs.Runs.{Fit, bytes_with_runs};
-ghost use Rattle.trace_view.specs.Shown.{bytes_of, head_of};
-ghost use Rattle.trace_store.specs.Slots.{base_of, bytes_under, IsHeldUnder, IsInside, IsStore};
+ghost use Rattle.trace_view.specs.Shown.{head_of, bytes_of as shown_bytes};
+ghost use Rattle.trace_store.specs.Slots.{base_of, IsHeldUnder, IsInside, IsStore};
 ghost use Rattle.frame_cut.specs.Parts.{put_each_at};
 ghost use Rattle.trace_store.specs.Each.{part_of, ArePutRuns, ArePutEach};
 ghost use Rattle.trace_store.specs.OneProof.{IsStore-prop};
@@ -16,34 +16,36 @@ ghost use Rattle.trace_store.specs.OneProof.{IsStore-prop};
 use crate::out_of_memory::OutOfMemory;
 use crate::prepared::{Prepared, TraceMove, TracePut, TraceRuns};
 use crate::slot::{Base, Slot, piece};
-use base_file::Held;
-use frame_cut::{Extent, Head};
+use crate::window::Window;
+use base_file::{Held, ReadFault};
+use frame_cut::{Extent, Head, LoadFault};
 use slab::Slab;
 use std::alloc::Global;
 use std::mem;
 use trace_seq::{ChunkSeq, TraceSeq};
 use trace_view::{Run, TraceView};
 
-/// The loaded bytes, which are in memory and never change, and the traces that lie over them.
-/// Traces count from 1.
+/// The loaded bytes, which never change, and the traces that lie over them. Traces count from 1.
 #[derive(Drop)]
 pub struct TraceStore<T: Copy> {
     pub loaded: Held,
     pub head: Head,
     pub order: ChunkSeq,
     pub slots: Slab<Slot<T>>,
-    pub ghost sound: { IsStore loaded.bytes head order.ids slots } by { IsStore-prop loaded.bytes
-        head order.ids slots },
-    pub ghost in_memory: { IsInMemory loaded.standing } by { IsInMemory-prop loaded.standing },
+    pub ghost sound: { IsStore loaded head order.ids slots } by { IsStore-prop loaded head order.ids
+        slots },
 }
 
 impl<T: Copy> TraceStore<T> {
     ghost use Rattle.trace_store.specs.Ahead.{traces_moved, traces_then, traces_with, AreRunsFrom, AreRunsOf, IsReady};
     ghost use Rattle.trace_store.specs.Stores.{bases_of, payload_under, traces_of, payloads_of, payloads_moved, payloads_then};
+    ghost use Rattle.trace_store.specs.Fetched.{trace_with, IsFetched, IsFetchedThen, IsFetchedWith, MayLie};
+    ghost use Rattle.trace_store.specs.Grown.{HasMore};
+    ghost use Rattle.trace_store.specs.Windows.{IsFaultOfPass, IsNextOf};
     ghost use Rattle.trace_store.specs.Swapped.{with_swapped, ArePlaces};
 
-    /// No traces yet over a loaded file, with room for so many slots. Refused for want of memory
-    /// alone.
+    /// No traces yet over a file that was loaded into memory, with room for so many slots. Refused
+    /// for want of memory alone.
     pub fn new(
         alloc: Global,
         loaded: Vec<u8>,
@@ -52,15 +54,86 @@ impl<T: Copy> TraceStore<T> {
     ) -> Result<TraceStore<T>, OutOfMemory>
         ensures head { IfOk result (λ s. s.head ≡ head) }
         ensures loaded { IfOk result (λ s. s.loaded.bytes ≡ loaded.items) }
+        ensures standing { IfOk result (λ s. s.loaded.standing ≡ InMemory) }
+        ensures front { IfOk result (λ s. s.loaded.front ≡ length loaded.items) }
+        ensures back { IfOk result (λ s. s.loaded.back ≡ length loaded.items) }
+        ensures traces { IfOk result (λ s. traces_of s ≡ []) }
+        ensures payloads { IfOk result (λ s. payloads_of s ≡ []) }
+    {
+        TraceStore::over(alloc, Held::in_memory(alloc, loaded), head, room)
+    }
+
+    /// No traces yet over loaded bytes, in memory or on disk, with room for so many slots. Refused
+    /// for want of memory alone.
+    pub fn over(
+        alloc: Global,
+        loaded: Held,
+        head: Head,
+        room: usize,
+    ) -> Result<TraceStore<T>, OutOfMemory>
+        ensures head { IfOk result (λ s. s.head ≡ head) }
+        ensures loaded { IfOk result (λ s. s.loaded ≡ loaded) }
         ensures traces { IfOk result (λ s. traces_of s ≡ []) }
         ensures payloads { IfOk result (λ s. payloads_of s ≡ []) }
     {
         Ok(TraceStore {
-            loaded: Held::in_memory(alloc, loaded),
+            loaded,
             head,
             order: ChunkSeq::new(alloc),
             slots: Slab::with_capacity(alloc, room)?,
         })
+    }
+
+    /// Reads a file that is being passed on, until the window has n bytes. Refused as
+    /// `Window::hold`.
+    pub fn hold(&mut self, window: &mut Window, n: usize, size: u64) -> Result<(), LoadFault>
+        requires { length self.old.loaded.bytes ≤ size }
+        ensures grown { HasMore self.old self.new }
+        ensures next { (at : ℕ) → IsNextOf self.old.loaded.bytes at window.old.bytes →
+            IsNextOf self.new.loaded.bytes at window.new.bytes }
+        ensures within { length self.new.loaded.bytes ≤ size }
+        ensures there { OnOk result (n ≤ length window.new.bytes) }
+        ensures fault { IfErr result IsFaultOfPass }
+    {
+        window.hold(&mut self.loaded, n, size)
+    }
+
+    /// Whether the file that is being passed has no more bytes. Refused as `Held::is_at_end`. Takes
+    /// no memory.
+    pub fn is_at_end(&mut self) -> Result<bool, ReadFault>
+        ensures grown { HasMore self.old self.new }
+        ensures end { IfOk result (λ end. IsTrue end →
+            self.new.loaded.bytes ≡ self.old.loaded.bytes) }
+    {
+        self.loaded.is_at_end()
+    }
+
+    /// The store of the file that was passed, with what `Held::settle` keeps of it. Takes no
+    /// memory.
+    pub fn settle(self, room: Vec<u8>, front: Vec<u8>, back: Vec<u8>) -> TraceStore<T>
+        requires front { front.items ≡ take (length front.items) self.loaded.bytes }
+        requires back { back.items
+            ≡ drop (length self.loaded.bytes - length back.items) self.loaded.bytes }
+        requires fits { length back.items ≤ length self.loaded.bytes }
+        ensures head { result.head ≡ self.head }
+        ensures bytes { result.loaded.bytes ≡ self.loaded.bytes }
+        ensures standing { result.loaded.standing ≡ self.loaded.standing }
+        ensures room { ¬ IsInMemory self.loaded.standing →
+            result.loaded.room ≡ room.items }
+        ensures front { ¬ IsInMemory self.loaded.standing →
+            result.loaded.front ≡ length front.items }
+        ensures back { ¬ IsInMemory self.loaded.standing →
+            result.loaded.back ≡ length back.items }
+        ensures traces { traces_of result ≡ traces_of self }
+        ensures payloads { payloads_of result ≡ payloads_of self }
+    {
+        let loaded = self.loaded.settle(room, front, back);
+        TraceStore {
+            loaded,
+            head: self.head,
+            order: self.order,
+            slots: self.slots,
+        }
     }
 
     /// The number of traces.
@@ -115,26 +188,178 @@ impl<T: Copy> TraceStore<T> {
         }
     }
 
-    /// Trace p.
-    pub fn view(&self, p: u32) -> TraceView<'_>
+    /// How many bytes trace p has. Reads none of them.
+    pub fn length_of(&self, p: u32) -> u64
         requires first { 1 ≤ p }
         requires last { p ≤ length (traces_of self.now) }
-        ensures head { head_of result ≡ self.now.head }
-        ensures bytes { bytes_of result ≡ slice_index_or (traces_of self.now) (p - 1) [] }
+        ensures { result ≡ length (slice_index_or (traces_of self.now) (p - 1) []) }
     {
-        self.view_under(self.id(p))
+        let id = self.id(p);
+        match self.slots.get(id) {
+            Some(slot) => slot.base.size(),
+            None => unreachable!(),
+        }
     }
 
-    /// The trace under an id.
-    pub fn view_under(&self, id: usize) -> TraceView<'_>
-        requires { IsHeldUnder self.now.loaded.bytes self.now.head self.now.slots id }
-        ensures head { head_of result ≡ self.now.head }
-        ensures bytes { bytes_of result ≡ bytes_under self.now.loaded.bytes self.now.slots id }
+    /// Where trace p lies in the loaded file, if it does, and no run lies over it.
+    pub fn whole_range(&self, p: u32) -> Option<Extent>
+        requires first { 1 ≤ p }
+        requires last { p ≤ length (traces_of self.now) }
+        ensures inside { IfSome result (λ e. e.start + e.length ≤ length self.now.loaded.bytes) }
+        ensures bytes { IfSome result (λ e. bytes_at self.now.loaded.bytes e
+            ≡ slice_index_or (traces_of self.now) (p - 1) []) }
     {
+        let id = self.id(p);
+        match self.slots.get(id) {
+            Some(slot) => slot.whole_range(),
+            None => unreachable!(),
+        }
+    }
+
+    /// Reads n bytes of the loaded file from `at` on, where they are on disk: `loaded` lends them
+    /// then. Refused as `Held::fetch`.
+    pub fn fetch_loaded(&mut self, at: u64, n: usize) -> Result<(), ReadFault>
+        requires { at + n ≤ length self.old.loaded.bytes }
+        ensures head { self.new.head ≡ self.old.head }
+        ensures order { self.new.order ≡ self.old.order }
+        ensures slots { self.new.slots ≡ self.old.slots }
+        ensures loaded { IsStill self.old.loaded self.new.loaded }
+        ensures room { length self.new.loaded.room ≡ length self.old.loaded.room }
+        ensures bases { bases_of self.new ≡ bases_of self.old }
+        ensures traces { traces_of self.new ≡ traces_of self.old }
+        ensures payloads { payloads_of self.new ≡ payloads_of self.old }
+        ensures there { OnOk result (AreThere self.new.loaded at n) }
+        ensures size { OnOk result (length (lent_of self.new.loaded at n) ≡ n) }
+        ensures bytes { OnOk result (IsSure self.new.loaded.standing →
+            lent_of self.new.loaded at n ≡ take n (drop at self.old.loaded.bytes)) }
+        ensures memory { IsInMemory self.old.loaded.standing → IsOk result }
+    {
+        self.loaded.fetch(at, n)
+    }
+
+    /// Reads the bytes of trace p, where they are on disk: it can be shown then. Refused where the
+    /// file failed or has fewer bytes than it had, where there is no room for them, and where what
+    /// the file gives now is no whole trace; in memory never.
+    pub fn fetch(&mut self, p: u32) -> Result<(), ReadFault>
+        requires first { 1 ≤ p }
+        requires last { p ≤ length (traces_of self.old) }
+        ensures head { self.new.head ≡ self.old.head }
+        ensures order { self.new.order ≡ self.old.order }
+        ensures slots { self.new.slots ≡ self.old.slots }
+        ensures loaded { IsStill self.old.loaded self.new.loaded }
+        ensures room { length self.new.loaded.room ≡ length self.old.loaded.room }
+        ensures bases { bases_of self.new ≡ bases_of self.old }
+        ensures traces { traces_of self.new ≡ traces_of self.old }
+        ensures payloads { payloads_of self.new ≡ payloads_of self.old }
+        ensures fetched { OnOk result (IsFetched self.new p) }
+        ensures memory { IsInMemory self.old.loaded.standing → IsOk result }
+        ensures same { IsInMemory self.old.loaded.standing → self.new ≡ self.old }
+    {
+        self.fetch_with(p, None)
+    }
+
+    /// Trace p, whose bytes are at hand: what was read of it last, or in memory the trace itself.
+    #[inline]
+    pub fn shown(&self, p: u32) -> TraceView<'_>
+        requires { IsFetched self.now p }
+        ensures head { head_of result ≡ self.now.head }
+        ensures length { length (shown_bytes result) ≡ length
+            (slice_index_or (traces_of self.now) (p - 1) []) }
+        ensures bytes { IsSure self.now.loaded.standing →
+            shown_bytes result ≡ slice_index_or (traces_of self.now) (p - 1) [] }
+    {
+        self.shown_with(p, None)
+    }
+
+    /// Reads the bytes of the trace that would be trace p with the edit that is prepared. Refused
+    /// as `fetch`.
+    pub fn fetch_then(&mut self, p: u32, prepared: &Prepared) -> Result<(), ReadFault>
+        requires ready { IsReady self.old prepared.now }
+        requires first { 1 ≤ p }
+        requires last { p ≤ length (traces_of self.old) }
+        ensures head { self.new.head ≡ self.old.head }
+        ensures order { self.new.order ≡ self.old.order }
+        ensures slots { self.new.slots ≡ self.old.slots }
+        ensures loaded { IsStill self.old.loaded self.new.loaded }
+        ensures room { length self.new.loaded.room ≡ length self.old.loaded.room }
+        ensures bases { bases_of self.new ≡ bases_of self.old }
+        ensures traces { traces_of self.new ≡ traces_of self.old }
+        ensures payloads { payloads_of self.new ≡ payloads_of self.old }
+        ensures ready { IsReady self.new prepared.now }
+        ensures fetched { OnOk result (IsFetchedThen self.new p prepared.now) }
+        ensures memory { IsInMemory self.old.loaded.standing → IsOk result }
+        ensures same { IsInMemory self.old.loaded.standing → self.new ≡ self.old }
+    {
+        if self.loaded.is_in_memory() {
+            return Ok(());
+        }
+        self.fetch_with(prepared.place(p), prepared.runs(p))
+    }
+
+    /// Trace p as it would be with the edit that is prepared: what was read of it last, or in
+    /// memory the trace itself.
+    #[inline]
+    pub fn shown_then<'a>(&'a self, p: u32, prepared: &'a Prepared) -> TraceView<'a>
+        requires ready { IsReady self.now prepared.now }
+        requires first { 1 ≤ p }
+        requires last { p ≤ length (traces_of self.now) }
+        requires fetched { IsFetchedThen self.now p prepared.now }
+        ensures head { head_of result ≡ self.now.head }
+        ensures length { length (shown_bytes result) ≡ length
+            (slice_index_or (traces_then self.now prepared.now) (p - 1) []) }
+        ensures bytes { IsSure self.now.loaded.standing →
+            shown_bytes result ≡ slice_index_or (traces_then self.now prepared.now) (p - 1) [] }
+    {
+        self.shown_with(prepared.place(p), prepared.runs(p))
+    }
+
+    // Reads the bytes of trace p, where they are on disk, and tests that with these runs over them,
+    // or else with the trace's own, they are a whole trace.
+    #[inline]
+    fn fetch_with(&mut self, p: u32, laid: Option<&[Run]>) -> Result<(), ReadFault>
+        requires first { 1 ≤ p }
+        requires last { p ≤ length (traces_of self.old) }
+        requires laid { MayLie self.old p (option_copied laid) }
+        ensures head { self.new.head ≡ self.old.head }
+        ensures order { self.new.order ≡ self.old.order }
+        ensures slots { self.new.slots ≡ self.old.slots }
+        ensures loaded { IsStill self.old.loaded self.new.loaded }
+        ensures room { length self.new.loaded.room ≡ length self.old.loaded.room }
+        ensures bases { bases_of self.new ≡ bases_of self.old }
+        ensures traces { traces_of self.new ≡ traces_of self.old }
+        ensures payloads { payloads_of self.new ≡ payloads_of self.old }
+        ensures fetched { OnOk result (IsFetchedWith self.new p (option_copied laid.entry)) }
+        ensures memory { IsInMemory self.old.loaded.standing → IsOk result }
+        ensures same { IsInMemory self.old.loaded.standing → self.new ≡ self.old }
+    {
+        if self.loaded.is_in_memory() {
+            return Ok(());
+        }
+        let id = self.id(p);
         match self.slots.get(id) {
             Some(slot) => {
-                let base = slot.base_bytes(self.loaded.bytes());
-                TraceView::new(&self.head, base, slot.runs.as_slice())
+                let runs = laid.unwrap_or(slot.runs.as_slice());
+                slot.base.fetch(&self.head, &mut self.loaded, runs)
+            }
+            None => unreachable!(),
+        }
+    }
+
+    // Trace p, whose bytes are at hand, with these runs over them, or else with its own.
+    #[inline]
+    fn shown_with<'a>(&'a self, p: u32, laid: Option<&'a [Run]>) -> TraceView<'a>
+        requires { IsFetchedWith self.now p (option_copied laid) }
+        ensures head { head_of result ≡ self.now.head }
+        ensures length { length (shown_bytes result) ≡ length
+            (slice_index_or (bases_of self.now) (p - 1) []) }
+        ensures bytes { IsSure self.now.loaded.standing →
+            shown_bytes result ≡ trace_with self.now p (option_copied laid.entry) }
+    {
+        let id = self.id(p);
+        match self.slots.get(id) {
+            Some(slot) => {
+                let runs = laid.unwrap_or(slot.runs.as_slice());
+                TraceView::new(&self.head, slot.base.lent(&self.loaded), runs)
             }
             None => unreachable!(),
         }
@@ -142,7 +367,7 @@ impl<T: Copy> TraceStore<T> {
 
     /// The payload under an id.
     pub fn payload_under(&self, id: usize) -> T
-        requires { IsHeldUnder self.now.loaded.bytes self.now.head self.now.slots id }
+        requires { IsHeldUnder self.now.loaded self.now.head self.now.slots id }
         ensures { payload_under self.now.slots id ≡ Some result }
     {
         match self.slots.get(id) {
@@ -151,87 +376,16 @@ impl<T: Copy> TraceStore<T> {
         }
     }
 
-    /// The trace that lies at an extent of the loaded file.
+    /// The trace that lies at an extent of the loaded file, which is in memory.
     pub fn view_loaded(&self, extent: Extent) -> TraceView<'_>
+        requires memory { IsInMemory self.now.loaded.standing }
         requires inside { extent.start + extent.length ≤ length self.now.loaded.bytes }
         requires whole { IsTrace self.now.head (bytes_at self.now.loaded.bytes extent) }
         ensures head { head_of result ≡ self.now.head }
-        ensures bytes { bytes_of result ≡ bytes_at self.now.loaded.bytes extent }
+        ensures bytes { shown_bytes result ≡ bytes_at self.now.loaded.bytes extent }
     {
         let bytes = piece(self.loaded.bytes(), extent);
         TraceView::new(&self.head, bytes, &[])
-    }
-
-    // Trace p with these runs in place of its own.
-    fn view_with<'a>(&'a self, p: u32, runs: &'a [Run]) -> TraceView<'a>
-        requires first { 1 ≤ p }
-        requires runs { AreRunsOf self.now.head (bases_of self.now) (p - 1) runs.now }
-        ensures head { head_of result ≡ self.now.head }
-        ensures bytes { bytes_of result ≡ bytes_with_runs
-            (slice_index_or (bases_of self.now) (p - 1) []) runs.now }
-    {
-        let id = self.id(p);
-        match self.slots.get(id) {
-            Some(slot) => {
-                let base = slot.base_bytes(self.loaded.bytes());
-                TraceView::new(&self.head, base, runs)
-            }
-            None => unreachable!(),
-        }
-    }
-
-    /// Trace p as it would be with the edit that is prepared.
-    pub fn view_then<'a>(&'a self, p: u32, prepared: &'a Prepared) -> TraceView<'a>
-        requires ready { IsReady self.now prepared.now }
-        requires first { 1 ≤ p }
-        requires last { p ≤ length (traces_of self.now) }
-        ensures head { head_of result ≡ self.now.head }
-        ensures bytes { bytes_of result ≡ slice_index_or (traces_then self.now prepared.now) (p - 1)
-            [] }
-    {
-        match prepared {
-            Prepared::Put(put) => self.view_put(p, put),
-            Prepared::Runs(runs) => self.view_laid(p, runs),
-            Prepared::Move(places) => self.view(places.origin(p)),
-        }
-    }
-
-    // Trace p as it would be with the prepared runs of one trace.
-    fn view_put<'a>(&'a self, p: u32, prepared: &'a TracePut) -> TraceView<'a>
-        requires runs { AreRunsFrom self.now.head (bases_of self.now) prepared.now.place
-            (prepared.now.runs ∷ []) }
-        requires first { 1 ≤ p }
-        requires last { p ≤ length (traces_of self.now) }
-        ensures head { head_of result ≡ self.now.head }
-        ensures bytes { bytes_of result ≡ slice_index_or (traces_with (bases_of self.now)
-            (traces_of self.now) prepared.now.place (prepared.now.runs ∷ [])) (p - 1) [] }
-    {
-        if p - 1 == prepared.place {
-            self.view_with(p, prepared.runs.as_slice())
-        } else {
-            self.view(p)
-        }
-    }
-
-    // Trace p as it would be with the prepared runs.
-    fn view_laid<'a>(&'a self, p: u32, prepared: &'a TraceRuns) -> TraceView<'a>
-        requires runs { AreRunsFrom self.now.head (bases_of self.now) prepared.now.place
-            prepared.now.lists.items }
-        requires first { 1 ≤ p }
-        requires last { p ≤ length (traces_of self.now) }
-        ensures head { head_of result ≡ self.now.head }
-        ensures bytes { bytes_of result ≡ slice_index_or (traces_with (bases_of self.now)
-            (traces_of self.now) prepared.now.place prepared.now.lists.items) (p - 1) [] }
-    {
-        let at = p - 1;
-        if at < prepared.place {
-            return self.view(p);
-        }
-        let k = (at - prepared.place) as usize;
-        if k >= prepared.lists.len() {
-            return self.view(p);
-        }
-        self.view_with(p, prepared.lists[k].as_slice())
     }
 
     /// The runs that lay the bytes over those of trace p from place `at` on, counted from 0 in the
@@ -247,7 +401,7 @@ impl<T: Copy> TraceStore<T> {
         requires last { p ≤ length (traces_of self.now) }
         requires inside { at + length bytes.now ≤ length
             (slice_index_or (traces_of self.now) (p - 1) []) }
-        requires whole { IsTrace self.now.head
+        requires whole { IsSure self.now.loaded.standing → IsTrace self.now.head
             (splice (slice_index_or (traces_of self.now) (p - 1) []) at (length bytes.now)
             bytes.now) }
         ensures ready { IfOk result (IsReady self.now) }
@@ -285,7 +439,7 @@ impl<T: Copy> TraceStore<T> {
         requires last { a - 1 + length bytes.now / size ≤ length (traces_of self.now) }
         requires inside { (k : ℕ) → k < length bytes.now / size →
             at + size ≤ length (slice_index_or (traces_of self.now) (a - 1 + k) []) }
-        requires whole { (k : ℕ) → k < length bytes.now / size →
+        requires whole { IsSure self.now.loaded.standing → (k : ℕ) → k < length bytes.now / size →
             IsTrace self.now.head (splice (slice_index_or (traces_of self.now) (a - 1 + k) []) at
             size (part_of bytes.now size k)) }
         ensures ready { IfOk result (IsReady self.now) }
@@ -365,8 +519,8 @@ impl<T: Copy> TraceStore<T> {
 
     // Gives a trace the prepared runs, and trace p, which is mostly the same, this payload.
     fn put_with(&mut self, prepared: TracePut, p: u32, payload: T)
-        requires runs { AreRunsFrom self.old.head (bases_of self.old) prepared.place
-            (prepared.runs ∷ []) }
+        requires runs { AreRunsFrom self.old.loaded.standing self.old.head (bases_of self.old)
+            prepared.place (prepared.runs ∷ []) }
         requires first { 1 ≤ p }
         requires last { p ≤ length (traces_of self.old) }
         ensures head { self.new.head ≡ self.old.head }
@@ -385,8 +539,8 @@ impl<T: Copy> TraceStore<T> {
 
     // Gives the traces the prepared runs.
     fn lay(&mut self, prepared: TraceRuns)
-        requires runs { AreRunsFrom self.old.head (bases_of self.old) prepared.place
-            prepared.lists.items }
+        requires runs { AreRunsFrom self.old.loaded.standing self.old.head (bases_of self.old)
+            prepared.place prepared.lists.items }
         ensures head { self.new.head ≡ self.old.head }
         ensures loaded { self.new.loaded ≡ self.old.loaded }
         ensures traces { traces_of self.new ≡ traces_with (bases_of self.old) (traces_of self.old)
@@ -455,7 +609,8 @@ impl<T: Copy> TraceStore<T> {
     // Gives trace p these runs in place of those that it has.
     fn set_runs(&mut self, p: u32, runs: Vec<Run>)
         requires first { 1 ≤ p }
-        requires runs { AreRunsOf self.old.head (bases_of self.old) (p - 1) runs.items }
+        requires runs { AreRunsOf self.old.loaded.standing self.old.head (bases_of self.old) (p - 1)
+            runs.items }
         ensures head { self.new.head ≡ self.old.head }
         ensures loaded { self.new.loaded ≡ self.old.loaded }
         ensures bases { bases_of self.new ≡ bases_of self.old }
@@ -473,7 +628,8 @@ impl<T: Copy> TraceStore<T> {
     // Gives trace p these runs in place of those that it has, and this payload.
     fn set_slot(&mut self, p: u32, runs: Vec<Run>, payload: T)
         requires first { 1 ≤ p }
-        requires runs { AreRunsOf self.old.head (bases_of self.old) (p - 1) runs.items }
+        requires runs { AreRunsOf self.old.loaded.standing self.old.head (bases_of self.old) (p - 1)
+            runs.items }
         ensures head { self.new.head ≡ self.old.head }
         ensures loaded { self.new.loaded ≡ self.old.loaded }
         ensures traces { traces_of self.new ≡ slice_set (traces_of self.old) (p - 1)

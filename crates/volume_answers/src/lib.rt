@@ -4,7 +4,9 @@
 //! Each contract speaks of every state that fits what the call is lent: the volume of an overlay,
 //! the pairs of a field map, the records beside the traces, or what a report has counted. So one
 //! who holds these parts of a state answers its queries. No call changes them: of an overlay that
-//! is lent to be looked at, the number of looks alone is another one then.
+//! is lent to be looked at, the number of looks alone is another one then, and on disk whether each
+//! read agreed. What is told of traces that were looked at holds if each did; in any case the
+//! contracts tell what an edit has to know of a trace, as that its place lies inside.
 //!
 //! Traces and the lines of a block count from 1, samples of a trace from 0. A call takes memory
 //! where it is lent an allocator, for an answer that is a text or a list.

@@ -1,7 +1,7 @@
 // The answers about the headers of a range of traces.
-ghost use Rattle.std.specs.Prelude.{◌≡◌, ◌≤◌, None};
+ghost use Rattle.std.specs.Prelude.{◌≡◌, ◌≤◌, IsTrue, None};
 ghost use Rattle.frame_cut.specs.Traces.{count_of};
-ghost use Rattle.edit_overlay.specs.CountedVolume.{RisesAtMost};
+ghost use Rattle.edit_overlay.specs.CountedVolume.{IsSeen};
 ghost use Rattle.bench_rules.specs.declared.query.Query.TheVariants as queries;
 ghost use Rattle.bench_rules.specs.Answer.{of_traces, IsReply, Reply};
 ghost use Rattle.bench_rules.specs.Looks.{looks_at, range_looks};
@@ -37,6 +37,7 @@ fn range_fault(overlay: &Overlay<PackedRecord>, a: u32, b: u32) -> Option<AskFau
 
 /// These fields of each of traces a to b. Looks at each of them once at most, and at none where a
 /// or b is refused or a field has no place. Takes memory. Refused: E01, E02, E03, else E11 alone.
+/// On disk also where a trace could not be read (E14, E15).
 pub fn table_answer(
     alloc: Global,
     overlay: &mut Overlay<PackedRecord>,
@@ -46,11 +47,9 @@ pub fn table_answer(
     fields: &[Field],
 ) -> Result<Answer, AskFault>
     ensures reply { (s : State) → s.volume ≡ overlay.old.volume → s.fields ≡ map.now.pairs →
+        s.on_disk ≡ overlay.old.on_disk → IsTrue overlay.new.agreed →
         IsReply s (queries.Table a b fields.now) result }
-    ensures volume { overlay.new.volume ≡ overlay.old.volume }
-    ensures prepared { overlay.new.prepared ≡ overlay.old.prepared }
-    ensures payloads { overlay.new.payloads ≡ overlay.old.payloads }
-    ensures looks { RisesAtMost overlay.old.looks overlay.new.looks
+    ensures seen { IsSeen overlay.old overlay.new
         (looks_at (each_of (place_of_field map.now.pairs) fields.now)
         (range_looks overlay.old.volume a b)) }
 {
@@ -66,7 +65,7 @@ pub fn table_answer(
 
 /// Those of traces a to b whose field has a number from low to high. Looks at each of them once at
 /// most, and at none where a or b is refused or the field has no place. Takes memory. Refused: E01,
-/// E02, E03, else E11 alone.
+/// E02, E03, else E11 alone. On disk also where a trace could not be read (E14, E15).
 pub fn found_answer(
     alloc: Global,
     overlay: &mut Overlay<PackedRecord>,
@@ -78,11 +77,9 @@ pub fn found_answer(
     high: i128,
 ) -> Result<Answer, AskFault>
     ensures reply { (s : State) → s.volume ≡ overlay.old.volume → s.fields ≡ map.now.pairs →
+        s.on_disk ≡ overlay.old.on_disk → IsTrue overlay.new.agreed →
         IsReply s (queries.Find a b field.now low high) result }
-    ensures volume { overlay.new.volume ≡ overlay.old.volume }
-    ensures prepared { overlay.new.prepared ≡ overlay.old.prepared }
-    ensures payloads { overlay.new.payloads ≡ overlay.old.payloads }
-    ensures looks { RisesAtMost overlay.old.looks overlay.new.looks
+    ensures seen { IsSeen overlay.old overlay.new
         (looks_at (place_of_field map.now.pairs field.now)
         (range_looks overlay.old.volume a b)) }
 {
@@ -97,7 +94,8 @@ pub fn found_answer(
 }
 
 /// The extremes of all named header fields over traces a to b. Looks at each of them once at most,
-/// and at none where a or b is refused. Takes memory. Refused: E01, else E11 alone.
+/// and at none where a or b is refused. Takes memory. Refused: E01, else E11 alone. On disk also
+/// where a trace could not be read (E14, E15).
 pub fn extremes_answer(
     alloc: Global,
     overlay: &mut Overlay<PackedRecord>,
@@ -106,11 +104,9 @@ pub fn extremes_answer(
     b: u32,
 ) -> Result<Answer, AskFault>
     ensures reply { (s : State) → s.volume ≡ overlay.old.volume → s.fields ≡ map.now.pairs →
+        s.on_disk ≡ overlay.old.on_disk → IsTrue overlay.new.agreed →
         IsReply s (queries.Extremes a b) result }
-    ensures volume { overlay.new.volume ≡ overlay.old.volume }
-    ensures prepared { overlay.new.prepared ≡ overlay.old.prepared }
-    ensures payloads { overlay.new.payloads ≡ overlay.old.payloads }
-    ensures looks { RisesAtMost overlay.old.looks overlay.new.looks
+    ensures seen { IsSeen overlay.old overlay.new
         (range_looks overlay.old.volume a b) }
 {
     if let Some(fault) = range_fault(overlay, a, b) {

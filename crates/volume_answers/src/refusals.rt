@@ -1,45 +1,49 @@
 // The first refusals of edits of one trace, but for want of memory.
-ghost use Rattle.std.specs.Prelude.{◌≡◌, ◌+◌, ◌*◌, Some, None, IfOk, IfErr, OnOk};
+ghost use Rattle.std.specs.Prelude.{◌≡◌, ◌+◌, ◌*◌, ◌⊎◌, Some, None, IsTrue, IfOk, IfErr, OnOk};
 ghost use Rattle.sample_codes.specs.Formats.{width};
 ghost use Rattle.frame_cut.specs.Traces.{trace_at};
 ghost use Rattle.trace_view.specs.Values.{samples_at};
-ghost use Rattle.edit_overlay.specs.CountedVolume.{RisesAtMost};
+ghost use Rattle.edit_overlay.specs.CountedVolume.{IsSeen};
 ghost use Rattle.bench_rules.specs.declared.edit.Edit.TheVariants as edits;
 ghost use Rattle.bench_rules.specs.declared.field.Field.TheVariants as fields;
+ghost use Rattle.bench_rules.specs.ReadFaults.{IsReadRefusal};
 ghost use Rattle.bench_rules.specs.Refused.{first_refusal, no_trace as no_trace_in, no_place_for_trace as no_place_in, room_refusal as no_room_in, insert_refusal as not_in};
 ghost use Rattle.bench_rules.specs.State.{State};
+ghost use Rattle.volume_answers.specs.Rooms.{HasRoom, HasSampleRoom};
 
 use crate::trace_answers::has_trace;
 use bench_rules::{Refusal, blank_length, patch_refusal, sample_place, set_refusal};
-use edit_overlay::Overlay;
+use edit_overlay::{Overlay, ReadFault};
 use field_map::Place;
 use frame_cut::Limits;
 use trace_record::PackedRecord;
 
 /// The first refusal of the value at the place of trace p: E01, E03, E04, E06. One look at most.
-/// Takes no memory.
+/// Takes no memory. On disk there may be none, where the trace could not be read.
 pub fn value_refusal(
     overlay: &mut Overlay<PackedRecord>,
     p: u32,
     place: Place,
     value: i128,
-) -> Option<Refusal>
-    ensures refusal { (s : State) → s.volume ≡ overlay.old.volume →
-        result ≡ first_refusal s (edits.Set p (fields.Place place) value) }
-    ensures volume { overlay.new.volume ≡ overlay.old.volume }
-    ensures prepared { overlay.new.prepared ≡ overlay.old.prepared }
-    ensures payloads { overlay.new.payloads ≡ overlay.old.payloads }
-    ensures looks { RisesAtMost overlay.old.looks overlay.new.looks 1 }
+) -> Result<Option<Refusal>, ReadFault>
+    ensures refusal { IfOk result (λ refusal. (s : State) → s.volume ≡ overlay.old.volume →
+        IsTrue overlay.new.agreed →
+        refusal ≡ first_refusal s (edits.Set p (fields.Place place) value)) }
+    ensures room { IfOk result (λ refusal. refusal ≡ None →
+        HasRoom overlay.old.volume p place value) }
+    ensures seen { IsSeen overlay.old overlay.new 1 }
+    ensures read { IfErr result (λ _. IsTrue overlay.old.on_disk) }
 {
     let head = overlay.head();
-    let Some(trace) = overlay.look(p) else {
-        return Some(Refusal::NoTrace(p, overlay.count()));
+    let Some(trace) = overlay.look(p)? else {
+        return Ok(Some(Refusal::NoTrace(p, overlay.count())));
     };
-    set_refusal(head.order, &trace, place, value)
+    Ok(set_refusal(head.order, &trace, place, value))
 }
 
 /// Where sample k of trace p begins in it, or the first refusal of values from there on: E01, E12,
-/// E04, E05. One look at most. Takes no memory.
+/// E04, E05. One look at most. Takes no memory. On disk also refused where the trace could not be
+/// read (E14, E15).
 pub fn patch_place(
     overlay: &mut Overlay<PackedRecord>,
     p: u32,
@@ -47,23 +51,27 @@ pub fn patch_place(
     values: &[i128],
 ) -> Result<u64, Refusal>
     ensures ok { OnOk result ((s : State) → s.volume ≡ overlay.old.volume →
-        first_refusal s (edits.Patch p k values.now) ≡ None) }
-    ensures place { IfOk result (λ at. at ≡ samples_at overlay.old.volume.head
-        (trace_at overlay.old.volume p) + width overlay.old.volume.head.format * k) }
-    ensures err { IfErr result (λ refusal. (s : State) → s.volume ≡ overlay.old.volume →
-        first_refusal s (edits.Patch p k values.now) ≡ Some refusal) }
-    ensures volume { overlay.new.volume ≡ overlay.old.volume }
-    ensures prepared { overlay.new.prepared ≡ overlay.old.prepared }
-    ensures payloads { overlay.new.payloads ≡ overlay.old.payloads }
-    ensures looks { RisesAtMost overlay.old.looks overlay.new.looks 1 }
+        IsTrue overlay.new.agreed → first_refusal s (edits.Patch p k values.now) ≡ None) }
+    ensures place { IfOk result (λ at. IsTrue overlay.new.agreed → at ≡ samples_at
+        overlay.old.volume.head (trace_at overlay.old.volume p)
+        + width overlay.old.volume.head.format * k) }
+    ensures room { IfOk result (λ at. HasSampleRoom overlay.old.volume p at values.now) }
+    ensures err { IfErr result (λ refusal. IsReadRefusal overlay.old.on_disk refusal ⊎
+        ((s : State) → s.volume ≡ overlay.old.volume → IsTrue overlay.new.agreed →
+        first_refusal s (edits.Patch p k values.now) ≡ Some refusal)) }
+    ensures seen { IsSeen overlay.old overlay.new 1 }
 {
     let format = overlay.head().format;
-    let Some(trace) = overlay.look(p) else {
+    let Some(trace) = overlay.look(p)? else {
         return Err(Refusal::NoTrace(p, overlay.count()));
     };
     match patch_refusal(format, &trace, k, values) {
         Some(refusal) => Err(refusal),
-        None => Ok(sample_place(format, &trace, k)),
+        None => {
+            // Read for the proof alone, which learns that samples are counted in 32 bits.
+            let _count = trace.sample_count();
+            Ok(sample_place(format, &trace, k))
+        }
     }
 }
 
@@ -77,25 +85,23 @@ pub fn blank_refusal(overlay: &Overlay<PackedRecord>, limits: Limits, p: u32) ->
 }
 
 /// The first refusal of a copy of trace q in front of trace p, or behind the last: E01, E09, E10.
-/// One look at most. Takes no memory.
+/// One look at most. Takes no memory. On disk there may be none, where trace q could not be read.
 pub fn copy_refusal(
     overlay: &mut Overlay<PackedRecord>,
     limits: Limits,
     q: u32,
     p: u32,
-) -> Option<Refusal>
-    ensures refusal { (s : State) → s.volume ≡ overlay.old.volume → s.limits ≡ limits →
-        result ≡ first_refusal s (edits.Copy q p) }
-    ensures volume { overlay.new.volume ≡ overlay.old.volume }
-    ensures prepared { overlay.new.prepared ≡ overlay.old.prepared }
-    ensures payloads { overlay.new.payloads ≡ overlay.old.payloads }
-    ensures looks { RisesAtMost overlay.old.looks overlay.new.looks 1 }
+) -> Result<Option<Refusal>, ReadFault>
+    ensures refusal { IfOk result (λ refusal. (s : State) → s.volume ≡ overlay.old.volume →
+        s.limits ≡ limits → refusal ≡ first_refusal s (edits.Copy q p)) }
+    ensures seen { IsSeen overlay.old overlay.new 1 }
+    ensures read { IfErr result (λ _. IsTrue overlay.old.on_disk) }
 {
-    let length = match overlay.look(q) {
+    let length = match overlay.look(q)? {
         Some(trace) => trace.length(),
-        None => return Some(Refusal::NoTrace(q, overlay.count())),
+        None => return Ok(Some(Refusal::NoTrace(q, overlay.count()))),
     };
-    insert_refusal(overlay, limits, p, length)
+    Ok(insert_refusal(overlay, limits, p, length))
 }
 
 /// The first refusal of trace a as trace b: E01. Takes no memory.

@@ -1,9 +1,9 @@
 // The answers about the samples of all traces, and about the faults of the file.
-ghost use Rattle.std.specs.Prelude.{◌≡◌, ◌<◌, ◌^◌, is_none, length, map};
+ghost use Rattle.std.specs.Prelude.{◌≡◌, ◌<◌, ◌^◌, IsTrue, is_none, length, map};
 ghost use Rattle.sample_codes.specs.Formats.{values};
 ghost use Rattle.frame_cut.specs.Traces.{count_of};
 ghost use Rattle.trace_record.specs.Packed.{record_in};
-ghost use Rattle.edit_overlay.specs.CountedVolume.{RisesAtMost};
+ghost use Rattle.edit_overlay.specs.CountedVolume.{IsSeen};
 ghost use Rattle.bench_rules.specs.declared.query.Query.TheVariants as queries;
 ghost use Rattle.bench_rules.specs.Answer.{answer, IsReply};
 ghost use Rattle.bench_rules.specs.Live.{AreRecordsOf, AreTotalsOf, AreTriplesOf};
@@ -39,19 +39,18 @@ pub fn totals_answer(overlay: &Overlay<PackedRecord>, counted: &Totals) -> Resul
 }
 
 /// Sample k, counted from 0, of each trace that has it. Looks at each trace once, and at none where
-/// samples have no values. Takes memory. Refused: E12, else E11 alone.
+/// samples have no values. Takes memory. Refused: E12, else E11 alone. On disk also where a trace
+/// could not be read (E14, E15).
 pub fn slice_answer(
     alloc: Global,
     overlay: &mut Overlay<PackedRecord>,
     k: u32,
 ) -> Result<Answer, AskFault>
     ensures reply { (s : State) → s.volume ≡ overlay.old.volume →
+        s.on_disk ≡ overlay.old.on_disk → IsTrue overlay.new.agreed →
         AreRecordsOf s (map record_in overlay.old.payloads) →
         IsReply s (queries.Slice k) result }
-    ensures volume { overlay.new.volume ≡ overlay.old.volume }
-    ensures prepared { overlay.new.prepared ≡ overlay.old.prepared }
-    ensures payloads { overlay.new.payloads ≡ overlay.old.payloads }
-    ensures looks { RisesAtMost overlay.old.looks overlay.new.looks (count_of overlay.old.volume) }
+    ensures seen { IsSeen overlay.old overlay.new (count_of overlay.old.volume) }
 {
     if has_opaque_samples(overlay) {
         return Err(AskFault::NoValues);

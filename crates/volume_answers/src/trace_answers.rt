@@ -1,13 +1,14 @@
 // The answers about the headers, the samples and the record of one trace.
-ghost use Rattle.std.specs.Prelude.{◌≡◌, [], Some, option_map};
+ghost use Rattle.std.specs.Prelude.{◌≡◌, ◌⊎◌, [], Some, IsTrue, IsErrAnd, option_map};
 ghost use Rattle.frame_cut.specs.Traces.{is_trace, trace_of};
 ghost use Rattle.trace_record.specs.Facts.{facts_of};
 ghost use Rattle.trace_record.specs.OfTrace.{record_of};
-ghost use Rattle.edit_overlay.specs.CountedVolume.{RisesAtMost};
+ghost use Rattle.edit_overlay.specs.CountedVolume.{IsSeen};
 ghost use Rattle.bench_rules.specs.declared.query.Query.TheVariants as queries;
 ghost use Rattle.bench_rules.specs.Answer.{answer, of_trace, trace_value, IsReply};
 ghost use Rattle.bench_rules.specs.Looks.{looks_at};
 ghost use Rattle.bench_rules.specs.Places.{place_in_trace as place_of_field};
+ghost use Rattle.bench_rules.specs.ReadFaults.{IsReadFault};
 ghost use Rattle.bench_rules.specs.State.{State};
 
 use crate::report_answers::{geometry, stat};
@@ -19,7 +20,8 @@ use std::alloc::Global;
 use trace_record::{PackedRecord, Record};
 
 /// The number in the field of trace p. One look at most, and none where the field has no place.
-/// Takes no memory. Refused: E01, E02, E03.
+/// Takes no memory. Refused: E01, E02, E03. On disk also where the trace could not be read (E14,
+/// E15).
 pub fn get_answer(
     overlay: &mut Overlay<PackedRecord>,
     map: &FieldMap,
@@ -27,11 +29,9 @@ pub fn get_answer(
     field: &Field,
 ) -> Result<Answer, AskFault>
     ensures reply { (s : State) → s.volume ≡ overlay.old.volume → s.fields ≡ map.now.pairs →
-        result ≡ answer s (queries.Get p field.now) }
-    ensures volume { overlay.new.volume ≡ overlay.old.volume }
-    ensures prepared { overlay.new.prepared ≡ overlay.old.prepared }
-    ensures payloads { overlay.new.payloads ≡ overlay.old.payloads }
-    ensures looks { RisesAtMost overlay.old.looks overlay.new.looks
+        s.on_disk ≡ overlay.old.on_disk → IsTrue overlay.new.agreed →
+        IsReply s (queries.Get p field.now) result }
+    ensures seen { IsSeen overlay.old overlay.new
         (looks_at (place_of_field map.now.pairs field.now) 1) }
 {
     match place_in_trace(map, field) {
@@ -50,14 +50,12 @@ pub(crate) fn has_trace(overlay: &Overlay<PackedRecord>, p: u32) -> bool
 
 // The number at the place of trace p: E01, E03.
 fn value_at(overlay: &mut Overlay<PackedRecord>, p: u32, place: Place) -> Result<Answer, AskFault>
-    ensures reply { result ≡ of_trace overlay.old.volume p
-        (λ t. trace_value overlay.old.volume.head t (Some place)) }
-    ensures volume { overlay.new.volume ≡ overlay.old.volume }
-    ensures prepared { overlay.new.prepared ≡ overlay.old.prepared }
-    ensures payloads { overlay.new.payloads ≡ overlay.old.payloads }
-    ensures looks { RisesAtMost overlay.old.looks overlay.new.looks 1 }
+    ensures reply { IsTrue overlay.new.agreed → (result ≡ of_trace overlay.old.volume p
+        (λ t. trace_value overlay.old.volume.head t (Some place))) ⊎
+        IsErrAnd result (IsReadFault overlay.old.on_disk) }
+    ensures seen { IsSeen overlay.old overlay.new 1 }
 {
-    let Some(trace) = overlay.look(p) else {
+    let Some(trace) = overlay.look(p)? else {
         return Err(AskFault::NoTrace(p, overlay.count()));
     };
     match trace.value(place) {
@@ -67,26 +65,25 @@ fn value_at(overlay: &mut Overlay<PackedRecord>, p: u32, place: Place) -> Result
 }
 
 /// Sample k, counted from 0, of trace p. One look at most. Takes no memory. Refused: E01, E12, E05.
+/// On disk also where the trace could not be read (E14, E15).
 pub fn sample_answer(
     overlay: &mut Overlay<PackedRecord>,
     p: u32,
     k: u32,
 ) -> Result<Answer, AskFault>
     ensures reply { (s : State) → s.volume ≡ overlay.old.volume →
-        result ≡ answer s (queries.Sample p k) }
-    ensures volume { overlay.new.volume ≡ overlay.old.volume }
-    ensures prepared { overlay.new.prepared ≡ overlay.old.prepared }
-    ensures payloads { overlay.new.payloads ≡ overlay.old.payloads }
-    ensures looks { RisesAtMost overlay.old.looks overlay.new.looks 1 }
+        s.on_disk ≡ overlay.old.on_disk → IsTrue overlay.new.agreed →
+        IsReply s (queries.Sample p k) result }
+    ensures seen { IsSeen overlay.old overlay.new 1 }
 {
-    let Some(trace) = overlay.look(p) else {
+    let Some(trace) = overlay.look(p)? else {
         return Err(AskFault::NoTrace(p, overlay.count()));
     };
     trace_sample(&trace, k)
 }
 
 /// All named header fields of trace p. One look at most. Takes memory. Refused: E01, else E11
-/// alone.
+/// alone. On disk also where the trace could not be read (E14, E15).
 pub fn header_answer(
     alloc: Global,
     overlay: &mut Overlay<PackedRecord>,
@@ -94,11 +91,9 @@ pub fn header_answer(
     p: u32,
 ) -> Result<Answer, AskFault>
     ensures reply { (s : State) → s.volume ≡ overlay.old.volume → s.fields ≡ map.now.pairs →
+        s.on_disk ≡ overlay.old.on_disk → IsTrue overlay.new.agreed →
         IsReply s (queries.Header p) result }
-    ensures volume { overlay.new.volume ≡ overlay.old.volume }
-    ensures prepared { overlay.new.prepared ≡ overlay.old.prepared }
-    ensures payloads { overlay.new.payloads ≡ overlay.old.payloads }
-    ensures looks { RisesAtMost overlay.old.looks overlay.new.looks 1 }
+    ensures seen { IsSeen overlay.old overlay.new 1 }
 {
     if !has_trace(overlay, p) {
         return Err(AskFault::NoTrace(p, overlay.count()));

@@ -7,3 +7,4 @@ pub mod NameLemmas
 pub mod HeaderLemmas
 pub mod EachLemmas
 pub mod ItemLemmas
+pub mod OnePassLemmas

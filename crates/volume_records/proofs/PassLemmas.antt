@@ -64,3 +64,17 @@ one_header_more v w fields known p n q old new r held same there known_there pla
     ∙ map-append facts_of old (r ∷ [])
     ∙ ap₂ (λ (l : List Facts) (f : Facts). l ++ f ∷ []) e here
     ∙ sym (take_more (drop p h) n (facts_of r) there_too)
+
+-- one number of samples more, which is that of the record that is held at its place
+pub one_number_more : (known : List Record) (p n : ℕ) (old new : List Record) (r held : Record) → slice_get known (p + n) ≡ Some held → r.number ≡ held.number → new ≡ old ++ r ∷ []
+    → map (λ (q : Record). q.number) old ≡ take n (drop p (map (λ (q : Record). q.number) known)) → map (λ (q : Record). q.number) new ≡ take (n + 1) (drop p (map (λ (q : Record). q.number) known))
+one_number_more known p n old new r held there is grew e =
+    let number = λ (q : Record). q.number in
+    let inside : p + n < length known = slice_get_within known (p + n) held there in
+    let among : n < length (drop p (map number known)) = omega (arith, length-drop p (map number known), length-map known number) in
+    let here : r.number ≡ get_or (drop p (map number known)) n 0 =
+    is ∙ ap number (sym (get_or_from_slice_get known (p + n) held held there)) ∙ sym (get_or-map number known (p + n) held 0 inside) ∙ sym (get_or-drop p (map number known) n 0) in
+    ap (map number) grew
+    ∙ map-append number old (r ∷ [])
+    ∙ ap₂ (λ (l : List ℕ) (k : ℕ). l ++ k ∷ []) e here
+    ∙ sym (take_more (drop p (map number known)) n 0 among)

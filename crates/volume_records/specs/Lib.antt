@@ -1,1 +1,3 @@
 pub mod OfVolume
+pub mod Faults
+pub mod OfPass

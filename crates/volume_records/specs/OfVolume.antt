@@ -12,6 +12,8 @@ use Rattle.trace_store.specs.Each.{part_of}
 use Rattle.trace_view.specs.Values.{samples_at}
 use Rattle.trace_record.specs.Facts.{Facts, with_samples_of}
 use Rattle.trace_record.specs.OfTrace.{record_of}
+use Rattle.trace_record.specs.Packed.{record_in}
+use Rattle.trace_record.specs.declared.packed_record.PackedRecord.{PackedRecord}
 
 -- the record of each trace, in order
 abbrev pub records_of : Volume → Pairs → List Facts
@@ -20,6 +22,10 @@ records_of v fields = map (record_of v.head fields) v.traces
 -- the record of each trace, but for the statistics of its samples, which are those of the facts at its place
 abbrev pub headers_of : Volume → Pairs → List Facts → List Facts
 headers_of v fields known = map (λ p. with_samples_of (record_of v.head fields p.0) p.1) (zip v.traces known)
+
+-- how many samples each record tells
+abbrev pub numbers_of : List PackedRecord → List ℕ
+numbers_of ps = map (λ p. (record_in p).number) ps
 
 -- under some reading and limits the volume is the cut of its own bytes
 abbrev pub IsOfFile : Volume → Type 0

@@ -6,17 +6,26 @@
 //!
 //! Traces count from 1. Each call that looks at a trace of the volume says how often; a look
 //! leaves the volume and what is prepared as they are. `with_records`, `remake` and
-//! `prepared_records` alone take memory, and their only error is `OutOfMemory`.
+//! `prepared_records` alone take memory, and may be refused for want of it. Where the bytes of the
+//! volume are on disk a look may be refused too: `prepared_record` and `prepared_headers` tell the
+//! `ReadFault`, `remake` and `prepared_records` a `RecordsFault`.
+//!
+//! That records are those of the traces is claimed where each read since the load gave the bytes
+//! that the load read (`agreed`); how many there are, and how many samples they tell, in any case.
 #![tactic(auto)]
 
+mod of_pass;
 mod of_trace;
 mod of_traces;
 mod of_volume;
 mod out_of_memory;
+mod records_fault;
 mod remaking;
 
+pub use crate::of_pass::with_records_on_disk;
 pub use crate::of_trace::{prepared_headers, prepared_record, record_of_bytes};
 pub use crate::of_traces::prepared_records;
 pub use crate::of_volume::with_records;
 pub use crate::out_of_memory::OutOfMemory;
+pub use crate::records_fault::RecordsFault;
 pub use crate::remaking::{remake, set_records};

@@ -1,53 +1,66 @@
-ghost use Rattle.std.specs.Prelude.{◌≡◌, IsTrue};
+ghost use Rattle.std.specs.Prelude.{◌≡◌, ◌≤◌, length, IfOk, IfErr, IsTrue};
 ghost use Rattle.frame_cut.specs.Cuts.{IsTrace};
 ghost use Rattle.frame_cut.specs.Traces.{is_trace, trace_at};
 ghost use Rattle.trace_record.specs.Facts.{facts_of, with_samples_of};
 ghost use Rattle.trace_record.specs.OfTrace.{record_of as record_of_trace};
-ghost use Rattle.edit_overlay.specs.CountedVolume.{with_one_look};
+ghost use Rattle.edit_overlay.specs.CountedVolume.{after_look};
 
-use edit_overlay::Overlay;
+use edit_overlay::{Overlay, ReadFault};
 use field_map::FieldMap;
 use frame_cut::Head;
 use trace_record::{PackedRecord, Record, record_of, record_with_samples_of};
 use trace_view::TraceView;
 
 /// The record of trace p, counted from 1, as it would be with the edit that is prepared, under a
-/// map for the file. One look. Takes no memory.
-pub fn prepared_record(overlay: &mut Overlay<PackedRecord>, fields: &FieldMap, p: u32) -> Record
+/// map for the file. One look, which may be refused where the volume's bytes are on disk. Takes no
+/// memory.
+pub fn prepared_record(
+    overlay: &mut Overlay<PackedRecord>,
+    fields: &FieldMap,
+    p: u32,
+) -> Result<Record, ReadFault>
     requires trace { IsTrue (is_trace overlay.old.prepared p) }
     requires fields { fields.now.extensions ≡ overlay.old.prepared.head.extensions }
-    ensures record { facts_of result ≡ record_of_trace overlay.old.prepared.head fields.now.pairs
-        (trace_at overlay.old.prepared p) }
-    ensures overlay { overlay.new ≡ with_one_look overlay.old }
+    ensures record { IfOk result (λ r. IsTrue overlay.new.agreed →
+        facts_of r ≡ record_of_trace overlay.old.prepared.head fields.now.pairs
+        (trace_at overlay.old.prepared p)) }
+    ensures few { IfOk result (λ r. r.number ≤ length (trace_at overlay.old.prepared p)) }
+    ensures looked { overlay.new ≡ after_look overlay.old overlay.new.agreed }
+    ensures agreed { IsTrue overlay.new.agreed → IsTrue overlay.old.agreed }
+    ensures read { IfErr result (λ _. IsTrue overlay.old.on_disk) }
 {
     fields.geometry_stands();
-    let Some(trace) = overlay.look_prepared(p) else {
+    let Some(trace) = overlay.look_prepared(p)? else {
         unreachable!()
     };
-    record_of(&trace, fields)
+    Ok(record_of(&trace, fields))
 }
 
 /// The record of trace p, counted from 1, as it would be with the edit that is prepared, but for
 /// the amplitudes and the number of its samples, which are those of another record. For an
-/// edit of headers alone. One look, which reads no sample. Takes no memory.
+/// edit of headers alone. One look, which reads no sample, and may be refused where the volume's
+/// bytes are on disk. Takes no memory.
 pub fn prepared_headers(
     overlay: &mut Overlay<PackedRecord>,
     fields: &FieldMap,
     p: u32,
     samples: &Record,
-) -> Record
+) -> Result<Record, ReadFault>
     requires trace { IsTrue (is_trace overlay.old.prepared p) }
     requires fields { fields.now.extensions ≡ overlay.old.prepared.head.extensions }
-    ensures record { facts_of result ≡ with_samples_of
+    ensures record { IfOk result (λ r. IsTrue overlay.new.agreed → facts_of r ≡ with_samples_of
         (record_of_trace overlay.old.prepared.head fields.now.pairs
-        (trace_at overlay.old.prepared p)) (facts_of samples.now) }
-    ensures overlay { overlay.new ≡ with_one_look overlay.old }
+        (trace_at overlay.old.prepared p)) (facts_of samples.now)) }
+    ensures number { IfOk result (λ r. r.number ≡ samples.now.number) }
+    ensures looked { overlay.new ≡ after_look overlay.old overlay.new.agreed }
+    ensures agreed { IsTrue overlay.new.agreed → IsTrue overlay.old.agreed }
+    ensures read { IfErr result (λ _. IsTrue overlay.old.on_disk) }
 {
     fields.geometry_stands();
-    let Some(headers) = overlay.look_prepared(p) else {
+    let Some(headers) = overlay.look_prepared(p)? else {
         unreachable!()
     };
-    record_with_samples_of(&headers, fields, samples)
+    Ok(record_with_samples_of(&headers, fields, samples))
 }
 
 /// The record of a whole trace in memory that no volume holds yet, under the head of a file and a

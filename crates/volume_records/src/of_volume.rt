@@ -35,6 +35,8 @@ pub fn with_records(
     ensures prepared { IfOk result (λ r. r.0.prepared ≡ loading.volume) }
     ensures looks { IfOk result
         (λ r. RisesAtMost loading.looks r.0.looks (count_of loading.volume)) }
+    ensures standing { IfOk result (λ r. (r.0.on_disk ≡ loading.on_disk) ×
+        (r.0.agreed ≡ loading.agreed)) }
 {
     let mut loading = loading;
     push_records(alloc, &mut loading, fields)?;
@@ -56,6 +58,8 @@ fn push_records(
     ensures few { count_of loading.old.volume < 2 ^ 32 }
     ensures volume { loading.new.volume ≡ loading.old.volume }
     ensures looks { RisesAtMost loading.old.looks loading.new.looks (count_of loading.old.volume) }
+    ensures on_disk { loading.new.on_disk ≡ loading.old.on_disk }
+    ensures agreed { loading.new.agreed ≡ loading.old.agreed }
 {
     for _k in 0..loading.count() {
         let record = next_record(loading, fields);

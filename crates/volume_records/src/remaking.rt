@@ -1,16 +1,18 @@
 // Other records beside the traces of a volume.
-ghost use Rattle.std.specs.Prelude.{◌≡◌, ◌+◌, ◌-◌, ◌^◌, ◌<◌, ◌≤◌, IfOk, OnOk, OnErr, IsTrue, length, map};
+ghost use Rattle.std.specs.Prelude.{◌≡◌, ◌+◌, ◌-◌, ◌^◌, ◌<◌, ◌≤◌, ℕ, [], IfOk, IfErr, OnOk, OnErr, IsTrue, length, map, slice_index_or};
 ghost use Rattle.frame_cut.specs.Traces.{count_of, is_trace, trace_at};
+ghost use Rattle.frame_cut.specs.Volume.{bytes_of};
 ghost use Rattle.trace_record.specs.Facts.{facts_of};
 ghost use Rattle.trace_record.specs.OfTrace.{record_of as record_of_trace};
 ghost use Rattle.trace_record.specs.Packed.{record_in};
-ghost use Rattle.edit_overlay.specs.CountedVolume.{RisesAtMost, with_one_look};
+ghost use Rattle.edit_overlay.specs.CountedVolume.{RisesAtMost, after_look};
 ghost use Rattle.live_reports.specs.Exchanged.{with_records};
 ghost use Rattle.live_reports.specs.OfRecords.{AreReportsOf};
-ghost use Rattle.volume_records.specs.OfVolume.{IsOfFile, records_of};
+ghost use Rattle.volume_records.specs.Faults.{IsOfRead};
+ghost use Rattle.volume_records.specs.OfVolume.{numbers_of, records_of};
 
-use crate::OutOfMemory;
-use edit_overlay::Overlay;
+use crate::{OutOfMemory, RecordsFault};
+use edit_overlay::{Overlay, ReadFault};
 use field_map::FieldMap;
 use live_reports::LiveReports;
 use record_table::{RecordList, Records};
@@ -29,6 +31,8 @@ pub fn set_records(overlay: &mut Overlay<PackedRecord>, a: u32, records: &Record
     ensures volume { overlay.new.volume ≡ overlay.old.volume }
     ensures prepared { overlay.new.prepared ≡ overlay.old.volume }
     ensures looks { overlay.new.looks ≡ overlay.old.looks }
+    ensures on_disk { overlay.new.on_disk ≡ overlay.old.on_disk }
+    ensures agreed { overlay.new.agreed ≡ overlay.old.agreed }
 {
     // Read for the proof alone, which learns that the traces are counted in 32 bits.
     let _count = overlay.count();
@@ -42,35 +46,74 @@ pub fn set_records(overlay: &mut Overlay<PackedRecord>, a: u32, records: &Record
 
 /// Makes the record of each trace anew, under another map for the file, and the reports that have
 /// counted them. Nothing is prepared. One look at each trace. Takes memory for a copy of the
-/// records and for what the reports hold; refused for want of it alone, and then the records are as
-/// they were. The volume stays as it is in any case.
+/// records and for what the reports hold; refused for want of it, or on disk where a trace could
+/// not be read, and then the records are as they were. The volume stays as
+/// it is in any case.
 pub fn remake(
     alloc: Global,
     overlay: &mut Overlay<PackedRecord>,
     fields: &FieldMap,
-) -> Result<LiveReports, OutOfMemory>
-    requires file { IsOfFile overlay.old.volume }
+) -> Result<LiveReports, RecordsFault>
+    requires small { length (bytes_of overlay.old.volume) ≤ 2 ^ 40 }
     requires each { length overlay.old.payloads ≡ count_of overlay.old.volume }
     requires none { overlay.old.prepared ≡ overlay.old.volume }
     requires fields { fields.now.extensions ≡ overlay.old.volume.head.extensions }
-    ensures records { OnOk result (map facts_of (map record_in overlay.new.payloads) ≡
+    ensures records { OnOk result (IsTrue overlay.new.agreed →
+        map facts_of (map record_in overlay.new.payloads) ≡
         records_of overlay.old.volume fields.now.pairs) }
     ensures reports { IfOk result (λ r. AreReportsOf r (map record_in overlay.new.payloads)) }
+    ensures within { OnOk result ((j : ℕ) → j < count_of overlay.old.volume →
+        slice_index_or (numbers_of overlay.new.payloads) j 0 ≤
+        length (slice_index_or overlay.old.volume.traces j [])) }
     ensures err { OnErr result
         (map record_in overlay.new.payloads ≡ map record_in overlay.old.payloads) }
+    ensures read { IfErr result (λ fault. IsOfRead fault → IsTrue overlay.old.on_disk
+        × (0 < count_of overlay.old.volume)) }
+    ensures each { length overlay.new.payloads ≡ count_of overlay.old.volume }
     ensures volume { overlay.new.volume ≡ overlay.old.volume }
     ensures prepared { overlay.new.prepared ≡ overlay.old.volume }
+    ensures on_disk { overlay.new.on_disk ≡ overlay.old.on_disk }
     ensures looks { RisesAtMost overlay.old.looks overlay.new.looks (count_of overlay.old.volume) }
+    ensures agreed { IsTrue overlay.new.agreed → IsTrue overlay.old.agreed }
 {
     let held = copied(alloc, overlay)?;
-    renew(overlay, fields);
-    match LiveReports::from_records(alloc, &Records::new(overlay.payloads())) {
+    match remade(alloc, overlay, fields) {
         Ok(reports) => Ok(reports),
-        Err(error) => {
+        Err(fault) => {
             set_records(overlay, 1, &held);
-            Err(OutOfMemory::from(error))
+            Err(fault)
         }
     }
+}
+
+// Makes the records anew, and the reports of them.
+fn remade(
+    alloc: Global,
+    overlay: &mut Overlay<PackedRecord>,
+    fields: &FieldMap,
+) -> Result<LiveReports, RecordsFault>
+    requires small { length (bytes_of overlay.old.volume) ≤ 2 ^ 40 }
+    requires each { length overlay.old.payloads ≡ count_of overlay.old.volume }
+    requires none { overlay.old.prepared ≡ overlay.old.volume }
+    requires fields { fields.now.extensions ≡ overlay.old.volume.head.extensions }
+    ensures records { OnOk result (IsTrue overlay.new.agreed →
+        map facts_of (map record_in overlay.new.payloads) ≡
+        records_of overlay.old.volume fields.now.pairs) }
+    ensures reports { IfOk result (λ r. AreReportsOf r (map record_in overlay.new.payloads)) }
+    ensures within { OnOk result ((j : ℕ) → j < count_of overlay.old.volume →
+        slice_index_or (numbers_of overlay.new.payloads) j 0 ≤
+        length (slice_index_or overlay.old.volume.traces j [])) }
+    ensures read { IfErr result (λ fault. IsOfRead fault → IsTrue overlay.old.on_disk
+        × (0 < count_of overlay.old.volume)) }
+    ensures each { length overlay.new.payloads ≡ count_of overlay.old.volume }
+    ensures volume { overlay.new.volume ≡ overlay.old.volume }
+    ensures prepared { overlay.new.prepared ≡ overlay.old.volume }
+    ensures on_disk { overlay.new.on_disk ≡ overlay.old.on_disk }
+    ensures looks { RisesAtMost overlay.old.looks overlay.new.looks (count_of overlay.old.volume) }
+    ensures agreed { IsTrue overlay.new.agreed → IsTrue overlay.old.agreed }
+{
+    renew(overlay, fields)?;
+    Ok(LiveReports::from_records(alloc, &Records::new(overlay.payloads()))?)
 }
 
 // A copy of all records.
@@ -84,36 +127,54 @@ fn copied(alloc: Global, overlay: &Overlay<PackedRecord>) -> Result<RecordList, 
     Ok(records)
 }
 
-// The record of each trace, under this map.
-fn renew(overlay: &mut Overlay<PackedRecord>, fields: &FieldMap)
+// The record of each trace, under this map. Where a trace could not be read, the records of those
+// in front of it are new.
+fn renew(overlay: &mut Overlay<PackedRecord>, fields: &FieldMap) -> Result<(), ReadFault>
     requires each { length overlay.old.payloads ≡ count_of overlay.old.volume }
     requires none { overlay.old.prepared ≡ overlay.old.volume }
     requires fields { fields.now.extensions ≡ overlay.old.volume.head.extensions }
-    ensures records { map facts_of (map record_in overlay.new.payloads) ≡
-        records_of overlay.old.volume fields.now.pairs }
+    ensures records { OnOk result (IsTrue overlay.new.agreed →
+        map facts_of (map record_in overlay.new.payloads) ≡
+        records_of overlay.old.volume fields.now.pairs) }
+    ensures within { OnOk result ((j : ℕ) → j < count_of overlay.old.volume →
+        slice_index_or (numbers_of overlay.new.payloads) j 0 ≤
+        length (slice_index_or overlay.old.volume.traces j [])) }
     ensures few { count_of overlay.old.volume < 2 ^ 32 }
+    ensures read { IfErr result (λ _. IsTrue overlay.old.on_disk
+        × (0 < count_of overlay.old.volume)) }
     ensures each { length overlay.new.payloads ≡ count_of overlay.old.volume }
     ensures volume { overlay.new.volume ≡ overlay.old.volume }
     ensures prepared { overlay.new.prepared ≡ overlay.old.volume }
+    ensures on_disk { overlay.new.on_disk ≡ overlay.old.on_disk }
     ensures looks { RisesAtMost overlay.old.looks overlay.new.looks (count_of overlay.old.volume) }
+    ensures agreed { IsTrue overlay.new.agreed → IsTrue overlay.old.agreed }
 {
     for k in 0..overlay.count() {
-        let record = seen_record(overlay, fields, k + 1);
+        let record = seen_record(overlay, fields, k + 1)?;
         overlay.set_payload(k + 1, PackedRecord::of(record));
     }
+    Ok(())
 }
 
 // The record of trace p as it is. One look.
-fn seen_record(overlay: &mut Overlay<PackedRecord>, fields: &FieldMap, p: u32) -> Record
+fn seen_record(
+    overlay: &mut Overlay<PackedRecord>,
+    fields: &FieldMap,
+    p: u32,
+) -> Result<Record, ReadFault>
     requires trace { IsTrue (is_trace overlay.old.volume p) }
     requires fields { fields.now.extensions ≡ overlay.old.volume.head.extensions }
-    ensures record { facts_of result ≡ record_of_trace overlay.old.volume.head fields.now.pairs
-        (trace_at overlay.old.volume p) }
-    ensures overlay { overlay.new ≡ with_one_look overlay.old }
+    ensures record { IfOk result (λ r. IsTrue overlay.new.agreed →
+        facts_of r ≡ record_of_trace overlay.old.volume.head fields.now.pairs
+        (trace_at overlay.old.volume p)) }
+    ensures few { IfOk result (λ r. r.number ≤ length (trace_at overlay.old.volume p)) }
+    ensures looked { overlay.new ≡ after_look overlay.old overlay.new.agreed }
+    ensures agreed { IsTrue overlay.new.agreed → IsTrue overlay.old.agreed }
+    ensures read { IfErr result (λ _. IsTrue overlay.old.on_disk) }
 {
     fields.geometry_stands();
-    let Some(trace) = overlay.look(p) else {
+    let Some(trace) = overlay.look(p)? else {
         unreachable!()
     };
-    record_of(&trace, fields)
+    Ok(record_of(&trace, fields))
 }

@@ -1,15 +1,15 @@
 // Loads, edits and saves over a small file. One function owns the overlay of each test and lends it
 // out: the check of a function that owns an overlay takes the longer the more it does, and that of
 // a borrower stays short. What it is lent to is a `dyn`: a type parameter would have it checked
-// anew for each test. A save that fails is tested through the bench.
+// anew for each test.
 ghost use Rattle.std.specs.Prelude.{◌≡◌, ◌+◌, [], length, OnOk};
 ghost use Rattle.frame_cut.specs.Traces.{count_of};
 
 use crate::files::two_traces;
 use crate::puts::{is_trace, may_put, put};
 use crate::tables::volume_of;
-use device_io::{Sink, Source, StepReader};
-use edit_overlay::{Loading, Overlay};
+use device_io::{Sink, Source, StepReader, StepWriter};
+use edit_overlay::{Loading, Overlay, SaveFault};
 use frame_cut::{Limits, LoadFault, Reading};
 use std::alloc::Global;
 use std::process::Abort;
@@ -25,7 +25,7 @@ fn trace(alloc: Global, samples: u8, sample: u8) -> Result<Vec<u8>, Fail> {
 }
 
 // The bytes from..to, where there are as many.
-fn part(bytes: &[u8], from: usize, to: usize) -> &[u8] {
+pub(crate) fn part(bytes: &[u8], from: usize, to: usize) -> &[u8] {
     if from <= to && to <= bytes.len() {
         &bytes[from..to]
     } else {
@@ -33,7 +33,7 @@ fn part(bytes: &[u8], from: usize, to: usize) -> &[u8] {
     }
 }
 
-fn limits() -> Result<Limits, Fail> {
+pub(crate) fn limits() -> Result<Limits, Fail> {
     Ok(Limits::new(4088, 2).ok_or("limits")?)
 }
 
@@ -56,10 +56,10 @@ fn on_small(
 }
 
 // Asserts that a save writes these parts, one behind the other.
-fn expect_saved(
+pub(crate) fn expect_saved(
     rt: &impl Abort,
     alloc: Global,
-    volume: &Overlay<u32>,
+    volume: &mut Overlay<u32>,
     parts: &[&[u8]],
 ) -> Result<(), Fail> {
     let mut expected = Vec::new(alloc);
@@ -75,14 +75,14 @@ fn expect_saved(
 }
 
 // Asserts that trace p has these bytes, at most 300.
-fn expect_trace(rt: &impl Abort, volume: &mut Overlay<u32>, p: u32, expected: &[u8]) {
+pub(crate) fn expect_trace(rt: &impl Abort, volume: &mut Overlay<u32>, p: u32, expected: &[u8]) {
     assert!(rt; shows(volume, p, expected));
 }
 
 fn shows(volume: &mut Overlay<u32>, p: u32, expected: &[u8]) -> bool {
     match volume.look(p) {
-        Some(view) => has_bytes(&view, expected),
-        None => false,
+        Ok(Some(view)) => has_bytes(&view, expected),
+        _ => false,
     }
 }
 
@@ -96,20 +96,23 @@ fn has_bytes(view: &TraceView<'_>, expected: &[u8]) -> bool {
     *shown == *expected
 }
 
-// Asserts that a pass shows traces of these bytes, at most 300 each, beside these payloads.
-fn expect_pass(rt: &impl Abort, volume: &mut Overlay<u32>, expected: &[(&[u8], u32)]) {
-    let mut passed = 0;
-    for (view, payload) in volume.pass_near(240) {
-        assert!(rt; passed < expected.len());
-        assert!(rt; has_bytes(&view, expected[passed].0));
-        assert_eq!(rt; payload, expected[passed].1);
-        passed += 1;
+// Asserts that these are the bytes of the traces, at most 300 each, and that none is behind them.
+pub(crate) fn expect_traces(
+    rt: &impl Abort,
+    volume: &mut Overlay<u32>,
+    expected: &[&[u8]],
+) -> Result<(), Fail> {
+    let mut p: u32 = 1;
+    for bytes in expected {
+        expect_trace(rt, volume, p, bytes);
+        p = p.saturating_add(1);
     }
-    assert_eq!(rt; passed, expected.len());
+    assert!(rt; volume.look(p)?.is_none());
+    Ok(())
 }
 
 // Asserts that the traces have these payloads, in this order.
-fn expect_payloads(rt: &impl Abort, volume: &Overlay<u32>, expected: &[u32]) {
+pub(crate) fn expect_payloads(rt: &impl Abort, volume: &Overlay<u32>, expected: &[u32]) {
     let column = volume.payloads();
     let mut payloads = column.iter();
     for payload in expected {
@@ -168,7 +171,7 @@ fn prepare_over_two(
 
 // Whether trace p, of 244 bytes, ends so as it would be.
 fn ends_ahead(volume: &mut Overlay<u32>, p: u32, end: &[u8]) -> bool {
-    let Some(view) = volume.look_prepared(p) else {
+    let Ok(Some(view)) = volume.look_prepared(p) else {
         return false;
     };
     if view.length() != 244 {
@@ -271,49 +274,34 @@ fn counts_looks(rt: HostRuntime) -> Result<(), Fail> {
         rt.alloc(),
         &mut |_: &[u8], volume: &mut Overlay<u32>| {
             assert_eq!(rt; volume.looks(), 0);
-            assert!(rt; volume.look(1).is_some());
-            assert!(rt; volume.look(2).is_some());
-            assert!(rt; volume.look(2).is_some());
-            assert!(rt; volume.look(0).is_none());
-            assert!(rt; volume.look(3).is_none());
+            assert!(rt; volume.look(1)?.is_some());
+            assert!(rt; volume.look(2)?.is_some());
+            assert!(rt; volume.look(2)?.is_some());
+            assert!(rt; volume.look(0)?.is_none());
+            assert!(rt; volume.look(3)?.is_none());
             assert_eq!(rt; volume.looks(), 3);
             Ok(())
         },
     )
 }
 
-// A put over the second trace and a new one in front are seen, and each pass counts its looks.
+// A put over the second trace and a new one in front are seen by looks at one trace after another.
 #[test]
-fn passes_over_all_traces(rt: HostRuntime) -> Result<(), Fail> {
+fn looks_at_all_traces(rt: HostRuntime) -> Result<(), Fail> {
     let alloc = rt.alloc();
     let new = trace(alloc, 1, 0x22)?;
     on_small(
         alloc,
         &mut |file: &[u8], volume: &mut Overlay<u32>| {
             let (new, first) = (new.as_slice(), part(file, 3600, 3844));
-            expect_pass(&rt, volume, &[(first, 1), (part(file, 3844, 4088), 2)]);
+            expect_traces(&rt, volume, &[first, part(file, 3844, 4088)])?;
             assert_eq!(rt; volume.looks(), 2);
             put(alloc, volume, 2, 0, part(file, 3600, 3844))?;
             insert(alloc, volume, 1, new, 7)?;
             let before = volume.looks();
-            expect_pass(&rt, volume, &[(new, 7), (first, 1), (first, 2)]);
+            expect_traces(&rt, volume, &[new, first, first])?;
+            expect_payloads(&rt, volume, &[7, 1, 2]);
             assert_eq!(rt; volume.looks(), before.saturating_add(3));
-            Ok(())
-        },
-    )
-}
-
-// A pass counts its looks where it is made, and one that is broken off counts no fewer.
-#[test]
-fn counts_a_pass_that_is_broken_off(rt: HostRuntime) -> Result<(), Fail> {
-    on_small(
-        rt.alloc(),
-        &mut |_: &[u8], volume: &mut Overlay<u32>| {
-            for (view, _) in volume.pass_near(0) {
-                assert_eq!(rt; view.length(), 244);
-                break;
-            }
-            assert_eq!(rt; volume.looks(), 2);
             Ok(())
         },
     )
@@ -322,7 +310,7 @@ fn counts_a_pass_that_is_broken_off(rt: HostRuntime) -> Result<(), Fail> {
 fn expect_as_loaded(
     rt: &impl Abort,
     alloc: Global,
-    loaded: &Overlay<u32>,
+    loaded: &mut Overlay<u32>,
     file: &[u8],
 ) -> Result<(), Fail> {
     assert_eq!(rt; loaded.count(), 2);
@@ -376,7 +364,7 @@ fn load_in_steps(rt: &impl Abort, alloc: Global, file: &[u8]) -> Result<(), Fail
     let mut loading = Loading::load(alloc, &mut reader, Reading::as_written(), limits()?)?;
     assert_eq!(rt; reader.failures(), 0);
     give_payloads(rt, alloc, &mut loading, file)?;
-    expect_as_loaded(rt, alloc, &loading.finish(), file)
+    expect_as_loaded(rt, alloc, &mut loading.finish(), file)
 }
 
 #[test]
@@ -659,6 +647,34 @@ fn replaces_a_trace(rt: HostRuntime) -> Result<(), Fail> {
             let changed = part(longer, 0, 249);
             let second = part(file, 3844, 4088);
             expect_saved(&rt, alloc, volume, &[headers, changed, &[9], second])
+        },
+    )
+}
+
+// A save to a writer that takes no more than 4000 bytes.
+fn save_to_a_failing_writer(rt: &impl Abort, file: &[u8], volume: &mut Overlay<u32>) {
+    let mut room = [0u8; 4088];
+    let mut writer = Sink::new(StepWriter::new(&mut room, 7, 4000));
+    let fault = volume.write_to(&mut writer).err();
+    let expected = SaveFault {
+        written: 4000,
+        read: None,
+    };
+    assert_eq!(rt; fault, Some(expected));
+    assert_eq!(rt; writer.failures(), 1);
+    let _writer = writer.into_inner();
+    assert!(rt; part(&room, 0, 4000) == part(file, 0, 4000));
+}
+
+// A writer that fails is told of with the bytes that it took, and no read; the next save has all.
+#[test]
+fn names_the_bytes_that_a_failing_writer_took(rt: HostRuntime) -> Result<(), Fail> {
+    let alloc = rt.alloc();
+    on_small(
+        alloc,
+        &mut |file: &[u8], volume: &mut Overlay<u32>| {
+            save_to_a_failing_writer(&rt, file, volume);
+            expect_saved(&rt, alloc, volume, &[file])
         },
     )
 }

@@ -7,6 +7,8 @@
 #[cfg(test)]
 mod cut_tests;
 #[cfg(test)]
+mod disk_tests;
+#[cfg(test)]
 mod edit_tests;
 #[cfg(test)]
 mod fault_tests;

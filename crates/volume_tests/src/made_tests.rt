@@ -55,8 +55,8 @@ fn prepared(
         return Err(Fail::from("no place for the bytes"));
     }
     volume.prepare_put(alloc, p, at, bytes)?;
-    let record = prepared_record(volume, fields, p);
-    let headers = prepared_headers(volume, fields, p, samples);
+    let record = prepared_record(volume, fields, p)?;
+    let headers = prepared_headers(volume, fields, p, samples)?;
     Ok((record, headers))
 }
 

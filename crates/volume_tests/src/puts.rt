@@ -3,6 +3,7 @@ ghost use Rattle.std.specs.Prelude.{◌≡◌, ◌≤◌, ◌+◌, length, IsTru
 ghost use Rattle.frame_cut.specs.Cuts.{IsTrace};
 ghost use Rattle.frame_cut.specs.Splice.{splice};
 ghost use Rattle.frame_cut.specs.Traces.{trace_at, is_trace as has_trace};
+ghost use Rattle.edit_overlay.specs.CountedVolume.{IsSeen};
 
 use edit_overlay::Overlay;
 use frame_cut::{Head, front_length, trace_length};
@@ -19,16 +20,16 @@ pub(crate) fn is_trace(head: &Head, bytes: &[u8]) -> bool
     trace_length(head, bytes) == Some(bytes.len() as u64)
 }
 
-// Whether trace p is as long as its headers say with the bytes laid over it.
+// Whether trace p can be read, and is as long as its headers say with the bytes laid over it.
 pub(crate) fn may_put<T: Copy>(volume: &mut Overlay<T>, p: u32, at: u64, bytes: &[u8]) -> bool
-    ensures volume { volume.new.volume ≡ volume.old.volume }
+    ensures seen { IsSeen volume.old volume.new 1 }
     ensures inside { IsTrue result → at + length bytes.now ≤ length (trace_at volume.old.volume p) }
     ensures there { IsTrue result → IsTrue (has_trace volume.old.volume p) }
-    ensures whole { IsTrue result →
+    ensures whole { IsTrue result → IsTrue volume.new.agreed →
         IsTrace volume.old.volume.head (splice (trace_at volume.old.volume p) at (length bytes.now)
         bytes.now) }
 {
-    let Some(view) = volume.look(p) else {
+    let Ok(Some(view)) = volume.look(p) else {
         return false;
     };
     let length = view.length();

@@ -1,6 +1,8 @@
 // Slices of a small volume under edits, with values worked by hand. A test makes what it needs and
 // lends it: the check of a function that owns a volume takes the longer the more it does.
-ghost use Rattle.std.specs.Prelude.{◌≡◌, map, OnOk};
+ghost use Rattle.std.specs.Prelude.{map, IsTrue, OnOk};
+ghost use Rattle.edit_overlay.specs.CountedVolume.{IsSeen};
+ghost use Rattle.frame_cut.specs.Traces.{count_of};
 ghost use Rattle.time_slice.specs.Cache.{AreRightOf};
 ghost use Rattle.trace_record.specs.Packed.{record_in};
 
@@ -63,18 +65,17 @@ fn ask(
     volume: &mut Overlay<PackedRecord>,
     k: u32,
 ) -> Result<Vec<Row>, Fail>
-    requires { AreRightOf volume.old.volume.head (map record_in volume.old.payloads)
-        volume.old.volume.traces cache.old.entries }
-    ensures { AreRightOf volume.new.volume.head (map record_in volume.new.payloads)
-        volume.new.volume.traces cache.new.entries }
+    requires { IsTrue volume.old.agreed → AreRightOf volume.old.volume.head
+        (map record_in volume.old.payloads) volume.old.volume.traces cache.old.entries }
+    ensures { IsTrue volume.new.agreed → AreRightOf volume.new.volume.head
+        (map record_in volume.new.payloads) volume.new.volume.traces cache.new.entries }
 {
     Ok(cache.slice(alloc, volume, k)?)
 }
 
 // Slice k as `rows` gives it.
 fn fresh(alloc: Global, volume: &mut Overlay<PackedRecord>, k: u32) -> Result<Vec<Row>, Fail>
-    ensures volume { volume.new.volume ≡ volume.old.volume }
-    ensures payloads { volume.new.payloads ≡ volume.old.payloads }
+    ensures { IsSeen volume.old volume.new (count_of volume.old.volume) }
 {
     Ok(rows(alloc, volume, k)?)
 }
@@ -88,10 +89,10 @@ fn expect_looks(
     volume: &mut Overlay<PackedRecord>,
     asked: &[(u32, u64)],
 ) -> Result<(), Fail>
-    requires { AreRightOf volume.old.volume.head (map record_in volume.old.payloads)
-        volume.old.volume.traces cache.old.entries }
-    ensures { OnOk result (AreRightOf volume.new.volume.head (map record_in volume.new.payloads)
-        volume.new.volume.traces cache.new.entries) }
+    requires { IsTrue volume.old.agreed → AreRightOf volume.old.volume.head
+        (map record_in volume.old.payloads) volume.old.volume.traces cache.old.entries }
+    ensures { OnOk result (IsTrue volume.new.agreed → AreRightOf volume.new.volume.head
+        (map record_in volume.new.payloads) volume.new.volume.traces cache.new.entries) }
 {
     for (k, looks) in asked {
         let before = volume.looks();
@@ -112,8 +113,8 @@ fn expect_kept(
     k: u32,
     expected: &[Row],
 ) -> Result<(), Fail>
-    requires { AreRightOf volume.old.volume.head (map record_in volume.old.payloads)
-        volume.old.volume.traces cache.old.entries }
+    requires { IsTrue volume.old.agreed → AreRightOf volume.old.volume.head
+        (map record_in volume.old.payloads) volume.old.volume.traces cache.old.entries }
 {
     let made = ask(alloc, cache, volume, k)?;
     assert!(rt; made.as_slice() == expected);
@@ -126,10 +127,10 @@ fn expect_kept(
 
 // Forgets, where each kept slice is right.
 fn forget(cache: &mut SliceCache, volume: &Overlay<PackedRecord>, k: u32, many: usize)
-    requires { AreRightOf volume.now.volume.head (map record_in volume.now.payloads)
-        volume.now.volume.traces cache.old.entries }
-    ensures { AreRightOf volume.now.volume.head (map record_in volume.now.payloads)
-        volume.now.volume.traces cache.new.entries }
+    requires { IsTrue volume.now.agreed → AreRightOf volume.now.volume.head
+        (map record_in volume.now.payloads) volume.now.volume.traces cache.old.entries }
+    ensures { IsTrue volume.now.agreed → AreRightOf volume.now.volume.head
+        (map record_in volume.now.payloads) volume.now.volume.traces cache.new.entries }
 {
     cache.forget(k, many);
 }
@@ -181,10 +182,10 @@ fn keeps_three(
     cache: &mut SliceCache,
     volume: &mut Overlay<PackedRecord>,
 ) -> Result<(), Fail>
-    requires { AreRightOf volume.old.volume.head (map record_in volume.old.payloads)
-        volume.old.volume.traces cache.old.entries }
-    ensures { OnOk result (AreRightOf volume.new.volume.head (map record_in volume.new.payloads)
-        volume.new.volume.traces cache.new.entries) }
+    requires { IsTrue volume.old.agreed → AreRightOf volume.old.volume.head
+        (map record_in volume.old.payloads) volume.old.volume.traces cache.old.entries }
+    ensures { OnOk result (IsTrue volume.new.agreed → AreRightOf volume.new.volume.head
+        (map record_in volume.new.payloads) volume.new.volume.traces cache.new.entries) }
 {
     let asked = [(0, 3), (1, 3), (2, 3), (1, 0), (3, 3), (0, 3)];
     expect_looks(rt, alloc, cache, volume, &asked)?;

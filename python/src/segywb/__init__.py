@@ -31,12 +31,14 @@ __all__ = [
 
 
 def open(
-    path: Path, fixed: bool = False, opaque_samples: bool = False, max_bytes: Optional[int] = None, order: Optional[str] = None
+    path: Path, fixed: bool = False, opaque_samples: bool = False, max_bytes: Optional[int] = None, order: Optional[str] = None,
+    on_disk: bool = False
 ) -> Volume:
     """Opens a SEG-Y file.
 
     ``fixed``: each trace has the binary header's number of samples. ``opaque_samples``: read files whose samples have no values here
     (floats). ``max_bytes``: the largest file that is read, and the largest that edits may make. ``order``: ``"big"`` or ``"little"``,
-    the order of bytes of a file that does not tell it.
+    the order of bytes of a file that does not tell it. ``on_disk``: leave the bytes of the file on disk, for a file larger than memory;
+    nothing may change it until it is closed.
     """
-    return Volume(path, fixed=fixed, opaque_samples=opaque_samples, max_bytes=max_bytes, order=order)
+    return Volume(path, fixed=fixed, opaque_samples=opaque_samples, max_bytes=max_bytes, order=order, on_disk=on_disk)

@@ -33,12 +33,14 @@ class Volume:
     """
 
     def __init__(
-        self, path: Path, fixed: bool = False, opaque_samples: bool = False, max_bytes: Optional[int] = None, order: Optional[str] = None
+        self, path: Path, fixed: bool = False, opaque_samples: bool = False, max_bytes: Optional[int] = None, order: Optional[str] = None,
+        on_disk: bool = False
     ) -> None:
         options = ["--fixed"] if fixed else []
         options += ["--opaque-samples"] if opaque_samples else []
         options += ["--order", order] if order is not None else []
         options += ["--max-bytes", number(max_bytes)] if max_bytes is not None else []
+        options += ["--on-disk"] if on_disk else []
         self.path = os.fspath(path)
         self._engine = Engine(self.path, options)
         self._table: Optional[bool] = None

@@ -1,7 +1,7 @@
 // The arguments of the command line, one by one.
 ghost use Rattle.std.specs.Prelude.{◌≡◌, false};
 ghost use Rattle.clap.specs.Words.{rule_of};
-ghost use Rattle.segywb.specs.CommandLine.{file_rule, script_rule, out_rule, in_place_rule, fixed_rule, opaque_rule, order_rule, limit_rule, stop_rule, session_rule, quiet_rule};
+ghost use Rattle.segywb.specs.CommandLine.{file_rule, script_rule, out_rule, in_place_rule, on_disk_rule, fixed_rule, opaque_rule, order_rule, limit_rule, stop_rule, session_rule, quiet_rule};
 
 use clap::builder::ValueParser;
 use clap::{Arg, ArgAction};
@@ -13,7 +13,7 @@ pub fn file<'a>(alloc: Global) -> Arg<'a>
     ensures local { result.global ≡ false }
 {
     Arg::new(alloc, "FILE").required(true).help(
-        "SEG-Y file, with integer samples or --opaque-samples; it must fit in memory",
+        "SEG-Y file, with integer samples or --opaque-samples; in memory, but for --on-disk",
     )
 }
 
@@ -47,6 +47,19 @@ pub fn in_place<'a>(alloc: Global) -> Arg<'a>
         .long("in-place")
         .action(ArgAction::SetTrue)
         .help("write over OUT itself; a save that fails then leaves a part of the file")
+}
+
+// `--on-disk`: the bytes of the file stay on disk.
+pub fn on_disk<'a>(alloc: Global) -> Arg<'a>
+    ensures rule { rule_of result ≡ on_disk_rule }
+    ensures local { result.global ≡ false }
+{
+    Arg::new(alloc, "on-disk")
+        .long("on-disk")
+        .action(ArgAction::SetTrue)
+        .help(
+            "leave the bytes of FILE on disk, for one larger than memory; leave it alone meanwhile",
+        )
 }
 
 // `--fixed`: each trace has the binary header's number of samples, whatever bytes 3503-3504 say.
@@ -91,7 +104,10 @@ pub fn limit<'a>(alloc: Global) -> Arg<'a>
         .long("max-bytes")
         .value_parser(ValueParser::unsigned(1, 1099511627776))
         .value_name("N")
-        .help("refuse files above N bytes, at most 1099511627776 [default: 4294967296]")
+        .help(
+            "refuse files above N bytes, at most 1099511627776 \
+             [default: 4294967296; with --on-disk 1099511627776]",
+        )
 }
 
 // `--stop`: the first refused line ends the run.

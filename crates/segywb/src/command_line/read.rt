@@ -11,6 +11,8 @@ pub struct Arguments<'a> {
     pub out: Option<&'a str>,
     /// Whether the save goes to the file itself, and not beside it.
     pub in_place: bool,
+    /// Whether the bytes of the file stay on disk.
+    pub on_disk: bool,
     /// The most bytes that the file may have, from 1 to 2^40.
     pub max_bytes: Option<u64>,
     /// Whether the file is read as one of fixed length.

@@ -24,6 +24,7 @@ def words(arguments: Optional[List[str]]) -> Any:
     parser.add_argument("--no-browser", action="store_true", help="print the address and open no browser")
     parser.add_argument("--fixed", action="store_true", help="each trace has the binary header's number of samples, as for segywb")
     parser.add_argument("--order", choices=("big", "little"), help="the order of bytes of a file that does not tell it, as for segywb")
+    parser.add_argument("--on-disk", action="store_true", help="the bytes of FILE stay on disk, for a file larger than memory, as for segywb")
     parser.add_argument("--max-bytes", metavar="N", type=int, help="the largest file that is read or made, as for segywb")
     return parser.parse_args(arguments)
 
@@ -61,7 +62,7 @@ async def serve(told: Any) -> int:
     from .desk import Desk
     from .server import Server
 
-    server = Server(Desk(told.file, told.out, told.fixed, told.max_bytes, told.order), secrets.token_urlsafe(24))
+    server = Server(Desk(told.file, told.out, told.fixed, told.max_bytes, told.order, told.on_disk), secrets.token_urlsafe(24))
     port = await server.start(told.port)
     ended = asyncio.Event()
     for one in (signal.SIGINT, signal.SIGTERM):

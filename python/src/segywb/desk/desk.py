@@ -49,11 +49,17 @@ class Desk:
     """The file, its session, and what is shown of it."""
 
     def __init__(
-        self, path: str, out: Optional[str] = None, fixed: bool = False, max_bytes: Optional[int] = None, order: Optional[str] = None
+        self,
+        path: str,
+        out: Optional[str] = None,
+        fixed: bool = False,
+        max_bytes: Optional[int] = None,
+        order: Optional[str] = None,
+        on_disk: bool = False,
     ) -> None:
         self.path = os.path.abspath(path)
         self.out = os.path.abspath(out) if out else None
-        self._options: Dict[str, Any] = {"fixed": fixed, "max_bytes": max_bytes, "order": order}
+        self._options: Dict[str, Any] = {"fixed": fixed, "max_bytes": max_bytes, "order": order, "on_disk": on_disk}
         self.opaque = False
         self.version = 0
         self.kept_cells: List[Tuple[Mirror, Axis, Axis, Cells]] = []

@@ -1,4 +1,4 @@
-use Rattle.std.proofs.Common.{sym, arith}
+use Rattle.std.proofs.Common.{sym, arith, inl, inr}
 use Rattle.frame_cut.proofs.HeadFrontLemmas.{has_head}
 use Rattle.frame_cut.proofs.LaidLemmas.{cut_from, laid_from, stopped}
 use Rattle.frame_cut.proofs.cutting.cut.Goals as goal
@@ -7,6 +7,9 @@ pub walk-requires : goal.walk-requires
 walk-requires c =
     let k = has_head c.args.bytes.now c.args.reading c.args.limits c.in-Ok.head (sym c.in-Ok.ensures) in
     omega (arith, k.whole, k.first)
+
+pub returns-in-Err-clause-refused : goal.returns-in-Err-clause-refused
+returns-in-Err-clause-refused c = inr (inl (sym c.in-Err.ensures))
 
 pub returns-in-Ok-walk-clause-ok : goal.returns-in-Ok-walk-clause-ok
 returns-in-Ok-walk-clause-ok c =

@@ -1,53 +1,61 @@
-use Rattle.std.proofs.Common.{◌≡◌, ◌+◌, ◌-◌, ℤ, sym, subst, rules, arith}
+use Rattle.std.proofs.Common.{◌≡◌, ◌+◌, ◌-◌, ◌*◌, ℕ, ℤ, sym, subst, rules, arith}
+use borrow.Author.Count.{below_more}
 use Rattle.std.proofs.lemmas.Int.{to_z-of_z}
 use Rattle.std.specs.Int.{w128}
 use mir.Val.{SFits}
 use Rattle.num_order.specs.Number.{InRange}
+use Rattle.frame_cut.specs.Traces.{trace_at}
 use Rattle.bench_rules.specs.Computed.{Formula}
-use Rattle.many_traces.proofs.NumbersLemmas.{IsNumber, is_number, one_more, refused_here, none_refused, all_bytes, room_left}
+use Rattle.many_traces.specs.Fields.{HoldsPlace}
+use Rattle.many_traces.proofs.LookLemmas.{seen_after}
+use Rattle.many_traces.proofs.NumbersLemmas.{one_more, refused_or_read, none_refused, all_bytes, room_left}
 use Rattle.many_traces.proofs.computed.filled.Goals as goal
 
 pub push_number-requires-clause-fits : goal.push_number-requires-clause-fits
 push_number-requires-clause-fits c =
     let fits : SFits w128 c.in-Ok.number = search rules in
-    let f : Formula = record { place = c.args.place; source = c.args.source; steps = c.args.steps.now } in
-    let p = c.args.a + c.loop-k.k in
-    let none = rw (c.loop-k.invariant.volume) at c.in-Ok.ensures.none in
-    let number = rw (c.loop-k.invariant.volume) at c.in-Ok.ensures.number in
-    let is : IsNumber c.args.place c.in-Ok.number = is_number c.args.overlay.now.volume f p c.in-Ok.number none number in
-    subst (λ (x : ℤ). InRange c.args.place.kind x) (sym (to_z-of_z w128 c.in-Ok.number fits)) is.fits
+    subst (λ (x : ℤ). InRange c.args.place.kind x) (sym (to_z-of_z w128 c.in-Ok.number fits)) c.in-Ok.ensures.fits
 
 pub returns-in-Err-clause-err : goal.returns-in-Err-clause-err
 returns-in-Err-clause-err c =
+    let i = c.loop-k.invariant in
     let f : Formula = record { place = c.args.place; source = c.args.source; steps = c.args.steps.now } in
-    let err = rw (c.loop-k.invariant.volume) at c.in-Err.ensures.err in
-    refused_here c.args.overlay.now.volume f c.args.a c.args.b c.loop-k.k c.in-Err.refusal c.loop-k.invariant.far.none (omega (arith, c.loop-k-test.true, c.requires.range)) err
+    refused_or_read c.args.overlay.now.volume f c.args.a c.args.b c.loop-k.k c.in-Err.refusal (rw (i.seen.volume, i.seen.on_disk) at c.in-Err.ensures.err) (λ sure. (i.far (c.number_at.ensures.seen.agreed sure)).none) (omega (arith, c.loop-k-test.true, c.requires.range))
 
 pub loop-k-preserved : goal.loop-k-preserved
 loop-k-preserved c =
     let fits : SFits w128 c.in-Ok.number = search rules in
     let f : Formula = record { place = c.args.place; source = c.args.source; steps = c.args.steps.now } in
-    let none = rw (c.loop-k.invariant.volume) at c.in-Ok.ensures.none in
-    let number = rw (c.loop-k.invariant.volume) at c.in-Ok.ensures.number in
-    let joined = rw (c.loop-k.invariant.order, to_z-of_z w128 c.in-Ok.number fits) at c.push_number.ensures.bytes in
+    let v = c.args.overlay.now.volume in
+    let i = c.loop-k.invariant in
+    let made = c.in-Ok.ensures in
+    let joined = rw (i.order, to_z-of_z w128 c.in-Ok.number fits) at c.push_number.ensures.bytes in
     let left = room_left c.args.place.kind.size (c.args.b + 1 - c.args.a - (c.loop-k.k + 1)) (c.args.b + 1 - c.args.a - c.loop-k.k) (omega (arith, c.loop-k-test.true, c.requires.range)) in
+    let step : c.args.place.kind.size * (c.loop-k.k + 1) ≡ c.args.place.kind.size * c.loop-k.k + c.args.place.kind.size = omega arith in
     record {
-      far = one_more c.args.overlay.now.volume f c.args.a c.loop-k.k c.in-Ok.number c.loop-k.bytes.items c.push_number.new.bytes.items c.loop-k.invariant.far none number joined;
-      room = omega (arith, left, c.loop-k.invariant.room, c.push_number.ensures.count, c.push_number.ensures.room);
+      far = λ sure.
+          let none = rw (i.seen.volume) at (made.none sure) in
+          let number = rw (i.seen.volume) at (made.number sure) in
+          one_more v f c.args.a c.loop-k.k c.in-Ok.number c.loop-k.bytes.items c.push_number.new.bytes.items (i.far (made.seen.agreed sure)) none number joined;
+      count = omega (arith, step, i.count, c.push_number.ensures.count);
+      each =
+          let here = rw (i.seen.volume) at made.place in
+          below_more (λ (j : ℕ). HoldsPlace (trace_at v (c.args.a + j)) c.args.place) c.loop-k.k i.each here;
+      room = omega (arith, left, i.room, c.push_number.ensures.count, c.push_number.ensures.room);
       order = search rules;
-      volume = search rules;
-      prepared = search rules;
-      payloads = search rules;
-      looks = search rules;
+      seen = seen_after c.args.overlay.now c.loop-k.overlay c.number_at.new.overlay c.loop-k.k 1 i.seen made.seen;
     }
 
 pub returns-clause-none : goal.returns-clause-none
-returns-clause-none c =
+returns-clause-none c = λ sure.
     none_refused c.args.overlay.now.volume (record { place = c.args.place; source = c.args.source; steps = c.args.steps.now }) c.args.a c.args.b
-    (λ i less. c.loop-k.invariant.far.none i (omega (arith, less, c.loop-k-test.false, c.requires.range)))
+    (λ i less. (c.loop-k.invariant.far sure).none i (omega (arith, less, c.loop-k-test.false, c.requires.range)))
 
 pub returns-clause-bytes : goal.returns-clause-bytes
-returns-clause-bytes c =
+returns-clause-bytes c = λ sure.
     let n : c.loop-k.k ≡ c.args.b + 1 - c.args.a = omega (arith, c.loop-k-test.false, c.loop-k.auto.k-end, c.requires.range) in
     all_bytes c.args.overlay.now.volume (record { place = c.args.place; source = c.args.source; steps = c.args.steps.now }) c.args.a c.args.b c.loop-k.bytes.items
-    (rw n at c.loop-k.invariant.far)
+    (rw n at (c.loop-k.invariant.far sure))
+
+pub returns-clause-each : goal.returns-clause-each
+returns-clause-each c = λ j less. c.loop-k.invariant.each j (omega (arith, less, c.loop-k-test.false, c.requires.range))

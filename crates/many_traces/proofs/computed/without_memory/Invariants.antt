@@ -1,5 +1,5 @@
-use Rattle.std.proofs.Common.{◌≡◌, List, Some}
-use Rattle.edit_overlay.specs.CountedVolume.{RisesAtMost}
+use Rattle.std.proofs.Common.{◌≡◌, IsTrue, List, Some}
+use Rattle.edit_overlay.specs.CountedVolume.{IsSeen}
 use Rattle.bench_rules.specs.declared.operator.Operator.{Operator}
 use Rattle.bench_rules.specs.declared.term.Term.{Term}
 use Rattle.bench_rules.specs.Computed.{steps_of}
@@ -9,9 +9,7 @@ use Rattle.many_traces.proofs.computed.without_memory.Given as goal
 -- none of the traces so far is refused, and each was looked at once
 abbrev pub invariant-loop-k : goal.invariant-loop-k
 invariant-loop-k l = record {
-  none : (terms : List (Operator × Term)) → steps_of l.map.pairs l.steps ≡ Some terms → NoneRefused l.fn.overlay.volume (record { place = l.place; source = l.source; steps = terms }) l.a l.k;
-  volume : l.overlay.volume ≡ l.fn.overlay.volume;
-  prepared : l.overlay.prepared ≡ l.fn.overlay.prepared;
-  payloads : l.overlay.payloads ≡ l.fn.overlay.payloads;
-  looks : RisesAtMost l.fn.overlay.looks l.overlay.looks l.k;
+  none : IsTrue l.overlay.agreed → (terms : List (Operator × Term)) → steps_of l.map.pairs l.steps ≡ Some terms →
+      NoneRefused l.fn.overlay.volume (record { place = l.place; source = l.source; steps = terms }) l.a l.k;
+  seen : IsSeen l.fn.overlay l.overlay l.k;
 }

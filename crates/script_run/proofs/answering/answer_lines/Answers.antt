@@ -4,6 +4,7 @@ use Rattle.script_text.specs.declared.script_fault.ScriptFault.TheVariants.{Read
 use Rattle.script_text.specs.Devices.{device_of}
 use Rattle.script_text.proofs.OutLemmas.{stays}
 use Rattle.script_run.proofs.InputLemmas.{none_taken}
+use Rattle.script_run.proofs.ReadAsLemmas.{read_as_itself, read_as_then}
 use Rattle.script_run.proofs.SessionLemmas.{none_yet, whole, broken, endless, too_many, stops, breaks_off, one_more, one_refused, none_refused, not_both}
 use Rattle.script_run.proofs.answering.answer_lines.Goals as goal
 use Rattle.script_run.proofs.answering.answer_lines.Goals.{then-told+else-stop, else-told}
@@ -11,59 +12,65 @@ use Rattle.script_run.proofs.answering.answer_lines.Goals.{then-told+else-stop, 
 pub lines-init : goal.lines-init
 lines-init g c =
     rw c.new-ahead.ensures (
-      none_yet c.args.bench.now.state _ _ c.args.stop (device_of g.A.Write.contents c.args.answers.now) (none_taken (g.S.Read.remaining c.args.script.now.inner))
+      λ sure. none_yet c.args.bench.now.state _ _ c.args.stop (device_of g.A.Write.contents c.args.answers.now) (none_taken (g.S.Read.remaining c.args.script.now.inner))
           (stays (g.A.Write.contents c.args.answers.now.inner)),
       refl,
       omega arith,
+      read_as_itself c.args.bench.now.state,
+      λ sure. sure,
     )
 
-pub returns-in-End : goal.returns-in-End
-returns-in-End g c =
-    whole _ (device_of g.S.Read.remaining c.args.script.now) _ _ _ _ _ _ _ _ c.lines.invariant.0 (device_of g.S.Read.remaining c.next_line.new.source)
+pub returns-in-End-clause-lines : goal.returns-in-End-clause-lines
+returns-in-End-clause-lines g c = λ sure.
+    whole _ (device_of g.S.Read.remaining c.args.script.now) _ _ _ _ _ _ _ _ (c.lines.invariant.0 sure) (device_of g.S.Read.remaining c.next_line.new.source)
     c.in-End.ensures.next.0 (c.in-End.ensures.failures ∙ c.lines.invariant.1)
 
-pub returns-then-stop : goal.returns-then-stop
-returns-then-stop g c =
-    stops _ (device_of g.S.Read.remaining c.args.script.now) _ _ c.in-Line.ensures.next.0 _ _ _ _ _ _ _ c.answer.new.bench.state c.in-Ok.ensures.0 c.lines.invariant.0 c.in-Line.ensures.next.1
-    (c.in-Ok.ensures.1 c.in-Line.ensures.next.0 c.in-Line.ensures.next.2) _ c.in-Ok.ensures.2.0 (sym c.in-Ok.ensures.2.2 ∙ c.if-told.true) c.if-stop.true
+pub returns-then-stop-clause-lines : goal.returns-then-stop-clause-lines
+returns-then-stop-clause-lines g c = λ sure.
+    stops _ (device_of g.S.Read.remaining c.args.script.now) _ _ c.in-Line.ensures.next.0 _ _ _ _ _ _ _ c.answer.new.bench.state (c.in-Ok.ensures.line sure).0 (c.lines.invariant.0 (c.in-Ok.ensures.agreed sure)) c.in-Line.ensures.next.1
+    ((c.in-Ok.ensures.line sure).1 c.in-Line.ensures.next.0 c.in-Line.ensures.next.2) _ (c.in-Ok.ensures.line sure).2.0 (sym (c.in-Ok.ensures.line sure).2.2 ∙ c.if-told.true) c.if-stop.true
 
-pub returns-in-Err : goal.returns-in-Err
-returns-in-Err g c =
-    breaks_off _ (device_of g.S.Read.remaining c.args.script.now) _ _ c.in-Line.ensures.next.0 _ _ _ _ _ _ _ c.answer.new.bench.state c.in-Err.ensures.0 c.lines.invariant.0 c.in-Line.ensures.next.1
-    (c.in-Err.ensures.1 c.in-Line.ensures.next.0 c.in-Line.ensures.next.2) _ c.in-Err.ensures.2.0 c.saturating_add.result c.in-Err.ensures.2.2
-    (omega (arith, c.saturating_add.ensures, c.in-Err.ensures.2.1))
+pub returns-in-Err-clause-lines : goal.returns-in-Err-clause-lines
+returns-in-Err-clause-lines g c = λ sure.
+    breaks_off _ (device_of g.S.Read.remaining c.args.script.now) _ _ c.in-Line.ensures.next.0 _ _ _ _ _ _ _ c.answer.new.bench.state (c.in-Err.ensures.line sure).0 (c.lines.invariant.0 (c.in-Err.ensures.agreed sure)) c.in-Line.ensures.next.1
+    ((c.in-Err.ensures.line sure).1 c.in-Line.ensures.next.0 c.in-Line.ensures.next.2) _ (c.in-Err.ensures.line sure).2.0 c.saturating_add.result (c.in-Err.ensures.line sure).2.2
+    (omega (arith, c.saturating_add.ensures, (c.in-Err.ensures.line sure).2.1))
 
 pub lines-preserved : goal.lines-preserved
 lines-preserved g c = elim c.if-told.branch [
   | then-told+else-stop w ↦ (
-    one_more _ (device_of g.S.Read.remaining c.args.script.now) _ _ c.in-Line.ensures.next.0 _ _ _ _ _ _ _ c.answer.new.bench.state c.in-Ok.ensures.0 c.lines.invariant.0 c.in-Line.ensures.next.1
-        (c.in-Ok.ensures.1 c.in-Line.ensures.next.0 c.in-Line.ensures.next.2) _ c.if-told.refused c.saturating_add-written.result c.in-Ok.ensures.2.0
-        (one_refused _ _ _ (sym c.in-Ok.ensures.2.2 ∙ w.if-told.true) w.refused-is)
-        (omega (arith, c.saturating_add-written.ensures, c.in-Ok.ensures.2.1)) (λ s. absurd (not_both c.args.stop s w.if-stop.false)),
+    λ sure. one_more _ (device_of g.S.Read.remaining c.args.script.now) _ _ c.in-Line.ensures.next.0 _ _ _ _ _ _ _ c.answer.new.bench.state (c.in-Ok.ensures.line sure).0 (c.lines.invariant.0 (c.in-Ok.ensures.agreed sure)) c.in-Line.ensures.next.1
+        ((c.in-Ok.ensures.line sure).1 c.in-Line.ensures.next.0 c.in-Line.ensures.next.2) _ c.if-told.refused c.saturating_add-written.result (c.in-Ok.ensures.line sure).2.0
+        (one_refused _ _ _ (sym (c.in-Ok.ensures.line sure).2.2 ∙ w.if-told.true) w.refused-is)
+        (omega (arith, c.saturating_add-written.ensures, (c.in-Ok.ensures.line sure).2.1)) (λ s. absurd (not_both c.args.stop s w.if-stop.false)),
     c.in-Line.ensures.failures ∙ c.lines.invariant.1,
     omega (arith, c.lines.invariant.2, w.refused-is),
+    read_as_then _ _ _ c.lines.invariant.3 c.in-Ok.ensures.same,
+    λ sure. c.lines.invariant.4 (c.in-Ok.ensures.agreed sure),
   )
   | else-told w ↦ (
-    one_more _ (device_of g.S.Read.remaining c.args.script.now) _ _ c.in-Line.ensures.next.0 _ _ _ _ _ _ _ c.answer.new.bench.state c.in-Ok.ensures.0 c.lines.invariant.0 c.in-Line.ensures.next.1
-        (c.in-Ok.ensures.1 c.in-Line.ensures.next.0 c.in-Line.ensures.next.2) _ c.if-told.refused c.saturating_add-written.result c.in-Ok.ensures.2.0
-        (none_refused _ _ _ (sym c.in-Ok.ensures.2.2 ∙ w.if-told.false) w.refused-is)
-        (omega (arith, c.saturating_add-written.ensures, c.in-Ok.ensures.2.1)) (λ s. sym c.in-Ok.ensures.2.2 ∙ w.if-told.false),
+    λ sure. one_more _ (device_of g.S.Read.remaining c.args.script.now) _ _ c.in-Line.ensures.next.0 _ _ _ _ _ _ _ c.answer.new.bench.state (c.in-Ok.ensures.line sure).0 (c.lines.invariant.0 (c.in-Ok.ensures.agreed sure)) c.in-Line.ensures.next.1
+        ((c.in-Ok.ensures.line sure).1 c.in-Line.ensures.next.0 c.in-Line.ensures.next.2) _ c.if-told.refused c.saturating_add-written.result (c.in-Ok.ensures.line sure).2.0
+        (none_refused _ _ _ (sym (c.in-Ok.ensures.line sure).2.2 ∙ w.if-told.false) w.refused-is)
+        (omega (arith, c.saturating_add-written.ensures, (c.in-Ok.ensures.line sure).2.1)) (λ s. sym (c.in-Ok.ensures.line sure).2.2 ∙ w.if-told.false),
     c.in-Line.ensures.failures ∙ c.lines.invariant.1,
     omega (arith, c.lines.invariant.2, w.refused-is),
+    read_as_then _ _ _ c.lines.invariant.3 c.in-Ok.ensures.same,
+    λ sure. c.lines.invariant.4 (c.in-Ok.ensures.agreed sure),
   )
 ]
 
-pub returns-in-Failed : goal.returns-in-Failed
-returns-in-Failed g c =
-    rw c.broken.ensures (broken _ (device_of g.S.Read.remaining c.args.script.now) _ _ _ _ _ _ _ _ c.lines.invariant.0 ReadFailed (device_of g.S.Read.remaining c.next_line.new.source)
+pub returns-in-Failed-clause-lines : goal.returns-in-Failed-clause-lines
+returns-in-Failed-clause-lines g c = λ sure.
+    rw c.broken.ensures (broken _ (device_of g.S.Read.remaining c.args.script.now) _ _ _ _ _ _ _ _ (c.lines.invariant.0 sure) ReadFailed (device_of g.S.Read.remaining c.next_line.new.source)
     (inl (refl, c.in-Failed.ensures.failures ∙ ap one_more_failure c.lines.invariant.1)))
 
-pub returns-in-Endless : goal.returns-in-Endless
-returns-in-Endless g c =
-    rw c.broken-in-Endless.ensures (broken _ (device_of g.S.Read.remaining c.args.script.now) _ _ _ _ _ _ _ _ c.lines.invariant.0 TooLarge (device_of g.S.Read.remaining c.next_line.new.source)
-    (inr (refl, endless _ (device_of g.S.Read.remaining c.args.script.now) _ _ _ _ _ _ _ _ c.lines.invariant.0 c.in-Endless.ensures.next, c.in-Endless.ensures.failures ∙ c.lines.invariant.1)))
+pub returns-in-Endless-clause-lines : goal.returns-in-Endless-clause-lines
+returns-in-Endless-clause-lines g c = λ sure.
+    rw c.broken-in-Endless.ensures (broken _ (device_of g.S.Read.remaining c.args.script.now) _ _ _ _ _ _ _ _ (c.lines.invariant.0 sure) TooLarge (device_of g.S.Read.remaining c.next_line.new.source)
+    (inr (refl, endless _ (device_of g.S.Read.remaining c.args.script.now) _ _ _ _ _ _ _ _ (c.lines.invariant.0 sure) c.in-Endless.ensures.next, c.in-Endless.ensures.failures ∙ c.lines.invariant.1)))
 
-pub returns : goal.returns
-returns g c =
-    rw c.broken-2.ensures (broken _ (device_of g.S.Read.remaining c.args.script.now) _ _ _ _ _ _ _ _ c.lines.invariant.0 TooLarge (device_of g.S.Read.remaining c.lines.script)
-    (inr (refl, too_many _ (device_of g.S.Read.remaining c.args.script.now) _ _ _ _ _ _ _ _ c.lines.invariant.0 (omega (arith, c.lines.auto.number-end)), c.lines.invariant.1)))
+pub returns-clause-lines : goal.returns-clause-lines
+returns-clause-lines g c = λ sure.
+    rw c.broken-2.ensures (broken _ (device_of g.S.Read.remaining c.args.script.now) _ _ _ _ _ _ _ _ (c.lines.invariant.0 sure) TooLarge (device_of g.S.Read.remaining c.lines.script)
+    (inr (refl, too_many _ (device_of g.S.Read.remaining c.args.script.now) _ _ _ _ _ _ _ _ (c.lines.invariant.0 sure) (omega (arith, c.lines.auto.number-end)), c.lines.invariant.1)))

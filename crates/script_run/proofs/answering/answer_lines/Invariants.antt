@@ -1,4 +1,6 @@
 use Rattle.std.proofs.Common.{◌≡◌, ◌≤◌}
+use Rattle.std.specs.Prelude.{IsTrue}
+use Rattle.live_volume.specs.Held.{IsReadAs}
 use Rattle.script_text.specs.Devices.{device_of}
 use Rattle.script_run.specs.Input.{left_of}
 use Rattle.script_run.proofs.SessionLemmas.{SessionSoFar}
@@ -6,7 +8,9 @@ use Rattle.script_run.proofs.answering.answer_lines.Given as goal
 
 abbrev pub invariant-lines : goal.invariant-lines
 invariant-lines g l =
-    SessionSoFar l.initial.bench.state (g.S.Read.remaining l.initial.script.inner) (left_of l.ahead (g.S.Read.remaining l.script.inner)) l.stop l.number l.refused l.written
-    (device_of g.A.Write.contents l.initial.answers) (device_of g.A.Write.contents l.answers) l.bench.state
+    (IsTrue l.bench.agreed → SessionSoFar l.initial.bench.state (g.S.Read.remaining l.initial.script.inner) (left_of l.ahead (g.S.Read.remaining l.script.inner)) l.stop l.number l.refused l.written
+    (device_of g.A.Write.contents l.initial.answers) (device_of g.A.Write.contents l.answers) l.bench.state)
     × (l.script.failures ≡ l.initial.script.failures)
     × (l.refused ≤ l.number)
+    × IsReadAs l.initial.bench.state l.bench.state
+    × (IsTrue l.bench.agreed → IsTrue l.initial.bench.agreed)

@@ -25,6 +25,12 @@ returns-in-Some-read_matches-clause-in_place c =
     let same = sym (ap (first_of (codes "in-place")) (sym rows) ∙ first_of-rows_of (found_of c.in_ok-matches.matches) (codes "in-place")) in
     c.in-Some-read_matches.ensures.in_place ∙ ap is_set same
 
+pub returns-in-Some-read_matches-clause-on_disk : goal.returns-in-Some-read_matches-clause-on_disk
+returns-in-Some-read_matches-clause-on_disk c =
+    let rows = rows_are _ _ c.in_ok-matches.matches c.in_ok-command.ensures c.in_ok-matches.ensures.ok.2 in
+    let same = sym (ap (first_of (codes "on-disk")) (sym rows) ∙ first_of-rows_of (found_of c.in_ok-matches.matches) (codes "on-disk")) in
+    c.in-Some-read_matches.ensures.on_disk ∙ ap is_set same
+
 pub returns-in-Some-read_matches-clause-fixed : goal.returns-in-Some-read_matches-clause-fixed
 returns-in-Some-read_matches-clause-fixed c =
     let rows = rows_are _ _ c.in_ok-matches.matches c.in_ok-command.ensures c.in_ok-matches.ensures.ok.2 in

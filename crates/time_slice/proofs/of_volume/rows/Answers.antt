@@ -9,11 +9,11 @@ use Rattle.time_slice.proofs.OrderLemmas.{slice_from_sorted}
 use Rattle.time_slice.proofs.of_volume.rows.Goals as goal
 
 pub returns-clause-rows : goal.returns-clause-rows
-returns-clause-rows c =
+returns-clause-rows c = λ sure.
     let v = c.args.overlay.now.volume in
     let sorted = c.sort_unstable.new.self.items in
     slice_from_sorted (with_sample_of v.head c.args.k (map record_in c.args.overlay.now.payloads) v.traces) sorted
-    (subst (λ (rows : List Row). IsPermutation rows sorted) c.in_ok-rows.ensures.rows c.sort_unstable.ensures.permutation)
+    (subst (λ (rows : List Row). IsPermutation rows sorted) (c.in_ok-rows.ensures.rows sure) c.sort_unstable.ensures.permutation)
     c.sort_unstable.ensures.sorted
 
 pub returns-clause-fits : goal.returns-clause-fits

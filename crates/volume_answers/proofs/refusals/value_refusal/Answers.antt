@@ -2,14 +2,35 @@ use Rattle.std.proofs.Common.{◌∙◌, refl, ap, sym, rules, Some}
 use Rattle.std.proofs.lemmas.Int.{to_z-of_z}
 use Rattle.std.specs.Int.{w128}
 use mir.Val.{SFits}
+use Rattle.time_slice.proofs.SeenLemmas.{seen_more, seen_none}
 use Rattle.trace_view.specs.Shown.{bytes_of, head_of}
 use Rattle.bench_rules.specs.Refused.{set_refusal}
 use Rattle.bench_rules.proofs.SetLemmas.{refused_by}
+use Rattle.volume_answers.proofs.RoomLemmas.{room}
 use Rattle.volume_answers.proofs.refusals.value_refusal.Goals as goal
 
 pub returns-clause-refusal : goal.returns-clause-refusal
-returns-clause-refusal c = λ s same.
+returns-clause-refusal c = λ s same sure.
     let fit : SFits w128 c.args.value = search rules in
-    refused_by s c.args.p c.args.place c.args.value c.args.overlay.now.volume (head_of c.in-Some.trace) (bytes_of c.in-Some.trace) c.set_refusal.result
-    (sym same) (c.in-Some.ensures.there.0 refl) c.in-Some.ensures.trace.0 c.in-Some.ensures.trace.1
-    (c.set_refusal.ensures ∙ ap (set_refusal (head_of c.in-Some.trace) (bytes_of c.in-Some.trace) (Some c.args.place)) (to_z-of_z w128 c.args.value fit))
+    let view = c.in-Some.trace in
+    let there = rw c.in-Some.is at c.in_ok-trace.ensures.there in
+    let seen = rw (c.in_ok-trace.was, c.in-Some.is) at c.look.follows.holds-at-none in
+    let shown = seen.trace sure in
+    refused_by s c.args.p c.args.place c.args.value c.args.overlay.now.volume (head_of view) (bytes_of view) c.set_refusal.result
+    (sym same) (there.0 refl) shown.0 shown.1
+    (c.set_refusal.ensures ∙ ap (set_refusal (head_of view) (bytes_of view) (Some c.args.place)) (to_z-of_z w128 c.args.value fit))
+
+pub returns-clause-room : goal.returns-clause-room
+returns-clause-room c = λ none.
+    let fit : SFits w128 c.args.value = search rules in
+    let view = c.in-Some.trace in
+    let there = rw c.in-Some.is at c.in_ok-trace.ensures.there in
+    let shape = rw c.in-Some.is at c.in_ok-trace.ensures.shape in
+    room c.args.overlay.now.volume c.args.p c.args.place c.args.value (head_of view) (bytes_of view) (there.0 refl) view.whole shape.1
+    (sym (c.set_refusal.ensures ∙ ap (set_refusal (head_of view) (bytes_of view) (Some c.args.place)) (to_z-of_z w128 c.args.value fit)) ∙ none)
+
+pub returns-clause-seen : goal.returns-clause-seen
+returns-clause-seen c =
+    let o = c.args.overlay.now in
+    let seen = rw (c.in_ok-trace.was, c.in-Some.is) at c.look.follows.holds-at-none in
+    seen_more o o c.look.follows.lender-at-none 0 (seen_none o) seen.looked seen.agreed

@@ -11,9 +11,9 @@ use Rattle.bench_rules.specs.Reports.{slice_in}
 use Rattle.volume_answers.proofs.sample_answers.slice_answer.Goals as goal
 
 pub returns-clause-reply : goal.returns-clause-reply
-returns-clause-reply c = λ s same are.
+returns-clause-reply c = λ s same disk sure are.
     let opaque : is_none (values s.volume.head.format) ≡ false = rw same (sym c.has_opaque_samples.ensures ∙ c.if-has_opaque_samples.false) in
-    let told = rw (← same) at c.in_ok-rows.ensures.rows in
+    let told = rw (← same) at c.in_ok-rows.ensures.rows sure in
     inl (ap (λ (l : List Row). let r : Reply = Ok (answers.Slice l) in r)
     (c.new.ensures ∙ told ∙ rows_are_of_traces s.volume.head s.fields c.args.k (map record_in c.args.overlay.now.payloads) s.volume.traces are)
     ∙ sym (ap (λ (b : Bool). let r : Reply = if b then Err NoValues else Ok (answers.Slice (slice_in s c.args.k)) in r) opaque))

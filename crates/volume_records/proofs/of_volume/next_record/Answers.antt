@@ -1,4 +1,4 @@
-use Rattle.std.proofs.Common.{◌+◌, ◌∙◌, length}
+use Rattle.std.proofs.Common.{ℕ, List, ◌+◌, ◌∙◌, ap, length}
 use Rattle.frame_cut.specs.declared.file_head.Head.{Head}
 use Rattle.trace_record.specs.OfTrace.{record_of}
 use Rattle.volume_records.proofs.SeenLemmas.{geometry_in_view, same_extensions, of_view}
@@ -11,5 +11,5 @@ returns-clause-record c =
     let m = c.args.fields.now in
     let view = c.in-Some.trace in
     let shown = c.in-Some.ensures.trace in
-    c.record_of.ensures (geometry_in_view view m c.geometry_stands.ensures (same_extensions v p m.extensions view c.requires.fields shown))
+    c.record_of.ensures (geometry_in_view view m c.geometry_stands.ensures (same_extensions v p m.extensions view c.requires.fields (shown.0, ap (λ (t : List ℕ). length t) shown.1)))
     ∙ of_view (λ (h : Head). record_of h m.pairs) v p view shown

@@ -3,7 +3,6 @@ use Rattle.std.specs.Prelude.{map}
 use Rattle.trace_record.specs.Facts.{facts_of}
 use Rattle.trace_record.specs.Packed.{record_in}
 use Rattle.edit_overlay.specs.CountedVolume.{RisesAtMost}
-use Rattle.frame_cut.specs.Traces.{count_of}
 use Rattle.volume_records.specs.OfVolume.{records_of}
 use Rattle.volume_records.proofs.of_volume.push_records.Given as goal
 
@@ -14,4 +13,6 @@ invariant-loop-k l = record {
   made : map facts_of (map record_in l.loading.payloads) ≡ take (length l.loading.payloads) (records_of l.fn.loading.volume l.fn.fields.pairs);
   volume : l.loading.volume ≡ l.fn.loading.volume;
   looks : RisesAtMost l.fn.loading.looks l.loading.looks (length l.loading.payloads);
+  on_disk : l.loading.on_disk ≡ l.fn.loading.on_disk;
+  agreed : l.loading.agreed ≡ l.fn.loading.agreed;
 }

@@ -1,8 +1,7 @@
-use Rattle.std.proofs.Common.{◌≡◌, ◌∙◌, List, map, sym, ap, arith}
+use Rattle.std.proofs.Common.{◌≡◌, ◌∙◌, List, map, ap}
 use Rattle.trace_record.specs.Facts.{facts_of}
 use Rattle.trace_record.specs.Packed.{record_in}
 use Rattle.trace_record.specs.declared.packed_record.PackedRecord.{PackedRecord}
-use Rattle.volume_records.specs.OfVolume.{records_of}
 use Rattle.volume_records.proofs.FewLemmas.{cut_is_few}
 use Rattle.volume_records.proofs.of_volume.with_records.Goals as goal
 

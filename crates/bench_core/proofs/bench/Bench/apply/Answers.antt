@@ -11,11 +11,14 @@ invariant_of-self-2 c =
     let old : State = c.self.inside.volume.state in
     let new : State = c.change.new.volume.state in
     let cache : Cache = c.self.inside.slices.entries in
-    let is = done old new c.args.edit.now _ c.in_ok-moved.ensures.step in
-    let same : c.follow.new.slices.entries ≡ entries_after (has_moved old c.args.edit.now new) c.args.edit.now cache =
-    c.follow.ensures.entries ∙ ap (λ (b : Bool). entries_after b c.args.edit.now cache) c.in_ok-moved.ensures.moved in
+    let before = c.in_ok-moved.ensures.agreed in
     record {
-      slices = subst (λ (l : Cache). AreSlicesOf new l) (sym same) (slices_follow old new c.args.edit.now cache c.stands.ensures.cut c.stands.ensures.geometry is.0 is.1 c.self.invariant.slices);
+      slices = λ sure.
+          let is = done old new c.args.edit.now _ (c.in_ok-moved.ensures.step sure) in
+          let same : c.follow.new.slices.entries ≡ entries_after (has_moved old c.args.edit.now new) c.args.edit.now cache =
+          c.follow.ensures.entries ∙ ap (λ (b : Bool). entries_after b c.args.edit.now cache) (c.in_ok-moved.ensures.moved sure) in
+          subst (λ (l : Cache). AreSlicesOf new l) (sym same)
+          (slices_follow old new c.args.edit.now cache (c.stands.ensures.cut (before sure)) c.stands.ensures.geometry is.0 is.1 (c.self.invariant.slices (before sure)));
       capacity = c.follow.ensures.capacity ∙ c.self.invariant.capacity;
     }
 
@@ -24,12 +27,13 @@ returns-clause-kept c =
     let old : State = c.self.inside.volume.state in
     let new : State = c.change.new.volume.state in
     let cache : Cache = c.self.inside.slices.entries in
-    let is = done old new c.args.edit.now _ c.in_ok-moved.ensures.step in
     rw (← c.self.view_is)
-    (ap (λ (l : Cache). kept_numbers l) (c.follow.ensures.entries ∙ ap (λ (b : Bool). entries_after b c.args.edit.now cache) c.in_ok-moved.ensures.moved)
-    ∙ numbers_follow old new c.args.edit.now cache c.stands.ensures.cut is.0 is.1)
+    (λ sure.
+    let is = done old new c.args.edit.now _ (c.in_ok-moved.ensures.step sure) in
+    ap (λ (l : Cache). kept_numbers l) (c.follow.ensures.entries ∙ ap (λ (b : Bool). entries_after b c.args.edit.now cache) (c.in_ok-moved.ensures.moved sure))
+    ∙ numbers_follow old new c.args.edit.now cache (c.stands.ensures.cut (c.in_ok-moved.ensures.agreed sure)) is.0 is.1)
 
 pub returns-in_err-moved-clause-step : goal.returns-in_err-moved-clause-step
 returns-in_err-moved-clause-step c =
     rw (← c.self.view_is)
-    (refused_too Bool (Unit {0}) c.self.inside.volume.state c.change.new.volume.state c.args.edit.now c.in_err-moved.field-0.0 c.from_residual.result c.from_residual.ensures.1 c.in_err-moved.ensures.step)
+    (λ sure. refused_too Bool (Unit {0}) c.self.inside.volume.state c.change.new.volume.state c.args.edit.now c.in_err-moved.field-0.0 c.from_residual.result c.from_residual.ensures.1 (c.in_err-moved.ensures.step sure))

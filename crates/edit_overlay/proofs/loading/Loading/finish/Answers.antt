@@ -1,10 +1,15 @@
-use Rattle.std.proofs.Common.{◌≡◌, ◌∙◌, ℕ, List, length, take, drop, refl, ap}
+use Rattle.std.proofs.Common.{◌≡◌, ◌∙◌, ℕ, List, length, take, drop, refl, ap, arith}
 use Rattle.frame_cut.specs.Layout.{pieces, volume_at}
 use Rattle.frame_cut.specs.Volume.{Volume, bytes_of}
 use Rattle.trace_store.specs.Stores.{payloads_of}
 use Rattle.edit_overlay.specs.Held.{volume_with}
 use Rattle.edit_overlay.proofs.LoadingLemmas.{parts-loaded}
 use Rattle.edit_overlay.proofs.loading.Loading.finish.Goals as goal
+
+pub new-requires-clause-ends : goal.new-requires-clause-ends
+new-requires-clause-ends g c =
+    let l = c.self.invariant in
+    record { front = l.laid.front; whole = l.laid.whole; front_kept = omega (arith, l.laid.whole, l.front); back_kept = omega (arith, l.laid.whole, l.back) }
 
 pub new-requires-clause-joined : goal.new-requires-clause-joined
 new-requires-clause-joined g c =

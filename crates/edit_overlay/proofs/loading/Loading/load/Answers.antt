@@ -1,13 +1,18 @@
 use Rattle.std.proofs.Common.{◌≡◌, ◌⊎◌, ℕ, List, rules, subst, sym}
-use Rattle.std.proofs.lemmas.Result.{IfErr-weaker, IfOk-weaker}
+use Rattle.std.proofs.lemmas.Result.{IfErr-weaker, IfOk-weaker, err_from_is_err_and}
 use Rattle.frame_cut.specs.declared.load_fault.LoadFault.{LoadFault}
 use Rattle.frame_cut.specs.declared.load_fault.LoadFault.TheVariants.{OutOfMemory}
 use Rattle.frame_cut.specs.Cuts.{IsCut, IsRefused}
 use Rattle.frame_cut.specs.Volume.{bytes_of}
 use Rattle.edit_overlay.specs.LoadedVolume.{LoadedVolume}
 use Rattle.edit_overlay.specs.Loading.{IsLoadFault, TakesWithin}
-use Rattle.edit_overlay.proofs.FaultLemmas.{kept_failures, load_fault}
+use Rattle.edit_overlay.proofs.FaultLemmas.{kept_failures, load_fault, read_fault}
 use Rattle.edit_overlay.proofs.loading.Loading.load.Goals as goal
+
+pub returns-in_err-bytes-clause-refused : goal.returns-in_err-bytes-clause-refused
+returns-in_err-bytes-clause-refused g c =
+    let p = err_from_is_err_and c.from_residual.result c.from_residual.ensures.1 in
+    rw p.1 (rw (← p.2) at (read_fault (g.R.Read.remaining c.args.reader.now.inner) c.args.reading c.args.limits c.in_err-bytes.field-0.0 c.in_err-bytes.ensures.refused))
 
 pub returns-clause-refused : goal.returns-clause-refused
 returns-clause-refused g c =

@@ -9,7 +9,7 @@ use Rattle.live_volume.proofs.live_volume.LiveVolume.bind_name.Goals as goal
 pub returns-in_err-bind-clause-step : goal.returns-in_err-bind-clause-step
 returns-in_err-bind-clause-step c =
     rw (← c.self.view_is)
-    (map_refused (state_of c.self.inside) _ c.args.name.now c.args.place c.in_err-bind.field-0.0 c.from_residual.result (rw c.in_err-bind.ensures.err refl) c.from_residual.ensures.0 c.from_residual.ensures.1
+    (λ sure. map_refused (state_of c.self.inside) _ c.args.name.now c.args.place c.in_err-bind.field-0.0 c.from_residual.result (rw c.in_err-bind.ensures.err refl) c.from_residual.ensures.0 c.from_residual.ensures.1
     (rw (c.as_str.ensures, c.self.invariant.extensions) at c.in_err-bind.ensures.fault))
 
 pub invariant_of-self-2 : goal.invariant_of-self-2
@@ -19,8 +19,10 @@ invariant_of-self-2 c =
     let new : c.bind.new.self.pairs ≡ bound old c.args.name.now c.args.place = c.in_ok-bind.ensures.ok.1 ∙ ap (λ n. bound old n c.args.place) c.as_str.ensures in
     record {
       cut = c.self.invariant.cut;
+      frame = c.self.invariant.frame;
       prepared = search rules;
       extensions = c.in_ok-bind.ensures.extensions ∙ c.self.invariant.extensions;
-      records = c.self.invariant.records ∙ sym (ap (λ (ps : Pairs). records_of v ps) new ∙ records-bound v old c.args.name.now c.args.place c.requires);
+      records = λ sure. c.self.invariant.records sure ∙ sym (ap (λ (ps : Pairs). records_of v ps) new ∙ records-bound v old c.args.name.now c.args.place c.requires);
+      measured = c.self.invariant.measured;
       reports = search rules;
     }

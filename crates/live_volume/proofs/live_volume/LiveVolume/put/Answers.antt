@@ -1,105 +1,102 @@
-use Rattle.std.proofs.Common.{◌≡◌, ◌∙◌, ◌-◌, ◌≤◌, ℕ, List, map, ap, sym, arith, subst, length, true, rules}
-use Rattle.std.proofs.lemmas.List.{length-map}
-use Rattle.std.specs.Prelude.{slice_set, IfSome}
+use Rattle.std.proofs.Common.{◌≡◌, ◌∙◌, ◌+◌, ◌≤◌, ℕ, List, IsTrue, ap, sym, subst, length, true, rules}
+use Rattle.std.specs.Prelude.{IfSome}
 use Rattle.field_map.specs.Pairs.{Pairs}
-use Rattle.frame_cut.specs.Cuts.{IsCut}
 use Rattle.frame_cut.specs.Splice.{splice}
 use Rattle.frame_cut.specs.Traces.{trace_at, is_trace, with_trace, count_of}
+use Rattle.frame_cut.specs.Cuts.{IsCut}
 use Rattle.frame_cut.specs.Volume.{Volume, bytes_of}
 use Rattle.trace_record.specs.Facts.{facts_of}
 use Rattle.trace_record.specs.OfTrace.{record_of}
-use Rattle.trace_record.specs.Packed.{record_in}
 use Rattle.trace_record.specs.declared.record.Record.{Record}
-use Rattle.edit_overlay.specs.CountedVolume.{CountedVolume, with_one_look}
-use Rattle.live_reports.specs.OfRecords.{AreReportsOf}
-use Rattle.live_reports.specs.Reports.{AreFew}
 use Rattle.trace_record.specs.declared.packed_record.PackedRecord.{PackedRecord}
-use Rattle.volume_records.proofs.EditLemmas.{records-with_trace}
-use Rattle.volume_records.proofs.RecordLemmas.{length-records}
-use Rattle.live_volume.specs.Held.{HasSamplesOf, records_in}
-use Rattle.live_volume.proofs.HeldLemmas.{few_records, records_again, trace_again, is_trace_with}
+use Rattle.edit_overlay.specs.CountedVolume.{CountedVolume, after_look}
+use Rattle.frame_cut.proofs.EditLemmas.{length-splice}
+use Rattle.live_volume.specs.Held.{HasSamplesOf}
+use Rattle.live_volume.proofs.HeldLemmas.{trace_again, is_trace_with}
+use Rattle.live_volume.proofs.EditLemmas as edit
 use Rattle.live_volume.proofs.live_volume.LiveVolume.put.Goals as goal
 
-pub new_record-record-requires-clause-samples : goal.new_record-record-requires-clause-samples
-new_record-record-requires-clause-samples c =
+pub new_record-requires-clause-trace : goal.new_record-requires-clause-trace
+new_record-requires-clause-trace c =
     let v : Volume = c.self.inside.overlay.volume in
-    let fields : Pairs = c.self.inside.fields.pairs in
     let t : List ℕ = splice (trace_at v c.args.p) c.args.at (length c.args.bytes.now) c.args.bytes.now in
-    let w : Volume = with_trace v c.args.p t in
     let last : c.args.p ≤ count_of v = rw (← c.self.view_is) at c.requires.last in
-    let prep : c.prepare_put.new.self.prepared ≡ w = ap (λ (o : CountedVolume PackedRecord). o.prepared) c.in_ok-prepare_put.ensures.ok in
-    let known : IfSome c.args.samples (HasSamplesOf v.head fields t) = rw (← c.self.view_is) at c.requires.samples in
-    subst (λ (u : Volume). IfSome c.args.samples (HasSamplesOf u.head fields (trace_at u c.args.p))) (sym prep)
-    (subst (λ (u : List ℕ). IfSome c.args.samples (HasSamplesOf v.head fields u)) (sym (trace_again v c.args.p t c.requires.first last)) known)
-
-pub new_record-record-requires-clause-trace : goal.new_record-record-requires-clause-trace
-new_record-record-requires-clause-trace c =
-    let v : Volume = c.self.inside.overlay.volume in
-    let fields : Pairs = c.self.inside.fields.pairs in
-    let t : List ℕ = splice (trace_at v c.args.p) c.args.at (length c.args.bytes.now) c.args.bytes.now in
-    let w : Volume = with_trace v c.args.p t in
-    let last : c.args.p ≤ count_of v = rw (← c.self.view_is) at c.requires.last in
-    let prep : c.prepare_put.new.self.prepared ≡ w = ap (λ (o : CountedVolume PackedRecord). o.prepared) c.in_ok-prepare_put.ensures.ok in
+    let prep : c.prepare_put.new.self.prepared ≡ with_trace v c.args.p t = ap (λ (o : CountedVolume PackedRecord). o.prepared) c.in_ok-prepare_put.ensures.ok in
     subst (λ (u : Volume). is_trace u c.args.p ≡ true) (sym prep) (is_trace_with v c.args.p t c.requires.first last)
+
+pub new_record-requires-clause-samples : goal.new_record-requires-clause-samples
+new_record-requires-clause-samples c =
+    let v : Volume = c.self.inside.overlay.volume in
+    let fields : Pairs = c.self.inside.fields.pairs in
+    let t : List ℕ = splice (trace_at v c.args.p) c.args.at (length c.args.bytes.now) c.args.bytes.now in
+    let last : c.args.p ≤ count_of v = rw (← c.self.view_is) at c.requires.last in
+    let prep : c.prepare_put.new.self.prepared ≡ with_trace v c.args.p t = ap (λ (o : CountedVolume PackedRecord). o.prepared) c.in_ok-prepare_put.ensures.ok in
+    let known : IsTrue c.self.inside.overlay.agreed → IfSome c.args.samples (HasSamplesOf v.head fields t) = rw (← c.self.view_is) at c.requires.samples in
+    let same : c.prepare_put.new.self.agreed ≡ c.self.inside.overlay.agreed = ap (λ (o : CountedVolume PackedRecord). o.agreed) c.in_ok-prepare_put.ensures.ok in
+    λ sure. subst (λ (u : Volume). IfSome c.args.samples (HasSamplesOf u.head fields (trace_at u c.args.p))) (sym prep)
+    (subst (λ (u : List ℕ). IfSome c.args.samples (HasSamplesOf v.head fields u)) (sym (trace_again v c.args.p t c.requires.first last)) (known (subst IsTrue same sure)))
+
+pub new_record-requires-clause-few : goal.new_record-requires-clause-few
+new_record-requires-clause-few c =
+    let v : Volume = c.self.inside.overlay.volume in
+    let t : List ℕ = splice (trace_at v c.args.p) c.args.at (length c.args.bytes.now) c.args.bytes.now in
+    let last : c.args.p ≤ count_of v = rw (← c.self.view_is) at c.requires.last in
+    let inside : c.args.at + length c.args.bytes.now ≤ length (trace_at v c.args.p) = rw (← c.self.view_is) at c.requires.inside in
+    let prep : c.prepare_put.new.self.prepared ≡ with_trace v c.args.p t = ap (λ (o : CountedVolume PackedRecord). o.prepared) c.in_ok-prepare_put.ensures.ok in
+    let few : IfSome c.args.samples (λ r. r.number ≤ length (trace_at v c.args.p)) = rw (← c.self.view_is) at c.requires.few in
+    let long : length (trace_at v c.args.p) ≡ length (trace_at (with_trace v c.args.p t) c.args.p) =
+    sym (ap (λ (u : List ℕ). length u) (trace_again v c.args.p t c.requires.first last) ∙ length-splice (trace_at v c.args.p) c.args.at c.args.bytes.now inside) in
+    subst (λ (u : Volume). IfSome c.args.samples (λ (r : Record). r.number ≤ length (trace_at u c.args.p))) (sym prep) (subst (λ (n : ℕ). IfSome c.args.samples (λ (r : Record). r.number ≤ n)) long few)
 
 pub exchange-requires-clause-last : goal.exchange-requires-clause-last
 exchange-requires-clause-last c =
-    let over = c.new_record-record.ensures.overlay ∙ ap (λ (o : CountedVolume PackedRecord). with_one_look o) c.in_ok-prepare_put.ensures.ok in
-    let same : count_of c.new_record-record.new.overlay.volume ≡ count_of c.self.inside.overlay.volume = ap (λ (o : CountedVolume PackedRecord). count_of o.volume) over in
-    omega (arith, same, rw (← c.self.view_is) at c.requires.last)
+    let last : c.args.p ≤ count_of c.self.inside.overlay.volume = rw (← c.self.view_is) at c.requires.last in
+    let inside : c.args.at + length c.args.bytes.now ≤ length (trace_at c.self.inside.overlay.volume c.args.p) = rw (← c.self.view_is) at c.requires.inside in
+    edit.put_last c.self.inside c.self.invariant c.args.p c.args.at c.args.bytes.now c.new_record.new.overlay c.requires.first last inside
+    (c.new_record.ensures.looked ∙ ap (λ (o : CountedVolume PackedRecord). after_look o c.new_record.new.overlay.agreed) c.in_ok-prepare_put.ensures.ok)
 
 pub exchange-requires-clause-held : goal.exchange-requires-clause-held
 exchange-requires-clause-held c =
-    let over = c.new_record-record.ensures.overlay ∙ ap (λ (o : CountedVolume PackedRecord). with_one_look o) c.in_ok-prepare_put.ensures.ok in
-    let many = length-records c.self.inside.overlay.volume c.self.inside.fields.pairs (records_in c.self.inside) c.self.invariant.records in
-    omega (arith, ap (λ (o : CountedVolume PackedRecord). length o.payloads) over, length-map c.self.inside.overlay.payloads record_in, many, rw (← c.self.view_is) at c.requires.last)
+    let last : c.args.p ≤ count_of c.self.inside.overlay.volume = rw (← c.self.view_is) at c.requires.last in
+    let inside : c.args.at + length c.args.bytes.now ≤ length (trace_at c.self.inside.overlay.volume c.args.p) = rw (← c.self.view_is) at c.requires.inside in
+    edit.put_held c.self.inside c.self.invariant c.args.p c.args.at c.args.bytes.now c.new_record.new.overlay c.requires.first last inside
+    (c.new_record.ensures.looked ∙ ap (λ (o : CountedVolume PackedRecord). after_look o c.new_record.new.overlay.agreed) c.in_ok-prepare_put.ensures.ok)
 
 pub exchange-requires-clause-stay : goal.exchange-requires-clause-stay
 exchange-requires-clause-stay c =
-    let over = c.new_record-record.ensures.overlay ∙ ap (λ (o : CountedVolume PackedRecord). with_one_look o) c.in_ok-prepare_put.ensures.ok in
-    ap (λ (o : CountedVolume PackedRecord). o.payloads_prepared) over ∙ sym (ap (λ (o : CountedVolume PackedRecord). o.payloads) over)
+    let last : c.args.p ≤ count_of c.self.inside.overlay.volume = rw (← c.self.view_is) at c.requires.last in
+    let inside : c.args.at + length c.args.bytes.now ≤ length (trace_at c.self.inside.overlay.volume c.args.p) = rw (← c.self.view_is) at c.requires.inside in
+    edit.put_stay c.self.inside c.self.invariant c.args.p c.args.at c.args.bytes.now c.new_record.new.overlay c.requires.first last inside
+    (c.new_record.ensures.looked ∙ ap (λ (o : CountedVolume PackedRecord). after_look o c.new_record.new.overlay.agreed) c.in_ok-prepare_put.ensures.ok)
 
 pub exchange-requires-clause-counted : goal.exchange-requires-clause-counted
 exchange-requires-clause-counted c =
-    let over = c.new_record-record.ensures.overlay ∙ ap (λ (o : CountedVolume PackedRecord). with_one_look o) c.in_ok-prepare_put.ensures.ok in
-    subst (λ (ps : List PackedRecord). AreReportsOf c.self.inside.reports (map record_in ps)) (sym (ap (λ (o : CountedVolume PackedRecord). o.payloads) over)) c.self.invariant.reports
+    let last : c.args.p ≤ count_of c.self.inside.overlay.volume = rw (← c.self.view_is) at c.requires.last in
+    let inside : c.args.at + length c.args.bytes.now ≤ length (trace_at c.self.inside.overlay.volume c.args.p) = rw (← c.self.view_is) at c.requires.inside in
+    edit.put_counted c.self.inside c.self.invariant c.args.p c.args.at c.args.bytes.now c.new_record.new.overlay c.requires.first last inside
+    (c.new_record.ensures.looked ∙ ap (λ (o : CountedVolume PackedRecord). after_look o c.new_record.new.overlay.agreed) c.in_ok-prepare_put.ensures.ok)
 
 pub exchange-requires-clause-few : goal.exchange-requires-clause-few
 exchange-requires-clause-few c =
-    let v : Volume = c.self.inside.overlay.volume in
-    let fields : Pairs = c.self.inside.fields.pairs in
-    let rs : List Record = records_in c.self.inside in
-    let t : List ℕ = splice (trace_at v c.args.p) c.args.at (length c.args.bytes.now) c.args.bytes.now in
-    let w : Volume = with_trace v c.args.p t in
-    let last : c.args.p ≤ count_of v = rw (← c.self.view_is) at c.requires.last in
-    let prep : c.prepare_put.new.self.prepared ≡ w = ap (λ (o : CountedVolume PackedRecord). o.prepared) c.in_ok-prepare_put.ensures.ok in
-    let over = c.new_record-record.ensures.overlay ∙ ap (λ (o : CountedVolume PackedRecord). with_one_look o) c.in_ok-prepare_put.ensures.ok in
-    let facts : facts_of c.new_record-record.result ≡ record_of v.head fields t =
-    c.new_record-record.ensures.record ∙ ap (λ (u : Volume). record_of u.head fields (trace_at u c.args.p)) prep ∙ ap (record_of v.head fields) (trace_again v c.args.p t c.requires.first last) in
-    subst (λ (ps : List PackedRecord). AreFew (slice_set (map record_in ps) (c.args.p - 1) c.new_record-record.result)) (sym (ap (λ (o : CountedVolume PackedRecord). o.payloads) over))
-    (few_records c.self.inside.reading c.self.inside.limits w fields (slice_set rs (c.args.p - 1) c.new_record-record.result) (rw (← c.self.view_is) at c.requires.cut) (search rules)
-    (records-with_trace v fields rs c.args.p t c.new_record-record.result c.self.invariant.records facts))
+    let last : c.args.p ≤ count_of c.self.inside.overlay.volume = rw (← c.self.view_is) at c.requires.last in
+    let inside : c.args.at + length c.args.bytes.now ≤ length (trace_at c.self.inside.overlay.volume c.args.p) = rw (← c.self.view_is) at c.requires.inside in
+    let looked = c.new_record.ensures.looked ∙ ap (λ (o : CountedVolume PackedRecord). after_look o c.new_record.new.overlay.agreed) c.in_ok-prepare_put.ensures.ok in
+    let small : c.in-Ok.record.number ≤ length (trace_at c.new_record.new.overlay.prepared c.args.p) =
+    subst (λ (u : Volume). c.in-Ok.record.number ≤ length (trace_at u c.args.p)) (sym (ap (λ (o : CountedVolume PackedRecord). o.prepared) c.new_record.ensures.looked)) c.in-Ok.ensures.few in
+    edit.put_few c.self.inside c.self.invariant c.args.p c.args.at c.args.bytes.now c.new_record.new.overlay c.requires.first last inside looked c.in-Ok.record (search rules) small
 
-pub invariant_of-self-2 : goal.invariant_of-self-2
-invariant_of-self-2 c =
+pub invariant_of-self-in-Ok : goal.invariant_of-self-in-Ok
+invariant_of-self-in-Ok c =
     let v : Volume = c.self.inside.overlay.volume in
-    let fields : Pairs = c.self.inside.fields.pairs in
-    let rs : List Record = records_in c.self.inside in
-    let t : List ℕ = splice (trace_at v c.args.p) c.args.at (length c.args.bytes.now) c.args.bytes.now in
-    let w : Volume = with_trace v c.args.p t in
+    let w : Volume = with_trace v c.args.p (splice (trace_at v c.args.p) c.args.at (length c.args.bytes.now) c.args.bytes.now) in
     let last : c.args.p ≤ count_of v = rw (← c.self.view_is) at c.requires.last in
-    let prep : c.prepare_put.new.self.prepared ≡ w = ap (λ (o : CountedVolume PackedRecord). o.prepared) c.in_ok-prepare_put.ensures.ok in
-    let over = c.new_record-record.ensures.overlay ∙ ap (λ (o : CountedVolume PackedRecord). with_one_look o) c.in_ok-prepare_put.ensures.ok in
-    let facts : facts_of c.new_record-record.result ≡ record_of v.head fields t =
-    c.new_record-record.ensures.record ∙ ap (λ (u : Volume). record_of u.head fields (trace_at u c.args.p)) prep ∙ ap (record_of v.head fields) (trace_again v c.args.p t c.requires.first last) in
-    let is : c.exchange.new.overlay.volume ≡ w = c.in_ok-exchange.ensures.volume ∙ ap (λ (o : CountedVolume PackedRecord). o.prepared) c.new_record-record.ensures.overlay ∙ prep in
-    let put : map record_in c.exchange.new.overlay.payloads ≡ slice_set rs (c.args.p - 1) c.new_record-record.result =
-    c.in_ok-exchange.ensures.records ∙ ap (λ (o : CountedVolume PackedRecord). slice_set (map record_in o.payloads) (c.args.p - 1) c.new_record-record.result) over in
-    record {
-      cut = subst (λ (u : Volume). IsCut (bytes_of u) c.self.inside.reading c.self.inside.limits u) (sym is) (rw (← c.self.view_is) at c.requires.cut);
-      prepared = c.in_ok-exchange.ensures.prepared;
-      extensions = c.self.invariant.extensions ∙ ap (λ (u : Volume). u.head.extensions) (sym is);
-      records = records_again w c.exchange.new.overlay.volume fields (map record_in c.exchange.new.overlay.payloads) is
-          (ap (map facts_of) put ∙ records-with_trace v fields rs c.args.p t c.new_record-record.result c.self.invariant.records facts);
-      reports = c.in_ok-exchange.ensures.reports;
-    }
+    let inside : c.args.at + length c.args.bytes.now ≤ length (trace_at v c.args.p) = rw (← c.self.view_is) at c.requires.inside in
+    let looked = c.new_record.ensures.looked ∙ ap (λ (o : CountedVolume PackedRecord). after_look o c.new_record.new.overlay.agreed) c.in_ok-prepare_put.ensures.ok in
+    let cut : IsTrue c.self.inside.overlay.agreed → IsCut (bytes_of w) c.self.inside.reading c.self.inside.limits w = rw (← c.self.view_is) at c.requires.cut in
+    let same : c.prepare_put.new.self.agreed ≡ c.self.inside.overlay.agreed = ap (λ (o : CountedVolume PackedRecord). o.agreed) c.in_ok-prepare_put.ensures.ok in
+    let prep : c.new_record.new.overlay.prepared ≡ c.prepare_put.new.self.prepared = ap (λ (o : CountedVolume PackedRecord). o.prepared) c.new_record.ensures.looked in
+    let facts = subst (λ (u : Volume). IsTrue c.new_record.new.overlay.agreed → facts_of c.in-Ok.record ≡ record_of u.head c.self.inside.fields.pairs (trace_at u c.args.p)) (sym prep) c.in-Ok.ensures.record in
+    let small : c.in-Ok.record.number ≤ length (trace_at c.new_record.new.overlay.prepared c.args.p) = subst (λ (u : Volume). c.in-Ok.record.number ≤ length (trace_at u c.args.p)) (sym prep) c.in-Ok.ensures.few in
+    edit.put_done c.self.inside c.self.invariant c.args.p c.args.at c.args.bytes.now c.new_record.new.overlay c.requires.first last inside looked c.exchange.new.overlay c.exchange.new.reports c.in-Ok.record
+    c.in_ok-exchange-in-Ok.ensures.volume c.exchange.ensures.prepared c.in_ok-exchange-in-Ok.ensures.records c.exchange.ensures.agreed (λ sure. subst IsTrue same (c.new_record.ensures.agreed sure)) cut facts small
+    c.in_ok-exchange-in-Ok.ensures.reports

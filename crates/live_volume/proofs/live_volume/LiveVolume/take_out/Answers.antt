@@ -1,19 +1,19 @@
-use Rattle.std.proofs.Common.{◌≡◌, ◌∙◌, ◌-◌, List, map, ap, sym, subst, arith, rules}
+use Rattle.std.proofs.Common.{◌≡◌, ◌∙◌, ◌-◌, IsTrue, List, map, ap, sym, subst, arith, refl}
 use Rattle.std.specs.List.{remove}
 use Rattle.frame_cut.specs.Parts.{without}
 use Rattle.frame_cut.specs.Volume.{Volume}
 use Rattle.bench_rules.specs.declared.edit.Edit.TheVariants.{Delete}
 use Rattle.edit_overlay.specs.CountedVolume.{CountedVolume}
-use Rattle.trace_record.specs.Facts.{facts_of}
 use Rattle.trace_record.specs.Packed.{record_in}
 use Rattle.trace_record.specs.declared.packed_record.PackedRecord.{PackedRecord}
 use Rattle.trace_record.specs.declared.record.Record.{Record}
 use Rattle.record_table.proofs.ListLemmas.{map-remove}
 use Rattle.live_reports.specs.OfRecords.{AreReportsOf}
 use Rattle.volume_records.proofs.EditLemmas.{records-without}
-use Rattle.volume_records.proofs.RecordLemmas.{length-records}
 use Rattle.live_volume.specs.Held.{state_of, records_in}
-use Rattle.live_volume.proofs.HeldLemmas.{records_again}
+use Rattle.live_volume.proofs.EditLemmas.{held_edited, state_with}
+use Rattle.live_volume.proofs.HeldLemmas.{read_as}
+use Rattle.live_volume.proofs.MeasuredLemmas.{as_many, frame_without, measured_remove}
 use Rattle.bench_rules.proofs.AcceptedLemmas.{there_is}
 use Rattle.bench_rules.proofs.HeaderEditLemmas.{after_cut}
 use Rattle.bench_rules.proofs.TraceStepLemmas.{delete_done}
@@ -28,27 +28,38 @@ pub remove-requires-clause-place : goal.remove-requires-clause-place
 remove-requires-clause-place c =
     let same : c.new.result ≡ records_in c.self.inside = c.new.ensures ∙ ap (λ (ps : List PackedRecord). map record_in ps) c.payloads.ensures in
     let there = there_is c.self.inside.overlay.volume c.args.p (rw (← c.self.view_is) at c.requires) in
-    rw same (omega (arith, length-records c.self.inside.overlay.volume c.self.inside.fields.pairs (records_in c.self.inside) c.self.invariant.records, there.first, there.last))
+    rw same (omega (arith, as_many (records_in c.self.inside) c.self.inside.overlay.volume.traces c.self.invariant.measured, there.first, there.last))
 
 pub invariant_of-self : goal.invariant_of-self
 invariant_of-self c =
-    let v : Volume = c.self.inside.overlay.volume in
-    let rs : List Record = records_in c.self.inside in
+    let b = c.self.inside in
+    let v : Volume = b.overlay.volume in
+    let rs : List Record = records_in b in
+    let none = rw (← c.self.view_is) at c.requires in
+    let there = there_is v c.args.p none in
+    let e : CountedVolume PackedRecord = c.delete.new.self in
+    let after = c.delete.ensures.after in
     let same : c.new.result ≡ rs = c.new.ensures ∙ ap (λ (ps : List PackedRecord). map record_in ps) c.payloads.ensures in
-    let is : c.delete.new.self.volume ≡ without v c.args.p = ap (λ (o : CountedVolume PackedRecord). o.volume) c.delete.ensures.after in
-    let gone : map record_in c.delete.new.self.payloads ≡ remove rs (c.args.p - 1) =
-    ap (λ (o : CountedVolume PackedRecord). map record_in o.payloads) c.delete.ensures.after ∙ map-remove record_in c.self.inside.overlay.payloads (c.args.p - 1) in
-    let done = delete_done (state_of c.self.inside) c.args.p c.delete.new.self.volume c.self.invariant.cut (rw (← c.self.view_is) at c.requires) is in
-    record {
-      cut = after_cut (state_of c.self.inside) (Delete c.args.p) c.delete.new.self.volume done;
-      prepared = search rules;
-      extensions = c.self.invariant.extensions ∙ ap (λ (u : Volume). u.head.extensions) (sym is);
-      records = records_again (without v c.args.p) c.delete.new.self.volume c.self.inside.fields.pairs (map record_in c.delete.new.self.payloads) is
-          (ap (map facts_of) gone ∙ records-without v c.self.inside.fields.pairs rs c.args.p c.self.invariant.records);
-      reports = subst (λ (l : List Record). AreReportsOf c.remove.new.self l) (sym gone) (subst (λ (l : List Record). AreReportsOf c.remove.new.self (remove l (c.args.p - 1))) same c.remove.ensures);
-    }
+    let is : e.volume ≡ without v c.args.p = ap (λ (o : CountedVolume PackedRecord). o.volume) after in
+    let gone : map record_in e.payloads ≡ remove rs (c.args.p - 1) = ap (λ (o : CountedVolume PackedRecord). map record_in o.payloads) after ∙ map-remove record_in b.overlay.payloads (c.args.p - 1) in
+    let stays : e.agreed ≡ b.overlay.agreed = ap (λ (o : CountedVolume PackedRecord). o.agreed) after in
+    held_edited b e c.remove.new.self (without v c.args.p) (remove rs (c.args.p - 1)) c.self.invariant is (ap (λ (o : CountedVolume PackedRecord). o.prepared) after ∙ sym is) gone refl
+    (frame_without b.limits v c.args.p c.self.invariant.frame there.first there.last) (measured_remove rs v.traces (c.args.p - 1) c.self.invariant.measured)
+    (λ sure. after_cut (state_of b) (Delete c.args.p) (without v c.args.p) (delete_done (state_of b) c.args.p (without v c.args.p) (c.self.invariant.cut (subst IsTrue stays sure)) none refl))
+    (λ sure. records-without v b.fields.pairs rs c.args.p (c.self.invariant.records (subst IsTrue stays sure)))
+    (subst (λ (l : List Record). AreReportsOf c.remove.new.self (remove l (c.args.p - 1))) same c.remove.ensures)
 
 pub returns-clause-after : goal.returns-clause-after
 returns-clause-after c =
-    rw (← c.self.view_is)
-    (delete_done (state_of c.self.inside) c.args.p c.delete.new.self.volume c.self.invariant.cut (rw (← c.self.view_is) at c.requires) (ap (λ (o : CountedVolume PackedRecord). o.volume) c.delete.ensures.after))
+    let b = c.self.inside in
+    let after = c.delete.ensures.after in
+    let stays : c.delete.new.self.agreed ≡ b.overlay.agreed = ap (λ (o : CountedVolume PackedRecord). o.agreed) after in
+    let there = state_with b c.delete.new.self (without b.overlay.volume c.args.p) (ap (λ (o : CountedVolume PackedRecord). o.volume) after) (ap (λ (o : CountedVolume PackedRecord). o.on_disk) after) in
+    rw (← c.self.view_is) (λ sure. rw there (delete_done (state_of b) c.args.p (without b.overlay.volume c.args.p) (c.self.invariant.cut (subst IsTrue stays sure)) (rw (← c.self.view_is) at c.requires) refl))
+
+pub returns-clause-same : goal.returns-clause-same
+returns-clause-same c =
+    let b = c.self.inside in
+    let after = c.delete.ensures.after in
+    rw (← c.self.view_is) (read_as _ _ (without b.overlay.volume c.args.p)
+    (state_with b c.delete.new.self (without b.overlay.volume c.args.p) (ap (λ (o : CountedVolume PackedRecord). o.volume) after) (ap (λ (o : CountedVolume PackedRecord). o.on_disk) after)))

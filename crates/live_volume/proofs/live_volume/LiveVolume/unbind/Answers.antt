@@ -13,8 +13,10 @@ invariant_of-self-2 c =
     let other : is_geometry c.as_str.result.now ≡ false = past _ _ _ c.in_ok-unbind.ensures.ok.0 in
     record {
       cut = c.self.invariant.cut;
+      frame = c.self.invariant.frame;
       prepared = search rules;
       extensions = c.in_ok-unbind.ensures.extensions ∙ c.self.invariant.extensions;
-      records = c.self.invariant.records ∙ sym (ap (λ (ps : Pairs). records_of v ps) c.in_ok-unbind.ensures.ok.1 ∙ records-unbound v old c.as_str.result.now other);
+      records = λ sure. c.self.invariant.records sure ∙ sym (ap (λ (ps : Pairs). records_of v ps) c.in_ok-unbind.ensures.ok.1 ∙ records-unbound v old c.as_str.result.now other);
+      measured = c.self.invariant.measured;
       reports = search rules;
     }

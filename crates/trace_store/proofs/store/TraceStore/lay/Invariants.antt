@@ -9,7 +9,7 @@ abbrev pub invariant-loop-runs : goal.invariant-loop-runs
 invariant-loop-runs g l = record {
   head : l.self.head ≡ l.fn.self.head;
   loaded : l.self.loaded ≡ l.fn.self.loaded;
-  runs : AreRunsFrom l.self.head (bases_of l.self) l.done (into_iter_items l.runs-iterator);
+  runs : AreRunsFrom l.self.loaded.standing l.self.head (bases_of l.self) l.done (into_iter_items l.runs-iterator);
   traces : traces_with (bases_of l.self) (traces_of l.self) l.done (into_iter_items l.runs-iterator) ≡ traces_with (bases_of l.fn.self) (traces_of l.fn.self) l.fn.prepared.place l.fn.prepared.lists.items;
   payloads : payloads_of l.self ≡ payloads_of l.fn.self;
 }

@@ -15,12 +15,11 @@ invariant_of-self g c =
     let ids = c.move_to.ensures.ids in
     record {
       sound = record {
-        held = subst (λ (xs : List ℕ). AreHeld s.loaded.bytes s.head xs s.slots) (sym ids) (held-moved s.loaded.bytes s.head s.order.ids s.slots c.args.a c.args.b s.sound.held short);
+        held = subst (λ (xs : List ℕ). AreHeld s.loaded s.head xs s.slots) (sym ids) (held-moved s.loaded s.head s.order.ids s.slots c.args.a c.args.b s.sound.held short);
         distinct = λ id. rw ids (omega (arith, s.sound.distinct id, times-moved id s.order.ids c.args.a c.args.b short));
         no_more = rw ids (omega (arith, s.sound.no_more, length-moved s.order.ids c.args.a c.args.b short most));
         few = rw ids (omega (arith, s.sound.few, length-moved s.order.ids c.args.a c.args.b short most));
       };
-      in_memory = s.in_memory;
     }
 
 pub returns-clause-traces : goal.returns-clause-traces
@@ -33,4 +32,4 @@ pub returns-clause-payloads : goal.returns-clause-payloads
 returns-clause-payloads g c =
     let s = c.args.self.now in
     let short : c.args.a - 1 < length s.order.ids = omega (arith, c.requires.from_first, c.requires.from_last, length-map s.order.ids (bytes_under s.loaded.bytes s.slots)) in
-    ap (λ (xs : List ℕ). somes (map (payload_under s.slots) xs)) c.move_to.ensures.ids ∙ payloads-moved s.loaded.bytes s.head s.order.ids s.slots s.sound.held c.args.a c.args.b short
+    ap (λ (xs : List ℕ). somes (map (payload_under s.slots) xs)) c.move_to.ensures.ids ∙ payloads-moved s.loaded s.head s.order.ids s.slots s.sound.held c.args.a c.args.b short

@@ -10,29 +10,28 @@ use Rattle.trace_store.proofs.store.TraceStore.replace.Goals as goal
 pub unreachable-requires : goal.unreachable-requires
 unreachable-requires g c =
     let s = c.args.self.now in
-    slot-missed s.loaded.bytes s.head s.order.ids s.slots c.args.p c.id-id.result s.sound.held c.id-id.ensures (sym c.in-None.ensures.value)
+    slot-missed s.loaded s.head s.order.ids s.slots c.args.p c.id-id.result s.sound.held c.id-id.ensures (sym c.in-None.ensures.value)
 
 pub invariant_of-self : goal.invariant_of-self
 invariant_of-self g c =
     let s = c.args.self.now in
     let new : Slot g.row.T.Denot = record { base = c.args.base; runs = c.new.result; payload = c.args.payload } in
-    let fresh : IsFreshSlot s.loaded.bytes s.head new = fresh-slot s.loaded.bytes s.head new c.new.ensures.items c.requires.inside c.requires.whole in
+    let fresh : IsFreshSlot s.loaded s.head new = fresh-slot s.loaded s.head new c.new.ensures.items c.requires.inside c.requires.whole in
     let up : Updates s.slots (with_value s.slots c.id-id.result new) c.id-id.result (Some new) = write-updates s.slots c.id-id.result c.in-Some.slot.now new (sym c.in-Some.ensures.value) in
     record {
       sound = record {
-        held = held-changed s.loaded.bytes s.head s.order.ids s.slots (with_value s.slots c.id-id.result new) c.id-id.result new s.sound.held up fresh.sound;
+        held = held-changed s.loaded s.head s.order.ids s.slots (with_value s.slots c.id-id.result new) c.id-id.result new s.sound.held up fresh.sound;
         distinct = s.sound.distinct;
         no_more = write-counts s.slots c.id-id.result c.in-Some.slot.now new (length s.order.ids) (sym c.in-Some.ensures.value) s.sound.no_more;
         few = s.sound.few;
       };
-      in_memory = s.in_memory;
     }
 
 pub returns-clause-traces : goal.returns-clause-traces
 returns-clause-traces g c =
     let s = c.args.self.now in
     let new : Slot g.row.T.Denot = record { base = c.args.base; runs = c.new.result; payload = c.args.payload } in
-    let fresh : IsFreshSlot s.loaded.bytes s.head new = fresh-slot s.loaded.bytes s.head new c.new.ensures.items c.requires.inside c.requires.whole in
+    let fresh : IsFreshSlot s.loaded s.head new = fresh-slot s.loaded s.head new c.new.ensures.items c.requires.inside c.requires.whole in
     let up : Updates s.slots (with_value s.slots c.id-id.result new) c.id-id.result (Some new) = write-updates s.slots c.id-id.result c.in-Some.slot.now new (sym c.in-Some.ensures.value) in
     traces-changed s.loaded.bytes s.order.ids s.slots (with_value s.slots c.id-id.result new) c.args.p c.id-id.result new s.sound.distinct c.id-id.ensures up
     ∙ ap (λ (t : List ℕ). slice_set (traces_of s) (c.args.p - 1) t) fresh.shows
@@ -42,4 +41,4 @@ returns-clause-payloads g c =
     let s = c.args.self.now in
     let new : Slot g.row.T.Denot = record { base = c.args.base; runs = c.new.result; payload = c.args.payload } in
     let up : Updates s.slots (with_value s.slots c.id-id.result new) c.id-id.result (Some new) = write-updates s.slots c.id-id.result c.in-Some.slot.now new (sym c.in-Some.ensures.value) in
-    payloads-changed s.loaded.bytes s.head s.order.ids s.slots s.sound.held (with_value s.slots c.id-id.result new) c.args.p c.id-id.result new s.sound.distinct c.id-id.ensures up
+    payloads-changed s.loaded s.head s.order.ids s.slots s.sound.held (with_value s.slots c.id-id.result new) c.args.p c.id-id.result new s.sound.distinct c.id-id.ensures up

@@ -13,27 +13,27 @@ pub runs_with-requires-clause-fit : goal.runs_with-requires-clause-fit
 runs_with-requires-clause-fit g c =
     let s = c.args.self.now in
     let here = c.in-Some.slot.now in
-    let slot = slot-found s.loaded.bytes s.head s.order.ids s.slots c.args.p c.id-id.result here s.sound.held c.id-id.ensures (sym c.in-Some.ensures) in
+    let slot = slot-found s.loaded s.head s.order.ids s.slots c.args.p c.id-id.result here s.sound.held c.id-id.ensures (sym c.in-Some.ensures) in
     subst (λ (n : ℕ). Fit here.runs.items n) (base-length s.loaded.bytes here.base slot.inside) slot.fit
 
 pub runs_with-requires-clause-inside : goal.runs_with-requires-clause-inside
 runs_with-requires-clause-inside g c =
     let s = c.args.self.now in
     let here = c.in-Some.slot.now in
-    let slot = slot-found s.loaded.bytes s.head s.order.ids s.slots c.args.p c.id-id.result here s.sound.held c.id-id.ensures (sym c.in-Some.ensures) in
+    let slot = slot-found s.loaded s.head s.order.ids s.slots c.args.p c.id-id.result here s.sound.held c.id-id.ensures (sym c.in-Some.ensures) in
     let trace = trace-at s.loaded.bytes s.order.ids s.slots c.args.p c.id-id.result here c.id-id.ensures (sym c.in-Some.ensures) in
     omega (arith, c.requires.inside, ap (λ (t : List ℕ). length t) trace, length-written (base_of s.loaded.bytes here.base) here.runs.items slot.fit, base-length s.loaded.bytes here.base slot.inside)
 
 pub unreachable-requires : goal.unreachable-requires
 unreachable-requires g c =
     let s = c.args.self.now in
-    slot-missed s.loaded.bytes s.head s.order.ids s.slots c.args.p c.id-id.result s.sound.held c.id-id.ensures (sym c.in-None.ensures)
+    slot-missed s.loaded s.head s.order.ids s.slots c.args.p c.id-id.result s.sound.held c.id-id.ensures (sym c.in-None.ensures)
 
 pub returns : goal.returns
 returns g c =
     let s = c.args.self.now in
     let here = c.in-Some.slot.now in
-    let slot = slot-found s.loaded.bytes s.head s.order.ids s.slots c.args.p c.id-id.result here s.sound.held c.id-id.ensures (sym c.in-Some.ensures) in
+    let slot = slot-found s.loaded s.head s.order.ids s.slots c.args.p c.id-id.result here s.sound.held c.id-id.ensures (sym c.in-Some.ensures) in
     let trace = trace-at s.loaded.bytes s.order.ids s.slots c.args.p c.id-id.result here c.id-id.ensures (sym c.in-Some.ensures) in
     let base = base-at s.loaded.bytes s.order.ids s.slots c.args.p c.id-id.result here c.id-id.ensures (sym c.in-Some.ensures) in
     both_ok _ _ _ c.runs_with.result c.runs_with.ensures.fit c.runs_with.ensures.bytes

@@ -12,7 +12,7 @@ use Rattle.trace_store.proofs.store.TraceStore.set_slot.Goals as goal
 pub unreachable-requires : goal.unreachable-requires
 unreachable-requires g c =
     let s = c.args.self.now in
-    slot-missed s.loaded.bytes s.head s.order.ids s.slots c.args.p c.id-id.result s.sound.held c.id-id.ensures (sym c.in-None.ensures.value)
+    slot-missed s.loaded s.head s.order.ids s.slots c.args.p c.id-id.result s.sound.held c.id-id.ensures (sym c.in-None.ensures.value)
 
 pub invariant_of-self : goal.invariant_of-self
 invariant_of-self g c =
@@ -20,18 +20,17 @@ invariant_of-self g c =
     let id = c.id-id.result in
     let old : Slot g.row.T.Denot = c.in-Some.slot.now in
     let new : Slot g.row.T.Denot = record { base = old.base; runs = c.args.runs; payload = c.args.payload } in
-    let slot = slot-found s.loaded.bytes s.head s.order.ids s.slots c.args.p id old s.sound.held c.id-id.ensures (sym c.in-Some.ensures.value) in
+    let slot = slot-found s.loaded s.head s.order.ids s.slots c.args.p id old s.sound.held c.id-id.ensures (sym c.in-Some.ensures.value) in
     let base = base-at s.loaded.bytes s.order.ids s.slots c.args.p id old c.id-id.ensures (sym c.in-Some.ensures.value) in
-    let sound : IsSlot s.loaded.bytes s.head new = runs-slot s.loaded.bytes s.head old new (slice_index_or (bases_of s) (c.args.p - 1) []) refl base slot c.requires.runs.fit c.requires.runs.whole in
+    let sound : IsSlot s.loaded s.head new = runs-slot s.loaded s.head old new (slice_index_or (bases_of s) (c.args.p - 1) []) refl base slot c.requires.runs.fit c.requires.runs.whole in
     let up : Updates s.slots (with_value s.slots id new) id (Some new) = write-updates s.slots id old new (sym c.in-Some.ensures.value) in
     record {
       sound = record {
-        held = held-changed s.loaded.bytes s.head s.order.ids s.slots (with_value s.slots id new) id new s.sound.held up sound;
+        held = held-changed s.loaded s.head s.order.ids s.slots (with_value s.slots id new) id new s.sound.held up sound;
         distinct = s.sound.distinct;
         no_more = write-counts s.slots id old new (length s.order.ids) (sym c.in-Some.ensures.value) s.sound.no_more;
         few = s.sound.few;
       };
-      in_memory = s.in_memory;
     }
 
 pub returns-clause-traces : goal.returns-clause-traces
@@ -52,4 +51,4 @@ returns-clause-payloads g c =
     let old : Slot g.row.T.Denot = c.in-Some.slot.now in
     let new : Slot g.row.T.Denot = record { base = old.base; runs = c.args.runs; payload = c.args.payload } in
     let up : Updates s.slots (with_value s.slots id new) id (Some new) = write-updates s.slots id old new (sym c.in-Some.ensures.value) in
-    payloads-changed s.loaded.bytes s.head s.order.ids s.slots s.sound.held (with_value s.slots id new) c.args.p id new s.sound.distinct c.id-id.ensures up
+    payloads-changed s.loaded s.head s.order.ids s.slots s.sound.held (with_value s.slots id new) c.args.p id new s.sound.distinct c.id-id.ensures up

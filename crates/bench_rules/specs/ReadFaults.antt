@@ -1,0 +1,35 @@
+-- What is told of bytes on disk that were not read.
+use Rattle.std.specs.Prelude.{◌≡◌, ◌⊎◌, Bool, IsTrue}
+use Rattle.base_file.specs.declared.read_fault.ReadFault.{ReadFault}
+use Rattle.base_file.specs.declared.read_fault.ReadFault.TheVariants as reads
+use Rattle.time_slice.specs.declared.slice_fault.SliceFault.{SliceFault}
+use Rattle.time_slice.specs.declared.slice_fault.SliceFault.TheVariants as slices
+use Rattle.bench_rules.specs.declared.ask_fault.AskFault.{AskFault}
+use Rattle.bench_rules.specs.declared.ask_fault.AskFault.TheVariants as asks
+use Rattle.bench_rules.specs.declared.refusal.Refusal.{Refusal}
+use Rattle.bench_rules.specs.declared.refusal.Refusal.TheVariants.{FileChanged, ReadFailed}
+
+-- the refusal of an edit whose trace was not read: the file has changed, or else a read failed
+abbrev pub refusal_of : ReadFault → Refusal
+refusal_of reads.ReadFailed = ReadFailed
+refusal_of reads.Changed = FileChanged
+refusal_of reads.TooLarge = ReadFailed
+
+-- the same of a query
+abbrev pub ask_fault_of : ReadFault → AskFault
+ask_fault_of reads.ReadFailed = asks.ReadFailed
+ask_fault_of reads.Changed = asks.FileChanged
+ask_fault_of reads.TooLarge = asks.ReadFailed
+
+-- and of a slice, which may want memory too
+abbrev pub ask_fault_of_slice : SliceFault → AskFault
+ask_fault_of_slice slices.OutOfMemory = asks.OutOfMemory
+ask_fault_of_slice (slices.Read read) = ask_fault_of read
+
+-- an edit is told that a read failed, or gave what shows that the file has changed: only where the loaded bytes are on disk
+abbrev pub IsReadRefusal : Bool → Refusal → Type 0
+IsReadRefusal on_disk refusal = IsTrue on_disk × ((refusal ≡ ReadFailed) ⊎ (refusal ≡ FileChanged))
+
+-- a query is
+abbrev pub IsReadFault : Bool → AskFault → Type 0
+IsReadFault on_disk fault = IsTrue on_disk × ((fault ≡ asks.ReadFailed) ⊎ (fault ≡ asks.FileChanged))

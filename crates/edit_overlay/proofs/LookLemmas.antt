@@ -1,0 +1,59 @@
+-- What an overlay is after a look, and what the view shows.
+use Rattle.std.proofs.Common.{◌≡◌, ℕ, ◌-◌, List, [], length, ap, ◌∙◌, subst, IsTrue, Option, Result, Err}
+use Rattle.std.specs.Prelude.{slice_index_or, IsOk}
+use Rattle.base_file.specs.HeldBytes.{IsInMemory, IsSure}
+use Rattle.frame_cut.specs.Volume.{Volume}
+use Rattle.trace_view.specs.declared.view.TraceView.{TraceView}
+use Rattle.trace_view.specs.Shown.{head_of, bytes_of}
+use Rattle.trace_store.specs.declared.prepared.Prepared.{Prepared}
+use Rattle.trace_store.specs.Ahead.{traces_ahead}
+use Rattle.trace_store.specs.Stores.{traces_of}
+use Rattle.trace_store.proofs.AheadLemmas.{ahead_kept}
+use Rattle.edit_overlay.specs.CountedVolume.{CountedVolume, after_look, with_agreed, HasShapeOf}
+use Rattle.edit_overlay.specs.Held.{looked_of, IsReread}
+use Rattle.edit_overlay.specs.Looks.{HasLooked, HasShown}
+use Rattle.edit_overlay.specs.Standings.{is_sure}
+use Rattle.edit_overlay.specs.declared.laid.Laid.{Laid}
+use Rattle.edit_overlay.specs.declared.overlay.Overlay.TheInside.{Inside}
+use Rattle.edit_overlay.proofs.HeldLemmas.{same_reread, shown_relaid}
+use Rattle.edit_overlay.proofs.StandingLemmas.{agreed_before, on_disk_else, refused_in_memory, sure_is}
+
+-- the look was counted, and then the loaded bytes were read
+module _ {T : Type 0} (o : CountedVolume T) (i : Inside T) (l : Laid T) (reread : IsReread i.laid.store l.store) (kept : l.prepared ≡ i.laid.prepared) (counted : looked_of i ≡ after_look o o.agreed) where
+  -- nothing else is changed
+  pub has_looked : HasLooked o (looked_of (record i { laid = l }))
+  has_looked = record {
+    looked = shown_relaid i l reread kept ∙ ap (λ (x : CountedVolume T). with_agreed x (is_sure l.store.loaded.standing)) counted;
+    agreed = λ sure. subst (λ (x : CountedVolume T). IsTrue x.agreed) counted (agreed_before i.laid.store.loaded.standing l.store.loaded.standing reread.loaded.standing sure);
+  }
+
+  -- the head and the traces are those of the volume
+  pub head_looked : l.store.head ≡ o.volume.head
+  head_looked = reread.head ∙ ap (λ (x : CountedVolume T). x.volume.head) counted
+
+  pub traces_looked : traces_of l.store ≡ o.volume.traces
+  traces_looked = (same_reread i l.store reread).traces ∙ ap (λ (x : CountedVolume T). x.volume.traces) counted
+
+  pub head_ahead : l.store.head ≡ o.prepared.head
+  head_ahead = reread.head ∙ ap (λ (x : CountedVolume T). x.prepared.head) counted
+
+  pub traces_looked_ahead : traces_ahead l.store l.prepared ≡ o.prepared.traces
+  traces_looked_ahead =
+      ap (λ (p : Option Prepared). traces_ahead l.store p) kept ∙ ahead_kept i.laid.store l.store i.laid.prepared (same_reread i l.store reread) ∙ ap (λ (x : CountedVolume T). x.prepared.traces) counted
+
+  -- the view shows trace p of these
+  pub has_shown : (of : Volume) (ts : List (List ℕ)) (p : ℕ) (view : TraceView) → l.store.head ≡ of.head → ts ≡ of.traces → head_of view ≡ l.store.head → (IsSure l.store.loaded.standing → bytes_of view ≡ slice_index_or ts (p - 1) [])
+      → HasShown o (looked_of (record i { laid = l })) of p view
+  has_shown of ts p view same traces head bytes = record {
+    looked = has_looked.looked;
+    agreed = has_looked.agreed;
+    trace = λ sure. (head ∙ same, bytes (sure_is l.store.loaded.standing sure) ∙ ap (λ (xs : List (List ℕ)). slice_index_or xs (p - 1) []) traces);
+  }
+
+  pub has_shape : (of : Volume) (ts : List (List ℕ)) (p : ℕ) (view : TraceView) → l.store.head ≡ of.head → ts ≡ of.traces → head_of view ≡ l.store.head → length (bytes_of view) ≡ length (slice_index_or ts (p - 1) []) → HasShapeOf of p view
+  has_shape of ts p view same traces head size = (head ∙ same, size ∙ ap (λ (xs : List (List ℕ)). length (slice_index_or xs (p - 1) [])) traces)
+
+  -- a read that failed was one on disk
+  pub failed_on_disk : {A E : Type 0} (r : Result A E) (fault : E) → r ≡ Err fault → (IsInMemory i.laid.store.loaded.standing → IsOk r) → IsTrue o.on_disk
+  failed_on_disk r fault is memory =
+      subst (λ (x : CountedVolume T). IsTrue x.on_disk) counted (on_disk_else i.laid.store.loaded.standing (λ inside. refused_in_memory r fault is (memory inside)))

@@ -1,0 +1,52 @@
+-- Where the bytes of a standing are, and whether they are sure; and that a trace from the first to the last is there.
+use Rattle.std.proofs.Common.{◌≡◌, ◌≤◌, ℕ, true, false, IsTrue, refl, ap, subst, Result, Err}
+use Rattle.std.specs.Prelude.{IsOk}
+use Rattle.std.proofs.lemmas.Bool.{le-leb}
+use Rattle.base_file.specs.HeldBytes.{Standing, InMemory, OnDisk, Falls, IsInMemory, IsSure}
+use Rattle.base_file.proofs.HeldLemmas.{sure_before}
+use Rattle.frame_cut.specs.Traces.{count_of, is_trace}
+use Rattle.frame_cut.specs.Volume.{Volume}
+use Rattle.edit_overlay.specs.Standings.{is_on_disk, is_sure}
+
+true_is_not_false : true ≡ false → ⊥
+true_is_not_false e = cc
+
+-- what is not on disk is sure
+pub sure_off_disk : (s : Standing) → is_on_disk s ≡ false → IsTrue (is_sure s)
+sure_off_disk InMemory e = refl
+sure_off_disk (OnDisk a) e = absurd (true_is_not_false e)
+
+-- what is not in memory is on disk
+pub on_disk_else : (s : Standing) → (IsInMemory s → ⊥) → IsTrue (is_on_disk s)
+on_disk_else InMemory not = absurd (not tt)
+on_disk_else (OnDisk a) not = refl
+
+never : false ≡ true → ⊥
+never e = cc
+
+-- a read that cannot fail in memory did not
+pub refused_in_memory : {T E : Type 0} (r : Result T E) (fault : E) → r ≡ Err fault → IsOk r → ⊥
+refused_in_memory {T = T} {E = E} r fault e ok = never (subst (λ (x : Result T E). IsOk x) e ok)
+
+-- two words for the same: each read agreed
+pub sure_is : (s : Standing) → IsTrue (is_sure s) → IsSure s
+sure_is InMemory sure = tt
+sure_is (OnDisk a) sure = sure
+
+pub is_sure_if : (s : Standing) → IsSure s → IsTrue (is_sure s)
+is_sure_if InMemory sure = refl
+is_sure_if (OnDisk a) sure = sure
+
+-- bytes stay where they are
+pub on_disk_stays : (old new : Standing) → Falls old new → is_on_disk new ≡ is_on_disk old
+on_disk_stays InMemory new falls = ap is_on_disk falls
+on_disk_stays (OnDisk a) InMemory falls = absurd falls
+on_disk_stays (OnDisk a) (OnDisk b) falls = refl
+
+-- and what agrees agreed before
+pub agreed_before : (old new : Standing) → Falls old new → IsTrue (is_sure new) → IsTrue (is_sure old)
+agreed_before old new falls sure = is_sure_if old (sure_before old new falls (sure_is new sure))
+
+-- a trace from the first to the last is there
+pub trace_there : (v : Volume) (p : ℕ) → 1 ≤ p → p ≤ count_of v → IsTrue (is_trace v p)
+trace_there v p first last = rw (le-leb 1 p first, le-leb p (count_of v) last) refl

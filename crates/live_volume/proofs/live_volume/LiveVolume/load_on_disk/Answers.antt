@@ -1,0 +1,29 @@
+use Rattle.std.proofs.Common.{◌≡◌, ◌∙◌, sym, ap, subst}
+use Rattle.frame_cut.specs.Cuts.{IsCut}
+use Rattle.frame_cut.specs.Volume.{Volume, bytes_of}
+use Rattle.frame_cut.specs.declared.file_head.Head.{Head}
+use Rattle.frame_cut.specs.declared.limits.Limits.{Limits}
+use Rattle.frame_cut.specs.declared.reading.Reading.{Reading}
+use Rattle.live_volume.proofs.MeasuredLemmas.{frame_of_cut, measured_of_cut}
+use Rattle.live_volume.proofs.live_volume.LiveVolume.load_on_disk.Goals as goal
+
+-- the volume is cut as the load was asked
+cut_so : (v : Volume) (how asked : Reading) (within limits : Limits) → how ≡ asked → within ≡ limits → IsCut (bytes_of v) how within v → IsCut (bytes_of v) asked limits v
+cut_so v how asked within limits e f cut = subst (λ (r : Reading). IsCut (bytes_of v) r limits v) e (subst (λ (l : Limits). IsCut (bytes_of v) how l v) f cut)
+
+pub invariant_of-result : goal.invariant_of-result
+invariant_of-result c =
+    let p = c.in_ok-passing.passing in
+    let begun = c.in_ok-passing.ensures.begun in
+    let o = c.in_ok-overlay.overlay in
+    let cut = cut_so o.volume p.reading c.args.reading p.limits c.args.limits begun.reading begun.limits c.in_ok-overlay.ensures.cut in
+    let own = c.in_ok-overlay.ensures.records in
+    record {
+      cut = λ sure. cut;
+      frame = frame_of_cut c.args.reading c.args.limits o.volume cut;
+      prepared = c.in_ok-overlay.ensures.prepared;
+      extensions = c.in-Ok.ensures.extensions ∙ ap (λ (h : Head). h.extensions) (c.head.ensures ∙ sym c.in_ok-overlay.ensures.head);
+      records = λ sure. own;
+      measured = measured_of_cut c.args.reading c.args.limits o.volume c.in-Ok.fields.pairs _ cut own;
+      reports = c.in_ok-overlay.ensures.reports;
+    }

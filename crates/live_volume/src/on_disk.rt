@@ -1,0 +1,54 @@
+// A volume whose bytes stay on disk.
+ghost use Rattle.std.specs.Prelude.{◌≡◌, ◌≤◌, true, length, IfErr, IfOk, IsTrue};
+ghost use Rattle.field_map.specs.Binding.{geometry_at_load};
+ghost use Rattle.frame_cut.specs.Cuts.{IsCut};
+ghost use Rattle.frame_cut.specs.Volume.{bytes_of};
+ghost use Rattle.edit_overlay.specs.PassedFile.{IsPassFault};
+ghost use Rattle.bench_rules.specs.Looks.{load_looks};
+
+use crate::live_volume::LiveVolume;
+use edit_overlay::Passing;
+use field_map::FieldMap;
+use frame_cut::{Limits, LoadFault, Reading};
+use std::alloc::Global;
+use std::fs::File;
+use volume_records::with_records_on_disk;
+
+impl LiveVolume {
+    /// Loads a file that stays on disk, and has so many bytes, in one pass over it; the field map
+    /// is then the six geometry names at their standard places. Looks at each trace once, for its
+    /// record. Takes memory. Refused: L01 where a read failed or the file has not so many bytes,
+    /// L02 to L15 or L17 for the first reason that every file with the bytes that were read and so
+    /// many gives, L16 where a growth was refused.
+    pub fn load_on_disk(
+        alloc: Global,
+        file: File,
+        size: u64,
+        reading: Reading,
+        limits: Limits,
+    ) -> Result<LiveVolume, LoadFault>
+        ensures cut { IfOk result (λ b. IsCut (bytes_of b.state.volume) reading limits
+            b.state.volume) }
+        ensures size { IfOk result (λ b. length (bytes_of b.state.volume) ≡ size) }
+        ensures looks { IfOk result (λ b. b.looks ≤ load_looks b.state.volume) }
+        ensures fields { IfOk result (λ b. b.state.fields ≡ geometry_at_load) }
+        ensures reading { IfOk result (λ b. b.state.reading ≡ reading) }
+        ensures limits { IfOk result (λ b. b.state.limits ≡ limits) }
+        ensures place { IfOk result (λ b. b.state.on_disk ≡ true) }
+        ensures agreed { IfOk result (λ b. IsTrue b.agreed) }
+        ensures refused { IfErr result (IsPassFault size reading limits) }
+    {
+        let passing = Passing::begin(alloc, file, size, reading, limits)?;
+        let Ok(fields) = FieldMap::standard(alloc, passing.head().extensions) else {
+            return Err(LoadFault::OutOfMemory);
+        };
+        let (overlay, reports) = with_records_on_disk(alloc, passing, &fields)?;
+        Ok(LiveVolume {
+            overlay,
+            fields,
+            reading,
+            limits,
+            reports,
+        })
+    }
+}

@@ -1,0 +1,58 @@
+-- A store whose loaded bytes have been read again: they stand as before, or have fallen.
+use Rattle.std.proofs.Common.{◌≡◌, ℕ, List, length, refl, sym, ap, subst, arith, Option, Some, None}
+use Rattle.std.specs.Prelude.{IsSomeAnd}
+use Rattle.slab.specs.Slab.{Slab, get}
+use Rattle.base_file.specs.HeldBytes.{HeldBytes, IsStill}
+use Rattle.base_file.proofs.HeldLemmas.{sure_before}
+use Rattle.frame_cut.specs.declared.file_head.Head.{Head}
+use Rattle.frame_cut.specs.Cuts.{IsTrace}
+use Rattle.trace_seq.specs.Order.{ChunkOrder}
+use Rattle.trace_view.specs.Runs.{Fit}
+use Rattle.trace_store.specs.declared.prepared.Prepared.{Prepared}
+use Rattle.trace_store.specs.declared.slot.Slot.{Slot}
+use Rattle.trace_store.specs.declared.store.TraceStore.{TraceStore}
+use Rattle.trace_store.specs.Ahead.{IsReady}
+use Rattle.trace_store.specs.Slots.{base_of, bytes_in, AreHeld, IsHeldUnder, IsInside, IsSlot, IsStore}
+use Rattle.trace_store.proofs.AheadLemmas.{IsSame, ready_kept}
+
+module _ {T : Type 0} where
+  -- a slot lies over them as before
+  pub slot_falls : (old new : HeldBytes) (h : Head) (slot : Slot T) → IsStill old new → IsSlot old h slot → IsSlot new h slot
+  slot_falls old new h slot still sound = record {
+    inside = subst (λ (bytes : List ℕ). IsInside bytes slot.base) (sym still.bytes) sound.inside;
+    fit = subst (λ (bytes : List ℕ). Fit slot.runs.items (length (base_of bytes slot.base))) (sym still.bytes) sound.fit;
+    whole = λ sure. subst (λ (bytes : List ℕ). IsTrace h (bytes_in bytes slot)) (sym still.bytes) (sound.whole (sure_before old.standing new.standing still.standing sure));
+  }
+
+  one_falls : (old new : HeldBytes) (h : Head) (o : Option (Slot T)) → IsStill old new → IsSomeAnd o (IsSlot old h) → IsSomeAnd o (IsSlot new h)
+  one_falls old new h None still held = held
+  one_falls old new h (Some slot) still held = slot_falls old new h slot still held
+
+  pub held_under_falls : (old new : HeldBytes) (h : Head) (slots : Slab (Slot T)) (id : ℕ) → IsStill old new → IsHeldUnder old h slots id → IsHeldUnder new h slots id
+  held_under_falls old new h slots id still held = one_falls old new h (get slots id) still held
+
+  pub held_falls : (old new : HeldBytes) (h : Head) (ids : List ℕ) (slots : Slab (Slot T)) → IsStill old new → AreHeld old h ids slots → AreHeld new h ids slots
+  held_falls old new h ids slots still held id some = held_under_falls old new h slots id still (held id some)
+
+  pub store_falls : (old new : HeldBytes) (h : Head) (ids : List ℕ) (slots : Slab (Slot T)) → IsStill old new → IsStore old h ids slots → IsStore new h ids slots
+  store_falls old new h ids slots still sound = record {
+    held = held_falls old new h ids slots still sound.held;
+    distinct = sound.distinct;
+    no_more = sound.no_more;
+    few = sound.few;
+  }
+
+  -- a store whose loaded bytes have been read again has the same traces
+  pub same_fetched : (s t : TraceStore T) → t.head ≡ s.head → t.order ≡ s.order → t.slots ≡ s.slots → IsStill s.loaded t.loaded → IsSame s t
+  same_fetched s t head order slots still = record {
+    head = head;
+    standing = still.standing;
+    bases = rw (order, slots, still.bytes) refl;
+    traces = rw (order, slots, still.bytes) refl;
+    payloads = rw (order, slots) refl;
+    room = omega (arith, ap (λ (o : ChunkOrder). o.spare) order);
+  }
+
+  -- and what was ready for it is ready still
+  pub ready_falls : (s t : TraceStore T) (prepared : Prepared) → t.head ≡ s.head → t.order ≡ s.order → t.slots ≡ s.slots → IsStill s.loaded t.loaded → IsReady s prepared → IsReady t prepared
+  ready_falls s t prepared head order slots still ready = ready_kept s t (Some prepared) (same_fetched s t head order slots still) ready

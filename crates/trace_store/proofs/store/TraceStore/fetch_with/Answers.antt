@@ -1,0 +1,38 @@
+use Rattle.std.proofs.Common.{List, sym, subst, option_copied}
+use Rattle.trace_view.specs.declared.run.Run.{Run}
+use Rattle.trace_view.specs.Runs.{Fit}
+use Rattle.trace_store.specs.Slots.{size_of}
+use Rattle.trace_store.proofs.FallLemmas.{store_falls}
+use Rattle.trace_store.proofs.FetchLemmas.{chosen_runs, fetched_in_memory, laid-fit}
+use Rattle.trace_store.proofs.SlotLemmas.{slot-found, slot-missed}
+use Rattle.trace_store.proofs.store.TraceStore.fetch_with.Goals as goal
+
+pub returns-then-is_in_memory-clause-fetched : goal.returns-then-is_in_memory-clause-fetched
+returns-then-is_in_memory-clause-fetched g c =
+    let f = fetched_in_memory c.args.self.now c.args.p c.requires.first c.requires.last (option_copied c.args.laid) (c.is_in_memory.ensures.0 c.if-is_in_memory.true) c.requires.laid in
+    record { first = f.first; last = f.last; lent = f.lent }
+
+pub fetch-requires-clause-inside : goal.fetch-requires-clause-inside
+fetch-requires-clause-inside g c =
+    let s = c.args.self.now in
+    let sound = slot-found s.loaded s.head s.order.ids s.slots c.args.p c.id-id.result c.in-Some.slot.now s.sound.held c.id-id.ensures (sym c.in-Some.ensures) in
+    sound.inside
+
+pub fetch-requires-clause-fit : goal.fetch-requires-clause-fit
+fetch-requires-clause-fit g c =
+    let s = c.args.self.now in
+    let slot = c.in-Some.slot.now in
+    let sound = slot-found s.loaded s.head s.order.ids s.slots c.args.p c.id-id.result slot s.sound.held c.id-id.ensures (sym c.in-Some.ensures) in
+    let runs = chosen_runs c.args.laid c.as_slice.result c.unwrap_or-runs.result slot.runs.items c.unwrap_or-runs.ensures c.as_slice.ensures.value in
+    subst (λ (rs : List Run). Fit rs (size_of slot.base)) (sym runs)
+    (laid-fit s c.args.p c.id-id.result slot c.id-id.ensures (sym c.in-Some.ensures) (option_copied c.args.laid) sound c.requires.laid)
+
+pub invariant_of-self-in-Some : goal.invariant_of-self-in-Some
+invariant_of-self-in-Some g c =
+    let s = c.args.self.now in
+    record { sound = store_falls s.loaded c.fetch.new.loaded s.head s.order.ids s.slots c.fetch.ensures.still s.sound }
+
+pub unreachable-requires : goal.unreachable-requires
+unreachable-requires g c =
+    let s = c.args.self.now in
+    slot-missed s.loaded s.head s.order.ids s.slots c.args.p c.id-id.result s.sound.held c.id-id.ensures (sym c.in-None.ensures)

@@ -1,0 +1,17 @@
+-- The bytes of a pass that were read and are not taken yet.
+use Rattle.std.specs.Prelude.{ℕ, ◌≡◌, ◌≤◌, ◌⊎◌, List, length, drop}
+use Rattle.frame_cut.specs.declared.load_fault.LoadFault.{LoadFault}
+use Rattle.frame_cut.specs.declared.load_fault.LoadFault.TheVariants.{ReadFailed, OutOfMemory}
+
+-- the bytes of a window
+pub record WindowBytes : Type 0 where
+  pub bytes : List ℕ
+
+-- the bytes that were read from this place on
+pub record IsNextOf (read : List ℕ) (at : ℕ) (next : List ℕ) : Type 0 where
+  pub inside : at ≤ length read
+  pub rest : next ≡ drop at read
+
+-- a read failed, or memory was refused
+abbrev pub IsFaultOfPass : LoadFault → Type 0
+IsFaultOfPass fault = (fault ≡ ReadFailed) ⊎ (fault ≡ OutOfMemory)

@@ -1,0 +1,17 @@
+use Rattle.std.proofs.Common.{◌≡◌, ◌∙◌, ◌<◌, ◌^◌, ℕ, refl, sym, arith}
+use Rattle.frame_cut.specs.Frames.{sample_count}
+use Rattle.trace_view.specs.Shown.{bytes_of, head_of}
+use Rattle.volume_answers.proofs.RoomLemmas.{sample_room}
+use Rattle.volume_answers.proofs.refusals.patch_place.Goals as goal
+
+few : (count n : ℕ) → n ≡ count → n < 2 ^ 32 → count < 2 ^ 32
+few count n is small = omega (arith, is, small)
+
+pub returns-in-None-clause-room : goal.returns-in-None-clause-room
+returns-in-None-clause-room c =
+    let view = c.in-Some.trace in
+    let there = rw c.in-Some.is at c.in_ok-trace.ensures.there in
+    let shape = rw c.in-Some.is at c.in_ok-trace.ensures.shape in
+    sample_room c.args.overlay.now.volume c.args.p c.args.k c.sample_place.result c.args.values.now (head_of view) (bytes_of view) (there.0 refl) shape.0 view.whole shape.1
+    (few (sample_count (head_of view) (bytes_of view)) c.sample_count-count.result c.sample_count-count.ensures c.sample_count-count.type_inv)
+    c.sample_place.ensures (sym c.patch_refusal.ensures ∙ c.in-None.is)

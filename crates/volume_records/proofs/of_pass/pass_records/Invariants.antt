@@ -1,0 +1,15 @@
+use Rattle.std.proofs.Common.{◌-◌, length}
+use Rattle.edit_overlay.specs.CountedVolume.{RisesAtMost}
+use Rattle.volume_records.specs.OfPass.{HasRecords, IsSameFile}
+use Rattle.volume_records.proofs.of_pass.pass_records.Given as goal
+
+-- the traces so far have their records, at a look each
+abbrev pub invariant-turns : goal.invariant-turns
+invariant-turns l = record {
+  records : HasRecords l.fn.fields.pairs l.passing;
+  same : IsSameFile l.fn.passing l.passing;
+  looks : RisesAtMost l.fn.passing.looks l.passing.looks (length l.passing.traces);
+}
+
+abbrev pub decreases-turns : goal.decreases-turns
+decreases-turns l = l.passing.size - l.passing.at

@@ -1,0 +1,163 @@
+#!/usr/bin/env bash
+# The bytes of the file stay on disk: answers, status and saved bytes are those of a run in memory, also of cut and hostile files and
+# where a growth of memory is refused; a device that fails, and a file that changes meanwhile, are told, and OUT is whole; a file of
+# 20 GB is repaired in 1 GB of address space.
+# usage: tests/on_disk.sh [PROGRAM]
+. "$(dirname "$0")/sweeps.sh"
+varying v.sgy
+compiled fail_device -shared -fPIC
+library=LD_PRELOAD=./fail_device.so
+
+# alike NAME FILE WORD..: the lines of the file `script` over FILE, with and without the option
+alike() {
+    local name=$1 file=$2 memory disk outcome=ok
+    shift 2
+    rm -f memory.sgy disk.sgy
+    "$program" "$file" --script script --out memory.sgy "$@" > memory.txt 2> memory.err
+    memory=$?
+    "$program" "$file" --script script --out disk.sgy --on-disk "$@" > disk.txt 2> disk.err
+    disk=$?
+    [ "$memory" = "$disk" ] || outcome="status $disk, not $memory"
+    cmp -s memory.txt disk.txt || outcome="answers: $(head -c 300 disk.txt)"
+    sed 's/memory\.sgy/disk.sgy/g' memory.err | cmp -s - disk.err || outcome="standard error: $(head -c 300 disk.err)"
+    if [ -e memory.sgy ]; then cmp -s memory.sgy disk.sgy || outcome='other bytes are saved'; else [ ! -e disk.sgy ] || outcome='a file is saved'; fi
+    tell "$name" "$outcome"
+}
+
+# ---- the same answers and bytes
+printf '%s\n' count info 'get 2 inline' 'set 2 inline 7' 'get 2 inline' 'sample 2 1' 'patch 2 0 5 6' 'sample 2 0' grid inlines histogram 'range x' totals faults \
+    'slice 1' 'header 2' 'extremes 1 3' 'table 1 3 inline crossline' 'find 1 3 inline 7 7' 'geometry 1' 'stat 2' > script
+for file in s.sgy x.sgy t.sgy v.sgy; do alike "every query of $file" $file; done
+printf '%s\n' 'blank 1' 'copy 2 1' 'delete 3' 'move 1 2' 'renumber 1 2 inline 100 5' 'compute 1 2 crossline inline * 2' 'map inline @189:4' 'resize 1 4' \
+    'text 3 changed' 'bin interval 2000' 'sort 1 2 -inline' totals grid fields 'unmap inline' > script
+for file in s.sgy x.sgy t.sgy v.sgy; do alike "edits of $file" $file; done
+alike 'a file with more header extensions' x.sgy --stop
+alike 'a file that is refused' script
+head -c 4000 s.sgy > torn.sgy
+alike 'a torn file' torn.sgy
+alike 'a file above its limit' s.sgy --max-bytes 4331
+: > script
+alike 'nothing is changed' v.sgy
+
+# ---- each worked example, with the option
+printf '#!/bin/sh\ncase " $* " in *" --in-place "*|*" --help "*|*" --version "*) exec "%s" "$@" ;; esac\nfor word in "$@"; do [ ! -f "$word" ] || { exec "%s" "$@" --on-disk; }; break; done\nexec "%s" "$@"\n' \
+    "$named" "$named" "$named" > disked
+chmod +x disked
+# the sweeps over lengths of files, over hostile files and over growths of memory, with the option, beside the rest
+sweeping() { bash "$here/$1.sh" "${@:2}" > "$1.told" 2>&1; echo $? > "$1.status"; }
+sweeping cuts "$PWD/disked" &
+sweeping hostile "$PWD/disked" &
+sweeping growth "$named" --on-disk &
+if bash "$here/transcripts.sh" "$PWD/disked" "$here"/transcripts/*.md > told.txt 2>&1; then tell 'the worked examples' ok; else tell 'the worked examples' "$(tail -n 20 told.txt)"; fi
+
+# ---- a pipe, and a save over the file itself
+mkfifo pipe
+cat s.sgy > pipe &
+"$program" pipe --script script --on-disk > answers 2> errors
+if [ $? = 3 ] && [ "$(< errors)" = 'segywb: --on-disk needs a file on disk, and pipe is none' ]; then tell 'a pipe' ok; else tell 'a pipe' "$(< errors)"; fi
+wait $!
+cp s.sgy own.sgy
+"$program" own.sgy --script script --on-disk --in-place --out own.sgy > answers 2> errors
+if [ $? = 2 ] && cmp -s s.sgy own.sgy; then tell 'in place over the file' ok; else tell 'in place over the file' "$(< errors)"; fi
+printf 'set 2 @189:4 7\n' > script
+"$program" s.sgy --script script --out wanted.sgy > /dev/null
+"$program" own.sgy --script script --on-disk --out own.sgy > answers 2> errors
+if cmp -s wanted.sgy own.sgy; then tell 'a save over the file' ok; else tell 'a save over the file' "$(< errors)"; fi
+
+# ---- the device fails at each read: of the load, of a look, of the save
+printf 'set 2 @189:4 7\nget 3 @189:4\n' > script
+"$program" s.sgy --script script --out whole.sgy > whole.txt
+printf 'refused E14 read failed\nvalue 10\n' > set_failed.txt
+printf 'ok\nrefused E14 read failed\n' > get_failed.txt
+on=("$program" s.sgy --on-disk --script script --out o.sgy)
+for call in $(seq 1 40); do
+    rm -f o.sgy
+    env $library DEVICE=s.sgy FAIL_CALL=$call "${on[@]}" > answers 2> errors
+    status=$?
+    outcome=ok
+    case $(head -n 1 answers) in
+        'load refused L01 read failed') [ $status = 3 ] && [ ! -e o.sgy ] || outcome="load: status $status" ;;
+        *)
+            if [ $status = 0 ]; then
+                cmp -s whole.txt answers && cmp -s whole.sgy o.sgy || outcome='other answers or bytes'
+            elif [ $status = 1 ]; then
+                cmp -s set_failed.txt answers || cmp -s get_failed.txt answers || outcome="answers: $(< answers)"
+                [ -e o.sgy ] || outcome='nothing is saved'
+            else
+                [ $status = 4 ] && [ ! -e o.sgy ] || outcome="status $status"
+                grep -q '^segywb: s.sgy: cannot be read again: o.sgy is as it was$' errors || outcome="standard error: $(head -c 300 errors)"
+            fi ;;
+    esac
+    tell "read $call fails" "$outcome"
+done
+
+# ---- the file changes while the program runs: a session, so that it is known when
+# meanwhile NAME LINE ANSWER COMMAND: the file own.sgy is loaded, the command is run, and the line then has this answer; nothing is saved
+meanwhile() {
+    local name=$1 line=$2 wanted=$3 command=$4 said outcome=ok status
+    cp v.sgy own.sgy
+    rm -f o.sgy
+    coproc RUN { "$program" own.sgy --on-disk --session --out o.sgy 2> errors; }
+    local in=${RUN[1]} out=${RUN[0]} id=$RUN_PID
+    printf 'count\n' >&"$in"
+    read -r said <&"$out"
+    read -r _ <&"$out"
+    eval "$command"
+    printf '%s\n' "$line" >&"$in"
+    read -r said <&"$out"
+    [ "$said" = "$wanted" ] || outcome="answer: $said"
+    exec {in}>&-
+    wait "$id"
+    status=$?
+    [ $status = 4 ] || outcome="status $status"
+    grep -q 'was changed by another program' errors || outcome="standard error: $(head -c 300 errors)"
+    [ ! -e o.sgy ] || outcome='it was saved'
+    tell "$name" "$outcome"
+}
+last=$("$program" v.sgy --script /dev/stdin <<< count | cut -d' ' -f2)
+meanwhile 'cut' "get $last inline" 'refused E14 read failed' 'truncate -s 3700 own.sgy'
+meanwhile 'grown' 'count' "traces $last" 'printf x >> own.sgy'
+meanwhile 'a trace of another length' "get 1 inline" 'refused E15 file changed' 'put own.sgy $((3600 + 114)) 0fff'
+
+# ---- the file changes while it is copied to a pipe, which took a part by then
+survey copied.sgy
+truncate -s 3600 copied.sgy
+put copied.sgy 3220 7800
+truncate -s $((3600 + 50 * (240 + 2 * 30720))) copied.sgy
+printf 'count\n' > script
+mkfifo copy
+"$program" copied.sgy --on-disk --script script --out copy > answers 2> errors &
+id=$!
+exec {in}< copy
+head -c 1 <&"$in" > copied.txt
+put copied.sgy 3700 01
+cat <&"$in" >> copied.txt
+exec {in}<&-
+wait "$id"
+status=$?
+if [ $status = 4 ] && grep -q '^segywb: copied.sgy: what was saved may be of two files; ' errors; then tell 'changed while it is copied' ok; else tell 'changed while it is copied' "status $status: $(head -c 300 errors)"; fi
+
+# ---- 20 GB in 1 GB of address space: 327679 traces of 30720 samples of two bytes, zeros that take no disk
+survey big.sgy
+truncate -s 3600 big.sgy
+put big.sgy 3220 7800
+truncate -s $((3600 + 327679 * (240 + 2 * 30720))) big.sgy
+bytes=$(wc -c < big.sgy)
+printf 'set 200000 inline 7\nget 200000 inline\ncount\n' > script
+mkfifo saved
+cmp -l big.sgy saved > differs.txt &
+(ulimit -v 1048576; "$program" big.sgy --on-disk --script script --out saved > answers 2> errors)
+status=$?
+wait $!
+if [ $status = 0 ] && [ "$(tail -n 2 answers)" = $'value 7\ntraces 327679' ] && [ "$(xargs < differs.txt)" = "$((3600 + 199999 * 61680 + 192)) 0 7" ]; then
+    tell '20 GB in 1 GB' ok
+else
+    tell '20 GB in 1 GB' "status $status of $bytes bytes: $(head -c 300 errors) $(< differs.txt)"
+fi
+rm big.sgy
+
+wait
+for sweep in cuts hostile growth; do
+    if [ "$(< $sweep.status)" = 0 ]; then tell "$sweep" ok; else tell "$sweep" "$(grep -m 5 FAILED $sweep.told)"; fi
+done
+finish

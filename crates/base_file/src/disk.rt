@@ -36,6 +36,15 @@ impl<F> Disk<F> {
             later: Log::new(),
         }
     }
+
+    // What the pass gave.
+    pub(crate) fn into_log(self) -> Log
+    where
+        F: Drop,
+        ensures { joined result.events ≡ bytes_of self }
+    {
+        self.first
+    }
 }
 
 impl<F: FileExt> Base for Disk<F> {

@@ -4,6 +4,7 @@ ghost use Rattle.std.specs.Prelude.{◌≡◌, ◌+◌, ◌-◌, ◌≤◌, ◌�
 use crate::base::Base;
 use crate::disk::Disk;
 use crate::loading::Loading;
+use crate::log::Log;
 use crate::memory::Memory;
 use crate::read_fault::ReadFault;
 use crate::source::Source;
@@ -38,6 +39,7 @@ impl Model for Held {
 
 impl Held {
     ghost use Rattle.base_file.specs.Disks.{bytes_of, is_agreed};
+    ghost use Rattle.base_file.specs.Seen.{joined};
     ghost use Rattle.base_file.specs.HeldBytes.{InMemory, OnDisk, HasGrown, IsInMemory, IsStill, IsSure, AreThere, lent_of};
 
     /// Bytes in memory. Takes no memory.
@@ -148,6 +150,25 @@ impl Held {
             },
             Source::Disk(disk) => Held::on_disk(disk, room, front, back),
             Source::Pass(loading) => Held::on_disk(loading.finish(), room, front, back),
+        }
+    }
+
+    /// What the pass over the file gave, the file itself given back: clauses see its bytes. Takes
+    /// no memory.
+    pub fn into_log(self) -> Log
+        requires { ¬ IsInMemory self.standing }
+        ensures { joined result.events ≡ self.bytes }
+    {
+        let Held {
+            source,
+            room: _,
+            front: _,
+            back: _,
+        } = self;
+        match source {
+            Source::Memory(_) => unreachable!(),
+            Source::Disk(disk) => disk.into_log(),
+            Source::Pass(loading) => loading.into_log(),
         }
     }
 

@@ -28,6 +28,7 @@ pub use crate::base::Base;
 pub use crate::disk::Disk;
 pub use crate::held::Held;
 pub use crate::loading::Loading;
+pub use crate::log::Log;
 pub use crate::memory::Memory;
 pub use crate::read_fault::ReadFault;
 

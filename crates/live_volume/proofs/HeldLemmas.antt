@@ -19,6 +19,7 @@ use Rattle.trace_record.specs.Packed.{record_in}
 use Rattle.trace_record.specs.declared.packed_record.PackedRecord.{PackedRecord}
 use Rattle.trace_record.specs.declared.record.Record.{Record}
 use Rattle.edit_overlay.specs.CountedVolume.{CountedVolume, after_look, IsSeen}
+use Rattle.edit_overlay.specs.Loaded.{Loaded}
 use Rattle.live_reports.specs.OfRecords.{AreReportsOf}
 use Rattle.time_slice.specs.declared.row.Row.{Row}
 use Rattle.time_slice.specs.Cache.{KeptSlices, after_slice}
@@ -106,9 +107,10 @@ seen_not o last same = subst (λ (l : CountedVolume PackedRecord). IsSeen o l 1)
 -- the session after looks at the overlay
 pub looked_at : (b : Inside) (o : CountedVolume PackedRecord) (n : ℕ) → IsSeen b.overlay o n → OnlyLooks (session_of b) (session_of (record b { overlay = o })) n
 looked_at b o n seen = record {
-  state = ap (λ (v : Volume). let s : State = record (state_of b) { volume = v; on_disk = o.on_disk } in s) seen.volume
-      ∙ ap (λ (d : Bool). let s : State = record (state_of b) { on_disk = d } in s) seen.on_disk;
+  state = ap (λ (v : Volume). let s : State = record (state_of b) { volume = v; on_disk = o.loaded.on_disk } in s) seen.volume
+      ∙ ap (λ (l : Loaded). let s : State = record (state_of b) { on_disk = l.on_disk } in s) seen.loaded;
   looks = seen.looks;
+  loaded = ap (λ (l : Loaded). l.bytes) seen.loaded;
   agreed = seen.agreed;
 }
 
@@ -131,14 +133,14 @@ held_again b o n seen h = record {
 
 -- looks behind looks
 pub looks_none : (s : Session) → OnlyLooks s s 0
-looks_none s = record { state = refl; looks = (omega arith, omega arith); agreed = λ sure. sure }
+looks_none s = record { state = refl; looks = (omega arith, omega arith); loaded = refl; agreed = λ sure. sure }
 
 pub looks_more : (a b c : Session) (m n : ℕ) → OnlyLooks a b m → OnlyLooks b c n → OnlyLooks a c (m + n)
 looks_more a b c m n f g =
-    record { state = g.state ∙ f.state; looks = (omega (arith, f.looks, g.looks), omega (arith, f.looks, g.looks)); agreed = λ sure. f.agreed (g.agreed sure) }
+    record { state = g.state ∙ f.state; looks = (omega (arith, f.looks, g.looks), omega (arith, f.looks, g.looks)); loaded = g.loaded ∙ f.loaded; agreed = λ sure. f.agreed (g.agreed sure) }
 
 pub looks_most : (a b : Session) (m n : ℕ) → OnlyLooks a b m → m ≤ n → OnlyLooks a b n
-looks_most a b m n f less = record { state = f.state; looks = (omega (arith, f.looks), omega (arith, f.looks, less)); agreed = f.agreed }
+looks_most a b m n f less = record { state = f.state; looks = (omega (arith, f.looks), omega (arith, f.looks, less)); loaded = f.loaded; agreed = f.agreed }
 
 -- ---- refusals
 

@@ -36,6 +36,7 @@ impl LiveVolume {
         ensures err { OnErr result (self.new.state ≡ self.old.state) }
         ensures same { IsReadAs self.old.state self.new.state }
         ensures agreed { IsTrue self.new.agreed → IsTrue self.old.agreed }
+        ensures loaded { self.new.loaded ≡ self.old.loaded }
         ensures looks { RisesAtMost self.old.looks self.new.looks 2 }
     {
         let head = self.overlay.head();
@@ -89,6 +90,7 @@ impl LiveVolume {
         ensures err { OnErr result (self.new.state ≡ self.old.state) }
         ensures same { IsReadAs self.old.state self.new.state }
         ensures agreed { IsTrue self.new.agreed → IsTrue self.old.agreed }
+        ensures loaded { self.new.loaded ≡ self.old.loaded }
         ensures looks { RisesAtMost self.old.looks self.new.looks
             (edit_looks self.old.state (edits.Renumber a b field.now first step)) }
         ensures moved { IfOk result (λ moved. IsTrue self.new.agreed →
@@ -227,6 +229,7 @@ impl LiveVolume {
             (self.new.state ≡ self.old.state)) }
         ensures same { IsReadAs self.old.state self.new.state }
         ensures agreed { IsTrue self.new.agreed → IsTrue self.old.agreed }
+        ensures loaded { self.new.loaded ≡ self.old.loaded }
         ensures looks { RisesAtMost self.old.looks self.new.looks (b + 1 - a) }
         ensures moved { IfOk result (λ moved. IsTrue self.new.agreed →
             moved ≡ any_moves self.old.state self.new.state a b) }

@@ -44,6 +44,7 @@ impl LiveVolume {
         ensures err { OnErr result (self.new.state ≡ self.old.state) }
         ensures same { IsReadAs self.old.state self.new.state }
         ensures agreed { IsTrue self.new.agreed → IsTrue self.old.agreed }
+        ensures loaded { self.new.loaded ≡ self.old.loaded }
         ensures looks { RisesAtMost self.old.looks self.new.looks 2 }
     {
         let at = patch_place(&mut self.overlay, p, k, values)?;
@@ -69,6 +70,7 @@ impl LiveVolume {
             (self.new.state ≡ self.old.state)) }
         ensures same { IsReadAs self.old.state self.new.state }
         ensures agreed { IsTrue self.new.agreed → IsTrue self.old.agreed }
+        ensures loaded { self.new.loaded ≡ self.old.loaded }
         ensures looks { RisesAtMost self.old.looks self.new.looks 1 }
     {
         let head = self.overlay.head();
@@ -86,6 +88,7 @@ impl LiveVolume {
         ensures err { OnErr result (self.new.state ≡ self.old.state) }
         ensures same { IsReadAs self.old.state self.new.state }
         ensures agreed { IsTrue self.new.agreed → IsTrue self.old.agreed }
+        ensures loaded { self.new.loaded ≡ self.old.loaded }
         ensures looks { self.new.looks ≡ self.old.looks }
     {
         match blank_refusal(&self.overlay, self.limits, p) {
@@ -103,6 +106,7 @@ impl LiveVolume {
             (self.new.state ≡ self.old.state)) }
         ensures same { IsReadAs self.old.state self.new.state }
         ensures agreed { IsTrue self.new.agreed → IsTrue self.old.agreed }
+        ensures loaded { self.new.loaded ≡ self.old.loaded }
         ensures looks { self.new.looks ≡ self.old.looks }
     {
         let head = self.overlay.head();
@@ -119,6 +123,7 @@ impl LiveVolume {
         ensures err { OnErr result (self.new.state ≡ self.old.state) }
         ensures same { IsReadAs self.old.state self.new.state }
         ensures agreed { IsTrue self.new.agreed → IsTrue self.old.agreed }
+        ensures loaded { self.new.loaded ≡ self.old.loaded }
         ensures looks { RisesAtMost self.old.looks self.new.looks 2 }
     {
         match copy_refusal(&mut self.overlay, self.limits, q, p)? {
@@ -154,6 +159,7 @@ impl LiveVolume {
             (self.new.state ≡ self.old.state)) }
         ensures same { IsReadAs self.old.state self.new.state }
         ensures agreed { IsTrue self.new.agreed → IsTrue self.old.agreed }
+        ensures loaded { self.new.loaded ≡ self.old.loaded }
         ensures looks { RisesAtMost self.old.looks self.new.looks 1 }
     {
         let trace = self.overlay.payload(q).record();
@@ -168,6 +174,7 @@ impl LiveVolume {
         ensures err { OnErr result (self.new.state ≡ self.old.state) }
         ensures same { IsReadAs self.old.state self.new.state }
         ensures agreed { IsTrue self.new.agreed → IsTrue self.old.agreed }
+        ensures loaded { self.new.loaded ≡ self.old.loaded }
         ensures looks { self.new.looks ≡ self.old.looks }
     {
         match self.no_trace(p) {
@@ -186,6 +193,7 @@ impl LiveVolume {
             IsAfter self.old.state (edits.Delete p) self.new.state }
         ensures same { IsReadAs self.old.state self.new.state }
         ensures agreed { IsTrue self.new.agreed → IsTrue self.old.agreed }
+        ensures loaded { self.new.loaded ≡ self.old.loaded }
         ensures looks { self.new.looks ≡ self.old.looks }
     {
         self.reports
@@ -200,6 +208,7 @@ impl LiveVolume {
         ensures err { OnErr result (self.new.state ≡ self.old.state) }
         ensures same { IsReadAs self.old.state self.new.state }
         ensures agreed { IsTrue self.new.agreed → IsTrue self.old.agreed }
+        ensures loaded { self.new.loaded ≡ self.old.loaded }
         ensures looks { self.new.looks ≡ self.old.looks }
     {
         match move_refusal(&self.overlay, a, b) {
@@ -217,6 +226,7 @@ impl LiveVolume {
             (self.new.state ≡ self.old.state)) }
         ensures same { IsReadAs self.old.state self.new.state }
         ensures agreed { IsTrue self.new.agreed → IsTrue self.old.agreed }
+        ensures loaded { self.new.loaded ≡ self.old.loaded }
         ensures looks { self.new.looks ≡ self.old.looks }
     {
         self.overlay.move_to(alloc, a, b)?;

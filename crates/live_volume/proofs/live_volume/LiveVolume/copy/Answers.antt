@@ -7,7 +7,7 @@ use Rattle.live_volume.proofs.live_volume.LiveVolume.copy.Goals as goal
 
 pub insert_copy-requires : goal.insert_copy-requires
 insert_copy-requires c =
-    let now : State = record (state_of c.self.inside) { volume = c.copy_refusal.new.overlay.volume; on_disk = c.copy_refusal.new.overlay.on_disk } in
+    let now : State = record (state_of c.self.inside) { volume = c.copy_refusal.new.overlay.volume; on_disk = c.copy_refusal.new.overlay.loaded.on_disk } in
     sym (c.in_ok-refusal.ensures.refusal now c.copy_refusal.ensures.seen.volume refl) ∙ c.in-None.is
 
 pub returns-in-Some-clause-step : goal.returns-in-Some-clause-step

@@ -13,7 +13,7 @@ put_values-requires-clause-room c =
 
 pub put_values-requires-clause-none : goal.put_values-requires-clause-none
 put_values-requires-clause-none c =
-    let now : State = record (state_of c.self.inside) { volume = c.patch_place.new.overlay.volume; on_disk = c.patch_place.new.overlay.on_disk } in
+    let now : State = record (state_of c.self.inside) { volume = c.patch_place.new.overlay.volume; on_disk = c.patch_place.new.overlay.loaded.on_disk } in
     c.in_ok-at.ensures.ok now c.patch_place.ensures.seen.volume
 
 pub put_values-requires-clause-place : goal.put_values-requires-clause-place

@@ -19,7 +19,7 @@ put_value-requires-clause-room c =
 
 pub put_value-requires-clause-none : goal.put_value-requires-clause-none
 put_value-requires-clause-none c =
-    let now : State = record (state_of c.self.inside) { volume = c.value_refusal.new.overlay.volume; on_disk = c.value_refusal.new.overlay.on_disk } in
+    let now : State = record (state_of c.self.inside) { volume = c.value_refusal.new.overlay.volume; on_disk = c.value_refusal.new.overlay.loaded.on_disk } in
     let fit : SFits w128 c.args.value = search rules in
     let told = rw (to_z-of_z w128 c.args.value fit) at (c.in_ok-refusal.ensures.refusal now c.value_refusal.ensures.seen.volume) in
     rw (to_z-of_z w128 c.args.value fit) (λ sure. sym (told sure) ∙ c.in-None.is)

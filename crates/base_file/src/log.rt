@@ -19,8 +19,8 @@ impl Model for Log {
 }
 
 impl Log {
-    // No reads.
-    pub(crate) fn new() -> Log
+    /// No reads.
+    pub fn new() -> Log
         ensures { result.events ≡ [] }
     {
         Log {

@@ -60,28 +60,27 @@ impl<T: Copy> TraceStore<T> {
         ensures traces { IfOk result (λ s. traces_of s ≡ []) }
         ensures payloads { IfOk result (λ s. payloads_of s ≡ []) }
     {
-        TraceStore::over(alloc, Held::in_memory(alloc, loaded), head, room)
-    }
-
-    /// No traces yet over loaded bytes, in memory or on disk, with room for so many slots. Refused
-    /// for want of memory alone.
-    pub fn over(
-        alloc: Global,
-        loaded: Held,
-        head: Head,
-        room: usize,
-    ) -> Result<TraceStore<T>, OutOfMemory>
-        ensures head { IfOk result (λ s. s.head ≡ head) }
-        ensures loaded { IfOk result (λ s. s.loaded ≡ loaded) }
-        ensures traces { IfOk result (λ s. traces_of s ≡ []) }
-        ensures payloads { IfOk result (λ s. payloads_of s ≡ []) }
-    {
         Ok(TraceStore {
-            loaded,
+            loaded: Held::in_memory(alloc, loaded),
             head,
             order: ChunkSeq::new(alloc),
             slots: Slab::with_capacity(alloc, room)?,
         })
+    }
+
+    /// No traces yet over loaded bytes, in memory or on disk. Takes no memory.
+    pub fn over(alloc: Global, loaded: Held, head: Head) -> TraceStore<T>
+        ensures head { result.head ≡ head }
+        ensures loaded { result.loaded ≡ loaded }
+        ensures traces { traces_of result ≡ [] }
+        ensures payloads { payloads_of result ≡ [] }
+    {
+        TraceStore {
+            loaded,
+            head,
+            order: ChunkSeq::new(alloc),
+            slots: Slab::new(alloc),
+        }
     }
 
     /// Reads a file that is being passed on, until the window has n bytes. Refused as

@@ -135,7 +135,7 @@ fn refuse<A: Write>(answers: &mut Sink<A>, refused: PassFault) -> DiskRun
         (load_refusal_line refused.fault) (ends.Load refused.fault) result.end }
     ensures volume { result.volume ≡ Err refused }
 {
-    let fault = refused.fault;
+    let fault = refused.fault();
     DiskRun {
         end: tell(answers, &load_fault_line(fault), RunEnd::Load(fault)),
         volume: Err(refused),

@@ -118,8 +118,8 @@ impl<T: Copy> TraceStore<T> {
         ensures head { result.head ≡ self.head }
         ensures bytes { result.loaded.bytes ≡ self.loaded.bytes }
         ensures standing { result.loaded.standing ≡ self.loaded.standing }
-        ensures room { ¬ IsInMemory self.loaded.standing →
-            result.loaded.room ≡ room.items }
+        ensures most { ¬ IsInMemory self.loaded.standing →
+            result.loaded.most ≡ length room.items }
         ensures front { ¬ IsInMemory self.loaded.standing →
             result.loaded.front ≡ length front.items }
         ensures back { ¬ IsInMemory self.loaded.standing →
@@ -224,7 +224,6 @@ impl<T: Copy> TraceStore<T> {
         ensures order { self.new.order ≡ self.old.order }
         ensures slots { self.new.slots ≡ self.old.slots }
         ensures loaded { IsStill self.old.loaded self.new.loaded }
-        ensures room { length self.new.loaded.room ≡ length self.old.loaded.room }
         ensures bases { bases_of self.new ≡ bases_of self.old }
         ensures traces { traces_of self.new ≡ traces_of self.old }
         ensures payloads { payloads_of self.new ≡ payloads_of self.old }
@@ -247,7 +246,6 @@ impl<T: Copy> TraceStore<T> {
         ensures order { self.new.order ≡ self.old.order }
         ensures slots { self.new.slots ≡ self.old.slots }
         ensures loaded { IsStill self.old.loaded self.new.loaded }
-        ensures room { length self.new.loaded.room ≡ length self.old.loaded.room }
         ensures bases { bases_of self.new ≡ bases_of self.old }
         ensures traces { traces_of self.new ≡ traces_of self.old }
         ensures payloads { payloads_of self.new ≡ payloads_of self.old }
@@ -281,7 +279,6 @@ impl<T: Copy> TraceStore<T> {
         ensures order { self.new.order ≡ self.old.order }
         ensures slots { self.new.slots ≡ self.old.slots }
         ensures loaded { IsStill self.old.loaded self.new.loaded }
-        ensures room { length self.new.loaded.room ≡ length self.old.loaded.room }
         ensures bases { bases_of self.new ≡ bases_of self.old }
         ensures traces { traces_of self.new ≡ traces_of self.old }
         ensures payloads { payloads_of self.new ≡ payloads_of self.old }
@@ -324,7 +321,6 @@ impl<T: Copy> TraceStore<T> {
         ensures order { self.new.order ≡ self.old.order }
         ensures slots { self.new.slots ≡ self.old.slots }
         ensures loaded { IsStill self.old.loaded self.new.loaded }
-        ensures room { length self.new.loaded.room ≡ length self.old.loaded.room }
         ensures bases { bases_of self.new ≡ bases_of self.old }
         ensures traces { traces_of self.new ≡ traces_of self.old }
         ensures payloads { payloads_of self.new ≡ payloads_of self.old }

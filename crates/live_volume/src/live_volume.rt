@@ -9,7 +9,7 @@ ghost use Rattle.edit_overlay.specs.Saving.{CountsSaveFailure, Saves};
 ghost use Rattle.bench_rules.specs.declared.edit.Edit.TheVariants as edits;
 ghost use Rattle.bench_rules.specs.declared.field.Field.TheVariants as fields;
 ghost use Rattle.edit_overlay.specs.CountedVolume.{RisesAtMost};
-ghost use Rattle.bench_rules.specs.Looks.{load_looks, edit_looks, query_looks};
+ghost use Rattle.bench_rules.specs.Looks.{load_looks, edit_looks, query_looks, trace_looks};
 ghost use Rattle.bench_rules.specs.Places.{place_in_trace};
 ghost use Rattle.bench_rules.specs.Refused.{first_refusal};
 ghost use Rattle.bench_rules.specs.Steps.{IsAfter, Step};
@@ -213,7 +213,8 @@ impl LiveVolume {
         ensures same { IsReadAs self.old.state self.new.state }
         ensures agreed { IsTrue self.new.agreed → IsTrue self.old.agreed }
         ensures loaded { self.new.loaded ≡ self.old.loaded }
-        ensures looks { RisesAtMost self.old.looks self.new.looks 2 }
+        ensures looks { RisesAtMost self.old.looks self.new.looks
+            (trace_looks self.old.state.volume p 2) }
     {
         match value_refusal(&mut self.overlay, p, place, value)? {
             Some(refusal) => Err(refusal),

@@ -5,6 +5,7 @@ ghost use Rattle.frame_cut.specs.Traces.{is_trace, trace_at};
 ghost use Rattle.bench_rules.specs.declared.edit.Edit.TheVariants as edits;
 ghost use Rattle.bench_rules.specs.declared.refusal.Refusal.TheVariants.{OutOfMemory as no_memory};
 ghost use Rattle.edit_overlay.specs.CountedVolume.{RisesAtMost};
+ghost use Rattle.bench_rules.specs.Looks.{trace_looks};
 ghost use Rattle.bench_rules.specs.Refused.{first_refusal, no_trace};
 ghost use Rattle.bench_rules.specs.Steps.{IsAfter, Step};
 ghost use Rattle.live_volume.specs.Held.{sample_start, IsReadAs, OnlyLooks};
@@ -45,7 +46,8 @@ impl LiveVolume {
         ensures same { IsReadAs self.old.state self.new.state }
         ensures agreed { IsTrue self.new.agreed → IsTrue self.old.agreed }
         ensures loaded { self.new.loaded ≡ self.old.loaded }
-        ensures looks { RisesAtMost self.old.looks self.new.looks 2 }
+        ensures looks { RisesAtMost self.old.looks self.new.looks
+            (trace_looks self.old.state.volume p 2) }
     {
         let at = patch_place(&mut self.overlay, p, k, values)?;
         self.put_values(alloc, p, k, at, values)
@@ -124,7 +126,8 @@ impl LiveVolume {
         ensures same { IsReadAs self.old.state self.new.state }
         ensures agreed { IsTrue self.new.agreed → IsTrue self.old.agreed }
         ensures loaded { self.new.loaded ≡ self.old.loaded }
-        ensures looks { RisesAtMost self.old.looks self.new.looks 2 }
+        ensures looks { RisesAtMost self.old.looks self.new.looks
+            (trace_looks self.old.state.volume q 2) }
     {
         match copy_refusal(&mut self.overlay, self.limits, q, p)? {
             Some(refusal) => Err(refusal),

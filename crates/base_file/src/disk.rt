@@ -1,5 +1,6 @@
 // Bytes that stay on disk.
-ghost use Rattle.std.specs.Prelude.{◌≡◌, ◌+◌, ◌≤◌, ◌<◌, ◌^◌, length, take, drop, IsTrue, OnOk, OnErr};
+ghost use Rattle.std.specs.Prelude.{◌≡◌, ◌+◌, ◌≤◌, ◌<◌, ◌^◌, length, take, drop, IfErr, IsTrue, OnOk, OnErr};
+ghost use Rattle.base_file.specs.Faults.{IsFaultOfRead};
 ghost use Rattle.base_file.specs.Seen.{joined, all_as};
 
 use crate::base::Base;
@@ -67,6 +68,7 @@ impl<F: FileExt> Base for Disk<F> {
 // what a file gives.
 fn fill<F: FileExt>(file: &F, at: u64, out: &mut [u8]) -> Result<(), ReadFault>
     requires { at + length out.old < 2 ^ 64 }
+    ensures { IfErr result IsFaultOfRead }
 {
     let mut done = 0;
     'turns: while done < out.len() {

@@ -117,8 +117,8 @@ impl<T: Copy> TraceStore<T> {
         ensures head { result.head ≡ self.head }
         ensures bytes { result.loaded.bytes ≡ self.loaded.bytes }
         ensures standing { result.loaded.standing ≡ self.loaded.standing }
-        ensures room { ¬ IsInMemory self.loaded.standing →
-            result.loaded.room ≡ room.items }
+        ensures most { ¬ IsInMemory self.loaded.standing →
+            result.loaded.most ≡ length room.items }
         ensures front { ¬ IsInMemory self.loaded.standing →
             result.loaded.front ≡ length front.items }
         ensures back { ¬ IsInMemory self.loaded.standing →
@@ -223,7 +223,6 @@ impl<T: Copy> TraceStore<T> {
         ensures order { self.new.order ≡ self.old.order }
         ensures slots { self.new.slots ≡ self.old.slots }
         ensures loaded { IsStill self.old.loaded self.new.loaded }
-        ensures room { length self.new.loaded.room ≡ length self.old.loaded.room }
         ensures bases { bases_of self.new ≡ bases_of self.old }
         ensures traces { traces_of self.new ≡ traces_of self.old }
         ensures payloads { payloads_of self.new ≡ payloads_of self.old }
@@ -246,7 +245,6 @@ impl<T: Copy> TraceStore<T> {
         ensures order { self.new.order ≡ self.old.order }
         ensures slots { self.new.slots ≡ self.old.slots }
         ensures loaded { IsStill self.old.loaded self.new.loaded }
-        ensures room { length self.new.loaded.room ≡ length self.old.loaded.room }
         ensures bases { bases_of self.new ≡ bases_of self.old }
         ensures traces { traces_of self.new ≡ traces_of self.old }
         ensures payloads { payloads_of self.new ≡ payloads_of self.old }
@@ -280,7 +278,6 @@ impl<T: Copy> TraceStore<T> {
         ensures order { self.new.order ≡ self.old.order }
         ensures slots { self.new.slots ≡ self.old.slots }
         ensures loaded { IsStill self.old.loaded self.new.loaded }
-        ensures room { length self.new.loaded.room ≡ length self.old.loaded.room }
         ensures bases { bases_of self.new ≡ bases_of self.old }
         ensures traces { traces_of self.new ≡ traces_of self.old }
         ensures payloads { payloads_of self.new ≡ payloads_of self.old }
@@ -323,7 +320,6 @@ impl<T: Copy> TraceStore<T> {
         ensures order { self.new.order ≡ self.old.order }
         ensures slots { self.new.slots ≡ self.old.slots }
         ensures loaded { IsStill self.old.loaded self.new.loaded }
-        ensures room { length self.new.loaded.room ≡ length self.old.loaded.room }
         ensures bases { bases_of self.new ≡ bases_of self.old }
         ensures traces { traces_of self.new ≡ traces_of self.old }
         ensures payloads { payloads_of self.new ≡ payloads_of self.old }

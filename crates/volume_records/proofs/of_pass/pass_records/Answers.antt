@@ -1,4 +1,4 @@
-use Rattle.std.proofs.Common.{◌≡◌, ◌+◌, ◌≤◌, ◌∙◌, ◌++◌, ◌∷◌, [], false, ℕ, List, Result, Ok, Err, OnOk, length, ap, subst, sym, arith}
+use Rattle.std.proofs.Common.{◌≡◌, ◌+◌, ◌∙◌, false, ℕ, List, Result, Ok, Err, OnOk, length, ap, subst, sym, arith}
 use Rattle.std.specs.Prelude.{is_err}
 use Rattle.std.proofs.lemmas.List.{length_push}
 use Rattle.trace_record.specs.declared.packed_record.PackedRecord.{PackedRecord}

@@ -3,9 +3,9 @@
 //! [`run`] loads a volume, reads a script whole and runs its lines; [`session`] loads a volume and
 //! answers the lines of a reader one by one, with an empty line behind each answer. Both answer by
 //! [`RunEnd`], which is the whole report of a run. [`run_on_disk`] and [`session_on_disk`] do the
-//! same over a file whose bytes stay on disk, and give the volume back beside the end. They take memory for the volume and for lines,
-//! and tell want of it as L16, P03 or E11; to print a reply takes none. Lines count from 1, those
-//! that print nothing too; traces count from 1.
+//! same over a file whose bytes stay on disk, and give the volume back beside the end. They take
+//! memory for the volume and for lines, and tell want of it as L16, P03 or E11; to print a reply
+//! takes none. Lines count from 1, those that print nothing too; traces count from 1.
 #![tactic(auto)]
 
 mod answering;

@@ -123,7 +123,7 @@ fn a_session_on_disk_is_one_call(rt: HostRuntime) -> Result<(), Fail> {
     let mut lines = Source::new(StepReader::new(b"count\n", 4096, u64::MAX));
     let mut answers = Sink::new(Vec::new(alloc));
     let mut out = Sink::new(Vec::new(alloc));
-    for more in [1, 0] {
+    for (more, wanted) in [(1, Some(LoadFault::ReadFailed)), (0, None)] {
         let run = session_on_disk(
             alloc,
             fs::open(&rt, "session.sgy")?,
@@ -134,7 +134,7 @@ fn a_session_on_disk_is_one_call(rt: HostRuntime) -> Result<(), Fail> {
             options(false, false)?,
         );
         let fault = run.volume.as_ref().err().map(|refused| refused.fault());
-        assert_eq!(rt; fault, [None, Some(LoadFault::ReadFailed)].get(more as usize).copied().flatten());
+        assert_eq!(rt; fault, wanted);
     }
     let told = b"load refused L01 read failed\ntraces 3\n\n";
     assert!(rt; answers.into_inner().as_slice() == told.as_slice());

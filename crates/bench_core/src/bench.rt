@@ -19,7 +19,7 @@ ghost use Rattle.bench_rules.specs.Steps.{Step};
 use crate::changes::{change, follow, no_slices};
 use bench_rules::{Answer, AskFault, Edit, Items, Query, Refusal};
 use device_io::{Sink, Source};
-use edit_overlay::SaveFault;
+use edit_overlay::{PassFault, SaveFault};
 use fault_live::Faults;
 use frame_cut::{Limits, LoadFault, Reading};
 use grid_live::Grid;

@@ -33,28 +33,29 @@ memory_stays (OnDisk agreed) new falls inside = absurd inside
 -- ---- what is held
 
 pub IsStill-refl : (h : HeldBytes) → IsStill h h
-IsStill-refl h = record { bytes = refl; standing = Falls-refl h.standing; front = refl; back = refl }
+IsStill-refl h = record { bytes = refl; standing = Falls-refl h.standing; most = refl; front = refl; back = refl }
 
 pub IsStill-trans : (a b c : HeldBytes) → IsStill a b → IsStill b c → IsStill a c
 IsStill-trans a b c first second = record {
   bytes = second.bytes ∙ first.bytes;
   standing = Falls-trans a.standing b.standing c.standing first.standing second.standing;
+  most = second.most ∙ first.most;
   front = second.front ∙ first.front;
   back = second.back ∙ first.back;
 }
 
-there_by : (standing : Standing) (bytes room : List ℕ) (at n : ℕ) → IsInMemory standing → at + n ≤ length bytes → are_there standing bytes room at n
-there_by InMemory bytes room at n inside fits = fits
-there_by (OnDisk agreed) bytes room at n inside fits = absurd inside
+there_by : (standing : Standing) (bytes room : List ℕ) (from at n : ℕ) → IsInMemory standing → at + n ≤ length bytes → are_there standing bytes room from at n
+there_by InMemory bytes room from at n inside fits = fits
+there_by (OnDisk agreed) bytes room from at n inside fits = absurd inside
 
 -- in memory all bytes are there to be lent
 pub there_in_memory : (h : HeldBytes) (at n : ℕ) → IsInMemory h.standing → at + n ≤ length h.bytes → AreThere h at n
-there_in_memory h at n inside fits = there_by h.standing h.bytes h.room at n inside fits
+there_in_memory h at n inside fits = there_by h.standing h.bytes h.room h.from at n inside fits
 
-lent_is : (standing : Standing) (bytes room : List ℕ) (at n : ℕ) → IsInMemory standing → lent_by standing bytes room at n ≡ take n (drop at bytes)
-lent_is InMemory bytes room at n inside = refl
-lent_is (OnDisk agreed) bytes room at n inside = absurd inside
+lent_is : (standing : Standing) (bytes room : List ℕ) (from at n : ℕ) → IsInMemory standing → lent_by standing bytes room from at n ≡ take n (drop at bytes)
+lent_is InMemory bytes room from at n inside = refl
+lent_is (OnDisk agreed) bytes room from at n inside = absurd inside
 
 -- in memory the bytes themselves are lent
 pub lent_in_memory : (h : HeldBytes) (at n : ℕ) → IsInMemory h.standing → lent_of h at n ≡ take n (drop at h.bytes)
-lent_in_memory h at n inside = lent_is h.standing h.bytes h.room at n inside
+lent_in_memory h at n inside = lent_is h.standing h.bytes h.room h.from at n inside

@@ -1,5 +1,5 @@
 -- What a volume's base shows: its bytes, and whether they still stand.
-use Rattle.std.specs.Prelude.{ℕ, ◌≡◌, ◌+◌, ◌≤◌, Bool, IsTrue, List, length, take, drop}
+use Rattle.std.specs.Prelude.{ℕ, ◌≡◌, ◌+◌, ◌-◌, ◌≤◌, Bool, IsTrue, List, length, take, drop}
 use Rattle.std.specs.Coded.{Unit-prop}
 use mathlib.Core.HLevel.{⊥_prop}
 
@@ -28,18 +28,22 @@ Falls InMemory new = new ≡ InMemory
 Falls (OnDisk agreed) InMemory = ⊥
 Falls (OnDisk agreed) (OnDisk later) = IsTrue later → IsTrue agreed
 
--- bytes that were loaded, their standing, what was read last, and how many of the first and of the last ones are kept
+-- bytes that were loaded and their standing, which of them were read last and from which place on, how many there is room
+-- for, and how many of the first and of the last ones are kept
 pub record HeldBytes : Type 0 where
   pub bytes : List ℕ
   pub standing : Standing
   pub room : List ℕ
+  pub from : ℕ
+  pub most : ℕ
   pub front : ℕ
   pub back : ℕ
 
--- the same bytes, of which as many are kept, and which stand as they did or have fallen
+-- the same bytes, with as much room, of which as many are kept, and which stand as they did or have fallen
 pub record IsStill (old new : HeldBytes) : Type 0 where
   pub bytes : new.bytes ≡ old.bytes
   pub standing : Falls old.standing new.standing
+  pub most : new.most ≡ old.most
   pub front : new.front ≡ old.front
   pub back : new.back ≡ old.back
 
@@ -48,23 +52,30 @@ pub record HasGrown (old new : HeldBytes) : Type 0 where
   pub begins : take (length old.bytes) new.bytes ≡ old.bytes
   pub standing : new.standing ≡ old.standing
   pub room : new.room ≡ old.room
+  pub from : new.from ≡ old.from
+  pub most : new.most ≡ old.most
   pub front : new.front ≡ old.front
   pub back : new.back ≡ old.back
 
 -- what is lent: the bytes themselves, or what was read last
-abbrev pub lent_by : Standing → List ℕ → List ℕ → ℕ → ℕ → List ℕ
-lent_by InMemory bytes room at n = take n (drop at bytes)
-lent_by (OnDisk agreed) bytes room at n = take n room
+abbrev pub lent_by : Standing → (bytes room : List ℕ) (from at n : ℕ) → List ℕ
+lent_by InMemory bytes room from at n = take n (drop at bytes)
+lent_by (OnDisk agreed) bytes room from at n = take n (drop (at - from) room)
 
--- what is lent: so many bytes from a place on, or on disk the front of the room
+-- what is lent: so many bytes from a place on, on disk of those that were read last
 abbrev pub lent_of : HeldBytes → ℕ → ℕ → List ℕ
-lent_of h at n = lent_by h.standing h.bytes h.room at n
+lent_of h at n = lent_by h.standing h.bytes h.room h.from at n
 
--- so many bytes from a place on lie in memory, or on disk fit the room
-abbrev pub are_there : Standing → List ℕ → List ℕ → ℕ → ℕ → Type 0
-are_there InMemory bytes room at n = at + n ≤ length bytes
-are_there (OnDisk agreed) bytes room at n = n ≤ length room
+-- so many bytes from a place on are among those that stand in a room, which begin at `from`
+pub record StandIn (from : ℕ) (room : List ℕ) (at n : ℕ) : Type 0 where
+  pub behind : from ≤ at
+  pub within : at + n ≤ from + length room
+
+-- so many bytes from a place on lie in memory, or on disk are among those that were read last
+abbrev pub are_there : Standing → (bytes room : List ℕ) (from at n : ℕ) → Type 0
+are_there InMemory bytes room from at n = at + n ≤ length bytes
+are_there (OnDisk agreed) bytes room from at n = StandIn from room at n
 
 -- so many bytes are there to be lent
 abbrev pub AreThere : HeldBytes → ℕ → ℕ → Type 0
-AreThere h at n = are_there h.standing h.bytes h.room at n
+AreThere h at n = are_there h.standing h.bytes h.room h.from at n

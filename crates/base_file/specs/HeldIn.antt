@@ -2,6 +2,8 @@
 use Rattle.std.specs.Prelude.{ℕ, ◌≡◌, ◌-◌, ◌≤◌, true, List, [], length, take, drop}
 use Rattle.base_file.specs.Disks.{bytes_of, bytes_so_far, is_agreed}
 use Rattle.base_file.specs.HeldBytes.{Standing, InMemory, OnDisk, HeldBytes}
+use Rattle.base_file.specs.Rooms.{read_last, IsOf}
+use Rattle.base_file.specs.declared.room.Room.{Room}
 use Rattle.base_file.specs.declared.source.Source.{Source}
 use Rattle.base_file.specs.declared.source.Source.TheVariants.{Memory, Disk, Pass}
 use Rattle.base_file.specs.declared.held.Held.TheInside.{Inside}
@@ -29,7 +31,9 @@ abbrev pub held_of : Inside → HeldBytes
 held_of h = record {
   bytes = bytes_in h.source;
   standing = standing_in h.source;
-  room = h.room.items;
+  room = read_last h.room;
+  from = h.room.from;
+  most = length h.room.block.items;
   front = kept_count h.source h.front.items;
   back = kept_count h.source h.back.items;
 }
@@ -46,6 +50,13 @@ AreEndsIn (Memory m) first last = Unit {0}
 AreEndsIn (Disk d) first last = AreEnds (bytes_of d) first last
 AreEndsIn (Pass l) first last = (first ≡ []) × (last ≡ [])
 
--- what is kept of a file on disk are its first bytes and its last
-abbrev pub AreKept : Inside → Type 0
-AreKept h = AreEndsIn h.source h.front.items h.back.items
+-- of a file on disk, what stands in the room are its bytes, if each read so far gave them
+abbrev pub IsRoomIn : Source → Room → Type 0
+IsRoomIn (Memory m) room = Unit {0}
+IsRoomIn (Disk d) room = IsOf (bytes_of d) (is_agreed d) room
+IsRoomIn (Pass l) room = Unit {0}
+
+-- what is kept of a file on disk are its first bytes and its last, and those that were read last
+pub record AreKept (h : Inside) : Type 0 where
+  pub ends : AreEndsIn h.source h.front.items h.back.items
+  pub room : IsRoomIn h.source h.room

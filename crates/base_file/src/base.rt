@@ -1,5 +1,6 @@
 // Bytes that were loaded.
-ghost use Rattle.std.specs.Prelude.{ℕ, Bool, List, ◌≡◌, ◌+◌, ◌≤◌, length, take, drop, IsTrue, OnOk, OnErr};
+ghost use Rattle.std.specs.Prelude.{ℕ, Bool, List, ◌≡◌, ◌+◌, ◌≤◌, length, take, drop, IfErr, IsTrue, OnOk, OnErr};
+ghost use Rattle.base_file.specs.Faults.{IsFaultOfRead};
 
 use crate::read_fault::ReadFault;
 
@@ -28,5 +29,6 @@ pub trait Base {
             out.new ≡ take (length out.old) (drop at (bytes self.old))) }
         ensures exact { IsTrue (agreed self.old) →
             out.new ≡ take (length out.old) (drop at (bytes self.old)) → IsTrue (agreed self.new) }
+        ensures fault { IfErr result IsFaultOfRead }
         ensures failed { OnErr result (agreed self.new ≡ agreed self.old) };
 }

@@ -1,5 +1,6 @@
 // Bytes that stay on disk.
-ghost use Rattle.std.specs.Prelude.{◌≡◌, ◌+◌, ◌≤◌, ◌<◌, ◌^◌, length, take, drop, IsTrue, OnOk, OnErr};
+ghost use Rattle.std.specs.Prelude.{◌≡◌, ◌+◌, ◌≤◌, ◌<◌, ◌^◌, length, take, drop, IfErr, IsTrue, OnOk, OnErr};
+ghost use Rattle.base_file.specs.Faults.{IsFaultOfRead};
 ghost use Rattle.base_file.specs.Seen.{joined, all_as};
 
 use crate::base::Base;
@@ -36,6 +37,15 @@ impl<F> Disk<F> {
             later: Log::new(),
         }
     }
+
+    // What the pass gave.
+    pub(crate) fn into_log(self) -> Log
+    where
+        F: Drop,
+        ensures { joined result.events ≡ bytes_of self }
+    {
+        self.first
+    }
 }
 
 impl<F: FileExt> Base for Disk<F> {
@@ -58,6 +68,7 @@ impl<F: FileExt> Base for Disk<F> {
 // what a file gives.
 fn fill<F: FileExt>(file: &F, at: u64, out: &mut [u8]) -> Result<(), ReadFault>
     requires { at + length out.old < 2 ^ 64 }
+    ensures { IfErr result IsFaultOfRead }
 {
     let mut done = 0;
     'turns: while done < out.len() {

@@ -1,23 +1,25 @@
 // The bytes under a volume.
-ghost use Rattle.std.specs.Prelude.{◌≡◌, ◌+◌, ◌-◌, ◌≤◌, ◌↔◌, ◌⊎◌, ◌++◌, true, [], length, take, drop, IfOk, IsOk, IsTrue, OnErr, OnOk};
+ghost use Rattle.std.specs.Prelude.{◌≡◌, ◌+◌, ◌-◌, ◌≤◌, ◌↔◌, ◌⊎◌, ◌++◌, true, [], length, take, drop, IfErr, IfOk, IsOk, IsTrue, OnErr, OnOk};
 
 use crate::base::Base;
 use crate::disk::Disk;
 use crate::loading::Loading;
+use crate::log::Log;
 use crate::memory::Memory;
 use crate::read_fault::ReadFault;
+use crate::room::{Room, part};
 use crate::source::Source;
 use std::alloc::Global;
 use std::fs::File;
 use std::marker::Model;
 
 /// The bytes under a volume, in memory or on disk, with room for what is lent of them: a clause
-/// sees those that were loaded, their standing, what was read last, and how many of the first and
-/// of the last ones are kept. Places count from 0.
+/// sees those that were loaded and their standing, which of them were read last, how many there is
+/// room for, and how many of the first and of the last ones are kept. Places count from 0.
 #[derive(Drop)]
 pub struct Held {
     source: Source,
-    room: Vec<u8>,
+    room: Room,
 
     // The first bytes of a file on disk, and its last; empty beside bytes in memory.
     front: Vec<u8>,
@@ -38,6 +40,8 @@ impl Model for Held {
 
 impl Held {
     ghost use Rattle.base_file.specs.Disks.{bytes_of, is_agreed};
+    ghost use Rattle.base_file.specs.Faults.{IsFaultOfRead};
+    ghost use Rattle.base_file.specs.Seen.{joined};
     ghost use Rattle.base_file.specs.HeldBytes.{InMemory, OnDisk, HasGrown, IsInMemory, IsStill, IsSure, AreThere, lent_of};
 
     /// Bytes in memory. Takes no memory.
@@ -49,7 +53,7 @@ impl Held {
     {
         Held {
             source: Source::Memory(Memory { bytes }),
-            room: Vec::new(alloc),
+            room: Room::new(Vec::new(alloc)),
             front: Vec::new(alloc),
             back: Vec::new(alloc),
         }
@@ -64,13 +68,13 @@ impl Held {
         requires fits { length back.items ≤ length (bytes_of disk) }
         ensures bytes { result.bytes ≡ bytes_of disk }
         ensures standing { result.standing ≡ OnDisk (is_agreed disk) }
-        ensures room { result.room ≡ room.items }
+        ensures most { result.most ≡ length room.items }
         ensures front { result.front ≡ length front.items }
         ensures back { result.back ≡ length back.items }
     {
         Held {
             source: Source::Disk(disk),
-            room,
+            room: Room::new(room),
             front,
             back,
         }
@@ -84,7 +88,7 @@ impl Held {
     {
         Held {
             source: Source::Pass(Loading::new(file)),
-            room: Vec::new(alloc),
+            room: Room::new(Vec::new(alloc)),
             front: Vec::new(alloc),
             back: Vec::new(alloc),
         }
@@ -100,6 +104,8 @@ impl Held {
         ensures failed { OnErr result (self.new.bytes ≡ self.old.bytes) }
         ensures standing { self.new.standing ≡ self.old.standing }
         ensures room { self.new.room ≡ self.old.room }
+        ensures from { self.new.from ≡ self.old.from }
+        ensures most { self.new.most ≡ self.old.most }
         ensures front { self.new.front ≡ self.old.front }
         ensures back { self.new.back ≡ self.old.back }
     {
@@ -129,7 +135,7 @@ impl Held {
         requires fits { length back.items ≤ length self.bytes }
         ensures bytes { result.bytes ≡ self.bytes }
         ensures standing { result.standing ≡ self.standing }
-        ensures room { ¬ IsInMemory self.standing → result.room ≡ room.items }
+        ensures most { ¬ IsInMemory self.standing → result.most ≡ length room.items }
         ensures front { ¬ IsInMemory self.standing → result.front ≡ length front.items }
         ensures back { ¬ IsInMemory self.standing → result.back ≡ length back.items }
     {
@@ -148,6 +154,25 @@ impl Held {
             },
             Source::Disk(disk) => Held::on_disk(disk, room, front, back),
             Source::Pass(loading) => Held::on_disk(loading.finish(), room, front, back),
+        }
+    }
+
+    /// What the pass over the file gave, the file itself given back: clauses see its bytes. Takes
+    /// no memory.
+    pub fn into_log(self) -> Log
+        requires { ¬ IsInMemory self.standing }
+        ensures { joined result.events ≡ self.bytes }
+    {
+        let Held {
+            source,
+            room: _,
+            front: _,
+            back: _,
+        } = self;
+        match source {
+            Source::Memory(_) => unreachable!(),
+            Source::Disk(disk) => disk.into_log(),
+            Source::Pass(loading) => loading.into_log(),
         }
     }
 
@@ -177,11 +202,11 @@ impl Held {
     /// Takes no memory.
     pub fn most(&self) -> usize
         ensures memory { IsInMemory self.now.standing → length self.now.bytes ≤ result }
-        ensures disk { ¬ IsInMemory self.now.standing → result ≡ length self.now.room }
+        ensures disk { ¬ IsInMemory self.now.standing → result ≡ self.now.most }
     {
         match &self.source {
             Source::Memory(memory) => memory.bytes.len(),
-            Source::Disk(_) | Source::Pass(_) => self.room.len(),
+            Source::Disk(_) | Source::Pass(_) => self.room.block.len(),
         }
     }
 
@@ -197,34 +222,33 @@ impl Held {
         }
     }
 
-    /// Reads n bytes from `at` on, where they are on disk: they can be lent then. Takes no memory.
-    /// Refused where the file failed or has fewer bytes than it had, and where they are more than
-    /// there is room for; of bytes in memory never.
+    /// Reads n bytes from `at` on, where they are on disk: they can be lent then. Where they were
+    /// read last, and stand in the room still, the file is not asked: a second look at a trace
+    /// reads nothing. Where they begin among those that were read last, or right behind them, as
+    /// many bytes are read as there is room for; and where the file failed in that, or they begin
+    /// elsewhere, these n alone. Takes no memory. Refused where the file failed or has fewer bytes
+    /// than it had, after which none stand in the room, and where they are more than there is room
+    /// for; of bytes in memory never.
     #[inline]
     pub fn fetch(&mut self, at: u64, n: usize) -> Result<(), ReadFault>
         requires { at + n ≤ length self.old.bytes }
         ensures still { IsStill self.old self.new }
-        ensures room { length self.new.room ≡ length self.old.room }
         ensures there { OnOk result (AreThere self.new at n) }
         ensures size { OnOk result (length (lent_of self.new at n) ≡ n) }
         ensures bytes { OnOk result (IsSure self.new.standing →
             lent_of self.new at n ≡ take n (drop at self.old.bytes)) }
+        ensures fault { IfErr result IsFaultOfRead }
         ensures memory { IsInMemory self.old.standing → IsOk result }
+        ensures again { AreThere self.old at n → self.new ≡ self.old }
     {
         match &mut self.source {
             Source::Memory(_) => Ok(()),
-            Source::Disk(disk) => {
-                if n > self.room.len() {
-                    return Err(ReadFault::TooLarge);
-                }
-                read_front(disk, at, n, self.room.as_mut_slice())?;
-                Ok(())
-            }
+            Source::Disk(disk) => self.room.fetch(disk, at, n),
             Source::Pass(_) => Err(ReadFault::ReadFailed),
         }
     }
 
-    /// What was read last, or the bytes themselves, of those in memory. Takes no memory.
+    /// n bytes from `at` on, of those that were read last, or of those in memory. Takes no memory.
     #[inline]
     pub fn lent(&self, at: u64, n: usize) -> &[u8]
         requires { AreThere self.now at n }
@@ -232,7 +256,7 @@ impl Held {
     {
         match &self.source {
             Source::Memory(memory) => part(memory.bytes.as_slice(), at, n),
-            Source::Disk(_) | Source::Pass(_) => &self.room[..n],
+            Source::Disk(_) | Source::Pass(_) => self.room.lent(at, n),
         }
     }
 
@@ -256,27 +280,4 @@ impl Held {
             Source::Pass(_) => self.front.as_slice(),
         }
     }
-}
-
-// n of the bytes, from `at` on.
-#[inline]
-fn part(bytes: &[u8], at: u64, n: usize) -> &[u8]
-    requires { at + n ≤ length bytes.now }
-    ensures { result.now ≡ take n (drop at bytes.now) }
-{
-    let start = at as usize;
-    &bytes[start..start + n]
-}
-
-// Reads n bytes from `at` on into the front of the room.
-fn read_front<B: Base>(base: &mut B, at: u64, n: usize, room: &mut [u8]) -> Result<(), ReadFault>
-    requires inside { at + n ≤ length (B.bytes base.old) }
-    requires room { n ≤ length room.old }
-    ensures bytes { B.bytes base.new ≡ B.bytes base.old }
-    ensures falls { IsTrue (B.agreed base.new) → IsTrue (B.agreed base.old) }
-    ensures read { OnOk result (IsTrue (B.agreed base.new) →
-        take n room.new ≡ take n (drop at (B.bytes base.old))) }
-{
-    base.read(at, &mut room[..n])?;
-    Ok(())
 }

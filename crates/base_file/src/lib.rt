@@ -8,8 +8,9 @@
 //! is open.
 //!
 //! `Held` is the one of the two that a volume stands on, with room for what is lent; its `Standing`
-//! says which. What is to be seen is read first (`fetch`), and lent then (`lent`). The first bytes
-//! of a file on disk and its last are kept, and shown without a read (`edge`). A file that is
+//! says which. What is to be seen is read first (`fetch`), and lent then (`lent`); what was read
+//! last stays at hand, and neighbours are read by a block. The first bytes of a file on disk and
+//! its last are kept, and shown without a read (`edge`). A file that is
 //! being loaded is held too (`Held::on_pass`): its bytes are those that the pass gave so far
 //! (`read_on`), until it is the file on disk (`settle`). No call takes memory: `Held::in_memory`,
 //! `Held::on_disk` and `settle` are given theirs.
@@ -22,12 +23,14 @@ mod loading;
 mod log;
 mod memory;
 mod read_fault;
+mod room;
 mod source;
 
 pub use crate::base::Base;
 pub use crate::disk::Disk;
 pub use crate::held::Held;
 pub use crate::loading::Loading;
+pub use crate::log::Log;
 pub use crate::memory::Memory;
 pub use crate::read_fault::ReadFault;
 

@@ -61,6 +61,15 @@ impl<F: FileExt> Loading<F> {
         self.size
     }
 
+    // What the pass gave so far.
+    pub(crate) fn into_log(self) -> Log
+    where
+        F: Drop,
+        ensures { joined result.events ≡ bytes_so_far self }
+    {
+        self.first
+    }
+
     /// The file as it was read so far. Takes no memory.
     pub fn finish(self) -> Disk<F>
         ensures bytes { bytes_of result ≡ bytes_so_far self }

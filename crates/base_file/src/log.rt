@@ -5,9 +5,9 @@ ghost use Rattle.base_file.specs.Seen.{Seen, seen_of};
 
 use std::marker::{Model, PhantomData};
 
-// What reads gave, the last one first. It takes no memory: no program can look at it. Its two
-// calls, which do nothing, are proved by hand. Only the reads of `Loading` and `Disk` may note,
-// each what it gave, and where.
+/// What reads gave, the last one first: only clauses see it, and it takes no memory. Only the reads
+/// of `Loading` and `Disk` note, each what it gave, and where; their two calls here, which do
+/// nothing, are proved by hand.
 #[derive(Drop)]
 pub struct Log {
     marker: PhantomData<u8>,
@@ -19,8 +19,8 @@ impl Model for Log {
 }
 
 impl Log {
-    // No reads.
-    pub(crate) fn new() -> Log
+    /// No reads.
+    pub fn new() -> Log
         ensures { result.events ≡ [] }
     {
         Log {

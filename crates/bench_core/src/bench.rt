@@ -19,7 +19,7 @@ ghost use Rattle.bench_rules.specs.Steps.{Step};
 use crate::changes::{change, follow, no_slices};
 use bench_rules::{Answer, AskFault, Edit, Items, Query, Refusal};
 use device_io::{Sink, Source};
-use edit_overlay::SaveFault;
+use edit_overlay::{PassFault, SaveFault};
 use fault_live::Faults;
 use frame_cut::{Limits, LoadFault, Reading};
 use grid_live::Grid;
@@ -74,6 +74,7 @@ impl Bench {
         ensures reading { IfOk result (λ b. b.state.reading ≡ reading) }
         ensures limits { IfOk result (λ b. b.state.limits ≡ limits) }
         ensures memory { IfOk result (λ b. b.state.on_disk ≡ false) }
+        ensures loaded { IfOk result (λ b. b.loaded ≡ bytes_of b.state.volume) }
         ensures agreed { IfOk result (λ b. IsTrue b.agreed) }
         ensures refused { IfErr result (λ fault. IsLoadFault (R.remaining reader.old.inner) reading
             limits fault) }
@@ -100,9 +101,10 @@ impl Bench {
         size: u64,
         reading: Reading,
         limits: Limits,
-    ) -> Result<Bench, LoadFault>
+    ) -> Result<Bench, PassFault>
         ensures cut { IfOk result (λ b. IsCut (bytes_of b.state.volume) reading limits
             b.state.volume) }
+        ensures loaded { IfOk result (λ b. b.loaded ≡ bytes_of b.state.volume) }
         ensures size { IfOk result (λ b. length (bytes_of b.state.volume) ≡ size) }
         ensures looks { IfOk result (λ b. b.looks ≤ load_looks b.state.volume) }
         ensures kept { IfOk result (λ b. b.kept ≡ kept_after_load) }
@@ -111,12 +113,13 @@ impl Bench {
         ensures limits { IfOk result (λ b. b.state.limits ≡ limits) }
         ensures place { IfOk result (λ b. b.state.on_disk ≡ true) }
         ensures agreed { IfOk result (λ b. IsTrue b.agreed) }
-        ensures refused { IfErr result (IsPassFault size reading limits) }
+        ensures refused { IfErr result
+            (λ refused. IsPassFault size reading limits refused.read refused.fault) }
     {
-        let volume = LiveVolume::load_on_disk(alloc, file, size, reading, limits)?;
         let Ok(slices) = no_slices(alloc) else {
-            return Err(LoadFault::OutOfMemory);
+            return Err(PassFault::unread(LoadFault::OutOfMemory));
         };
+        let volume = LiveVolume::load_on_disk(alloc, file, size, reading, limits)?;
         Ok(Bench { volume, slices })
     }
 
@@ -150,10 +153,12 @@ impl Bench {
         ensures err { OnErr result (self.new.state ≡ self.old.state) }
         ensures same { IsReadAs self.old.state self.new.state }
         ensures agreed { IsTrue self.new.agreed → IsTrue self.old.agreed }
+        ensures loaded { self.new.loaded ≡ self.old.loaded }
         ensures looks { RisesAtMost self.old.looks self.new.looks
             (edit_looks self.old.state edit.now) }
         ensures kept { IsTrue self.new.agreed → self.new.kept ≡ kept_after_reply result
             (kept_after_edit self.old.state edit.now self.old.kept) self.old.kept }
+        ensures kept_err { OnErr result (self.new.kept ≡ self.old.kept) }
     {
         self.volume.stands();
         let moved = change(&mut self.volume, alloc, edit)?;
@@ -169,6 +174,7 @@ impl Bench {
         ensures reply { IsTrue self.new.agreed → IsReply self.old.state query.now result }
         ensures unchanged { self.new.state ≡ self.old.state }
         ensures agreed { IsTrue self.new.agreed → IsTrue self.old.agreed }
+        ensures loaded { self.new.loaded ≡ self.old.loaded }
         ensures looks { RisesAtMost self.old.looks self.new.looks
             (query_looks self.old.state self.old.kept query.now) }
         ensures kept { self.new.kept ≡ kept_after_reply result
@@ -186,6 +192,7 @@ impl Bench {
             IsReply self.old.state (queries.Slice k) result }
         ensures unchanged { self.new.state ≡ self.old.state }
         ensures agreed { IsTrue self.new.agreed → IsTrue self.old.agreed }
+        ensures loaded { self.new.loaded ≡ self.old.loaded }
         ensures looks { RisesAtMost self.old.looks self.new.looks
             (query_looks self.old.state self.old.kept (queries.Slice k)) }
         ensures kept { self.new.kept ≡ kept_after_reply result
@@ -249,6 +256,7 @@ impl Bench {
         ensures failures { CountsSaveFailure result writer.old.failures writer.new.failures }
         ensures unchanged { self.new.state ≡ self.old.state }
         ensures agreed { IsTrue self.new.agreed → IsTrue self.old.agreed }
+        ensures loaded { self.new.loaded ≡ self.old.loaded }
         ensures looks { self.new.looks ≡ self.old.looks }
         ensures kept { self.new.kept ≡ self.old.kept }
     {

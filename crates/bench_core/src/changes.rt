@@ -29,6 +29,7 @@ pub fn change(volume: &mut LiveVolume, alloc: Global, edit: &Edit) -> Result<boo
     ensures err { OnErr result (volume.new.state ≡ volume.old.state) }
     ensures same { IsReadAs volume.old.state volume.new.state }
     ensures agreed { IsTrue volume.new.agreed → IsTrue volume.old.agreed }
+    ensures loaded { volume.new.loaded ≡ volume.old.loaded }
     ensures looks { RisesAtMost volume.old.looks volume.new.looks
         (edit_looks volume.old.state edit.now) }
     ensures moved { IfOk result (λ moved. IsTrue volume.new.agreed → moved

@@ -56,11 +56,12 @@ AreTriplesOf s triples = Same (tally_of_faults triples) (tally_of keys_of_faults
 abbrev pub AreSlicesOf : State → Cache → Type 0
 AreSlicesOf s cache = AreRight s.volume.head s.fields s.volume.traces cache
 
--- a state, how often traces were looked at, whether each read of the loaded bytes gave what the load read, and the numbers
--- of the slices that are kept, the last asked first
+-- a state, how often traces were looked at, the bytes that the load read, whether each read of them since gave the same,
+-- and the numbers of the slices that are kept, the last asked first
 pub record LiveSession : Type 0 where
   pub state : State
   pub looks : ℕ
+  pub loaded : List ℕ
   pub agreed : Bool
   pub kept : List ℕ
 

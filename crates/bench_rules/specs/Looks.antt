@@ -12,6 +12,8 @@ use Rattle.bench_rules.specs.Kept.{is_kept}
 use Rattle.bench_rules.specs.ManyTraces.{each_of}
 use Rattle.bench_rules.specs.Places.{place_in_trace}
 use Rattle.bench_rules.specs.State.{State}
+use Rattle.sample_codes.specs.declared.integer_format.IntegerFormat.{IntegerFormat}
+use Rattle.sample_codes.specs.Formats.{values}
 
 -- the most traces that a load looks at: each once, for its record
 abbrev pub load_looks : Volume → ℕ
@@ -22,24 +24,33 @@ abbrev pub looks_at : {X : Type 0} → Option X → ℕ → ℕ
 looks_at None n = 0
 looks_at (Some place) n = n
 
+-- so many looks, but none where there is no trace p
+abbrev pub trace_looks : Volume → ℕ → ℕ → ℕ
+trace_looks v p n = if is_trace v p then n else 0
+
+-- so many looks, but none where the samples have no values
+abbrev pub value_looks : Option IntegerFormat → ℕ → ℕ
+value_looks None n = 0
+value_looks (Some format) n = n
+
 -- the number of traces a to b; none where a is no trace, or b is none of those from a on
 abbrev pub range_looks : Volume → ℕ → ℕ → ℕ
 range_looks v a b = if is_trace v a && nat_le a b && nat_le b (count_of v) then b + 1 - a else 0
 
 -- the most traces that an edit looks at; a geometry name bound anew gives each trace another record, and a field
--- without a place none
+-- without a place, or a trace that is not there, none
 abbrev pub edit_looks : State → Edit → ℕ
-edit_looks s (edits.Set p field x) = looks_at (place_in_trace s.fields field) 2
+edit_looks s (edits.Set p field x) = looks_at (place_in_trace s.fields field) (trace_looks s.volume p 2)
 edit_looks s (edits.SetBin field x) = 0
 edit_looks s (edits.SetText q text) = 0
 edit_looks s (edits.Map name place) = if is_geometry name then count_of s.volume else 0
 edit_looks s (edits.Unmap name) = 0
-edit_looks s (edits.Patch p k values) = 2
-edit_looks s (edits.Blank p) = 1
-edit_looks s (edits.Copy q p) = 2
+edit_looks s (edits.Patch p k values) = trace_looks s.volume p 2
+edit_looks s (edits.Blank p) = 0
+edit_looks s (edits.Copy q p) = trace_looks s.volume q 2
 edit_looks s (edits.Delete p) = 0
 edit_looks s (edits.Move a b) = 0
-edit_looks s (edits.Resize p m) = 2
+edit_looks s (edits.Resize p m) = trace_looks s.volume p 2
 edit_looks s (edits.Renumber a b field first step) = looks_at (place_in_trace s.fields field) (2 * range_looks s.volume a b)
 edit_looks s (edits.Compute a b field source steps) = looks_at (formula_of s.fields field source steps) (2 * range_looks s.volume a b)
 edit_looks s (edits.Sort a b names falls) = looks_at (each_of (place_in_trace s.fields) names) (range_looks s.volume a b)
@@ -48,14 +59,14 @@ edit_looks s (edits.Sort a b names falls) = looks_at (each_of (place_in_trace s.
 abbrev pub query_looks : State → List ℕ → Query → ℕ
 query_looks s kept queries.Count = 0
 query_looks s kept queries.Info = 0
-query_looks s kept (queries.Get p field) = looks_at (place_in_trace s.fields field) 1
+query_looks s kept (queries.Get p field) = looks_at (place_in_trace s.fields field) (trace_looks s.volume p 1)
 query_looks s kept (queries.GetBin field) = 0
 query_looks s kept (queries.Line b q) = 0
 query_looks s kept (queries.Lines b) = 0
 query_looks s kept (queries.Code b) = 0
 query_looks s kept queries.Stanzas = 0
 query_looks s kept queries.Fields = 0
-query_looks s kept (queries.Sample p k) = 1
+query_looks s kept (queries.Sample p k) = trace_looks s.volume p 1
 query_looks s kept (queries.Geometry p) = 0
 query_looks s kept (queries.Stat p) = 0
 query_looks s kept (queries.Fold i c) = 0
@@ -65,9 +76,9 @@ query_looks s kept queries.Crosslines = 0
 query_looks s kept queries.Histogram = 0
 query_looks s kept (queries.Range quantity) = 0
 query_looks s kept queries.Totals = 0
-query_looks s kept (queries.Slice k) = if is_kept k kept then 0 else count_of s.volume
+query_looks s kept (queries.Slice k) = value_looks (values s.volume.head.format) (if is_kept k kept then 0 else count_of s.volume)
 query_looks s kept queries.Faults = 0
 query_looks s kept (queries.Table a b fields) = looks_at (each_of (place_in_trace s.fields) fields) (range_looks s.volume a b)
 query_looks s kept (queries.Find a b field low high) = looks_at (place_in_trace s.fields field) (range_looks s.volume a b)
-query_looks s kept (queries.Header p) = 1
+query_looks s kept (queries.Header p) = trace_looks s.volume p 1
 query_looks s kept (queries.Extremes a b) = range_looks s.volume a b

@@ -6,7 +6,8 @@ use Rattle.frame_cut.specs.Volume.{Volume, bytes_of}
 use Rattle.trace_store.specs.Ahead.{traces_ahead}
 use Rattle.edit_overlay.specs.CountedVolume.{CountedVolume, with_agreed}
 use Rattle.edit_overlay.specs.Held.{looked_of, volume_ahead, volume_with, IsHeld, IsReread}
-use Rattle.edit_overlay.specs.Standings.{is_on_disk, is_sure}
+use Rattle.edit_overlay.specs.Loaded.{Loaded}
+use Rattle.edit_overlay.specs.Standings.{is_sure, loaded_in}
 use Rattle.trace_store.specs.Stores.{payloads_ahead, payloads_of, traces_of}
 use Rattle.trace_store.specs.declared.prepared.Prepared.{Prepared}
 use Rattle.trace_store.specs.declared.store.TraceStore.{TraceStore}
@@ -68,19 +69,23 @@ module _ {T : Type 0} where
       let w : volume_ahead o.text o.bin t o.laid.prepared ≡ volume_ahead o.text o.bin o.laid.store o.laid.prepared =
       ap (λ (x : Volume). record x { traces = traces_ahead t o.laid.prepared }) v ∙ ap (λ (ts : List (List ℕ)). record s { traces = ts }) (ahead_kept o.laid.store t o.laid.prepared same) in
       let first : looked_of (record o { laid = record o.laid { store = t } }) ≡ record (looked_of (record o { laid = record o.laid { store = t } })) { volume = s } = ap (λ (x : Volume). record (looked_of (record o { laid = record o.laid { store = t } })) { volume = x }) v in
-      let second : record (looked_of (record o { laid = record o.laid { store = t } })) { volume = s } ≡ record (looked_of o) { payloads = payloads_of t; payloads_prepared = payloads_ahead (payloads_of t) o.laid.prepared; on_disk = is_on_disk t.loaded.standing; agreed = is_sure t.loaded.standing } =
-      ap (λ (x : Volume). record (looked_of o) { prepared = x; payloads = payloads_of t; payloads_prepared = payloads_ahead (payloads_of t) o.laid.prepared; on_disk = is_on_disk t.loaded.standing; agreed = is_sure t.loaded.standing }) w in
-      let third : record (looked_of o) { payloads = payloads_of t; payloads_prepared = payloads_ahead (payloads_of t) o.laid.prepared; on_disk = is_on_disk t.loaded.standing; agreed = is_sure t.loaded.standing } ≡ record (looked_of o) { payloads = payloads_of t; payloads_prepared = payloads_ahead (payloads_of t) o.laid.prepared } =
-      ap (λ (l : HeldBytes). record (looked_of o) { payloads = payloads_of t; payloads_prepared = payloads_ahead (payloads_of t) o.laid.prepared; on_disk = is_on_disk l.standing; agreed = is_sure l.standing }) over.loaded in
+      let second : record (looked_of (record o { laid = record o.laid { store = t } })) { volume = s } ≡ record (looked_of o) { payloads = payloads_of t; payloads_prepared = payloads_ahead (payloads_of t) o.laid.prepared; loaded = loaded_in t.loaded; agreed = is_sure t.loaded.standing } =
+      ap (λ (x : Volume). record (looked_of o) { prepared = x; payloads = payloads_of t; payloads_prepared = payloads_ahead (payloads_of t) o.laid.prepared; loaded = loaded_in t.loaded; agreed = is_sure t.loaded.standing }) w in
+      let third : record (looked_of o) { payloads = payloads_of t; payloads_prepared = payloads_ahead (payloads_of t) o.laid.prepared; loaded = loaded_in t.loaded; agreed = is_sure t.loaded.standing } ≡ record (looked_of o) { payloads = payloads_of t; payloads_prepared = payloads_ahead (payloads_of t) o.laid.prepared } =
+      ap (λ (l : HeldBytes). record (looked_of o) { payloads = payloads_of t; payloads_prepared = payloads_ahead (payloads_of t) o.laid.prepared; loaded = loaded_in l; agreed = is_sure l.standing }) over.loaded in
       first ∙ (second ∙ (third ∙ ap (λ (ps : List T). record (looked_of o) { payloads = ps; payloads_prepared = payloads_ahead ps o.laid.prepared }) same.payloads))
 
 -- ---- the loaded bytes were read again
 
 -- two shown volumes of the same parts are one
-same_parts : {T : Type 0} (v v' w w' : Volume) (n : ℕ) (ps ps' qs qs' : List T) (d d' a : Bool) → v ≡ v' → w ≡ w' → ps ≡ ps' → qs ≡ qs' → d ≡ d'
-    → (let x : CountedVolume T = record { volume = v; prepared = w; looks = n; payloads = ps; payloads_prepared = qs; on_disk = d; agreed = a } in x)
-    ≡ record { volume = v'; prepared = w'; looks = n; payloads = ps'; payloads_prepared = qs'; on_disk = d'; agreed = a }
+same_parts : {T : Type 0} (v v' w w' : Volume) (n : ℕ) (ps ps' qs qs' : List T) (d d' : Loaded) (a : Bool) → v ≡ v' → w ≡ w' → ps ≡ ps' → qs ≡ qs' → d ≡ d'
+    → (let x : CountedVolume T = record { volume = v; prepared = w; looks = n; payloads = ps; payloads_prepared = qs; loaded = d; agreed = a } in x)
+    ≡ record { volume = v'; prepared = w'; looks = n; payloads = ps'; payloads_prepared = qs'; loaded = d'; agreed = a }
 same_parts v v' w w' n ps ps' qs qs' d d' a e f g h i = cc
+
+-- the same bytes at the same place are what was loaded
+same_loaded : (b b' : List ℕ) (d d' : Bool) → b ≡ b' → d ≡ d' → (let l : Loaded = record { bytes = b; on_disk = d } in l) ≡ record { bytes = b'; on_disk = d' }
+same_loaded b b' d d' e f = cc
 
 module _ {T : Type 0} (o : Inside T) (t : TraceStore T) (reread : IsReread o.laid.store t) where
   pub same_reread : IsSame o.laid.store t
@@ -114,7 +119,7 @@ module _ {T : Type 0} (o : Inside T) (t : TraceStore T) (reread : IsReread o.lai
   shown_reread =
       let payloads : payloads_of t ≡ payloads_of o.laid.store = same_reread.payloads in
       same_parts _ _ _ _ o.looks _ _ _ _ _ _ (is_sure t.loaded.standing) volume_reread ahead_reread payloads (ap (λ (ps : List T). payloads_ahead ps o.laid.prepared) payloads)
-      (on_disk_stays o.laid.store.loaded.standing t.loaded.standing reread.loaded.standing)
+      (same_loaded _ _ _ _ reread.loaded.bytes (on_disk_stays o.laid.store.loaded.standing t.loaded.standing reread.loaded.standing))
 
 -- the same, where what is laid over the store stands beside it as it did
 module _ {T : Type 0} (o : Inside T) (l : Laid T) (reread : IsReread o.laid.store l.store) (kept : l.prepared ≡ o.laid.prepared) where

@@ -54,6 +54,6 @@ module _ {T : Type 0} (o : CountedVolume T) (i : Inside T) (l : Laid T) (reread 
   has_shape of ts p view same traces head size = (head ∙ same, size ∙ ap (λ (xs : List (List ℕ)). length (slice_index_or xs (p - 1) [])) traces)
 
   -- a read that failed was one on disk
-  pub failed_on_disk : {A E : Type 0} (r : Result A E) (fault : E) → r ≡ Err fault → (IsInMemory i.laid.store.loaded.standing → IsOk r) → IsTrue o.on_disk
+  pub failed_on_disk : {A E : Type 0} (r : Result A E) (fault : E) → r ≡ Err fault → (IsInMemory i.laid.store.loaded.standing → IsOk r) → IsTrue o.loaded.on_disk
   failed_on_disk r fault is memory =
-      subst (λ (x : CountedVolume T). IsTrue x.on_disk) counted (on_disk_else i.laid.store.loaded.standing (λ inside. refused_in_memory r fault is (memory inside)))
+      subst (λ (x : CountedVolume T). IsTrue x.loaded.on_disk) counted (on_disk_else i.laid.store.loaded.standing (λ inside. refused_in_memory r fault is (memory inside)))

@@ -62,10 +62,10 @@ insert_last ts n t is =
 
 -- ---- the head
 
-pub head_fault : (read : List ℕ) (size : ℕ) (reading : Reading) (limits : Limits) (fault : LoadFault) → length read ≤ size → IsFaultOfPass fault ⊎ IsHeadFault read size reading limits fault → IsPassFault size reading limits fault
+pub head_fault : (read : List ℕ) (size : ℕ) (reading : Reading) (limits : Limits) (fault : LoadFault) → length read ≤ size → IsFaultOfPass fault ⊎ IsHeadFault read size reading limits fault → IsPassFault size reading limits read fault
 head_fault read size reading limits fault within (inl (inl failed)) = inl failed
 head_fault read size reading limits fault within (inl (inr memory)) = inr (inl memory)
-head_fault read size reading limits fault within (inr told) = inr (inr (read, within, λ file begun. inl (told file begun)))
+head_fault read size reading limits fault within (inr told) = inr (inr (within, λ file begun. inl (told file begun)))
 
 -- a head has room for what it names
 pub head_room : (read : List ℕ) (size : ℕ) (reading : Reading) (limits : Limits) (h : Head) → length read ≤ size → IsHeadOf read size reading limits h → (h.traces_at + 3200 * h.trailer ≤ size) × (3600 ≤ h.traces_at)
@@ -109,11 +109,10 @@ module _ {T : Type 0} where
   number_of file s es is = ap length is ∙ length-map es (bytes_at file)
 
   pub trace_fault : (p : Inside T) (s : TraceStore T) (fault : LoadFault) → IsPassing p → HasMore p.store s → length s.loaded.bytes ≤ p.size → p.at + 3200 * p.store.head.trailer < p.size
-      → IsFaultOfPass fault ⊎ IsTraceFault s.loaded.bytes p.size p.store.head p.limits (length (traces_of p.store) + 1) p.at fault → IsPassFault p.size p.reading p.limits fault
+      → IsFaultOfPass fault ⊎ IsTraceFault s.loaded.bytes p.size p.store.head p.limits (length (traces_of p.store) + 1) p.at fault → IsPassFault p.size p.reading p.limits s.loaded.bytes fault
   trace_fault p s fault passing more within some (inl (inl failed)) = inl failed
   trace_fault p s fault passing more within some (inl (inr memory)) = inr (inl memory)
   trace_fault p s fault passing more within some (inr told) = inr (inr (
-    s.loaded.bytes,
     within,
     λ file begun.
         let w = passing.walked file (begins_less p.store.loaded.bytes s.loaded.bytes p.size file more.loaded.begins begun) in

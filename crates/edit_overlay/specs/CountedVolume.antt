@@ -1,21 +1,22 @@
--- What an overlay shows: a volume, what it would be with a prepared edit, how often its traces were looked at, where its
--- loaded bytes are, and whether they stand.
+-- What an overlay shows: a volume, what it would be with a prepared edit, how often its traces were looked at, the bytes that
+-- were loaded, and whether they stand.
 use Rattle.std.specs.Prelude.{ℕ, ◌≡◌, ◌+◌, ◌-◌, ◌≤◌, ◌^◌, Bool, IsTrue, List, length, nat_lt, if◌then◌else◌}
 use Rattle.frame_cut.specs.Traces.{trace_at}
 use Rattle.frame_cut.specs.Volume.{Volume}
+use Rattle.edit_overlay.specs.Loaded.{Loaded}
 use Rattle.trace_view.specs.declared.view.TraceView.{TraceView}
 use Rattle.trace_view.specs.Shown.{head_of, bytes_of}
 
 -- a volume and the payload of each of its traces, both as they would be with the edit that is prepared (the same where
--- none is), how often traces were looked at, whether the loaded bytes are on disk, and whether each read of them since the
--- load gave the bytes that the load read: in memory it does
+-- none is), how often traces were looked at, the bytes that were loaded and whether they are on disk, and whether each read of
+-- them since the load gave the bytes that the load read: in memory it does
 pub record CountedVolume (T : Type 0) : Type 0 where
   pub volume : Volume
   pub prepared : Volume
   pub looks : ℕ
   pub payloads : List T
   pub payloads_prepared : List T
-  pub on_disk : Bool
+  pub loaded : Loaded
   pub agreed : Bool
 
 -- the count of looks after one more; it stays at `u64::MAX` once there
@@ -57,7 +58,7 @@ pub record IsSeen {T : Type 0} (old new : CountedVolume T) (n : ℕ) : Type 0 wh
   pub prepared : new.prepared ≡ old.prepared
   pub payloads : new.payloads ≡ old.payloads
   pub payloads_prepared : new.payloads_prepared ≡ old.payloads_prepared
-  pub on_disk : new.on_disk ≡ old.on_disk
+  pub loaded : new.loaded ≡ old.loaded
   pub looks : RisesAtMost old.looks new.looks n
   pub agreed : IsTrue new.agreed → IsTrue old.agreed
 

@@ -7,7 +7,7 @@ use Rattle.frame_cut.specs.Heads.{blocks_of}
 use Rattle.frame_cut.specs.Volume.{Volume, bytes_of}
 use Rattle.trace_store.specs.Ahead.{traces_ahead, IsReadyIfSome}
 use Rattle.edit_overlay.specs.CountedVolume.{CountedVolume}
-use Rattle.edit_overlay.specs.Standings.{is_on_disk, is_sure}
+use Rattle.edit_overlay.specs.Standings.{is_sure, loaded_in}
 use Rattle.trace_store.specs.Fetched.{IsFetched, IsFetchedThen}
 use Rattle.trace_store.specs.declared.prepared.Prepared.{Prepared}
 use Rattle.trace_store.specs.Stores.{payloads_ahead, payloads_of, traces_of}
@@ -37,7 +37,7 @@ looked_of o = record {
   looks = o.looks;
   payloads = payloads_of o.laid.store;
   payloads_prepared = payloads_ahead (payloads_of o.laid.store) o.laid.prepared;
-  on_disk = is_on_disk o.laid.store.loaded.standing;
+  loaded = loaded_in o.laid.store.loaded;
   agreed = is_sure o.laid.store.loaded.standing;
 }
 

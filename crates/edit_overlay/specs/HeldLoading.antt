@@ -6,7 +6,7 @@ use Rattle.frame_cut.specs.Layout.{bytes_at, pieces, volume_at, AreTracesOf}
 use Rattle.frame_cut.specs.Volume.{bytes_of}
 use Rattle.trace_store.specs.Stores.{payloads_of, traces_of}
 use Rattle.edit_overlay.specs.LoadedVolume.{LoadedVolume}
-use Rattle.edit_overlay.specs.Standings.{is_on_disk, is_sure}
+use Rattle.edit_overlay.specs.Standings.{is_sure, loaded_in}
 use Rattle.edit_overlay.specs.declared.loading.Loading.TheInside.{Inside}
 
 -- what is shown: the parts of the file
@@ -15,7 +15,7 @@ loaded_of l = record {
   volume = volume_at l.store.loaded.bytes l.store.head l.extents.items;
   payloads = payloads_of l.store;
   looks = l.looks;
-  on_disk = is_on_disk l.store.loaded.standing;
+  loaded = loaded_in l.store.loaded;
   agreed = is_sure l.store.loaded.standing;
 }
 

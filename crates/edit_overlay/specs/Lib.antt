@@ -3,9 +3,11 @@ pub mod Saving
 pub mod Held
 pub mod HeldLoading
 pub mod CountedVolume
+pub mod Loaded
 pub mod LoadedVolume
 pub mod Looks
 pub mod Standings
 pub mod PassedFile
 pub mod Passing
 pub mod PassReads
+pub mod PassFaultIn

@@ -24,6 +24,7 @@ passed_of p = record {
   reading = p.reading;
   limits = p.limits;
   size = p.size;
+  read = p.store.loaded.bytes;
   at = p.at;
   traces = traces_of p.store;
   payloads = payloads_of p.store;

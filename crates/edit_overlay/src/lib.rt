@@ -12,7 +12,8 @@
 //!
 //! A file comes in as a [`Loading`], which shows its traces one after another and takes a payload
 //! for each; once each has one, it is an overlay. A [`Passing`] does so with a file that stays on
-//! disk, in one pass over it, by blocks.
+//! disk, in one pass over it, by blocks; where it is refused, a [`PassFault`] has the bytes that
+//! were read.
 //!
 //! `load` takes memory for the file's bytes, and like `from_bytes` for a slot for each trace;
 //! `push` for the trace's place in the order; `put` and `put_each`, and what prepares them, for the
@@ -39,6 +40,7 @@ mod bytes;
 mod laid;
 mod loading;
 mod overlay;
+mod pass_fault;
 mod pass_reads;
 mod passing;
 mod reading_in;
@@ -48,6 +50,7 @@ mod writing_out;
 
 pub use crate::loading::Loading;
 pub use crate::overlay::Overlay;
+pub use crate::pass_fault::PassFault;
 pub use crate::passing::Passing;
 pub use crate::save_fault::SaveFault;
 pub use base_file::ReadFault;

@@ -63,7 +63,8 @@ impl<T: Copy> Loading<T> {
         ensures cut { IfOk result (λ l. IsCut (bytes_of l.volume) reading limits l.volume) }
         ensures payloads { IfOk result (λ l. l.payloads ≡ []) }
         ensures looks { IfOk result (λ l. l.looks ≡ 0) }
-        ensures memory { IfOk result (λ l. l.on_disk ≡ false) }
+        ensures memory { IfOk result (λ l. l.loaded.on_disk ≡ false) }
+        ensures loaded { IfOk result (λ l. l.loaded.bytes ≡ bytes_of l.volume) }
         ensures agreed { IfOk result (λ l. IsTrue l.agreed) }
         ensures refused { IfErr result (λ fault. IsLoadFault (R.remaining reader.old.inner) reading
             limits fault) }
@@ -88,7 +89,8 @@ impl<T: Copy> Loading<T> {
         ensures cut { IfOk result (λ l. IsCut bytes.items reading limits l.volume) }
         ensures payloads { IfOk result (λ l. l.payloads ≡ []) }
         ensures looks { IfOk result (λ l. l.looks ≡ 0) }
-        ensures memory { IfOk result (λ l. l.on_disk ≡ false) }
+        ensures memory { IfOk result (λ l. l.loaded.on_disk ≡ false) }
+        ensures loaded { IfOk result (λ l. l.loaded.bytes ≡ bytes_of l.volume) }
         ensures agreed { IfOk result (λ l. IsTrue l.agreed) }
         ensures refused { IfErr result (λ fault. (fault ≡ no_memory) ⊎
             IsRefused bytes.items reading limits fault) }
@@ -162,7 +164,8 @@ impl<T: Copy> Loading<T> {
     /// The overlay of the file, where each trace has its payload. Takes no memory.
     pub fn finish(self) -> Overlay<T>
         requires { length self.payloads ≡ count_of self.volume }
-        ensures { result ≡ overlay_of self }
+        ensures overlay { result ≡ overlay_of self }
+        ensures bytes { result.loaded.bytes ≡ bytes_of result.volume }
     {
         let bytes = self.store.loaded.bytes();
         let text = *array_at::<TEXT_BLOCK_BYTES>(bytes, 0);

@@ -14,11 +14,12 @@ ghost use Rattle.edit_overlay.specs.Saving.{CountsSaveFailure, Saves};
 
 use crate::bytes::{array_at, overwrite};
 use crate::laid::Laid;
+use crate::pass_fault::PassFault;
 use crate::save_fault::SaveFault;
 use crate::writing_out::write_volume;
 use base_file::ReadFault;
 use device_io::Sink;
-use frame_cut::{BINARY_HEADER_BYTES, FILE_HEADER_BYTES, Head};
+use frame_cut::{BINARY_HEADER_BYTES, FILE_HEADER_BYTES, Head, LoadFault};
 use std::alloc::Global;
 use std::io::Write;
 use std::marker::Model;
@@ -53,7 +54,7 @@ impl<T: Copy> Overlay<T> {
     ghost use Rattle.edit_overlay.specs.CountedVolume.{after_look, with_agreed, HasShapeOf, IsViewOf};
     ghost use Rattle.edit_overlay.specs.Held.{volume_with, HasEnds};
     ghost use Rattle.edit_overlay.specs.Looks.{EndsLooked};
-    ghost use Rattle.edit_overlay.specs.Standings.{is_on_disk, is_sure};
+    ghost use Rattle.edit_overlay.specs.Standings.{is_sure, loaded_in};
 
     // An overlay of the store of a loaded file, with its headers, and how often traces were looked
     // at.
@@ -72,7 +73,7 @@ impl<T: Copy> Overlay<T> {
           looks = looks;
           payloads = payloads_of store;
           payloads_prepared = payloads_of store;
-          on_disk = is_on_disk store.loaded.standing;
+          loaded = loaded_in store.loaded;
           agreed = is_sure store.loaded.standing;
         } }
     {
@@ -112,7 +113,7 @@ impl<T: Copy> Overlay<T> {
 
     /// In memory each read agrees. Does nothing: its contract is the law.
     pub fn memory_agrees(&self)
-        ensures { self.now.on_disk ≡ false → IsTrue self.now.agreed }
+        ensures { self.now.loaded.on_disk ≡ false → IsTrue self.now.agreed }
     {
         // Read for the proof alone, which learns how the overlay is held.
         let _length = self.length;
@@ -133,7 +134,7 @@ impl<T: Copy> Overlay<T> {
         ensures there { IfOk result (λ view. IsSome view ↔ IsTrue (is_trace self.old.volume p)) }
         ensures shape { IfOk result (λ view. IfSome view (HasShapeOf self.old.volume p)) }
         ensures read { IfErr result (λ _. IsTrue (is_trace self.old.volume p)
-            × IsTrue self.old.on_disk) }
+            × IsTrue self.old.loaded.on_disk) }
     {
         if p == 0 || p > self.count() {
             return Ok(None);
@@ -192,7 +193,7 @@ impl<T: Copy> Overlay<T> {
         ensures there { IfOk result (λ view. IsSome view ↔ IsTrue (is_trace self.old.prepared p)) }
         ensures shape { IfOk result (λ view. IfSome view (HasShapeOf self.old.prepared p)) }
         ensures read { IfErr result (λ _. IsTrue (is_trace self.old.prepared p)
-            × IsTrue self.old.on_disk) }
+            × IsTrue self.old.loaded.on_disk) }
     {
         if p == 0 || p > self.count_prepared() {
             return Ok(None);
@@ -526,6 +527,15 @@ impl<T: Copy> Overlay<T> {
         self.length = self.length - gone + added;
     }
 
+    /// The file, which stays on disk, is given up for this reason. Takes no memory.
+    pub fn refuse(self, fault: LoadFault) -> PassFault
+        requires { IsTrue self.loaded.on_disk }
+        ensures fault { result.fault ≡ fault }
+        ensures read { result.read ≡ self.loaded.bytes }
+    {
+        PassFault::of(fault, self.laid.store.loaded)
+    }
+
     /// Writes the file as it is now. Takes no memory. Refused where the writer failed, or on disk
     /// where a read of the loaded bytes did; `written` is then the length of the prefix that the
     /// writer took.
@@ -534,7 +544,7 @@ impl<T: Copy> Overlay<T> {
         ensures agreed { IsTrue self.new.agreed → IsTrue self.old.agreed }
         ensures saved { IsTrue self.new.agreed → Saves (W.contents writer.old.inner)
             (W.contents writer.new.inner) (bytes_of self.old.volume) result }
-        ensures read { IfErr result (λ fault. IsSome fault.read → IsTrue self.old.on_disk) }
+        ensures read { IfErr result (λ fault. IsSome fault.read → IsTrue self.old.loaded.on_disk) }
         ensures failures { CountsSaveFailure result writer.old.failures writer.new.failures }
     {
         // Read for the proof alone, which learns that the file's length fits 64 bits.

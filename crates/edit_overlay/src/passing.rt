@@ -5,10 +5,11 @@ ghost use Rattle.frame_cut.specs.Volume.{bytes_of};
 ghost use Rattle.trace_store.specs.Windows.{IsFaultOfPass};
 ghost use Rattle.trace_view.specs.Shown.{head_of, bytes_of as shown_bytes};
 ghost use Rattle.edit_overlay.specs.CountedVolume.{one_more};
-ghost use Rattle.edit_overlay.specs.PassedFile.{with_passed, with_shown, HasAllTraces, HasShownInside, IsBegun, IsPassed, IsPassFault};
+ghost use Rattle.edit_overlay.specs.PassedFile.{with_passed, with_shown, HasAllTraces, HasShownInside, HasReadOn, IsBegun, IsPassed, IsPassFault};
 
 use crate::bytes::array_at;
 use crate::overlay::Overlay;
+use crate::pass_fault::PassFault;
 use crate::pass_reads::{last_bytes, next_whole, read_front, read_head};
 use base_file::Held;
 use frame_cut::{BINARY_HEADER_BYTES, Extent, Head, Limits, LoadFault, Reading};
@@ -63,22 +64,23 @@ impl<T: Copy> Passing<T> {
         size: u64,
         reading: Reading,
         limits: Limits,
-    ) -> Result<Passing<T>, LoadFault>
+    ) -> Result<Passing<T>, PassFault>
         ensures begun { IfOk result (IsBegun size reading limits) }
-        ensures refused { IfErr result (IsPassFault size reading limits) }
+        ensures refused { IfErr result (λ e. IsPassFault size reading limits e.read e.fault) }
     {
         let mut held = Held::on_pass(alloc, file);
         let mut window = Window::new(alloc);
         let head = match read_head(&mut held, &mut window, size, reading, limits) {
             Ok(head) => head,
-            Err(fault) => return Err(fault),
+            Err(fault) => return Err(PassFault::of(fault, held)),
         };
-        let front = read_front(alloc, &mut held, &mut window, head.traces_at as usize, size)?;
-        let Ok(store) = TraceStore::over(alloc, held, head, 0) else {
-            return Err(LoadFault::OutOfMemory);
+        let n = head.traces_at as usize;
+        let front = match read_front(alloc, &mut held, &mut window, n, size) {
+            Ok(front) => front,
+            Err(fault) => return Err(PassFault::of(fault, held)),
         };
         Ok(Passing {
-            store,
+            store: TraceStore::over(alloc, held, head),
             window,
             front,
             reading,
@@ -102,7 +104,8 @@ impl<T: Copy> Passing<T> {
     /// L01 where a read failed or the file ends in it, L13 to L15 for the first reason that the
     /// bytes give, L16 where no memory was. Then none is shown.
     pub fn next_trace(&mut self) -> Result<bool, LoadFault>
-        ensures same { self.new ≡ with_shown self.old self.new.shown self.new.looks }
+        ensures same { self.new ≡ with_shown self.old self.new.read self.new.shown self.new.looks }
+        ensures on { HasReadOn self.old.read self.new.read }
         ensures trace { IfOk result (λ more. IsTrue more → IsTrace self.new.head self.new.shown) }
         ensures inside { IfOk result (λ more. IsTrue more → HasShownInside self.new) }
         ensures looked { IfOk result (λ more. IsTrue more →
@@ -110,7 +113,7 @@ impl<T: Copy> Passing<T> {
         ensures end { IfOk result (λ more. IsFalse more → HasAllTraces self.new) }
         ensures unseen { IfOk result (λ more. IsFalse more → self.new.looks ≡ self.old.looks) }
         ensures refused { IfErr result
-            (IsPassFault self.old.size self.old.reading self.old.limits) }
+            (IsPassFault self.old.size self.old.reading self.old.limits self.new.read) }
         ensures failed { OnErr result (self.new.looks ≡ self.old.looks) }
     {
         self.next = 0;
@@ -166,20 +169,33 @@ impl<T: Copy> Passing<T> {
         Ok(())
     }
 
+    /// The file is given up for this reason: for a caller that a call refused, or that refuses the
+    /// file itself. Takes no memory.
+    pub fn refuse(self, fault: LoadFault) -> PassFault
+        ensures fault { result.fault ≡ fault }
+        ensures read { result.read ≡ self.read }
+    {
+        PassFault::of(fault, self.store.loaded)
+    }
+
     /// The overlay of the file, once each trace has its payload: the data trailer records are read,
     /// and that the file ends behind them. Takes memory. Refused with L01 where a read failed, or
     /// the file has fewer bytes or more, and with L16 where no memory was.
-    pub fn finish(self, alloc: Global) -> Result<Overlay<T>, LoadFault>
+    pub fn finish(self, alloc: Global) -> Result<Overlay<T>, PassFault>
         requires { HasAllTraces self }
         ensures cut { IfOk result
             (λ o. IsCut (bytes_of o.volume) self.reading self.limits o.volume) }
         ensures size { IfOk result (λ o. length (bytes_of o.volume) ≡ self.size) }
         ensures passed { IfOk result (IsPassed self) }
-        ensures refused { IfErr result IsFaultOfPass }
+        ensures refused { IfErr result (λ e. IsFaultOfPass e.fault) }
+        ensures read { IfErr result (λ e. HasReadOn self.read e.read) }
     {
         let mut store = self.store;
         let mut window = self.window;
-        let back = last_bytes(alloc, &mut store, &mut window, self.size, self.at)?;
+        let back = match last_bytes(alloc, &mut store, &mut window, self.size, self.at) {
+            Ok(back) => back,
+            Err(fault) => return Err(PassFault::of(fault, store.loaded)),
+        };
         let text = *array_at::<TEXT_BLOCK_BYTES>(self.front.as_slice(), 0);
         let bin = *array_at::<BINARY_HEADER_BYTES>(self.front.as_slice(), TEXT_BLOCK_BYTES);
         let store = store.settle(window.into_room(), self.front, back);

@@ -66,7 +66,7 @@ impl Ord for PackedRatio {
     ghost matches_eq = { λ x y. refl };
 
     fn cmp(&self, other: &PackedRatio) -> Ordering {
-        self.ratio().cmp(&other.ratio())
+        self.across(*other).cmp(&other.across(*self))
     }
 }
 
@@ -85,8 +85,8 @@ impl PartialOrd for PackedRatio {
 }
 
 impl PackedRatio {
-    ghost use Rattle.std.specs.Prelude.{◌≡◌};
-    ghost use Rattle.key_counts.specs.Parts.{FitsCoordinate, first_flag, second_flag};
+    ghost use Rattle.std.specs.Prelude.{◌≡◌, ◌*ℤ◌, pos};
+    ghost use Rattle.key_counts.specs.Parts.{FitsCoordinate, first_flag, second_flag, numerator_in, denominator_in};
     ghost use Rattle.key_counts.specs.Packed.{ratio_in};
 
     /// The coordinate and both flags. Takes no memory.
@@ -114,6 +114,15 @@ impl PackedRatio {
             num: numerator as i64 - MIDDLE,
             den: denominator as u32 + 1,
         }
+    }
+
+    // The numerator times the denominator of the other, which fits 64 bits: so two are compared
+    // faster than two of `Ratio`.
+    #[inline]
+    fn across(self, other: PackedRatio) -> i64
+        ensures { result ≡ numerator_in self.bits *ℤ pos (denominator_in other.bits) }
+    {
+        self.ratio().num * i64::from(other.ratio().den)
     }
 
     /// The first flag. Takes no memory.

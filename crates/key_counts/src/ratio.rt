@@ -98,21 +98,22 @@ impl Ratio {
         ensures size { FitsCoordinate result }
     {
         let size = num.unsigned_abs();
-        let divisor = greatest_common_divisor(size, u64::from(den));
-        let least = size / divisor;
-        let bottom = u64::from(den) / divisor;
+        let divisor = greatest_common_divisor(size, den);
+        let least = size / u64::from(divisor);
         Ratio {
             num: with_sign_of(num, least),
-            den: bottom as u32,
+            den: den / divisor,
         }
     }
 }
 
-fn greatest_common_divisor(a: u64, b: u64) -> u64
+// Behind the first division all are numbers of 32 bits, which are divided in half the time.
+fn greatest_common_divisor(a: u64, b: u32) -> u32
+    requires { 0 < b }
     ensures { IsGcd a b result }
 {
-    let mut x = a;
-    let mut y = b;
+    let mut x = b;
+    let mut y = (a % u64::from(b)) as u32;
     while y != 0 {
         let rest = x % y;
         x = y;

@@ -35,7 +35,7 @@ pub struct LiveReports {
 
 impl LiveReports {
     /// The reports of these records, each of the four made of all at once. Takes memory for what
-    /// they hold and, while one is made, for a list of keys and one of their runs.
+    /// they hold and, while one is made, for lists of keys and one of their runs.
     pub fn from_records(alloc: Global, records: &Records) -> Result<LiveReports, OutOfMemory>
         requires { AreFew records.now }
         ensures { IfOk result (λ reports. AreReportsOf reports records.now) }

@@ -16,6 +16,7 @@ use Rattle.trace_record.specs.Packed.{record_in}
 use Rattle.trace_record.specs.declared.packed_record.PackedRecord.{PackedRecord}
 use Rattle.trace_record.specs.declared.record.Record.{Record}
 use Rattle.edit_overlay.specs.CountedVolume.{CountedVolume, after_look, with_prepared, IsSeen}
+use Rattle.edit_overlay.specs.Loaded.{Loaded}
 use Rattle.live_reports.specs.declared.live_reports.LiveReports.{LiveReports}
 use Rattle.live_reports.specs.Exchanged.{with_records}
 use Rattle.live_reports.specs.OfRecords.{AreReportsOf}
@@ -50,10 +51,10 @@ held_unedited b e reports h is prepared payloads fell counted =
     held_edited b e reports b.overlay.volume (records_in b) h is prepared (ap (λ (ps : List PackedRecord). map record_in ps) payloads) refl h.frame h.measured (λ sure. h.cut (fell sure)) (λ sure. h.records (fell sure)) counted
 
 -- the state behind an overlay
-pub state_with : (b : Inside) (e : CountedVolume PackedRecord) (w : Volume) → e.volume ≡ w → e.on_disk ≡ b.overlay.on_disk → state_of (record b { overlay = e }) ≡ with_volume (state_of b) w
-state_with b e w is on_disk =
-    ap (λ (u : Volume). let s : State = record (state_of b) { volume = u; on_disk = e.on_disk } in s) is
-    ∙ ap (λ (d : Bool). let s : State = record (state_of b) { volume = w; on_disk = d } in s) on_disk
+pub state_with : (b : Inside) (e : CountedVolume PackedRecord) (w : Volume) → e.volume ≡ w → e.loaded ≡ b.overlay.loaded → state_of (record b { overlay = e }) ≡ with_volume (state_of b) w
+state_with b e w is loaded =
+    ap (λ (u : Volume). let s : State = record (state_of b) { volume = u; on_disk = e.loaded.on_disk } in s) is
+    ∙ ap (λ (l : Loaded). let s : State = record (state_of b) { volume = w; on_disk = l.on_disk } in s) loaded
 
 -- ---- bytes laid over trace p, whose new record was read in one look
 
@@ -77,8 +78,8 @@ module _ (b : Inside) (h : IsHeld b) (p at : ℕ) (bytes : List ℕ) (o : Counte
   pub put_stay : o.payloads_prepared ≡ o.payloads
   put_stay = ap (λ (x : CountedVolume PackedRecord). x.payloads_prepared) looked ∙ sym put_payloads
 
-  pub put_on_disk : o.on_disk ≡ b.overlay.on_disk
-  put_on_disk = ap (λ (x : CountedVolume PackedRecord). x.on_disk) looked
+  pub put_loaded : o.loaded ≡ b.overlay.loaded
+  put_loaded = ap (λ (x : CountedVolume PackedRecord). x.loaded) looked
 
   pub put_last : p ≤ count_of o.volume
   put_last = omega (arith, last, ap (λ (u : Volume). count_of u) put_volume)
@@ -162,8 +163,8 @@ module _ (b : Inside) (h : IsHeld b) (a count at size : ℕ) (bytes : List ℕ) 
   pub each_stay : o.payloads_prepared ≡ o.payloads
   each_stay = seen.payloads_prepared ∙ ap (λ (x : CountedVolume PackedRecord). x.payloads_prepared) ready ∙ sym each_payloads
 
-  pub each_on_disk : o.on_disk ≡ b.overlay.on_disk
-  each_on_disk = seen.on_disk ∙ ap (λ (x : CountedVolume PackedRecord). x.on_disk) ready
+  pub each_loaded : o.loaded ≡ b.overlay.loaded
+  each_loaded = seen.loaded ∙ ap (λ (x : CountedVolume PackedRecord). x.loaded) ready
 
   records_many : length (records_in b) ≡ count_of b.overlay.volume
   records_many = as_many (records_in b) b.overlay.volume.traces h.measured

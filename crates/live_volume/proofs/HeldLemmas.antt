@@ -19,6 +19,7 @@ use Rattle.trace_record.specs.Packed.{record_in}
 use Rattle.trace_record.specs.declared.packed_record.PackedRecord.{PackedRecord}
 use Rattle.trace_record.specs.declared.record.Record.{Record}
 use Rattle.edit_overlay.specs.CountedVolume.{CountedVolume, after_look, IsSeen}
+use Rattle.edit_overlay.specs.Loaded.{Loaded}
 use Rattle.live_reports.specs.OfRecords.{AreReportsOf}
 use Rattle.time_slice.specs.declared.row.Row.{Row}
 use Rattle.time_slice.specs.Cache.{KeptSlices, after_slice}
@@ -106,9 +107,10 @@ seen_not o last same = subst (λ (l : CountedVolume PackedRecord). IsSeen o l 1)
 -- the session after looks at the overlay
 pub looked_at : (b : Inside) (o : CountedVolume PackedRecord) (n : ℕ) → IsSeen b.overlay o n → OnlyLooks (session_of b) (session_of (record b { overlay = o })) n
 looked_at b o n seen = record {
-  state = ap (λ (v : Volume). let s : State = record (state_of b) { volume = v; on_disk = o.on_disk } in s) seen.volume
-      ∙ ap (λ (d : Bool). let s : State = record (state_of b) { on_disk = d } in s) seen.on_disk;
+  state = ap (λ (v : Volume). let s : State = record (state_of b) { volume = v; on_disk = o.loaded.on_disk } in s) seen.volume
+      ∙ ap (λ (l : Loaded). let s : State = record (state_of b) { on_disk = l.on_disk } in s) seen.loaded;
   looks = seen.looks;
+  loaded = ap (λ (l : Loaded). l.bytes) seen.loaded;
   agreed = seen.agreed;
 }
 
@@ -131,14 +133,14 @@ held_again b o n seen h = record {
 
 -- looks behind looks
 pub looks_none : (s : Session) → OnlyLooks s s 0
-looks_none s = record { state = refl; looks = (omega arith, omega arith); agreed = λ sure. sure }
+looks_none s = record { state = refl; looks = (omega arith, omega arith); loaded = refl; agreed = λ sure. sure }
 
 pub looks_more : (a b c : Session) (m n : ℕ) → OnlyLooks a b m → OnlyLooks b c n → OnlyLooks a c (m + n)
 looks_more a b c m n f g =
-    record { state = g.state ∙ f.state; looks = (omega (arith, f.looks, g.looks), omega (arith, f.looks, g.looks)); agreed = λ sure. f.agreed (g.agreed sure) }
+    record { state = g.state ∙ f.state; looks = (omega (arith, f.looks, g.looks), omega (arith, f.looks, g.looks)); loaded = g.loaded ∙ f.loaded; agreed = λ sure. f.agreed (g.agreed sure) }
 
 pub looks_most : (a b : Session) (m n : ℕ) → OnlyLooks a b m → m ≤ n → OnlyLooks a b n
-looks_most a b m n f less = record { state = f.state; looks = (omega (arith, f.looks), omega (arith, f.looks, less)); agreed = f.agreed }
+looks_most a b m n f less = record { state = f.state; looks = (omega (arith, f.looks), omega (arith, f.looks, less)); loaded = f.loaded; agreed = f.agreed }
 
 -- ---- refusals
 
@@ -191,6 +193,10 @@ told_for T old new edit refusal takes is same = by (first_refusal old edit) refl
     by None e is = rw e (inl (is, takes), same)
     by (Some first) e is = rw e (inl is, same)
 
+-- there is such a trace, so it is looked at
+pub is_there : (v : Volume) (p : ℕ) → 1 ≤ p → p ≤ count_of v → is_trace v p ≡ true
+is_there v p first last = rw (le-leb 1 p first, le-leb p (count_of v) last) refl
+
 -- a read that failed is a step, whatever else refuses the edit
 pub told_of_read : (T : Type 0) (old new : State) (edit : Edit) (refusal : Refusal) → 0 < edit_looks old edit → IsReadRefusal old.on_disk refusal → new ≡ old → (let r : Result T Refusal = Err refusal in Step old edit r new)
 told_of_read T old new edit refusal looks read same = by (first_refusal old edit) refl
@@ -200,10 +206,10 @@ told_of_read T old new edit refusal looks read same = by (first_refusal old edit
     by (Some first) e = rw e (inr (looks, read), same)
 
 -- one or the other is
-pub told_either : (T : Type 0) (old new : State) (edit : Edit) (refusal : Refusal) → TakesMemory edit → 0 < edit_looks old edit → IsReadRefusal old.on_disk refusal ⊎ IsRefusalFor refusal (first_refusal old edit) → new ≡ old
+pub told_either : (T : Type 0) (old new : State) (edit : Edit) (refusal : Refusal) → TakesMemory edit → (0 < edit_looks old edit) × IsReadRefusal old.on_disk refusal ⊎ IsRefusalFor refusal (first_refusal old edit) → new ≡ old
     → (let r : Result T Refusal = Err refusal in Step old edit r new)
-told_either T old new edit refusal takes looks (inl read) same = told_of_read T old new edit refusal looks read same
-told_either T old new edit refusal takes looks (inr is) same = told_for T old new edit refusal takes is same
+told_either T old new edit refusal takes (inl read) same = told_of_read T old new edit refusal read.0 read.1 same
+told_either T old new edit refusal takes (inr is) same = told_for T old new edit refusal takes is same
 
 -- a read that failed, as it comes back
 pub read_refused : {T : Type 0} (old new : State) (edit : Edit) (fault : ReadFault) (r : Result T Refusal) → IsErr r → IsErrAnd r (λ refusal. refusal ≡ refusal_of fault) → 0 < edit_looks old edit → IsTrue old.on_disk → new ≡ old → Step old edit r new
@@ -212,16 +218,23 @@ read_refused old new edit fault (Err refusal) err is looks disk same =
     told_of_read _ old new edit refusal looks (subst (λ (e : Refusal). IsReadRefusal old.on_disk e) (sym is) (read_is_told old.on_disk fault disk)) same
 
 -- and any other refusal
-pub refused_so : {T : Type 0} (old new : State) (edit : Edit) (first : Refusal) (r : Result T Refusal) → IsErr r → IsErrAnd r (λ refusal. refusal ≡ first) → TakesMemory edit → 0 < edit_looks old edit
-    → IsReadRefusal old.on_disk first ⊎ IsRefusalFor first (first_refusal old edit) → new ≡ old → Step old edit r new
-refused_so old new edit first (Ok x) err is takes looks told same = absurd is
-refused_so old new edit first (Err refusal) err is takes looks told same =
-    told_either _ old new edit refusal takes looks (subst (λ (e : Refusal). IsReadRefusal old.on_disk e ⊎ IsRefusalFor e (first_refusal old edit)) (sym is) told) same
+pub refused_so : {T : Type 0} (old new : State) (edit : Edit) (first : Refusal) (r : Result T Refusal) → IsErr r → IsErrAnd r (λ refusal. refusal ≡ first) → TakesMemory edit
+    → (0 < edit_looks old edit) × IsReadRefusal old.on_disk first ⊎ IsRefusalFor first (first_refusal old edit) → new ≡ old → Step old edit r new
+refused_so old new edit first (Ok x) err is takes told same = absurd is
+refused_so old new edit first (Err refusal) err is takes told same =
+    told_either _ old new edit refusal takes (subst (λ (e : Refusal). (0 < edit_looks old edit) × IsReadRefusal old.on_disk e ⊎ IsRefusalFor e (first_refusal old edit)) (sym is) told) same
 
 -- a first refusal that is told of each state with the volume is told of this one
-pub told_so : {P : Type 0} (s : State) (edit : Edit) (refusal : Refusal) → P → IsReadRefusal s.on_disk refusal ⊎ ((u : State) → u.volume ≡ s.volume → P → first_refusal u edit ≡ Some refusal) → IsReadRefusal s.on_disk refusal ⊎ IsRefusalFor refusal (first_refusal s edit)
-told_so s edit refusal sure (inl read) = inl read
-told_so s edit refusal sure (inr told) = inr (subst (λ (o : Option Refusal). IsRefusalFor refusal o) (sym (told s refl sure)) refl)
+pub told_so : {A P : Type 0} (s : State) (edit : Edit) (refusal : Refusal) → P → (A → 0 < edit_looks s edit) → A × IsReadRefusal s.on_disk refusal ⊎ ((u : State) → u.volume ≡ s.volume → P → first_refusal u edit ≡ Some refusal)
+    → (0 < edit_looks s edit) × IsReadRefusal s.on_disk refusal ⊎ IsRefusalFor refusal (first_refusal s edit)
+told_so s edit refusal sure looks (inl read) = inl (looks read.0, read.1)
+told_so s edit refusal sure looks (inr told) = inr (subst (λ (o : Option Refusal). IsRefusalFor refusal o) (sym (told s refl sure)) refl)
+
+-- the same of what is told under a premise that holds
+pub told_under : {A P : Type 0} (s : State) (edit : Edit) (refusal : Refusal) → P → (A → 0 < edit_looks s edit) → A × IsReadRefusal s.on_disk refusal ⊎ (P → IsRefusalFor refusal (first_refusal s edit))
+    → (0 < edit_looks s edit) × IsReadRefusal s.on_disk refusal ⊎ IsRefusalFor refusal (first_refusal s edit)
+told_under s edit refusal sure looks (inl read) = inl (looks read.0, read.1)
+told_under s edit refusal sure looks (inr told) = inr (told sure)
 
 -- one of two, where the second is told under a premise that holds
 pub under : {A B P : Type 0} → P → A ⊎ (P → B) → A ⊎ B

@@ -25,11 +25,11 @@ use Rattle.live_volume.specs.declared.live_volume.LiveVolume.TheInside.{Inside}
 
 -- the state that is held
 abbrev pub state_of : Inside → State
-state_of b = record { volume = b.overlay.volume; fields = b.fields.pairs; reading = b.reading; limits = b.limits; on_disk = b.overlay.on_disk }
+state_of b = record { volume = b.overlay.volume; fields = b.fields.pairs; reading = b.reading; limits = b.limits; on_disk = b.overlay.loaded.on_disk }
 
--- the state that is held, with the count of looks, and whether each read of the loaded bytes agreed
+-- the state that is held, with the count of looks, the loaded bytes, and whether each read of them agreed
 abbrev pub session_of : Inside → Session
-session_of b = record { state = state_of b; looks = b.overlay.looks; agreed = b.overlay.agreed }
+session_of b = record { state = state_of b; looks = b.overlay.looks; loaded = b.overlay.loaded.bytes; agreed = b.overlay.agreed }
 
 -- the records that stand beside the traces
 abbrev pub records_in : Inside → List Record
@@ -64,10 +64,11 @@ pub record IsHeld (b : Inside) : Type 0 where
   pub measured : AreMeasured (records_in b) b.overlay.volume.traces
   pub reports : AreReportsOf b.reports (records_in b)
 
--- the same state after so many looks more at most; what did not agree does not agree now
+-- the same state over the same loaded bytes after so many looks more at most; what did not agree does not agree now
 pub record OnlyLooks (old new : Session) (n : ℕ) : Type 0 where
   pub state : new.state ≡ old.state
   pub looks : RisesAtMost old.looks new.looks n
+  pub loaded : new.loaded ≡ old.loaded
   pub agreed : IsTrue new.agreed → IsTrue old.agreed
 
 -- both were read in the same way, under the same limits, from the same place

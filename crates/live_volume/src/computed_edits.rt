@@ -39,6 +39,7 @@ impl LiveVolume {
         ensures err { OnErr result (self.new.state ≡ self.old.state) }
         ensures same { IsReadAs self.old.state self.new.state }
         ensures agreed { IsTrue self.new.agreed → IsTrue self.old.agreed }
+        ensures loaded { self.new.loaded ≡ self.old.loaded }
         ensures looks { RisesAtMost self.old.looks self.new.looks
             (edit_looks self.old.state (edits.Compute a b field.now source.now steps.now)) }
         ensures moved { IfOk result (λ moved. IsTrue self.new.agreed →

@@ -71,6 +71,7 @@ impl LiveVolume {
             × IsFalse (is_kept k (kept_numbers slices.old.entries))) }
         ensures state { self.new.state ≡ self.old.state }
         ensures agreed { IsTrue self.new.agreed → IsTrue self.old.agreed }
+        ensures loaded { self.new.loaded ≡ self.old.loaded }
         ensures looks { RisesAtMost self.old.looks self.new.looks
             (if is_kept k (kept_numbers slices.old.entries) then 0
             else count_of self.old.state.volume) }

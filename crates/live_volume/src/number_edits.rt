@@ -7,7 +7,7 @@ ghost use Rattle.frame_cut.specs.Traces.{count_of, is_trace, trace_at};
 ghost use Rattle.edit_overlay.specs.CountedVolume.{RisesAtMost};
 ghost use Rattle.bench_rules.specs.declared.edit.Edit.TheVariants as edits;
 ghost use Rattle.bench_rules.specs.declared.field.Field.TheVariants as fields;
-ghost use Rattle.bench_rules.specs.Looks.{edit_looks};
+ghost use Rattle.bench_rules.specs.Looks.{edit_looks, trace_looks};
 ghost use Rattle.bench_rules.specs.ReadFaults.{IsReadRefusal};
 ghost use Rattle.bench_rules.specs.Refused.{first_refusal, first_refusal_among, no_trace, no_trace_from, set_refusal};
 ghost use Rattle.bench_rules.specs.Steps.{IsAfter, Step};
@@ -36,7 +36,9 @@ impl LiveVolume {
         ensures err { OnErr result (self.new.state ≡ self.old.state) }
         ensures same { IsReadAs self.old.state self.new.state }
         ensures agreed { IsTrue self.new.agreed → IsTrue self.old.agreed }
-        ensures looks { RisesAtMost self.old.looks self.new.looks 2 }
+        ensures loaded { self.new.loaded ≡ self.old.loaded }
+        ensures looks { RisesAtMost self.old.looks self.new.looks
+            (trace_looks self.old.state.volume p 2) }
     {
         let head = self.overlay.head();
         let bytes = self.resized_bytes(alloc, p, count)?;
@@ -52,10 +54,11 @@ impl LiveVolume {
         ensures bytes { IfOk result (λ bytes. IsTrue self.new.agreed → bytes.items ≡ bytes_resized
             self.old.state.volume.head (trace_at self.old.state.volume p) (nat_abs count)) }
         ensures fits { IfOk result (λ bytes. MayReplace self.old.state p bytes.items) }
-        ensures err { IfErr result (λ refusal. IsReadRefusal self.old.state.on_disk refusal
+        ensures err { IfErr result (λ refusal. (IsTrue (is_trace self.old.state.volume p) ×
+            IsReadRefusal self.old.state.on_disk refusal)
             ⊎ (IsTrue self.new.agreed → IsRefusalFor refusal
             (first_refusal self.old.state (edits.Resize p count)))) }
-        ensures seen { OnlyLooks self.old self.new 1 }
+        ensures seen { OnlyLooks self.old self.new (trace_looks self.old.state.volume p 1) }
     {
         let length = self.overlay.length();
         let most = self.limits.bytes();
@@ -89,6 +92,7 @@ impl LiveVolume {
         ensures err { OnErr result (self.new.state ≡ self.old.state) }
         ensures same { IsReadAs self.old.state self.new.state }
         ensures agreed { IsTrue self.new.agreed → IsTrue self.old.agreed }
+        ensures loaded { self.new.loaded ≡ self.old.loaded }
         ensures looks { RisesAtMost self.old.looks self.new.looks
             (edit_looks self.old.state (edits.Renumber a b field.now first step)) }
         ensures moved { IfOk result (λ moved. IsTrue self.new.agreed →
@@ -227,6 +231,7 @@ impl LiveVolume {
             (self.new.state ≡ self.old.state)) }
         ensures same { IsReadAs self.old.state self.new.state }
         ensures agreed { IsTrue self.new.agreed → IsTrue self.old.agreed }
+        ensures loaded { self.new.loaded ≡ self.old.loaded }
         ensures looks { RisesAtMost self.old.looks self.new.looks (b + 1 - a) }
         ensures moved { IfOk result (λ moved. IsTrue self.new.agreed →
             moved ≡ any_moves self.old.state self.new.state a b) }

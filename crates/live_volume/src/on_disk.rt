@@ -7,7 +7,7 @@ ghost use Rattle.edit_overlay.specs.PassedFile.{IsPassFault};
 ghost use Rattle.bench_rules.specs.Looks.{load_looks};
 
 use crate::live_volume::LiveVolume;
-use edit_overlay::Passing;
+use edit_overlay::{PassFault, Passing};
 use field_map::FieldMap;
 use frame_cut::{Limits, LoadFault, Reading};
 use std::alloc::Global;
@@ -26,9 +26,10 @@ impl LiveVolume {
         size: u64,
         reading: Reading,
         limits: Limits,
-    ) -> Result<LiveVolume, LoadFault>
+    ) -> Result<LiveVolume, PassFault>
         ensures cut { IfOk result (λ b. IsCut (bytes_of b.state.volume) reading limits
             b.state.volume) }
+        ensures loaded { IfOk result (λ b. b.loaded ≡ bytes_of b.state.volume) }
         ensures size { IfOk result (λ b. length (bytes_of b.state.volume) ≡ size) }
         ensures looks { IfOk result (λ b. b.looks ≤ load_looks b.state.volume) }
         ensures fields { IfOk result (λ b. b.state.fields ≡ geometry_at_load) }
@@ -36,11 +37,12 @@ impl LiveVolume {
         ensures limits { IfOk result (λ b. b.state.limits ≡ limits) }
         ensures place { IfOk result (λ b. b.state.on_disk ≡ true) }
         ensures agreed { IfOk result (λ b. IsTrue b.agreed) }
-        ensures refused { IfErr result (IsPassFault size reading limits) }
+        ensures refused { IfErr result
+            (λ refused. IsPassFault size reading limits refused.read refused.fault) }
     {
         let passing = Passing::begin(alloc, file, size, reading, limits)?;
         let Ok(fields) = FieldMap::standard(alloc, passing.head().extensions) else {
-            return Err(LoadFault::OutOfMemory);
+            return Err(passing.refuse(LoadFault::OutOfMemory));
         };
         let (overlay, reports) = with_records_on_disk(alloc, passing, &fields)?;
         Ok(LiveVolume {

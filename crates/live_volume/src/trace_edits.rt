@@ -5,6 +5,7 @@ ghost use Rattle.frame_cut.specs.Traces.{is_trace, trace_at};
 ghost use Rattle.bench_rules.specs.declared.edit.Edit.TheVariants as edits;
 ghost use Rattle.bench_rules.specs.declared.refusal.Refusal.TheVariants.{OutOfMemory as no_memory};
 ghost use Rattle.edit_overlay.specs.CountedVolume.{RisesAtMost};
+ghost use Rattle.bench_rules.specs.Looks.{trace_looks};
 ghost use Rattle.bench_rules.specs.Refused.{first_refusal, no_trace};
 ghost use Rattle.bench_rules.specs.Steps.{IsAfter, Step};
 ghost use Rattle.live_volume.specs.Held.{sample_start, IsReadAs, OnlyLooks};
@@ -44,7 +45,9 @@ impl LiveVolume {
         ensures err { OnErr result (self.new.state ≡ self.old.state) }
         ensures same { IsReadAs self.old.state self.new.state }
         ensures agreed { IsTrue self.new.agreed → IsTrue self.old.agreed }
-        ensures looks { RisesAtMost self.old.looks self.new.looks 2 }
+        ensures loaded { self.new.loaded ≡ self.old.loaded }
+        ensures looks { RisesAtMost self.old.looks self.new.looks
+            (trace_looks self.old.state.volume p 2) }
     {
         let at = patch_place(&mut self.overlay, p, k, values)?;
         self.put_values(alloc, p, k, at, values)
@@ -69,6 +72,7 @@ impl LiveVolume {
             (self.new.state ≡ self.old.state)) }
         ensures same { IsReadAs self.old.state self.new.state }
         ensures agreed { IsTrue self.new.agreed → IsTrue self.old.agreed }
+        ensures loaded { self.new.loaded ≡ self.old.loaded }
         ensures looks { RisesAtMost self.old.looks self.new.looks 1 }
     {
         let head = self.overlay.head();
@@ -86,6 +90,7 @@ impl LiveVolume {
         ensures err { OnErr result (self.new.state ≡ self.old.state) }
         ensures same { IsReadAs self.old.state self.new.state }
         ensures agreed { IsTrue self.new.agreed → IsTrue self.old.agreed }
+        ensures loaded { self.new.loaded ≡ self.old.loaded }
         ensures looks { self.new.looks ≡ self.old.looks }
     {
         match blank_refusal(&self.overlay, self.limits, p) {
@@ -103,6 +108,7 @@ impl LiveVolume {
             (self.new.state ≡ self.old.state)) }
         ensures same { IsReadAs self.old.state self.new.state }
         ensures agreed { IsTrue self.new.agreed → IsTrue self.old.agreed }
+        ensures loaded { self.new.loaded ≡ self.old.loaded }
         ensures looks { self.new.looks ≡ self.old.looks }
     {
         let head = self.overlay.head();
@@ -119,7 +125,9 @@ impl LiveVolume {
         ensures err { OnErr result (self.new.state ≡ self.old.state) }
         ensures same { IsReadAs self.old.state self.new.state }
         ensures agreed { IsTrue self.new.agreed → IsTrue self.old.agreed }
-        ensures looks { RisesAtMost self.old.looks self.new.looks 2 }
+        ensures loaded { self.new.loaded ≡ self.old.loaded }
+        ensures looks { RisesAtMost self.old.looks self.new.looks
+            (trace_looks self.old.state.volume q 2) }
     {
         match copy_refusal(&mut self.overlay, self.limits, q, p)? {
             Some(refusal) => Err(refusal),
@@ -154,6 +162,7 @@ impl LiveVolume {
             (self.new.state ≡ self.old.state)) }
         ensures same { IsReadAs self.old.state self.new.state }
         ensures agreed { IsTrue self.new.agreed → IsTrue self.old.agreed }
+        ensures loaded { self.new.loaded ≡ self.old.loaded }
         ensures looks { RisesAtMost self.old.looks self.new.looks 1 }
     {
         let trace = self.overlay.payload(q).record();
@@ -168,6 +177,7 @@ impl LiveVolume {
         ensures err { OnErr result (self.new.state ≡ self.old.state) }
         ensures same { IsReadAs self.old.state self.new.state }
         ensures agreed { IsTrue self.new.agreed → IsTrue self.old.agreed }
+        ensures loaded { self.new.loaded ≡ self.old.loaded }
         ensures looks { self.new.looks ≡ self.old.looks }
     {
         match self.no_trace(p) {
@@ -186,6 +196,7 @@ impl LiveVolume {
             IsAfter self.old.state (edits.Delete p) self.new.state }
         ensures same { IsReadAs self.old.state self.new.state }
         ensures agreed { IsTrue self.new.agreed → IsTrue self.old.agreed }
+        ensures loaded { self.new.loaded ≡ self.old.loaded }
         ensures looks { self.new.looks ≡ self.old.looks }
     {
         self.reports
@@ -200,6 +211,7 @@ impl LiveVolume {
         ensures err { OnErr result (self.new.state ≡ self.old.state) }
         ensures same { IsReadAs self.old.state self.new.state }
         ensures agreed { IsTrue self.new.agreed → IsTrue self.old.agreed }
+        ensures loaded { self.new.loaded ≡ self.old.loaded }
         ensures looks { self.new.looks ≡ self.old.looks }
     {
         match move_refusal(&self.overlay, a, b) {
@@ -217,6 +229,7 @@ impl LiveVolume {
             (self.new.state ≡ self.old.state)) }
         ensures same { IsReadAs self.old.state self.new.state }
         ensures agreed { IsTrue self.new.agreed → IsTrue self.old.agreed }
+        ensures loaded { self.new.loaded ≡ self.old.loaded }
         ensures looks { self.new.looks ≡ self.old.looks }
     {
         self.overlay.move_to(alloc, a, b)?;

@@ -75,6 +75,7 @@ impl LiveVolume {
         ensures err { IfErr result (λ refusal. IsOfMachine self.old.state.on_disk refusal ×
             (self.new.state ≡ self.old.state)) }
         ensures agreed { IsTrue self.new.agreed → IsTrue self.old.agreed }
+        ensures loaded { self.new.loaded ≡ self.old.loaded }
         ensures looks { RisesAtMost self.old.looks self.new.looks 1 }
     {
         self.overlay.prepare_put(alloc, p, at, bytes)?;
@@ -114,6 +115,7 @@ impl LiveVolume {
         ensures err { IfErr result (λ refusal. (refusal ≡ no_memory) ×
             (self.new.state ≡ self.old.state)) }
         ensures agreed { IsTrue self.new.agreed → IsTrue self.old.agreed }
+        ensures loaded { self.new.loaded ≡ self.old.loaded }
         ensures looks { self.new.looks ≡ self.old.looks }
     {
         let place = p as usize - 1;
@@ -155,6 +157,7 @@ impl LiveVolume {
         ensures err { IfErr result (λ refusal. (refusal ≡ no_memory) ×
             (self.new.state ≡ self.old.state)) }
         ensures agreed { IsTrue self.new.agreed → IsTrue self.old.agreed }
+        ensures loaded { self.new.loaded ≡ self.old.loaded }
         ensures looks { self.new.looks ≡ self.old.looks }
     {
         let place = p as usize - 1;
@@ -203,6 +206,7 @@ impl LiveVolume {
             (with_volume self.old.state (with_each self.old.state.volume a at size bytes.now))
             a (a - 1 + count)) }
         ensures agreed { IsTrue self.new.agreed → IsTrue self.old.agreed }
+        ensures loaded { self.new.loaded ≡ self.old.loaded }
         ensures looks { RisesAtMost self.old.looks self.new.looks count }
     {
         self.overlay.prepare_put_each(alloc, a, at, size, bytes)?;
@@ -253,7 +257,7 @@ fn new_record(
     ensures few { IfOk result (λ r. r.number ≤ length (trace_at overlay.old.prepared p)) }
     ensures looked { overlay.new ≡ after_look overlay.old overlay.new.agreed }
     ensures agreed { IsTrue overlay.new.agreed → IsTrue overlay.old.agreed }
-    ensures read { IfErr result (λ _. IsTrue overlay.old.on_disk) }
+    ensures read { IfErr result (λ _. IsTrue overlay.old.loaded.on_disk) }
 {
     match samples {
         Some(known) => prepared_headers(overlay, fields, p, &known),
@@ -283,7 +287,7 @@ fn exchange(
         × (overlay.new ≡ with_counted_volume overlay.old overlay.old.volume)
         × AreReportsOf reports.new (map record_in overlay.old.payloads)) }
     ensures prepared { overlay.new.prepared ≡ overlay.new.volume }
-    ensures on_disk { overlay.new.on_disk ≡ overlay.old.on_disk }
+    ensures loaded { overlay.new.loaded ≡ overlay.old.loaded }
     ensures agreed { overlay.new.agreed ≡ overlay.old.agreed }
     ensures looks { overlay.new.looks ≡ overlay.old.looks }
 {
@@ -322,7 +326,7 @@ fn exchange_each(
         × (overlay.new ≡ with_counted_volume overlay.old overlay.old.volume)
         × AreReportsOf reports.new (map record_in overlay.old.payloads)) }
     ensures prepared { overlay.new.prepared ≡ overlay.new.volume }
-    ensures on_disk { overlay.new.on_disk ≡ overlay.old.on_disk }
+    ensures loaded { overlay.new.loaded ≡ overlay.old.loaded }
     ensures agreed { overlay.new.agreed ≡ overlay.old.agreed }
     ensures looks { overlay.new.looks ≡ overlay.old.looks }
 {

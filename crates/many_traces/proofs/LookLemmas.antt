@@ -16,7 +16,7 @@ module _ {T : Type 0} where
         prepared = more.prepared ∙ before.prepared;
         payloads = more.payloads ∙ before.payloads;
         payloads_prepared = more.payloads_prepared ∙ before.payloads_prepared;
-        on_disk = more.on_disk ∙ before.on_disk;
+        loaded = more.loaded ∙ before.loaded;
         looks = (omega (arith, one, other), omega (arith, one, other));
         agreed = λ sure. before.agreed (more.agreed sure);
       }

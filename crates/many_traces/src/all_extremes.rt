@@ -33,7 +33,7 @@ pub fn extremes(
     requires last { b ≤ count_of overlay.old.volume }
     ensures ok { IfOk result (λ found. IsTrue overlay.new.agreed →
         found ≡ extremes_in overlay.old.volume names.items a b) }
-    ensures err { IfErr result (λ fault. IsReadFault overlay.old.on_disk fault
+    ensures err { IfErr result (λ fault. IsReadFault overlay.old.loaded.on_disk fault
         ⊎ (fault ≡ no_memory)) }
     ensures seen { IsSeen overlay.old overlay.new (b + 1 - a) }
 {
@@ -73,7 +73,7 @@ fn see_trace(
         seen.old.items) }
     ensures each { OnOk result (length seen.new.items ≡ length names.now) }
     ensures seen { IsSeen overlay.old overlay.new 1 }
-    ensures read { IfErr result (λ _. IsTrue overlay.old.on_disk) }
+    ensures read { IfErr result (λ _. IsTrue overlay.old.loaded.on_disk) }
 {
     let Some(trace) = overlay.look(p)? else {
         unreachable!()

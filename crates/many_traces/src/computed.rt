@@ -48,7 +48,7 @@ pub fn computed_bytes(
         HoldsPlace (trace_at overlay.old.volume (a + k)) place) }
     ensures looked { OnOk result (0 < looks_at
         (formula_at map.now.pairs place source.now steps.now) (b + 1 - a)) }
-    ensures err { IfErr result (λ refusal. (IsReadRefusal overlay.old.on_disk refusal
+    ensures err { IfErr result (λ refusal. (IsReadRefusal overlay.old.loaded.on_disk refusal
         × (0 < looks_at (formula_at map.now.pairs place source.now steps.now) (b + 1 - a))) ⊎
         (IsTrue overlay.new.agreed → IsRefusalFor refusal (compute_refusal_in overlay.old.volume
         (formula_at map.now.pairs place source.now steps.now) a b))) }
@@ -98,7 +98,7 @@ fn filled(
     ensures count { IfOk result (λ bytes. length bytes.items ≡ place.kind.size * (b + 1 - a)) }
     ensures each { OnOk result ((k : ℕ) → k < b + 1 - a →
         HoldsPlace (trace_at overlay.old.volume (a + k)) place) }
-    ensures err { IfErr result (λ refusal. IsReadRefusal overlay.old.on_disk refusal ⊎
+    ensures err { IfErr result (λ refusal. IsReadRefusal overlay.old.loaded.on_disk refusal ⊎
         (IsTrue overlay.new.agreed → compute_refusal_in overlay.old.volume
         (Some (record { place = place; source = source; steps = steps.now })) a b
         ≡ Some refusal)) }
@@ -131,7 +131,7 @@ fn number_at(
         (trace_at overlay.old.volume p) ≡ Ok x) }
     ensures fits { IfOk result (InRange place.kind) }
     ensures place { OnOk result (HoldsPlace (trace_at overlay.old.volume p) place) }
-    ensures err { IfErr result (λ refusal. IsReadRefusal overlay.old.on_disk refusal ⊎
+    ensures err { IfErr result (λ refusal. IsReadRefusal overlay.old.loaded.on_disk refusal ⊎
         (IsTrue overlay.new.agreed → compute_refusal overlay.old.volume
         (record { place = place; source = source; steps = steps.now }) p ≡ Some refusal)) }
     ensures seen { IsSeen overlay.old overlay.new 1 }
@@ -175,7 +175,7 @@ fn without_memory(
     requires first { 1 ≤ a }
     requires range { a ≤ b }
     requires last { b ≤ count_of overlay.old.volume }
-    ensures read { IfErr result (λ _. IsTrue overlay.old.on_disk) }
+    ensures read { IfErr result (λ _. IsTrue overlay.old.loaded.on_disk) }
     ensures refusal { IfOk result (λ refusal. IsTrue overlay.new.agreed →
         (terms : List (Operator × Term)) → steps_of map.now.pairs steps.now ≡ Some terms →
         IsRefusalFor refusal (compute_refusal_in overlay.old.volume
@@ -207,7 +207,7 @@ fn refusal_by_names(
         refusal ≡ compute_refusal overlay.old.volume
         (record { place = place; source = source; steps = terms }) p) }
     ensures seen { IsSeen overlay.old overlay.new 1 }
-    ensures read { IfErr result (λ _. IsTrue overlay.old.on_disk) }
+    ensures read { IfErr result (λ _. IsTrue overlay.old.loaded.on_disk) }
 {
     let order = overlay.head().order;
     let Some(trace) = overlay.look(p)? else {

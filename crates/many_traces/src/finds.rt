@@ -30,7 +30,7 @@ pub fn find(
     requires last { b ≤ count_of overlay.old.volume }
     ensures ok { IfOk result (λ found. IsTrue overlay.new.agreed →
         found_of overlay.old.volume place low high a b ≡ Some found) }
-    ensures err { IfErr result (λ fault. IsReadFault overlay.old.on_disk fault ⊎
+    ensures err { IfErr result (λ fault. IsReadFault overlay.old.loaded.on_disk fault ⊎
         (IsTrue overlay.new.agreed → fault ≡ fault_of
         (found_of overlay.old.volume place low high a b))) }
     ensures seen { IsSeen overlay.old overlay.new (b + 1 - a) }
@@ -67,7 +67,7 @@ fn number_at(
     ensures number { IfOk result (λ number. IsTrue overlay.new.agreed → number ≡ value_of
         overlay.old.volume.head (trace_at overlay.old.volume p) place) }
     ensures seen { IsSeen overlay.old overlay.new 1 }
-    ensures read { IfErr result (λ _. IsTrue overlay.old.on_disk) }
+    ensures read { IfErr result (λ _. IsTrue overlay.old.loaded.on_disk) }
 {
     let Some(trace) = overlay.look(p)? else {
         unreachable!()
@@ -88,7 +88,7 @@ fn without_memory(
     ensures fault { IfOk result (λ fault. IsTrue overlay.new.agreed →
         fault ≡ fault_of (column_of overlay.old.volume place (p + 1) b)) }
     ensures seen { IsSeen overlay.old overlay.new (b - p) }
-    ensures read { IfErr result (λ _. IsTrue overlay.old.on_disk) }
+    ensures read { IfErr result (λ _. IsTrue overlay.old.loaded.on_disk) }
 {
     for k in 0..b - p {
         let number = number_at(overlay, p + 1 + k, place)?;

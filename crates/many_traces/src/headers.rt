@@ -25,7 +25,7 @@ pub fn header(
     requires { IsTrue (is_trace overlay.old.volume p) }
     ensures ok { IfOk result (λ numbers. IsTrue overlay.new.agreed → numbers ≡ header_of
         overlay.old.volume.head names.items (trace_at overlay.old.volume p)) }
-    ensures err { IfErr result (λ fault. IsReadFault overlay.old.on_disk fault
+    ensures err { IfErr result (λ fault. IsReadFault overlay.old.loaded.on_disk fault
         ⊎ (fault ≡ no_memory)) }
     ensures seen { IsSeen overlay.old overlay.new 1 }
 {

@@ -79,7 +79,7 @@ pub fn push_row(
         ≡ vec_len numbers.old + length places.now) }
     ensures room { vec_capacity numbers.old ≤ vec_capacity numbers.new }
     ensures seen { IsSeen overlay.old overlay.new 1 }
-    ensures read { IfErr result (λ _. IsTrue overlay.old.on_disk) }
+    ensures read { IfErr result (λ _. IsTrue overlay.old.loaded.on_disk) }
 {
     let Some(trace) = overlay.look(p)? else {
         unreachable!()
@@ -100,7 +100,7 @@ pub fn has_row(
         (number_in overlay.old.volume.head (trace_at overlay.old.volume p) map.now.pairs)
         fields.now)) }
     ensures seen { IsSeen overlay.old overlay.new 1 }
-    ensures read { IfErr result (λ _. IsTrue overlay.old.on_disk) }
+    ensures read { IfErr result (λ _. IsTrue overlay.old.loaded.on_disk) }
 {
     let Some(trace) = overlay.look(p)? else {
         unreachable!()

@@ -43,7 +43,7 @@ pub fn exchanges_to_sort(
     ensures ok { IfOk result (λ pairs. IsTrue overlay.new.agreed → Sorts overlay.old.volume
         (each_of (place_in_trace map.now.pairs) fields.now) falling.now a b pairs.items) }
     ensures places { IfOk result (λ pairs. ArePlaces (count_of overlay.old.volume) pairs.items) }
-    ensures err { IfErr result (λ refusal. (IsReadRefusal overlay.old.on_disk refusal
+    ensures err { IfErr result (λ refusal. (IsReadRefusal overlay.old.loaded.on_disk refusal
         × (0 < looks_at (each_of (place_in_trace map.now.pairs) fields.now) (b + 1 - a))) ⊎
         (IsTrue overlay.new.agreed → IsRefusalFor refusal (sort_refusal overlay.old.volume a b
         (each_of (place_in_trace map.now.pairs) fields.now)))) }

@@ -40,7 +40,7 @@ pub fn table(
         b (each_of (place_in_trace map.now.pairs) fields.now) ≡ Ok (answers.Table rows)) }
     ensures count { IfOk result (λ rows. length rows ≡ b + 1 - a) }
     ensures wide { IfOk result (λ rows. All (λ row. length row.1 ≡ length fields.now) rows) }
-    ensures err { IfErr result (λ fault. (IsReadFault overlay.old.on_disk fault
+    ensures err { IfErr result (λ fault. (IsReadFault overlay.old.loaded.on_disk fault
         × (0 < looks_at (each_of (place_in_trace map.now.pairs) fields.now) (b + 1 - a))) ⊎
         (IsTrue overlay.new.agreed → IsFaultFor fault (table_answer overlay.old.volume a b
         (each_of (place_in_trace map.now.pairs) fields.now)))) }
@@ -88,7 +88,7 @@ fn filled(
         table_of overlay.old.volume places.now a b ≡ Some rows) }
     ensures count { IfOk result (λ rows. length rows ≡ b + 1 - a) }
     ensures wide { IfOk result (λ rows. All (λ row. length row.1 ≡ length places.now) rows) }
-    ensures err { IfErr result (λ fault. IsReadFault overlay.old.on_disk fault ⊎
+    ensures err { IfErr result (λ fault. IsReadFault overlay.old.loaded.on_disk fault ⊎
         (IsTrue overlay.new.agreed → (fault ≡ NoPlace) ×
         (table_of overlay.old.volume places.now a b ≡ None))) }
     ensures seen { IsSeen overlay.old overlay.new (b + 1 - a) }
@@ -118,7 +118,7 @@ fn without_memory(
         each_of (place_in_trace map.now.pairs) fields.now ≡ Some places →
         fault ≡ fault_of (table_of overlay.old.volume places a b)) }
     ensures seen { IsSeen overlay.old overlay.new (b + 1 - a) }
-    ensures read { IfErr result (λ _. IsTrue overlay.old.on_disk) }
+    ensures read { IfErr result (λ _. IsTrue overlay.old.loaded.on_disk) }
 {
     for k in 0..b - a + 1 {
         let there = has_row(overlay, map, a + k, fields)?;

@@ -1,12 +1,15 @@
 -- The tally of records whose numbers were counted all at once.
-use Rattle.std.specs.Prelude.{◌≡◌, ℤ, false, List, length, map, filter_map, count_by, refl}
+use Rattle.std.specs.Prelude.{◌≡◌, ℤ, false, List, [], ◌∷◌, ◌++◌, length, map, filter_map, count_by, refl}
 use Rattle.std.specs.Option.{option_map_or}
-use Rattle.std.proofs.Common.{sym, ap, ◌∙◌}
-use Rattle.std.proofs.lemmas.List.{length-map}
+use Rattle.std.proofs.Common.{sym, ap, ap₂, ◌∙◌}
+use Rattle.std.proofs.lemmas.List.{length-map, map-append}
+use Rattle.std.proofs.lemmas.List.Elements.{filter_map-append}
 use Rattle.std.specs.Ordering.{int_cmp, int_eq}
 use Rattle.trace_record.specs.Facts.{facts_of}
 use Rattle.range_stats.specs.RangeKeys.{ranges_has, keys_of_ranges}
 use Rattle.key_counts.specs.Counts.{count_of}
+use Rattle.key_counts.specs.Packed.{ratio_in}
+use Rattle.key_counts.specs.declared.packed_ratio.PackedRatio.{PackedRatio}
 use Rattle.key_counts.specs.declared.ratio.Ratio.{Ratio}
 use Rattle.trace_record.specs.Keys.{cell, inline, crossline, offset, coordinate_x, coordinate_y, least, greatest, triple}
 use Rattle.key_counts.specs.RatioOrder.{ratio_cmp}
@@ -91,3 +94,18 @@ Same-loaded_totals t rs n number sum least_of greatest_of = record {
     | triple i x o ↦ sym (sum_by-zero (map facts_of rs))
   ];
 }
+
+-- the ends of one trace more
+pub ends-behind : (end : Amplitudes → ℤ) (ys : List Record) (x : Record) (old new : List ℤ)
+    → old ≡ map end (filter_map (λ r. r.amplitudes) ys) → new ≡ old ++ map end (filter_map (λ r. r.amplitudes) (x ∷ []))
+    → new ≡ map end (filter_map (λ r. r.amplitudes) (ys ++ x ∷ []))
+ends-behind end ys x old new h e =
+    e ∙ ap (λ l. l ++ map end (filter_map (λ r. r.amplitudes) (x ∷ []))) h
+    ∙ sym (map-append end (filter_map (λ r. r.amplitudes) ys) (filter_map (λ r. r.amplitudes) (x ∷ [])))
+    ∙ sym (ap (map end) (filter_map-append (λ (r : Record). r.amplitudes) ys (x ∷ [])))
+
+-- a coordinate of one trace more
+pub coordinate-behind : (value : Record → Ratio) (ys : List Record) (x : Record) (old new : List PackedRatio) (k : PackedRatio)
+    → map ratio_in old ≡ map value ys → new ≡ old ++ k ∷ [] → ratio_in k ≡ value x → map ratio_in new ≡ map value (ys ++ x ∷ [])
+coordinate-behind value ys x old new k h e is =
+    ap (map ratio_in) e ∙ map-append ratio_in old (k ∷ []) ∙ ap₂ (λ l r. l ++ r ∷ []) h is ∙ sym (map-append value ys (x ∷ []))

@@ -1,43 +1,95 @@
-// The keys of records that ranges count, in their order.
-ghost use Rattle.std.specs.Prelude.{◌≡◌, IfOk, map, filter_map};
+// The keys of records that ranges and totals count, in their order, several lists made in one pass:
+// the records lie far apart, and a pass takes longer than what is taken from them.
+ghost use Rattle.std.specs.Prelude.{◌≡◌, ◌++◌, [], ◌∷◌, IfOk, OnOk, map, filter_map};
 ghost use Rattle.key_counts.specs.Packed.{ratio_in};
+ghost use Rattle.trace_record.specs.Facts.{facts_of};
+ghost use Rattle.trace_record.specs.Tally.{tally_of, IsSmall};
+ghost use Rattle.range_stats.specs.TotalKeys.{keys_of_totals};
 
+use crate::sums::Sums;
+use crate::whole_counts::{WholeExtents, Windows};
 use key_counts::PackedRatio;
-use record_table::Records;
-use std::alloc::{AllocError, Global};
+use record_table::{OutOfMemory, Records};
+use std::alloc::Global;
+use trace_record::Record;
 
-pub(crate) fn x_keys(alloc: Global, records: &Records) -> Result<Vec<PackedRatio>, AllocError>
-    ensures { IfOk result (λ keys. map ratio_in keys.items ≡ map (λ r. r.x) records.now) }
-{
-    records.iter().map(|r| r.packed_x()).collect(alloc)
+// Both coordinates of each record, and where the whole numbers of all lie densely.
+#[derive(Drop)]
+pub(crate) struct CoordinateKeys {
+    pub x: Vec<PackedRatio>,
+    pub y: Vec<PackedRatio>,
+    pub windows: Windows,
 }
 
-pub(crate) fn y_keys(alloc: Global, records: &Records) -> Result<Vec<PackedRatio>, AllocError>
-    ensures { IfOk result (λ keys. map ratio_in keys.items ≡ map (λ r. r.y) records.now) }
+pub(crate) fn coordinate_keys(
+    alloc: Global,
+    records: &Records,
+) -> Result<CoordinateKeys, OutOfMemory>
+    ensures x { IfOk result (λ keys. map ratio_in keys.x.items ≡ map (λ r. r.x) records.now) }
+    ensures y { IfOk result (λ keys. map ratio_in keys.y.items ≡ map (λ r. r.y) records.now) }
 {
-    records.iter().map(|r| r.packed_y()).collect(alloc)
+    let mut x = Vec::with_capacity(alloc, records.len())?;
+    let mut y = Vec::with_capacity(alloc, records.len())?;
+    let mut extents = WholeExtents::none();
+    for trace in records.iter() {
+        extents.include(&trace);
+        x.push(trace.packed_x())?;
+        y.push(trace.packed_y())?;
+    }
+    let windows = extents.windows(records.len());
+    Ok(CoordinateKeys { x, y, windows })
 }
 
-// The least samples of the traces whose samples have values.
-pub(crate) fn least_keys(alloc: Global, records: &Records) -> Result<Vec<i128>, AllocError>
-    ensures { IfOk result (λ keys. keys.items ≡
+// The least and the greatest sample of each trace whose samples have values, and what the samples
+// of all traces come to.
+#[derive(Drop)]
+pub(crate) struct EndKeys {
+    pub least: Vec<i128>,
+    pub greatest: Vec<i128>,
+    pub sums: Sums,
+}
+
+pub(crate) fn end_keys(alloc: Global, records: &Records) -> Result<EndKeys, OutOfMemory>
+    requires { IsSmall (tally_of keys_of_totals (map facts_of records.now)) }
+    ensures least { IfOk result (λ keys. keys.least.items ≡
         map (λ a. a.least) (filter_map (λ r. r.amplitudes) records.now)) }
+    ensures greatest { IfOk result (λ keys. keys.greatest.items ≡
+        map (λ a. a.greatest) (filter_map (λ r. r.amplitudes) records.now)) }
+    ensures number { IfOk result (λ keys. keys.sums.number ≡
+        (tally_of keys_of_totals (map facts_of records.now)).number) }
+    ensures sum { IfOk result (λ keys. keys.sums.sum ≡
+        (tally_of keys_of_totals (map facts_of records.now)).sum) }
 {
-    records
-        .iter()
-        .filter_map(|r| r.amplitudes)
-        .map(|a| a.least)
-        .collect(alloc)
+    let mut least = Vec::with_capacity(alloc, records.len())?;
+    let mut greatest = Vec::with_capacity(alloc, records.len())?;
+    let mut sums = Sums { number: 0, sum: 0 };
+    for trace in records.iter() {
+        push_ends(&mut least, &mut greatest, &trace)?;
+        let values = Sums::of(&trace);
+        sums.number += values.number;
+        sums.sum += values.sum;
+    }
+    Ok(EndKeys {
+        least,
+        greatest,
+        sums,
+    })
 }
 
-// The greatest samples of the traces whose samples have values.
-pub(crate) fn greatest_keys(alloc: Global, records: &Records) -> Result<Vec<i128>, AllocError>
-    ensures { IfOk result (λ keys. keys.items ≡
-        map (λ a. a.greatest) (filter_map (λ r. r.amplitudes) records.now)) }
+// Puts the ends of the trace behind the others, where its samples have values.
+fn push_ends(
+    least: &mut Vec<i128>,
+    greatest: &mut Vec<i128>,
+    trace: &Record,
+) -> Result<(), OutOfMemory>
+    ensures least { OnOk result (least.new.items ≡ least.old.items ++
+        map (λ a. a.least) (filter_map (λ r. r.amplitudes) (trace.now ∷ []))) }
+    ensures greatest { OnOk result (greatest.new.items ≡ greatest.old.items ++
+        map (λ a. a.greatest) (filter_map (λ r. r.amplitudes) (trace.now ∷ []))) }
 {
-    records
-        .iter()
-        .filter_map(|r| r.amplitudes)
-        .map(|a| a.greatest)
-        .collect(alloc)
+    if let Some(amplitudes) = trace.amplitudes {
+        least.push(amplitudes.least)?;
+        greatest.push(amplitudes.greatest)?;
+    }
+    Ok(())
 }

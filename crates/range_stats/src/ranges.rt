@@ -8,9 +8,9 @@ ghost use Rattle.range_stats.specs.Extremes.{whole_count};
 
 use crate::Quantity;
 use crate::coordinate_counts::CoordinateCounts;
-use crate::key_lists::{x_keys, y_keys};
+use crate::key_lists::{CoordinateKeys, coordinate_keys};
 use crate::keys::Keys;
-use crate::whole_counts::{WholeQuantity, whole_counts};
+use crate::whole_counts::WholeCounts;
 use key_counts::{OutOfMemory, Ratio, lower_any, lower_both, raise_any, raise_both};
 use record_table::{Records, Running};
 use std::alloc::Global;
@@ -49,11 +49,14 @@ impl Running for Ranges {
     }
 
     fn from_records(alloc: Global, records: &Records) -> Result<Ranges, record_table::OutOfMemory> {
-        let inlines = whole_counts(alloc, records, WholeQuantity::Inline)?;
-        let crosslines = whole_counts(alloc, records, WholeQuantity::Crossline)?;
-        let offsets = whole_counts(alloc, records, WholeQuantity::Offset)?;
-        let coordinates_x = CoordinateCounts::from_keys(alloc, x_keys(alloc, records)?)?;
-        let coordinates_y = CoordinateCounts::from_keys(alloc, y_keys(alloc, records)?)?;
+        let CoordinateKeys { x, y, windows } = coordinate_keys(alloc, records)?;
+        let WholeCounts {
+            inlines,
+            crosslines,
+            offsets,
+        } = WholeCounts::of(alloc, records, &windows)?;
+        let coordinates_x = CoordinateCounts::from_keys(alloc, x)?;
+        let coordinates_y = CoordinateCounts::from_keys(alloc, y)?;
         Ok(Ranges {
             records: records.len() as u64,
             inlines,

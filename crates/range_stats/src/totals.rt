@@ -1,6 +1,6 @@
 use crate::ends::Ends;
-use crate::key_lists::{greatest_keys, least_keys};
-use crate::sums::{Sums, sums_of};
+use crate::key_lists::{EndKeys, end_keys};
+use crate::sums::Sums;
 use key_counts::{Counts, OutOfMemory, lower_both, raise_both};
 use record_table::{Records, Running};
 use std::alloc::Global;
@@ -37,9 +37,13 @@ impl Running for Totals {
     }
 
     fn from_records(alloc: Global, records: &Records) -> Result<Totals, record_table::OutOfMemory> {
-        let least_samples = Counts::from_keys(alloc, least_keys(alloc, records)?)?;
-        let greatest_samples = Counts::from_keys(alloc, greatest_keys(alloc, records)?)?;
-        let sums = sums_of(records);
+        let EndKeys {
+            least,
+            greatest,
+            sums,
+        } = end_keys(alloc, records)?;
+        let least_samples = Counts::from_keys(alloc, least)?;
+        let greatest_samples = Counts::from_keys(alloc, greatest)?;
         Ok(Totals {
             records: records.len() as u64,
             number: sums.number,

@@ -22,7 +22,7 @@ pub trait Running: Drop {
         ensures { Same (tally result) empty_tally };
 
     /// The value that counted these traces, made all at once from sorted keys. Takes memory for
-    /// what it holds and, while it is made, for a list of keys and one of their runs; refused for
+    /// what it holds and, while it is made, for lists of keys and one of their runs; refused for
     /// want of it alone.
     fn from_records(alloc: Global, records: &Records<'_>) -> Result<Self, OutOfMemory>
         requires { IsSmall (tally_of counted (map facts_of records.now)) }

@@ -1,10 +1,14 @@
 -- The ends of a run, from those of its steps.
-use Rattle.std.proofs.Common.{◌≡◌, ℕ, ◌+◌, Bool, false, List, [], ◌∷◌, ◌++◌, length, take, sym, subst, inl, inr}
+use Rattle.std.proofs.Common.{◌≡◌, ◌∙◌, refl, ℕ, ◌+◌, Bool, true, false, List, [], ◌∷◌, ◌++◌, length, take, append-nil, sym, subst, inl, inr}
 use Rattle.std.specs.Prelude.{IsTrue}
 use Rattle.frame_cut.specs.declared.limits.Limits.{Limits}
 use Rattle.frame_cut.specs.declared.load_fault.LoadFault.{LoadFault}
 use Rattle.frame_cut.specs.declared.reading.Reading.{Reading}
 use Rattle.bench_rules.specs.State.{State}
+use Rattle.field_map.specs.Binding.{geometry_at_load}
+use Rattle.frame_cut.specs.Cuts.{IsCut}
+use Rattle.frame_cut.specs.Volume.{bytes_of}
+use Rattle.script_run.specs.OnDisk.{unread, read_whole}
 use Rattle.bench_laws.specs.EditLaws.{StepsStayCut}
 use Rattle.script_run.specs.declared.options.Options.{Options}
 use Rattle.script_run.specs.declared.run_end.RunEnd.{RunEnd}
@@ -28,6 +32,24 @@ loads_in_memory old new reading limits start memory loads = subst (λ (d : Bool)
 -- what is said of a run over a volume in memory
 pub runs_in_memory : (options : Options) (old new : Devices) (result : RunEnd) (start : State) → start.on_disk ≡ false → Runs start.on_disk options old new result → Runs false options old new result
 runs_in_memory options old new result start memory runs = subst (λ (d : Bool). Runs d options old new result) memory runs
+
+-- a file whose bytes are known is loaded by a reader that has them all to give
+pub loads_whole : (start : State) (bytes : List ℕ) (reading : Reading) (limits : Limits) → bytes ≡ bytes_of start.volume → IsCut (bytes_of start.volume) reading limits start.volume
+    → start.fields ≡ geometry_at_load → start.reading ≡ reading → start.limits ≡ limits → Loads (unread bytes) read_whole reading limits start.on_disk start
+loads_whole start bytes reading limits is cut fields how within = record {
+  bytes = is ∙ sym (append-nil (bytes_of start.volume));
+  end = refl;
+  cut = cut;
+  fields = fields;
+  reading_is = how;
+  limits_are = within;
+  place_is = refl;
+  failures = refl;
+}
+
+-- what is said of a run over a volume on disk
+pub runs_on_disk : (options : Options) (old new : Devices) (result : RunEnd) (start : State) → start.on_disk ≡ true → Runs start.on_disk options old new result → Runs true options old new result
+runs_on_disk options old new result start disk runs = subst (λ (d : Bool). Runs d options old new result) disk runs
 
 pub load_end : (on_disk : Bool) (options : Options) (old new : Devices) (fault : LoadFault) (result : RunEnd) → RefusesLoad options old new fault
     → IsTold old.answers new.answers (load_refusal_line fault) (ends.Load fault) result → Runs on_disk options old new result

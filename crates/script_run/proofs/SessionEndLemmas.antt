@@ -1,5 +1,5 @@
 -- The ends of a session, from those of its lines.
-use Rattle.std.proofs.Common.{◌≡◌, ◌⊎◌, ℕ, ◌+◌, Bool, false, List, [], ◌∷◌, ◌++◌, length, sym, subst, inl, inr, arith, refl, ◌∙◌}
+use Rattle.std.proofs.Common.{◌≡◌, ◌⊎◌, ℕ, ◌+◌, Bool, true, false, List, [], ◌∷◌, ◌++◌, length, sym, subst, inl, inr, arith, refl, ◌∙◌}
 use Rattle.frame_cut.specs.declared.load_fault.LoadFault.{LoadFault}
 use Rattle.bench_rules.specs.State.{State}
 use Rattle.bench_laws.specs.EditLaws.{StepsStayCut}
@@ -23,6 +23,10 @@ use Rattle.script_run.specs.SessionLineRuns.{Answered, AnswersTo}
 -- what is said of a session over a volume in memory
 pub session_in_memory : (options : Options) (old new : Devices) (result : RunEnd) (start : State) → start.on_disk ≡ false → Session start.on_disk options old new result → Session false options old new result
 session_in_memory options old new result start memory session = subst (λ (d : Bool). Session d options old new result) memory session
+
+-- and over one on disk
+pub session_on_disk : (options : Options) (old new : Devices) (result : RunEnd) (start : State) → start.on_disk ≡ true → Session start.on_disk options old new result → Session true options old new result
+session_on_disk options old new result start disk session = subst (λ (d : Bool). Session d options old new result) disk session
 
 pub load_end : (on_disk : Bool) (options : Options) (old new : Devices) (fault : LoadFault) (result : RunEnd) → RefusesLoad options old new fault
     → IsTold old.answers new.answers (load_refusal_line fault) (ends.Load fault) result → Session on_disk options old new result

@@ -6,6 +6,7 @@ pub mod FromScratch
 pub mod Laws
 pub mod Telling
 pub mod Sessions
+pub mod OnDisk
 pub mod Input
 pub mod NextLine
 pub mod SessionLineRuns

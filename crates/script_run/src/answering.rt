@@ -39,6 +39,7 @@ pub(crate) fn answer_lines<S: Read, A: Write>(
         (device_of A.contents answers.old) (device_of A.contents answers.new) result }
     ensures same { IsReadAs bench.old.state bench.new.state }
     ensures agreed { IsTrue bench.new.agreed → IsTrue bench.old.agreed }
+    ensures loaded { bench.new.loaded ≡ bench.old.loaded }
 {
     let mut ahead = ReadAhead::new();
     let mut line = HeldLine::new(alloc);
@@ -93,6 +94,7 @@ fn answer<A: Write>(
         printed result }
     ensures same { IsReadAs bench.old.state bench.new.state }
     ensures agreed { IsTrue bench.new.agreed → IsTrue bench.old.agreed }
+    ensures loaded { bench.new.loaded ≡ bench.old.loaded }
 {
     let reply = reply_to(alloc, bench, line);
     write_reply(out, answers, &reply, b"\n")
@@ -104,6 +106,7 @@ fn reply_to(alloc: Global, bench: &mut Bench, line: &HeldLine) -> Reply
         AnswerStep bench.old.state text (printed_of result) bench.new.state }
     ensures same { IsReadAs bench.old.state bench.new.state }
     ensures agreed { IsTrue bench.new.agreed → IsTrue bench.old.agreed }
+    ensures loaded { bench.new.loaded ≡ bench.old.loaded }
 {
     match line.read() {
         LineRead::Text => run_line(alloc, bench, strip_return(line.bytes())),

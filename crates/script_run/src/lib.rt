@@ -2,18 +2,21 @@
 //!
 //! [`run`] loads a volume, reads a script whole and runs its lines; [`session`] loads a volume and
 //! answers the lines of a reader one by one, with an empty line behind each answer. Both answer by
-//! [`RunEnd`], which is the whole report of a run. They take memory for the volume and for lines,
-//! and tell want of it as L16, P03 or E11; to print a reply takes none. Lines count from 1, those
-//! that print nothing too; traces count from 1.
+//! [`RunEnd`], which is the whole report of a run. [`run_on_disk`] and [`session_on_disk`] do the
+//! same over a file whose bytes stay on disk, and give the volume back beside the end. They take
+//! memory for the volume and for lines, and tell want of it as L16, P03 or E11; to print a reply
+//! takes none. Lines count from 1, those that print nothing too; traces count from 1.
 #![tactic(auto)]
 
 mod answering;
+mod disk_run;
 mod held_line;
 mod laws;
 mod line_input;
 mod line_read;
 mod lines_end;
 mod next;
+mod on_disk;
 mod options;
 mod read_ahead;
 mod run_end;
@@ -24,9 +27,11 @@ mod told;
 mod whole_run;
 mod whole_session;
 
+pub use crate::disk_run::DiskRun;
 pub use crate::laws::{lines_are_edits, lines_from_scratch, reloads_as_saved, session_is_run};
+pub use crate::on_disk::{load_on_disk, run_on_disk, session_on_disk};
 pub use crate::options::Options;
 pub use crate::run_end::RunEnd;
-pub use crate::whole_run::{load_on_disk, refuse_load, run, run_loaded};
+pub use crate::whole_run::{run, run_loaded};
 pub use crate::whole_session::{session, session_loaded};
 pub use bench_core::Bench;

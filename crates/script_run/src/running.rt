@@ -35,6 +35,7 @@ pub(crate) fn run_lines<A: Write>(
         (device_of A.contents answers.new) result }
     ensures same { IsReadAs bench.old.state bench.new.state }
     ensures agreed { IsTrue bench.new.agreed → IsTrue bench.old.agreed }
+    ensures loaded { bench.new.loaded ≡ bench.old.loaded }
 {
     let mut lines = Lines::new(script);
     let mut out = OutBuffer::new();
@@ -80,6 +81,7 @@ fn answer_line<A: Write>(
         × IsWritten old new printed result }
     ensures same { IsReadAs bench.old.state bench.new.state }
     ensures agreed { IsTrue bench.new.agreed → IsTrue bench.old.agreed }
+    ensures loaded { bench.new.loaded ≡ bench.old.loaded }
 {
     let reply = run_line(alloc, bench, line);
     if let Some(fault) = fault_of(&reply) {
@@ -94,6 +96,7 @@ pub(crate) fn run_line(alloc: Global, bench: &mut Bench, line: &[u8]) -> Reply
         LineStep bench.old.state line.now (printed_of result) bench.new.state }
     ensures same { IsReadAs bench.old.state bench.new.state }
     ensures agreed { IsTrue bench.new.agreed → IsTrue bench.old.agreed }
+    ensures loaded { bench.new.loaded ≡ bench.old.loaded }
 {
     match parse_line(alloc, line) {
         Ok(None) => Reply::Silent,
@@ -107,6 +110,7 @@ fn run_command(alloc: Global, bench: &mut Bench, command: &Command) -> Reply
         CommandStep bench.old.state command.now (printed_of result) bench.new.state }
     ensures same { IsReadAs bench.old.state bench.new.state }
     ensures agreed { IsTrue bench.new.agreed → IsTrue bench.old.agreed }
+    ensures loaded { bench.new.loaded ≡ bench.old.loaded }
 {
     match command {
         Command::Apply(edit) => Reply::Edited(bench.apply(alloc, edit)),

@@ -1,10 +1,7 @@
 // Runs a script over a volume.
 ghost use Rattle.std.specs.Prelude.{◌≡◌, length, true, false, IsTrue, IfOk, IfErr, MatchResult};
 ghost use Rattle.live_volume.specs.Held.{IsReadAs};
-ghost use Rattle.field_map.specs.Binding.{geometry_at_load};
-ghost use Rattle.frame_cut.specs.Cuts.{IsCut};
 ghost use Rattle.frame_cut.specs.Volume.{bytes_of};
-ghost use Rattle.edit_overlay.specs.PassedFile.{IsPassFault};
 ghost use Rattle.script_text.specs.RefusalTexts.{load_refusal_line};
 ghost use Rattle.script_run.specs.declared.run_end.RunEnd.TheVariants as ends;
 ghost use Rattle.script_text.specs.Devices.{Device, device_of, Takes};
@@ -24,7 +21,6 @@ use frame_cut::LoadFault;
 use script_hints::Notes;
 use script_text::{TextBuffer, load_fault_line, script_fault_line, write_text};
 use std::alloc::Global;
-use std::fs::File;
 use std::io::{Read, Write};
 
 /// Runs a script over a volume: loads the volume, reads the script whole, runs its lines in order,
@@ -88,6 +84,7 @@ pub fn run_loaded<S: Read, A: Write, O: Write>(
         result }
     ensures same { IsReadAs bench.old.state bench.new.state }
     ensures agreed { IsTrue bench.new.agreed → IsTrue bench.old.agreed }
+    ensures loaded { bench.new.loaded ≡ bench.old.loaded }
 {
     // The law by which each line is answered as from scratch, for the proof.
     steps_stay_cut();
@@ -121,37 +118,6 @@ pub(crate) fn load<R: Read>(
     Bench::load(alloc, reader, options.reading, options.limits)
 }
 
-/// Loads a file that stays on disk, and has so many bytes, in one pass over it. Takes memory.
-/// Refused: L01 where a read failed or the file has not so many bytes, L02 to L15 or L17 for the
-/// first reason that every file with the bytes that were read and so many gives, L16 where a growth
-/// was refused.
-pub fn load_on_disk(
-    alloc: Global,
-    file: File,
-    size: u64,
-    options: Options,
-) -> Result<Bench, LoadFault>
-    ensures cut { IfOk result (λ bench. IsCut (bytes_of bench.state.volume) options.reading
-        options.limits bench.state.volume) }
-    ensures size { IfOk result (λ bench. length (bytes_of bench.state.volume) ≡ size) }
-    ensures fields { IfOk result (λ bench. bench.state.fields ≡ geometry_at_load) }
-    ensures reading { IfOk result (λ bench. bench.state.reading ≡ options.reading) }
-    ensures limits { IfOk result (λ bench. bench.state.limits ≡ options.limits) }
-    ensures place { IfOk result (λ bench. bench.state.on_disk ≡ true) }
-    ensures agreed { IfOk result (λ bench. IsTrue bench.agreed) }
-    ensures refused { IfErr result (IsPassFault size options.reading options.limits) }
-{
-    Bench::load_on_disk(alloc, file, size, options.reading, options.limits)
-}
-
-/// Tells of a file that was not loaded, which ends the run.
-pub fn refuse_load<A: Write>(answers: &mut Sink<A>, fault: LoadFault) -> RunEnd
-    ensures { IsTold (device_of A.contents answers.old) (device_of A.contents answers.new)
-        (load_refusal_line fault) (ends.Load fault) result }
-{
-    tell(answers, &load_fault_line(fault), RunEnd::Load(fault))
-}
-
 pub(crate) fn save<O: Write>(bench: &mut Bench, out: &mut Sink<O>) -> Result<(), SaveFault>
     ensures saved { let old = device_of O.contents out.old in
         let new = device_of O.contents out.new in
@@ -161,6 +127,7 @@ pub(crate) fn save<O: Write>(bench: &mut Bench, out: &mut Sink<O>) -> Result<(),
         fault) }
     ensures state { bench.new.state ≡ bench.old.state }
     ensures agreed { IsTrue bench.new.agreed → IsTrue bench.old.agreed }
+    ensures loaded { bench.new.loaded ≡ bench.old.loaded }
 {
     bench.save(out)
 }

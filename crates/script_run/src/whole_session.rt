@@ -77,6 +77,7 @@ pub fn session_loaded<S: Read, A: Write, O: Write>(
         result }
     ensures same { IsReadAs bench.old.state bench.new.state }
     ensures agreed { IsTrue bench.new.agreed → IsTrue bench.old.agreed }
+    ensures loaded { bench.new.loaded ≡ bench.old.loaded }
 {
     // The law by which each line is answered as from scratch, for the proof.
     steps_stay_cut();

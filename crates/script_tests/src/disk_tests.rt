@@ -2,8 +2,9 @@
 use crate::tests::{options, put, sample_file};
 use device_io::{Sink, Source, StepReader};
 use edit_overlay::ReadFault;
+use frame_cut::LoadFault;
 use script_hints::Notes;
-use script_run::{RunEnd, load_on_disk, run_loaded};
+use script_run::{RunEnd, load_on_disk, run_loaded, run_on_disk, session_on_disk};
 use std::alloc::Global;
 use std::fs;
 use std::fs::File;
@@ -20,7 +21,7 @@ struct Told {
 
 // A run of this script over a file of this name that has these bytes when it is loaded, and those
 // then.
-fn run_on_disk(
+fn run_meanwhile(
     rt: &impl Files<File = File>,
     alloc: Global,
     name: &str,
@@ -30,7 +31,9 @@ fn run_on_disk(
     let options = options(false, true)?;
     fs::write(rt, name, bytes)?;
     let file = fs::open(rt, name)?;
-    let mut bench = load_on_disk(alloc, file, bytes.len() as u64, options)?;
+    let Ok(mut bench) = load_on_disk(alloc, file, bytes.len() as u64, options) else {
+        return Err("a load".into());
+    };
     fs::write(rt, name, later)?;
     let mut lines = Source::new(StepReader::new(script, 4096, u64::MAX));
     let mut answers = Sink::new(Vec::new(alloc));
@@ -56,7 +59,7 @@ fn runs_and_saves_on_disk(rt: HostRuntime) -> Result<(), Fail> {
     let mut file = sample_file(rt.alloc())?;
     let bytes = (file.as_slice(), file.as_slice());
     let script = b"set 2 @189:4 7\nget 2 @189:4\n";
-    let told = run_on_disk(&rt, rt.alloc(), "whole.sgy", bytes, script)?;
+    let told = run_meanwhile(&rt, rt.alloc(), "whole.sgy", bytes, script)?;
     put(file.as_mut_slice(), 4036, &[7]);
     assert_eq!(rt; told.end, RunEnd::Done { refused: 0 });
     assert!(rt; told.answers.as_slice() == b"ok\nvalue 7\n".as_slice());
@@ -69,7 +72,7 @@ fn tells_of_what_cannot_be_read(rt: HostRuntime) -> Result<(), Fail> {
     let file = sample_file(rt.alloc())?;
     let short = file.as_slice().get(..4100).ok_or("part")?;
     let script = b"set 3 @189:4 7\nget 3 @189:4\nget 2 @189:4\n";
-    let told = run_on_disk(
+    let told = run_meanwhile(
         &rt,
         rt.alloc(),
         "short.sgy",
@@ -83,5 +86,57 @@ fn tells_of_what_cannot_be_read(rt: HostRuntime) -> Result<(), Fail> {
         _ => None,
     };
     assert_eq!(rt; read, Some(ReadFault::ReadFailed));
+    Ok(())
+}
+
+#[test]
+fn a_run_on_disk_is_one_call(rt: HostRuntime) -> Result<(), Fail> {
+    let alloc = rt.alloc();
+    let file = sample_file(alloc)?;
+    fs::write(&rt, "run.sgy", file.as_slice())?;
+    let mut lines = Source::new(StepReader::new(b"count\nget 2 @189:4\n", 4096, u64::MAX));
+    let mut answers = Sink::new(Vec::new(alloc));
+    let mut out = Sink::new(Vec::new(alloc));
+    let run = run_on_disk(
+        alloc,
+        fs::open(&rt, "run.sgy")?,
+        file.len() as u64,
+        &mut lines,
+        &mut answers,
+        &mut out,
+        options(false, true)?,
+        &mut Notes::new(),
+    );
+    assert_eq!(rt; run.end, RunEnd::Done { refused: 0 });
+    assert!(rt; run.volume.is_ok());
+    assert!(rt; answers.into_inner().as_slice() == b"traces 3\nvalue 10\n".as_slice());
+    assert!(rt; out.into_inner().as_slice() == file.as_slice());
+    Ok(())
+}
+
+// A file that is one byte shorter than it was told to be, and then the whole one.
+#[test]
+fn a_session_on_disk_is_one_call(rt: HostRuntime) -> Result<(), Fail> {
+    let alloc = rt.alloc();
+    let file = sample_file(alloc)?;
+    fs::write(&rt, "session.sgy", file.as_slice())?;
+    let mut lines = Source::new(StepReader::new(b"count\n", 4096, u64::MAX));
+    let mut answers = Sink::new(Vec::new(alloc));
+    let mut out = Sink::new(Vec::new(alloc));
+    for (more, wanted) in [(1, Some(LoadFault::ReadFailed)), (0, None)] {
+        let run = session_on_disk(
+            alloc,
+            fs::open(&rt, "session.sgy")?,
+            file.len() as u64 + more,
+            &mut lines,
+            &mut answers,
+            &mut out,
+            options(false, false)?,
+        );
+        let fault = run.volume.as_ref().err().map(|refused| refused.fault());
+        assert_eq!(rt; fault, wanted);
+    }
+    let told = b"load refused L01 read failed\ntraces 3\n\n";
+    assert!(rt; answers.into_inner().as_slice() == told.as_slice());
     Ok(())
 }

@@ -11,9 +11,7 @@ use device_io::{Sink, Source};
 use frame_cut::{Limits, Reading};
 use safe_save::{Original, Save};
 use script_hints::Notes;
-use script_run::{
-    Bench, Options, RunEnd, load_on_disk, refuse_load, run, run_loaded, session, session_loaded,
-};
+use script_run::{Options, RunEnd, run, run_on_disk, session, session_on_disk};
 use std::fs::{File, OpenFile};
 use std::io::{BufWriter, Write};
 use std::os::fd::AsFd;
@@ -231,51 +229,22 @@ fn answer_on_disk<R: Files<File = File> + AllocGlobal + Print + Input, O: Write>
     notes: &mut Notes,
 ) -> RunEnd {
     let answers = &mut Sink::new(io::writer(rt));
-    match load_on_disk(rt.alloc(), volume, bytes, options) {
-        Ok(mut bench) => answer_over(rt, &mut bench, lines, answers, out, options, notes),
-        Err(fault) => refuse_load(answers, fault),
-    }
-}
-
-// Answers the lines over a volume that was loaded.
-fn answer_over<R: Files<File = File> + AllocGlobal + Input, A: Write, O: Write>(
-    rt: &R,
-    bench: &mut Bench,
-    lines: Lines<File>,
-    answers: &mut Sink<A>,
-    out: &mut Sink<O>,
-    options: Options,
-    notes: &mut Notes,
-) -> RunEnd {
     let alloc = rt.alloc();
-    match lines {
-        Lines::File(file) => run_loaded(
-            alloc,
-            bench,
-            &mut Source::new(file),
-            answers,
-            out,
-            options,
-            notes,
-        ),
-        Lines::Standard => run_loaded(
-            alloc,
-            bench,
-            &mut Source::new(rt.reader()),
-            answers,
-            out,
-            options,
-            notes,
-        ),
-        Lines::Session => session_loaded(
-            alloc,
-            bench,
-            &mut Source::new(rt.reader()),
-            answers,
-            out,
-            options,
-        ),
-    }
+    let run = match lines {
+        Lines::File(file) => {
+            let script = &mut Source::new(file);
+            run_on_disk(alloc, volume, bytes, script, answers, out, options, notes)
+        }
+        Lines::Standard => {
+            let script = &mut Source::new(rt.reader());
+            run_on_disk(alloc, volume, bytes, script, answers, out, options, notes)
+        }
+        Lines::Session => {
+            let script = &mut Source::new(rt.reader());
+            session_on_disk(alloc, volume, bytes, script, answers, out, options)
+        }
+    };
+    run.end
 }
 
 // How the command line asks for the run.

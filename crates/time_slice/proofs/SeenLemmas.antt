@@ -14,7 +14,7 @@ rises_by_one n = by (nat_lt n (2 ^ 64 - 1))
 module _ {T : Type 0} where
   -- it is as it was
   pub seen_none : (o : CountedVolume T) → IsSeen o o 0
-  seen_none o = record { volume = refl; prepared = refl; payloads = refl; payloads_prepared = refl; on_disk = refl; looks = (omega arith, omega arith); agreed = λ sure. sure }
+  seen_none o = record { volume = refl; prepared = refl; payloads = refl; payloads_prepared = refl; loaded = refl; looks = (omega arith, omega arith); agreed = λ sure. sure }
 
   -- after one look more
   pub seen_more : (old now last : CountedVolume T) (n : ℕ) → IsSeen old now n → last ≡ after_look now last.agreed → (IsTrue last.agreed → IsTrue now.agreed) → IsSeen old last (n + 1)
@@ -28,7 +28,7 @@ module _ {T : Type 0} where
         prepared = ap (λ (o : CountedVolume T). o.prepared) look ∙ seen.prepared;
         payloads = ap (λ (o : CountedVolume T). o.payloads) look ∙ seen.payloads;
         payloads_prepared = ap (λ (o : CountedVolume T). o.payloads_prepared) look ∙ seen.payloads_prepared;
-        on_disk = ap (λ (o : CountedVolume T). o.on_disk) look ∙ seen.on_disk;
+        loaded = ap (λ (o : CountedVolume T). o.loaded) look ∙ seen.loaded;
         looks = subst (λ (k : ℕ). RisesAtMost old.looks k (n + 1)) (sym counted) rise;
         agreed = λ sure. seen.agreed (fell sure);
       }
@@ -42,7 +42,7 @@ module _ {T : Type 0} where
         prepared = seen.prepared;
         payloads = seen.payloads;
         payloads_prepared = seen.payloads_prepared;
-        on_disk = seen.on_disk;
+        loaded = seen.loaded;
         looks = (rose.0, omega (arith, rose.1, less));
         agreed = seen.agreed;
       }

@@ -41,7 +41,7 @@ pub fn rows(
     ensures fits { IfOk result (λ v.
         All (λ r. IsTrue (value_fits overlay.old.volume.head.format r.value)) v.items) }
     ensures seen { IsSeen overlay.old overlay.new (count_of overlay.old.volume) }
-    ensures read { IfErr result (λ fault. IsOfRead fault → IsTrue overlay.old.on_disk
+    ensures read { IfErr result (λ fault. IsOfRead fault → IsTrue overlay.old.loaded.on_disk
         × (0 < count_of overlay.old.volume)) }
 {
     let mut rows = rows_in_place(alloc, overlay, k)?;
@@ -61,7 +61,7 @@ fn rows_in_place(
     ensures fits { IfOk result (λ v.
         All (λ r. IsTrue (value_fits overlay.old.volume.head.format r.value)) v.items) }
     ensures seen { IsSeen overlay.old overlay.new (count_of overlay.old.volume) }
-    ensures read { IfErr result (λ fault. IsOfRead fault → IsTrue overlay.old.on_disk
+    ensures read { IfErr result (λ fault. IsOfRead fault → IsTrue overlay.old.loaded.on_disk
         × (0 < count_of overlay.old.volume)) }
 {
     // Room for all at once: a list that grows is copied again and again, each time to fresh memory.
@@ -90,7 +90,7 @@ fn sample_in(overlay: &mut Overlay<PackedRecord>, p: u32, k: u32) -> Result<Opti
         IfSome sample (λ v. IsTrue (value_fits overlay.old.volume.head.format v))) }
     ensures looked { overlay.new ≡ after_look overlay.old overlay.new.agreed }
     ensures agreed { IsTrue overlay.new.agreed → IsTrue overlay.old.agreed }
-    ensures read { IfErr result (λ _. IsTrue overlay.old.on_disk) }
+    ensures read { IfErr result (λ _. IsTrue overlay.old.loaded.on_disk) }
 {
     let Some(trace) = overlay.look(p)? else {
         unreachable!()

@@ -83,7 +83,7 @@ impl SliceCache {
         ensures err { OnErr result (self.new ≡ self.old) }
         ensures seen { IsSeen overlay.old overlay.new
             (if keeps k self.old.entries then 0 else count_of overlay.old.volume) }
-        ensures read { IfErr result (λ fault. IsOfRead fault → IsTrue overlay.old.on_disk
+        ensures read { IfErr result (λ fault. IsOfRead fault → IsTrue overlay.old.loaded.on_disk
             × (0 < count_of overlay.old.volume) × IsFalse (keeps k self.old.entries)) }
     {
         if self.cached(k) {

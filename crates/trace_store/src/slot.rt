@@ -41,7 +41,6 @@ impl Base {
         requires inside { IsInside loaded.old.bytes self.now }
         requires fit { Fit runs.now (size_of self.now) }
         ensures still { IsStill loaded.old loaded.new }
-        ensures room { length loaded.new.room ≡ length loaded.old.room }
         ensures lent { OnOk result (IsLent loaded.new head.now self.now runs.now) }
     {
         self.read(loaded)?;
@@ -55,7 +54,6 @@ impl Base {
     fn read(&self, loaded: &mut Held) -> Result<(), ReadFault>
         requires { IsInside loaded.old.bytes self.now }
         ensures still { IsStill loaded.old loaded.new }
-        ensures room { length loaded.new.room ≡ length loaded.old.room }
         ensures there { OnOk result (IsBaseThere loaded.new self.now) }
         ensures size { OnOk result (length (lent_base loaded.new self.now) ≡ size_of self.now) }
         ensures same { OnOk result (IsSure loaded.new.standing →

@@ -60,28 +60,27 @@ impl<T: Copy> TraceStore<T> {
         ensures traces { IfOk result (λ s. traces_of s ≡ []) }
         ensures payloads { IfOk result (λ s. payloads_of s ≡ []) }
     {
-        TraceStore::over(alloc, Held::in_memory(alloc, loaded), head, room)
-    }
-
-    /// No traces yet over loaded bytes, in memory or on disk, with room for so many slots. Refused
-    /// for want of memory alone.
-    pub fn over(
-        alloc: Global,
-        loaded: Held,
-        head: Head,
-        room: usize,
-    ) -> Result<TraceStore<T>, OutOfMemory>
-        ensures head { IfOk result (λ s. s.head ≡ head) }
-        ensures loaded { IfOk result (λ s. s.loaded ≡ loaded) }
-        ensures traces { IfOk result (λ s. traces_of s ≡ []) }
-        ensures payloads { IfOk result (λ s. payloads_of s ≡ []) }
-    {
         Ok(TraceStore {
-            loaded,
+            loaded: Held::in_memory(alloc, loaded),
             head,
             order: ChunkSeq::new(alloc),
             slots: Slab::with_capacity(alloc, room)?,
         })
+    }
+
+    /// No traces yet over loaded bytes, in memory or on disk. Takes no memory.
+    pub fn over(alloc: Global, loaded: Held, head: Head) -> TraceStore<T>
+        ensures head { result.head ≡ head }
+        ensures loaded { result.loaded ≡ loaded }
+        ensures traces { traces_of result ≡ [] }
+        ensures payloads { payloads_of result ≡ [] }
+    {
+        TraceStore {
+            loaded,
+            head,
+            order: ChunkSeq::new(alloc),
+            slots: Slab::new(alloc),
+        }
     }
 
     /// Reads a file that is being passed on, until the window has n bytes. Refused as
@@ -118,8 +117,8 @@ impl<T: Copy> TraceStore<T> {
         ensures head { result.head ≡ self.head }
         ensures bytes { result.loaded.bytes ≡ self.loaded.bytes }
         ensures standing { result.loaded.standing ≡ self.loaded.standing }
-        ensures room { ¬ IsInMemory self.loaded.standing →
-            result.loaded.room ≡ room.items }
+        ensures most { ¬ IsInMemory self.loaded.standing →
+            result.loaded.most ≡ length room.items }
         ensures front { ¬ IsInMemory self.loaded.standing →
             result.loaded.front ≡ length front.items }
         ensures back { ¬ IsInMemory self.loaded.standing →
@@ -224,7 +223,6 @@ impl<T: Copy> TraceStore<T> {
         ensures order { self.new.order ≡ self.old.order }
         ensures slots { self.new.slots ≡ self.old.slots }
         ensures loaded { IsStill self.old.loaded self.new.loaded }
-        ensures room { length self.new.loaded.room ≡ length self.old.loaded.room }
         ensures bases { bases_of self.new ≡ bases_of self.old }
         ensures traces { traces_of self.new ≡ traces_of self.old }
         ensures payloads { payloads_of self.new ≡ payloads_of self.old }
@@ -247,7 +245,6 @@ impl<T: Copy> TraceStore<T> {
         ensures order { self.new.order ≡ self.old.order }
         ensures slots { self.new.slots ≡ self.old.slots }
         ensures loaded { IsStill self.old.loaded self.new.loaded }
-        ensures room { length self.new.loaded.room ≡ length self.old.loaded.room }
         ensures bases { bases_of self.new ≡ bases_of self.old }
         ensures traces { traces_of self.new ≡ traces_of self.old }
         ensures payloads { payloads_of self.new ≡ payloads_of self.old }
@@ -281,7 +278,6 @@ impl<T: Copy> TraceStore<T> {
         ensures order { self.new.order ≡ self.old.order }
         ensures slots { self.new.slots ≡ self.old.slots }
         ensures loaded { IsStill self.old.loaded self.new.loaded }
-        ensures room { length self.new.loaded.room ≡ length self.old.loaded.room }
         ensures bases { bases_of self.new ≡ bases_of self.old }
         ensures traces { traces_of self.new ≡ traces_of self.old }
         ensures payloads { payloads_of self.new ≡ payloads_of self.old }
@@ -324,7 +320,6 @@ impl<T: Copy> TraceStore<T> {
         ensures order { self.new.order ≡ self.old.order }
         ensures slots { self.new.slots ≡ self.old.slots }
         ensures loaded { IsStill self.old.loaded self.new.loaded }
-        ensures room { length self.new.loaded.room ≡ length self.old.loaded.room }
         ensures bases { bases_of self.new ≡ bases_of self.old }
         ensures traces { traces_of self.new ≡ traces_of self.old }
         ensures payloads { payloads_of self.new ≡ payloads_of self.old }

@@ -47,7 +47,7 @@ pub fn table_answer(
     fields: &[Field],
 ) -> Result<Answer, AskFault>
     ensures reply { (s : State) → s.volume ≡ overlay.old.volume → s.fields ≡ map.now.pairs →
-        s.on_disk ≡ overlay.old.on_disk → IsTrue overlay.new.agreed →
+        s.on_disk ≡ overlay.old.loaded.on_disk → IsTrue overlay.new.agreed →
         IsReply s (queries.Table a b fields.now) result }
     ensures seen { IsSeen overlay.old overlay.new
         (looks_at (each_of (place_of_field map.now.pairs) fields.now)
@@ -77,7 +77,7 @@ pub fn found_answer(
     high: i128,
 ) -> Result<Answer, AskFault>
     ensures reply { (s : State) → s.volume ≡ overlay.old.volume → s.fields ≡ map.now.pairs →
-        s.on_disk ≡ overlay.old.on_disk → IsTrue overlay.new.agreed →
+        s.on_disk ≡ overlay.old.loaded.on_disk → IsTrue overlay.new.agreed →
         IsReply s (queries.Find a b field.now low high) result }
     ensures seen { IsSeen overlay.old overlay.new
         (looks_at (place_of_field map.now.pairs field.now)
@@ -104,7 +104,7 @@ pub fn extremes_answer(
     b: u32,
 ) -> Result<Answer, AskFault>
     ensures reply { (s : State) → s.volume ≡ overlay.old.volume → s.fields ≡ map.now.pairs →
-        s.on_disk ≡ overlay.old.on_disk → IsTrue overlay.new.agreed →
+        s.on_disk ≡ overlay.old.loaded.on_disk → IsTrue overlay.new.agreed →
         IsReply s (queries.Extremes a b) result }
     ensures seen { IsSeen overlay.old overlay.new
         (range_looks overlay.old.volume a b) }

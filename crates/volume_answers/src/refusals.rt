@@ -1,11 +1,12 @@
 // The first refusals of edits of one trace, but for want of memory.
 ghost use Rattle.std.specs.Prelude.{◌≡◌, ◌+◌, ◌*◌, ◌⊎◌, Some, None, IsTrue, IfOk, IfErr, OnOk};
 ghost use Rattle.sample_codes.specs.Formats.{width};
-ghost use Rattle.frame_cut.specs.Traces.{trace_at};
+ghost use Rattle.frame_cut.specs.Traces.{is_trace, trace_at};
 ghost use Rattle.trace_view.specs.Values.{samples_at};
 ghost use Rattle.edit_overlay.specs.CountedVolume.{IsSeen};
 ghost use Rattle.bench_rules.specs.declared.edit.Edit.TheVariants as edits;
 ghost use Rattle.bench_rules.specs.declared.field.Field.TheVariants as fields;
+ghost use Rattle.bench_rules.specs.Looks.{trace_looks};
 ghost use Rattle.bench_rules.specs.ReadFaults.{IsReadRefusal};
 ghost use Rattle.bench_rules.specs.Refused.{first_refusal, no_trace as no_trace_in, no_place_for_trace as no_place_in, room_refusal as no_room_in, insert_refusal as not_in};
 ghost use Rattle.bench_rules.specs.State.{State};
@@ -31,8 +32,9 @@ pub fn value_refusal(
         refusal ≡ first_refusal s (edits.Set p (fields.Place place) value)) }
     ensures room { IfOk result (λ refusal. refusal ≡ None →
         HasRoom overlay.old.volume p place value) }
-    ensures seen { IsSeen overlay.old overlay.new 1 }
-    ensures read { IfErr result (λ _. IsTrue overlay.old.on_disk) }
+    ensures seen { IsSeen overlay.old overlay.new (trace_looks overlay.old.volume p 1) }
+    ensures read { IfErr result (λ _. IsTrue (is_trace overlay.old.volume p)
+        × IsTrue overlay.old.loaded.on_disk) }
 {
     let head = overlay.head();
     let Some(trace) = overlay.look(p)? else {
@@ -56,10 +58,12 @@ pub fn patch_place(
         overlay.old.volume.head (trace_at overlay.old.volume p)
         + width overlay.old.volume.head.format * k) }
     ensures room { IfOk result (λ at. HasSampleRoom overlay.old.volume p at values.now) }
-    ensures err { IfErr result (λ refusal. IsReadRefusal overlay.old.on_disk refusal ⊎
+    ensures err { IfErr result (λ refusal. (IsTrue (is_trace overlay.old.volume p) ×
+        IsReadRefusal overlay.old.loaded.on_disk refusal) ⊎
         ((s : State) → s.volume ≡ overlay.old.volume → IsTrue overlay.new.agreed →
         first_refusal s (edits.Patch p k values.now) ≡ Some refusal)) }
-    ensures seen { IsSeen overlay.old overlay.new 1 }
+    ensures there { OnOk result (IsTrue (is_trace overlay.old.volume p)) }
+    ensures seen { IsSeen overlay.old overlay.new (trace_looks overlay.old.volume p 1) }
 {
     let format = overlay.head().format;
     let Some(trace) = overlay.look(p)? else {
@@ -94,8 +98,9 @@ pub fn copy_refusal(
 ) -> Result<Option<Refusal>, ReadFault>
     ensures refusal { IfOk result (λ refusal. (s : State) → s.volume ≡ overlay.old.volume →
         s.limits ≡ limits → refusal ≡ first_refusal s (edits.Copy q p)) }
-    ensures seen { IsSeen overlay.old overlay.new 1 }
-    ensures read { IfErr result (λ _. IsTrue overlay.old.on_disk) }
+    ensures seen { IsSeen overlay.old overlay.new (trace_looks overlay.old.volume q 1) }
+    ensures read { IfErr result (λ _. IsTrue (is_trace overlay.old.volume q)
+        × IsTrue overlay.old.loaded.on_disk) }
 {
     let length = match overlay.look(q)? {
         Some(trace) => trace.length(),

@@ -6,6 +6,7 @@ ghost use Rattle.trace_record.specs.Packed.{record_in};
 ghost use Rattle.edit_overlay.specs.CountedVolume.{IsSeen};
 ghost use Rattle.bench_rules.specs.declared.query.Query.TheVariants as queries;
 ghost use Rattle.bench_rules.specs.Answer.{answer, IsReply};
+ghost use Rattle.bench_rules.specs.Looks.{value_looks};
 ghost use Rattle.bench_rules.specs.Live.{AreRecordsOf, AreTotalsOf, AreTriplesOf};
 ghost use Rattle.bench_rules.specs.State.{State};
 
@@ -47,10 +48,11 @@ pub fn slice_answer(
     k: u32,
 ) -> Result<Answer, AskFault>
     ensures reply { (s : State) → s.volume ≡ overlay.old.volume →
-        s.on_disk ≡ overlay.old.on_disk → IsTrue overlay.new.agreed →
+        s.on_disk ≡ overlay.old.loaded.on_disk → IsTrue overlay.new.agreed →
         AreRecordsOf s (map record_in overlay.old.payloads) →
         IsReply s (queries.Slice k) result }
-    ensures seen { IsSeen overlay.old overlay.new (count_of overlay.old.volume) }
+    ensures seen { IsSeen overlay.old overlay.new
+        (value_looks (values overlay.old.volume.head.format) (count_of overlay.old.volume)) }
 {
     if has_opaque_samples(overlay) {
         return Err(AskFault::NoValues);

@@ -6,7 +6,7 @@ ghost use Rattle.trace_record.specs.OfTrace.{record_of};
 ghost use Rattle.edit_overlay.specs.CountedVolume.{IsSeen};
 ghost use Rattle.bench_rules.specs.declared.query.Query.TheVariants as queries;
 ghost use Rattle.bench_rules.specs.Answer.{answer, of_trace, trace_value, IsReply};
-ghost use Rattle.bench_rules.specs.Looks.{looks_at};
+ghost use Rattle.bench_rules.specs.Looks.{looks_at, trace_looks};
 ghost use Rattle.bench_rules.specs.Places.{place_in_trace as place_of_field};
 ghost use Rattle.bench_rules.specs.ReadFaults.{IsReadFault};
 ghost use Rattle.bench_rules.specs.State.{State};
@@ -29,10 +29,11 @@ pub fn get_answer(
     field: &Field,
 ) -> Result<Answer, AskFault>
     ensures reply { (s : State) → s.volume ≡ overlay.old.volume → s.fields ≡ map.now.pairs →
-        s.on_disk ≡ overlay.old.on_disk → IsTrue overlay.new.agreed →
+        s.on_disk ≡ overlay.old.loaded.on_disk → IsTrue overlay.new.agreed →
         IsReply s (queries.Get p field.now) result }
     ensures seen { IsSeen overlay.old overlay.new
-        (looks_at (place_of_field map.now.pairs field.now) 1) }
+        (looks_at (place_of_field map.now.pairs field.now)
+        (trace_looks overlay.old.volume p 1)) }
 {
     match place_in_trace(map, field) {
         Some(place) => value_at(overlay, p, place),
@@ -52,8 +53,9 @@ pub(crate) fn has_trace(overlay: &Overlay<PackedRecord>, p: u32) -> bool
 fn value_at(overlay: &mut Overlay<PackedRecord>, p: u32, place: Place) -> Result<Answer, AskFault>
     ensures reply { IsTrue overlay.new.agreed → (result ≡ of_trace overlay.old.volume p
         (λ t. trace_value overlay.old.volume.head t (Some place))) ⊎
-        IsErrAnd result (IsReadFault overlay.old.on_disk) }
-    ensures seen { IsSeen overlay.old overlay.new 1 }
+        IsErrAnd result (λ fault. IsTrue (is_trace overlay.old.volume p) ×
+        IsReadFault overlay.old.loaded.on_disk fault) }
+    ensures seen { IsSeen overlay.old overlay.new (trace_looks overlay.old.volume p 1) }
 {
     let Some(trace) = overlay.look(p)? else {
         return Err(AskFault::NoTrace(p, overlay.count()));
@@ -72,9 +74,9 @@ pub fn sample_answer(
     k: u32,
 ) -> Result<Answer, AskFault>
     ensures reply { (s : State) → s.volume ≡ overlay.old.volume →
-        s.on_disk ≡ overlay.old.on_disk → IsTrue overlay.new.agreed →
+        s.on_disk ≡ overlay.old.loaded.on_disk → IsTrue overlay.new.agreed →
         IsReply s (queries.Sample p k) result }
-    ensures seen { IsSeen overlay.old overlay.new 1 }
+    ensures seen { IsSeen overlay.old overlay.new (trace_looks overlay.old.volume p 1) }
 {
     let Some(trace) = overlay.look(p)? else {
         return Err(AskFault::NoTrace(p, overlay.count()));
@@ -91,9 +93,9 @@ pub fn header_answer(
     p: u32,
 ) -> Result<Answer, AskFault>
     ensures reply { (s : State) → s.volume ≡ overlay.old.volume → s.fields ≡ map.now.pairs →
-        s.on_disk ≡ overlay.old.on_disk → IsTrue overlay.new.agreed →
+        s.on_disk ≡ overlay.old.loaded.on_disk → IsTrue overlay.new.agreed →
         IsReply s (queries.Header p) result }
-    ensures seen { IsSeen overlay.old overlay.new 1 }
+    ensures seen { IsSeen overlay.old overlay.new (trace_looks overlay.old.volume p 1) }
 {
     if !has_trace(overlay, p) {
         return Err(AskFault::NoTrace(p, overlay.count()));

@@ -1,8 +1,8 @@
 -- The records of a file that is passed.
-use Rattle.std.proofs.Common.{◌≡◌, ℕ, ◌+◌, ◌-◌, ◌<◌, ◌≤◌, List, [], ◌∷◌, ◌++◌, sym, ap, ap₂, ◌∙◌, arith}
+use Rattle.std.proofs.Common.{◌≡◌, ℕ, ◌+◌, List, [], ◌∷◌, ◌++◌, length, take, sym, ap, ap₂, ◌∙◌, arith}
 use Rattle.std.specs.Prelude.{map}
 use Rattle.std.proofs.lemmas.Bool.Decides.{nat_tests}
-use Rattle.std.proofs.lemmas.List.{map-append}
+use Rattle.std.proofs.lemmas.List.{map-append, take-take}
 use Rattle.field_map.specs.Pairs.{Pairs}
 use Rattle.frame_cut.specs.declared.file_head.Head.{Head}
 use Rattle.frame_cut.specs.Volume.{Volume}
@@ -11,8 +11,9 @@ use Rattle.trace_record.specs.OfTrace.{record_of}
 use Rattle.trace_record.specs.Packed.{record_in}
 use Rattle.trace_record.specs.declared.packed_record.PackedRecord.{PackedRecord}
 use Rattle.trace_record.specs.declared.record.Record.{Record}
+use Rattle.trace_store.proofs.GrownLemmas.{no_fewer}
 use Rattle.edit_overlay.specs.CountedVolume.{one_more, RisesAtMost}
-use Rattle.edit_overlay.specs.PassedFile.{PassedFile, with_passed}
+use Rattle.edit_overlay.specs.PassedFile.{PassedFile, with_passed, HasReadOn}
 use Rattle.volume_records.specs.OfPass.{HasRecords}
 use Rattle.volume_records.specs.OfVolume.{records_of}
 
@@ -39,3 +40,9 @@ records_passed fields p v ps has head traces payloads =
 -- one look more at the next trace, so that there is one at most for each
 pub looks_rise : (first old new count : ℕ) → RisesAtMost first old count → new ≡ one_more old → RisesAtMost first new (count + 1)
 looks_rise first old new count looks is = (grind (arith, nat_tests, looks.0), grind (arith, nat_tests, looks.1))
+
+-- ---- the bytes that were read
+
+-- read on, and on again
+pub read_on_again : (old now new : List ℕ) → HasReadOn old now → HasReadOn now new → HasReadOn old new
+read_on_again old now new on again = sym (take-take (length old) (length now) new (no_fewer old now on)) ∙ (ap (take (length old)) again ∙ on)

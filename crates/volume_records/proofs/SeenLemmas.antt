@@ -54,7 +54,7 @@ rises_more old now last n rose is =
 module _ {T : Type 0} where
   -- an overlay is as it was
   pub seen_none : (o : CountedVolume T) → IsSeen o o 0
-  seen_none o = record { volume = refl; prepared = refl; payloads = refl; payloads_prepared = refl; on_disk = refl; looks = (omega arith, omega arith); agreed = λ sure. sure }
+  seen_none o = record { volume = refl; prepared = refl; payloads = refl; payloads_prepared = refl; loaded = refl; looks = (omega arith, omega arith); agreed = λ sure. sure }
 
   -- after one look more
   pub seen_more : (old now last : CountedVolume T) (n : ℕ) → IsSeen old now n → last ≡ after_look now last.agreed → (IsTrue last.agreed → IsTrue now.agreed) → IsSeen old last (n + 1)
@@ -64,7 +64,7 @@ module _ {T : Type 0} where
         prepared = ap (λ (o : CountedVolume T). o.prepared) look ∙ seen.prepared;
         payloads = ap (λ (o : CountedVolume T). o.payloads) look ∙ seen.payloads;
         payloads_prepared = ap (λ (o : CountedVolume T). o.payloads_prepared) look ∙ seen.payloads_prepared;
-        on_disk = ap (λ (o : CountedVolume T). o.on_disk) look ∙ seen.on_disk;
+        loaded = ap (λ (o : CountedVolume T). o.loaded) look ∙ seen.loaded;
         looks = rises_more old.looks now.looks last.looks n seen.looks (ap (λ (o : CountedVolume T). o.looks) look);
         agreed = λ sure. seen.agreed (fell sure);
       }
@@ -78,7 +78,7 @@ module _ {T : Type 0} where
         prepared = seen.prepared;
         payloads = seen.payloads;
         payloads_prepared = seen.payloads_prepared;
-        on_disk = seen.on_disk;
+        loaded = seen.loaded;
         looks = (rose.0, omega (arith, rose.1, less));
         agreed = seen.agreed;
       }

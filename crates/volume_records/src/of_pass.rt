@@ -6,12 +6,12 @@ ghost use Rattle.trace_record.specs.Facts.{facts_of};
 ghost use Rattle.trace_record.specs.OfTrace.{record_of as record_of_trace};
 ghost use Rattle.trace_record.specs.Packed.{record_in};
 ghost use Rattle.edit_overlay.specs.CountedVolume.{RisesAtMost};
-ghost use Rattle.edit_overlay.specs.PassedFile.{HasAllTraces, IsPassFault};
+ghost use Rattle.edit_overlay.specs.PassedFile.{HasAllTraces, HasReadOn, IsPassFault};
 ghost use Rattle.live_reports.specs.OfRecords.{AreReportsOf};
 ghost use Rattle.volume_records.specs.OfPass.{HasRecords, IsSameFile};
 ghost use Rattle.volume_records.specs.OfVolume.{records_of};
 
-use edit_overlay::{Overlay, Passing};
+use edit_overlay::{Overlay, PassFault, Passing};
 use field_map::FieldMap;
 use frame_cut::LoadFault;
 use live_reports::LiveReports;
@@ -29,7 +29,7 @@ pub fn with_records_on_disk(
     alloc: Global,
     passing: Passing<PackedRecord>,
     fields: &FieldMap,
-) -> Result<(Overlay<PackedRecord>, LiveReports), LoadFault>
+) -> Result<(Overlay<PackedRecord>, LiveReports), PassFault>
     requires traces { passing.traces ≡ [] }
     requires none { passing.payloads ≡ [] }
     requires fields { fields.now.extensions ≡ passing.head.extensions }
@@ -43,13 +43,17 @@ pub fn with_records_on_disk(
     ensures prepared { IfOk result (λ r. r.0.prepared ≡ r.0.volume) }
     ensures looks { IfOk result
         (λ r. RisesAtMost passing.looks r.0.looks (count_of r.0.volume)) }
-    ensures standing { IfOk result (λ r. (r.0.on_disk ≡ true) × IsTrue r.0.agreed) }
-    ensures refused { IfErr result (IsPassFault passing.size passing.reading passing.limits) }
+    ensures standing { IfOk result (λ r. (r.0.loaded.on_disk ≡ true) × IsTrue r.0.agreed) }
+    ensures bytes { IfOk result (λ r. r.0.loaded.bytes ≡ bytes_of r.0.volume) }
+    ensures on { IfOk result (λ r. HasReadOn passing.read r.0.loaded.bytes) }
+    ensures refused { IfErr result
+        (λ e. IsPassFault passing.size passing.reading passing.limits e.read e.fault) }
+    ensures read { IfErr result (λ e. HasReadOn passing.read e.read) }
 {
     let mut passing = passing;
     match pass_records(alloc, &mut passing, fields) {
         Ok(()) => {}
-        Err(fault) => return Err(fault),
+        Err(fault) => return Err(passing.refuse(fault)),
     }
     let overlay = match passing.finish(alloc) {
         Ok(overlay) => overlay,
@@ -59,7 +63,7 @@ pub fn with_records_on_disk(
     let _count = overlay.count();
     match LiveReports::from_records(alloc, &Records::new(overlay.payloads())) {
         Ok(reports) => Ok((overlay, reports)),
-        Err(_) => Err(LoadFault::OutOfMemory),
+        Err(_) => Err(overlay.refuse(LoadFault::OutOfMemory)),
     }
 }
 
@@ -72,13 +76,14 @@ fn pass_records(
     requires traces { passing.old.traces ≡ [] }
     requires none { passing.old.payloads ≡ [] }
     requires fields { fields.now.extensions ≡ passing.old.head.extensions }
+    ensures on { HasReadOn passing.old.read passing.new.read }
     ensures all { OnOk result (HasAllTraces passing.new) }
     ensures records { OnOk result (HasRecords fields.now.pairs passing.new) }
     ensures same { OnOk result (IsSameFile passing.old passing.new) }
     ensures looks { OnOk result
         (RisesAtMost passing.old.looks passing.new.looks (length passing.new.traces)) }
     ensures refused { IfErr result
-        (IsPassFault passing.old.size passing.old.reading passing.old.limits) }
+        (IsPassFault passing.old.size passing.old.reading passing.old.limits passing.new.read) }
 {
     'turns: loop {
         match passing.next_trace() {

@@ -27,7 +27,7 @@ pub fn prepared_record(
     ensures few { IfOk result (λ r. r.number ≤ length (trace_at overlay.old.prepared p)) }
     ensures looked { overlay.new ≡ after_look overlay.old overlay.new.agreed }
     ensures agreed { IsTrue overlay.new.agreed → IsTrue overlay.old.agreed }
-    ensures read { IfErr result (λ _. IsTrue overlay.old.on_disk) }
+    ensures read { IfErr result (λ _. IsTrue overlay.old.loaded.on_disk) }
 {
     fields.geometry_stands();
     let Some(trace) = overlay.look_prepared(p)? else {
@@ -54,7 +54,7 @@ pub fn prepared_headers(
     ensures number { IfOk result (λ r. r.number ≡ samples.now.number) }
     ensures looked { overlay.new ≡ after_look overlay.old overlay.new.agreed }
     ensures agreed { IsTrue overlay.new.agreed → IsTrue overlay.old.agreed }
-    ensures read { IfErr result (λ _. IsTrue overlay.old.on_disk) }
+    ensures read { IfErr result (λ _. IsTrue overlay.old.loaded.on_disk) }
 {
     fields.geometry_stands();
     let Some(headers) = overlay.look_prepared(p)? else {

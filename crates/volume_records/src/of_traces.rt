@@ -39,7 +39,7 @@ pub fn prepared_records(
     ensures numbers { IfOk result (λ records. map (λ r. r.number) records ≡ take count (drop (a - 1)
         (map (λ r. r.number) (map record_in overlay.old.payloads)))) }
     ensures seen { IsSeen overlay.old overlay.new count }
-    ensures read { IfErr result (λ fault. IsOfRead fault → IsTrue overlay.old.on_disk) }
+    ensures read { IfErr result (λ fault. IsOfRead fault → IsTrue overlay.old.loaded.on_disk) }
 {
     // Read for the proof alone, which learns that the traces are counted in 32 bits.
     let _count = overlay.count();

@@ -1,5 +1,6 @@
 ghost use Rattle.std.specs.Prelude.{◌≡◌, ◌<◌, ◌+◌, ◌^◌, [], IfOk, OnOk, length, map};
 ghost use Rattle.frame_cut.specs.Traces.{count_of, trace_at};
+ghost use Rattle.frame_cut.specs.Volume.{bytes_of};
 ghost use Rattle.trace_record.specs.Facts.{facts_of};
 ghost use Rattle.trace_record.specs.OfTrace.{record_of as record_of_trace};
 ghost use Rattle.trace_record.specs.Packed.{record_in};
@@ -32,10 +33,11 @@ pub fn with_records(
         records_of loading.volume fields.now.pairs) }
     ensures reports { IfOk result (λ r. AreReportsOf r.1 (map record_in r.0.payloads)) }
     ensures volume { IfOk result (λ r. r.0.volume ≡ loading.volume) }
+    ensures bytes { IfOk result (λ r. r.0.loaded.bytes ≡ bytes_of r.0.volume) }
     ensures prepared { IfOk result (λ r. r.0.prepared ≡ loading.volume) }
     ensures looks { IfOk result
         (λ r. RisesAtMost loading.looks r.0.looks (count_of loading.volume)) }
-    ensures standing { IfOk result (λ r. (r.0.on_disk ≡ loading.on_disk) ×
+    ensures standing { IfOk result (λ r. (r.0.loaded ≡ loading.loaded) ×
         (r.0.agreed ≡ loading.agreed)) }
 {
     let mut loading = loading;
@@ -58,7 +60,7 @@ fn push_records(
     ensures few { count_of loading.old.volume < 2 ^ 32 }
     ensures volume { loading.new.volume ≡ loading.old.volume }
     ensures looks { RisesAtMost loading.old.looks loading.new.looks (count_of loading.old.volume) }
-    ensures on_disk { loading.new.on_disk ≡ loading.old.on_disk }
+    ensures loaded { loading.new.loaded ≡ loading.old.loaded }
     ensures agreed { loading.new.agreed ≡ loading.old.agreed }
 {
     for _k in 0..loading.count() {

@@ -31,7 +31,7 @@ pub fn set_records(overlay: &mut Overlay<PackedRecord>, a: u32, records: &Record
     ensures volume { overlay.new.volume ≡ overlay.old.volume }
     ensures prepared { overlay.new.prepared ≡ overlay.old.volume }
     ensures looks { overlay.new.looks ≡ overlay.old.looks }
-    ensures on_disk { overlay.new.on_disk ≡ overlay.old.on_disk }
+    ensures loaded { overlay.new.loaded ≡ overlay.old.loaded }
     ensures agreed { overlay.new.agreed ≡ overlay.old.agreed }
 {
     // Read for the proof alone, which learns that the traces are counted in 32 bits.
@@ -67,12 +67,12 @@ pub fn remake(
         length (slice_index_or overlay.old.volume.traces j [])) }
     ensures err { OnErr result
         (map record_in overlay.new.payloads ≡ map record_in overlay.old.payloads) }
-    ensures read { IfErr result (λ fault. IsOfRead fault → IsTrue overlay.old.on_disk
+    ensures read { IfErr result (λ fault. IsOfRead fault → IsTrue overlay.old.loaded.on_disk
         × (0 < count_of overlay.old.volume)) }
     ensures each { length overlay.new.payloads ≡ count_of overlay.old.volume }
     ensures volume { overlay.new.volume ≡ overlay.old.volume }
     ensures prepared { overlay.new.prepared ≡ overlay.old.volume }
-    ensures on_disk { overlay.new.on_disk ≡ overlay.old.on_disk }
+    ensures loaded { overlay.new.loaded ≡ overlay.old.loaded }
     ensures looks { RisesAtMost overlay.old.looks overlay.new.looks (count_of overlay.old.volume) }
     ensures agreed { IsTrue overlay.new.agreed → IsTrue overlay.old.agreed }
 {
@@ -103,12 +103,12 @@ fn remade(
     ensures within { OnOk result ((j : ℕ) → j < count_of overlay.old.volume →
         slice_index_or (numbers_of overlay.new.payloads) j 0 ≤
         length (slice_index_or overlay.old.volume.traces j [])) }
-    ensures read { IfErr result (λ fault. IsOfRead fault → IsTrue overlay.old.on_disk
+    ensures read { IfErr result (λ fault. IsOfRead fault → IsTrue overlay.old.loaded.on_disk
         × (0 < count_of overlay.old.volume)) }
     ensures each { length overlay.new.payloads ≡ count_of overlay.old.volume }
     ensures volume { overlay.new.volume ≡ overlay.old.volume }
     ensures prepared { overlay.new.prepared ≡ overlay.old.volume }
-    ensures on_disk { overlay.new.on_disk ≡ overlay.old.on_disk }
+    ensures loaded { overlay.new.loaded ≡ overlay.old.loaded }
     ensures looks { RisesAtMost overlay.old.looks overlay.new.looks (count_of overlay.old.volume) }
     ensures agreed { IsTrue overlay.new.agreed → IsTrue overlay.old.agreed }
 {
@@ -140,12 +140,12 @@ fn renew(overlay: &mut Overlay<PackedRecord>, fields: &FieldMap) -> Result<(), R
         slice_index_or (numbers_of overlay.new.payloads) j 0 ≤
         length (slice_index_or overlay.old.volume.traces j [])) }
     ensures few { count_of overlay.old.volume < 2 ^ 32 }
-    ensures read { IfErr result (λ _. IsTrue overlay.old.on_disk
+    ensures read { IfErr result (λ _. IsTrue overlay.old.loaded.on_disk
         × (0 < count_of overlay.old.volume)) }
     ensures each { length overlay.new.payloads ≡ count_of overlay.old.volume }
     ensures volume { overlay.new.volume ≡ overlay.old.volume }
     ensures prepared { overlay.new.prepared ≡ overlay.old.volume }
-    ensures on_disk { overlay.new.on_disk ≡ overlay.old.on_disk }
+    ensures loaded { overlay.new.loaded ≡ overlay.old.loaded }
     ensures looks { RisesAtMost overlay.old.looks overlay.new.looks (count_of overlay.old.volume) }
     ensures agreed { IsTrue overlay.new.agreed → IsTrue overlay.old.agreed }
 {
@@ -170,7 +170,7 @@ fn seen_record(
     ensures few { IfOk result (λ r. r.number ≤ length (trace_at overlay.old.volume p)) }
     ensures looked { overlay.new ≡ after_look overlay.old overlay.new.agreed }
     ensures agreed { IsTrue overlay.new.agreed → IsTrue overlay.old.agreed }
-    ensures read { IfErr result (λ _. IsTrue overlay.old.on_disk) }
+    ensures read { IfErr result (λ _. IsTrue overlay.old.loaded.on_disk) }
 {
     fields.geometry_stands();
     let Some(trace) = overlay.look(p)? else {

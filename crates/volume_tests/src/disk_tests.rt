@@ -32,9 +32,12 @@ fn pass_traces(alloc: Global, passing: &mut Passing<u32>) -> Result<(), LoadFaul
 
 // The volume of a file that stays on disk, and has so many bytes.
 fn passed(alloc: Global, file: File, size: u64, limits: Limits) -> Result<Overlay<u32>, LoadFault> {
-    let mut passing = Passing::begin(alloc, file, size, Reading::as_written(), limits)?;
+    let mut passing = match Passing::begin(alloc, file, size, Reading::as_written(), limits) {
+        Ok(passing) => passing,
+        Err(refused) => return Err(refused.fault()),
+    };
     pass_traces(alloc, &mut passing)?;
-    passing.finish(alloc)
+    passing.finish(alloc).map_err(|refused| refused.fault())
 }
 
 // Lays these bytes on disk under this name, and opens them.

@@ -1,6 +1,10 @@
-use Rattle.std.proofs.Common.{arith}
+use Rattle.std.proofs.Common.{arith, subst, ◌%◌, ℕ}
+use Rattle.std.specs.Int.{IsGcd}
 use Rattle.std.proofs.lemmas.Nat.Gcd.{IsGcd-from_zero, IsGcd-from_mod}
 use Rattle.key_counts.proofs.ratio.greatest_common_divisor.Goals as goal
+
+pub loop-y-init : goal.loop-y-init
+loop-y-init c g h = IsGcd-from_mod _ _ g (subst (λ (k : ℕ). IsGcd c.args.b (c.args.a % k) g) c.from.ensures h)
 
 pub loop-y-preserved : goal.loop-y-preserved
 loop-y-preserved c g h = c.loop-y.invariant g (IsGcd-from_mod _ _ g h)

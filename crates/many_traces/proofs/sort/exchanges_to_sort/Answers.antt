@@ -43,4 +43,4 @@ returns-in-Ok-clause-err c =
 pub returns-in-Err-clause-err : goal.returns-in-Err-clause-err
 returns-in-Err-clause-err c =
     let places = each_of (place_in_trace c.args.map.now.pairs) c.args.fields.now in
-    rw c.refusal_for.ensures (told-either c.args.overlay.now.volume c.args.a c.args.b places c.args.overlay.now.on_disk c.in-Err.fault c.in-Err.ensures.err)
+    rw c.refusal_for.ensures (told-either c.args.overlay.now.volume c.args.a c.args.b places c.args.overlay.now.loaded.on_disk c.in-Err.fault c.in-Err.ensures.err)

@@ -18,6 +18,7 @@ lines-init g c =
       omega arith,
       read_as_itself c.args.bench.now.state,
       λ sure. sure,
+      refl,
     )
 
 pub returns-in-End-clause-lines : goal.returns-in-End-clause-lines
@@ -47,6 +48,7 @@ lines-preserved g c = elim c.if-told.branch [
     omega (arith, c.lines.invariant.2, w.refused-is),
     read_as_then _ _ _ c.lines.invariant.3 c.in-Ok.ensures.same,
     λ sure. c.lines.invariant.4 (c.in-Ok.ensures.agreed sure),
+    c.in-Ok.ensures.loaded ∙ c.lines.invariant.5,
   )
   | else-told w ↦ (
     λ sure. one_more _ (device_of g.S.Read.remaining c.args.script.now) _ _ c.in-Line.ensures.next.0 _ _ _ _ _ _ _ c.answer.new.bench.state (c.in-Ok.ensures.line sure).0 (c.lines.invariant.0 (c.in-Ok.ensures.agreed sure)) c.in-Line.ensures.next.1
@@ -57,6 +59,7 @@ lines-preserved g c = elim c.if-told.branch [
     omega (arith, c.lines.invariant.2, w.refused-is),
     read_as_then _ _ _ c.lines.invariant.3 c.in-Ok.ensures.same,
     λ sure. c.lines.invariant.4 (c.in-Ok.ensures.agreed sure),
+    c.in-Ok.ensures.loaded ∙ c.lines.invariant.5,
   )
 ]
 

@@ -14,3 +14,4 @@ invariant-lines g l =
     × (l.refused ≤ l.number)
     × IsReadAs l.initial.bench.state l.bench.state
     × (IsTrue l.bench.agreed → IsTrue l.initial.bench.agreed)
+    × (l.bench.loaded ≡ l.initial.bench.loaded)

@@ -16,6 +16,7 @@ lines-init g c =
       omega arith,
       read_as_itself c.args.bench.now.state,
       λ sure. sure,
+      refl,
     )
 
 pub returns-in-Err-clause-lines : goal.returns-in-Err-clause-lines
@@ -37,6 +38,7 @@ lines-preserved-then-told g c = (
   omega (arith, c.lines.invariant.2),
   read_as_then _ _ _ c.lines.invariant.3 c.in-Ok.ensures.same,
   λ sure. c.lines.invariant.4 (c.in-Ok.ensures.agreed sure),
+  c.in-Ok.ensures.loaded ∙ c.lines.invariant.5,
 )
   where
     goes_on : (b : Bool) → IsTrue b → b ≡ false → ⊥
@@ -51,4 +53,5 @@ lines-preserved g c = (
   omega (arith, c.lines.invariant.2),
   read_as_then _ _ _ c.lines.invariant.3 c.in-Ok.ensures.same,
   λ sure. c.lines.invariant.4 (c.in-Ok.ensures.agreed sure),
+  c.in-Ok.ensures.loaded ∙ c.lines.invariant.5,
 )

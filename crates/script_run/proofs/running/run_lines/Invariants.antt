@@ -1,4 +1,4 @@
-use Rattle.std.proofs.Common.{◌≤◌, ◌+◌, length}
+use Rattle.std.proofs.Common.{◌≡◌, ◌≤◌, ◌+◌, length}
 use Rattle.std.specs.Prelude.{IsTrue}
 use Rattle.live_volume.specs.Held.{IsReadAs}
 use Rattle.script_text.specs.Devices.{device_of}
@@ -14,6 +14,7 @@ invariant-lines g l =
     × (l.refused ≤ l.number)
     × IsReadAs l.initial.bench.state l.bench.state
     × (IsTrue l.bench.agreed → IsTrue l.initial.bench.agreed)
+    × (l.bench.loaded ≡ l.initial.bench.loaded)
 
 abbrev pub decreases-lines : goal.decreases-lines
 decreases-lines g l = length l.lines

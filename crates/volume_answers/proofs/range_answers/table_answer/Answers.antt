@@ -5,7 +5,7 @@ use Rattle.volume_answers.proofs.range_answers.table_answer.Goals as goal
 pub returns-in-Err-clause-reply : goal.returns-in-Err-clause-reply
 returns-in-Err-clause-reply c = λ s same held disk sure.
     let range = c.range_fault.ensures in
-    table_refused s c.args.overlay.now.volume c.args.map.now.pairs c.args.a c.args.b c.args.fields.now c.in-Err.fault c.args.overlay.now.on_disk c.range_fault.result same held disk range.told c.in_default.is
+    table_refused s c.args.overlay.now.volume c.args.map.now.pairs c.args.a c.args.b c.args.fields.now c.in-Err.fault c.args.overlay.now.loaded.on_disk c.range_fault.result same held disk range.told c.in_default.is
     (range.first c.in_default.is) (range.range c.in_default.is) (range.last c.in_default.is) sure c.in-Err.ensures.err
 
 pub returns-clause-reply : goal.returns-clause-reply

@@ -1,11 +1,11 @@
-use Rattle.std.proofs.Common.{◌≡◌, ◌+◌, ◌≤◌, ◌∙◌, ◌++◌, ◌∷◌, [], false, List, Result, Ok, Err, OnOk, length, ap, subst, sym, arith}
+use Rattle.std.proofs.Common.{◌≡◌, ◌+◌, ◌∙◌, false, ℕ, List, Result, Ok, Err, OnOk, length, ap, subst, sym, arith}
 use Rattle.std.specs.Prelude.{is_err}
 use Rattle.std.proofs.lemmas.List.{length_push}
 use Rattle.trace_record.specs.declared.packed_record.PackedRecord.{PackedRecord}
 use Rattle.edit_overlay.specs.CountedVolume.{RisesAtMost}
-use Rattle.edit_overlay.specs.PassedFile.{PassedFile, with_passed}
+use Rattle.edit_overlay.specs.PassedFile.{PassedFile, with_passed, HasReadOn}
 use Rattle.volume_records.specs.OfPass.{HasRecords}
-use Rattle.volume_records.proofs.OnePassLemmas.{looks_rise, record_passed}
+use Rattle.volume_records.proofs.OnePassLemmas.{looks_rise, read_on_again, record_passed}
 use Rattle.volume_records.proofs.of_pass.pass_records.Goals as goal
 
 -- what holds where no error came
@@ -29,6 +29,7 @@ turns-preserved c =
     let kept : c.push.new.self.looks ≡ seen.looks = ap (λ (p : PassedFile PackedRecord). p.looks) put in
     record {
       records = subst (λ (p : PassedFile PackedRecord). HasRecords fields p) (sym put) more;
+      on = subst (λ (read : List ℕ). HasReadOn c.args.passing.now.read read) (sym (ap (λ (p : PassedFile PackedRecord). p.read) put)) (read_on_again c.args.passing.now.read c.turns.passing.read seen.read i.on c.next_trace.ensures.on);
       same = record {
         head = ap (λ (p : PassedFile PackedRecord). p.head) put ∙ ap (λ (p : PassedFile PackedRecord). p.head) is ∙ i.same.head;
         reading = ap (λ (p : PassedFile PackedRecord). p.reading) put ∙ ap (λ (p : PassedFile PackedRecord). p.reading) is ∙ i.same.reading;

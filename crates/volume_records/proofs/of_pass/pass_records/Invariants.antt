@@ -1,5 +1,6 @@
 use Rattle.std.proofs.Common.{◌-◌, length}
 use Rattle.edit_overlay.specs.CountedVolume.{RisesAtMost}
+use Rattle.edit_overlay.specs.PassedFile.{HasReadOn}
 use Rattle.volume_records.specs.OfPass.{HasRecords, IsSameFile}
 use Rattle.volume_records.proofs.of_pass.pass_records.Given as goal
 
@@ -7,6 +8,7 @@ use Rattle.volume_records.proofs.of_pass.pass_records.Given as goal
 abbrev pub invariant-turns : goal.invariant-turns
 invariant-turns l = record {
   records : HasRecords l.fn.fields.pairs l.passing;
+  on : HasReadOn l.fn.passing.read l.passing.read;
   same : IsSameFile l.fn.passing l.passing;
   looks : RisesAtMost l.fn.passing.looks l.passing.looks (length l.passing.traces);
 }

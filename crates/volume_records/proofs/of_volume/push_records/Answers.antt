@@ -32,6 +32,6 @@ loop-k-preserved c =
       made = made ∙ ap (λ m. take m (records_of v fields)) (sym more);
       volume = search rules;
       looks = search rules;
-      on_disk = search rules;
+      loaded = search rules;
       agreed = search rules;
     }

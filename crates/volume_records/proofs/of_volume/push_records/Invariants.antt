@@ -13,6 +13,6 @@ invariant-loop-k l = record {
   made : map facts_of (map record_in l.loading.payloads) ≡ take (length l.loading.payloads) (records_of l.fn.loading.volume l.fn.fields.pairs);
   volume : l.loading.volume ≡ l.fn.loading.volume;
   looks : RisesAtMost l.fn.loading.looks l.loading.looks (length l.loading.payloads);
-  on_disk : l.loading.on_disk ≡ l.fn.loading.on_disk;
+  loaded : l.loading.loaded ≡ l.fn.loading.loaded;
   agreed : l.loading.agreed ≡ l.fn.loading.agreed;
 }

@@ -9,5 +9,5 @@ pub from_records-requires : goal.from_records-requires
 from_records-requires c =
     let v = c.args.loading.volume in
     let same : c.new.result ≡ map record_in c.push_records.new.loading.payloads =
-    c.new.ensures ∙ (ap (λ (ps : List PackedRecord). map record_in ps) c.payloads.ensures ∙ ap (λ o. map record_in o.payloads) c.finish-overlay.ensures) in
+    c.new.ensures ∙ (ap (λ (ps : List PackedRecord). map record_in ps) c.payloads.ensures ∙ ap (λ o. map record_in o.payloads) c.finish-overlay.ensures.overlay) in
     cut_is_few v c.args.fields.now.pairs c.new.result c.requires.file c.in_ok-push_records.ensures.few (ap (map facts_of) same ∙ c.in_ok-push_records.ensures.records)

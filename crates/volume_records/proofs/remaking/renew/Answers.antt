@@ -56,7 +56,7 @@ loop-k-preserved c =
       each = ap (λ (xs : List PackedRecord). length xs) put ∙ (length-set ps k c.of.result ∙ i.each);
       volume = ap (λ (o : Overlaid). o.volume) c.set_payload.ensures ∙ (ap (λ (o : Overlaid). o.volume) seen.looked ∙ i.volume);
       prepared = ap (λ (o : Overlaid). o.prepared) c.set_payload.ensures ∙ (ap (λ (o : Overlaid). o.volume) seen.looked ∙ i.volume);
-      on_disk = ap (λ (o : Overlaid). o.on_disk) c.set_payload.ensures ∙ (ap (λ (o : Overlaid). o.on_disk) seen.looked ∙ i.on_disk);
+      loaded = ap (λ (o : Overlaid). o.loaded) c.set_payload.ensures ∙ (ap (λ (o : Overlaid). o.loaded) seen.looked ∙ i.loaded);
       looks = rises_more c.args.overlay.now.looks c.loop-k.overlay.looks c.set_payload.new.self.looks k i.looks told;
       agreed = λ sure. i.agreed (seen.agreed (subst IsTrue kept sure));
     }

@@ -14,7 +14,7 @@ invariant-loop-k l = record {
   each : length l.overlay.payloads ≡ count_of l.fn.overlay.volume;
   volume : l.overlay.volume ≡ l.fn.overlay.volume;
   prepared : l.overlay.prepared ≡ l.fn.overlay.volume;
-  on_disk : l.overlay.on_disk ≡ l.fn.overlay.on_disk;
+  loaded : l.overlay.loaded ≡ l.fn.overlay.loaded;
   looks : RisesAtMost l.fn.overlay.looks l.overlay.looks l.k;
   agreed : IsTrue l.overlay.agreed → IsTrue l.fn.overlay.agreed;
 }

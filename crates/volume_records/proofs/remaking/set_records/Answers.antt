@@ -40,6 +40,6 @@ loop-k-preserved c =
       volume = search rules;
       prepared = search rules;
       looks = search rules;
-      on_disk = search rules;
+      loaded = search rules;
       agreed = search rules;
     }

@@ -10,6 +10,6 @@ invariant-loop-k l = record {
   volume : l.overlay.volume ≡ l.fn.overlay.volume;
   prepared : l.overlay.prepared ≡ l.fn.overlay.volume;
   looks : l.overlay.looks ≡ l.fn.overlay.looks;
-  on_disk : l.overlay.on_disk ≡ l.fn.overlay.on_disk;
+  loaded : l.overlay.loaded ≡ l.fn.overlay.loaded;
   agreed : l.overlay.agreed ≡ l.fn.overlay.agreed;
 }

@@ -9,6 +9,7 @@ returns c =
       reply = c.ask.ensures.reply;
       unchanged = c.ask.ensures.unchanged;
       agreed = c.ask.ensures.agreed;
+      loaded = c.ask.ensures.loaded;
       looks = rw (other.0 c.self.inside.volume.state _) c.ask.ensures.looks;
       kept = sym (same_kept c.ask.result (other.1 _));
     })

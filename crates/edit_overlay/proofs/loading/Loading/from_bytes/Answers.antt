@@ -1,4 +1,4 @@
-use Rattle.std.proofs.Common.{◌≡◌, ◌∙◌, ◌<◌, ◌^◌, ℕ, arith, refl, ap, inl}
+use Rattle.std.proofs.Common.{◌≡◌, ◌∙◌, ◌<◌, ◌^◌, ℕ, arith, refl, sym, ap, inl}
 use Rattle.std.proofs.lemmas.Result.{err_from_is_err_and}
 use Rattle.edit_overlay.proofs.LoadingLemmas.{just_cut}
 use Rattle.edit_overlay.specs.Standings.{is_on_disk, is_sure}
@@ -29,3 +29,7 @@ returns-clause-memory g c = ap is_on_disk c.in-Ok.ensures.standing
 
 pub returns-clause-agreed : goal.returns-clause-agreed
 returns-clause-agreed g c = ap is_sure c.in-Ok.ensures.standing
+
+pub returns-clause-loaded : goal.returns-clause-loaded
+returns-clause-loaded g c =
+    sym (rw (c.in-Ok.ensures.loaded, c.in-Ok.ensures.head, c.head-head.ensures, c.into_extents-extents.ensures) (rw c.as_slice.ensures.value at c.in_ok-cut.ensures.ok).joined)

@@ -38,7 +38,7 @@ returns-in_err-fetch g c =
     let counted : looked_of c.self.inside ≡ after_look o o.agreed = c.self.view_is ∙ c.count_look.ensures in
     let there : IsTrue (is_trace o.prepared c.args.p) = trace_there o.prepared c.args.p (omega arith) (omega (arith, c.if-p-count_prepared.false, c.count_prepared.ensures.prepared)) in
     let p = err_from_is_err_and c.from_residual.result c.from_residual.ensures.1 in
-    let failed : IsTrue o.on_disk = failed_on_disk o c.self.inside l reread kept counted c.fetch.result c.in_err-fetch.field-0.0 c.in_err-fetch.was c.fetch.ensures.memory in
+    let failed : IsTrue o.loaded.on_disk = failed_on_disk o c.self.inside l reread kept counted c.fetch.result c.in_err-fetch.field-0.0 c.in_err-fetch.was c.fetch.ensures.memory in
     rw (rw p.2 at p.1) (
       (refl, λ _. tt, has_looked o c.self.inside l reread kept counted),
       record { ends = tt; there = tt; shape = tt; read = (there, failed) },

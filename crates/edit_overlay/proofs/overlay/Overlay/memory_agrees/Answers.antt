@@ -4,4 +4,4 @@ use Rattle.edit_overlay.proofs.StandingLemmas.{sure_off_disk}
 use Rattle.edit_overlay.proofs.overlay.Overlay.memory_agrees.Goals as goal
 
 pub returns : goal.returns
-returns g c = subst (λ (o : CountedVolume g.row.T.Denot). o.on_disk ≡ false → IsTrue o.agreed) c.self.view_is (sure_off_disk c.self.inside.laid.store.loaded.standing)
+returns g c = subst (λ (o : CountedVolume g.row.T.Denot). o.loaded.on_disk ≡ false → IsTrue o.agreed) c.self.view_is (sure_off_disk c.self.inside.laid.store.loaded.standing)

@@ -26,4 +26,4 @@ returns-clause-saved g c =
     (c.write_volume.ensures.saved (sure_is c.write_volume.new.store.loaded.standing sure))
 
 pub returns-clause-read : goal.returns-clause-read
-returns-clause-read g c = subst (λ (o : CountedVolume g.row.T.Denot). IfErr c.write_volume.result (λ fault. IsSome fault.read → IsTrue o.on_disk)) c.self.view_is c.write_volume.ensures.read
+returns-clause-read g c = subst (λ (o : CountedVolume g.row.T.Denot). IfErr c.write_volume.result (λ fault. IsSome fault.read → IsTrue o.loaded.on_disk)) c.self.view_is c.write_volume.ensures.read

@@ -7,6 +7,7 @@ use Rattle.field_map.proofs.GeometryLemmas.{place-bindable, bound-back}
 use Rattle.frame_cut.specs.Cuts.{IsCut}
 use Rattle.frame_cut.specs.Volume.{Volume, bytes_of}
 use Rattle.trace_record.specs.Facts.{facts_of}
+use Rattle.edit_overlay.specs.Loaded.{Loaded}
 use Rattle.trace_record.specs.Packed.{record_in}
 use Rattle.trace_record.specs.declared.record.Record.{Record}
 use Rattle.live_reports.specs.OfRecords.{AreReportsOf}
@@ -56,7 +57,7 @@ invariant_of-self-in-Err c =
     let there : place_of old name ≡ Some c.in-Some-place.old = sym c.place.ensures ∙ c.in-Some-place.is in
     let same : c.set_geometry-in-Err.new.self.pairs ≡ old = c.set_geometry-in-Err.ensures.pairs ∙ ap (λ (ps : Pairs). bound ps name c.in-Some-place.old) c.set_geometry.ensures.pairs ∙ bound-back old name c.args.place c.in-Some-place.old there in
     let s = state_of b in
-    let again = same_state s c.remake.new.overlay.volume c.set_geometry-in-Err.new.self.pairs c.remake.new.overlay.on_disk is same c.remake.ensures.on_disk in
+    let again = same_state s c.remake.new.overlay.volume c.set_geometry-in-Err.new.self.pairs c.remake.new.overlay.loaded.on_disk is same (ap (λ (l : Loaded). l.on_disk) c.remake.ensures.loaded) in
     record {
       cut = λ sure. subst (λ (u : Volume). IsCut (bytes_of u) b.reading b.limits u) (sym is) (c.self.invariant.cut (c.remake.ensures.agreed sure));
       frame = subst (HasFrame b.limits) (sym is) c.self.invariant.frame;
@@ -77,7 +78,7 @@ returns-in-Err-clause-step c =
     let there : place_of old name ≡ Some c.in-Some-place.old = sym c.place.ensures ∙ c.in-Some-place.is in
     let same : c.set_geometry-in-Err.new.self.pairs ≡ old = c.set_geometry-in-Err.ensures.pairs ∙ ap (λ (ps : Pairs). bound ps name c.in-Some-place.old) c.set_geometry.ensures.pairs ∙ bound-back old name c.args.place c.in-Some-place.old there in
     let s = state_of b in
-    let again = same_state s c.remake.new.overlay.volume c.set_geometry-in-Err.new.self.pairs c.remake.new.overlay.on_disk is same c.remake.ensures.on_disk in
+    let again = same_state s c.remake.new.overlay.volume c.set_geometry-in-Err.new.self.pairs c.remake.new.overlay.loaded.on_disk is same (ap (λ (l : Loaded). l.on_disk) c.remake.ensures.loaded) in
     let none : bind_fault v.head.extensions old c.args.name.now c.args.place ≡ None =
     ap (λ n. bind_fault n old c.args.name.now c.args.place) (sym c.self.invariant.extensions)
     ∙ ap (λ (n : List ℕ). bind_fault b.fields.extensions old n c.args.place) (sym c.as_str-text.ensures)
@@ -95,7 +96,7 @@ returns-in-Err-clause-err c =
     let there : place_of old name ≡ Some c.in-Some-place.old = sym c.place.ensures ∙ c.in-Some-place.is in
     let same : c.set_geometry-in-Err.new.self.pairs ≡ old = c.set_geometry-in-Err.ensures.pairs ∙ ap (λ (ps : Pairs). bound ps name c.in-Some-place.old) c.set_geometry.ensures.pairs ∙ bound-back old name c.args.place c.in-Some-place.old there in
     let s = state_of b in
-    let again = same_state s c.remake.new.overlay.volume c.set_geometry-in-Err.new.self.pairs c.remake.new.overlay.on_disk is same c.remake.ensures.on_disk in
+    let again = same_state s c.remake.new.overlay.volume c.set_geometry-in-Err.new.self.pairs c.remake.new.overlay.loaded.on_disk is same (ap (λ (l : Loaded). l.on_disk) c.remake.ensures.loaded) in
     rw (← c.self.view_is) again
 
 pub returns-in-Err-clause-same : goal.returns-in-Err-clause-same
@@ -108,5 +109,5 @@ returns-in-Err-clause-same c =
     let there : place_of old name ≡ Some c.in-Some-place.old = sym c.place.ensures ∙ c.in-Some-place.is in
     let same : c.set_geometry-in-Err.new.self.pairs ≡ old = c.set_geometry-in-Err.ensures.pairs ∙ ap (λ (ps : Pairs). bound ps name c.in-Some-place.old) c.set_geometry.ensures.pairs ∙ bound-back old name c.args.place c.in-Some-place.old there in
     let s = state_of b in
-    let again = same_state s c.remake.new.overlay.volume c.set_geometry-in-Err.new.self.pairs c.remake.new.overlay.on_disk is same c.remake.ensures.on_disk in
+    let again = same_state s c.remake.new.overlay.volume c.set_geometry-in-Err.new.self.pairs c.remake.new.overlay.loaded.on_disk is same (ap (λ (l : Loaded). l.on_disk) c.remake.ensures.loaded) in
     rw (← c.self.view_is) (read_as_before _ _ again)

@@ -13,7 +13,7 @@ put_values-requires-clause-room c =
 
 pub put_values-requires-clause-none : goal.put_values-requires-clause-none
 put_values-requires-clause-none c =
-    let now : State = record (state_of c.self.inside) { volume = c.patch_place.new.overlay.volume; on_disk = c.patch_place.new.overlay.on_disk } in
+    let now : State = record (state_of c.self.inside) { volume = c.patch_place.new.overlay.volume; on_disk = c.patch_place.new.overlay.loaded.on_disk } in
     c.in_ok-at.ensures.ok now c.patch_place.ensures.seen.volume
 
 pub put_values-requires-clause-place : goal.put_values-requires-clause-place
@@ -23,16 +23,16 @@ put_values-requires-clause-place c = λ sure.
 pub returns-clause-step : goal.returns-clause-step
 returns-clause-step c =
     let s = state_of c.self.inside in
-    let look = looked_at c.self.inside c.patch_place.new.overlay 1 c.patch_place.ensures.seen in
+    let look = looked_at c.self.inside c.patch_place.new.overlay _ c.patch_place.ensures.seen in
     rw (← c.self.view_is) (λ sure.
     let mid = c.put_values.ensures.agreed sure in
-    stepped s _ c.put_values.new.self.state (Patch c.args.p c.args.k c.args.values.now) c.put_values.result (c.in_ok-at.ensures.ok s refl mid) look.state (record {}) (omega arith)
+    stepped s _ c.put_values.new.self.state (Patch c.args.p c.args.k c.args.values.now) c.put_values.result (c.in_ok-at.ensures.ok s refl mid) look.state (record {}) (rw c.in_ok-at.ensures.there (omega arith))
     (on_ok c.put_values.result (λ f. f sure) c.put_values.ensures.ok) c.put_values.ensures.err)
 
 pub returns-in_err-at-clause-step : goal.returns-in_err-at-clause-step
 returns-in_err-at-clause-step c =
     let s = state_of c.self.inside in
-    let look = looked_at c.self.inside c.patch_place.new.overlay 1 c.patch_place.ensures.seen in
+    let look = looked_at c.self.inside c.patch_place.new.overlay _ c.patch_place.ensures.seen in
     rw (← c.self.view_is)
-    (λ sure. refused_so s _ (Patch c.args.p c.args.k c.args.values.now) c.in_err-at.field-0.0 c.from_residual.result c.from_residual.ensures.0 c.from_residual.ensures.1 (record {}) (omega arith)
-    (told_so s (Patch c.args.p c.args.k c.args.values.now) c.in_err-at.field-0.0 sure c.in_err-at.ensures.err) look.state)
+    (λ sure. refused_so s _ (Patch c.args.p c.args.k c.args.values.now) c.in_err-at.field-0.0 c.from_residual.result c.from_residual.ensures.0 c.from_residual.ensures.1 (record {})
+    (told_so s (Patch c.args.p c.args.k c.args.values.now) c.in_err-at.field-0.0 sure (λ there. rw there (omega arith)) c.in_err-at.ensures.err) look.state)

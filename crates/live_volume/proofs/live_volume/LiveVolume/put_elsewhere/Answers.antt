@@ -47,7 +47,7 @@ returns-clause-ok c =
     let ok = c.in_ok-move_to.ensures.ok in
     let stays : c.move_to.new.self.agreed ≡ b.overlay.agreed = ap (λ (o : CountedVolume PackedRecord). o.agreed) ok in
     let w : Volume = with_moved b.overlay.volume c.args.a c.args.b in
-    let there = state_with b c.move_to.new.self w (ap (λ (o : CountedVolume PackedRecord). o.volume) ok) (ap (λ (o : CountedVolume PackedRecord). o.on_disk) ok) in
+    let there = state_with b c.move_to.new.self w (ap (λ (o : CountedVolume PackedRecord). o.volume) ok) (ap (λ (o : CountedVolume PackedRecord). o.loaded) ok) in
     rw (← c.self.view_is) (λ sure. rw there (move_done (state_of b) c.args.a c.args.b w (c.self.invariant.cut (subst IsTrue stays sure)) (rw (← c.self.view_is) at c.requires) refl))
 
 pub returns-clause-same : goal.returns-clause-same
@@ -55,4 +55,4 @@ returns-clause-same c =
     let b = c.self.inside in
     let ok = c.in_ok-move_to.ensures.ok in
     let w : Volume = with_moved b.overlay.volume c.args.a c.args.b in
-    rw (← c.self.view_is) (read_as _ _ w (state_with b c.move_to.new.self w (ap (λ (o : CountedVolume PackedRecord). o.volume) ok) (ap (λ (o : CountedVolume PackedRecord). o.on_disk) ok)))
+    rw (← c.self.view_is) (read_as _ _ w (state_with b c.move_to.new.self w (ap (λ (o : CountedVolume PackedRecord). o.volume) ok) (ap (λ (o : CountedVolume PackedRecord). o.loaded) ok)))

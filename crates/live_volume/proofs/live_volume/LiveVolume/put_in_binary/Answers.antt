@@ -55,7 +55,7 @@ returns-clause-after c =
     let new : c.write.new.bytes ≡ bytes b.overlay.volume.head.order c.args.place.kind c.args.value = rw (c.head.ensures, to_z-of_z) at c.write.ensures in
     let w : Volume = with_header_bytes b.overlay.volume c.from-2.result c.write.new.bytes in
     let stays : c.put_head.new.self.agreed ≡ b.overlay.agreed = ap (λ (o : CountedVolume PackedRecord). o.agreed) c.put_head.ensures in
-    let state = state_with b c.put_head.new.self w (ap (λ (o : CountedVolume PackedRecord). o.volume) c.put_head.ensures) (ap (λ (o : CountedVolume PackedRecord). o.on_disk) c.put_head.ensures) in
+    let state = state_with b c.put_head.new.self w (ap (λ (o : CountedVolume PackedRecord). o.volume) c.put_head.ensures) (ap (λ (o : CountedVolume PackedRecord). o.loaded) c.put_head.ensures) in
     rw (← c.self.view_is) (λ sure. rw state
     (bin_done (state_of b) c.args.place c.args.value w c.from-2.result c.write.new.bytes (c.self.invariant.cut (subst IsTrue stays sure)) c.requires (c.from-2.ensures ∙ c.binary_offset.ensures) new refl))
 
@@ -63,4 +63,4 @@ pub returns-clause-same : goal.returns-clause-same
 returns-clause-same c =
     let b = c.self.inside in
     let w : Volume = with_header_bytes b.overlay.volume c.from-2.result c.write.new.bytes in
-    rw (← c.self.view_is) (read_as _ _ w (state_with b c.put_head.new.self w (ap (λ (o : CountedVolume PackedRecord). o.volume) c.put_head.ensures) (ap (λ (o : CountedVolume PackedRecord). o.on_disk) c.put_head.ensures)))
+    rw (← c.self.view_is) (read_as _ _ w (state_with b c.put_head.new.self w (ap (λ (o : CountedVolume PackedRecord). o.volume) c.put_head.ensures) (ap (λ (o : CountedVolume PackedRecord). o.loaded) c.put_head.ensures)))

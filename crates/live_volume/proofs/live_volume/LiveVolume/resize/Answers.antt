@@ -18,7 +18,7 @@ use Rattle.bench_rules.proofs.HeaderEditLemmas.{after_cut}
 use Rattle.bench_rules.proofs.ResizeLemmas.{resize_done}
 use Rattle.live_volume.specs.Held.{state_of, with_volume, IsCutAs}
 use Rattle.live_volume.specs.Places.{MayReplace}
-use Rattle.live_volume.proofs.HeldLemmas.{left_as_it_was, on_ok, read_as_either, read_as_through, refused_so, stepped_by_memory, under}
+use Rattle.live_volume.proofs.HeldLemmas.{is_there, left_as_it_was, on_ok, read_as_either, read_as_through, refused_so, stepped_by_memory, told_under}
 use Rattle.live_volume.proofs.MeasuredLemmas.{number_of_trace}
 use Rattle.live_volume.proofs.live_volume.LiveVolume.resize.Goals as goal
 
@@ -65,8 +65,8 @@ pub returns-in_err-bytes-clause-step : goal.returns-in_err-bytes-clause-step
 returns-in_err-bytes-clause-step c =
     let fit : SFits w128 c.args.count = search rules in
     let told = rw (to_z-of_z w128 c.args.count fit) at c.in_err-bytes.ensures.err in
-    λ sure. refused_so c.args.self.now.state c.resized_bytes.new.self.state (Resize c.args.p c.args.count) c.in_err-bytes.field-0.0 c.from_residual.result c.from_residual.ensures.0 c.from_residual.ensures.1 (record {}) (omega arith)
-    (under sure told) c.resized_bytes.ensures.seen.state
+    λ sure. refused_so c.args.self.now.state c.resized_bytes.new.self.state (Resize c.args.p c.args.count) c.in_err-bytes.field-0.0 c.from_residual.result c.from_residual.ensures.0 c.from_residual.ensures.1 (record {})
+    (told_under c.args.self.now.state (Resize c.args.p c.args.count) c.in_err-bytes.field-0.0 sure (λ there. rw there (omega arith)) told) c.resized_bytes.ensures.seen.state
 
 pub returns-clause-step : goal.returns-clause-step
 returns-clause-step c =
@@ -91,3 +91,10 @@ returns-clause-err c =
 
 pub returns-clause-same : goal.returns-clause-same
 returns-clause-same c = read_as_through _ _ _ c.resized_bytes.ensures.seen.state (read_as_either _ c.replace.result _ _ _ c.replace.ensures.ok c.replace.ensures.err)
+
+pub returns-clause-looks : goal.returns-clause-looks
+returns-clause-looks c =
+    let fits = c.in_ok-bytes.ensures.fits in
+    let there = is_there c.args.self.now.state.volume c.args.p fits.first fits.last in
+    let one = rw there at c.resized_bytes.ensures.seen.looks in
+    rw there (omega (arith, one.0, c.replace.ensures.looks), omega (arith, one.1, c.replace.ensures.looks))

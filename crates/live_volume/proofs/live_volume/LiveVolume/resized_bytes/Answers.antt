@@ -16,7 +16,7 @@ use Rattle.bench_rules.proofs.SetLemmas.{both}
 use Rattle.bench_rules.proofs.WholeTraceLemmas.{length-without}
 use Rattle.many_traces.specs.Formulas.{IsRefusalFor}
 use Rattle.live_volume.specs.Held.{state_of}
-use Rattle.live_volume.proofs.HeldLemmas.{if_err, if_ok, held_again, looked_as, seen_once}
+use Rattle.live_volume.proofs.HeldLemmas.{if_err, if_ok, held_again, looked_at, seen_once}
 use Rattle.live_volume.proofs.RoomLemmas.{counts, count_told, may_replace}
 use Rattle.live_volume.proofs.live_volume.LiveVolume.resized_bytes.Goals as goal
 
@@ -44,8 +44,9 @@ returns-in-Some-count_refusal-clause-err c =
 
 pub returns-in-Some-count_refusal-clause-seen : goal.returns-in-Some-count_refusal-clause-seen
 returns-in-Some-count_refusal-clause-seen c =
+    let there = rw c.in-Some.is at c.in_ok-trace.ensures.there in
     let seen = rw (c.in_ok-trace.was, c.in-Some.is) at c.look.follows.holds-at-none in
-    looked_as c.self.inside c.look.follows.lender-at-none 1 c.args.self.now c.self.view_is (seen_once c.self.inside.overlay c.look.follows.lender-at-none seen.looked seen.agreed)
+    rw (← c.self.view_is, there.0 refl) (looked_at c.self.inside c.look.follows.lender-at-none 1 (seen_once c.self.inside.overlay c.look.follows.lender-at-none seen.looked seen.agreed))
 
 pub overflow_cast-count : goal.overflow_cast-count
 overflow_cast-count c =
@@ -105,5 +106,6 @@ returns-clause-err c =
 
 pub returns-clause-seen : goal.returns-clause-seen
 returns-clause-seen c =
+    let there = rw c.in-Some.is at c.in_ok-trace.ensures.there in
     let seen = rw (c.in_ok-trace.was, c.in-Some.is) at c.look.follows.holds-at-none in
-    looked_as c.self.inside c.look.follows.lender-at-none 1 c.args.self.now c.self.view_is (seen_once c.self.inside.overlay c.look.follows.lender-at-none seen.looked seen.agreed)
+    rw (← c.self.view_is, there.0 refl) (looked_at c.self.inside c.look.follows.lender-at-none 1 (seen_once c.self.inside.overlay c.look.follows.lender-at-none seen.looked seen.agreed))

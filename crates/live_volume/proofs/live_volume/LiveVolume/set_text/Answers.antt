@@ -48,7 +48,7 @@ returns-clause-step c =
     let there : is_line c.args.q ≡ true = sym c.is_line.ensures ∙ c.if-not-is_line.false in
     let w : Volume = with_line v c.args.q c.in_ok-line.line in
     let stays : c.put_text.new.self.agreed ≡ b.overlay.agreed = ap (λ (o : CountedVolume PackedRecord). o.agreed) c.put_text.ensures in
-    let state = state_with b c.put_text.new.self w (ap (λ (o : CountedVolume PackedRecord). o.volume) c.put_text.ensures) (ap (λ (o : CountedVolume PackedRecord). o.on_disk) c.put_text.ensures) in
+    let state = state_with b c.put_text.new.self w (ap (λ (o : CountedVolume PackedRecord). o.volume) c.put_text.ensures) (ap (λ (o : CountedVolume PackedRecord). o.loaded) c.put_text.ensures) in
     rw (← c.self.view_is) (λ sure. rw (state, text_refused_none (state_of b) c.args.q c.args.text.now there none)
     (text_done (state_of b) c.args.q c.args.text.now w c.in_ok-line.line (c.self.invariant.cut (subst IsTrue stays sure)) there none line refl))
 
@@ -56,4 +56,4 @@ pub returns-clause-same : goal.returns-clause-same
 returns-clause-same c =
     let b = c.self.inside in
     let w : Volume = with_line b.overlay.volume c.args.q c.in_ok-line.line in
-    rw (← c.self.view_is) (read_as _ _ w (state_with b c.put_text.new.self w (ap (λ (o : CountedVolume PackedRecord). o.volume) c.put_text.ensures) (ap (λ (o : CountedVolume PackedRecord). o.on_disk) c.put_text.ensures)))
+    rw (← c.self.view_is) (read_as _ _ w (state_with b c.put_text.new.self w (ap (λ (o : CountedVolume PackedRecord). o.volume) c.put_text.ensures) (ap (λ (o : CountedVolume PackedRecord). o.loaded) c.put_text.ensures)))

@@ -54,7 +54,7 @@ returns-clause-after c =
     let b = c.self.inside in
     let after = c.delete.ensures.after in
     let stays : c.delete.new.self.agreed ≡ b.overlay.agreed = ap (λ (o : CountedVolume PackedRecord). o.agreed) after in
-    let there = state_with b c.delete.new.self (without b.overlay.volume c.args.p) (ap (λ (o : CountedVolume PackedRecord). o.volume) after) (ap (λ (o : CountedVolume PackedRecord). o.on_disk) after) in
+    let there = state_with b c.delete.new.self (without b.overlay.volume c.args.p) (ap (λ (o : CountedVolume PackedRecord). o.volume) after) (ap (λ (o : CountedVolume PackedRecord). o.loaded) after) in
     rw (← c.self.view_is) (λ sure. rw there (delete_done (state_of b) c.args.p (without b.overlay.volume c.args.p) (c.self.invariant.cut (subst IsTrue stays sure)) (rw (← c.self.view_is) at c.requires) refl))
 
 pub returns-clause-same : goal.returns-clause-same
@@ -62,4 +62,4 @@ returns-clause-same c =
     let b = c.self.inside in
     let after = c.delete.ensures.after in
     rw (← c.self.view_is) (read_as _ _ (without b.overlay.volume c.args.p)
-    (state_with b c.delete.new.self (without b.overlay.volume c.args.p) (ap (λ (o : CountedVolume PackedRecord). o.volume) after) (ap (λ (o : CountedVolume PackedRecord). o.on_disk) after)))
+    (state_with b c.delete.new.self (without b.overlay.volume c.args.p) (ap (λ (o : CountedVolume PackedRecord). o.volume) after) (ap (λ (o : CountedVolume PackedRecord). o.loaded) after)))

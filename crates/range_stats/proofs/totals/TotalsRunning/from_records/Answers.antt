@@ -6,6 +6,6 @@ use Rattle.range_stats.proofs.totals.TotalsRunning.from_records.Goals as goal
 
 pub returns : goal.returns
 returns c =
-    let fits : SFits w128 c.sums_of-sums.result.sum = search rules in
-    Same-loaded_totals _ c.args.records.now c.len.ensures c.sums_of-sums.ensures.number (to_z-of_z w128 _ fits ∙ c.sums_of-sums.ensures.sum)
-    (rw c.in_ok-least_keys.ensures at c.in_ok-least_samples.ensures.shows) (rw c.in_ok-greatest_keys.ensures at c.in_ok-greatest_samples.ensures.shows)
+    let fits : SFits w128 c.in_ok-least.field-0.sums.sum = search rules in
+    Same-loaded_totals _ c.args.records.now c.len.ensures c.in_ok-least.ensures.number (to_z-of_z w128 _ fits ∙ c.in_ok-least.ensures.sum)
+    (rw c.in_ok-least.ensures.least at c.in_ok-least_samples.ensures.shows) (rw c.in_ok-least.ensures.greatest at c.in_ok-greatest_samples.ensures.shows)

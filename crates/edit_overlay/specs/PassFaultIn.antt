@@ -1,0 +1,8 @@
+-- How the refusal of a pass is held.
+use Rattle.base_file.specs.Seen.{joined}
+use Rattle.edit_overlay.specs.PassedFile.{RefusedPass}
+use Rattle.edit_overlay.specs.declared.pass_fault.PassFault.TheInside.{Inside}
+
+-- what is shown
+abbrev pub refused_of : Inside → RefusedPass
+refused_of e = record { fault = e.fault; read = joined e.log.events }

@@ -1,0 +1,25 @@
+-- A run over a file that stays on disk.
+use Rattle.std.specs.Prelude.{◌≡◌, ℕ, List, [], Some}
+use Rattle.edit_overlay.specs.PassedFile.{RefusedPass, IsPassFault}
+use Rattle.script_text.specs.Devices.{Device}
+use Rattle.script_text.specs.RefusalTexts.{load_refusal_line}
+use Rattle.script_run.specs.declared.options.Options.{Options}
+use Rattle.script_run.specs.declared.run_end.RunEnd.{RunEnd}
+use Rattle.script_run.specs.declared.run_end.RunEnd.TheVariants as ends
+use Rattle.script_run.specs.Ends.{Devices, IsTold}
+
+-- a reader that has all bytes of a file still to give
+abbrev pub unread : List ℕ → Device
+unread bytes = record { bytes = Some bytes; failures = 0 }
+
+-- and one that gave them
+abbrev pub read_whole : Device
+read_whole = record { bytes = Some []; failures = 0 }
+
+-- the pass over a file of so many bytes was refused, by what it read, or for want of a read or of memory: the line of the refusal is written,
+-- or a part of it, no line of the script is read, and nothing is saved
+pub record RefusesPass (size : ℕ) (options : Options) (old new : Devices) (end : RunEnd) (refused : RefusedPass) : Type 0 where
+  pub reason : IsPassFault size options.reading options.limits refused.read refused.fault
+  pub told : IsTold old.answers new.answers (load_refusal_line refused.fault) (ends.Load refused.fault) end
+  pub unread_is : new.script ≡ old.script
+  pub unsaved : new.out ≡ old.out

@@ -2,9 +2,8 @@
 use crate::tests::{options, put, sample_file};
 use device_io::{Sink, Source, StepReader};
 use edit_overlay::ReadFault;
-use frame_cut::LoadFault;
 use script_hints::Notes;
-use script_run::{RunEnd, load_on_disk, run_loaded, run_on_disk, session_on_disk};
+use script_run::{RunEnd, load_on_disk, run_loaded};
 use std::alloc::Global;
 use std::fs;
 use std::fs::File;
@@ -86,57 +85,5 @@ fn tells_of_what_cannot_be_read(rt: HostRuntime) -> Result<(), Fail> {
         _ => None,
     };
     assert_eq!(rt; read, Some(ReadFault::ReadFailed));
-    Ok(())
-}
-
-#[test]
-fn a_run_on_disk_is_one_call(rt: HostRuntime) -> Result<(), Fail> {
-    let alloc = rt.alloc();
-    let file = sample_file(alloc)?;
-    fs::write(&rt, "run.sgy", file.as_slice())?;
-    let mut lines = Source::new(StepReader::new(b"count\nget 2 @189:4\n", 4096, u64::MAX));
-    let mut answers = Sink::new(Vec::new(alloc));
-    let mut out = Sink::new(Vec::new(alloc));
-    let run = run_on_disk(
-        alloc,
-        fs::open(&rt, "run.sgy")?,
-        file.len() as u64,
-        &mut lines,
-        &mut answers,
-        &mut out,
-        options(false, true)?,
-        &mut Notes::new(),
-    );
-    assert_eq!(rt; run.end, RunEnd::Done { refused: 0 });
-    assert!(rt; run.volume.is_ok());
-    assert!(rt; answers.into_inner().as_slice() == b"traces 3\nvalue 10\n".as_slice());
-    assert!(rt; out.into_inner().as_slice() == file.as_slice());
-    Ok(())
-}
-
-// A file that is one byte shorter than it was told to be, and then the whole one.
-#[test]
-fn a_session_on_disk_is_one_call(rt: HostRuntime) -> Result<(), Fail> {
-    let alloc = rt.alloc();
-    let file = sample_file(alloc)?;
-    fs::write(&rt, "session.sgy", file.as_slice())?;
-    let mut lines = Source::new(StepReader::new(b"count\n", 4096, u64::MAX));
-    let mut answers = Sink::new(Vec::new(alloc));
-    let mut out = Sink::new(Vec::new(alloc));
-    for (more, wanted) in [(1, Some(LoadFault::ReadFailed)), (0, None)] {
-        let run = session_on_disk(
-            alloc,
-            fs::open(&rt, "session.sgy")?,
-            file.len() as u64 + more,
-            &mut lines,
-            &mut answers,
-            &mut out,
-            options(false, false)?,
-        );
-        let fault = run.volume.as_ref().err().map(|refused| refused.fault());
-        assert_eq!(rt; fault, wanted);
-    }
-    let told = b"load refused L01 read failed\ntraces 3\n\n";
-    assert!(rt; answers.into_inner().as_slice() == told.as_slice());
     Ok(())
 }

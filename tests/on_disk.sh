@@ -64,8 +64,8 @@ printf 'set 2 @189:4 7\n' > script
 "$program" own.sgy --script script --on-disk --out own.sgy > answers 2> errors
 if cmp -s wanted.sgy own.sgy; then tell 'a save over the file' ok; else tell 'a save over the file' "$(< errors)"; fi
 
-# ---- the device fails at each read: of the load, of a look, of the save
-printf 'set 2 @189:4 7\nget 3 @189:4\n' > script
+# ---- the device fails at each read: of the load, of a look, of the save. Another coordinate scalar has the trace read anew
+printf 'set 2 @71:2 7\nget 3 @189:4\n' > script
 "$program" s.sgy --script script --out whole.sgy > whole.txt
 printf 'refused E14 read failed\nvalue 10\n' > set_failed.txt
 printf 'ok\nrefused E14 read failed\n' > get_failed.txt
@@ -89,6 +89,16 @@ for call in $(seq 1 40); do
             fi ;;
     esac
     tell "read $call fails" "$outcome"
+done
+
+# ---- a set of an inline reads nothing: whichever read fails, it is done where the file was loaded
+printf 'set 2 @189:4 7\nrenumber 1 3 @193:4 5 1\n' > script
+for call in $(seq 1 12); do
+    env $library DEVICE=s.sgy FAIL_CALL=$call "$program" s.sgy --on-disk --script script > answers 2> errors
+    case $(head -n 1 answers) in
+        'load refused L01 read failed') tell "a set reads nothing, read $call fails" ok ;;
+        *) if [ "$(< answers)" = $'ok\nok' ]; then tell "a set reads nothing, read $call fails" ok; else tell "a set reads nothing, read $call fails" "$(< answers)"; fi ;;
+    esac
 done
 
 # ---- the file changes while the program runs: a session, so that it is known when

@@ -49,6 +49,12 @@ fn inline() -> Field {
     signed(0, 189, 4)
 }
 
+// Where it has its coordinate scalar, under which x and y are kept: with another one they are read
+// again.
+fn scalar() -> Field {
+    signed(0, 71, 2)
+}
+
 // The bytes with this one put over them.
 fn with_byte(alloc: Global, bytes: &[u8], at: usize, byte: u8) -> Result<Vec<u8>, Fail> {
     let mut changed = Vec::from_slice(alloc, bytes)?;
@@ -67,7 +73,10 @@ fn edits_and_saves_on_disk(rt: HostRuntime) -> Result<(), Fail> {
             assert_eq!(rt; bench.count(), 3);
             assert_eq!(rt; bench.looks(), 3);
             assert_eq!(rt; value(bench, alloc, 3, inline())?, 10);
+            // Nothing of the trace is needed for its new record.
+            let looks = bench.looks();
             assert!(rt; meets(bench, alloc, Edit::Set(2, inline(), 7), None));
+            assert_eq!(rt; bench.looks(), looks);
             assert_eq!(rt; value(bench, alloc, 2, inline())?, 7);
             assert!(rt; saves(bench, alloc, with_byte(alloc, file, 4035, 7)?.as_slice())?);
             Ok(())
@@ -91,7 +100,7 @@ fn refuses_what_cannot_be_read(rt: HostRuntime) -> Result<(), Fail> {
         "short.sgy",
         &mut |file: &[u8], bench: &mut Bench| {
             let _short = laid(&rt, "short.sgy", file.get(..4100).ok_or("part")?)?;
-            let (edit, query) = (Edit::Set(3, inline(), 7), Query::Get(3, inline()));
+            let (edit, query) = (Edit::Set(3, scalar(), 7), Query::Get(3, inline()));
             assert!(rt; meets(bench, alloc, edit, Some(Refusal::ReadFailed)));
             assert_eq!(rt; fault(bench, alloc, query), Some(AskFault::ReadFailed));
             assert_eq!(rt;
@@ -120,7 +129,7 @@ fn refuses_a_file_that_changed(rt: HostRuntime) -> Result<(), Fail> {
         &mut |file: &[u8], bench: &mut Bench| {
             let other = with_byte(alloc, file, 3715, 3)?;
             let _other = laid(&rt, "changed.sgy", other.as_slice())?;
-            let (edit, query) = (Edit::Set(1, inline(), 7), Query::Get(1, inline()));
+            let (edit, query) = (Edit::Set(1, scalar(), 7), Query::Get(1, inline()));
             assert!(rt; meets(bench, alloc, edit, Some(Refusal::FileChanged)));
             assert_eq!(rt; fault(bench, alloc, query), Some(AskFault::FileChanged));
             assert_eq!(rt; value(bench, alloc, 2, inline())?, 10);

@@ -20,13 +20,15 @@ use Rattle.frame_cut.specs.Volume.{Volume, bytes_of}
 use Rattle.trace_view.specs.Counted.{leave_length, share_no_byte}
 use Rattle.trace_view.specs.Values.{has_place, is_in_header}
 use Rattle.trace_view.proofs.CountedLemmas.{length-kept}
+use Rattle.bench_rules.specs.declared.edit.Edit.TheVariants.{Set}
 use Rattle.bench_rules.specs.declared.field.Field.TheVariants as field
-use Rattle.bench_rules.specs.Refused.{with_value, set_refusal, first_refusal_among}
+use Rattle.bench_rules.specs.Refused.{with_value, set_refusal, first_refusal, first_refusal_among}
 use Rattle.bench_rules.specs.State.{State}
 use Rattle.bench_rules.specs.TraceEdits.{counted, numbers}
 use Rattle.bench_rules.proofs.PlaceLemmas.{place_inside, sized}
 use Rattle.bench_rules.proofs.RenumberLemmas.{renumber_not_refused}
 use Rattle.bench_rules.proofs.SetLemmas.{Accepted, both, not_refused, refused_at, whole_trace}
+use Rattle.volume_answers.specs.Rooms.{HasRoom}
 use Rattle.live_volume.specs.Places.{leaves_length, EachHolds}
 use Rattle.live_volume.proofs.ManyTracesLemmas.{among_values}
 
@@ -161,6 +163,10 @@ pub on_true : {P : Type 0} (b : Bool) → (b ≡ true → P) → OnTrue b P
 on_true true f = f refl
 on_true false f = tt
 
+pub where_true : {P : Type 0} (b : Bool) → b ≡ true → OnTrue b P → P
+where_true true e p = p
+where_true false e p = absurd cc
+
 -- each trace has a main header, so each holds the place
 pub each_holds : (v : Volume) (a b : ℕ) (place : Place) → 1 ≤ a → b ≤ count_of v → ((p : ℕ) → 1 ≤ p → p ≤ count_of v → 240 ≤ length (trace_at v p)) → leaves_length place ≡ true → EachHolds v a (b + 1 - a) place
 each_holds v a b place low last headers leaves k less =
@@ -169,6 +175,30 @@ each_holds v a b place low last headers leaves k less =
     let at : offset_of place ≡ place.byte - 1 = rw free.header (omega arith) in
     let size : is_size place.kind.size ≡ true = (both _ _ (both _ _ (both _ _ (both _ _ leaves).0).0).0).1 in
     record { first = free.first; size = sized place.kind.size size; inside = omega (arith, at, header, free.first, free.last) }
+
+-- and there is room for a value of one trace
+pub room_there : (v : Volume) (p : ℕ) (place : Place) (x : ℤ) → is_trace v p ≡ true → ((q : ℕ) → 1 ≤ q → q ≤ count_of v → 240 ≤ length (trace_at v q)) → leaves_length place ≡ true → fits place.kind x ≡ true → HasRoom v p place x
+room_there v p place x there headers leaves fit =
+    let range = both _ _ there in
+    let first : 1 ≤ p = leb-true 1 p range.0 in
+    let last : p ≤ count_of v = leb-true p (count_of v) range.1 in
+    let here : p + 0 ≡ p = omega arith in
+    let holds = each_holds v p p place first last headers leaves 0 (omega (arith, first)) in
+    record {
+      first = first;
+      last = last;
+      byte = holds.first;
+      size = holds.size;
+      fits = fit;
+      inside = subst (λ (q : ℕ). offset_of place + place.kind.size ≤ length (trace_at v q)) here holds.inside;
+    }
+
+-- which nothing refuses
+pub none_refuses_it : (s : State) (p : ℕ) (place : Place) (x : ℤ) → IsCut (bytes_of s.volume) s.reading s.limits s.volume → is_trace s.volume p ≡ true → leaves_length place ≡ true → fits place.kind x ≡ true
+    → first_refusal s (Set p (field.Place place) x) ≡ None
+none_refuses_it s p place x cut there leaves fit =
+    let range = both _ _ there in
+    not_refused s p place x (accepted_there s p place x cut (leb-true 1 p range.0) (leb-true p (count_of s.volume) range.1) (is_free place leaves) fit)
 
 -- and each value fits
 pub all_fit : (place : Place) (first step : ℤ) (a b : ℕ) → a ≤ b → fits place.kind first ≡ true → fits place.kind (counted first step (b - a)) ≡ true → (k : ℕ) → k < b + 1 - a → fits place.kind (counted first step k) ≡ true

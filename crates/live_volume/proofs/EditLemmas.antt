@@ -1,6 +1,6 @@
 -- What a bench holds once its volume, its records and its reports are edited together.
 use Rattle.std.proofs.Common.{◌≡◌, ◌∙◌, ℕ, ◌+◌, ◌*◌, ◌-◌, ◌/◌, ◌%◌, ◌<◌, ◌≤◌, ◌^◌, ◌++◌, Bool, List, [], length, map, take, drop, get_or, refl, sym, ap, subst, arith}
-use Rattle.std.specs.Prelude.{slice_set, IsTrue}
+use Rattle.std.specs.Prelude.{slice_set, IsTrue, IfSome, Option}
 use Rattle.std.proofs.Math.Nat.{mod-eq-sub-div-mul, div-mul-le_self}
 use Rattle.std.proofs.lemmas.List.{length-map, map-append, drop-map, take-map, drop-drop, take-append-drop, append_assoc}
 use Rattle.frame_cut.specs.declared.file_head.Head.{Head}
@@ -15,15 +15,17 @@ use Rattle.trace_record.specs.OfTrace.{record_of}
 use Rattle.trace_record.specs.Packed.{record_in}
 use Rattle.trace_record.specs.declared.packed_record.PackedRecord.{PackedRecord}
 use Rattle.trace_record.specs.declared.record.Record.{Record}
-use Rattle.edit_overlay.specs.CountedVolume.{CountedVolume, after_look, with_prepared, IsSeen}
+use Rattle.edit_overlay.specs.CountedVolume.{CountedVolume, with_prepared, IsSeen}
 use Rattle.edit_overlay.specs.Loaded.{Loaded}
 use Rattle.live_reports.specs.declared.live_reports.LiveReports.{LiveReports}
 use Rattle.live_reports.specs.Exchanged.{with_records}
 use Rattle.live_reports.specs.OfRecords.{AreReportsOf}
 use Rattle.live_reports.specs.Reports.{AreFew}
+use Rattle.volume_records.specs.Laid.{AreLaid, IsLaid}
 use Rattle.volume_records.specs.OfVolume.{records_of}
 use Rattle.volume_records.proofs.EachLemmas.{length-put_each}
 use Rattle.volume_records.proofs.EditLemmas.{records-with_trace}
+use Rattle.volume_records.proofs.LaidLemmas.{if_some}
 use Rattle.bench_rules.specs.State.{State}
 use Rattle.live_volume.specs.Held.{state_of, records_in, with_volume, AreMeasured, HasFrame, IsHeld}
 use Rattle.live_volume.specs.declared.live_volume.LiveVolume.TheInside.{Inside}
@@ -56,10 +58,21 @@ state_with b e w is loaded =
     ap (λ (u : Volume). let s : State = record (state_of b) { volume = u; on_disk = e.loaded.on_disk } in s) is
     ∙ ap (λ (l : Loaded). let s : State = record (state_of b) { volume = w; on_disk = l.on_disk } in s) loaded
 
--- ---- bytes laid over trace p, whose new record was read in one look
+-- ---- bytes laid over trace p, whose new record was made in one look at most
 
-module _ (b : Inside) (h : IsHeld b) (p at : ℕ) (bytes : List ℕ) (o : CountedVolume PackedRecord) (first : 1 ≤ p) (last : p ≤ count_of b.overlay.volume) (inside : at + length bytes ≤ length (trace_at b.overlay.volume p))
-    (looked : o ≡ after_look (with_prepared b.overlay (with_trace b.overlay.volume p (splice (trace_at b.overlay.volume p) at (length bytes) bytes))) o.agreed) where
+-- the record that the trace had is known, and the bytes are laid over that trace
+pub put_laid : (b : Inside) (p at : ℕ) (bytes : List ℕ) (mid : CountedVolume PackedRecord) (known : Option Record) → 1 ≤ p → p ≤ count_of b.overlay.volume → at + length bytes ≤ length (trace_at b.overlay.volume p)
+    → mid ≡ with_prepared b.overlay (with_trace b.overlay.volume p (splice (trace_at b.overlay.volume p) at (length bytes) bytes))
+    → IfSome known (λ r. facts_of r ≡ record_of b.overlay.volume.head b.fields.pairs (trace_at b.overlay.volume p)) → IfSome known (IsLaid mid.volume mid.prepared b.fields.pairs p at bytes)
+put_laid b p at bytes mid known first last inside ready is =
+    let v : Volume = b.overlay.volume in
+    let t : List ℕ = splice (trace_at v p) at (length bytes) bytes in
+    let laid : IfSome known (IsLaid v (with_trace v p t) b.fields.pairs p at bytes) =
+    if_some known is (λ r e. record { head = refl; inside = inside; laid = trace_again v p t first last; known = e }) in
+    subst (λ (o : CountedVolume PackedRecord). IfSome known (IsLaid o.volume o.prepared b.fields.pairs p at bytes)) (sym ready) laid
+
+module _ (b : Inside) (h : IsHeld b) (p at : ℕ) (bytes : List ℕ) (mid o : CountedVolume PackedRecord) (first : 1 ≤ p) (last : p ≤ count_of b.overlay.volume) (inside : at + length bytes ≤ length (trace_at b.overlay.volume p))
+    (ready : mid ≡ with_prepared b.overlay (with_trace b.overlay.volume p (splice (trace_at b.overlay.volume p) at (length bytes) bytes))) (seen : IsSeen mid o 1) where
   abbrev laid : List ℕ
   laid = splice (trace_at b.overlay.volume p) at (length bytes) bytes
 
@@ -67,19 +80,19 @@ module _ (b : Inside) (h : IsHeld b) (p at : ℕ) (bytes : List ℕ) (o : Counte
   behind = with_trace b.overlay.volume p laid
 
   pub put_volume : o.volume ≡ b.overlay.volume
-  put_volume = ap (λ (x : CountedVolume PackedRecord). x.volume) looked
+  put_volume = seen.volume ∙ ap (λ (x : CountedVolume PackedRecord). x.volume) ready
 
   pub put_prepared : o.prepared ≡ behind
-  put_prepared = ap (λ (x : CountedVolume PackedRecord). x.prepared) looked
+  put_prepared = seen.prepared ∙ ap (λ (x : CountedVolume PackedRecord). x.prepared) ready
 
   pub put_payloads : o.payloads ≡ b.overlay.payloads
-  put_payloads = ap (λ (x : CountedVolume PackedRecord). x.payloads) looked
+  put_payloads = seen.payloads ∙ ap (λ (x : CountedVolume PackedRecord). x.payloads) ready
 
   pub put_stay : o.payloads_prepared ≡ o.payloads
-  put_stay = ap (λ (x : CountedVolume PackedRecord). x.payloads_prepared) looked ∙ sym put_payloads
+  put_stay = seen.payloads_prepared ∙ ap (λ (x : CountedVolume PackedRecord). x.payloads_prepared) ready ∙ sym put_payloads
 
   pub put_loaded : o.loaded ≡ b.overlay.loaded
-  put_loaded = ap (λ (x : CountedVolume PackedRecord). x.loaded) looked
+  put_loaded = seen.loaded ∙ ap (λ (x : CountedVolume PackedRecord). x.loaded) ready
 
   pub put_last : p ≤ count_of o.volume
   put_last = omega (arith, last, ap (λ (u : Volume). count_of u) put_volume)
@@ -127,6 +140,14 @@ module _ (b : Inside) (h : IsHeld b) (p at : ℕ) (bytes : List ℕ) (o : Counte
       (subst (λ (l : List Record). AreReportsOf reports l) put counted)
 
 -- ---- bytes laid over many traces, whose new records were read
+
+-- the records beside the traces are theirs, and the bytes are laid over those traces
+pub each_laid : (b : Inside) (a count at size : ℕ) (bytes : List ℕ) (mid : CountedVolume PackedRecord) → length bytes / size ≡ count
+    → ((k : ℕ) → k < length bytes / size → at + size ≤ length (get_or b.overlay.volume.traces (a - 1 + k) [])) → mid ≡ with_prepared b.overlay (with_each b.overlay.volume a at size bytes)
+    → map facts_of (records_in b) ≡ records_of b.overlay.volume b.fields.pairs → AreLaid mid b.fields.pairs a count at size bytes
+each_laid b a count at size bytes mid number inside ready records =
+    subst (λ (o : CountedVolume PackedRecord). AreLaid o b.fields.pairs a count at size bytes) (sym ready)
+    (record { prepared = refl; inside = λ k less. inside k (omega (arith, less, number)); records = records })
 
 -- records that stand in for others of the same numbers of samples leave the numbers
 numbers_stay : (rs new : List Record) (p n : ℕ) → length new ≡ n → map (λ (r : Record). r.number) new ≡ take n (drop p (map (λ (r : Record). r.number) rs)) → map (λ (r : Record). r.number) (with_records rs p new) ≡ map (λ (r : Record). r.number) rs

@@ -216,6 +216,23 @@ impl LiveVolume {
         ensures looks { RisesAtMost self.old.looks self.new.looks
             (trace_looks self.old.state.volume p 2) }
     {
+        if self.accepts(p, place, value) {
+            return self.put_value(alloc, p, place, value);
+        }
+        self.set_seen(alloc, p, place, value)
+    }
+
+    // The same, where the trace is looked at for the first refusal.
+    fn set_seen(&mut self, alloc: Global, p: u32, place: Place, value: i128) -> Result<(), Refusal>
+        ensures step { IsTrue self.new.agreed →
+            Step self.old.state (edits.Set p (fields.Place place) value) result self.new.state }
+        ensures err { OnErr result (self.new.state ≡ self.old.state) }
+        ensures same { IsReadAs self.old.state self.new.state }
+        ensures agreed { IsTrue self.new.agreed → IsTrue self.old.agreed }
+        ensures loaded { self.new.loaded ≡ self.old.loaded }
+        ensures looks { RisesAtMost self.old.looks self.new.looks
+            (trace_looks self.old.state.volume p 2) }
+    {
         match value_refusal(&mut self.overlay, p, place, value)? {
             Some(refusal) => Err(refusal),
             None => self.put_value(alloc, p, place, value),
@@ -239,8 +256,8 @@ impl LiveVolume {
         let mut buffer = [0u8; 8];
         let new = &mut buffer[..usize::from(place.kind.size)];
         write(self.overlay.head().order, place.kind, value, new);
-        let samples = self.held(p);
-        self.put(alloc, p, u64::from(place.offset()), new, Some(samples))
+        let known = self.held(p);
+        self.put(alloc, p, u64::from(place.offset()), new, Some(known))
     }
 
     // The value into the field of the binary header, or the first refusal: E02, E03, E04, E06.

@@ -17,6 +17,7 @@ ghost use Rattle.many_traces.specs.Formulas.{IsRefusalFor};
 ghost use Rattle.live_volume.specs.Held.{any_moves, IsReadAs, OnlyLooks};
 ghost use Rattle.live_volume.specs.Places.{leaves_length as leaves_length_of, EachHolds, MayReplace};
 ghost use Rattle.live_volume.specs.Refusals.{IsOfMachine};
+ghost use Rattle.volume_answers.specs.Rooms.{HasRoom};
 
 use crate::live_volume::LiveVolume;
 use bench_rules::{
@@ -176,6 +177,20 @@ impl LiveVolume {
             Some(last) => fits(place.kind, last),
             None => false,
         }
+    }
+
+    // Whether it is known without a look that trace p is there and does not refuse the value: it
+    // has the place, and keeps its length, and the value fits.
+    pub(crate) fn accepts(&self, p: u32, place: Place, value: i128) -> bool
+        ensures room { OnTrue result (HasRoom self.now.state.volume p place value) }
+        ensures none { OnTrue result (IsTrue self.now.agreed → first_refusal
+            self.now.state (edits.Set p (fields.Place place) value) ≡ None) }
+    {
+        self.stands();
+        if !self.has_trace(p) || !leaves_length(place) {
+            return false;
+        }
+        fits(place.kind, value)
     }
 
     // The refusal at the place of trace p of the value that stands k steps behind the first: E03,

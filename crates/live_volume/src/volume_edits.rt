@@ -10,11 +10,12 @@ ghost use Rattle.frame_cut.specs.Volume.{bytes_of};
 ghost use Rattle.trace_record.specs.Facts.{facts_of};
 ghost use Rattle.trace_record.specs.OfTrace.{record_of};
 ghost use Rattle.trace_record.specs.Packed.{record_in};
-ghost use Rattle.edit_overlay.specs.CountedVolume.{RisesAtMost, after_look, with_volume as with_counted_volume};
+ghost use Rattle.edit_overlay.specs.CountedVolume.{IsSeen, RisesAtMost, with_volume as with_counted_volume};
 ghost use Rattle.live_reports.specs.Exchanged.{with_records};
 ghost use Rattle.live_reports.specs.OfRecords.{AreReportsOf};
 ghost use Rattle.live_reports.specs.Reports.{AreFew};
 ghost use Rattle.bench_rules.specs.declared.refusal.Refusal.TheVariants.{OutOfMemory as no_memory};
+ghost use Rattle.volume_records.specs.Laid.{IsLaid};
 ghost use Rattle.volume_records.specs.OfVolume.{AreHeaderParts};
 ghost use Rattle.live_volume.specs.Held.{any_moves, with_volume, HasSamplesOf, IsCutAs};
 ghost use Rattle.live_volume.specs.Places.{MayReplace};
@@ -28,9 +29,7 @@ use live_reports::{LiveReports, same_cells};
 use record_table::{RecordList, Records};
 use std::alloc::Global;
 use trace_record::{PackedRecord, Record};
-use volume_records::{
-    RecordsFault, prepared_headers, prepared_record, prepared_records, set_records,
-};
+use volume_records::{RecordsFault, laid_headers, prepared_record, prepared_records, set_records};
 
 impl LiveVolume {
     // The record of trace p.
@@ -46,15 +45,16 @@ impl LiveVolume {
     }
 
     // Lays the bytes over those of trace p from place `at` on, counted from 0 in the trace. The
-    // trace is looked at for its new record; where the record of its samples is known, they are not
-    // read. Refused for want of memory, or on disk where the trace could not be read.
+    // trace is looked at for its new record; where they lie over its headers, and the record that
+    // it had is known, no sample is read, and the trace is not looked at either where that record
+    // tells the new one. Refused for want of memory, or on disk where the trace could not be read.
     pub(crate) fn put(
         &mut self,
         alloc: Global,
         p: u32,
         at: u64,
         bytes: &[u8],
-        samples: Option<Record>,
+        known: Option<Record>,
     ) -> Result<(), Refusal>
         requires first { 1 ≤ p }
         requires last { p ≤ count_of self.old.state.volume }
@@ -64,10 +64,13 @@ impl LiveVolume {
         requires cut { IsTrue self.old.agreed → IsCutAs self.old.state
             (with_trace self.old.state.volume p
             (splice (trace_at self.old.state.volume p) at (length bytes.now) bytes.now)) }
-        requires samples { IsTrue self.old.agreed → IfSome samples (HasSamplesOf
+        requires known { IsTrue self.old.agreed → IfSome known (λ r. facts_of r ≡ record_of
+            self.old.state.volume.head self.old.state.fields
+            (trace_at self.old.state.volume p)) }
+        requires samples { IsTrue self.old.agreed → IfSome known (HasSamplesOf
             self.old.state.volume.head self.old.state.fields
             (splice (trace_at self.old.state.volume p) at (length bytes.now) bytes.now)) }
-        requires few { IfSome samples (λ r. r.number ≤
+        requires few { IfSome known (λ r. r.number ≤
             length (trace_at self.old.state.volume p)) }
         ensures ok { OnOk result (self.new.state ≡ with_volume self.old.state
             (with_trace self.old.state.volume p
@@ -79,7 +82,7 @@ impl LiveVolume {
         ensures looks { RisesAtMost self.old.looks self.new.looks 1 }
     {
         self.overlay.prepare_put(alloc, p, at, bytes)?;
-        match new_record(&mut self.overlay, &self.fields, p, samples) {
+        match new_record(&mut self.overlay, &self.fields, p, at, bytes, known) {
             Ok(record) => {
                 exchange(&mut self.overlay, &mut self.reports, p, &record)?;
                 Ok(())
@@ -174,9 +177,9 @@ impl LiveVolume {
 
     // Lays the bytes, `size` of them over each trace, over the headers of so many traces from trace
     // a on, in each from place `at` on, counted from 0 in the trace: all of them or none. Tells
-    // whether a trace has another inline or crossline then. Each is looked at for its new record,
-    // and no sample is read. Refused for want of memory, or on disk where a trace could not be
-    // read.
+    // whether a trace has another inline or crossline then. Each is looked at for its new record
+    // where the one that it had does not tell it, and no sample is read. Refused for want of
+    // memory, or on disk where a trace could not be read.
     pub(crate) fn put_each(
         &mut self,
         alloc: Global,
@@ -210,7 +213,8 @@ impl LiveVolume {
         ensures looks { RisesAtMost self.old.looks self.new.looks count }
     {
         self.overlay.prepare_put_each(alloc, a, at, size, bytes)?;
-        match prepared_records(alloc, &mut self.overlay, &self.fields, a, count) {
+        let overlay = &mut self.overlay;
+        match prepared_records(alloc, overlay, &self.fields, a, count, at, size, bytes) {
             Ok(records) => {
                 let stays = same_cells(
                     &Records::new(self.overlay.payloads()),
@@ -238,29 +242,33 @@ pub(crate) fn refusal_of_records(fault: RecordsFault) -> Refusal
     }
 }
 
-// The record of trace p with the prepared edit, in one look. No sample is read where a record is
-// known that has the same ones.
+// The record of trace p with the prepared edit, which lays the bytes over it from place `at` on, in
+// one look at most. No sample is read where the record is known that the trace had, and has the
+// same ones.
 fn new_record(
     overlay: &mut Overlay<PackedRecord>,
     fields: &FieldMap,
     p: u32,
-    samples: Option<Record>,
+    at: u64,
+    bytes: &[u8],
+    known: Option<Record>,
 ) -> Result<Record, ReadFault>
     requires trace { IsTrue (is_trace overlay.old.prepared p) }
     requires fields { fields.now.extensions ≡ overlay.old.prepared.head.extensions }
-    requires samples { IsTrue overlay.old.agreed → IfSome samples (HasSamplesOf
+    requires laid { IsTrue overlay.old.agreed → IfSome known (IsLaid overlay.old.volume
+        overlay.old.prepared fields.now.pairs p at bytes.now) }
+    requires samples { IsTrue overlay.old.agreed → IfSome known (HasSamplesOf
         overlay.old.prepared.head fields.now.pairs (trace_at overlay.old.prepared p)) }
-    requires few { IfSome samples (λ r. r.number ≤ length (trace_at overlay.old.prepared p)) }
+    requires few { IfSome known (λ r. r.number ≤ length (trace_at overlay.old.prepared p)) }
     ensures record { IfOk result (λ r. IsTrue overlay.new.agreed →
         facts_of r ≡ record_of overlay.old.prepared.head fields.now.pairs
         (trace_at overlay.old.prepared p)) }
     ensures few { IfOk result (λ r. r.number ≤ length (trace_at overlay.old.prepared p)) }
-    ensures looked { overlay.new ≡ after_look overlay.old overlay.new.agreed }
-    ensures agreed { IsTrue overlay.new.agreed → IsTrue overlay.old.agreed }
+    ensures seen { IsSeen overlay.old overlay.new 1 }
     ensures read { IfErr result (λ _. IsTrue overlay.old.loaded.on_disk) }
 {
-    match samples {
-        Some(known) => prepared_headers(overlay, fields, p, &known),
+    match known {
+        Some(known) => laid_headers(overlay, fields, p, &known, at, bytes),
         None => prepared_record(overlay, fields, p),
     }
 }

@@ -13,7 +13,7 @@ use crate::scan::find_id;
 use std::alloc::Global;
 
 /// How full a chunk is where ids are put behind all others.
-const FILL: usize = 384;
+pub const FILL: usize = 384;
 
 /// Two chunks side by side hold more than 256 ids: with so many they may not lose one.
 const THIN: usize = 257;

@@ -11,11 +11,11 @@ use std::marker::Model;
 /// The ids in chunks of at most 512, for orders of many ids. Two chunks side by side hold more than
 /// 256 ids together.
 ///
-/// For each group of 16 chunks it keeps how many ids stand in front. `get` finds the group by
-/// halves, then passes over its chunks: a number of steps that grows with the logarithm of the
-/// chunks. What is stated is that `get` adds at most `chunks() + 1` to its probes, and `place_of`,
-/// which passes over whole chunks, at most `chunks() + 512`. A chunk that a removal empties is kept
-/// as a spare one.
+/// For each group of 16 chunks it keeps how many ids stand in front. `get` finds the group, in two
+/// steps where ids were put behind all others alone, else by halves, and then passes over its
+/// chunks: a number of steps that grows with the logarithm of the chunks. What is stated is that
+/// `get` adds at most `chunks() + 1` to its probes, and `place_of`, which passes over whole chunks,
+/// at most `chunks() + 512`. A chunk that a removal empties is kept as a spare one.
 #[derive(Drop)]
 pub struct ChunkSeq {
     chunks: CountedChunks,

@@ -6,9 +6,13 @@ ghost use Rattle.trace_seq.specs.Chunks.{ids_of, place_at, size_at};
 ghost use Rattle.trace_seq.specs.Fronts.{front, AreFronts};
 
 use crate::chunk::{Chunk, Spot};
+use crate::chunk_list::FILL;
 
 /// For how many chunks one number stands.
 pub const GROUP: usize = 16;
+
+// How many ids a group has where ids were put behind all others alone, as those of a load are.
+const USUAL: usize = GROUP * FILL;
 
 /// A group of chunks, and how many ids stand in front of it.
 #[derive(Clone, Copy)]
@@ -17,8 +21,8 @@ pub struct Group {
     pub first: usize,
 }
 
-/// The last group that starts at the place or in front of it, by halves. Each number looked at is a
-/// probe.
+/// The last group that starts at the place or in front of it: first where it is if each has as many
+/// ids as usual, then by halves. Each number looked at is a probe.
 pub fn find_group(fronts: &[usize], place: usize, probes: &mut u64) -> Group
     ensures before { result.first ≤ place }
     ensures behind { result.number + 1 < length fronts.now →
@@ -31,11 +35,12 @@ pub fn find_group(fronts: &[usize], place: usize, probes: &mut u64) -> Group
 {
     // Brings the range of `probes` into the proof, and does nothing at run time.
     let _within = *probes;
+    let usual = place / USUAL;
     let mut number = 0;
     let mut end = fronts.len();
     'halves: while number + 1 < end {
         *probes = probes.saturating_add(1);
-        let middle = number + (end - number) / 2;
+        let middle = next_probe(usual, number, end);
         // With no branch, since none could be foretold.
         let is_before = fronts[middle] <= place;
         number = if is_before { middle } else { number };
@@ -43,6 +48,23 @@ pub fn find_group(fronts: &[usize], place: usize, probes: &mut u64) -> Group
     }
     let first = if number == 0 { 0 } else { fronts[number] };
     Group { number, first }
+}
+
+// The number to look at next, between two others: the one behind the usual group, then that of the
+// usual group, where they lie between these; else the one halfway.
+fn next_probe(usual: usize, number: usize, end: usize) -> usize
+    requires { number + 1 < end }
+    ensures above { number < result }
+    ensures below { result < end }
+{
+    if number <= usual && usual < end - 1 {
+        // Both are open: the one behind comes first.
+        return usual + 1;
+    }
+    if number < usual && usual < end {
+        return usual;
+    }
+    number + (end - number) / 2
 }
 
 /// Where the id at a place stands, from a chunk on that has so many ids in front of it. Each chunk

@@ -22,6 +22,7 @@
 
 mod column;
 mod out_of_memory;
+mod parts;
 mod payloads;
 mod prepared;
 mod reading_ahead;
@@ -31,6 +32,7 @@ mod window;
 
 pub use crate::column::Column;
 pub use crate::out_of_memory::OutOfMemory;
+pub use crate::parts::part;
 pub use crate::payloads::Payloads;
 pub use crate::prepared::{Prepared, TraceMove, TracePut, TraceRuns};
 pub use crate::slot::{Base, Slot};

@@ -14,6 +14,7 @@ ghost use Rattle.trace_store.specs.Each.{part_of, ArePutRuns, ArePutEach};
 ghost use Rattle.trace_store.specs.OneProof.{IsStore-prop};
 
 use crate::out_of_memory::OutOfMemory;
+use crate::parts::part;
 use crate::prepared::{Prepared, TraceMove, TracePut, TraceRuns};
 use crate::slot::{Base, Slot, piece};
 use crate::window::Window;
@@ -776,15 +777,4 @@ impl<T: Copy> TraceStore<T> {
             None => unreachable!(),
         }
     }
-}
-
-// Part k of bytes that are cut into parts of one size, counted from 0.
-fn part(bytes: &[u8], size: u32, k: usize) -> &[u8]
-    requires some { 0 < size }
-    requires within { k < length bytes.now / size }
-    ensures part { result.now ≡ part_of bytes.now size k }
-    ensures length { length result.now ≡ size }
-{
-    let start = k * size as usize;
-    &bytes[start..start + size as usize]
 }

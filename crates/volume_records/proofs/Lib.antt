@@ -8,3 +8,4 @@ pub mod HeaderLemmas
 pub mod EachLemmas
 pub mod ItemLemmas
 pub mod OnePassLemmas
+pub mod LaidLemmas

@@ -69,6 +69,21 @@ module _ {T : Type 0} where
         agreed = λ sure. seen.agreed (fell sure);
       }
 
+  -- after some looks and then some more
+  pub seen_both : (old now last : CountedVolume T) (n m : ℕ) → IsSeen old now n → IsSeen now last m → IsSeen old last (n + m)
+  seen_both old now last n m seen more =
+      let rose = seen.looks in
+      let again = more.looks in
+      record {
+        volume = more.volume ∙ seen.volume;
+        prepared = more.prepared ∙ seen.prepared;
+        payloads = more.payloads ∙ seen.payloads;
+        payloads_prepared = more.payloads_prepared ∙ seen.payloads_prepared;
+        loaded = more.loaded ∙ seen.loaded;
+        looks = (omega (arith, rose, again), omega (arith, rose, again));
+        agreed = λ sure. seen.agreed (more.agreed sure);
+      }
+
   -- after at most so many
   pub seen_at_most : (old now : CountedVolume T) (n m : ℕ) → IsSeen old now n → n ≤ m → IsSeen old now m
   seen_at_most old now n m seen less =

@@ -1,3 +1,4 @@
 pub mod OfVolume
 pub mod Faults
 pub mod OfPass
+pub mod Laid

@@ -1,19 +1,21 @@
 //! The records of the traces of a volume under edits: of all of them as a file is loaded, with the
 //! running reports made of them (`with_records`), all again under another map (`remake`), of one
-//! trace as it would be with the edit that is prepared (`prepared_record`, and `prepared_headers`,
-//! which reads no sample), of traces that follow one another (`prepared_records`, which reads no
-//! sample either), and of a whole trace in memory that no volume holds yet (`record_of_bytes`).
+//! trace as it would be with the edit that is prepared (`prepared_record`; `prepared_headers`,
+//! which reads no sample; `laid_headers`, which reads nothing where the record that the trace had
+//! tells the rest), of traces that follow one another (`prepared_records`, which reads no more),
+//! and of a whole trace in memory that no volume holds yet (`record_of_bytes`).
 //!
 //! Traces count from 1. Each call that looks at a trace of the volume says how often; a look
 //! leaves the volume and what is prepared as they are. `with_records`, `remake` and
 //! `prepared_records` alone take memory, and may be refused for want of it. Where the bytes of the
-//! volume are on disk a look may be refused too: `prepared_record` and `prepared_headers` tell the
-//! `ReadFault`, `remake` and `prepared_records` a `RecordsFault`.
+//! volume are on disk a look may be refused too: `prepared_record`, `prepared_headers` and
+//! `laid_headers` tell the `ReadFault`, `remake` and `prepared_records` a `RecordsFault`.
 //!
 //! That records are those of the traces is claimed where each read since the load gave the bytes
 //! that the load read (`agreed`); how many there are, and how many samples they tell, in any case.
 #![tactic(auto)]
 
+mod laid;
 mod of_pass;
 mod of_trace;
 mod of_traces;
@@ -23,7 +25,7 @@ mod records_fault;
 mod remaking;
 
 pub use crate::of_pass::with_records_on_disk;
-pub use crate::of_trace::{prepared_headers, prepared_record, record_of_bytes};
+pub use crate::of_trace::{laid_headers, prepared_headers, prepared_record, record_of_bytes};
 pub use crate::of_traces::prepared_records;
 pub use crate::of_volume::with_records;
 pub use crate::out_of_memory::OutOfMemory;

@@ -3,8 +3,10 @@ ghost use Rattle.frame_cut.specs.Cuts.{IsTrace};
 ghost use Rattle.frame_cut.specs.Traces.{is_trace, trace_at};
 ghost use Rattle.trace_record.specs.Facts.{facts_of, with_samples_of};
 ghost use Rattle.trace_record.specs.OfTrace.{record_of as record_of_trace};
-ghost use Rattle.edit_overlay.specs.CountedVolume.{after_look};
+ghost use Rattle.edit_overlay.specs.CountedVolume.{after_look, IsSeen};
+ghost use Rattle.volume_records.specs.Laid.{IsLaid};
 
+use crate::laid::laid_record;
 use edit_overlay::{Overlay, ReadFault};
 use field_map::FieldMap;
 use frame_cut::Head;
@@ -61,6 +63,37 @@ pub fn prepared_headers(
         unreachable!()
     };
     Ok(record_with_samples_of(&headers, fields, samples))
+}
+
+/// The record of trace p, counted from 1, as it would be with the edit that is prepared, which lays
+/// these bytes over its headers from place `at` on, counted from 0, but for the amplitudes and the
+/// number of its samples, which are those of the record that it had. No look where the bytes are
+/// one of the numbers that a record tells, or leave all of these alone; else one look, which reads
+/// no sample, and may be refused where the volume's bytes are on disk. Takes no memory.
+pub fn laid_headers(
+    overlay: &mut Overlay<PackedRecord>,
+    fields: &FieldMap,
+    p: u32,
+    known: &Record,
+    at: u64,
+    bytes: &[u8],
+) -> Result<Record, ReadFault>
+    requires trace { IsTrue (is_trace overlay.old.prepared p) }
+    requires fields { fields.now.extensions ≡ overlay.old.prepared.head.extensions }
+    requires laid { IsTrue overlay.old.agreed → IsLaid overlay.old.volume overlay.old.prepared
+        fields.now.pairs p at bytes.now known.now }
+    ensures record { IfOk result (λ r. IsTrue overlay.new.agreed → facts_of r ≡ with_samples_of
+        (record_of_trace overlay.old.prepared.head fields.now.pairs
+        (trace_at overlay.old.prepared p)) (facts_of known.now)) }
+    ensures number { IfOk result (λ r. r.number ≡ known.now.number) }
+    ensures seen { IsSeen overlay.old overlay.new 1 }
+    ensures read { IfErr result (λ _. IsTrue overlay.old.loaded.on_disk) }
+{
+    let order = overlay.head().order;
+    match laid_record(known, order, fields, at, bytes) {
+        Some(record) => Ok(record),
+        None => prepared_headers(overlay, fields, p, known),
+    }
 }
 
 /// The record of a whole trace in memory that no volume holds yet, under the head of a file and a

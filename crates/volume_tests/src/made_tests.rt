@@ -1,6 +1,9 @@
 // The records of a small volume, with an edit prepared, and of a trace that no volume holds, with
 // values worked by hand.
-ghost use Rattle.std.specs.Prelude.{◌≡◌, IfOk};
+ghost use Rattle.std.specs.Prelude.{◌≡◌, map, IfOk, IsTrue};
+ghost use Rattle.trace_record.specs.Facts.{facts_of};
+ghost use Rattle.trace_record.specs.Packed.{record_in};
+ghost use Rattle.volume_records.specs.OfVolume.{records_of};
 
 use crate::files::three_traces;
 use crate::heads::plain_head;
@@ -69,7 +72,9 @@ fn prepared_two(
     at: u64,
     bytes: &[u8; 4],
 ) -> Result<RecordList, Fail>
-    requires { fields.now.extensions ≡ volume.old.volume.head.extensions }
+    requires fields { fields.now.extensions ≡ volume.old.volume.head.extensions }
+    requires records { IsTrue volume.old.agreed → map facts_of (map record_in volume.old.payloads) ≡
+        records_of volume.old.volume fields.now.pairs }
 {
     if !may_put(volume, 2, at, &bytes[..2]) {
         return Err(Fail::from("no place for the bytes"));
@@ -78,12 +83,14 @@ fn prepared_two(
         return Err(Fail::from("no place for the bytes"));
     }
     volume.prepare_put_each(alloc, 2, at, 2, bytes)?;
-    Ok(prepared_records(alloc, volume, fields, 2, 2)?)
+    Ok(prepared_records(alloc, volume, fields, 2, 2, at, 2, bytes)?)
 }
 
 // The small volume beside whose traces their records stand, under the map at a load, and this map.
 fn small(alloc: Global) -> Result<(Overlay<PackedRecord>, FieldMap), Fail>
-    ensures { IfOk result (λ made. made.1.extensions ≡ made.0.volume.head.extensions) }
+    ensures fields { IfOk result (λ made. made.1.extensions ≡ made.0.volume.head.extensions) }
+    ensures records { IfOk result (λ made. map facts_of (map record_in made.0.payloads) ≡
+        records_of made.0.volume made.1.pairs) }
 {
     let limits = Limits::new(4330, 3).ok_or("limits")?;
     let file = three_traces(alloc)?;
@@ -101,7 +108,9 @@ fn tells_two(
     volume: &mut Overlay<PackedRecord>,
     fields: &FieldMap,
 ) -> Result<bool, Fail>
-    requires { fields.now.extensions ≡ volume.old.volume.head.extensions }
+    requires fields { fields.now.extensions ≡ volume.old.volume.head.extensions }
+    requires records { IsTrue volume.old.agreed → map facts_of (map record_in volume.old.payloads) ≡
+        records_of volume.old.volume fields.now.pairs }
 {
     let two = prepared_two(alloc, volume, fields, 190, &[1, 4, 2, 5])?;
     let is_told = match (two.get(0), two.get(1), two.get(2)) {

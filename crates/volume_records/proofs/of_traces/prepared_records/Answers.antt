@@ -1,11 +1,15 @@
-use Rattle.std.proofs.Common.{◌≡◌, ◌∙◌, ◌+◌, ◌-◌, ◌<◌, List, length, map, ap, arith}
+use Rattle.std.proofs.Common.{◌≡◌, ◌∙◌, ℕ, ◌+◌, ◌-◌, ◌*◌, ◌<◌, List, length, map, refl, sym, subst, ap, arith}
+use Rattle.std.proofs.Math.Nat.{mod-eq-sub-div-mul, div-mul-le_self}
 use Rattle.std.proofs.lemmas.List.{length_push}
 use Rattle.frame_cut.specs.Traces.{count_of}
+use Rattle.frame_cut.specs.Volume.{Volume}
 use Rattle.trace_record.specs.Packed.{record_in}
 use Rattle.trace_record.specs.declared.record.Record.{Record}
+use Rattle.volume_records.specs.Laid.{IsLaid}
+use Rattle.volume_records.proofs.LaidLemmas.{laid_at}
 use Rattle.volume_records.proofs.PassLemmas.{one_header_more, one_number_more}
 use Rattle.volume_records.proofs.RecordLemmas.{record_beside}
-use Rattle.volume_records.proofs.SeenLemmas.{seen_more}
+use Rattle.volume_records.proofs.SeenLemmas.{seen_both}
 use Rattle.volume_records.proofs.of_traces.prepared_records.Goals as goal
 
 pub loop-k-preserved : goal.loop-k-preserved
@@ -23,8 +27,26 @@ loop-k-preserved c =
     let known = record_beside ps c.loop-k.overlay.payloads (p + n) (c.args.a + n - 1) c.payload.result c.record-known.result i.seen.payloads place c.payload.ensures c.record-known.ensures in
     let grew = c.in_ok-push.ensures.ok in
     record {
-      made = λ sure. one_header_more v w c.args.fields.now.pairs (map record_in ps) p n (c.args.a + n) c.loop-k.records c.push.new.self c.in_ok-record.record c.record-known.result i.seen.prepared there known q (i.made (made.agreed sure)) (made.record sure) grew;
+      made = λ sure. one_header_more v w c.args.fields.now.pairs (map record_in ps) p n (c.args.a + n) c.loop-k.records c.push.new.self c.in_ok-record.record c.record-known.result i.seen.prepared there known q (i.made (made.seen.agreed sure)) (made.record sure) grew;
       numbers = one_number_more (map record_in ps) p n c.loop-k.records c.push.new.self c.in_ok-record.record c.record-known.result known made.number grew i.numbers;
       count = ap (λ (rs : List Record). length rs) grew ∙ (length_push c.loop-k.records c.in_ok-record.record ∙ ap (λ m. m + 1) i.count);
-      seen = seen_more c.args.overlay.now c.loop-k.overlay c.prepared_headers.new.overlay n i.seen made.looked made.agreed;
+      seen = seen_both c.args.overlay.now c.loop-k.overlay c.laid_headers.new.overlay n 1 i.seen made.seen;
     }
+
+pub laid_headers-requires-clause-laid : goal.laid_headers-requires-clause-laid
+laid_headers-requires-clause-laid c =
+    let o = c.args.overlay.now in
+    let fields = c.args.fields.now.pairs in
+    let bytes : List ℕ = c.args.bytes.now in
+    let k : ℕ = c.loop-k.k in
+    let p : ℕ = c.args.a + k in
+    let seen = c.loop-k.invariant.seen in
+    let place : p - 1 ≡ c.args.a - 1 + k = omega (arith, c.requires.first) in
+    let known = record_beside o.payloads c.loop-k.overlay.payloads (c.args.a - 1 + k) (p - 1) c.payload.result c.record-known.result seen.payloads place c.payload.ensures c.record-known.ensures in
+    let long : length bytes ≡ c.args.count * c.args.size =
+    rw (← c.requires.parts) (omega (arith, c.requires.exact, mod-eq-sub-div-mul (length bytes) c.args.size, div-mul-le_self (length bytes) c.args.size)) in
+    λ sure.
+    let laid = laid_at o fields c.args.a c.args.count c.args.at c.args.size k p bytes c.part-part.result.now c.record-known.result c.requires.first c.requires.held c.requires.some long c.loop-k-test.true refl known
+    c.part-part.ensures.part c.part-part.ensures.length (c.requires.laid (seen.agreed sure)) in
+    subst (λ (v : Volume). IsLaid v c.loop-k.overlay.prepared fields p c.args.at c.part-part.result.now c.record-known.result) (sym seen.volume)
+    (subst (λ (v : Volume). IsLaid o.volume v fields p c.args.at c.part-part.result.now c.record-known.result) (sym seen.prepared) laid)

@@ -48,6 +48,14 @@ prepared_records-requires-clause-held c =
     let last : c.args.a - 1 + c.args.count ≤ count_of c.self.inside.overlay.volume = rw (← c.self.view_is) at c.requires.last in
     omega (arith, ap (λ (o : CountedVolume PackedRecord). count_of o.volume) c.in_ok-prepare_put_each.ensures.ok, last)
 
+pub prepared_records-requires-clause-laid : goal.prepared_records-requires-clause-laid
+prepared_records-requires-clause-laid c =
+    let b = c.self.inside in
+    let inside : (k : ℕ) → k < length c.args.bytes.now / c.args.size → c.args.at + c.args.size ≤ length (get_or b.overlay.volume.traces (c.args.a - 1 + k) []) = rw (← c.self.view_is) at c.requires.inside in
+    let ok = c.in_ok-prepare_put_each.ensures.ok in
+    λ sure. edit.each_laid b c.args.a c.args.count c.args.at c.args.size c.args.bytes.now c.prepare_put_each.new.self c.requires.count inside ok
+    (c.self.invariant.records (subst IsTrue (ap (λ (o : CountedVolume PackedRecord). o.agreed) ok) sure))
+
 pub same_cells-stays-requires : goal.same_cells-stays-requires
 same_cells-stays-requires c =
     let b = c.self.inside in

@@ -54,6 +54,9 @@ put-requires-clause-cut c =
     rw (← c.self.view_is)
     (λ sure. cut_again s c.args.p c.args.place c.args.value w (after_put s c.args.p c.args.place c.args.value w c.from-2.result c.write.new.bytes (c.self.invariant.cut sure) (none sure) at new refl))
 
+pub put-requires-clause-known : goal.put-requires-clause-known
+put-requires-clause-known c = c.held-known.ensures.facts
+
 pub put-requires-clause-samples : goal.put-requires-clause-samples
 put-requires-clause-samples c =
     let fit : SFits w128 c.args.value = search rules in
@@ -63,7 +66,7 @@ put-requires-clause-samples c =
     let at = c.from-2.ensures ∙ c.offset.ensures in
     let t : List ℕ = trace_at s.volume c.args.p in
     let size : length c.write.new.bytes ≡ c.args.place.kind.size = ap (λ (u : List ℕ). length u) new ∙ length-number s.volume.head.order c.args.place.kind c.args.value in
-    let held : IsTrue c.self.inside.overlay.agreed → facts_of c.held-samples.result ≡ record_of s.volume.head s.fields t = rw (← c.self.view_is) at c.held-samples.ensures.facts in
+    let held : IsTrue c.self.inside.overlay.agreed → facts_of c.held-known.result ≡ record_of s.volume.head s.fields t = rw (← c.self.view_is) at c.held-known.ensures.facts in
     rw (← c.self.view_is) (λ sure.
     let a = accepted s c.args.p c.args.place c.args.value (none sure) in
     let k = stands s.volume.head t c.args.place a.has in

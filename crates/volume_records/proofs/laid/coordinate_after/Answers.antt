@@ -1,0 +1,12 @@
+use Rattle.std.proofs.Common.{◌≡◌, ◌∙◌, length, sym, subst, ap, true, ℕ, ℤ}
+use Rattle.field_map.specs.Places.{offset_of}
+use Rattle.key_counts.specs.Coordinates.{under_scalar}
+use Rattle.volume_records.specs.Laid.{are_apart}
+use Rattle.volume_records.proofs.LaidLemmas.{number_apart}
+use Rattle.volume_records.proofs.laid.coordinate_after.Goals as goal
+
+pub returns-then-are_apart-clause-value : goal.returns-then-are_apart-clause-value
+returns-then-are_apart-clause-value c = λ h t same inside is.
+    let apart : are_apart c.args.at (length c.args.bytes.now) (offset_of c.args.place) c.args.place.kind.size ≡ true =
+    subst (λ (n : ℕ). are_apart c.args.at (length c.args.bytes.now) n c.args.place.kind.size ≡ true) c.offset.ensures (sym c.are_apart.ensures ∙ c.if-are_apart.true) in
+    is ∙ ap (λ (v : ℤ). under_scalar v c.args.scalar) (sym (number_apart h t c.args.bytes.now c.args.at c.args.place inside apart))

@@ -2,8 +2,9 @@
 use crate::tests::{options, put, sample_file};
 use device_io::{Sink, Source, StepReader};
 use edit_overlay::ReadFault;
+use frame_cut::LoadFault;
 use script_hints::Notes;
-use script_run::{RunEnd, load_on_disk, run_loaded};
+use script_run::{RunEnd, load_on_disk, run_loaded, run_on_disk, session_on_disk};
 use std::alloc::Global;
 use std::fs;
 use std::fs::File;
@@ -70,7 +71,7 @@ fn runs_and_saves_on_disk(rt: HostRuntime) -> Result<(), Fail> {
 fn tells_of_what_cannot_be_read(rt: HostRuntime) -> Result<(), Fail> {
     let file = sample_file(rt.alloc())?;
     let short = file.as_slice().get(..4100).ok_or("part")?;
-    let script = b"set 3 @189:4 7\nget 3 @189:4\nget 2 @189:4\n";
+    let script = b"set 3 @71:2 7\nget 3 @189:4\nget 2 @189:4\n";
     let told = run_meanwhile(
         &rt,
         rt.alloc(),
@@ -85,5 +86,71 @@ fn tells_of_what_cannot_be_read(rt: HostRuntime) -> Result<(), Fail> {
         _ => None,
     };
     assert_eq!(rt; read, Some(ReadFault::ReadFailed));
+    Ok(())
+}
+
+// How a run of these lines over a file on disk ends, which has so many bytes. The volume goes here:
+// the check of a function that owns one takes the longer the more it does.
+fn run_end(
+    alloc: Global,
+    file: File,
+    size: u64,
+    lines: &[u8],
+    answers: &mut Sink<Vec<u8>>,
+    out: &mut Sink<Vec<u8>>,
+) -> Result<RunEnd, Fail> {
+    let options = options(false, true)?;
+    let script = &mut Source::new(StepReader::new(lines, 4096, u64::MAX));
+    let notes = &mut Notes::new();
+    Ok(run_on_disk(alloc, file, size, script, answers, out, options, notes).end)
+}
+
+#[test]
+fn a_run_on_disk_is_one_call(rt: HostRuntime) -> Result<(), Fail> {
+    let alloc = rt.alloc();
+    let file = sample_file(alloc)?;
+    fs::write(&rt, "run.sgy", file.as_slice())?;
+    let mut answers = Sink::new(Vec::new(alloc));
+    let mut out = Sink::new(Vec::new(alloc));
+    let opened = fs::open(&rt, "run.sgy")?;
+    let size = file.len() as u64;
+    let lines = b"count\nget 2 @189:4\n";
+    let end = run_end(alloc, opened, size, lines, &mut answers, &mut out)?;
+    assert_eq!(rt; end, RunEnd::Done { refused: 0 });
+    assert!(rt; answers.into_inner().as_slice() == b"traces 3\nvalue 10\n".as_slice());
+    assert!(rt; out.into_inner().as_slice() == file.as_slice());
+    Ok(())
+}
+
+// How a session of one line over a file on disk ends.
+fn session_end(
+    alloc: Global,
+    file: File,
+    size: u64,
+    answers: &mut Sink<Vec<u8>>,
+) -> Result<RunEnd, Fail> {
+    let options = options(false, false)?;
+    let lines = &mut Source::new(StepReader::new(b"count\n", 4096, u64::MAX));
+    let out = &mut Sink::new(Vec::new(alloc));
+    Ok(session_on_disk(alloc, file, size, lines, answers, out, options).end)
+}
+
+// A file that is one byte shorter than it was told to be, and then the whole one.
+#[test]
+fn a_session_on_disk_is_one_call(rt: HostRuntime) -> Result<(), Fail> {
+    let alloc = rt.alloc();
+    let file = sample_file(alloc)?;
+    fs::write(&rt, "session.sgy", file.as_slice())?;
+    let mut answers = Sink::new(Vec::new(alloc));
+    for more in &[1, 0] {
+        let opened = fs::open(&rt, "session.sgy")?;
+        let size = file.len() as u64 + *more;
+        let end = session_end(alloc, opened, size, &mut answers)?;
+        if *more > 0 {
+            assert_eq!(rt; end, RunEnd::Load(LoadFault::ReadFailed));
+        }
+    }
+    let told = b"load refused L01 read failed\ntraces 3\n\n";
+    assert!(rt; answers.into_inner().as_slice() == told.as_slice());
     Ok(())
 }

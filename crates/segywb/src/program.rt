@@ -13,7 +13,7 @@ use safe_save::{Original, Save};
 use script_hints::Notes;
 use script_run::{Options, RunEnd, run, run_on_disk, session, session_on_disk};
 use std::fs::{File, OpenFile};
-use std::io::{BufWriter, Write};
+use std::io::{BufWriter, Read, Write};
 use std::os::fd::AsFd;
 use std::rt::{Env, Files};
 use std::{env, fs, io};
@@ -228,23 +228,54 @@ fn answer_on_disk<R: Files<File = File> + AllocGlobal + Print + Input, O: Write>
     options: Options,
     notes: &mut Notes,
 ) -> RunEnd {
-    let answers = &mut Sink::new(io::writer(rt));
-    let alloc = rt.alloc();
-    let run = match lines {
+    match lines {
         Lines::File(file) => {
             let script = &mut Source::new(file);
-            run_on_disk(alloc, volume, bytes, script, answers, out, options, notes)
+            script_on_disk(rt, volume, bytes, script, out, options, notes)
         }
         Lines::Standard => {
             let script = &mut Source::new(rt.reader());
-            run_on_disk(alloc, volume, bytes, script, answers, out, options, notes)
+            script_on_disk(rt, volume, bytes, script, out, options, notes)
         }
-        Lines::Session => {
-            let script = &mut Source::new(rt.reader());
-            session_on_disk(alloc, volume, bytes, script, answers, out, options)
-        }
-    };
-    run.end
+        Lines::Session => lines_on_disk(rt, volume, bytes, out, options),
+    }
+}
+
+// The lines of a script. The volume that the run gives back goes here.
+fn script_on_disk<R: AllocGlobal + Print, S: Read, O: Write>(
+    rt: &R,
+    volume: File,
+    bytes: u64,
+    script: &mut Source<S>,
+    out: &mut Sink<O>,
+    options: Options,
+    notes: &mut Notes,
+) -> RunEnd {
+    let answers = &mut Sink::new(io::writer(rt));
+    run_on_disk(
+        rt.alloc(),
+        volume,
+        bytes,
+        script,
+        answers,
+        out,
+        options,
+        notes,
+    )
+    .end
+}
+
+// The lines of a session on standard input, likewise.
+fn lines_on_disk<R: AllocGlobal + Print + Input, O: Write>(
+    rt: &R,
+    volume: File,
+    bytes: u64,
+    out: &mut Sink<O>,
+    options: Options,
+) -> RunEnd {
+    let script = &mut Source::new(rt.reader());
+    let answers = &mut Sink::new(io::writer(rt));
+    session_on_disk(rt.alloc(), volume, bytes, script, answers, out, options).end
 }
 
 // How the command line asks for the run.

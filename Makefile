@@ -95,10 +95,11 @@ uninstall:
 	rm -f $(INTO)/share/zsh/site-functions/_segywb_tools
 	rm -rf $(INTO)/share/doc/segywb
 
-# Speed: the program as ratios to cp and md5sum of the same file in the same run, the reports on two surveys, the order of traces
-# at three sizes.
+# Speed: the program as ratios to cp and md5sum of the same file in the same run: the jobs of a repair, loads and saves, reports,
+# slices, renumberings, headers, a volume on disk, Python, the desk, and the order of traces at three sizes.
 bench: build
 	cd crates/timings && { rt run > out.log 2>&1 || true; }
+	bash speed/jobs $(BUILT)
 	bash speed/run $(BUILT) $(TIMINGS)
 	bash speed/save $(BUILT)
 	bash speed/live $(BUILT)

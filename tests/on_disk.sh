@@ -91,7 +91,7 @@ for call in $(seq 1 40); do
     tell "read $call fails" "$outcome"
 done
 
-# ---- a set of an inline reads nothing: whichever read fails, it is done where the file was loaded
+# ---- a set of an inline reads nothing: whichever read fails, it is done where the file was loaded (and below, where the trace is cut off)
 printf 'set 2 @189:4 7\nrenumber 1 3 @193:4 5 1\n' > script
 for call in $(seq 1 12); do
     env $library DEVICE=s.sgy FAIL_CALL=$call "$program" s.sgy --on-disk --script script > answers 2> errors
@@ -126,6 +126,7 @@ meanwhile() {
 }
 last=$("$program" v.sgy --script /dev/stdin <<< count | cut -d' ' -f2)
 meanwhile 'cut' "get $last inline" 'refused E14 read failed' 'truncate -s 3700 own.sgy'
+meanwhile 'cut, and a set that reads nothing' "set $last inline 7" 'ok' 'truncate -s 3700 own.sgy'
 meanwhile 'grown' 'count' "traces $last" 'printf x >> own.sgy'
 meanwhile 'a trace of another length' "get 1 inline" 'refused E15 file changed' 'put own.sgy $((3600 + 114)) 0fff'
 

@@ -1,8 +1,12 @@
 -- How often edits and queries look at traces.
-use Rattle.std.specs.Prelude.{ℕ, ◌+◌, ◌-◌, ◌*◌, ◌&&◌, nat_le, List, Option, Some, None, if◌then◌else◌}
+use Rattle.std.specs.Prelude.{ℕ, ◌+◌, ◌-◌, ◌*◌, ◌&&◌, nat_le, Bool, List, Option, Some, None, if◌then◌else◌}
+use Rattle.field_map.specs.declared.place.Place.{Place}
 use Rattle.field_map.specs.Binding.{is_geometry}
+use Rattle.field_map.specs.Pairs.{Pairs}
+use Rattle.field_map.specs.Places.{offset_of}
 use Rattle.frame_cut.specs.Traces.{count_of, is_trace}
 use Rattle.frame_cut.specs.Volume.{Volume}
+use Rattle.trace_record.specs.Told.{tells_record}
 use Rattle.bench_rules.specs.declared.edit.Edit.{Edit}
 use Rattle.bench_rules.specs.declared.edit.Edit.TheVariants as edits
 use Rattle.bench_rules.specs.declared.query.Query.{Query}
@@ -10,7 +14,7 @@ use Rattle.bench_rules.specs.declared.query.Query.TheVariants as queries
 use Rattle.bench_rules.specs.Computed.{formula_of}
 use Rattle.bench_rules.specs.Kept.{is_kept}
 use Rattle.bench_rules.specs.ManyTraces.{each_of}
-use Rattle.bench_rules.specs.Places.{place_in_trace}
+use Rattle.bench_rules.specs.Places.{place_in_trace, leaves_length}
 use Rattle.bench_rules.specs.State.{State}
 use Rattle.sample_codes.specs.declared.integer_format.IntegerFormat.{IntegerFormat}
 use Rattle.sample_codes.specs.Formats.{values}
@@ -23,6 +27,15 @@ load_looks v = count_of v
 abbrev pub looks_at : {X : Type 0} → Option X → ℕ → ℕ
 looks_at None n = 0
 looks_at (Some place) n = n
+
+-- another number at the place needs no byte of its trace: it leaves the trace as long as it was, and the record that is kept tells the rest
+abbrev pub is_told : Pairs → Place → Bool
+is_told fields place = leaves_length place && tells_record fields (offset_of place) place.kind.size
+
+-- so many looks, but none where the field has no place, or a number there needs none
+abbrev pub put_looks : Pairs → Option Place → ℕ → ℕ
+put_looks fields None n = 0
+put_looks fields (Some place) n = if is_told fields place then 0 else n
 
 -- so many looks, but none where there is no trace p
 abbrev pub trace_looks : Volume → ℕ → ℕ → ℕ
@@ -38,9 +51,9 @@ abbrev pub range_looks : Volume → ℕ → ℕ → ℕ
 range_looks v a b = if is_trace v a && nat_le a b && nat_le b (count_of v) then b + 1 - a else 0
 
 -- the most traces that an edit looks at; a geometry name bound anew gives each trace another record, and a field
--- without a place, or a trace that is not there, none
+-- without a place, a trace that is not there, or a number that the records tell, none
 abbrev pub edit_looks : State → Edit → ℕ
-edit_looks s (edits.Set p field x) = looks_at (place_in_trace s.fields field) (trace_looks s.volume p 2)
+edit_looks s (edits.Set p field x) = put_looks s.fields (place_in_trace s.fields field) (trace_looks s.volume p 2)
 edit_looks s (edits.SetBin field x) = 0
 edit_looks s (edits.SetText q text) = 0
 edit_looks s (edits.Map name place) = if is_geometry name then count_of s.volume else 0
@@ -51,7 +64,7 @@ edit_looks s (edits.Copy q p) = trace_looks s.volume q 2
 edit_looks s (edits.Delete p) = 0
 edit_looks s (edits.Move a b) = 0
 edit_looks s (edits.Resize p m) = trace_looks s.volume p 2
-edit_looks s (edits.Renumber a b field first step) = looks_at (place_in_trace s.fields field) (2 * range_looks s.volume a b)
+edit_looks s (edits.Renumber a b field first step) = put_looks s.fields (place_in_trace s.fields field) (2 * range_looks s.volume a b)
 edit_looks s (edits.Compute a b field source steps) = looks_at (formula_of s.fields field source steps) (2 * range_looks s.volume a b)
 edit_looks s (edits.Sort a b names falls) = looks_at (each_of (place_in_trace s.fields) names) (range_looks s.volume a b)
 

@@ -1,5 +1,5 @@
 -- The place that a field stands for.
-use Rattle.std.specs.Prelude.{ℕ, ◌+◌, ◌==◌, ◌&&◌, nat_le, nat_lt, Bool, List, [], ◌∷◌, Option, Some}
+use Rattle.std.specs.Prelude.{ℕ, ◌+◌, ◌==◌, ◌&&◌, ◌||◌, nat_le, nat_lt, Bool, List, [], ◌∷◌, Option, Some}
 use Rattle.std.specs.List.{list_any}
 use Rattle.num_order.specs.Number.{is_size}
 use Rattle.field_map.specs.declared.place.Place.{Place}
@@ -31,3 +31,13 @@ frame_fields = (3221, 3222) ∷ (3225, 3226) ∷ (3269, 3272) ∷ (3297, 3300) �
 -- the place has a byte of one of them
 abbrev pub touches_frame : Place → Bool
 touches_frame place = list_any (λ f. nat_le place.byte f.1 && nat_lt f.0 (place.byte + place.kind.size)) frame_fields
+
+-- it is the place of a number inside the main header, and shares no byte with bytes 115-116, the only ones there that tell how
+-- long the trace is: no value makes the trace longer or shorter
+abbrev pub leaves_length : Place → Bool
+leaves_length place =
+    place.extension == 0
+    && is_size place.kind.size
+    && nat_lt 0 place.byte
+    && nat_lt (place.byte + place.kind.size) 242
+    && (nat_le (place.byte + place.kind.size) 115 || nat_le 117 place.byte)

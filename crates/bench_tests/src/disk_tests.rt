@@ -73,7 +73,6 @@ fn edits_and_saves_on_disk(rt: HostRuntime) -> Result<(), Fail> {
             assert_eq!(rt; bench.count(), 3);
             assert_eq!(rt; bench.looks(), 3);
             assert_eq!(rt; value(bench, alloc, 3, inline())?, 10);
-            // Nothing of the trace is needed for its new record.
             let looks = bench.looks();
             assert!(rt; meets(bench, alloc, Edit::Set(2, inline(), 7), None));
             assert_eq!(rt; bench.looks(), looks);
@@ -103,6 +102,8 @@ fn refuses_what_cannot_be_read(rt: HostRuntime) -> Result<(), Fail> {
             let (edit, query) = (Edit::Set(3, scalar(), 7), Query::Get(3, inline()));
             assert!(rt; meets(bench, alloc, edit, Some(Refusal::ReadFailed)));
             assert_eq!(rt; fault(bench, alloc, query), Some(AskFault::ReadFailed));
+            // Nothing of the trace is needed for its new record.
+            assert!(rt; meets(bench, alloc, Edit::Set(3, inline(), 7), None));
             assert_eq!(rt;
                 fault(bench, alloc, Query::Slice(0)),
                 Some(AskFault::ReadFailed)
@@ -111,7 +112,7 @@ fn refuses_what_cannot_be_read(rt: HostRuntime) -> Result<(), Fail> {
             let read = save_fault(alloc, bench).map(|fault| fault.read);
             assert_eq!(rt; read, Some(Some(ReadFault::ReadFailed)));
             let _whole = laid(&rt, "short.sgy", file)?;
-            assert!(rt; meets(bench, alloc, Edit::Set(3, inline(), 7), None));
+            assert_eq!(rt; value(bench, alloc, 3, inline())?, 7);
             assert!(rt; saves(bench, alloc, with_byte(alloc, file, 4279, 7)?.as_slice())?);
             Ok(())
         },

@@ -13,7 +13,7 @@ fn count_up(rt: &impl Abort, alloc: Global, bench: &mut Bench) -> Result<(), Fai
     let before = bench.looks();
     let sequence = renumber(1, 3, signed(0, 1, 4), 7, -2);
     assert!(rt; meets(bench, alloc, sequence, None));
-    assert!(rt; bench.looks().checked_sub(before) <= Some(6));
+    assert_eq!(rt; bench.looks(), before);
     assert!(rt; bench.cached(0));
     assert_eq!(rt; value(bench, alloc, 3, signed(0, 1, 4))?, 3);
     let inlines = renumber(1, 3, signed(0, 189, 4), 10, 1);
@@ -24,11 +24,44 @@ fn count_up(rt: &impl Abort, alloc: Global, bench: &mut Bench) -> Result<(), Fai
 }
 
 // A field counted up forgets the slices where a trace has another inline or crossline, and only
-// there.
+// there; a number that no record keeps needs no byte of its trace.
 #[test]
 fn a_field_is_counted_up(rt: HostRuntime) -> Result<(), Fail> {
     let alloc = rt.alloc();
     on_survey(alloc, &mut |bench: &mut Bench| count_up(&rt, alloc, bench))
+}
+
+// How many looks a set of a signed number of trace 2 takes, of so many bytes from this one on.
+fn looks_for_set(bench: &mut Bench, alloc: Global, byte: u16, size: u8) -> Option<u64> {
+    let before = bench.looks();
+    if !meets(bench, alloc, Edit::Set(2, signed(0, byte, size), 7), None) {
+        return None;
+    }
+    bench.looks().checked_sub(before)
+}
+
+fn set_numbers(rt: &impl Abort, alloc: Global, bench: &mut Bench) -> Result<(), Fail> {
+    for byte in &[5, 9, 37, 181, 185, 189, 193] {
+        assert_eq!(rt; looks_for_set(bench, alloc, *byte, 4), Some(0));
+        assert_eq!(rt; value(bench, alloc, 2, signed(0, *byte, 4))?, 7);
+    }
+    for byte in &[71, 89, 117, 189] {
+        assert_eq!(rt; looks_for_set(bench, alloc, *byte, 2), Some(1));
+    }
+    assert_eq!(rt; value(bench, alloc, 2, signed(0, 189, 4))?, 458759);
+    Ok(())
+}
+
+// The sequence number, offset, x, y, inline and crossline, and bytes 9-12, which no record keeps,
+// are set without a look at their trace; the coordinate scalar, the units, the interval and half an
+// inline with one.
+#[test]
+fn what_the_records_tell_is_set_without_a_look(rt: HostRuntime) -> Result<(), Fail> {
+    let alloc = rt.alloc();
+    on_survey(
+        alloc,
+        &mut |bench: &mut Bench| set_numbers(&rt, alloc, bench),
+    )
 }
 
 fn refuse_whole(rt: &impl Abort, alloc: Global, bench: &mut Bench) -> Result<(), Fail> {

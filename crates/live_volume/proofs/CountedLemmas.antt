@@ -1,15 +1,16 @@
--- Values counted up over a place whose bytes tell no length: where the first and the last fit it, none is refused.
-use Rattle.std.proofs.Common.{◌≡◌, ◌⊎◌, ℕ, ℤ, ◌+◌, ◌*◌, ◌-◌, ◌^◌, ◌<◌, ◌≤◌, pos, negsuc, suc, ◌+ℤ◌, ◌-ℤ◌, ◌≤ℤ◌, ◌<ℤ◌, T, Bool, true, false, ◌&&◌, ◌||◌, List, length, Some, None, inl, inr, refl, sym, ap, subst, ◌∙◌, arith}
-use Rattle.std.specs.Bool.{OnTrue}
-use Rattle.std.specs.Prelude.{int_le, int_lt, neg_ℤ, nat_le, ◌==◌}
+-- Values over a place whose bytes tell no length: those that fit it are not refused, and all do where the first and the last do; the
+-- others are told that they do not fit.
+use Rattle.std.proofs.Common.{◌≡◌, ◌⊎◌, ℕ, ℤ, ◌+◌, ◌*◌, ◌-◌, ◌^◌, ◌<◌, ◌≤◌, pos, negsuc, zero, suc, ◌+ℤ◌, ◌-ℤ◌, ◌≤ℤ◌, ◌<ℤ◌, T, Bool, true, false, ◌&&◌, ◌||◌, List, length, Some, None, inl, inr, refl, sym, ap, subst, ◌∙◌, arith}
+use Rattle.std.specs.Prelude.{int_le, int_lt, neg_ℤ, nat_le, ◌==◌, if◌then◌else◌}
 use Rattle.std.proofs.Math.Bool.{or-true}
 use Rattle.std.proofs.Math.Nat.{mul-le-mul_left}
-use Rattle.std.proofs.lemmas.Bool.{le-leb, leb-true, ltb-true, eqb-true}
+use Rattle.std.proofs.lemmas.Bool.{le-leb, leb-true, ltb-true, eqb-true, false≢true}
 use Rattle.std.proofs.lemmas.Int.{ints}
 use Rattle.num_order.specs.declared.kind.Kind.{Kind}
 use Rattle.num_order.specs.Number.{bytes, fits, is_between, is_size}
 use Rattle.num_order.proofs.InRangeLemmas.{length-number}
 use Rattle.field_map.specs.declared.place.Place.{Place}
+use Rattle.field_map.specs.Pairs.{Pairs}
 use Rattle.field_map.specs.Places.{offset_of}
 use Rattle.frame_cut.specs.declared.file_head.Head.{Head}
 use Rattle.frame_cut.specs.Cuts.{IsTrace, IsCut}
@@ -17,20 +18,26 @@ use Rattle.frame_cut.specs.Frames.{extensions_of, trace_length}
 use Rattle.frame_cut.specs.Splice.{splice}
 use Rattle.frame_cut.specs.Traces.{count_of, is_trace, trace_at}
 use Rattle.frame_cut.specs.Volume.{Volume, bytes_of}
+use Rattle.trace_record.specs.Told.{tells_record}
 use Rattle.trace_view.specs.Counted.{leave_length, share_no_byte}
 use Rattle.trace_view.specs.Values.{has_place, is_in_header}
 use Rattle.trace_view.proofs.CountedLemmas.{length-kept}
+use Rattle.edit_overlay.specs.CountedVolume.{RisesAtMost}
 use Rattle.bench_rules.specs.declared.edit.Edit.TheVariants.{Set}
 use Rattle.bench_rules.specs.declared.field.Field.TheVariants as field
+use Rattle.bench_rules.specs.declared.refusal.Refusal.TheVariants.{DoesNotFit}
+use Rattle.bench_rules.specs.Looks.{edit_looks, is_told, put_looks, trace_looks}
+use Rattle.bench_rules.specs.Places.{leaves_length}
 use Rattle.bench_rules.specs.Refused.{with_value, set_refusal, first_refusal, first_refusal_among}
 use Rattle.bench_rules.specs.State.{State}
 use Rattle.bench_rules.specs.TraceEdits.{counted, numbers}
 use Rattle.bench_rules.proofs.PlaceLemmas.{place_inside, sized}
-use Rattle.bench_rules.proofs.RenumberLemmas.{renumber_not_refused}
+use Rattle.bench_rules.proofs.RenumberLemmas.{renumber_not_refused, renumber_refused}
 use Rattle.bench_rules.proofs.SetLemmas.{Accepted, both, not_refused, refused_at, whole_trace}
 use Rattle.volume_answers.specs.Rooms.{HasRoom}
-use Rattle.live_volume.specs.Places.{leaves_length, EachHolds}
+use Rattle.live_volume.specs.Places.{EachHolds}
 use Rattle.live_volume.proofs.ManyTracesLemmas.{among_values}
+use borrow.Author.Count.{below_more}
 
 -- ---- the values between the first and the last
 
@@ -119,6 +126,14 @@ free_bytes h place at free e =
 
 -- ---- the traces
 
+-- each trace has the place
+free_has : (h : Head) (t : List ℕ) (place : Place) → IsFree place → has_place h t place ≡ true
+free_has h t place free = rw (free.inside, free.header, le-leb 0 (extensions_of h t) (omega arith)) refl
+
+-- so a value that does not fit is told so
+unfit : (h : Head) (t : List ℕ) (place : Place) (x : ℤ) → IsFree place → fits place.kind x ≡ false → set_refusal h t (Some place) x ≡ Some DoesNotFit
+unfit h t place x free wide = rw (free_has h t place free, wide) refl
+
 -- the value is accepted at each trace
 accepted_there : (s : State) (p : ℕ) (place : Place) (x : ℤ) → IsCut (bytes_of s.volume) s.reading s.limits s.volume → 1 ≤ p → p ≤ count_of s.volume → IsFree place → fits place.kind x ≡ true → Accepted s.volume p place x
 accepted_there s p place x cut first last free fit =
@@ -127,7 +142,7 @@ accepted_there s p place x cut first last free fit =
     let is : IsTrace h t = whole_trace s p cut first last in
     let new : List ℕ = bytes h.order place.kind x in
     let size : length new ≡ place.kind.size = length-number h.order place.kind x in
-    let has : has_place h t place ≡ true = rw (free.inside, free.header, le-leb 0 (extensions_of h t) (omega arith)) refl in
+    let has : has_place h t place ≡ true = free_has h t place free in
     let at : ℕ = offset_of place in
     let here : at ≡ place.byte - 1 = rw free.header (omega arith) in
     let inside : at + length new ≤ length t = rw size (place_inside h t place is has) in
@@ -141,6 +156,12 @@ accepted_there s p place x cut first last free fit =
       length = ap (trace_length h) exactly ∙ length-kept h t new at inside leaves ∙ is.exact;
     }
 
+none_refused : (s : State) (p : ℕ) (place : Place) (x : ℤ) → IsCut (bytes_of s.volume) s.reading s.limits s.volume → 1 ≤ p → p ≤ count_of s.volume → IsFree place → fits place.kind x ≡ true
+    → set_refusal s.volume.head (trace_at s.volume p) (Some place) x ≡ None
+none_refused s p place x cut first last free fit =
+    let trace : is_trace s.volume p ≡ true = rw (le-leb 1 p first, le-leb p (count_of s.volume) last) refl in
+    sym (refused_at s p place x trace) ∙ not_refused s p place x (accepted_there s p place x cut first last free fit)
+
 -- and none of the values is refused
 pub none_refuses : (s : State) (a b : ℕ) (place : Place) (first step : ℤ) → IsCut (bytes_of s.volume) s.reading s.limits s.volume → 1 ≤ a → a ≤ b → b ≤ count_of s.volume → leaves_length place ≡ true
     → fits place.kind first ≡ true → fits place.kind (counted first step (b - a)) ≡ true → first_refusal_among s.volume (Some place) (numbers a b first step) ≡ None
@@ -150,22 +171,51 @@ none_refuses s a b place first step cut low high last leaves zeroth end =
   where
     by : (k : ℕ) → a + k ≤ b → set_refusal s.volume.head (trace_at s.volume (a + k)) (Some place) (counted first step k) ≡ None
     by k there =
-        let p : ℕ = a + k in
-        let x : ℤ = counted first step k in
-        let front : 1 ≤ p = omega (arith, low) in
-        let back : p ≤ count_of s.volume = omega (arith, there, last) in
-        let trace : is_trace s.volume p ≡ true = rw (le-leb 1 p front, le-leb p (count_of s.volume) back) refl in
-        let fit : fits place.kind x ≡ true = each_fits place.kind first step k (b - a) (omega (arith, there)) zeroth end in
-        sym (refused_at s p place x trace) ∙ not_refused s p place x (accepted_there s p place x cut front back (is_free place leaves) fit)
+        let fit : fits place.kind (counted first step k) ≡ true = each_fits place.kind first step k (b - a) (omega (arith, there)) zeroth end in
+        none_refused s (a + k) place (counted first step k) cut (omega (arith, low)) (omega (arith, there, last)) (is_free place leaves) fit
 
--- what is known where a test holds
-pub on_true : {P : Type 0} (b : Bool) → (b ≡ true → P) → OnTrue b P
-on_true true f = f refl
-on_true false f = tt
+-- the first k for which a test fails
+record IsLowest (f : ℕ → Bool) (k : ℕ) : Type 0 where
+  fails : f k ≡ false
+  front : (j : ℕ) → j < k → f j ≡ true
 
-pub where_true : {P : Type 0} (b : Bool) → b ≡ true → OnTrue b P → P
-where_true true e p = p
-where_true false e p = absurd cc
+-- it holds for all of so many numbers, or there is one
+lowest : (f : ℕ → Bool) (n : ℕ) → ((k : ℕ) → k < n → f k ≡ true) ⊎ ((k : ℕ) × (k < n) × IsLowest f k)
+lowest f zero = inl (λ k less. absurd (omega (arith, less)))
+lowest f (suc n) = elim (lowest f n) [ inl all ↦ by all (f n) refl | inr found ↦ inr (found.0, omega (arith, found.1), found.2) ]
+  where
+    by : ((k : ℕ) → k < n → f k ≡ true) → (b : Bool) → f n ≡ b → ((k : ℕ) → k < suc n → f k ≡ true) ⊎ ((k : ℕ) × (k < suc n) × IsLowest f k)
+    by all true e = inl (λ k less. below_more (λ (j : ℕ). f j ≡ true) n all e k (omega (arith, less)))
+    by all false e = inr (n, omega arith, record { fails = e; front = all })
+
+-- no step leads nowhere
+counted-none : (first step : ℤ) → counted first step 0 ≡ first
+counted-none first (pos s) = omega (arith, ints)
+counted-none first (negsuc s) = omega (arith, ints)
+
+-- where one of the ends does not fit, a value is refused, and the first that is does not fit
+pub one_refused : (s : State) (a b : ℕ) (place : Place) (first step : ℤ) → IsCut (bytes_of s.volume) s.reading s.limits s.volume → 1 ≤ a → a ≤ b → b ≤ count_of s.volume → leaves_length place ≡ true
+    → (fits place.kind first && fits place.kind (counted first step (b - a))) ≡ false → first_refusal_among s.volume (Some place) (numbers a b first step) ≡ Some DoesNotFit
+one_refused s a b place first step cut low high last leaves wide =
+    elim (lowest fit (b + 1 - a)) [ inl all ↦ absurd (not_all all) | inr found ↦ refused found.0 (omega (arith, found.1, high)) found.2 ]
+  where
+    fit : ℕ → Bool
+    fit k = fits place.kind (counted first step k)
+
+    not_all : ((k : ℕ) → k < b + 1 - a → fit k ≡ true) → ⊥
+    not_all all =
+        let zeroth : fits place.kind first ≡ true = ap (fits place.kind) (sym (counted-none first step)) ∙ all 0 (omega (arith, high)) in
+        let end : fits place.kind (counted first step (b - a)) ≡ true = all (b - a) (omega (arith, high)) in
+        let both_fit : (fits place.kind first && fits place.kind (counted first step (b - a))) ≡ true = rw (zeroth, end) refl in
+        false≢true (sym wide ∙ both_fit)
+
+    refused : (k : ℕ) → a + k ≤ b → IsLowest fit k → first_refusal_among s.volume (Some place) (numbers a b first step) ≡ Some DoesNotFit
+    refused k there is =
+        let free = is_free place leaves in
+        sym (among_values s a b place first step low high last)
+        ∙ renumber_refused s a b (field.Place place) first step place k DoesNotFit low last refl
+        (λ j less. none_refused s (a + j) place (counted first step j) cut (omega (arith, low)) (omega (arith, less, there, last)) free (is.front j less)) there
+        (unfit s.volume.head (trace_at s.volume (a + k)) place (counted first step k) free is.fails)
 
 -- each trace has a main header, so each holds the place
 pub each_holds : (v : Volume) (a b : ℕ) (place : Place) → 1 ≤ a → b ≤ count_of v → ((p : ℕ) → 1 ≤ p → p ≤ count_of v → 240 ≤ length (trace_at v p)) → leaves_length place ≡ true → EachHolds v a (b + 1 - a) place
@@ -200,6 +250,30 @@ none_refuses_it s p place x cut there leaves fit =
     let range = both _ _ there in
     not_refused s p place x (accepted_there s p place x cut (leb-true 1 p range.0) (leb-true p (count_of s.volume) range.1) (is_free place leaves) fit)
 
+-- and a value that does not fit is told so
+pub unfit_refused : (s : State) (p : ℕ) (place : Place) (x : ℤ) → is_trace s.volume p ≡ true → leaves_length place ≡ true → fits place.kind x ≡ false → first_refusal s (Set p (field.Place place) x) ≡ Some DoesNotFit
+unfit_refused s p place x there leaves wide = refused_at s p place x there ∙ unfit s.volume.head (trace_at s.volume p) place x (is_free place leaves) wide
+
 -- and each value fits
 pub all_fit : (place : Place) (first step : ℤ) (a b : ℕ) → a ≤ b → fits place.kind first ≡ true → fits place.kind (counted first step (b - a)) ≡ true → (k : ℕ) → k < b + 1 - a → fits place.kind (counted first step k) ≡ true
 all_fit place first step a b high zeroth end k less = each_fits place.kind first step k (b - a) (omega (arith, less, high)) zeroth end
+
+-- ---- the looks at one trace
+
+-- a place that may change a length is not told
+pub untold : (fields : Pairs) (place : Place) → leaves_length place ≡ false → is_told fields place ≡ false
+untold fields place bound = ap (λ (b : Bool). b && tells_record fields (offset_of place) place.kind.size) bound
+
+-- and then the trace may be looked at
+pub set_looks : (s : State) (p : ℕ) (place : Place) (x : ℤ) → is_trace s.volume p ≡ true → is_told s.fields place ≡ false → 0 < edit_looks s (Set p (field.Place place) x)
+set_looks s p place x there bound = rw (bound, there) (omega arith)
+
+looks_by_one : (free tells : Bool) (old new : ℕ) → RisesAtMost old new 1 → (tells ≡ true → new ≡ old) → RisesAtMost old new (if free && tells then 0 else 2)
+looks_by_one true true old new one same = (omega (arith, same refl), omega (arith, same refl))
+looks_by_one true false old new one same = (omega (arith, one), omega (arith, one))
+looks_by_one false tells old new one same = (omega (arith, one), omega (arith, one))
+
+-- a look for the new record, if it is not told, is within the looks of the edit
+pub set_once : (v : Volume) (fields : Pairs) (p : ℕ) (place : Place) (old new : ℕ) → is_trace v p ≡ true → RisesAtMost old new 1 → (tells_record fields (offset_of place) place.kind.size ≡ true → new ≡ old)
+    → RisesAtMost old new (put_looks fields (Some place) (trace_looks v p 2))
+set_once v fields p place old new there one same = rw there (looks_by_one (leaves_length place) (tells_record fields (offset_of place) place.kind.size) old new one same)

@@ -142,6 +142,11 @@ looks_more a b c m n f g =
 pub looks_most : (a b : Session) (m n : ℕ) → OnlyLooks a b m → m ≤ n → OnlyLooks a b n
 looks_most a b m n f less = record { state = f.state; looks = (omega (arith, f.looks), omega (arith, f.looks, less)); loaded = f.loaded; agreed = f.agreed }
 
+-- looks that are not spared
+pub looks_unless : (spared : Bool) (a b : Session) (n : ℕ) → spared ≡ false → OnlyLooks a b n → OnlyLooks a b (if spared then 0 else n)
+looks_unless true a b n e f = absurd cc
+looks_unless false a b n e f = f
+
 -- ---- refusals
 
 -- a read that failed is told so
@@ -180,6 +185,13 @@ pub stepped_by_memory : {T : Type 0} (old new : State) (edit : Edit) (r : Result
     → OnOk r (IsAfter old edit new) → IfErr r (λ refusal. (refusal ≡ OutOfMemory) × (new ≡ old)) → Step old edit r new
 stepped_by_memory old new edit (Ok x) none takes ok err = rw none ok
 stepped_by_memory old new edit (Err e) none takes ok err = rw none (inl (err.0, takes), err.1)
+
+-- the same of an edit that looks at no trace where the record that is kept tells the new one, and is refused for want of memory alone then
+pub stepped_unless : {T : Type 0} (told : Bool) (old mid new : State) (edit : Edit) (r : Result T Refusal) → first_refusal old edit ≡ None → mid ≡ old → TakesMemory edit → (told ≡ false → 0 < edit_looks old edit)
+    → OnOk r (IsAfter mid edit new) → IfErr r (λ refusal. IsOfMachine mid.on_disk refusal × (new ≡ mid)) → (told ≡ true → IfErr r (λ refusal. refusal ≡ OutOfMemory)) → Step old edit r new
+stepped_unless false old mid new edit r none same takes looks ok err memory = stepped old mid new edit r none same takes (looks refl) ok err
+stepped_unless true old mid new edit (Ok x) none same takes looks ok err memory = stepped_by_memory old new edit (Ok x) none takes (subst (λ (s : State). IsAfter s edit new) same ok) tt
+stepped_unless true old mid new edit (Err e) none same takes looks ok err memory = stepped_by_memory old new edit (Err e) none takes tt (memory refl, err.1 ∙ same)
 
 -- the first refusal that is told is a step
 pub told_first : (T : Type 0) (old new : State) (edit : Edit) (refusal : Refusal) → first_refusal old edit ≡ Some refusal → new ≡ old → (let r : Result T Refusal = Err refusal in Step old edit r new)

@@ -1,18 +1,21 @@
 -- A field of many traces counted up: what is known after the first values, and whether a trace has another inline or crossline then.
 use Rattle.std.proofs.Common.{◌≡◌, ℕ, ℤ, zero, suc, ◌+◌, ◌-◌, ◌/◌, ◌<◌, ◌≤◌, Bool, true, false, ◌&&◌, ◌||◌, leb, List, [], ◌∷◌, length, take, drop, map, get_or, Option, Some, None, refl, sym, ap, ap₂, subst, ◌∙◌, arith}
-use Rattle.std.specs.Prelude.{is_some, not, IsTrue}
+use Rattle.std.specs.Prelude.{is_some, not, IsTrue, ◌*◌, if◌then◌else◌}
 use Rattle.std.specs.List.{list_any, range_with_len}
 use Rattle.std.specs.Ordering.{int_eq}
 use Rattle.std.proofs.lemmas.Bool.{le-leb}
 use Rattle.std.proofs.lemmas.List.{drop_more}
 use Rattle.field_map.specs.declared.place.Place.{Place}
 use Rattle.field_map.specs.Pairs.{Pairs}
+use Rattle.field_map.specs.Places.{offset_of}
 use Rattle.frame_cut.specs.Parts.{with_each}
 use Rattle.frame_cut.specs.Traces.{count_of, is_trace, trace_at}
 use Rattle.frame_cut.specs.Volume.{Volume}
 use Rattle.trace_record.specs.Facts.{Facts, facts_of}
 use Rattle.trace_record.specs.OfTrace.{record_of}
+use Rattle.trace_record.specs.Told.{tells_record}
 use Rattle.trace_record.specs.declared.record.Record.{Record}
+use Rattle.edit_overlay.specs.CountedVolume.{RisesAtMost}
 use Rattle.live_reports.specs.Alike.{same_cell}
 use Rattle.live_reports.specs.Exchanged.{same_cells, with_records}
 use Rattle.volume_records.specs.OfVolume.{AreHeaderParts, headers_of, records_of}
@@ -24,8 +27,8 @@ use Rattle.bench_rules.specs.declared.field.Field.TheVariants as field
 use Rattle.bench_rules.specs.declared.refusal.Refusal.{Refusal}
 use Rattle.bench_rules.specs.Kept.{same_cell as cell}
 use Rattle.bench_rules.specs.Refused.{first_refusal, first_refusal_among, set_refusal}
-use Rattle.bench_rules.specs.Looks.{edit_looks}
-use Rattle.bench_rules.specs.Places.{place_in_trace}
+use Rattle.bench_rules.specs.Looks.{edit_looks, is_told}
+use Rattle.bench_rules.specs.Places.{leaves_length, place_in_trace}
 use Rattle.bench_rules.specs.State.{State, Session}
 use Rattle.bench_rules.specs.Steps.{IsAfter}
 use Rattle.bench_rules.specs.TraceEdits.{counted, numbers}
@@ -118,9 +121,20 @@ renumber_first s a b f place first step t e =
 pub renumber_same : (s new : State) (a b : ℕ) (f : Field) (place : Place) (first step : ℤ) → Some place ≡ place_in_trace s.fields f → IsAfter s (Renumber a b (field.Place place) first step) new → IsAfter s (Renumber a b f first step) new
 renumber_same s new a b f place first step e done = record { volume = rw (← e) done.volume; fields = done.fields; reading = done.reading; limits = done.limits; on_disk = done.on_disk }
 
--- the traces may be looked at
-pub renumber_looks : (s : State) (a b : ℕ) (f : Field) (place : Place) (first step : ℤ) → AreTraces s.volume a b None → Some place ≡ place_in_trace s.fields f → 0 < edit_looks s (Renumber a b f first step)
-renumber_looks s a b f place first step t e = rw (← e, all_looks s.volume a b t) (omega (arith, t.high))
+-- the traces may be looked at, unless the records tell the numbers
+pub renumber_looks : (s : State) (a b : ℕ) (f : Field) (place : Place) (first step : ℤ) → AreTraces s.volume a b None → Some place ≡ place_in_trace s.fields f → is_told s.fields place ≡ false → 0 < edit_looks s (Renumber a b f first step)
+renumber_looks s a b f place first step t e untold = rw (← e, untold, all_looks s.volume a b t) (omega (arith, t.high))
+
+-- a look at each for the first refusal, and another for its record, are within the looks of the edit
+looks_by_two : (free tells : Bool) (old mid new n : ℕ) → RisesAtMost old mid (if free then 0 else n) → RisesAtMost mid new n → (tells ≡ true → new ≡ mid) → RisesAtMost old new (if free && tells then 0 else 2 * n)
+looks_by_two true true old mid new n first second same = rw (same refl) first
+looks_by_two true false old mid new n first second same = (omega (arith, first, second), omega (arith, first, second))
+looks_by_two false tells old mid new n first second same = (omega (arith, first, second), omega (arith, first, second))
+
+pub renumber_twice : (s : State) (a b : ℕ) (f : Field) (place : Place) (first step : ℤ) (old mid new : ℕ) → AreTraces s.volume a b None → Some place ≡ place_in_trace s.fields f → RisesAtMost old mid (if leaves_length place then 0 else b + 1 - a)
+    → RisesAtMost mid new (b + 1 - a) → (tells_record s.fields (offset_of place) place.kind.size ≡ true → new ≡ mid) → RisesAtMost old new (edit_looks s (Renumber a b f first step))
+renumber_twice s a b f place first step old mid new t e seen put same =
+    rw (← e, all_looks s.volume a b t) (looks_by_two (leaves_length place) (tells_record s.fields (offset_of place) place.kind.size) old mid new (b + 1 - a) seen put same)
 
 -- ---- the cells
 

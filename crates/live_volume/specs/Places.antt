@@ -1,22 +1,11 @@
--- Places over which no value makes a trace longer or shorter, and traces that have room for a number at a place.
-use Rattle.std.specs.Prelude.{◌+◌, ◌-◌, ◌==◌, ◌&&◌, ◌||◌, ◌<◌, ◌≤◌, nat_le, nat_lt, ℕ, Bool, List, length}
-use Rattle.num_order.specs.Number.{is_size}
+-- Traces that have room for a number at a place, and bytes that may stand in the place of a trace.
+use Rattle.std.specs.Prelude.{◌+◌, ◌-◌, ◌<◌, ◌≤◌, ℕ, List, length}
 use Rattle.field_map.specs.declared.place.Place.{Place}
 use Rattle.frame_cut.specs.Cuts.{IsTrace}
 use Rattle.frame_cut.specs.Traces.{count_of, trace_at}
 use Rattle.frame_cut.specs.Volume.{Volume, bytes_of}
 use Rattle.bench_rules.specs.State.{State}
 use Rattle.many_traces.specs.Fields.{HoldsPlace}
-
--- it is the place of a number inside the main header, and shares no byte with bytes 115-116, the only ones there that tell how
--- long the trace is
-abbrev pub leaves_length : Place → Bool
-leaves_length place =
-    place.extension == 0
-    && is_size place.kind.size
-    && nat_lt 0 place.byte
-    && nat_lt (place.byte + place.kind.size) 242
-    && (nat_le (place.byte + place.kind.size) 115 || nat_le 117 place.byte)
 
 -- a number can be put at the place in each of so many traces from trace a on
 abbrev pub EachHolds : Volume → ℕ → ℕ → Place → Type 0

@@ -1,16 +1,19 @@
-ghost use Rattle.std.specs.Prelude.{◌≡◌, ◌≤◌, [], true, false, length, None, IsSome, IsTrue, IfOk, IfErr, OnOk, OnErr, MatchResult};
+ghost use Rattle.std.specs.Prelude.{◌≡◌, ◌≤◌, [], true, false, length, None, Some, IsSome, IsTrue, IfOk, IfErr, OnOk, OnErr, MatchResult};
 ghost use Rattle.std.specs.Io.KnownBytes.{Consumes, IsAtEnd};
 ghost use Rattle.field_map.specs.Binding.{geometry_at_load, is_geometry as is_geometry_name};
+ghost use Rattle.field_map.specs.Places.{offset_of};
 ghost use Rattle.frame_cut.specs.Cuts.{IsCut};
 ghost use Rattle.frame_cut.specs.Traces.{count_of, is_trace};
 ghost use Rattle.frame_cut.specs.Volume.{bytes_of};
+ghost use Rattle.trace_record.specs.Told.{tells_record};
 ghost use Rattle.edit_overlay.specs.Loading.{IsLoadFault, FailuresAfterRefusal, TakesWithin};
 ghost use Rattle.edit_overlay.specs.Saving.{CountsSaveFailure, Saves};
 ghost use Rattle.bench_rules.specs.declared.edit.Edit.TheVariants as edits;
 ghost use Rattle.bench_rules.specs.declared.field.Field.TheVariants as fields;
+ghost use Rattle.bench_rules.specs.declared.refusal.Refusal.TheVariants.{OutOfMemory as no_memory};
 ghost use Rattle.edit_overlay.specs.CountedVolume.{RisesAtMost};
-ghost use Rattle.bench_rules.specs.Looks.{load_looks, edit_looks, query_looks, trace_looks};
-ghost use Rattle.bench_rules.specs.Places.{place_in_trace};
+ghost use Rattle.bench_rules.specs.Looks.{load_looks, edit_looks, put_looks, query_looks, trace_looks};
+ghost use Rattle.bench_rules.specs.Places.{leaves_length as leaves_length_of, place_in_trace};
 ghost use Rattle.bench_rules.specs.Refused.{first_refusal};
 ghost use Rattle.bench_rules.specs.Steps.{IsAfter, Step};
 ghost use Rattle.bench_rules.specs.Answer.{IsReply};
@@ -18,6 +21,7 @@ ghost use Rattle.live_volume.specs.Held.{IsReadAs};
 ghost use Rattle.live_volume.specs.Refusals.{IsOfMachine};
 ghost use Rattle.volume_answers.specs.Rooms.{HasRoom};
 
+use crate::number_edits::leaves_length;
 use crate::volume_edits::refusal_of_records;
 use bench_rules::{
     Answer, AskFault, Edit, Field, Query, Refusal, Text, binary_offset, is_line, place_in_binary,
@@ -29,7 +33,7 @@ use field_map::{FieldMap, Place, is_geometry};
 use frame_cut::{Limits, LoadFault, Reading};
 use live_reports::LiveReports;
 use many_traces::place_in_trace;
-use num_order::write;
+use num_order::{fits, write};
 use std::alloc::Global;
 use std::io::{Read, Write};
 use std::marker::Model;
@@ -205,7 +209,8 @@ impl LiveVolume {
         }
     }
 
-    // The value into the place of trace p, or the first refusal.
+    // The value into the place of trace p, or the first refusal. Where each trace has the place,
+    // and no value there gives it another length, only E04 may come, and no look is needed for it.
     fn set(&mut self, alloc: Global, p: u32, place: Place, value: i128) -> Result<(), Refusal>
         ensures step { IsTrue self.new.agreed →
             Step self.old.state (edits.Set p (fields.Place place) value) result self.new.state }
@@ -213,17 +218,23 @@ impl LiveVolume {
         ensures same { IsReadAs self.old.state self.new.state }
         ensures agreed { IsTrue self.new.agreed → IsTrue self.old.agreed }
         ensures loaded { self.new.loaded ≡ self.old.loaded }
-        ensures looks { RisesAtMost self.old.looks self.new.looks
-            (trace_looks self.old.state.volume p 2) }
+        ensures looks { RisesAtMost self.old.looks self.new.looks (put_looks self.old.state.fields
+            (Some place) (trace_looks self.old.state.volume p 2)) }
     {
-        if self.accepts(p, place, value) {
-            return self.put_value(alloc, p, place, value);
+        self.stands();
+        if !self.has_trace(p) || !leaves_length(place) {
+            return self.set_seen(alloc, p, place, value);
         }
-        self.set_seen(alloc, p, place, value)
+        if !fits(place.kind, value) {
+            return Err(Refusal::DoesNotFit);
+        }
+        self.put_value(alloc, p, place, value)
     }
 
-    // The same, where the trace is looked at for the first refusal.
+    // The same where there is no trace p, or more than E04 may come: the trace, if there is one, is
+    // looked at for the first refusal.
     fn set_seen(&mut self, alloc: Global, p: u32, place: Place, value: i128) -> Result<(), Refusal>
+        requires { IsTrue (is_trace self.old.state.volume p) → leaves_length_of place ≡ false }
         ensures step { IsTrue self.new.agreed →
             Step self.old.state (edits.Set p (fields.Place place) value) result self.new.state }
         ensures err { OnErr result (self.new.state ≡ self.old.state) }
@@ -239,7 +250,8 @@ impl LiveVolume {
         }
     }
 
-    // The value into the place of trace p, where nothing but memory or a read refuses it.
+    // The value into the place of trace p, where nothing but memory or a read refuses it; memory
+    // alone, and with no look, where the record of the trace tells the new one.
     fn put_value(&mut self, alloc: Global, p: u32, place: Place, value: i128) -> Result<(), Refusal>
         requires room { HasRoom self.old.state.volume p place value }
         requires none { IsTrue self.old.agreed →
@@ -252,6 +264,9 @@ impl LiveVolume {
         ensures agreed { IsTrue self.new.agreed → IsTrue self.old.agreed }
         ensures loaded { self.new.loaded ≡ self.old.loaded }
         ensures looks { RisesAtMost self.old.looks self.new.looks 1 }
+        ensures told { IsTrue (tells_record self.old.state.fields (offset_of place)
+            place.kind.size) → (self.new.looks ≡ self.old.looks)
+            × IfErr result (λ refusal. refusal ≡ no_memory) }
     {
         let mut buffer = [0u8; 8];
         let new = &mut buffer[..usize::from(place.kind.size)];

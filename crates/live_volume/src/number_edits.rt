@@ -1,13 +1,18 @@
-// Another number of samples of a trace, and a field of many traces counted up.
-ghost use Rattle.std.specs.Prelude.{◌≡◌, ◌⊎◌, ◌+◌, ◌-◌, ◌≤◌, ◌<◌, ℕ, nat_abs, None, Some, IsTrue, IfOk, IfErr, OnOk, OnErr};
+// Another number of samples of a trace, a field of many traces counted up, and the places of
+// numbers that tell no length, over which a value is judged without a look.
+ghost use Rattle.std.specs.Prelude.{◌≡◌, ◌⊎◌, ◌+◌, ◌-◌, ◌≤◌, ◌<◌, ◌&&◌, false, ℕ, nat_abs, None, Some, IsTrue, IfOk, IfErr, OnOk, OnErr, if◌then◌else◌};
 ghost use Rattle.std.specs.Bool.{OnTrue};
 ghost use Rattle.std.specs.Option.{option_or};
 ghost use Rattle.num_order.specs.Number.{IsSize, fits};
+ghost use Rattle.field_map.specs.Places.{offset_of};
 ghost use Rattle.frame_cut.specs.Traces.{count_of, is_trace, trace_at};
+ghost use Rattle.trace_record.specs.Told.{tells_record};
 ghost use Rattle.edit_overlay.specs.CountedVolume.{RisesAtMost};
 ghost use Rattle.bench_rules.specs.declared.edit.Edit.TheVariants as edits;
 ghost use Rattle.bench_rules.specs.declared.field.Field.TheVariants as fields;
+ghost use Rattle.bench_rules.specs.declared.refusal.Refusal.TheVariants.{OutOfMemory as no_memory};
 ghost use Rattle.bench_rules.specs.Looks.{edit_looks, trace_looks};
+ghost use Rattle.bench_rules.specs.Places.{leaves_length as leaves_length_of};
 ghost use Rattle.bench_rules.specs.ReadFaults.{IsReadRefusal};
 ghost use Rattle.bench_rules.specs.Refused.{first_refusal, first_refusal_among, no_trace, no_trace_from, set_refusal};
 ghost use Rattle.bench_rules.specs.Steps.{IsAfter, Step};
@@ -15,9 +20,8 @@ ghost use Rattle.bench_rules.specs.TraceEdits.{counted, numbers, resized as byte
 ghost use Rattle.many_traces.specs.Fields.{HoldsPlace};
 ghost use Rattle.many_traces.specs.Formulas.{IsRefusalFor};
 ghost use Rattle.live_volume.specs.Held.{any_moves, IsReadAs, OnlyLooks};
-ghost use Rattle.live_volume.specs.Places.{leaves_length as leaves_length_of, EachHolds, MayReplace};
+ghost use Rattle.live_volume.specs.Places.{EachHolds, MayReplace};
 ghost use Rattle.live_volume.specs.Refusals.{IsOfMachine};
-ghost use Rattle.volume_answers.specs.Rooms.{HasRoom};
 
 use crate::live_volume::LiveVolume;
 use bench_rules::{
@@ -25,7 +29,7 @@ use bench_rules::{
 };
 use edit_overlay::ReadFault;
 use field_map::Place;
-use num_order::fits;
+use num_order::{Kind, fits};
 use std::alloc::Global;
 use volume_records::record_of_bytes;
 
@@ -75,10 +79,11 @@ impl LiveVolume {
 
     /// The field of traces a to b counted up from a first value by a step: done whole, and then
     /// whether a trace has another inline or crossline than before; or refused, and all is as it
-    /// was. Looks twice at each of the traces at most, and at none where a or b is refused. Takes
-    /// memory in step with their number. Refused, in this order: E01 for a, E01 for b, then the
-    /// first refusal of the lowest trace whose value is refused, E02, E03, E04 or E06; else E11
-    /// alone. On disk also where a trace could not be read (E14, E15).
+    /// was. Looks at no trace where the records tell the number (`is_told`), nor where a or b is
+    /// refused; else twice at each at most. Takes memory in step with the number of traces.
+    /// Refused, in this order: E01 for a, E01 for b, then the first refusal of the lowest trace
+    /// whose value is refused, E02, E03, E04 or E06; else E11 alone. On disk also where a trace
+    /// that is looked at could not be read (E14, E15).
     pub fn renumber(
         &mut self,
         alloc: Global,
@@ -124,7 +129,8 @@ impl LiveVolume {
     }
 
     // The first refusal of the values counted up over the place of traces a to b, each in the file
-    // as it is: E03, E04, E06 of the lowest trace that has one.
+    // as it is: E03, E04, E06 of the lowest trace that has one. No look where each trace has the
+    // place, and no value there gives it another length.
     fn values_refusal(
         &mut self,
         a: u32,
@@ -142,11 +148,13 @@ impl LiveVolume {
             EachHolds self.old.state.volume a (b + 1 - a) place) }
         ensures fit { IfOk result (λ refusal. refusal ≡ None → (k : ℕ) → k < b + 1 - a →
             IsTrue (fits place.kind (counted first step k))) }
-        ensures seen { OnlyLooks self.old self.new (b + 1 - a) }
-        ensures read { IfErr result (λ _. IsTrue self.old.state.on_disk) }
+        ensures seen { OnlyLooks self.old self.new
+            (if leaves_length_of place then 0 else b + 1 - a) }
+        ensures read { IfErr result (λ _. IsTrue self.old.state.on_disk
+            × (leaves_length_of place ≡ false)) }
     {
-        if self.accepts_all(a, b, place, first, step) {
-            return Ok(None);
+        if leaves_length(place) {
+            return Ok(self.unseen_refusal(a, b, place, first, step));
         }
         for k in 0..b - a + 1 {
             let refusal = self.value_refusal(a + k, place, first, step, k)?;
@@ -157,40 +165,32 @@ impl LiveVolume {
         Ok(None)
     }
 
-    // Whether it is known without a look that no trace refuses these values: each trace has the
-    // place, and keeps its length, and all values fit where the first and the last do.
-    fn accepts_all(&self, a: u32, b: u32, place: Place, first: i128, step: i128) -> bool
+    // The same where no look is needed: only E04 may come, and all values fit where the first and
+    // the last do.
+    fn unseen_refusal(
+        &self,
+        a: u32,
+        b: u32,
+        place: Place,
+        first: i128,
+        step: i128,
+    ) -> Option<Refusal>
         requires first { 1 ≤ a }
         requires range { a ≤ b }
         requires last { b ≤ count_of self.now.state.volume }
-        ensures none { OnTrue result (IsTrue self.now.agreed → first_refusal_among
-            self.now.state.volume (Some place) (numbers a b first step) ≡ None) }
-        ensures each { OnTrue result (EachHolds self.now.state.volume a (b + 1 - a) place) }
-        ensures fit { OnTrue result ((k : ℕ) → k < b + 1 - a →
-            IsTrue (fits place.kind (counted first step k))) }
+        requires place { IsTrue (leaves_length_of place) }
+        ensures refusal { IsTrue self.now.agreed → result ≡
+            first_refusal_among self.now.state.volume (Some place) (numbers a b first step) }
+        ensures each { EachHolds self.now.state.volume a (b + 1 - a) place }
+        ensures fit { result ≡ None → (k : ℕ) → k < b + 1 - a →
+            IsTrue (fits place.kind (counted first step k)) }
     {
         self.stands();
-        if !leaves_length(place) || !fits(place.kind, first) {
-            return false;
+        if ends_fit(place.kind, first, step, b - a) {
+            None
+        } else {
+            Some(Refusal::DoesNotFit)
         }
-        match counted_up(first, step, b - a) {
-            Some(last) => fits(place.kind, last),
-            None => false,
-        }
-    }
-
-    // Whether it is known without a look that trace p is there and does not refuse the value: it
-    // has the place, and keeps its length, and the value fits.
-    pub(crate) fn accepts(&self, p: u32, place: Place, value: i128) -> bool
-        ensures room { OnTrue result (HasRoom self.now.state.volume p place value) }
-        ensures none { OnTrue result (IsTrue self.now.agreed → first_refusal
-            self.now.state (edits.Set p (fields.Place place) value) ≡ None) }
-    {
-        self.stands();
-        if !self.has_trace(p) || !leaves_length(place) {
-            return false;
-        }
-        fits(place.kind, value)
     }
 
     // The refusal at the place of trace p of the value that stands k steps behind the first: E03,
@@ -222,7 +222,8 @@ impl LiveVolume {
     }
 
     // The values counted up over the place of traces a to b, where nothing but memory or a read
-    // refuses them; whether a trace has another inline or crossline then.
+    // refuses them; memory alone, and with no look, where the records tell the new ones. Whether a
+    // trace has another inline or crossline then.
     fn count_up(
         &mut self,
         alloc: Global,
@@ -248,6 +249,9 @@ impl LiveVolume {
         ensures agreed { IsTrue self.new.agreed → IsTrue self.old.agreed }
         ensures loaded { self.new.loaded ≡ self.old.loaded }
         ensures looks { RisesAtMost self.old.looks self.new.looks (b + 1 - a) }
+        ensures told { IsTrue (tells_record self.old.state.fields (offset_of place)
+            place.kind.size) → (self.new.looks ≡ self.old.looks)
+            × IfErr result (λ refusal. refusal ≡ no_memory) }
         ensures moved { IfOk result (λ moved. IsTrue self.new.agreed →
             moved ≡ any_moves self.old.state self.new.state a b) }
     {
@@ -268,7 +272,7 @@ impl LiveVolume {
 
 // Whether it is the place of a number inside the main header that shares no byte with bytes
 // 115-116: no other bytes of that header tell how long the trace is.
-fn leaves_length(place: Place) -> bool
+pub(crate) fn leaves_length(place: Place) -> bool
     ensures place { result ≡ leaves_length_of place }
     ensures size { OnTrue result (IsSize place.kind.size) }
 {
@@ -278,4 +282,18 @@ fn leaves_length(place: Place) -> bool
         && 0 < place.byte
         && end < 242
         && (end <= 115 || 117 <= place.byte)
+}
+
+// Whether the first value and the one that stands k steps behind it fit: then so do those between.
+fn ends_fit(kind: Kind, first: i128, step: i128, k: u32) -> bool
+    requires { IsSize kind.size }
+    ensures { result ≡ (fits kind first && fits kind (counted first step k)) }
+{
+    if !fits(kind, first) {
+        return false;
+    }
+    match counted_up(first, step, k) {
+        Some(last) => fits(kind, last),
+        None => false,
+    }
 }

@@ -1,7 +1,7 @@
 // Changes of the volume and of the reports that hold the records of its traces: of both, or of
 // neither where memory or a read of a trace is refused. What can be refused comes first, and what
 // is done then takes no memory and reads no trace.
-ghost use Rattle.std.specs.Prelude.{◌≡◌, ◌+◌, ◌-◌, ◌≤◌, ◌<◌, ◌/◌, ◌%◌, [], length, map, slice_index_or, slice_set, ℕ, IsTrue, IfSome, IfOk, OnOk, IfErr};
+ghost use Rattle.std.specs.Prelude.{◌≡◌, ◌+◌, ◌-◌, ◌≤◌, ◌<◌, ◌/◌, ◌%◌, [], length, map, slice_index_or, slice_set, ℕ, IsTrue, IsSome, IfSome, IsOk, IfOk, OnOk, IfErr};
 ghost use Rattle.frame_cut.specs.Cuts.{IsTrace};
 ghost use Rattle.frame_cut.specs.Parts.{with_each, with_inserted};
 ghost use Rattle.frame_cut.specs.Splice.{splice};
@@ -10,6 +10,7 @@ ghost use Rattle.frame_cut.specs.Volume.{bytes_of};
 ghost use Rattle.trace_record.specs.Facts.{facts_of};
 ghost use Rattle.trace_record.specs.OfTrace.{record_of};
 ghost use Rattle.trace_record.specs.Packed.{record_in};
+ghost use Rattle.trace_record.specs.Told.{tells_record};
 ghost use Rattle.edit_overlay.specs.CountedVolume.{IsSeen, RisesAtMost, with_volume as with_counted_volume};
 ghost use Rattle.live_reports.specs.Exchanged.{with_records};
 ghost use Rattle.live_reports.specs.OfRecords.{AreReportsOf};
@@ -45,9 +46,10 @@ impl LiveVolume {
     }
 
     // Lays the bytes over those of trace p from place `at` on, counted from 0 in the trace. The
-    // trace is looked at for its new record; where they lie over its headers, and the record that
-    // it had is known, no sample is read, and the trace is not looked at either where that record
-    // tells the new one. Refused for want of memory, or on disk where the trace could not be read.
+    // trace is looked at for its new record. For bytes over headers alone the caller gives the
+    // record that the trace had: then no sample is read, and where that record tells the new one
+    // the trace is not looked at. Refused for want of memory, or on disk where a trace that is
+    // looked at could not be read.
     pub(crate) fn put(
         &mut self,
         alloc: Global,
@@ -80,6 +82,9 @@ impl LiveVolume {
         ensures agreed { IsTrue self.new.agreed → IsTrue self.old.agreed }
         ensures loaded { self.new.loaded ≡ self.old.loaded }
         ensures looks { RisesAtMost self.old.looks self.new.looks 1 }
+        ensures told { IsSome known →
+            IsTrue (tells_record self.old.state.fields at (length bytes.now)) →
+            (self.new.looks ≡ self.old.looks) × IfErr result (λ refusal. refusal ≡ no_memory) }
     {
         self.overlay.prepare_put(alloc, p, at, bytes)?;
         match new_record(&mut self.overlay, &self.fields, p, at, bytes, known) {
@@ -179,7 +184,7 @@ impl LiveVolume {
     // a on, in each from place `at` on, counted from 0 in the trace: all of them or none. Tells
     // whether a trace has another inline or crossline then. Each is looked at for its new record
     // where the one that it had does not tell it, and no sample is read. Refused for want of
-    // memory, or on disk where a trace could not be read.
+    // memory, or on disk where a trace that is looked at could not be read.
     pub(crate) fn put_each(
         &mut self,
         alloc: Global,
@@ -211,6 +216,8 @@ impl LiveVolume {
         ensures agreed { IsTrue self.new.agreed → IsTrue self.old.agreed }
         ensures loaded { self.new.loaded ≡ self.old.loaded }
         ensures looks { RisesAtMost self.old.looks self.new.looks count }
+        ensures told { IsTrue (tells_record self.old.state.fields at size) →
+            (self.new.looks ≡ self.old.looks) × IfErr result (λ refusal. refusal ≡ no_memory) }
     {
         self.overlay.prepare_put_each(alloc, a, at, size, bytes)?;
         let overlay = &mut self.overlay;
@@ -244,7 +251,7 @@ pub(crate) fn refusal_of_records(fault: RecordsFault) -> Refusal
 
 // The record of trace p with the prepared edit, which lays the bytes over it from place `at` on, in
 // one look at most. No sample is read where the record is known that the trace had, and has the
-// same ones.
+// same ones; no look where that record tells the new one.
 fn new_record(
     overlay: &mut Overlay<PackedRecord>,
     fields: &FieldMap,
@@ -266,6 +273,8 @@ fn new_record(
     ensures few { IfOk result (λ r. r.number ≤ length (trace_at overlay.old.prepared p)) }
     ensures seen { IsSeen overlay.old overlay.new 1 }
     ensures read { IfErr result (λ _. IsTrue overlay.old.loaded.on_disk) }
+    ensures told { IsSome known → IsTrue (tells_record fields.now.pairs at (length bytes.now)) →
+        IsOk result × (overlay.new ≡ overlay.old) }
 {
     match known {
         Some(known) => laid_headers(overlay, fields, p, &known, at, bytes),

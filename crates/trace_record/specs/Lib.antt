@@ -7,6 +7,7 @@ pub mod Unsigned
 pub mod Facts
 pub mod NumberPlaces
 pub mod OfTrace
+pub mod Told
 pub mod Keys
 pub mod Tally
 pub mod Laws

@@ -1,40 +1,40 @@
 -- What bytes that are laid over a trace leave of its headers, and what they say there.
 use Rattle.std.proofs.Common.{◌≡◌, ℕ, ℤ, zero, suc, pos, ◌+◌, ◌-◌, ◌*◌, ◌<◌, ◌≤◌, ◌⊎◌, inl, inr, Bool, true, false, List, [], ◌∷◌, ◌++◌, length, take, drop, get_or, Option, Some, None, refl, sym, subst, ap, ap₂, ◌∙◌, arith, append_assoc}
-use Rattle.std.specs.Prelude.{nat_le, ◌||◌, map, slice_get, IfSome, codes}
+use Rattle.std.specs.Prelude.{nat_le, ◌&&◌, ◌||◌, map, slice_get, IfSome}
 use Rattle.std.specs.Option.{option_map_or}
 use Rattle.std.proofs.Math.Seq.{take-append_seam}
-use Rattle.std.proofs.lemmas.Bool.{leb-true}
+use Rattle.std.proofs.lemmas.Bool.{leb-true, and_parts}
 use Rattle.std.proofs.lemmas.List.{drop-drop, drop_at, length-drop, length-take-le}
 use Rattle.num_order.specs.Number.{num, unsigned, with_sign}
 use Rattle.num_order.specs.declared.order.Order.{Order}
-use Rattle.field_map.specs.Pairs.{Pairs, place_of}
+use Rattle.field_map.specs.Pairs.{Pairs, place_of, signed_at}
 use Rattle.field_map.specs.Places.{offset_of}
 use Rattle.field_map.specs.declared.place.Place.{Place}
 use Rattle.frame_cut.specs.declared.file_head.Head.{Head}
-use Rattle.frame_cut.specs.Parts.{put_each_at, with_each}
+use Rattle.frame_cut.specs.Parts.{put_each_at}
 use Rattle.frame_cut.specs.Splice.{splice}
 use Rattle.frame_cut.specs.Traces.{count_of, trace_at}
 use Rattle.frame_cut.specs.Volume.{Volume}
 use Rattle.frame_cut.proofs.BinEditLemmas.{apart}
 use Rattle.trace_store.specs.Each.{part_of}
 use Rattle.trace_view.specs.Values.{value_at}
-use Rattle.trace_record.specs.Facts.{facts_of}
 use Rattle.trace_record.specs.OfTrace.{bound_value}
 use Rattle.trace_record.specs.Packed.{record_in}
+use Rattle.trace_record.specs.Told.{are_apart, leaves}
 use Rattle.trace_record.specs.declared.packed_record.PackedRecord.{PackedRecord}
 use Rattle.trace_record.specs.declared.record.Record.{Record}
 use Rattle.edit_overlay.specs.CountedVolume.{CountedVolume}
-use Rattle.volume_records.specs.Laid.{are_apart, AreLaid, IsLaid}
+use Rattle.volume_records.specs.Laid.{AreLaid, IsLaid}
 use Rattle.volume_records.proofs.RecordLemmas.{record_at}
 
 -- ---- bytes apart
 
 -- they end in front of the others, or begin behind them
-pub sides : (at long start size : ℕ) → are_apart at long start size ≡ true → (start + size ≤ at) ⊎ (at + long ≤ start)
-sides at long start size h = side (nat_le (start + size) at) refl h where
-  side : (b : Bool) → nat_le (start + size) at ≡ b → (b || nat_le (at + long) start) ≡ true → (start + size ≤ at) ⊎ (at + long ≤ start)
+pub sides : (at count start size : ℕ) → are_apart at count start size ≡ true → (start + size ≤ at) ⊎ (at + count ≤ start)
+sides at count start size h = side (nat_le (start + size) at) refl h where
+  side : (b : Bool) → nat_le (start + size) at ≡ b → (b || nat_le (at + count) start) ≡ true → (start + size ≤ at) ⊎ (at + count ≤ start)
   side true e g = inl (leb-true (start + size) at e)
-  side false e g = inr (leb-true (at + long) start g)
+  side false e g = inr (leb-true (at + count) start g)
 
 -- bytes apart from those that are laid over the trace stay
 pub bytes_apart : (t new : List ℕ) (at start size : ℕ) → at + length new ≤ length t → are_apart at (length new) start size ≡ true → take size (drop start (splice t at (length new) new)) ≡ take size (drop start t)
@@ -74,6 +74,33 @@ named h fields t name place is = ap (λ (o : Option Place). option_map_or (value
 pub if_some : {A : Type 0} {P Q : A → Type 0} (o : Option A) → IfSome o P → ((x : A) → P x → Q x) → IfSome o Q
 if_some None p f = tt
 if_some (Some x) p f = f x p
+
+-- ---- what is seldom edited
+
+-- bytes that are laid over a trace leave alone its coordinate scalar and bytes 89-90, 115-118 and 233-240
+abbrev pub leaves_rest : (at count : ℕ) → Place → Bool
+leaves_rest at count scalar =
+    leaves at count scalar && leaves at count (signed_at 89 2) && leaves at count (signed_at 115 2) && leaves at count (signed_at 117 2) && leaves at count (signed_at 233 8)
+
+-- and so each of them
+pub record LeavesRest (at count : ℕ) (place : Place) : Type 0 where
+  pub scalar : leaves at count place ≡ true
+  pub units : leaves at count (signed_at 89 2) ≡ true
+  pub samples : leaves at count (signed_at 115 2) ≡ true
+  pub interval : leaves at count (signed_at 117 2) ≡ true
+  pub name : leaves at count (signed_at 233 8) ≡ true
+
+pub each_left : (at count : ℕ) (place : Place) → leaves_rest at count place ≡ true → LeavesRest at count place
+each_left at count place h =
+    let scalar : Bool = leaves at count place in
+    let units : Bool = leaves at count (signed_at 89 2) in
+    let samples : Bool = leaves at count (signed_at 115 2) in
+    let interval : Bool = leaves at count (signed_at 117 2) in
+    let four = and_parts (scalar && units && samples && interval) (leaves at count (signed_at 233 8)) h in
+    let three = and_parts (scalar && units && samples) interval four.0 in
+    let two = and_parts (scalar && units) samples three.0 in
+    let one = and_parts scalar units two.0 in
+    record { scalar = one.0; units = one.1; samples = two.1; interval = three.1; name = four.1 }
 
 -- ---- bytes over traces that follow one another, so many over each
 

@@ -1,5 +1,5 @@
 -- Bytes laid over traces whose records are known.
-use Rattle.std.specs.Prelude.{◌≡◌, ℕ, ◌+◌, ◌-◌, ◌<◌, ◌≤◌, ℤ, Bool, true, false, nat_le, ◌||◌, List, [], length, map, slice_index_or, refl}
+use Rattle.std.specs.Prelude.{◌≡◌, ℕ, ◌+◌, ◌-◌, ◌<◌, ◌≤◌, ℤ, List, [], length, map, slice_index_or}
 use Rattle.num_order.specs.declared.order.Order.{Order}
 use Rattle.field_map.specs.declared.place.Place.{Place}
 use Rattle.field_map.specs.Pairs.{Pairs}
@@ -18,17 +18,6 @@ use Rattle.trace_record.specs.declared.packed_record.PackedRecord.{PackedRecord}
 use Rattle.trace_record.specs.declared.record.Record.{Record}
 use Rattle.edit_overlay.specs.CountedVolume.{CountedVolume}
 use Rattle.volume_records.specs.OfVolume.{records_of}
-
--- so many bytes from place `at` on share none with so many from another; places count from 0 in a trace
-abbrev pub are_apart : (at long start size : ℕ) → Bool
-are_apart at long start size = nat_le (start + size) at || nat_le (at + long) start
-
--- worked out: bytes 189-192 share none with bytes 193-196, and bytes 191-194 share two with bytes 189-192
-pub inline_and_crossline : are_apart 188 4 192 4 ≡ true
-inline_and_crossline = refl
-
-pub across_both : are_apart 190 4 188 4 ≡ false
-across_both = refl
 
 -- whatever trace has the bytes laid over it from place `at` on, it has the number at the place then
 abbrev pub IsNumberLaid : Order → Place → ℕ → List ℕ → ℤ → Type 0
@@ -56,11 +45,11 @@ IsRecordAfter order fields at bytes known new =
     → facts_of new ≡ with_samples_of (record_of h fields (splice t at (length bytes) bytes)) (facts_of known)
 
 -- trace p, which has the known record, gets the bytes laid over it from place `at` on
-pub record IsLaid (v prepared : Volume) (fields : Pairs) (p at : ℕ) (bytes : List ℕ) (r : Record) : Type 0 where
+pub record IsLaid (v prepared : Volume) (fields : Pairs) (p at : ℕ) (bytes : List ℕ) (known_record : Record) : Type 0 where
   pub head : prepared.head ≡ v.head
   pub inside : at + length bytes ≤ length (trace_at v p)
   pub laid : trace_at prepared p ≡ splice (trace_at v p) at (length bytes) bytes
-  pub known : facts_of r ≡ record_of v.head fields (trace_at v p)
+  pub known : facts_of known_record ≡ record_of v.head fields (trace_at v p)
 
 -- so many traces from trace a on get the bytes laid over them, `size` of them over each, and the records beside the traces are theirs
 pub record AreLaid (o : CountedVolume PackedRecord) (fields : Pairs) (a count at size : ℕ) (bytes : List ℕ) : Type 0 where

@@ -2,8 +2,13 @@
 //! running reports made of them (`with_records`), all again under another map (`remake`), of one
 //! trace as it would be with the edit that is prepared (`prepared_record`; `prepared_headers`,
 //! which reads no sample; `laid_headers`, which reads nothing where the record that the trace had
-//! tells the rest), of traces that follow one another (`prepared_records`, which reads no more),
+//! tells the new one), of traces that follow one another (`prepared_records`, which reads no more),
 //! and of a whole trace in memory that no volume holds yet (`record_of_bytes`).
+//!
+//! The record that a trace had tells the one with bytes laid over its headers where these share
+//! none with the coordinate scalar and with bytes 89-90, 115-118 and 233-240; and with each of
+//! inline, crossline, offset, x, y and the sequence number (bytes 5-8) share none, or are exactly
+//! its bytes. `laid_headers` and `prepared_records` look at no trace then.
 //!
 //! Traces count from 1. Each call that looks at a trace of the volume says how often; a look
 //! leaves the volume and what is prepared as they are. `with_records`, `remake` and

@@ -1,8 +1,9 @@
-ghost use Rattle.std.specs.Prelude.{◌≡◌, ◌≤◌, length, IfOk, IfErr, IsTrue};
+ghost use Rattle.std.specs.Prelude.{◌≡◌, ◌≤◌, length, IfOk, IfErr, IsOk, IsTrue};
 ghost use Rattle.frame_cut.specs.Cuts.{IsTrace};
 ghost use Rattle.frame_cut.specs.Traces.{is_trace, trace_at};
 ghost use Rattle.trace_record.specs.Facts.{facts_of, with_samples_of};
 ghost use Rattle.trace_record.specs.OfTrace.{record_of as record_of_trace};
+ghost use Rattle.trace_record.specs.Told.{tells_record};
 ghost use Rattle.edit_overlay.specs.CountedVolume.{after_look, IsSeen};
 ghost use Rattle.volume_records.specs.Laid.{IsLaid};
 
@@ -67,9 +68,12 @@ pub fn prepared_headers(
 
 /// The record of trace p, counted from 1, as it would be with the edit that is prepared, which lays
 /// these bytes over its headers from place `at` on, counted from 0, but for the amplitudes and the
-/// number of its samples, which are those of the record that it had. No look where the bytes are
-/// one of the numbers that a record tells, or leave all of these alone; else one look, which reads
-/// no sample, and may be refused where the volume's bytes are on disk. Takes no memory.
+/// number of its samples, which are those of the record that it had.
+///
+/// No look where the record tells (`tells_record`): the bytes share none with the coordinate scalar
+/// and with bytes 89-90, 115-118 and 233-240; and with each of inline, crossline, offset, x, y and
+/// the sequence number (bytes 5-8) they share none, or are exactly its bytes. Else one look, which
+/// reads no sample, and may be refused where the volume's bytes are on disk. Takes no memory.
 pub fn laid_headers(
     overlay: &mut Overlay<PackedRecord>,
     fields: &FieldMap,
@@ -87,6 +91,8 @@ pub fn laid_headers(
         (trace_at overlay.old.prepared p)) (facts_of known.now)) }
     ensures number { IfOk result (λ r. r.number ≡ known.now.number) }
     ensures seen { IsSeen overlay.old overlay.new 1 }
+    ensures told { IsTrue (tells_record fields.now.pairs at (length bytes.now)) →
+        IsOk result × (overlay.new ≡ overlay.old) }
     ensures read { IfErr result (λ _. IsTrue overlay.old.loaded.on_disk) }
 {
     let order = overlay.head().order;

@@ -2,6 +2,7 @@ ghost use Rattle.std.specs.Prelude.{◌≡◌, ◌+◌, ◌-◌, ◌/◌, ◌%�
 ghost use Rattle.frame_cut.specs.Traces.{count_of};
 ghost use Rattle.trace_record.specs.Facts.{facts_of};
 ghost use Rattle.trace_record.specs.Packed.{record_in};
+ghost use Rattle.trace_record.specs.Told.{tells_record};
 ghost use Rattle.edit_overlay.specs.CountedVolume.{IsSeen};
 ghost use Rattle.volume_records.specs.Faults.{IsOfRead};
 ghost use Rattle.volume_records.specs.Laid.{AreLaid};
@@ -19,10 +20,14 @@ use trace_store::part;
 /// The records of so many traces from trace a on, counted from 1, as they would be with the edit
 /// that is prepared, which lays the bytes over their headers, `size` of them over each, from place
 /// `at` on, counted from 0 in the trace; but for the least, greatest, sum and number of their
-/// samples, which are those of the records that stand beside them now. At most one look at each of
-/// them, which reads no sample; none as `laid_headers` says. Takes memory for the records; refused
-/// for want of it, or on disk where a trace could not be read, and the volume and what is prepared
-/// stay as they are in any case.
+/// samples, which are those of the records that stand beside them now.
+///
+/// No look where the record tells (`tells_record`): the bytes over each share none with the
+/// coordinate scalar and with bytes 89-90, 115-118 and 233-240; and with each of inline, crossline,
+/// offset, x, y and the sequence number (bytes 5-8) they share none, or are exactly its bytes. Else
+/// at most one look at each trace, which reads no sample. Takes memory for the records; refused for
+/// want of it, or on disk where a trace that is looked at could not be read, and the volume and
+/// what is prepared stay as they are in any case.
 pub fn prepared_records(
     alloc: Global,
     overlay: &mut Overlay<PackedRecord>,
@@ -50,6 +55,8 @@ pub fn prepared_records(
     ensures numbers { IfOk result (λ records. map (λ r. r.number) records ≡ take count (drop (a - 1)
         (map (λ r. r.number) (map record_in overlay.old.payloads)))) }
     ensures seen { IsSeen overlay.old overlay.new count }
+    ensures told { IsTrue (tells_record fields.now.pairs at size) →
+        (overlay.new ≡ overlay.old) × IfErr result (λ fault. IsOfRead fault → ⊥) }
     ensures read { IfErr result (λ fault. IsOfRead fault → IsTrue overlay.old.loaded.on_disk) }
 {
     // Read for the proof alone, which learns that the traces are counted in 32 bits.

@@ -29,3 +29,6 @@ laid_headers-requires-clause-laid c =
 pub returns-in-None-clause-seen : goal.returns-in-None-clause-seen
 returns-in-None-clause-seen c =
     seen_more c.args.overlay.now c.args.overlay.now c.prepared_record.new.overlay 0 (seen_none c.args.overlay.now) c.prepared_record.ensures.looked c.prepared_record.ensures.agreed
+
+pub returns-in-Some-clause-told : goal.returns-in-Some-clause-told
+returns-in-Some-clause-told c = λ known. c.laid_headers.ensures.told

@@ -1,4 +1,4 @@
-use Rattle.std.proofs.Common.{◌≡◌, ◌∙◌, ap, ap₂, sym, List, ℕ, arith}
+use Rattle.std.proofs.Common.{◌∙◌, ap, ap₂, sym, List, ℕ, arith}
 use Rattle.frame_cut.specs.Traces.{trace_at}
 use Rattle.frame_cut.specs.declared.file_head.Head.{Head}
 use Rattle.trace_record.specs.Facts.{facts_of, with_samples_of}

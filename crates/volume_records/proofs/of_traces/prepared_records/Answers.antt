@@ -1,9 +1,10 @@
-use Rattle.std.proofs.Common.{◌≡◌, ◌∙◌, ℕ, ◌+◌, ◌-◌, ◌*◌, ◌<◌, List, length, map, refl, sym, subst, ap, arith}
+use Rattle.std.proofs.Common.{◌≡◌, ◌∙◌, ℕ, ◌+◌, ◌-◌, ◌*◌, ◌<◌, IsTrue, List, length, map, refl, sym, subst, ap, arith}
 use Rattle.std.proofs.Math.Nat.{mod-eq-sub-div-mul, div-mul-le_self}
 use Rattle.std.proofs.lemmas.List.{length_push}
 use Rattle.frame_cut.specs.Traces.{count_of}
 use Rattle.frame_cut.specs.Volume.{Volume}
 use Rattle.trace_record.specs.Packed.{record_in}
+use Rattle.trace_record.specs.Told.{tells_record}
 use Rattle.trace_record.specs.declared.record.Record.{Record}
 use Rattle.volume_records.specs.Laid.{IsLaid}
 use Rattle.volume_records.proofs.LaidLemmas.{laid_at}
@@ -26,11 +27,13 @@ loop-k-preserved c =
     let place : c.args.a + n - 1 ≡ p + n = omega (arith, c.requires.first) in
     let known = record_beside ps c.loop-k.overlay.payloads (p + n) (c.args.a + n - 1) c.payload.result c.record-known.result i.seen.payloads place c.payload.ensures c.record-known.ensures in
     let grew = c.in_ok-push.ensures.ok in
+    let tells_of_part = subst (λ (size : ℕ). IsTrue (tells_record c.args.fields.now.pairs c.args.at size)) (sym c.part-part.ensures.length) in
     record {
       made = λ sure. one_header_more v w c.args.fields.now.pairs (map record_in ps) p n (c.args.a + n) c.loop-k.records c.push.new.self c.in_ok-record.record c.record-known.result i.seen.prepared there known q (i.made (made.seen.agreed sure)) (made.record sure) grew;
       numbers = one_number_more (map record_in ps) p n c.loop-k.records c.push.new.self c.in_ok-record.record c.record-known.result known made.number grew i.numbers;
       count = ap (λ (rs : List Record). length rs) grew ∙ (length_push c.loop-k.records c.in_ok-record.record ∙ ap (λ m. m + 1) i.count);
       seen = seen_both c.args.overlay.now c.loop-k.overlay c.laid_headers.new.overlay n 1 i.seen made.seen;
+      told = λ tells. (made.told (tells_of_part tells)).1 ∙ i.told tells;
     }
 
 pub laid_headers-requires-clause-laid : goal.laid_headers-requires-clause-laid

@@ -90,3 +90,11 @@ returns-clause-ok c =
 
 pub returns-clause-same : goal.returns-clause-same
 returns-clause-same c = read_as_either _ c.put.result _ _ _ c.put.ensures.ok c.put.ensures.err
+
+pub returns-clause-told : goal.returns-clause-told
+returns-clause-told c =
+    let fit : SFits w128 c.args.value = search rules in
+    let new : c.write.new.bytes ≡ bytes c.self.inside.overlay.volume.head.order c.args.place.kind c.args.value = rw (c.head.ensures, to_z-of_z) at c.write.ensures in
+    let at = c.from-2.ensures ∙ c.offset.ensures in
+    let size : length c.write.new.bytes ≡ c.args.place.kind.size = ap (λ (u : List ℕ). length u) new ∙ length-number c.self.inside.overlay.volume.head.order c.args.place.kind c.args.value in
+    λ tells. c.put.ensures.told refl (rw (at, size) tells)

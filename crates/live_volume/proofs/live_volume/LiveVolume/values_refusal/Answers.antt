@@ -1,16 +1,17 @@
-use Rattle.std.proofs.Common.{◌≡◌, ◌∙◌, ◌+◌, ◌≤◌, ap, sym, refl, true, arith, rules}
+use Rattle.std.proofs.Common.{◌≡◌, ◌∙◌, ◌+◌, ◌-◌, ◌≤◌, ap, sym, refl, true, arith, rules}
 use Rattle.std.proofs.lemmas.Bool.{le-leb}
 use Rattle.std.proofs.lemmas.Int.{to_z-of_z}
 use Rattle.std.specs.Int.{w128}
 use mir.Val.{SFits}
 use Rattle.frame_cut.specs.Traces.{count_of, is_trace}
+use Rattle.bench_rules.specs.Places.{leaves_length}
 use Rattle.bench_rules.specs.State.{State}
-use Rattle.live_volume.proofs.HeldLemmas.{looks_more, looks_most, looks_none}
+use Rattle.live_volume.proofs.HeldLemmas.{looks_more, looks_most, looks_none, looks_unless}
 use Rattle.live_volume.proofs.ManyTracesLemmas.{none_yet, none_again, told_at, told_none, told_some}
 use Rattle.live_volume.proofs.live_volume.LiveVolume.values_refusal.Goals as goal
 
-pub returns-then-accepts_all-clause-seen : goal.returns-then-accepts_all-clause-seen
-returns-then-accepts_all-clause-seen c = looks_most _ _ 0 _ (looks_none _) (omega arith)
+pub returns-then-leaves_length-clause-seen : goal.returns-then-leaves_length-clause-seen
+returns-then-leaves_length-clause-seen c = rw (sym c.leaves_length.ensures.place ∙ c.if-leaves_length.true) (looks_none _)
 
 pub loop-k-init : goal.loop-k-init
 loop-k-init c = none_yet _ _ _ _ _
@@ -40,11 +41,13 @@ returns-then-is_some-clause-fit c = told_some c.in_ok-refusal.refusal (sym c.is_
 
 pub returns-then-is_some-clause-seen : goal.returns-then-is_some-clause-seen
 returns-then-is_some-clause-seen c =
-    looks_most _ _ (c.loop-k.k + 1) _ (looks_more _ _ _ c.loop-k.k 1 c.loop-k.invariant.seen c.value_refusal.ensures.seen) (omega (arith, c.requires.range, c.loop-k-test.true))
+    looks_unless (leaves_length c.args.place) _ _ (c.args.b + 1 - c.args.a) (sym c.leaves_length.ensures.place ∙ c.if-leaves_length.false)
+    (looks_most _ _ (c.loop-k.k + 1) _ (looks_more _ _ _ c.loop-k.k 1 c.loop-k.invariant.seen c.value_refusal.ensures.seen) (omega (arith, c.requires.range, c.loop-k-test.true)))
 
 pub returns-in_err-refusal-clause-seen : goal.returns-in_err-refusal-clause-seen
 returns-in_err-refusal-clause-seen c =
-    looks_most _ _ (c.loop-k.k + 1) _ (looks_more _ _ _ c.loop-k.k 1 c.loop-k.invariant.seen c.value_refusal.ensures.seen) (omega (arith, c.requires.range, c.loop-k-test.true))
+    looks_unless (leaves_length c.args.place) _ _ (c.args.b + 1 - c.args.a) (sym c.leaves_length.ensures.place ∙ c.if-leaves_length.false)
+    (looks_most _ _ (c.loop-k.k + 1) _ (looks_more _ _ _ c.loop-k.k 1 c.loop-k.invariant.seen c.value_refusal.ensures.seen) (omega (arith, c.requires.range, c.loop-k-test.true)))
 
 pub loop-k-preserved : goal.loop-k-preserved
 loop-k-preserved c =
@@ -69,4 +72,6 @@ returns-clause-fit c =
     λ none k less. fit k (omega (arith, less, c.requires.range, c.loop-k.auto.k-end, c.loop-k-test.false))
 
 pub returns-clause-seen : goal.returns-clause-seen
-returns-clause-seen c = looks_most _ _ c.loop-k.k _ c.loop-k.invariant.seen (omega (arith, c.requires.range, c.loop-k.auto.k-end))
+returns-clause-seen c =
+    looks_unless (leaves_length c.args.place) _ _ (c.args.b + 1 - c.args.a) (sym c.leaves_length.ensures.place ∙ c.if-leaves_length.false)
+    (looks_most _ _ c.loop-k.k _ c.loop-k.invariant.seen (omega (arith, c.requires.range, c.loop-k.auto.k-end)))

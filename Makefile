@@ -47,7 +47,7 @@ test:
 	@test -x $(SHIPPED) || { echo 'There is no shipped program $(SHIPPED): make build, then make dist.'; exit 1; }
 	bash tests/lines.sh
 	rm -f $(BUILT)
-	rt ci
+	RT_JOBS=$${RT_JOBS:-$$(tools/lanes)} rt ci
 	test -x $(BUILT) || tools/build
 	cd dist && sha256sum -c SHA256SUMS
 	@cmp $(BUILT) $(SHIPPED) || { echo 'The sources do not give the shipped program: see make dist.'; exit 1; }

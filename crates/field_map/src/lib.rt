@@ -31,6 +31,3 @@ pub use crate::names::{bin_field, standard};
 pub use crate::out_of_memory::OutOfMemory;
 pub use crate::place::{Place, TRACE_HEADER_BYTES};
 pub use crate::rules::is_geometry;
-
-#[cfg(test)]
-mod tests;

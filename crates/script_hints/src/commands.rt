@@ -1,7 +1,7 @@
 // The commands and their forms.
 
 /// The first words of the commands.
-pub(crate) static COMMANDS: [&str; 39] = [
+pub static COMMANDS: [&str; 39] = [
     "set",
     "get",
     "bin",
@@ -47,7 +47,7 @@ pub(crate) static COMMANDS: [&str; 39] = [
 const COMPUTE: &str = "compute P Q FIELD SOURCE [OP OPERAND] ..";
 
 /// The form of a command, by its word: empty where the word is none.
-pub(crate) fn form(word: &[u8]) -> &'static str {
+pub fn form(word: &[u8]) -> &'static str {
     match word {
         b"set" => "set P FIELD NUMBER",
         b"get" => "get P FIELD",

@@ -2,8 +2,9 @@
 //!
 //! [`Notes`] keeps the first 20 refused lines of a run in a room of fixed size, and counts all.
 //! [`NoteLine`] is what is told of one of them, [`LoadNote`] of a refused file; each is one line,
-//! without its line feed. Nothing here takes memory, and no answer depends on it. Lines count from
-//! 1, and bytes of a header from 1.
+//! without its line feed. What may be meant is one of the commands ([`COMMANDS`], each with its
+//! [`form`]) or of the names of header fields ([`TRACE_NAMES`], [`BINARY_NAMES`]). Nothing here
+//! takes memory, and no answer depends on it. Lines count from 1, and bytes of a header from 1.
 #![tactic(auto)]
 
 mod commands;
@@ -21,11 +22,10 @@ mod number_hint;
 mod shown;
 mod words;
 
+pub use crate::commands::{COMMANDS, form};
 pub use crate::fault::{Fault, fault_of};
 pub use crate::load_note::LoadNote;
+pub use crate::names::{BINARY_NAMES, TRACE_NAMES};
 pub use crate::note::Note;
 pub use crate::note_line::NoteLine;
 pub use crate::notes::Notes;
-
-#[cfg(test)]
-mod tests;

@@ -2,7 +2,7 @@
 
 /// The names of a trace header: the six that reports read, then those of its fields in the order of
 /// bytes, and those of its first extension.
-pub(crate) static TRACE_NAMES: [&str; 105] = [
+pub static TRACE_NAMES: [&str; 105] = [
     "inline",
     "crossline",
     "offset",
@@ -111,7 +111,7 @@ pub(crate) static TRACE_NAMES: [&str; 105] = [
 ];
 
 /// The names of the binary header.
-pub(crate) static BINARY_NAMES: [&str; 21] = [
+pub static BINARY_NAMES: [&str; 21] = [
     "job",
     "line",
     "reel",
@@ -136,4 +136,4 @@ pub(crate) static BINARY_NAMES: [&str; 21] = [
 ];
 
 /// What `range` tells of.
-pub(crate) static QUANTITIES: [&str; 5] = ["inline", "crossline", "offset", "x", "y"];
+pub static QUANTITIES: [&str; 5] = ["inline", "crossline", "offset", "x", "y"];

@@ -11,8 +11,8 @@ use Rattle.frame_cut.specs.Volume.{bytes_of}
 use Rattle.script_run.specs.OnDisk.{unread, read_whole}
 use Rattle.bench_laws.specs.EditLaws.{StepsStayCut}
 use Rattle.script_run.specs.declared.options.Options.{Options}
-use Rattle.script_run.specs.declared.run_end.RunEnd.{RunEnd}
-use Rattle.script_run.specs.declared.run_end.RunEnd.TheVariants as ends
+use Rattle.script_text.specs.declared.run_end.RunEnd.{RunEnd}
+use Rattle.script_text.specs.declared.run_end.RunEnd.TheVariants as ends
 use Rattle.script_text.specs.declared.script_fault.ScriptFault.{ScriptFault}
 use Rattle.script_text.specs.RefusalTexts.{load_refusal_line, script_refusal_line}
 use Rattle.script_text.specs.Devices.{Device, Takes, TakesPart, count_in_64_bits}

@@ -9,8 +9,8 @@ use Rattle.script_text.specs.RefusalTexts.{load_refusal_line, script_refusal_lin
 use Rattle.script_text.specs.Replies.{Printed}
 use Rattle.script_text.proofs.OutLemmas.{takes_more, takes_part_more}
 use Rattle.script_run.specs.declared.options.Options.{Options}
-use Rattle.script_run.specs.declared.run_end.RunEnd.{RunEnd}
-use Rattle.script_run.specs.declared.run_end.RunEnd.TheVariants as ends
+use Rattle.script_text.specs.declared.run_end.RunEnd.{RunEnd}
+use Rattle.script_text.specs.declared.run_end.RunEnd.TheVariants as ends
 use Rattle.script_run.specs.declared.session_lines.SessionLines.TheVariants as line_ends
 use Rattle.script_run.specs.Loading.{Loads}
 use Rattle.script_run.specs.Runs.{printed_text}

@@ -6,8 +6,8 @@ use Rattle.edit_overlay.specs.declared.save_fault.SaveFault.{SaveFault}
 use Rattle.frame_cut.specs.Volume.{bytes_of}
 use Rattle.bench_rules.specs.State.{State}
 use Rattle.script_run.specs.declared.options.Options.{Options}
-use Rattle.script_run.specs.declared.run_end.RunEnd.{RunEnd}
-use Rattle.script_run.specs.declared.run_end.RunEnd.TheVariants as ends
+use Rattle.script_text.specs.declared.run_end.RunEnd.{RunEnd}
+use Rattle.script_text.specs.declared.run_end.RunEnd.TheVariants as ends
 use Rattle.script_text.specs.declared.script_fault.ScriptFault.{ScriptFault}
 use Rattle.script_text.specs.Devices.{Device, Takes, TakesPart, count_in_64_bits}
 use Rattle.script_run.specs.Loading.{Loads, IsLoadRefused, ReadsScript, IsScriptRefused}

@@ -4,8 +4,8 @@ use Rattle.edit_overlay.specs.PassedFile.{RefusedPass, IsPassFault}
 use Rattle.script_text.specs.Devices.{Device}
 use Rattle.script_text.specs.RefusalTexts.{load_refusal_line}
 use Rattle.script_run.specs.declared.options.Options.{Options}
-use Rattle.script_run.specs.declared.run_end.RunEnd.{RunEnd}
-use Rattle.script_run.specs.declared.run_end.RunEnd.TheVariants as ends
+use Rattle.script_text.specs.declared.run_end.RunEnd.{RunEnd}
+use Rattle.script_text.specs.declared.run_end.RunEnd.TheVariants as ends
 use Rattle.script_run.specs.Ends.{Devices, IsTold}
 
 -- a reader that has all bytes of a file still to give

@@ -13,8 +13,8 @@ use Rattle.script_text.specs.Replies.{Printed, fault_reply}
 use Rattle.script_text.specs.Texts.{IsFullLines}
 use Rattle.script_words.specs.Words.{parts_by_line_feed, without_return}
 use Rattle.script_run.specs.declared.options.Options.{Options}
-use Rattle.script_run.specs.declared.run_end.RunEnd.{RunEnd}
-use Rattle.script_run.specs.declared.run_end.RunEnd.TheVariants as ends
+use Rattle.script_text.specs.declared.run_end.RunEnd.{RunEnd}
+use Rattle.script_text.specs.declared.run_end.RunEnd.TheVariants as ends
 use Rattle.script_run.specs.Loading.{Loads}
 use Rattle.script_run.specs.Input.{HasTooMany}
 use Rattle.script_run.specs.Telling.{followed_by}

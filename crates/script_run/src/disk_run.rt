@@ -1,6 +1,6 @@
-use crate::run_end::RunEnd;
 use bench_core::Bench;
 use edit_overlay::PassFault;
+use script_text::RunEnd;
 
 /// How a run or a session over a file that stays on disk ended, with the volume as it is then: it
 /// tells whether each later read gave the bytes of the load. Or why the file was refused: no line

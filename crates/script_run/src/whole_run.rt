@@ -3,14 +3,13 @@ ghost use Rattle.std.specs.Prelude.{◌≡◌, length, true, false, IsTrue, IfOk
 ghost use Rattle.live_volume.specs.Held.{IsReadAs};
 ghost use Rattle.frame_cut.specs.Volume.{bytes_of};
 ghost use Rattle.script_text.specs.RefusalTexts.{load_refusal_line};
-ghost use Rattle.script_run.specs.declared.run_end.RunEnd.TheVariants as ends;
+ghost use Rattle.script_text.specs.declared.run_end.RunEnd.TheVariants as ends;
 ghost use Rattle.script_text.specs.Devices.{Device, device_of, Takes};
 ghost use Rattle.script_run.specs.Loading.{Loads, IsLoadRefused};
 ghost use Rattle.script_run.specs.Ends.{devices, IsTold, Runs, SavesPart};
 
 use crate::lines_end::LinesEnd;
 use crate::options::Options;
-use crate::run_end::RunEnd;
 use crate::running::run_lines;
 use crate::script::read_script;
 use bench_core::Bench;
@@ -19,7 +18,7 @@ use device_io::{Sink, Source};
 use edit_overlay::SaveFault;
 use frame_cut::LoadFault;
 use script_hints::Notes;
-use script_text::{TextBuffer, load_fault_line, script_fault_line, write_text};
+use script_text::{RunEnd, TextBuffer, load_fault_line, script_fault_line, write_text};
 use std::alloc::Global;
 use std::io::{Read, Write};
 

@@ -8,13 +8,12 @@ ghost use Rattle.script_run.specs.Sessions.{Session};
 
 use crate::answering::answer_lines;
 use crate::options::Options;
-use crate::run_end::RunEnd;
 use crate::session_lines::SessionLines;
 use crate::whole_run::{load, save, tell};
 use bench_core::Bench;
 use bench_laws::steps_stay_cut;
 use device_io::{Sink, Source};
-use script_text::{load_fault_line, script_fault_line};
+use script_text::{RunEnd, load_fault_line, script_fault_line};
 use std::alloc::Global;
 use std::io::{Read, Write};
 

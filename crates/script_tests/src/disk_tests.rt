@@ -4,7 +4,7 @@ use device_io::{Sink, Source, StepReader};
 use edit_overlay::ReadFault;
 use frame_cut::LoadFault;
 use script_hints::Notes;
-use script_run::{RunEnd, load_on_disk, run_loaded, run_on_disk, session_on_disk};
+use script_run::{Bench, RunEnd, load_on_disk, run_loaded, run_on_disk, session_on_disk};
 use std::alloc::Global;
 use std::fs;
 use std::fs::File;
@@ -34,13 +34,26 @@ fn run_meanwhile(
     let Ok(mut bench) = load_on_disk(alloc, file, bytes.len() as u64, options) else {
         return Err("a load".into());
     };
+    run_over(rt, alloc, name, later, &mut bench, script)
+}
+
+// The run, behind the load, of which the file has the later bytes.
+fn run_over(
+    rt: &impl Files<File = File>,
+    alloc: Global,
+    name: &str,
+    later: &[u8],
+    bench: &mut Bench,
+    script: &[u8],
+) -> Result<Told, Fail> {
     fs::write(rt, name, later)?;
+    let options = options(false, true)?;
     let mut lines = Source::new(StepReader::new(script, 4096, u64::MAX));
     let mut answers = Sink::new(Vec::new(alloc));
     let mut out = Sink::new(Vec::new(alloc));
     let end = run_loaded(
         alloc,
-        &mut bench,
+        bench,
         &mut lines,
         &mut answers,
         &mut out,
@@ -89,8 +102,8 @@ fn tells_of_what_cannot_be_read(rt: HostRuntime) -> Result<(), Fail> {
     Ok(())
 }
 
-// How a run of these lines over a file on disk ends, which has so many bytes. The volume goes here:
-// the check of a function that owns one takes the longer the more it does.
+// How a run of these lines over a file on disk ends, which has so many bytes. The volume is
+// dropped here: the check of a function that owns one takes the longer the more it does.
 fn run_end(
     alloc: Global,
     file: File,
@@ -142,13 +155,15 @@ fn a_session_on_disk_is_one_call(rt: HostRuntime) -> Result<(), Fail> {
     let file = sample_file(alloc)?;
     fs::write(&rt, "session.sgy", file.as_slice())?;
     let mut answers = Sink::new(Vec::new(alloc));
-    for more in &[1, 0] {
+    let ends = [
+        (1, RunEnd::Load(LoadFault::ReadFailed)),
+        (0, RunEnd::Done { refused: 0 }),
+    ];
+    for (more, wanted) in &ends {
         let opened = fs::open(&rt, "session.sgy")?;
         let size = file.len() as u64 + *more;
         let end = session_end(alloc, opened, size, &mut answers)?;
-        if *more > 0 {
-            assert_eq!(rt; end, RunEnd::Load(LoadFault::ReadFailed));
-        }
+        assert_eq!(rt; end, *wanted);
     }
     let told = b"load refused L01 read failed\ntraces 3\n\n";
     assert!(rt; answers.into_inner().as_slice() == told.as_slice());

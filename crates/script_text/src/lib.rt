@@ -1,6 +1,7 @@
-//! What is printed for each line of a script.
+//! What is printed for each line of a script, and how a run ends.
 //!
 //! [`push_reply`] prints what a line gives, through an [`OutBuffer`], and takes no memory.
+//! [`RunEnd`] is the whole report of a run.
 #![tactic(auto)]
 
 mod answer_texts;
@@ -12,6 +13,7 @@ mod out_buffer;
 mod refusal_texts;
 mod reply;
 mod report_texts;
+mod run_end;
 mod script_fault;
 mod table_texts;
 mod text_buffer;
@@ -22,6 +24,7 @@ pub use crate::laws::answers_are_full_lines;
 pub use crate::out_buffer::OutBuffer;
 pub use crate::refusal_texts::{load_fault_line, script_fault_line};
 pub use crate::reply::{Reply, is_refusal, push_reply};
+pub use crate::run_end::RunEnd;
 pub use crate::script_fault::ScriptFault;
 pub use crate::text_buffer::TextBuffer;
 pub use crate::writing::write_text;

@@ -9,14 +9,7 @@
 //! or read, answers or the save failed, or FILE was changed by another program before the save.
 #![tactic(auto)]
 
-mod command_line;
-mod ending;
-mod finish;
-mod in_place;
 mod program;
-mod refused;
-mod target;
-mod where_to;
 
 use crate::program::status_of;
 use std::io;

@@ -1,14 +1,11 @@
 // From the command line to the exit status.
 ghost use Rattle.std.specs.Prelude.{◌≡◌, ◌≤◌, IfSome, is_some, unwrap_or};
-ghost use Rattle.segywb.specs.CommandLine.{usual_limit};
+ghost use Rattle.command_line.specs.CommandLine.{usual_limit};
 
-use crate::command_line::{Arguments, arguments};
-use crate::finish::{finish, refused_out};
-use crate::refused::tell_how_to_begin;
-use crate::target::Target;
-use crate::where_to::{misuse, target_of};
+use command_line::{Arguments, arguments};
 use device_io::{Sink, Source};
 use frame_cut::{Limits, Reading};
+use run_ending::{Target, finish, misuse, refused_out, target_of, tell_how_to_begin};
 use safe_save::{Original, Save};
 use script_hints::Notes;
 use script_run::{Options, RunEnd, run, run_on_disk, session, session_on_disk};
@@ -237,11 +234,11 @@ fn answer_on_disk<R: Files<File = File> + AllocGlobal + Print + Input, O: Write>
             let script = &mut Source::new(rt.reader());
             script_on_disk(rt, volume, bytes, script, out, options, notes)
         }
-        Lines::Session => lines_on_disk(rt, volume, bytes, out, options),
+        Lines::Session => session_lines_on_disk(rt, volume, bytes, out, options),
     }
 }
 
-// The lines of a script. The volume that the run gives back goes here.
+// The lines of a script. The volume that the run gives back is dropped here.
 fn script_on_disk<R: AllocGlobal + Print, S: Read, O: Write>(
     rt: &R,
     volume: File,
@@ -266,7 +263,7 @@ fn script_on_disk<R: AllocGlobal + Print, S: Read, O: Write>(
 }
 
 // The lines of a session on standard input, likewise.
-fn lines_on_disk<R: AllocGlobal + Print + Input, O: Write>(
+fn session_lines_on_disk<R: AllocGlobal + Print + Input, O: Write>(
     rt: &R,
     volume: File,
     bytes: u64,

@@ -14,8 +14,6 @@ mod lines;
 mod names;
 mod out_of_memory;
 mod shown;
-#[cfg(test)]
-mod tests;
 mod text_fault;
 
 pub use crate::block::{TEXT_BLOCK_BYTES, code_of, ends_text};

@@ -12,7 +12,7 @@ use crate::chunk_list::FILL;
 pub const GROUP: usize = 16;
 
 // How many ids a group has where ids were put behind all others alone, as those of a load are.
-const USUAL: usize = GROUP * FILL;
+const GROUP_IDS: usize = GROUP * FILL;
 
 /// A group of chunks, and how many ids stand in front of it.
 #[derive(Clone, Copy)]
@@ -35,12 +35,12 @@ pub fn find_group(fronts: &[usize], place: usize, probes: &mut u64) -> Group
 {
     // Brings the range of `probes` into the proof, and does nothing at run time.
     let _within = *probes;
-    let usual = place / USUAL;
+    let likely = place / GROUP_IDS;
     let mut number = 0;
     let mut end = fronts.len();
     'halves: while number + 1 < end {
         *probes = probes.saturating_add(1);
-        let middle = next_probe(usual, number, end);
+        let middle = next_probe(likely, number, end);
         // With no branch, since none could be foretold.
         let is_before = fronts[middle] <= place;
         number = if is_before { middle } else { number };
@@ -50,19 +50,19 @@ pub fn find_group(fronts: &[usize], place: usize, probes: &mut u64) -> Group
     Group { number, first }
 }
 
-// The number to look at next, between two others: the one behind the usual group, then that of the
-// usual group, where they lie between these; else the one halfway.
-fn next_probe(usual: usize, number: usize, end: usize) -> usize
+// The number to look at next, between two others: the one behind the likely group, then that of the
+// likely group, where they lie between these; else the one halfway.
+fn next_probe(likely: usize, number: usize, end: usize) -> usize
     requires { number + 1 < end }
     ensures above { number < result }
     ensures below { result < end }
 {
-    if number <= usual && usual < end - 1 {
+    if number <= likely && likely < end - 1 {
         // Both are open: the one behind comes first.
-        return usual + 1;
+        return likely + 1;
     }
-    if number < usual && usual < end {
-        return usual;
+    if number < likely && likely < end {
+        return likely;
     }
     number + (end - number) / 2
 }

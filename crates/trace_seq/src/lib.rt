@@ -28,6 +28,3 @@ pub use crate::ids::Ids;
 pub use crate::laws::{held_id_stands, standing_id_is_held, stands_at_one_position};
 pub use crate::out_of_memory::OutOfMemory;
 pub use crate::trace_seq::TraceSeq;
-
-#[cfg(test)]
-mod tests;

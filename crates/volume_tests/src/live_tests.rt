@@ -328,9 +328,27 @@ fn exchanges_one(
     requires deep { deep.now.number ≡ 2 }
 {
     let mut reports = pair(alloc, old, first, second)?;
-    tells_of_two(rt, alloc, &reports, old)?;
-    exchange_second(&mut reports, old, first, second, deep)?;
-    tells_of_a_repeat(rt, alloc, &reports, new, Ratio::whole(1000))
+    exchange_one(rt, alloc, &mut reports, old, new, first, second, deep)
+}
+
+fn exchange_one(
+    rt: &impl Abort,
+    alloc: Global,
+    reports: &mut LiveReports,
+    old: &Records,
+    new: &Records,
+    first: &Record,
+    second: &Record,
+    deep: &Record,
+) -> Result<(), Fail>
+    requires counted { AreReportsOf reports.old old.now }
+    requires old { old.now ≡ first.now ∷ second.now ∷ [] }
+    requires first { first.now.number ≡ 2 }
+    requires deep { deep.now.number ≡ 2 }
+{
+    tells_of_two(rt, alloc, reports, old)?;
+    exchange_second(reports, old, first, second, deep)?;
+    tells_of_a_repeat(rt, alloc, reports, new, Ratio::whole(1000))
 }
 
 #[test]
@@ -347,48 +365,111 @@ fn another_trace_stands_in(rt: HostRuntime) -> Result<(), Fail> {
 }
 
 // A trace stands in for the second of two, so that nothing is repeated.
-fn exchanges_behind(
-    rt: &impl Abort,
-    alloc: Global,
-    old: &Records,
-    new: &Records,
-    first: &Record,
-    second: &Record,
-    third: &Record,
-) -> Result<LiveReports, Fail>
-    requires old { old.now ≡ first.now ∷ second.now ∷ [] }
-    requires new { new.now ≡ first.now ∷ third.now ∷ [] }
-    requires first { first.now.number ≡ 2 }
-    requires second { second.now.number ≡ 2 }
-    requires third { third.now.number ≡ 2 }
-    ensures { IfOk result (λ reports. AreReportsOf reports new.now) }
-{
-    let mut reports = pair(alloc, old, first, second)?;
-    insert_and_take_back(&mut reports, old, first, second, third)?;
-    exchange_behind(alloc, &mut reports, old, first, second, third)?;
-    tells_of_another_second(rt, alloc, &reports, new)?;
-    Ok(reports)
-}
-
-// Others stand in for both of two traces, so that the second repeats the first.
-fn exchanges_two(
+fn change_second(
     rt: &impl Abort,
     alloc: Global,
     reports: &mut LiveReports,
     old: &Records,
     new: &Records,
     first: &Record,
+    second: &Record,
+    third: &Record,
+) -> Result<(), Fail>
+    requires counted { AreReportsOf reports.old old.now }
+    requires old { old.now ≡ first.now ∷ second.now ∷ [] }
+    requires new { new.now ≡ first.now ∷ third.now ∷ [] }
+    requires first { first.now.number ≡ 2 }
+    requires second { second.now.number ≡ 2 }
+    requires third { third.now.number ≡ 2 }
+    ensures { OnOk result (AreReportsOf reports.new new.now) }
+{
+    insert_and_take_back(reports, old, first, second, third)?;
+    exchange_behind(alloc, reports, old, first, second, third)?;
+    tells_of_another_second(rt, alloc, reports, new)
+}
+
+// Others stand in for both of two traces, so that the second repeats the first.
+fn change_both(
+    rt: &impl Abort,
+    alloc: Global,
+    reports: &mut LiveReports,
+    old: &Records,
+    new: &Records,
+    first: &Record,
+    second: &Record,
+    moved: &Record,
+    deep: &Record,
+) -> Result<(), Fail>
+    requires counted { AreReportsOf reports.old old.now }
+    requires old { old.now ≡ first.now ∷ second.now ∷ [] }
+    requires moved { moved.now.number ≡ 2 }
+    requires deep { deep.now.number ≡ 2 }
+{
+    exchange_both(alloc, reports, old, first, second, moved, deep)?;
+    tells_of_a_repeat(rt, alloc, reports, new, Ratio::whole(3000))
+}
+
+// A trace stands in for the second of two, and then others for both.
+fn change_twice(
+    rt: &impl Abort,
+    alloc: Global,
+    reports: &mut LiveReports,
+    old: &Records,
+    new: &Records,
+    last: &Records,
+    first: &Record,
+    second: &Record,
     third: &Record,
     moved: &Record,
     deep: &Record,
 ) -> Result<(), Fail>
     requires counted { AreReportsOf reports.old old.now }
-    requires old { old.now ≡ first.now ∷ third.now ∷ [] }
+    requires old { old.now ≡ first.now ∷ second.now ∷ [] }
+    requires new { new.now ≡ first.now ∷ third.now ∷ [] }
+    requires first { first.now.number ≡ 2 }
+    requires second { second.now.number ≡ 2 }
+    requires third { third.now.number ≡ 2 }
     requires moved { moved.now.number ≡ 2 }
     requires deep { deep.now.number ≡ 2 }
 {
-    exchange_both(alloc, reports, old, first, third, moved, deep)?;
-    tells_of_a_repeat(rt, alloc, reports, new, Ratio::whole(3000))
+    change_second(rt, alloc, reports, old, new, first, second, third)?;
+    change_both(rt, alloc, reports, new, last, first, third, moved, deep)
+}
+
+fn changes_twice(
+    rt: &impl Abort,
+    alloc: Global,
+    old: &Records,
+    new: &Records,
+    last: &Records,
+    first: &Record,
+    second: &Record,
+    third: &Record,
+    moved: &Record,
+    deep: &Record,
+) -> Result<(), Fail>
+    requires old { old.now ≡ first.now ∷ second.now ∷ [] }
+    requires new { new.now ≡ first.now ∷ third.now ∷ [] }
+    requires first { first.now.number ≡ 2 }
+    requires second { second.now.number ≡ 2 }
+    requires third { third.now.number ≡ 2 }
+    requires moved { moved.now.number ≡ 2 }
+    requires deep { deep.now.number ≡ 2 }
+{
+    let mut reports = pair(alloc, old, first, second)?;
+    change_twice(
+        rt,
+        alloc,
+        &mut reports,
+        old,
+        new,
+        last,
+        first,
+        second,
+        third,
+        moved,
+        deep,
+    )
 }
 
 #[test]
@@ -403,18 +484,9 @@ fn other_traces_stand_in(rt: HostRuntime) -> Result<(), Fail> {
     let last = table_of(alloc, &[moved, deep])?;
     let old = Records::new(Column::new(&loaded));
     let new = Records::new(Column::new(&changed));
-    let mut reports = exchanges_behind(&rt, alloc, &old, &new, &first, &second, &third)?;
     let last = Records::new(Column::new(&last));
-    exchanges_two(
-        &rt,
-        alloc,
-        &mut reports,
-        &new,
-        &last,
-        &first,
-        &third,
-        &moved,
-        &deep,
+    changes_twice(
+        &rt, alloc, &old, &new, &last, &first, &second, &third, &moved, &deep,
     )
 }
 
@@ -434,9 +506,28 @@ fn inserts_one(
     requires deep { deep.now.number ≡ 2 }
 {
     let mut reports = pair(alloc, old, first, second)?;
-    insert_between(&mut reports, old, first, second, deep)?;
-    assert_eq!(rt; repeats_of(alloc, &reports, new)?, 1);
-    assert!(rt; tells(&reports, 2, -5, 6));
+    insert_one(rt, alloc, &mut reports, old, new, first, second, deep)
+}
+
+fn insert_one(
+    rt: &impl Abort,
+    alloc: Global,
+    reports: &mut LiveReports,
+    old: &Records,
+    new: &Records,
+    first: &Record,
+    second: &Record,
+    deep: &Record,
+) -> Result<(), Fail>
+    requires counted { AreReportsOf reports.old old.now }
+    requires old { old.now ≡ first.now ∷ second.now ∷ [] }
+    requires first { first.now.number ≡ 2 }
+    requires second { second.now.number ≡ 2 }
+    requires deep { deep.now.number ≡ 2 }
+{
+    insert_between(reports, old, first, second, deep)?;
+    assert_eq!(rt; repeats_of(alloc, reports, new)?, 1);
+    assert!(rt; tells(reports, 2, -5, 6));
     Ok(())
 }
 
@@ -467,9 +558,22 @@ fn removes_one(
     requires second { second.now.number ≡ 2 }
 {
     let mut reports = pair(alloc, old, first, second)?;
-    leave_second_alone(&mut reports, old);
-    assert_eq!(rt; repeats_of(alloc, &reports, new)?, 0);
-    assert!(rt; tells(&reports, 0, -1, 2));
+    remove_one(rt, alloc, &mut reports, old, new)
+}
+
+fn remove_one(
+    rt: &impl Abort,
+    alloc: Global,
+    reports: &mut LiveReports,
+    old: &Records,
+    new: &Records,
+) -> Result<(), Fail>
+    requires counted { AreReportsOf reports.old old.now }
+    requires two { length old.now ≡ 2 }
+{
+    leave_second_alone(reports, old);
+    assert_eq!(rt; repeats_of(alloc, reports, new)?, 0);
+    assert!(rt; tells(reports, 0, -1, 2));
     Ok(())
 }
 

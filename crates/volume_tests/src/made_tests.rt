@@ -1,9 +1,9 @@
 // The records of a small volume, with an edit prepared, and of a trace that no volume holds, with
 // values worked by hand.
-ghost use Rattle.std.specs.Prelude.{◌≡◌, map, IfOk, IsTrue};
+ghost use Rattle.std.specs.Prelude.{◌≡◌, [], map, IfOk, IsTrue};
 ghost use Rattle.trace_record.specs.Facts.{facts_of};
 ghost use Rattle.trace_record.specs.Packed.{record_in};
-ghost use Rattle.volume_records.specs.OfVolume.{records_of};
+ghost use Rattle.volume_records.specs.OfVolume.{records_of, IsOfFile};
 
 use crate::files::three_traces;
 use crate::heads::plain_head;
@@ -13,6 +13,7 @@ use field_map::FieldMap;
 use frame_cut::{Limits, Reading};
 use record_table::{RecordList, Records};
 use std::alloc::Global;
+use std::process::Abort;
 use std::test::Fail;
 use trace_record::{PackedRecord, Record};
 use volume_records::{
@@ -96,18 +97,37 @@ fn small(alloc: Global) -> Result<(Overlay<PackedRecord>, FieldMap), Fail>
     let file = three_traces(alloc)?;
     let loading = Loading::from_bytes(alloc, file, Reading::as_written(), limits)?;
     let fields = FieldMap::standard(alloc, loading.head().extensions)?;
-    let (volume, _) = with_records(alloc, loading, &fields)?;
-    Ok((volume, fields))
+    recorded(alloc, loading, fields)
 }
 
-// Whether the records of all three traces stand there, and those of two are told, after a look at
-// each of the three for the former, one at each of the two for their length, and one for its
-// record.
-fn tells_two(
+// The volume with its records, and the map.
+fn recorded(
+    alloc: Global,
+    loading: Loading<PackedRecord>,
+    fields: FieldMap,
+) -> Result<(Overlay<PackedRecord>, FieldMap), Fail>
+    requires file { IsOfFile loading.volume }
+    requires none { loading.payloads ≡ [] }
+    requires fields { fields.extensions ≡ loading.volume.head.extensions }
+    ensures fields { IfOk result (λ made. made.1.extensions ≡ made.0.volume.head.extensions) }
+    ensures records { IfOk result (λ made. map facts_of (map record_in made.0.payloads) ≡
+        records_of made.0.volume made.1.pairs) }
+{
+    match with_records(alloc, loading, &fields) {
+        Ok((volume, _)) => Ok((volume, fields)),
+        Err(error) => Err(Fail::from(error)),
+    }
+}
+
+// Asserts that the records of all three traces stand there, and that those of two are told, after a
+// look at each of the three for the former, one at each of the two for their length, and one for
+// its record.
+fn expect_two(
+    rt: &impl Abort,
     alloc: Global,
     volume: &mut Overlay<PackedRecord>,
     fields: &FieldMap,
-) -> Result<bool, Fail>
+) -> Result<(), Fail>
     requires fields { fields.now.extensions ≡ volume.old.volume.head.extensions }
     requires records { IsTrue volume.old.agreed → map facts_of (map record_in volume.old.payloads) ≡
         records_of volume.old.volume fields.now.pairs }
@@ -118,7 +138,8 @@ fn tells_two(
         _ => false,
     };
     let held = Records::new(volume.payloads());
-    Ok(are_of_three(&held) && is_told && volume.looks() == 7)
+    assert!(rt; are_of_three(&held) && is_told && volume.looks() == 7);
+    Ok(())
 }
 
 // The record of a trace in memory at inline 40, with two samples, 65 and 1.
@@ -152,7 +173,21 @@ fn other_record(alloc: Global) -> Result<Record, Fail> {
 fn makes_the_records_of_a_volume(rt: HostRuntime) -> Result<(), Fail> {
     let alloc = rt.alloc();
     let (mut volume, fields) = small(alloc)?;
-    assert!(rt; tells_two(alloc, &mut volume, &fields)?);
+    expect_two(&rt, alloc, &mut volume, &fields)
+}
+
+// Asserts that the record of trace 2 with bytes laid over it is told, and that of its headers.
+fn expect_prepared(
+    rt: &impl Abort,
+    alloc: Global,
+    volume: &mut Overlay<PackedRecord>,
+    fields: &FieldMap,
+) -> Result<(), Fail>
+    requires { fields.now.extensions ≡ volume.old.volume.head.extensions }
+{
+    let other = other_record(alloc)?;
+    let (record, headers) = prepared(alloc, volume, fields, 2, 190, &[1, 4], &other)?;
+    assert!(rt; says(&record, 260, 1, 6) && says(&headers, 260, 2, 66));
     Ok(())
 }
 
@@ -160,8 +195,5 @@ fn makes_the_records_of_a_volume(rt: HostRuntime) -> Result<(), Fail> {
 fn makes_prepared_records(rt: HostRuntime) -> Result<(), Fail> {
     let alloc = rt.alloc();
     let (mut volume, fields) = small(alloc)?;
-    let other = other_record(alloc)?;
-    let (record, headers) = prepared(alloc, &mut volume, &fields, 2, 190, &[1, 4], &other)?;
-    assert!(rt; says(&record, 260, 1, 6) && says(&headers, 260, 2, 66));
-    Ok(())
+    expect_prepared(&rt, alloc, &mut volume, &fields)
 }

@@ -1,0 +1,75 @@
+use Rattle.std.proofs.Common.{◌≡◌, ◌∙◌, ap, sym, subst, codes, ℕ, Bool, List, Option}
+use Rattle.clap.specs.Words.{first_of, first_value, one_of, found_of}
+use Rattle.command_line.specs.CommandLine.{is_set, ReadsLimit, ReadsOrder, matched}
+use Rattle.command_line.proofs.RowLemmas.{rows_are, first_of-rows_of, one_of-rows_of}
+use Rattle.command_line.proofs.parsing.arguments.Goals as goal
+
+pub returns-in-Some-read_matches-clause-file : goal.returns-in-Some-read_matches-clause-file
+returns-in-Some-read_matches-clause-file c =
+    let rows = rows_are _ _ c.in_ok-matches.matches c.in_ok-command.ensures c.in_ok-matches.ensures.ok.2 in
+    ap (first_of (codes "FILE")) (sym rows) ∙ first_of-rows_of (found_of c.in_ok-matches.matches) (codes "FILE") ∙ c.in-Some-read_matches.ensures.file
+
+pub returns-in-Some-read_matches-clause-script : goal.returns-in-Some-read_matches-clause-script
+returns-in-Some-read_matches-clause-script c =
+    let rows = rows_are _ _ c.in_ok-matches.matches c.in_ok-command.ensures c.in_ok-matches.ensures.ok.2 in
+    ap (first_of (codes "script")) (sym rows) ∙ first_of-rows_of (found_of c.in_ok-matches.matches) (codes "script") ∙ c.in-Some-read_matches.ensures.script
+
+pub returns-in-Some-read_matches-clause-out : goal.returns-in-Some-read_matches-clause-out
+returns-in-Some-read_matches-clause-out c =
+    let rows = rows_are _ _ c.in_ok-matches.matches c.in_ok-command.ensures c.in_ok-matches.ensures.ok.2 in
+    ap (first_of (codes "out")) (sym rows) ∙ first_of-rows_of (found_of c.in_ok-matches.matches) (codes "out") ∙ c.in-Some-read_matches.ensures.out
+
+pub returns-in-Some-read_matches-clause-in_place : goal.returns-in-Some-read_matches-clause-in_place
+returns-in-Some-read_matches-clause-in_place c =
+    let rows = rows_are _ _ c.in_ok-matches.matches c.in_ok-command.ensures c.in_ok-matches.ensures.ok.2 in
+    let same = sym (ap (first_of (codes "in-place")) (sym rows) ∙ first_of-rows_of (found_of c.in_ok-matches.matches) (codes "in-place")) in
+    c.in-Some-read_matches.ensures.in_place ∙ ap is_set same
+
+pub returns-in-Some-read_matches-clause-on_disk : goal.returns-in-Some-read_matches-clause-on_disk
+returns-in-Some-read_matches-clause-on_disk c =
+    let rows = rows_are _ _ c.in_ok-matches.matches c.in_ok-command.ensures c.in_ok-matches.ensures.ok.2 in
+    let same = sym (ap (first_of (codes "on-disk")) (sym rows) ∙ first_of-rows_of (found_of c.in_ok-matches.matches) (codes "on-disk")) in
+    c.in-Some-read_matches.ensures.on_disk ∙ ap is_set same
+
+pub returns-in-Some-read_matches-clause-fixed : goal.returns-in-Some-read_matches-clause-fixed
+returns-in-Some-read_matches-clause-fixed c =
+    let rows = rows_are _ _ c.in_ok-matches.matches c.in_ok-command.ensures c.in_ok-matches.ensures.ok.2 in
+    let same = sym (ap (first_of (codes "fixed")) (sym rows) ∙ first_of-rows_of (found_of c.in_ok-matches.matches) (codes "fixed")) in
+    c.in-Some-read_matches.ensures.fixed ∙ ap is_set same
+
+pub returns-in-Some-read_matches-clause-opaque : goal.returns-in-Some-read_matches-clause-opaque
+returns-in-Some-read_matches-clause-opaque c =
+    let rows = rows_are _ _ c.in_ok-matches.matches c.in_ok-command.ensures c.in_ok-matches.ensures.ok.2 in
+    let same = sym (ap (first_of (codes "opaque-samples")) (sym rows) ∙ first_of-rows_of (found_of c.in_ok-matches.matches) (codes "opaque-samples")) in
+    c.in-Some-read_matches.ensures.opaque ∙ ap is_set same
+
+pub returns-in-Some-read_matches-clause-stop : goal.returns-in-Some-read_matches-clause-stop
+returns-in-Some-read_matches-clause-stop c =
+    let rows = rows_are _ _ c.in_ok-matches.matches c.in_ok-command.ensures c.in_ok-matches.ensures.ok.2 in
+    let same = sym (ap (first_of (codes "stop")) (sym rows) ∙ first_of-rows_of (found_of c.in_ok-matches.matches) (codes "stop")) in
+    c.in-Some-read_matches.ensures.stop ∙ ap is_set same
+
+pub returns-in-Some-read_matches-clause-limit : goal.returns-in-Some-read_matches-clause-limit
+returns-in-Some-read_matches-clause-limit c =
+    let rows = rows_are _ _ c.in_ok-matches.matches c.in_ok-command.ensures c.in_ok-matches.ensures.ok.2 in
+    let same = sym (ap (one_of (codes "max-bytes")) (sym rows) ∙ one_of-rows_of (found_of c.in_ok-matches.matches) (codes "max-bytes")) in
+    subst (λ (o : Option (List ℕ)). ReadsLimit o c.in-Some-read_matches.read.max_bytes) same c.in-Some-read_matches.ensures.limit
+
+pub returns-in-Some-read_matches-clause-session : goal.returns-in-Some-read_matches-clause-session
+returns-in-Some-read_matches-clause-session c =
+    let rows = rows_are _ _ c.in_ok-matches.matches c.in_ok-command.ensures c.in_ok-matches.ensures.ok.2 in
+    let same = sym (ap (first_of (codes "session")) (sym rows) ∙ first_of-rows_of (found_of c.in_ok-matches.matches) (codes "session")) in
+    c.in-Some-read_matches.ensures.session ∙ ap is_set same
+
+pub returns-in-Some-read_matches-clause-quiet : goal.returns-in-Some-read_matches-clause-quiet
+returns-in-Some-read_matches-clause-quiet c =
+    let rows = rows_are _ _ c.in_ok-matches.matches c.in_ok-command.ensures c.in_ok-matches.ensures.ok.2 in
+    let same = sym (ap (first_of (codes "quiet")) (sym rows) ∙ first_of-rows_of (found_of c.in_ok-matches.matches) (codes "quiet")) in
+    c.in-Some-read_matches.ensures.quiet ∙ ap is_set same
+
+pub returns-in-Some-read_matches-clause-order : goal.returns-in-Some-read_matches-clause-order
+returns-in-Some-read_matches-clause-order c =
+    let rows = rows_are _ _ c.in_ok-matches.matches c.in_ok-command.ensures c.in_ok-matches.ensures.ok.2 in
+    let same = sym (ap (first_of (codes "order")) (sym rows) ∙ first_of-rows_of (found_of c.in_ok-matches.matches) (codes "order")) in
+    subst (λ (o : Option (List ℕ)). ReadsOrder o c.in-Some-read_matches.read.order) same
+    (subst (ReadsOrder (first_value (found_of c.in_ok-matches.matches) (codes "order"))) (sym c.in-Some-read_matches.ensures.order) c.in-Some.ensures)

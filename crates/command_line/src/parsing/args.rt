@@ -1,0 +1,144 @@
+// The arguments of the command line, one by one.
+ghost use Rattle.std.specs.Prelude.{◌≡◌, false};
+ghost use Rattle.clap.specs.Words.{rule_of};
+ghost use Rattle.command_line.specs.CommandLine.{file_rule, script_rule, out_rule, in_place_rule, on_disk_rule, fixed_rule, opaque_rule, order_rule, limit_rule, stop_rule, session_rule, quiet_rule};
+
+use clap::builder::ValueParser;
+use clap::{Arg, ArgAction};
+use std::alloc::Global;
+
+// `FILE`: the file to load.
+pub fn file<'a>(alloc: Global) -> Arg<'a>
+    ensures rule { rule_of result ≡ file_rule }
+    ensures local { result.global ≡ false }
+{
+    Arg::new(alloc, "FILE").required(true).help(
+        "SEG-Y file, with integer samples or --opaque-samples; in memory, but for --on-disk",
+    )
+}
+
+// `--script S`: the script to run.
+pub fn script<'a>(alloc: Global) -> Arg<'a>
+    ensures rule { rule_of result ≡ script_rule }
+    ensures local { result.global ≡ false }
+{
+    Arg::new(alloc, "script")
+        .long("script")
+        .value_name("SCRIPT")
+        .help("edits and queries, one a line; - is standard input")
+}
+
+// `--out O`: where the file is saved after the script.
+pub fn out<'a>(alloc: Global) -> Arg<'a>
+    ensures rule { rule_of result ≡ out_rule }
+    ensures local { result.global ≡ false }
+{
+    Arg::new(alloc, "out").long("out").value_name("OUT").help(
+        "save the edited file to OUT, which may be FILE; without it nothing is saved",
+    )
+}
+
+// `--in-place`: the save goes to the file OUT itself.
+pub fn in_place<'a>(alloc: Global) -> Arg<'a>
+    ensures rule { rule_of result ≡ in_place_rule }
+    ensures local { result.global ≡ false }
+{
+    Arg::new(alloc, "in-place")
+        .long("in-place")
+        .action(ArgAction::SetTrue)
+        .help("write over OUT itself; a save that fails then leaves a part of the file")
+}
+
+// `--on-disk`: the bytes of the file stay on disk.
+pub fn on_disk<'a>(alloc: Global) -> Arg<'a>
+    ensures rule { rule_of result ≡ on_disk_rule }
+    ensures local { result.global ≡ false }
+{
+    Arg::new(alloc, "on-disk")
+        .long("on-disk")
+        .action(ArgAction::SetTrue)
+        .help(
+            "leave the bytes of FILE on disk, for one larger than memory; leave it alone meanwhile",
+        )
+}
+
+// `--fixed`: each trace has the binary header's number of samples, whatever bytes 3503-3504 say.
+pub fn fixed<'a>(alloc: Global) -> Arg<'a>
+    ensures rule { rule_of result ≡ fixed_rule }
+    ensures local { result.global ≡ false }
+{
+    Arg::new(alloc, "fixed")
+        .long("fixed")
+        .action(ArgAction::SetTrue)
+        .help("read each trace with the binary header's number of samples")
+}
+
+// `--opaque-samples`: formats whose samples have no value here are read too.
+pub fn opaque<'a>(alloc: Global) -> Arg<'a>
+    ensures rule { rule_of result ≡ opaque_rule }
+    ensures local { result.global ≡ false }
+{
+    Arg::new(alloc, "opaque-samples")
+        .long("opaque-samples")
+        .action(ArgAction::SetTrue)
+        .help("read formats 1, 4, 5 and 6 too, with samples that are bytes without a value")
+}
+
+// `--order big|little`: the order of bytes, where bytes 3297-3300 do not tell it.
+pub fn order<'a>(alloc: Global) -> Arg<'a>
+    ensures rule { rule_of result ≡ order_rule }
+    ensures local { result.global ≡ false }
+{
+    Arg::new(alloc, "order")
+        .long("order")
+        .value_name("big|little")
+        .help("the order of bytes, where bytes 3297-3300 do not tell it [default: big]")
+}
+
+// `--max-bytes N`: the most bytes that the file may have.
+pub fn limit<'a>(alloc: Global) -> Arg<'a>
+    ensures rule { rule_of result ≡ limit_rule }
+    ensures local { result.global ≡ false }
+{
+    Arg::new(alloc, "max-bytes")
+        .long("max-bytes")
+        .value_parser(ValueParser::unsigned(1, 1099511627776))
+        .value_name("N")
+        .help(
+            "refuse files above N bytes, at most 1099511627776 \
+             [default: 4294967296; with --on-disk 1099511627776]",
+        )
+}
+
+// `--stop`: the first refused line ends the run.
+pub fn stop<'a>(alloc: Global) -> Arg<'a>
+    ensures rule { rule_of result ≡ stop_rule }
+    ensures local { result.global ≡ false }
+{
+    Arg::new(alloc, "stop")
+        .long("stop")
+        .action(ArgAction::SetTrue)
+        .help("end the run at the first refused line, and save nothing")
+}
+
+// `--session`: the lines of standard input are answered one by one.
+pub fn session<'a>(alloc: Global) -> Arg<'a>
+    ensures rule { rule_of result ≡ session_rule }
+    ensures local { result.global ≡ false }
+{
+    Arg::new(alloc, "session")
+        .long("session")
+        .action(ArgAction::SetTrue)
+        .help("in place of a script, answer the lines of standard input one by one")
+}
+
+// `--quiet`: standard error is not told of refused lines and refused files.
+pub fn quiet<'a>(alloc: Global) -> Arg<'a>
+    ensures rule { rule_of result ≡ quiet_rule }
+    ensures local { result.global ≡ false }
+{
+    Arg::new(alloc, "quiet")
+        .long("quiet")
+        .action(ArgAction::SetTrue)
+        .help("leave out the places and hints that standard error has for refused lines")
+}

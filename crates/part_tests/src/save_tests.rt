@@ -1,0 +1,80 @@
+// A save over a folder in memory, of which each call fails in turn.
+use safe_save::{FakeFolder, Save, SaveError, Step, save_all};
+use std::io::BufWriter;
+use std::process::Abort;
+use std::test::Fail;
+
+// How many calls a save of nine bytes makes: one to make the file, five writes of two bytes at
+// most (the buffer holds four), the mode, two syncs and the rename.
+const CALLS: u32 = 10;
+
+#[test]
+fn each_call_fails_in_turn(rt: HostRuntime) -> Result<(), Fail> {
+    for last in [false, true] {
+        for nth in 0..CALLS + 2 {
+            let to = if last { u32::MAX } else { nth + 1 };
+            let folder = FakeFolder::new(rt.alloc(), nth, to, 2);
+            let writer = BufWriter::with_capacity(rt.alloc(), 4, Save::new(folder))?;
+            let (folder, saved) = save_all(writer, b"nine byte", Some(0o640));
+            check(&rt, nth, last, &folder, saved);
+        }
+    }
+    Ok(())
+}
+
+// What is there after a save whose n-th call failed, and maybe all later ones.
+fn check(rt: &impl Abort, nth: u32, last: bool, folder: &FakeFolder, saved: Result<(), SaveError>) {
+    let is_new = match &folder.out {
+        Some(file) => {
+            assert!(rt;
+                file.bytes.as_slice() == b"nine byte".as_slice(),
+                "at {nth}"
+            );
+            assert!(rt; file.mode == Some(0o640) && file.synced, "at {nth}");
+            true
+        }
+        None => false,
+    };
+    let is_left = folder.beside.is_some();
+    match saved {
+        Ok(()) => assert!(rt; nth >= CALLS && is_new && !is_left, "at {nth}"),
+        Err(SaveError::NotSettled(_)) => {
+            assert!(rt; nth == CALLS - 1 && is_new && !is_left, "at {nth}");
+        }
+        Err(SaveError::NotSaved(fault)) => {
+            let step = match nth {
+                0 => Step::Create,
+                1..=5 => Step::Write,
+                6 => Step::SetMode,
+                7 => Step::Sync,
+                _ => Step::Rename,
+            };
+            assert!(rt; fault.step == step && !is_new, "at {nth}");
+            assert!(rt; is_left == (last && nth > 0), "at {nth}");
+            assert!(rt; fault.left == (last && nth > 0) || nth == 0, "at {nth}");
+        }
+    }
+}
+
+#[test]
+fn a_save_that_is_given_up_leaves_nothing(rt: HostRuntime) -> Result<(), Fail> {
+    use std::io::Write;
+    let mut save = Save::new(FakeFolder::new(rt.alloc(), 9, 9, 2));
+    assert_eq!(rt; save.write(b"abc")?, 2);
+    assert_eq!(rt; save.taken(), 2);
+    let (folder, removed) = save.discard();
+    assert!(rt; removed.is_ok() && folder.beside.is_none() && folder.out.is_none());
+    Ok(())
+}
+
+#[test]
+fn an_empty_save_is_an_empty_file(rt: HostRuntime) -> Result<(), Fail> {
+    let (folder, saved) = Save::new(FakeFolder::new(rt.alloc(), 9, 9, 2)).finish(None);
+    assert!(rt; saved.is_ok());
+    assert!(rt;
+        folder
+            .out
+            .is_some_and(|file| file.bytes.is_empty() && file.mode.is_none())
+    );
+    Ok(())
+}

@@ -1,0 +1,53 @@
+-- How a run ends for the one who called the program.
+use Rattle.std.specs.Prelude.{◌≡◌, ℕ, Bool, true, false, nat_lt, is_some, if◌then◌else◌}
+use Rattle.script_text.specs.declared.run_end.RunEnd.{RunEnd}
+use Rattle.script_text.specs.declared.run_end.RunEnd.TheVariants.{Done, Stopped, Load, Script, Answers, Save}
+use Rattle.run_ending.specs.declared.ending.SaveEnd.{SaveEnd}
+use Rattle.run_ending.specs.declared.ending.SaveEnd.TheVariants as s
+use Rattle.run_ending.specs.declared.ending.Message.{Message}
+use Rattle.run_ending.specs.declared.ending.Message.TheVariants as t
+
+-- the status where all lines were run and what was to be saved is saved: whether any was refused
+abbrev pub status_of_lines : ℕ → ℕ
+status_of_lines refused = if nat_lt 0 refused then 1 else 0
+
+-- the exit status
+abbrev pub exit_status : RunEnd → SaveEnd → ℕ
+exit_status (Done refused) s.NotBegun = status_of_lines refused
+exit_status (Done refused) s.Saved = status_of_lines refused
+exit_status (Done refused) s.Failed = 4
+exit_status (Done refused) s.Unsettled = 4
+exit_status (Done refused) s.Stale = 4
+exit_status (Done refused) s.Doubtful = 4
+exit_status (Stopped line) ended = 1
+exit_status (Load fault) ended = 3
+exit_status (Script fault) ended = 4
+exit_status (Answers written) ended = 4
+exit_status (Save fault) ended = 4
+
+-- what standard error says of a save
+abbrev pub told_of_save : SaveEnd → Message
+told_of_save s.NotBegun = t.Nothing
+told_of_save s.Saved = t.Nothing
+told_of_save s.Failed = t.SaveFailed
+told_of_save s.Unsettled = t.SaveUnsettled
+told_of_save s.Stale = t.FileChanged
+told_of_save s.Doubtful = t.SaveDoubtful
+
+-- what standard error says of a save that a failed read of FILE ended, or a failed write
+abbrev pub told_of_failed : Bool → SaveEnd → Message
+told_of_failed true ended = t.FileUnread
+told_of_failed false ended = told_of_save ended
+
+-- what standard error says
+abbrev pub told : RunEnd → SaveEnd → Message
+told (Done refused) ended = told_of_save ended
+told (Stopped line) ended = t.Nothing
+told (Load fault) ended = t.Nothing
+told (Script fault) ended = t.Nothing
+told (Answers written) ended = t.AnswersFailed
+told (Save fault) ended = told_of_failed (is_some fault.read) ended
+
+-- the exit status is that of some end of the save
+abbrev pub IsExitStatus : RunEnd → ℕ → Type 0
+IsExitStatus end status = (ended : SaveEnd) × (status ≡ exit_status end ended)

@@ -1,0 +1,87 @@
+// How a run ends for the one who called the program: the exit status, and what standard error says.
+ghost use Rattle.std.specs.Prelude.{◌≡◌};
+ghost use Rattle.run_ending.specs.Ending.{exit_status, told, told_of_failed, told_of_save};
+
+use script_text::RunEnd;
+
+/// How the save ended.
+#[derive(Clone, Copy, Debug, PartialEq, Eq)]
+pub enum SaveEnd {
+    /// None was begun.
+    NotBegun,
+    Saved,
+    /// OUT is as it was.
+    Failed,
+    /// OUT is the new file, but a power cut may undo it.
+    Unsettled,
+    /// FILE was changed by another program, and OUT is as it was.
+    Stale,
+    /// FILE, whose bytes stay on disk, was changed by another program while they were copied to OUT
+    /// itself.
+    Doubtful,
+}
+
+/// What standard error says.
+#[derive(Clone, Copy, Debug, PartialEq, Eq)]
+pub enum Message {
+    Nothing,
+    AnswersFailed,
+    SaveFailed,
+    /// FILE, whose bytes stay on disk, could not be read again for the save.
+    FileUnread,
+    SaveUnsettled,
+    FileChanged,
+    SaveDoubtful,
+}
+
+/// The exit status.
+pub fn exit_status(end: RunEnd, save: SaveEnd) -> u8
+    ensures { result ≡ exit_status end save }
+{
+    match end {
+        RunEnd::Done { refused } => match save {
+            SaveEnd::NotBegun | SaveEnd::Saved => u8::from(refused > 0),
+            SaveEnd::Failed | SaveEnd::Unsettled | SaveEnd::Stale | SaveEnd::Doubtful => 4,
+        },
+        RunEnd::Stopped { .. } => 1,
+        RunEnd::Load(_) => 3,
+        RunEnd::Script(_) => 4,
+        RunEnd::Answers { .. } => 4,
+        RunEnd::Save(_) => 4,
+    }
+}
+
+/// What standard error says.
+pub fn told(end: RunEnd, save: SaveEnd) -> Message
+    ensures { result ≡ told end save }
+{
+    match end {
+        RunEnd::Done { .. } => told_of_save(save),
+        RunEnd::Save(fault) => told_of_failed(fault.read.is_some(), save),
+        RunEnd::Stopped { .. } | RunEnd::Load(_) | RunEnd::Script(_) => Message::Nothing,
+        RunEnd::Answers { .. } => Message::AnswersFailed,
+    }
+}
+
+// What standard error says of a save that a failed read of FILE ended, or a failed write.
+fn told_of_failed(is_unread: bool, save: SaveEnd) -> Message
+    ensures { result ≡ told_of_failed is_unread save }
+{
+    if is_unread {
+        Message::FileUnread
+    } else {
+        told_of_save(save)
+    }
+}
+
+fn told_of_save(save: SaveEnd) -> Message
+    ensures { result ≡ told_of_save save }
+{
+    match save {
+        SaveEnd::NotBegun | SaveEnd::Saved => Message::Nothing,
+        SaveEnd::Failed => Message::SaveFailed,
+        SaveEnd::Unsettled => Message::SaveUnsettled,
+        SaveEnd::Stale => Message::FileChanged,
+        SaveEnd::Doubtful => Message::SaveDoubtful,
+    }
+}

@@ -1,0 +1,99 @@
+// A save over OUT itself.
+ghost use Rattle.std.specs.Prelude.{◌≡◌, None, option_map};
+ghost use Rattle.std.specs.Io.{WritesAtMost};
+ghost use Rattle.run_ending.specs.Passing.{PassesOn};
+
+use safe_save::{BoundedFile, Original, size_limit};
+use std::fs::{OpenFile, OpenOptions};
+use std::io::{Error, ErrorKind, Result, Write};
+use std::os::unix::fs::OpenOptionsExt;
+use std::rt::Files;
+
+// Of a new file: what the process leaves to others is the system's to say.
+const NEW_MODE: u32 = 0o666;
+
+/// A pipe, a device, or a file that is to be written in place. It is opened at the first write, so
+/// that a run which saves nothing leaves it alone, and nothing is made beside it.
+#[derive(Drop)]
+pub struct InPlace<'a, R: Files> {
+    rt: &'a R,
+    path: &'a str,
+    file: Option<BoundedFile<R::File>>,
+    original: Option<Original<'a>>,
+    // A pipe and a device have no limit, and nothing to sync.
+    is_file: bool,
+    is_stale: bool,
+}
+
+impl<'a, R: Files + AllocGlobal> InPlace<'a, R> {
+    /// A save to this path. `original` is not to change until it is opened.
+    pub fn new(
+        rt: &'a R,
+        path: &'a str,
+        original: Option<Original<'a>>,
+        is_file: bool,
+    ) -> InPlace<'a, R> {
+        InPlace {
+            rt,
+            path,
+            file: None,
+            original,
+            is_file,
+            is_stale: false,
+        }
+    }
+
+    /// Whether the save was refused because the original had changed.
+    pub fn is_stale(&self) -> bool {
+        self.is_stale
+    }
+
+    /// Opens the file, and empties it.
+    pub fn create(&mut self) -> Result<()> {
+        let mut mode = NEW_MODE;
+        if let Some(original) = &self.original {
+            if original.is_changed(self.rt) {
+                self.is_stale = true;
+                return Err(Error::new(ErrorKind::Other, "the original was changed"));
+            }
+            mode = original.mode();
+        }
+        let mut how = OpenOptions::new();
+        how.write(true).create(true).truncate(true).mode(mode);
+        let file = how.open(self.rt, self.path)?;
+        let limit = if self.is_file {
+            size_limit(self.rt)
+        } else {
+            u64::MAX
+        };
+        self.file = Some(BoundedFile::new(file, limit));
+        Ok(())
+    }
+
+    /// Writes to the open file.
+    pub fn write(&mut self, bytes: &[u8]) -> Result<usize>
+        ensures bound { WritesAtMost result bytes.now }
+    {
+        put(&mut self.file, bytes)
+    }
+
+    /// After it, the file's bytes outlive a power cut. It is closed; what a close could tell of its
+    /// bytes, the sync has told.
+    pub fn sync(&mut self) -> Result<()> {
+        match self.file.take() {
+            Some(file) if self.is_file => file.into_inner().sync_all(),
+            _ => Ok(()),
+        }
+    }
+}
+
+// One write to the file that is open: it takes the first bytes, in order and once.
+fn put<W: Write>(file: &mut Option<W>, bytes: &[u8]) -> Result<usize>
+    ensures bound { WritesAtMost result bytes.now }
+    ensures bytes { PassesOn W.contents file.old file.new result bytes.now }
+{
+    match file {
+        Some(file) => file.write(bytes),
+        None => Err(Error::from(ErrorKind::InvalidInput)),
+    }
+}

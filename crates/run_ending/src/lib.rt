@@ -1,0 +1,22 @@
+//! The end of a run for whoever called the program: where the save goes, how it ends, the exit
+//! status, and what standard error says.
+//!
+//! [`misuse`] and [`target_of`] judge, before anything is read, where the command line lets a save
+//! go; [`finish`] ends the save, tells what there is to tell, and gives the exit status, which is a
+//! function of how the run and the save ended. A save goes to a new file beside OUT, or to OUT
+//! itself where that is asked for.
+#![tactic(auto)]
+
+mod ending;
+mod finishing;
+mod in_place;
+mod refused;
+mod target;
+mod where_to;
+
+pub use crate::ending::{Message, SaveEnd, exit_status, told};
+pub use crate::finishing::{finish, refused_out};
+pub use crate::in_place::InPlace;
+pub use crate::refused::{tell_how_to_begin, tell_refused};
+pub use crate::target::Target;
+pub use crate::where_to::{OutRefusal, misuse, target_of};

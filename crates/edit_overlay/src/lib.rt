@@ -16,9 +16,10 @@
 //! were read.
 //!
 //! `load` takes memory for the file's bytes, and like `from_bytes` for a slot for each trace;
-//! `push` for the trace's place in the order; `put` and `put_each`, and what prepares them, for the
-//! runs of the traces that they change; `insert` for one slot and for room in the order, `move_to`
-//! and `prepare_move` for room in the order. Each of them may be refused for want of memory, and
+//! `push` for the trace's place in the order, and for the extent of a trace of 2^32 bytes or more;
+//! `put` and `put_each`, and what prepares them, for the runs of the traces that they change;
+//! `insert` for one slot, for what holds its bytes, and for room in the order, `move_to` and
+//! `prepare_move` for room in the order. Each of them may be refused for want of memory, and
 //! then nothing is changed. The calls of a [`Passing`] take memory for the longest part of the file
 //! that is shown at once, and for the table of its traces. No other call takes any.
 //!

@@ -510,19 +510,17 @@ impl<T: Copy> Overlay<T> {
 
     /// Makes the bytes the whole of trace p, counted from 1. The caller shows that their headers
     /// give them their length, and that there are fewer than 2^64 bytes then. Takes no memory.
-    pub fn replace(&mut self, alloc: Global, p: u32, bytes: Vec<u8>, payload: T)
+    pub fn replace(&mut self, p: u32, bytes: Box<Vec<u8>>, payload: T)
         requires first { 1 ≤ p }
         requires last { p ≤ count_of self.old.volume }
-        requires whole { IsTrace self.old.volume.head bytes.items }
-        requires small { length (bytes_of self.old.volume) + length bytes.items < 2 ^ 64 }
-        ensures { self.new ≡ with_table self.old (with_trace self.old.volume p bytes.items)
+        requires whole { IsTrace self.old.volume.head bytes.value.items }
+        requires small { length (bytes_of self.old.volume) + length bytes.value.items < 2 ^ 64 }
+        ensures { self.new ≡ with_table self.old (with_trace self.old.volume p bytes.value.items)
             (slice_set self.old.payloads (p - 1) payload) }
     {
         let gone = self.laid.store.length_of(p);
         let added = bytes.len() as u64;
-        self.laid
-            .store
-            .replace(alloc, p, Base::Added(bytes), payload);
+        self.laid.store.replace(p, bytes, payload);
         self.laid.prepared = None;
         self.length = self.length - gone + added;
     }

@@ -210,7 +210,8 @@ impl LiveVolume {
     }
 
     // The value into the place of trace p, or the first refusal. Where each trace has the place,
-    // and no value there gives it another length, only E04 may come, and no look is needed for it.
+    // and no value there gives it another length, of the value only E04 may come, and no look is
+    // needed for it.
     fn set(&mut self, alloc: Global, p: u32, place: Place, value: i128) -> Result<(), Refusal>
         ensures step { IsTrue self.new.agreed →
             Step self.old.state (edits.Set p (fields.Place place) value) result self.new.state }

@@ -165,8 +165,8 @@ impl LiveVolume {
         Ok(None)
     }
 
-    // The same where no look is needed: only E04 may come, and all values fit where the first and
-    // the last do.
+    // The same where no look is needed: of the values only E04 may come, and all of them fit where
+    // the first and the last do.
     fn unseen_refusal(
         &self,
         a: u32,

@@ -146,7 +146,8 @@ impl LiveVolume {
         }
     }
 
-    // Makes the bytes, with this record, the whole of trace p.
+    // Makes the bytes, with this record, the whole of trace p. Takes memory; refused for want of it
+    // alone.
     pub(crate) fn replace(
         &mut self,
         alloc: Global,
@@ -169,14 +170,14 @@ impl LiveVolume {
         ensures looks { self.new.looks ≡ self.old.looks }
     {
         let place = p as usize - 1;
+        let bytes = boxed(alloc, bytes)?;
         let Ok(()) = self
             .reports
             .exchange(&Records::new(self.overlay.payloads()), place, trace)
         else {
             return Err(Refusal::OutOfMemory);
         };
-        self.overlay
-            .replace(alloc, p, bytes, PackedRecord::of(*trace));
+        self.overlay.replace(p, bytes, PackedRecord::of(*trace));
         Ok(())
     }
 
@@ -357,5 +358,16 @@ fn exchange_each(
             overlay.discard();
             Err(Refusal::OutOfMemory)
         }
+    }
+}
+
+// The bytes in a box, as the table of traces holds them. Takes memory.
+fn boxed(alloc: Global, bytes: Vec<u8>) -> Result<Box<Vec<u8>>, Refusal>
+    ensures bytes { IfOk result (λ boxed. boxed.value ≡ bytes) }
+    ensures err { IfErr result (λ refusal. refusal ≡ no_memory) }
+{
+    match Box::new(alloc, bytes) {
+        Ok(boxed) => Ok(boxed),
+        Err(_) => Err(Refusal::OutOfMemory),
     }
 }

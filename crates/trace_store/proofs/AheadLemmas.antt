@@ -28,9 +28,9 @@ module _ {T : Type 0} where
 
 -- ---- the traces, one by one
 
-pub length-with : (bases ts : List (List ℕ)) (place : ℕ) (lists : List (Vec Run Global)) → length (traces_with bases ts place lists) ≡ length ts
+pub length-with : (bases ts : List (List ℕ)) (place : ℕ) (lists : List (List Run)) → length (traces_with bases ts place lists) ≡ length ts
 length-with bases ts place [] = refl
-length-with bases ts place (runs ∷ lists) = length-with bases (slice_set ts place (bytes_with_runs (slice_index_or bases place []) runs.items)) (place + 1) lists ∙ length-set ts place (bytes_with_runs (slice_index_or bases place []) runs.items)
+length-with bases ts place (runs ∷ lists) = length-with bases (slice_set ts place (bytes_with_runs (slice_index_or bases place []) runs)) (place + 1) lists ∙ length-set ts place (bytes_with_runs (slice_index_or bases place []) runs)
 
 module _ {T : Type 0} where
   pub length-ahead : (s : TraceStore T) (prepared : Option Prepared) → IsReadyIfSome s prepared → length (traces_ahead s prepared) ≡ length (traces_of s)
@@ -39,52 +39,52 @@ module _ {T : Type 0} where
   length-ahead s (Some (Runs runs)) ready = length-with (bases_of s) (traces_of s) runs.place runs.lists.items
   length-ahead s (Some (Move m)) ready = length-moved (traces_of s) m.from m.to (record { from_first = ready.fit.from_first; from_last = ready.fit.from_last; to_first = ready.fit.to_first; to_last = ready.fit.to_last })
 
-pub in_front : (bases ts : List (List ℕ)) (place j : ℕ) (lists : List (Vec Run Global)) → j < place → slice_index_or (traces_with bases ts place lists) j [] ≡ slice_index_or ts j []
+pub in_front : (bases ts : List (List ℕ)) (place j : ℕ) (lists : List (List Run)) → j < place → slice_index_or (traces_with bases ts place lists) j [] ≡ slice_index_or ts j []
 in_front bases ts place j [] h = refl
 in_front bases ts place j (runs ∷ lists) h =
-    let new : List ℕ = bytes_with_runs (slice_index_or bases place []) runs.items in
+    let new : List ℕ = bytes_with_runs (slice_index_or bases place []) runs in
     in_front bases (slice_set ts place new) (place + 1) j lists (omega (arith, h)) ∙ get_or-set_other ts place j new [] (λ same. omega (arith, same, h))
 
-pub behind : (bases ts : List (List ℕ)) (place j : ℕ) (lists : List (Vec Run Global)) → place + length lists ≤ j → slice_index_or (traces_with bases ts place lists) j [] ≡ slice_index_or ts j []
+pub behind : (bases ts : List (List ℕ)) (place j : ℕ) (lists : List (List Run)) → place + length lists ≤ j → slice_index_or (traces_with bases ts place lists) j [] ≡ slice_index_or ts j []
 behind bases ts place j [] h = refl
 behind bases ts place j (runs ∷ lists) h =
-    let new : List ℕ = bytes_with_runs (slice_index_or bases place []) runs.items in
+    let new : List ℕ = bytes_with_runs (slice_index_or bases place []) runs in
     behind bases (slice_set ts place new) (place + 1) j lists (omega (arith, h)) ∙ get_or-set_other ts place j new [] (λ same. omega (arith, same, h))
 
 -- one of the lists
-pub runs-at : (standing : Standing) (h : Head) (bases : List (List ℕ)) (place j k : ℕ) (lists : List (Vec Run Global)) (runs : Vec Run Global) → AreRunsFrom standing h bases place lists → k < length lists → get_or lists k runs ≡ runs → j ≡ place + k → AreRunsOf standing h bases j runs.items
+pub runs-at : (standing : Standing) (h : Head) (bases : List (List ℕ)) (place j k : ℕ) (lists : List (List Run)) (runs : List Run) → AreRunsFrom standing h bases place lists → k < length lists → get_or lists k runs ≡ runs → j ≡ place + k → AreRunsOf standing h bases j runs
 runs-at standing h bases place j k [] runs all within is e = absurd (omega (arith, within))
 runs-at standing h bases place j zero (first ∷ lists) runs all within is e =
     let here : j ≡ place = omega (arith, e) in
-    subst (λ (v : Vec Run Global). AreRunsOf standing h bases j v.items) is (subst (λ (q : ℕ). AreRunsOf standing h bases q first.items) (sym here) all.0)
+    subst (λ (v : List Run). AreRunsOf standing h bases j v) is (subst (λ (q : ℕ). AreRunsOf standing h bases q first) (sym here) all.0)
 runs-at standing h bases place j (suc k) (first ∷ lists) runs all within is e = runs-at standing h bases (place + 1) j k lists runs all.1 (omega (arith, within)) is (omega (arith, e))
 
-pub with-at : (standing : Standing) (h : Head) (bases ts : List (List ℕ)) (place j k : ℕ) (lists : List (Vec Run Global)) (runs : Vec Run Global) → AreRunsFrom standing h bases place lists → length bases ≡ length ts
-    → k < length lists → get_or lists k runs ≡ runs → j ≡ place + k → slice_index_or (traces_with bases ts place lists) j [] ≡ bytes_with_runs (slice_index_or bases j []) runs.items
+pub with-at : (standing : Standing) (h : Head) (bases ts : List (List ℕ)) (place j k : ℕ) (lists : List (List Run)) (runs : List Run) → AreRunsFrom standing h bases place lists → length bases ≡ length ts
+    → k < length lists → get_or lists k runs ≡ runs → j ≡ place + k → slice_index_or (traces_with bases ts place lists) j [] ≡ bytes_with_runs (slice_index_or bases j []) runs
 with-at standing h bases ts place j k [] runs all same within is e = absurd (omega (arith, within))
 with-at standing h bases ts place j zero (first ∷ lists) runs all same within is e =
     let here : j ≡ place = omega (arith, e) in
-    let new : List ℕ = bytes_with_runs (slice_index_or bases place []) first.items in
+    let new : List ℕ = bytes_with_runs (slice_index_or bases place []) first in
     let there : place < length ts = omega (arith, same, all.0.there) in
     ap (λ (q : ℕ). slice_index_or (traces_with bases (slice_set ts place new) (place + 1) lists) q []) here
     ∙ (in_front bases (slice_set ts place new) (place + 1) place lists (omega arith)
     ∙ (get_or-set_same ts place new [] there
-    ∙ (ap (λ (v : Vec Run Global). bytes_with_runs (slice_index_or bases place []) v.items) is
-    ∙ ap (λ (q : ℕ). bytes_with_runs (slice_index_or bases q []) runs.items) (sym here))))
+    ∙ (ap (λ (v : List Run). bytes_with_runs (slice_index_or bases place []) v) is
+    ∙ ap (λ (q : ℕ). bytes_with_runs (slice_index_or bases q []) runs) (sym here))))
 with-at standing h bases ts place j (suc k) (first ∷ lists) runs all same within is e =
-    let new : List ℕ = bytes_with_runs (slice_index_or bases place []) first.items in
+    let new : List ℕ = bytes_with_runs (slice_index_or bases place []) first in
     with-at standing h bases (slice_set ts place new) (place + 1) j k lists runs all.1 (omega (arith, same, length-set ts place new)) (omega (arith, within)) is (omega (arith, e))
 
 -- ---- runs for one trace
 
 module _ {T : Type 0} where
-  pub ready_one : (s : TraceStore T) (place at : ℕ) (bytes : List ℕ) (runs : Vec Run Global) → place < length (traces_of s)
+  pub ready_one : (s : TraceStore T) (place at : ℕ) (bytes : List ℕ) (runs : List Run) → place < length (traces_of s)
       → at + length bytes ≤ length (slice_index_or (traces_of s) place []) → (IsSure s.loaded.standing → IsTrace s.head (splice (slice_index_or (traces_of s) place []) at (length bytes) bytes))
-      → ArePutRuns (slice_index_or (bases_of s) place []) (slice_index_or (traces_of s) place []) at bytes runs.items → IsReady s (Put (record { place = place; runs = runs }))
+      → ArePutRuns (slice_index_or (bases_of s) place []) (slice_index_or (traces_of s) place []) at bytes runs → IsReady s (Put (record { place = place; runs = runs }))
   ready_one s place at bytes runs there inside whole put =
       let ts : List (List ℕ) = traces_of s in
       let t : List ℕ = slice_index_or ts place [] in
-      let one : AreRunsOf s.loaded.standing s.head (bases_of s) place runs.items = record { there = omega (arith, there, length-bases s); fit = put.fit; whole = λ sure. rw put.shows (whole sure) } in
+      let one : AreRunsOf s.loaded.standing s.head (bases_of s) place runs = record { there = omega (arith, there, length-bases s); fit = put.fit; whole = λ sure. rw put.shows (whole sure) } in
       let then_is : traces_with (bases_of s) ts place (runs ∷ []) ≡ slice_set ts place (splice t at (length bytes) bytes) = ap (λ (x : List ℕ). slice_set ts place x) put.shows in
       record {
         fit = (one, tt);
@@ -93,26 +93,26 @@ module _ {T : Type 0} where
 
 -- ---- runs for traces that follow one another
 
-each-runs : (standing : Standing) (h : Head) (bases traces : List (List ℕ)) (place at size : ℕ) (bytes : List ℕ) (k : ℕ) (lists : List (Vec Run Global)) → ArePutEach bases traces place at size bytes k lists → 0 < size
+each-runs : (standing : Standing) (h : Head) (bases traces : List (List ℕ)) (place at size : ℕ) (bytes : List ℕ) (k : ℕ) (lists : List (List Run)) → ArePutEach bases traces place at size bytes k lists → 0 < size
     → k + length lists ≡ length bytes / size → place + length bytes / size ≤ length bases
     → (IsSure standing → (i : ℕ) → i < length bytes / size → IsTrace h (splice (slice_index_or traces (place + i) []) at size (part_of bytes size i)))
     → AreRunsFrom standing h bases (place + k) lists
 each-runs standing h bases traces place at size bytes k [] puts some count room whole = tt
 each-runs standing h bases traces place at size bytes k (runs ∷ lists) puts some count room whole =
     let within : k < length bytes / size = omega (arith, count) in
-    let shown = laid-next bases traces bases place at size bytes k (place + k) runs.items refl refl some within puts.0 in
+    let shown = laid-next bases traces bases place at size bytes k (place + k) runs refl refl some within puts.0 in
     let next : place + (k + 1) ≡ place + k + 1 = omega arith in
-    let one : AreRunsOf standing h bases (place + k) runs.items = record { there = omega (arith, within, room); fit = puts.0.fit; whole = λ sure. rw shown (whole sure k within) } in
+    let one : AreRunsOf standing h bases (place + k) runs = record { there = omega (arith, within, room); fit = puts.0.fit; whole = λ sure. rw shown (whole sure k within) } in
     (one, subst (λ (q : ℕ). AreRunsFrom standing h bases q lists) next (each-runs standing h bases traces place at size bytes (k + 1) lists puts.1 some (omega (arith, count)) room whole))
 
-each-traces : (bases old new : List (List ℕ)) (place at size : ℕ) (bytes : List ℕ) (k : ℕ) (lists : List (Vec Run Global)) → ArePutSoFar old new place at size bytes k → ArePutEach bases old place at size bytes k lists → 0 < size
+each-traces : (bases old new : List (List ℕ)) (place at size : ℕ) (bytes : List ℕ) (k : ℕ) (lists : List (List Run)) → ArePutSoFar old new place at size bytes k → ArePutEach bases old place at size bytes k lists → 0 < size
     → k + length lists ≡ length bytes / size → length bytes % size ≡ 0 → place + length bytes / size ≤ length old
     → traces_with bases new (place + k) lists ≡ put_each_at old place at size bytes
 each-traces bases old new place at size bytes k [] so_far puts some count exact room = so_far_all old new place at size bytes k so_far (omega (arith, count)) exact
 each-traces bases old new place at size bytes k (runs ∷ lists) so_far puts some count exact room =
     let within : k < length bytes / size = omega (arith, count) in
-    let shown : List ℕ = bytes_with_runs (slice_index_or bases (place + k) []) runs.items in
-    let laid = laid-next bases old bases place at size bytes k (place + k) runs.items refl refl some within puts.0 in
+    let shown : List ℕ = bytes_with_runs (slice_index_or bases (place + k) []) runs in
+    let laid = laid-next bases old bases place at size bytes k (place + k) runs refl refl some within puts.0 in
     let more = so_far_more old new (slice_set new (place + k) shown) place at size bytes k (place + k) shown so_far some within (omega (arith, within, room)) refl refl laid in
     let next : place + k + 1 ≡ place + (k + 1) = omega arith in
     ap (λ (q : ℕ). traces_with bases (slice_set new (place + k) shown) q lists) next ∙ each-traces bases old (slice_set new (place + k) shown) place at size bytes (k + 1) lists more puts.1 some (omega (arith, count)) exact room
@@ -127,7 +127,7 @@ none_yet old place at size bytes =
       left = ap (λ (n : ℕ). put_each_at old (place + 0) at size (drop n bytes)) none ∙ ap (λ (q : ℕ). put_each_at old q at size bytes) here;
     }
 
-module _ {T : Type 0} (s : TraceStore T) (place at size : ℕ) (bytes : List ℕ) (lists : Vec (Vec Run Global) Global) (some : 0 < size) (count : length lists.items ≡ length bytes / size) (room : place + length bytes / size ≤ length (traces_of s))
+module _ {T : Type 0} (s : TraceStore T) (place at size : ℕ) (bytes : List ℕ) (lists : Vec (List Run) Global) (some : 0 < size) (count : length lists.items ≡ length bytes / size) (room : place + length bytes / size ≤ length (traces_of s))
     (puts : ArePutEach (bases_of s) (traces_of s) place at size bytes 0 lists.items) where
   pub then_each : length bytes % size ≡ 0 → traces_then s (Runs (record { place = place; lists = lists })) ≡ put_each_at (traces_of s) place at size bytes
   then_each exact =
@@ -158,9 +158,9 @@ module _ {T : Type 0} where
 run_falls : (old new : Standing) (h : Head) (bases : List (List ℕ)) (place : ℕ) (runs : List Run) → Falls old new → AreRunsOf old h bases place runs → AreRunsOf new h bases place runs
 run_falls old new h bases place runs falls one = record { there = one.there; fit = one.fit; whole = λ sure. one.whole (sure_before old new falls sure) }
 
-pub runs_fall : (old new : Standing) (h : Head) (bases : List (List ℕ)) (place : ℕ) (lists : List (Vec Run Global)) → Falls old new → AreRunsFrom old h bases place lists → AreRunsFrom new h bases place lists
+pub runs_fall : (old new : Standing) (h : Head) (bases : List (List ℕ)) (place : ℕ) (lists : List (List Run)) → Falls old new → AreRunsFrom old h bases place lists → AreRunsFrom new h bases place lists
 runs_fall old new h bases place [] falls all = tt
-runs_fall old new h bases place (runs ∷ lists) falls all = (run_falls old new h bases place runs.items falls all.0, runs_fall old new h bases (place + 1) lists falls all.1)
+runs_fall old new h bases place (runs ∷ lists) falls all = (run_falls old new h bases place runs falls all.0, runs_fall old new h bases (place + 1) lists falls all.1)
 
 -- ---- the same traces in another store
 

@@ -1,5 +1,5 @@
 -- Bytes laid over traces that follow one another.
-use Rattle.std.proofs.Common.{◌≡◌, ℕ, zero, suc, ◌+◌, ◌*◌, ◌/◌, ◌%◌, ◌<◌, ◌≤◌, List, [], ◌∷◌, ◌++◌, length, take, drop, refl, sym, ap, ◌∙◌, subst, arith, Result, Ok, Err, Vec, Global, IfOk, append_assoc, append-nil}
+use Rattle.std.proofs.Common.{◌≡◌, ℕ, zero, suc, ◌+◌, ◌*◌, ◌/◌, ◌%◌, ◌<◌, ◌≤◌, List, [], ◌∷◌, ◌++◌, length, take, drop, refl, sym, ap, ◌∙◌, subst, arith, Result, Ok, Err, IfOk, append_assoc, append-nil}
 use Rattle.std.specs.Prelude.{slice_index_or, slice_set}
 use Rattle.std.proofs.Math.Nat.{div-mul-le_self, mod-eq-sub-div-mul, mul-le-mul_right}
 use Rattle.std.proofs.lemmas.List.{length-take, length-drop, length-set, get_or-set_other, drop-drop, drop_all}
@@ -19,34 +19,34 @@ both_ok P Q R (Err e) p q f = tt
 
 -- runs that were made for the base of a slot, by its length
 module _ {T : Type 0} where
-  pub put-runs : (loaded : List ℕ) (slot : Slot T) (base trace : List ℕ) (at : ℕ) (bytes : List ℕ) (runs : List Run) → IsInside loaded slot.base → base ≡ base_of loaded slot.base → trace ≡ bytes_in loaded slot
-      → Fit runs (size_of slot.base) → ShowPut (size_of slot.base) slot.runs.items at bytes runs → ArePutRuns base trace at bytes runs
+  pub put-runs : (loaded : List ℕ) (slot : Slot T) (base trace : List ℕ) (at : ℕ) (bytes : List ℕ) (runs : List Run) → IsInside loaded slot.layers.base → base ≡ base_of loaded slot.layers.base → trace ≡ bytes_in loaded slot
+      → Fit runs (size_of slot.layers.base) → ShowPut (size_of slot.layers.base) slot.layers.runs at bytes runs → ArePutRuns base trace at bytes runs
   put-runs loaded slot base trace at bytes runs inside b t fit shows =
-      let size : length base ≡ size_of slot.base = ap length b ∙ base-length loaded slot.base inside in
+      let size : length base ≡ size_of slot.layers.base = ap length b ∙ base-length loaded slot.layers.base inside in
       record {
         fit = subst (λ (n : ℕ). Fit runs n) (sym size) fit;
-        shows = shows base size ∙ ap (λ (xs : List ℕ). splice xs at (length bytes) bytes) (ap (λ (xs : List ℕ). bytes_with_runs xs slot.runs.items) b ∙ sym t);
+        shows = shows base size ∙ ap (λ (xs : List ℕ). splice xs at (length bytes) bytes) (ap (λ (xs : List ℕ). bytes_with_runs xs slot.layers.runs) b ∙ sym t);
       }
 
 -- ---- the runs of one trace after the other
 
 -- with one more list behind the first ones
-pub runs-more : (bases traces : List (List ℕ)) (place at size : ℕ) (bytes : List ℕ) (k p : ℕ) (part : List ℕ) (lists : List (Vec Run Global)) (runs : Vec Run Global)
-    → ((more : List (Vec Run Global)) → ArePutEach bases traces place at size bytes k more → ArePutEach bases traces place at size bytes 0 (lists ++ more))
-    → p ≡ place + k → part ≡ part_of bytes size k → ArePutRuns (slice_index_or bases p []) (slice_index_or traces p []) at part runs.items
-    → (more : List (Vec Run Global)) → ArePutEach bases traces place at size bytes (k + 1) more → ArePutEach bases traces place at size bytes 0 ((lists ++ runs ∷ []) ++ more)
+pub runs-more : (bases traces : List (List ℕ)) (place at size : ℕ) (bytes : List ℕ) (k p : ℕ) (part : List ℕ) (lists : List (List Run)) (runs : List Run)
+    → ((more : List (List Run)) → ArePutEach bases traces place at size bytes k more → ArePutEach bases traces place at size bytes 0 (lists ++ more))
+    → p ≡ place + k → part ≡ part_of bytes size k → ArePutRuns (slice_index_or bases p []) (slice_index_or traces p []) at part runs
+    → (more : List (List Run)) → ArePutEach bases traces place at size bytes (k + 1) more → ArePutEach bases traces place at size bytes 0 ((lists ++ runs ∷ []) ++ more)
 runs-more bases traces place at size bytes k p part lists runs before e is here more later =
-    let next : ArePutRuns (slice_index_or bases (place + k) []) (slice_index_or traces (place + k) []) at (part_of bytes size k) runs.items =
-    subst (λ (xs : List ℕ). ArePutRuns (slice_index_or bases (place + k) []) (slice_index_or traces (place + k) []) at xs runs.items) is
-    (subst (λ (q : ℕ). ArePutRuns (slice_index_or bases q []) (slice_index_or traces q []) at part runs.items) e here) in
-    subst (λ (all : List (Vec Run Global)). ArePutEach bases traces place at size bytes 0 all) (sym (append_assoc lists (runs ∷ []) more)) (before (runs ∷ more) (next, later))
+    let next : ArePutRuns (slice_index_or bases (place + k) []) (slice_index_or traces (place + k) []) at (part_of bytes size k) runs =
+    subst (λ (xs : List ℕ). ArePutRuns (slice_index_or bases (place + k) []) (slice_index_or traces (place + k) []) at xs runs) is
+    (subst (λ (q : ℕ). ArePutRuns (slice_index_or bases q []) (slice_index_or traces q []) at part runs) e here) in
+    subst (λ (all : List (List Run)). ArePutEach bases traces place at size bytes 0 all) (sym (append_assoc lists (runs ∷ []) more)) (before (runs ∷ more) (next, later))
 
 -- with none behind them
-pub runs-all : (bases traces : List (List ℕ)) (place at size : ℕ) (bytes : List ℕ) (k : ℕ) (lists : List (Vec Run Global))
-    → ((more : List (Vec Run Global)) → ArePutEach bases traces place at size bytes k more → ArePutEach bases traces place at size bytes 0 (lists ++ more))
+pub runs-all : (bases traces : List (List ℕ)) (place at size : ℕ) (bytes : List ℕ) (k : ℕ) (lists : List (List Run))
+    → ((more : List (List Run)) → ArePutEach bases traces place at size bytes k more → ArePutEach bases traces place at size bytes 0 (lists ++ more))
     → ArePutEach bases traces place at size bytes 0 lists
 runs-all bases traces place at size bytes k lists before =
-    subst (λ (all : List (Vec Run Global)). ArePutEach bases traces place at size bytes 0 all) (append-nil lists) (before [] tt)
+    subst (λ (all : List (List Run)). ArePutEach bases traces place at size bytes 0 all) (append-nil lists) (before [] tt)
 
 -- ---- the traces of which the first have their bytes
 

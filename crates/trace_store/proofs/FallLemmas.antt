@@ -19,8 +19,8 @@ module _ {T : Type 0} where
   -- a slot lies over them as before
   pub slot_falls : (old new : HeldBytes) (h : Head) (slot : Slot T) → IsStill old new → IsSlot old h slot → IsSlot new h slot
   slot_falls old new h slot still sound = record {
-    inside = subst (λ (bytes : List ℕ). IsInside bytes slot.base) (sym still.bytes) sound.inside;
-    fit = subst (λ (bytes : List ℕ). Fit slot.runs.items (length (base_of bytes slot.base))) (sym still.bytes) sound.fit;
+    inside = subst (λ (bytes : List ℕ). IsInside bytes slot.layers.base) (sym still.bytes) sound.inside;
+    fit = subst (λ (bytes : List ℕ). Fit slot.layers.runs (length (base_of bytes slot.layers.base))) (sym still.bytes) sound.fit;
     whole = λ sure. subst (λ (bytes : List ℕ). IsTrace h (bytes_in bytes slot)) (sym still.bytes) (sound.whole (sure_before old.standing new.standing still.standing sure));
   }
 

@@ -1,5 +1,5 @@
 -- Traces whose bytes are at hand: that they are, and what they show then.
-use Rattle.std.proofs.Common.{◌≡◌, ℕ, ◌+◌, ◌-◌, ◌<◌, ◌≤◌, List, [], ◌∷◌, length, get_or, refl, sym, ap, ◌∙◌, subst, arith, Option, Some, None, Vec, Global, Bool, Bor, inl, inr}
+use Rattle.std.proofs.Common.{◌≡◌, ℕ, ◌+◌, ◌-◌, ◌<◌, ◌≤◌, List, [], ◌∷◌, length, get_or, refl, sym, ap, ◌∙◌, subst, arith, Option, Some, None, Bool, Bor, inl, inr}
 use Rattle.std.specs.Prelude.{◌⊎◌, IsSomeAnd, option_and_then, option_copied, option_map, unwrap_or, slice_get, slice_index_or, IfSome, ◌==◌, if◌then◌else◌}
 use Rattle.std.proofs.lemmas.Bool.{cases_lt, le-ltb, lt-ltb}
 use Rattle.std.proofs.lemmas.Bool.Decides.{eqb_tells, nat_tests}
@@ -20,8 +20,8 @@ use Rattle.trace_store.specs.declared.prepared.Prepared.{Prepared}
 use Rattle.trace_store.specs.declared.prepared.Prepared.TheVariants.{Put, Runs, Move}
 use Rattle.trace_store.specs.declared.prepared.TraceMove.{TraceMove}
 use Rattle.trace_store.specs.declared.prepared.TraceRuns.{TraceRuns}
-use Rattle.trace_store.specs.declared.slot.Base.{Base}
-use Rattle.trace_store.specs.declared.slot.Base.TheVariants.{Loaded, Added}
+use Rattle.trace_store.specs.declared.base.Base.{Base}
+use Rattle.trace_store.specs.declared.base.Base.TheVariants.{Loaded, Added}
 use Rattle.trace_store.specs.declared.slot.Slot.{Slot}
 use Rattle.trace_store.specs.declared.store.TraceStore.{TraceStore}
 use Rattle.trace_store.specs.Ahead.{traces_then, traces_with, AreRunsFrom, AreRunsOf, IsReady}
@@ -40,48 +40,48 @@ module _ {T : Type 0} (s : TraceStore T) (p id : ℕ) (slot : Slot T) (at : id_a
   slot_is : slot_of s p ≡ Some slot
   slot_is = ap (option_and_then (get s.slots)) at ∙ found
 
-  pub fetched_at : (laid : Option (List Run)) → 1 ≤ p → p ≤ length (traces_of s) → IsLent s.loaded s.head slot.base (unwrap_or laid slot.runs.items) → IsFetchedWith s p laid
+  pub fetched_at : (laid : Option (List Run)) → 1 ≤ p → p ≤ length (traces_of s) → IsLent s.loaded s.head slot.layers.base (unwrap_or laid slot.layers.runs) → IsFetchedWith s p laid
   fetched_at laid first last lent = record {
     first = first;
     last = last;
-    lent = subst (λ (o : Option (Slot T)). IsSomeAnd o (λ x. IsLent s.loaded s.head x.base (unwrap_or laid x.runs.items))) (sym slot_is) lent;
+    lent = subst (λ (o : Option (Slot T)). IsSomeAnd o (λ x. IsLent s.loaded s.head x.layers.base (unwrap_or laid x.layers.runs))) (sym slot_is) lent;
   }
 
-  pub lent_at : (laid : Option (List Run)) → IsFetchedWith s p laid → IsLent s.loaded s.head slot.base (unwrap_or laid slot.runs.items)
-  lent_at laid fetched = subst (λ (o : Option (Slot T)). IsSomeAnd o (λ x. IsLent s.loaded s.head x.base (unwrap_or laid x.runs.items))) slot_is fetched.lent
+  pub lent_at : (laid : Option (List Run)) → IsFetchedWith s p laid → IsLent s.loaded s.head slot.layers.base (unwrap_or laid slot.layers.runs)
+  lent_at laid fetched = subst (λ (o : Option (Slot T)). IsSomeAnd o (λ x. IsLent s.loaded s.head x.layers.base (unwrap_or laid x.layers.runs))) slot_is fetched.lent
 
   -- runs that may lie over a trace fit its base
-  pub laid-fit : (laid : Option (List Run)) → IsSlot s.loaded s.head slot → MayLie s p laid → Fit (unwrap_or laid slot.runs.items) (size_of slot.base)
-  laid-fit None sound may = subst (λ (n : ℕ). Fit slot.runs.items n) (base-length s.loaded.bytes slot.base sound.inside) sound.fit
-  laid-fit (Some runs) sound may = subst (λ (n : ℕ). Fit runs n) (ap length (base-at s.loaded.bytes s.order.ids s.slots p id slot at found) ∙ base-length s.loaded.bytes slot.base sound.inside) may.fit
+  pub laid-fit : (laid : Option (List Run)) → IsSlot s.loaded s.head slot → MayLie s p laid → Fit (unwrap_or laid slot.layers.runs) (size_of slot.layers.base)
+  laid-fit None sound may = subst (λ (n : ℕ). Fit slot.layers.runs n) (base-length s.loaded.bytes slot.layers.base sound.inside) sound.fit
+  laid-fit (Some runs) sound may = subst (λ (n : ℕ). Fit runs n) (ap length (base-at s.loaded.bytes s.order.ids s.slots p id slot at found) ∙ base-length s.loaded.bytes slot.layers.base sound.inside) may.fit
 
   -- and show a whole trace, if the loaded bytes are sure
-  laid-whole : (laid : Option (List Run)) → IsSlot s.loaded s.head slot → MayLie s p laid → IsSure s.loaded.standing → IsTrace s.head (bytes_with_runs (base_of s.loaded.bytes slot.base) (unwrap_or laid slot.runs.items))
+  laid-whole : (laid : Option (List Run)) → IsSlot s.loaded s.head slot → MayLie s p laid → IsSure s.loaded.standing → IsTrace s.head (bytes_with_runs (base_of s.loaded.bytes slot.layers.base) (unwrap_or laid slot.layers.runs))
   laid-whole None sound may sure = sound.whole sure
   laid-whole (Some runs) sound may sure = subst (λ (b : List ℕ). IsTrace s.head (bytes_with_runs b runs)) (base-at s.loaded.bytes s.order.ids s.slots p id slot at found) (may.whole sure)
 
   -- what is lent is the trace with the runs, if the loaded bytes are sure
-  pub lent-shows : (laid : Option (List Run)) → IsLent s.loaded s.head slot.base (unwrap_or laid slot.runs.items) → IsSure s.loaded.standing
-      → bytes_with_runs (lent_base s.loaded slot.base) (unwrap_or laid slot.runs.items) ≡ trace_with s p laid
-  lent-shows None lent sure = ap (λ (b : List ℕ). bytes_with_runs b slot.runs.items) (lent.same sure) ∙ sym (trace-at s.loaded.bytes s.order.ids s.slots p id slot at found)
+  pub lent-shows : (laid : Option (List Run)) → IsLent s.loaded s.head slot.layers.base (unwrap_or laid slot.layers.runs) → IsSure s.loaded.standing
+      → bytes_with_runs (lent_base s.loaded slot.layers.base) (unwrap_or laid slot.layers.runs) ≡ trace_with s p laid
+  lent-shows None lent sure = ap (λ (b : List ℕ). bytes_with_runs b slot.layers.runs) (lent.same sure) ∙ sym (trace-at s.loaded.bytes s.order.ids s.slots p id slot at found)
   lent-shows (Some runs) lent sure = ap (λ (b : List ℕ). bytes_with_runs b runs) (lent.same sure ∙ sym (base-at s.loaded.bytes s.order.ids s.slots p id slot at found))
 
   -- how long it is, sure or not
-  pub length-lent : (runs : List Run) → IsSlot s.loaded s.head slot → IsLent s.loaded s.head slot.base runs → length (bytes_with_runs (lent_base s.loaded slot.base) runs) ≡ length (slice_index_or (bases_of s) (p - 1) [])
+  pub length-lent : (runs : List Run) → IsSlot s.loaded s.head slot → IsLent s.loaded s.head slot.layers.base runs → length (bytes_with_runs (lent_base s.loaded slot.layers.base) runs) ≡ length (slice_index_or (bases_of s) (p - 1) [])
   length-lent runs sound lent =
-      let fit : Fit runs (length (lent_base s.loaded slot.base)) = subst (λ (n : ℕ). Fit runs n) (sym lent.size) lent.fit in
-      length-written (lent_base s.loaded slot.base) runs fit ∙ lent.size ∙ sym (base-length s.loaded.bytes slot.base sound.inside)
+      let fit : Fit runs (length (lent_base s.loaded slot.layers.base)) = subst (λ (n : ℕ). Fit runs n) (sym lent.size) lent.fit in
+      length-written (lent_base s.loaded slot.layers.base) runs fit ∙ lent.size ∙ sym (base-length s.loaded.bytes slot.layers.base sound.inside)
       ∙ ap length (sym (base-at s.loaded.bytes s.order.ids s.slots p id slot at found))
 
   -- a trace is as long as its base
-  pub trace-size : IsSlot s.loaded s.head slot → length (slice_index_or (traces_of s) (p - 1) []) ≡ size_of slot.base
+  pub trace-size : IsSlot s.loaded s.head slot → length (slice_index_or (traces_of s) (p - 1) []) ≡ size_of slot.layers.base
   trace-size sound =
       ap length (trace-at s.loaded.bytes s.order.ids s.slots p id slot at found)
-      ∙ length-written (base_of s.loaded.bytes slot.base) slot.runs.items sound.fit ∙ base-length s.loaded.bytes slot.base sound.inside
+      ∙ length-written (base_of s.loaded.bytes slot.layers.base) slot.layers.runs sound.fit ∙ base-length s.loaded.bytes slot.layers.base sound.inside
 
   same-length : IsSlot s.loaded s.head slot → length (slice_index_or (traces_of s) (p - 1) []) ≡ length (slice_index_or (bases_of s) (p - 1) [])
   same-length sound =
-      trace-size sound ∙ sym (base-length s.loaded.bytes slot.base sound.inside)
+      trace-size sound ∙ sym (base-length s.loaded.bytes slot.layers.base sound.inside)
       ∙ ap length (sym (base-at s.loaded.bytes s.order.ids s.slots p id slot at found))
 
 -- ---- in memory
@@ -121,11 +121,11 @@ module _ {T : Type 0} (s : TraceStore T) (p : ℕ) (first : 1 ≤ p) (last : p �
   fetched_in_memory laid memory may =
       let slot : Slot T = there.0 in
       let sound = there.2 in
-      let same = base_lent s.loaded slot.base memory in
-      let runs = unwrap_or laid slot.runs.items in
+      let same = base_lent s.loaded slot.layers.base memory in
+      let runs = unwrap_or laid slot.layers.runs in
       fetched_at s p id slot id-there there.1 laid first last (record {
-        there = base_there s.loaded slot.base memory sound.inside;
-        size = ap length same ∙ base-length s.loaded.bytes slot.base sound.inside;
+        there = base_there s.loaded slot.layers.base memory sound.inside;
+        size = ap length same ∙ base-length s.loaded.bytes slot.layers.base sound.inside;
         fit = laid-fit s p id slot id-there there.1 laid sound may;
         whole = subst (λ (b : List ℕ). IsTrace s.head (bytes_with_runs b runs)) (sym same) (laid-whole s p id slot id-there there.1 laid sound may (sure_in_memory s.loaded.standing memory));
         same = λ sure. same;
@@ -156,20 +156,19 @@ from_some : (m : TraceMove) (p n : ℕ) → 1 ≤ m.from → m.from ≤ n → 1 
 from_some m p n from_first from_last to_first to_last first last = (grind (arith, nat_tests), grind (arith, nat_tests))
 
 -- runs for traces that follow one another: those of one trace, or none
-over_cases : (runs : TraceRuns) (i : ℕ) → ((v : Vec Run Global) × ((runs.place ≤ i) × (i - runs.place < length runs.lists.items) × (get_or runs.lists.items (i - runs.place) v ≡ v) × (runs_over runs i ≡ Some v.items)))
+over_cases : (runs : TraceRuns) (i : ℕ) → ((v : List Run) × ((runs.place ≤ i) × (i - runs.place < length runs.lists.items) × (get_or runs.lists.items (i - runs.place) v ≡ v) × (runs_over runs i ≡ Some v)))
     ⊎ ((runs_over runs i ≡ None) × ((i < runs.place) ⊎ (runs.place + length runs.lists.items ≤ i)))
 over_cases runs i =
     let k : ℕ = i - runs.place in
-    let at : Option (Vec Run Global) → Option (List Run) = λ o. option_map (λ v. v.items) o in
     elim (cases_lt i runs.place) [
       | inl before ↦
-          let none : runs_over runs i ≡ None = ap (λ (b : Bool). if b then None else at (slice_get runs.lists.items k)) (lt-ltb i runs.place before) in
+          let none : runs_over runs i ≡ None = ap (λ (b : Bool). if b then None else slice_get runs.lists.items k) (lt-ltb i runs.place before) in
           inr (none, inl before)
       | inr from ↦
-          let here : runs_over runs i ≡ at (slice_get runs.lists.items k) = ap (λ (b : Bool). if b then None else at (slice_get runs.lists.items k)) (le-ltb i runs.place from) in
+          let here : runs_over runs i ≡ slice_get runs.lists.items k = ap (λ (b : Bool). if b then None else slice_get runs.lists.items k) (le-ltb i runs.place from) in
           elim (slice_get_cases runs.lists.items k).1 [
-            | inl found ↦ inl (found.0, (from, found.1, found.3, here ∙ ap at found.2))
-            | inr past ↦ let after : runs.place + length runs.lists.items ≤ i = omega (arith, from, past.0) in inr (here ∙ ap at past.1, inr after)
+            | inl found ↦ inl (found.0, (from, found.1, found.3, here ∙ found.2))
+            | inr past ↦ let after : runs.place + length runs.lists.items ≤ i = omega (arith, from, past.0) in inr (here ∙ past.1, inr after)
           ]
     ]
 
@@ -181,26 +180,26 @@ module _ {T : Type 0} (s : TraceStore T) (p : ℕ) (first : 1 ≤ p) (last : p �
   place-there (Move m) ready = from_some m p (length (traces_of s)) ready.fit.from_first ready.fit.from_last ready.fit.to_first ready.fit.to_last first last
 
   -- the runs of one trace
-  put-may : (place : ℕ) (runs : Vec Run Global) → AreRunsOf s.loaded.standing s.head (bases_of s) place runs.items → MayLie s p (if p - 1 == place then Some runs.items else None)
+  put-may : (place : ℕ) (runs : List Run) → AreRunsOf s.loaded.standing s.head (bases_of s) place runs → MayLie s p (if p - 1 == place then Some runs else None)
   put-may place runs one = elim (eqb_tells (p - 1) place) [
-    | inl same ↦ subst (λ (b : Bool). MayLie s p (if b then Some runs.items else None)) (sym same.0) (subst (λ (i : ℕ). AreRunsOf s.loaded.standing s.head (bases_of s) i runs.items) (sym same.1) one)
-    | inr other ↦ subst (λ (b : Bool). MayLie s p (if b then Some runs.items else None)) (sym other.0) tt
+    | inl same ↦ subst (λ (b : Bool). MayLie s p (if b then Some runs else None)) (sym same.0) (subst (λ (i : ℕ). AreRunsOf s.loaded.standing s.head (bases_of s) i runs) (sym same.1) one)
+    | inr other ↦ subst (λ (b : Bool). MayLie s p (if b then Some runs else None)) (sym other.0) tt
   ]
 
-  put-at : (place : ℕ) (runs : Vec Run Global) → AreRunsOf s.loaded.standing s.head (bases_of s) place runs.items
-      → slice_index_or (traces_with (bases_of s) (traces_of s) place (runs ∷ [])) (p - 1) [] ≡ trace_with s p (if p - 1 == place then Some runs.items else None)
+  put-at : (place : ℕ) (runs : List Run) → AreRunsOf s.loaded.standing s.head (bases_of s) place runs
+      → slice_index_or (traces_with (bases_of s) (traces_of s) place (runs ∷ [])) (p - 1) [] ≡ trace_with s p (if p - 1 == place then Some runs else None)
   put-at place runs one = elim (eqb_tells (p - 1) place) [
     | inl same ↦
         let here : p - 1 ≡ place + 0 = omega (arith, same.1) in
         with-at s.loaded.standing s.head (bases_of s) (traces_of s) place (p - 1) 0 (runs ∷ []) runs (one, tt) (length-bases s) (omega arith) refl here
-        ∙ ap (λ (b : Bool). trace_with s p (if b then Some runs.items else None)) (sym same.0)
+        ∙ ap (λ (b : Bool). trace_with s p (if b then Some runs else None)) (sym same.0)
     | inr other ↦ elim (cases_lt (p - 1) place) [
       | inl before ↦
           in_front (bases_of s) (traces_of s) place (p - 1) (runs ∷ []) before
-          ∙ ap (λ (b : Bool). trace_with s p (if b then Some runs.items else None)) (sym other.0)
+          ∙ ap (λ (b : Bool). trace_with s p (if b then Some runs else None)) (sym other.0)
       | inr after ↦
           behind (bases_of s) (traces_of s) place (p - 1) (runs ∷ []) (omega (arith, after, other.1))
-          ∙ ap (λ (b : Bool). trace_with s p (if b then Some runs.items else None)) (sym other.0)
+          ∙ ap (λ (b : Bool). trace_with s p (if b then Some runs else None)) (sym other.0)
     ]
   ]
 
@@ -247,13 +246,13 @@ module _ {T : Type 0} (s : TraceStore T) (p : ℕ) (first : 1 ≤ p) (last : p �
 -- ---- a trace without runs in the loaded file
 
 module _ {T : Type 0} where
-  pub range_inside : (loaded : List ℕ) (slot : Slot T) (o : Option Extent) → IsInside loaded slot.base → IfSome o (IsWholeRange slot) → IfSome o (λ e. e.start + e.length ≤ length loaded)
+  pub range_inside : (loaded : List ℕ) (slot : Slot T) (o : Option Extent) → IsInside loaded slot.layers.base → IfSome o (IsWholeRange slot.layers) → IfSome o (λ e. e.start + e.length ≤ length loaded)
   range_inside loaded slot None inside range = tt
   range_inside loaded slot (Some extent) inside range = subst (λ (b : Base). IsInside loaded b) range.base inside
 
-  pub range_bytes : (loaded : List ℕ) (slot : Slot T) (trace : List ℕ) (o : Option Extent) → trace ≡ bytes_in loaded slot → IfSome o (IsWholeRange slot) → IfSome o (λ e. bytes_at loaded e ≡ trace)
+  pub range_bytes : (loaded : List ℕ) (slot : Slot T) (trace : List ℕ) (o : Option Extent) → trace ≡ bytes_in loaded slot → IfSome o (IsWholeRange slot.layers) → IfSome o (λ e. bytes_at loaded e ≡ trace)
   range_bytes loaded slot trace None is range = tt
-  range_bytes loaded slot trace (Some extent) is range = sym (is ∙ ap (bytes_with_runs (base_of loaded slot.base)) range.plain ∙ ap (base_of loaded) range.base)
+  range_bytes loaded slot trace (Some extent) is range = sym (is ∙ ap (bytes_with_runs (base_of loaded slot.layers.base)) range.plain ∙ ap (base_of loaded) range.base)
 
 -- ---- the runs that are chosen
 

@@ -11,8 +11,8 @@ use Rattle.frame_cut.proofs.BlockLemmas.{slice-append}
 use Rattle.trace_seq.specs.Order.{times}
 use Rattle.trace_seq.proofs.TimeLemmas.{times-self}
 use Rattle.trace_view.specs.Runs.{Fit, bytes_with_runs}
-use Rattle.trace_store.specs.declared.slot.Base.{Base}
-use Rattle.trace_store.specs.declared.slot.Base.TheVariants.{Loaded, Added}
+use Rattle.trace_store.specs.declared.base.Base.{Base}
+use Rattle.trace_store.specs.declared.base.Base.TheVariants.{Loaded, Added}
 use Rattle.trace_store.specs.declared.slot.Slot.{Slot}
 use Rattle.trace_store.specs.declared.store.TraceStore.{TraceStore}
 use Rattle.trace_store.specs.Grown.{HasMore}
@@ -43,11 +43,11 @@ base_grown old new (Added bytes) begins inside = refl
 module _ {T : Type 0} where
   slot_grown : (old new : HeldBytes) (h : Head) (slot : Slot T) → HasGrown old new → IsSlot old h slot → IsSlot new h slot
   slot_grown old new h slot grown sound =
-      let same : base_of new.bytes slot.base ≡ base_of old.bytes slot.base = base_grown old.bytes new.bytes slot.base grown.begins sound.inside in
+      let same : base_of new.bytes slot.layers.base ≡ base_of old.bytes slot.layers.base = base_grown old.bytes new.bytes slot.layers.base grown.begins sound.inside in
       record {
-        inside = inside_grown old.bytes new.bytes slot.base grown.begins sound.inside;
-        fit = subst (λ (b : List ℕ). Fit slot.runs.items (length b)) (sym same) sound.fit;
-        whole = λ sure. subst (λ (b : List ℕ). IsTrace h (bytes_with_runs b slot.runs.items)) (sym same) (sound.whole (subst IsSure grown.standing sure));
+        inside = inside_grown old.bytes new.bytes slot.layers.base grown.begins sound.inside;
+        fit = subst (λ (b : List ℕ). Fit slot.layers.runs (length b)) (sym same) sound.fit;
+        whole = λ sure. subst (λ (b : List ℕ). IsTrace h (bytes_with_runs b slot.layers.runs)) (sym same) (sound.whole (subst IsSure grown.standing sure));
       }
 
   one_grown : (old new : HeldBytes) (h : Head) (o : Option (Slot T)) → HasGrown old new → IsSomeAnd o (IsSlot old h) → IsSomeAnd o (IsSlot new h)
@@ -66,12 +66,12 @@ module _ {T : Type 0} where
 
   bytes_grown : (old new : HeldBytes) (h : Head) (o : Option (Slot T)) → HasGrown old new → IsSomeAnd o (IsSlot old h) → option_map_or (bytes_in new.bytes) o [] ≡ option_map_or (bytes_in old.bytes) o []
   bytes_grown old new h None grown held = refl
-  bytes_grown old new h (Some slot) grown held = ap (λ (b : List ℕ). bytes_with_runs b slot.runs.items) (base_grown old.bytes new.bytes slot.base grown.begins held.inside)
+  bytes_grown old new h (Some slot) grown held = ap (λ (b : List ℕ). bytes_with_runs b slot.layers.runs) (base_grown old.bytes new.bytes slot.layers.base grown.begins held.inside)
 
   bases_grown : (old new : HeldBytes) (h : Head) (o : Option (Slot T)) → HasGrown old new → IsSomeAnd o (IsSlot old h)
-      → option_map_or (λ (slot : Slot T). base_of new.bytes slot.base) o [] ≡ option_map_or (λ (slot : Slot T). base_of old.bytes slot.base) o []
+      → option_map_or (λ (slot : Slot T). base_of new.bytes slot.layers.base) o [] ≡ option_map_or (λ (slot : Slot T). base_of old.bytes slot.layers.base) o []
   bases_grown old new h None grown held = refl
-  bases_grown old new h (Some slot) grown held = base_grown old.bytes new.bytes slot.base grown.begins held.inside
+  bases_grown old new h (Some slot) grown held = base_grown old.bytes new.bytes slot.layers.base grown.begins held.inside
 
 module _ {X : Type 0} where
   -- what stands under the ids of a list is the same, where it is under each of them
@@ -98,8 +98,8 @@ module _ {T : Type 0} where
   settled : (old new : HeldBytes) (h : Head) (o : Option (Slot T)) → new.bytes ≡ old.bytes → new.standing ≡ old.standing → IsSomeAnd o (IsSlot old h) → IsSomeAnd o (IsSlot new h)
   settled old new h None bytes standing held = held
   settled old new h (Some slot) bytes standing held = record {
-    inside = subst (λ (b : List ℕ). IsInside b slot.base) (sym bytes) held.inside;
-    fit = subst (λ (b : List ℕ). Fit slot.runs.items (length (base_of b slot.base))) (sym bytes) held.fit;
+    inside = subst (λ (b : List ℕ). IsInside b slot.layers.base) (sym bytes) held.inside;
+    fit = subst (λ (b : List ℕ). Fit slot.layers.runs (length (base_of b slot.layers.base))) (sym bytes) held.fit;
     whole = λ sure. subst (λ (b : List ℕ). IsTrace h (bytes_in b slot)) (sym bytes) (held.whole (subst IsSure standing sure));
   }
 

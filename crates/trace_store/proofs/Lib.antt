@@ -1,3 +1,4 @@
+pub mod OneRunLemmas
 pub mod AheadLemmas
 pub mod EachLemmas
 pub mod FallLemmas

@@ -14,11 +14,11 @@ use Rattle.frame_cut.specs.declared.file_head.Head.{Head}
 use Rattle.frame_cut.specs.Cuts.{IsTrace}
 use Rattle.trace_seq.specs.Order.{times, id_at, with_id_moved, AreDistinct}
 use Rattle.trace_seq.proofs.TimeLemmas.{times-insert, times-other, times-remove, absent-remove}
-use Rattle.trace_view.specs.declared.run.Run.{Run}
 use Rattle.trace_view.specs.Runs.{Fit, bytes_with_runs}
-use Rattle.trace_store.specs.declared.slot.Base.{Base}
-use Rattle.trace_store.specs.declared.slot.Base.TheVariants.{Loaded, Added}
+use Rattle.trace_store.specs.declared.base.Base.{Base}
+use Rattle.trace_store.specs.declared.base.Base.TheVariants.{Loaded, Added}
 use Rattle.trace_store.specs.declared.slot.Slot.{Slot}
+use Rattle.trace_store.specs.Layers.{Layered}
 use Rattle.trace_store.specs.Slots.{base_of, base_under, bytes_in, bytes_under, AreHeld, IsHeldUnder, IsInside, IsSlot, size_of}
 use Rattle.trace_store.proofs.OrderLemmas.{place-of, held-at_place, map-alike, map-others, map-changed, map-insert, map-remove, map-at}
 
@@ -29,24 +29,24 @@ pub base-length : (loaded : List ℕ) (base : Base) → IsInside loaded base →
 base-length loaded (Loaded extent) inside = omega (arith, length-take extent.length (drop extent.start loaded), length-drop extent.start loaded)
 base-length loaded (Added bytes) inside = refl
 
--- a slot without runs
+-- a slot of this base without runs
 module _ {T : Type 0} where
-  pub record IsFreshSlot (file : HeldBytes) (h : Head) (slot : Slot T) : Type 0 where
+  pub record IsFreshSlot (file : HeldBytes) (h : Head) (slot : Slot T) (base : Base) : Type 0 where
     pub sound : IsSlot file h slot
-    pub shows : bytes_in file.bytes slot ≡ base_of file.bytes slot.base
+    pub shows : bytes_in file.bytes slot ≡ base_of file.bytes base
 
 module _ {T : Type 0} where
-  pub fresh-slot : (file : HeldBytes) (h : Head) (slot : Slot T) → slot.runs.items ≡ [] → IsInside file.bytes slot.base → IsTrace h (base_of file.bytes slot.base) → IsFreshSlot file h slot
-  fresh-slot file h slot none inside whole =
-      let same : bytes_in file.bytes slot ≡ base_of file.bytes slot.base = ap (bytes_with_runs (base_of file.bytes slot.base)) none in
-      let empty : Fit [] (length (base_of file.bytes slot.base)) = omega arith in
+  pub fresh-slot : (file : HeldBytes) (h : Head) (slot : Slot T) (base : Base) → slot.layers ≡ record { base = base; runs = [] } → IsInside file.bytes base → IsTrace h (base_of file.bytes base) → IsFreshSlot file h slot base
+  fresh-slot file h slot base e inside whole =
+      let shown : bytes_in file.bytes slot ≡ base_of file.bytes base = ap (λ (l : Layered). bytes_with_runs (base_of file.bytes l.base) l.runs) e in
+      let empty : Fit [] (length (base_of file.bytes base)) = omega arith in
       record {
         sound = record {
-          inside = inside;
-          fit = subst (λ (rs : List Run). Fit rs (length (base_of file.bytes slot.base))) (sym none) empty;
-          whole = λ _. subst (λ (t : List ℕ). IsTrace h t) (sym same) whole;
+          inside = subst (λ (l : Layered). IsInside file.bytes l.base) (sym e) inside;
+          fit = subst (λ (l : Layered). Fit l.runs (length (base_of file.bytes l.base))) (sym e) empty;
+          whole = λ _. subst (λ (t : List ℕ). IsTrace h t) (sym shown) whole;
         };
-        shows = same;
+        shows = shown;
       }
 
 -- ---- the slot under an id
@@ -143,28 +143,28 @@ module _ {T : Type 0} where
 -- the bytes under the runs of the trace at a position
 module _ {T : Type 0} where
   pub base-at : (loaded : List ℕ) (ids : List ℕ) (slots : Slab (Slot T)) (p id : ℕ) (slot : Slot T) → id_at ids p ≡ Some id → get slots id ≡ Some slot
-      → slice_index_or (map (base_under loaded slots) ids) (p - 1) [] ≡ base_of loaded slot.base
+      → slice_index_or (map (base_under loaded slots) ids) (p - 1) [] ≡ base_of loaded slot.layers.base
   base-at loaded ids slots p id slot at found =
       map-at (base_under loaded slots) ids (p - 1) id [] (place-of ids id p at)
-      ∙ ap (λ (o : Option (Slot T)). option_map_or (λ (x : Slot T). base_of loaded x.base) o []) found
+      ∙ ap (λ (o : Option (Slot T)). option_map_or (λ (x : Slot T). base_of loaded x.layers.base) o []) found
 
 -- a slot with other runs over the same base
 module _ {T : Type 0} where
-  pub runs-slot : (file : HeldBytes) (h : Head) (old new : Slot T) (base : List ℕ) → new.base ≡ old.base → base ≡ base_of file.bytes old.base → IsSlot file h old
-      → Fit new.runs.items (length base) → (IsSure file.standing → IsTrace h (bytes_with_runs base new.runs.items)) → IsSlot file h new
+  pub runs-slot : (file : HeldBytes) (h : Head) (old new : Slot T) (base : List ℕ) → new.layers.base ≡ old.layers.base → base ≡ base_of file.bytes old.layers.base → IsSlot file h old
+      → Fit new.layers.runs (length base) → (IsSure file.standing → IsTrace h (bytes_with_runs base new.layers.runs)) → IsSlot file h new
   runs-slot file h old new base b is whole fit trace =
-      let same : base ≡ base_of file.bytes new.base = is ∙ ap (base_of file.bytes) (sym b) in
+      let same : base ≡ base_of file.bytes new.layers.base = is ∙ ap (base_of file.bytes) (sym b) in
       record {
         inside = subst (λ (x : Base). IsInside file.bytes x) (sym b) whole.inside;
-        fit = subst (λ (xs : List ℕ). Fit new.runs.items (length xs)) same fit;
-        whole = λ sure. subst (λ (xs : List ℕ). IsTrace h (bytes_with_runs xs new.runs.items)) same (trace sure);
+        fit = subst (λ (xs : List ℕ). Fit new.layers.runs (length xs)) same fit;
+        whole = λ sure. subst (λ (xs : List ℕ). IsTrace h (bytes_with_runs xs new.layers.runs)) same (trace sure);
       }
 
 module _ {T : Type 0} where
-  pub bases-kept : (loaded ids : List ℕ) (old new : Slab (Slot T)) (key : ℕ) (before after : Slot T) → get old key ≡ Some before → after.base ≡ before.base → Updates old new key (Some after)
+  pub bases-kept : (loaded ids : List ℕ) (old new : Slab (Slot T)) (key : ℕ) (before after : Slot T) → get old key ≡ Some before → after.layers.base ≡ before.layers.base → Updates old new key (Some after)
       → map (base_under loaded new) ids ≡ map (base_under loaded old) ids
   bases-kept loaded ids old new key before after found b up =
-      let base : Option (Slot T) → List ℕ = λ o. option_map_or (λ (x : Slot T). base_of loaded x.base) o [] in
+      let base : Option (Slot T) → List ℕ = λ o. option_map_or (λ (x : Slot T). base_of loaded x.layers.base) o [] in
       let here : base_under loaded new key ≡ base_under loaded old key = ap base up.changed ∙ (ap (base_of loaded) b ∙ ap base (sym found)) in
       map-alike (base_under loaded new) (base_under loaded old) ids (λ k. elim (cases_eq k key) [
         | inl e ↦ ap (base_under loaded new) e ∙ (here ∙ ap (base_under loaded old) (sym e))
@@ -172,7 +172,7 @@ module _ {T : Type 0} where
       ])
 
 module _ {T : Type 0} where
-  pub traces-kept : (loaded ids : List ℕ) (old new : Slab (Slot T)) (key : ℕ) (before after : Slot T) → get old key ≡ Some before → after.base ≡ before.base → after.runs ≡ before.runs → Updates old new key (Some after)
+  pub traces-kept : (loaded ids : List ℕ) (old new : Slab (Slot T)) (key : ℕ) (before after : Slot T) → get old key ≡ Some before → after.layers.base ≡ before.layers.base → after.layers.runs ≡ before.layers.runs → Updates old new key (Some after)
       → map (bytes_under loaded new) ids ≡ map (bytes_under loaded old) ids
   traces-kept loaded ids old new key before after found b r up =
       let bytes : Option (Slot T) → List ℕ = λ o. option_map_or (bytes_in loaded) o [] in
@@ -282,7 +282,7 @@ module _ {T : Type 0} where
 module _ {T : Type 0} where
   pub bases-same : (loaded ids : List ℕ) (old new : Slab (Slot T)) → SameValues old new → map (base_under loaded new) ids ≡ map (base_under loaded old) ids
   bases-same loaded ids old new same =
-      map-alike (base_under loaded new) (base_under loaded old) ids (λ k. ap (λ (x : Option (Slot T)). option_map_or (λ (slot : Slot T). base_of loaded slot.base) x []) (same k))
+      map-alike (base_under loaded new) (base_under loaded old) ids (λ k. ap (λ (x : Option (Slot T)). option_map_or (λ (slot : Slot T). base_of loaded slot.layers.base) x []) (same k))
 
 -- what holds at any rate
 pub on_err : {T E : Type 0} → (r : Result T E) (P : Type 0) → P → OnErr r P

@@ -1,6 +1,5 @@
 -- The traces of a store as they would be with the edit that is prepared.
-use Rattle.std.specs.Prelude.{ℕ, ◌≡◌, ◌+◌, ◌-◌, ◌<◌, ◌≤◌, List, [], ◌∷◌, length, slice_index_or, slice_set, Vec, Option, Some, None}
-use Rattle.std.specs.Global.{Global}
+use Rattle.std.specs.Prelude.{ℕ, ◌≡◌, ◌+◌, ◌-◌, ◌<◌, ◌≤◌, List, [], ◌∷◌, length, slice_index_or, slice_set, Option, Some, None}
 use Rattle.std.specs.List.{concat, insert, remove}
 use Rattle.base_file.specs.HeldBytes.{Standing, IsSure}
 use Rattle.frame_cut.specs.declared.file_head.Head.{Head}
@@ -14,10 +13,10 @@ use Rattle.trace_store.specs.declared.store.TraceStore.{TraceStore}
 use Rattle.trace_store.specs.Stores.{bases_of, traces_of}
 
 -- the traces with a list of runs over the base of each of those from `place` on
-abbrev pub traces_with : (bases traces : List (List ℕ)) → ℕ → List (Vec Run Global) → List (List ℕ)
+abbrev pub traces_with : (bases traces : List (List ℕ)) → ℕ → List (List Run) → List (List ℕ)
 traces_with bases traces place [] = traces
 traces_with bases traces place (runs ∷ lists) =
-    traces_with bases (slice_set traces place (bytes_with_runs (slice_index_or bases place []) runs.items)) (place + 1) lists
+    traces_with bases (slice_set traces place (bytes_with_runs (slice_index_or bases place []) runs)) (place + 1) lists
 
 -- the runs fit the base at `place`; and if the loaded bytes are sure, they show a whole trace over it
 pub record AreRunsOf (standing : Standing) (h : Head) (bases : List (List ℕ)) (place : ℕ) (runs : List Run) : Type 0 where
@@ -26,10 +25,10 @@ pub record AreRunsOf (standing : Standing) (h : Head) (bases : List (List ℕ)) 
   pub whole : IsSure standing → IsTrace h (bytes_with_runs (slice_index_or bases place []) runs)
 
 -- each list of runs fits its base from `place` on; and if the loaded bytes are sure, it shows a whole trace over it
-abbrev pub AreRunsFrom : Standing → Head → (bases : List (List ℕ)) → ℕ → List (Vec Run Global) → Type 0
+abbrev pub AreRunsFrom : Standing → Head → (bases : List (List ℕ)) → ℕ → List (List Run) → Type 0
 AreRunsFrom standing h bases place [] = Unit {0}
 AreRunsFrom standing h bases place (runs ∷ lists) =
-    AreRunsOf standing h bases place runs.items × AreRunsFrom standing h bases (place + 1) lists
+    AreRunsOf standing h bases place runs × AreRunsFrom standing h bases (place + 1) lists
 
 -- the traces with trace a taken out, and put in again so that it is trace b
 abbrev pub traces_moved : List (List ℕ) → ℕ → ℕ → List (List ℕ)

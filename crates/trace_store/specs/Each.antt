@@ -1,6 +1,5 @@
 -- Bytes laid over traces that follow one another, so many over each.
-use Rattle.std.specs.Prelude.{ℕ, ◌≡◌, ◌+◌, ◌*◌, List, [], ◌∷◌, length, take, drop, slice_index_or, Vec}
-use Rattle.std.specs.Global.{Global}
+use Rattle.std.specs.Prelude.{ℕ, ◌≡◌, ◌+◌, ◌*◌, List, [], ◌∷◌, length, take, drop, slice_index_or}
 use Rattle.frame_cut.specs.Splice.{splice}
 use Rattle.trace_view.specs.declared.run.Run.{Run}
 use Rattle.trace_view.specs.Runs.{Fit, bytes_with_runs}
@@ -15,8 +14,8 @@ pub record ArePutRuns (base trace : List ℕ) (at : ℕ) (bytes : List ℕ) (run
   pub shows : bytes_with_runs base runs ≡ splice trace at (length bytes) bytes
 
 -- the lists are, one after the other, those of the traces from `place + k` on with part k of the bytes over the first, and so on
-abbrev pub ArePutEach : (bases traces : List (List ℕ)) (place at size : ℕ) (bytes : List ℕ) (k : ℕ) → List (Vec Run Global) → Type 0
+abbrev pub ArePutEach : (bases traces : List (List ℕ)) (place at size : ℕ) (bytes : List ℕ) (k : ℕ) → List (List Run) → Type 0
 ArePutEach bases traces place at size bytes k [] = Unit {0}
 ArePutEach bases traces place at size bytes k (list ∷ lists) =
-    ArePutRuns (slice_index_or bases (place + k) []) (slice_index_or traces (place + k) []) at (part_of bytes size k) list.items
+    ArePutRuns (slice_index_or bases (place + k) []) (slice_index_or traces (place + k) []) at (part_of bytes size k) list
     × ArePutEach bases traces place at size bytes (k + 1) lists

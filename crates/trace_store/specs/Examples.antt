@@ -1,5 +1,9 @@
--- Lists worked out, read by the definitions.
-use Rattle.std.specs.Prelude.{ℕ, ◌≡◌, [], ◌∷◌, refl}
+-- Lists and slots worked out, read by the definitions.
+use Rattle.std.specs.Prelude.{ℕ, ◌≡◌, List, [], ◌∷◌, refl}
+use Rattle.trace_view.specs.declared.run.Run.{Run}
+use Rattle.trace_store.specs.declared.base.Base.TheVariants.{Loaded}
+use Rattle.trace_store.specs.declared.layers.Kind.TheVariants as kind
+use Rattle.trace_store.specs.Layers.{layers_of_kind, laid_over}
 use Rattle.trace_store.specs.Moved.{with_moved}
 use Rattle.trace_store.specs.Swapped.{with_swapped}
 use Rattle.trace_store.specs.Then.{place_in_move}
@@ -30,3 +34,10 @@ from_behind = refl
 
 pub from_there : place_in_move (record { from = 1; to = 3 }) 4 ≡ 4
 from_there = refl
+
+-- 260 bytes of the loaded file from byte 3600 on, without runs, and with these laid over them
+pub short-layers : layers_of_kind (kind.Short 260 3600) ≡ record { base = Loaded (record { start = 3600; length = 260 }); runs = [] }
+short-layers = refl
+
+pub laid-layers : (runs : List Run) → laid_over (layers_of_kind (kind.Short 260 3600)) runs ≡ record { base = Loaded (record { start = 3600; length = 260 }); runs = runs }
+laid-layers runs = refl

@@ -20,7 +20,7 @@ slot_of s p = option_and_then (get s.slots) (id_at s.order.ids p)
 pub record IsFetchedWith {T : Type 0} (s : TraceStore T) (p : ℕ) (laid : Option (List Run)) : Type 0 where
   pub first : 1 ≤ p
   pub last : p ≤ length (traces_of s)
-  pub lent : IsSomeAnd (slot_of s p) (λ slot. IsLent s.loaded s.head slot.base (unwrap_or laid slot.runs.items))
+  pub lent : IsSomeAnd (slot_of s p) (λ slot. IsLent s.loaded s.head slot.layers.base (unwrap_or laid slot.layers.runs))
 
 -- what is lent of trace p shows a whole trace
 abbrev pub IsFetched : {T : Type 0} → TraceStore T → ℕ → Type 0

@@ -5,8 +5,8 @@ use Rattle.frame_cut.specs.declared.file_head.Head.{Head}
 use Rattle.frame_cut.specs.Cuts.{IsTrace}
 use Rattle.trace_view.specs.declared.run.Run.{Run}
 use Rattle.trace_view.specs.Runs.{Fit, bytes_with_runs}
-use Rattle.trace_store.specs.declared.slot.Base.{Base}
-use Rattle.trace_store.specs.declared.slot.Base.TheVariants.{Loaded, Added}
+use Rattle.trace_store.specs.declared.base.Base.{Base}
+use Rattle.trace_store.specs.declared.base.Base.TheVariants.{Loaded, Added}
 use Rattle.trace_store.specs.Slots.{base_of, size_of}
 
 -- the bytes under a trace's runs are there to be lent

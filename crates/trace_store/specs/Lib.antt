@@ -1,4 +1,5 @@
 pub mod Slots
+pub mod Layers
 pub mod Lent
 pub mod Moved
 pub mod Stores

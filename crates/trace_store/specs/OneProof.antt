@@ -7,8 +7,8 @@ use Rattle.base_file.specs.HeldBytes.{HeldBytes}
 use Rattle.frame_cut.specs.declared.file_head.Head.{Head}
 use Rattle.frame_cut.specs.Cuts.{IsTrace}
 use Rattle.trace_view.specs.Runs.{FitFrom-prop}
-use Rattle.trace_store.specs.declared.slot.Base.{Base}
-use Rattle.trace_store.specs.declared.slot.Base.TheVariants.{Loaded, Added}
+use Rattle.trace_store.specs.declared.base.Base.{Base}
+use Rattle.trace_store.specs.declared.base.Base.TheVariants.{Loaded, Added}
 use Rattle.trace_store.specs.declared.slot.Slot.{Slot}
 use Rattle.trace_store.specs.Slots.{base_of, bytes_in, IsInside, IsSlot, IsStore}
 
@@ -24,8 +24,8 @@ IsTrace-prop h t = λ a b i. record {
 
 IsSlot-prop : {T : Type 0} (loaded : HeldBytes) (h : Head) (slot : Slot T) → IsProp (IsSlot loaded h slot)
 IsSlot-prop loaded h slot = λ a b i. record {
-  inside = IsInside-prop loaded.bytes slot.base a.inside b.inside i;
-  fit = FitFrom-prop 0 slot.runs.items (length (base_of loaded.bytes slot.base)) a.fit b.fit i;
+  inside = IsInside-prop loaded.bytes slot.layers.base a.inside b.inside i;
+  fit = FitFrom-prop 0 slot.layers.runs (length (base_of loaded.bytes slot.layers.base)) a.fit b.fit i;
   whole = Π_prop (λ _. IsTrace-prop h (bytes_in loaded.bytes slot)) a.whole b.whole i;
 }
 

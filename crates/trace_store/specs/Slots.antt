@@ -9,9 +9,10 @@ use Rattle.frame_cut.specs.Cuts.{IsTrace}
 use Rattle.frame_cut.specs.Layout.{bytes_at}
 use Rattle.trace_seq.specs.Order.{times, AreDistinct}
 use Rattle.trace_view.specs.Runs.{Fit, bytes_with_runs}
-use Rattle.trace_store.specs.declared.slot.Base.{Base}
-use Rattle.trace_store.specs.declared.slot.Base.TheVariants.{Loaded, Added}
+use Rattle.trace_store.specs.declared.base.Base.{Base}
+use Rattle.trace_store.specs.declared.base.Base.TheVariants.{Loaded, Added}
 use Rattle.trace_store.specs.declared.slot.Slot.{Slot}
+use Rattle.trace_store.specs.Layers.{Layered}
 
 -- the bytes under a trace's runs: a part of the loaded file, or bytes of the trace's own
 abbrev pub base_of : List ℕ → Base → List ℕ
@@ -30,18 +31,18 @@ IsInside loaded (Added bytes) = Unit {0}
 
 -- the bytes of a slot's trace
 abbrev pub bytes_in : {T : Type 0} → List ℕ → Slot T → List ℕ
-bytes_in loaded slot = bytes_with_runs (base_of loaded slot.base) slot.runs.items
+bytes_in loaded slot = bytes_with_runs (base_of loaded slot.layers.base) slot.layers.runs
 
 -- the slot lies over the loaded bytes; and if they are sure, it holds a whole trace
 pub record IsSlot {T : Type 0} (loaded : HeldBytes) (h : Head) (slot : Slot T) : Type 0 where
-  pub inside : IsInside loaded.bytes slot.base
-  pub fit : Fit slot.runs.items (length (base_of loaded.bytes slot.base))
+  pub inside : IsInside loaded.bytes slot.layers.base
+  pub fit : Fit slot.layers.runs (length (base_of loaded.bytes slot.layers.base))
   pub whole : IsSure loaded.standing → IsTrace h (bytes_in loaded.bytes slot)
 
--- the slot has no runs, and its bytes are those of this extent of the loaded file
-pub record IsWholeRange {T : Type 0} (slot : Slot T) (extent : Extent) : Type 0 where
-  pub base : slot.base ≡ Loaded extent
-  pub plain : slot.runs.items ≡ []
+-- there are no runs, and the bytes are those of this extent of the loaded file
+pub record IsWholeRange (layers : Layered) (extent : Extent) : Type 0 where
+  pub base : layers.base ≡ Loaded extent
+  pub plain : layers.runs ≡ []
 
 -- the bytes of the trace under an id
 abbrev pub bytes_under : {T : Type 0} → List ℕ → Slab (Slot T) → ℕ → List ℕ
@@ -49,7 +50,7 @@ bytes_under loaded slots id = option_map_or (bytes_in loaded) (get slots id) []
 
 -- the bytes under the runs of the trace under an id
 abbrev pub base_under : {T : Type 0} → List ℕ → Slab (Slot T) → ℕ → List ℕ
-base_under loaded slots id = option_map_or (λ slot. base_of loaded slot.base) (get slots id) []
+base_under loaded slots id = option_map_or (λ slot. base_of loaded slot.layers.base) (get slots id) []
 
 -- the id has a slot over the loaded bytes
 abbrev pub IsHeldUnder : {T : Type 0} → HeldBytes → Head → Slab (Slot T) → ℕ → Type 0

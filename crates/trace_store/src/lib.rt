@@ -20,7 +20,9 @@
 //! is changed.
 #![tactic(auto)]
 
+mod base;
 mod column;
+mod layers;
 mod out_of_memory;
 mod parts;
 mod payloads;
@@ -28,13 +30,16 @@ mod prepared;
 mod reading_ahead;
 mod slot;
 mod store;
+mod whole;
 mod window;
 
+pub use crate::base::Base;
 pub use crate::column::Column;
+pub use crate::layers::{Layers, NewRuns};
 pub use crate::out_of_memory::OutOfMemory;
 pub use crate::parts::part;
 pub use crate::payloads::Payloads;
 pub use crate::prepared::{Prepared, TraceMove, TracePut, TraceRuns};
-pub use crate::slot::{Base, Slot};
+pub use crate::slot::Slot;
 pub use crate::store::TraceStore;
 pub use crate::window::Window;

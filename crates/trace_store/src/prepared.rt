@@ -2,6 +2,7 @@
 ghost use Rattle.std.specs.Prelude.{◌≡◌, ◌+◌, ◌-◌, ◌<◌, ◌≤◌, option_copied};
 ghost use Rattle.trace_store.specs.Then.{place_in_move, place_then, runs_over, runs_then};
 
+use crate::layers::NewRuns;
 use trace_view::Run;
 
 /// Runs over one trace or over traces that follow one another, or a trace that is to stand
@@ -17,14 +18,14 @@ pub enum Prepared {
 #[derive(Drop)]
 pub struct TracePut {
     pub place: u32,
-    pub runs: Vec<Run>,
+    pub runs: NewRuns,
 }
 
 /// A list of runs for each of these traces, of which the first is at `place`, counted from 0.
 #[derive(Drop)]
 pub struct TraceRuns {
     pub place: u32,
-    pub lists: Vec<Vec<Run>>,
+    pub lists: Vec<NewRuns>,
 }
 
 /// Trace `from` taken out, and put in again so that it is trace `to`; both count from 1.

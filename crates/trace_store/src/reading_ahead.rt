@@ -30,7 +30,7 @@ impl<T: Copy> TraceStore<T> {
             return usize::MAX;
         };
         match self.slots.get(id) {
-            Some(slot) => slot.base.loaded_place(at).unwrap_or(usize::MAX),
+            Some(slot) => slot.layers.loaded_place(at).unwrap_or(usize::MAX),
             None => usize::MAX,
         }
     }

@@ -13,10 +13,12 @@ ghost use Rattle.frame_cut.specs.Parts.{put_each_at};
 ghost use Rattle.trace_store.specs.Each.{part_of, ArePutRuns, ArePutEach};
 ghost use Rattle.trace_store.specs.OneProof.{IsStore-prop};
 
+use crate::base::Base;
+use crate::layers::{Layers, NewRuns};
 use crate::out_of_memory::OutOfMemory;
 use crate::parts::part;
 use crate::prepared::{Prepared, TraceMove, TracePut, TraceRuns};
-use crate::slot::{Base, Slot, piece};
+use crate::slot::{Slot, piece};
 use crate::window::Window;
 use base_file::{Held, ReadFault};
 use frame_cut::{Extent, Head, LoadFault};
@@ -196,7 +198,7 @@ impl<T: Copy> TraceStore<T> {
     {
         let id = self.id(p);
         match self.slots.get(id) {
-            Some(slot) => slot.base.size(),
+            Some(slot) => slot.layers.size(),
             None => unreachable!(),
         }
     }
@@ -211,7 +213,7 @@ impl<T: Copy> TraceStore<T> {
     {
         let id = self.id(p);
         match self.slots.get(id) {
-            Some(slot) => slot.whole_range(),
+            Some(slot) => slot.layers.whole_range(),
             None => unreachable!(),
         }
     }
@@ -334,8 +336,8 @@ impl<T: Copy> TraceStore<T> {
         let id = self.id(p);
         match self.slots.get(id) {
             Some(slot) => {
-                let runs = laid.unwrap_or(slot.runs.as_slice());
-                slot.base.fetch(&self.head, &mut self.loaded, runs)
+                let runs = laid.unwrap_or(slot.layers.runs());
+                slot.layers.fetch(&self.head, &mut self.loaded, runs)
             }
             None => unreachable!(),
         }
@@ -354,8 +356,8 @@ impl<T: Copy> TraceStore<T> {
         let id = self.id(p);
         match self.slots.get(id) {
             Some(slot) => {
-                let runs = laid.unwrap_or(slot.runs.as_slice());
-                TraceView::new(&self.head, slot.base.lent(&self.loaded), runs)
+                let runs = laid.unwrap_or(slot.layers.runs());
+                TraceView::new(&self.head, slot.layers.lent(&self.loaded), runs)
             }
             None => unreachable!(),
         }
@@ -558,7 +560,7 @@ impl<T: Copy> TraceStore<T> {
         at: u64,
         size: u32,
         bytes: &[u8],
-    ) -> Result<Vec<Vec<Run>>, OutOfMemory>
+    ) -> Result<Vec<NewRuns>, OutOfMemory>
         requires first { 1 ≤ a }
         requires some { 0 < size }
         requires last { a - 1 + length bytes.now / size ≤ length (traces_of self.now) }
@@ -586,56 +588,56 @@ impl<T: Copy> TraceStore<T> {
         p: u32,
         at: u64,
         bytes: &[u8],
-    ) -> Result<Vec<Run>, OutOfMemory>
+    ) -> Result<NewRuns, OutOfMemory>
         requires first { 1 ≤ p }
         requires last { p ≤ length (traces_of self.now) }
         requires some { 0 < length bytes.now }
         requires inside { at + length bytes.now ≤ length
             (slice_index_or (traces_of self.now) (p - 1) []) }
         ensures { IfOk result (λ list. ArePutRuns (slice_index_or (bases_of self.now) (p - 1) [])
-            (slice_index_or (traces_of self.now) (p - 1) []) at bytes.now list.items) }
+            (slice_index_or (traces_of self.now) (p - 1) []) at bytes.now list) }
     {
         let id = self.id(p);
         match self.slots.get(id) {
-            Some(slot) => slot.runs_with(alloc, at, bytes),
+            Some(slot) => slot.layers.runs_with(alloc, at, bytes),
             None => unreachable!(),
         }
     }
 
     // Gives trace p these runs in place of those that it has.
-    fn set_runs(&mut self, p: u32, runs: Vec<Run>)
+    fn set_runs(&mut self, p: u32, runs: NewRuns)
         requires first { 1 ≤ p }
         requires runs { AreRunsOf self.old.loaded.standing self.old.head (bases_of self.old) (p - 1)
-            runs.items }
+            runs }
         ensures head { self.new.head ≡ self.old.head }
         ensures loaded { self.new.loaded ≡ self.old.loaded }
         ensures bases { bases_of self.new ≡ bases_of self.old }
         ensures traces { traces_of self.new ≡ slice_set (traces_of self.old) (p - 1)
-            (bytes_with_runs (slice_index_or (bases_of self.old) (p - 1) []) runs.items) }
+            (bytes_with_runs (slice_index_or (bases_of self.old) (p - 1) []) runs) }
         ensures payloads { payloads_of self.new ≡ payloads_of self.old }
     {
         let id = self.id(p);
         match self.slots.get_mut(id) {
-            Some(slot) => slot.runs = runs,
+            Some(slot) => slot.layers.lay(runs),
             None => unreachable!(),
         }
     }
 
     // Gives trace p these runs in place of those that it has, and this payload.
-    fn set_slot(&mut self, p: u32, runs: Vec<Run>, payload: T)
+    fn set_slot(&mut self, p: u32, runs: NewRuns, payload: T)
         requires first { 1 ≤ p }
         requires runs { AreRunsOf self.old.loaded.standing self.old.head (bases_of self.old) (p - 1)
-            runs.items }
+            runs }
         ensures head { self.new.head ≡ self.old.head }
         ensures loaded { self.new.loaded ≡ self.old.loaded }
         ensures traces { traces_of self.new ≡ slice_set (traces_of self.old) (p - 1)
-            (bytes_with_runs (slice_index_or (bases_of self.old) (p - 1) []) runs.items) }
+            (bytes_with_runs (slice_index_or (bases_of self.old) (p - 1) []) runs) }
         ensures payloads { payloads_of self.new ≡ slice_set (payloads_of self.old) (p - 1) payload }
     {
         let id = self.id(p);
         match self.slots.get_mut(id) {
             Some(slot) => {
-                slot.runs = runs;
+                slot.layers.lay(runs);
                 slot.payload = payload;
             }
             None => unreachable!(),
@@ -667,12 +669,9 @@ impl<T: Copy> TraceStore<T> {
         ensures bases { OnErr result (bases_of self.new ≡ bases_of self.old) }
         ensures room { OnErr result (self.old.order.spare ≤ self.new.order.spare) }
     {
+        let layers = Layers::over(alloc, base)?;
         self.slots.reserve(1)?;
-        let id = self.slots.insert_reserved(Slot {
-            base,
-            runs: Vec::new(alloc),
-            payload,
-        });
+        let id = self.slots.insert_reserved(Slot { layers, payload });
         // The id is below the capacity, which is a usize.
         let _capacity = self.slots.capacity();
         if self.order.reserve_one(alloc, id).is_err() {
@@ -754,22 +753,20 @@ impl<T: Copy> TraceStore<T> {
         }
     }
 
-    /// Makes the base the whole of trace p, without runs.
-    pub fn replace(&mut self, alloc: Global, p: u32, base: Base, payload: T)
+    /// Makes the bytes the whole of trace p, without runs. Takes no memory.
+    pub fn replace(&mut self, p: u32, bytes: Box<Vec<u8>>, payload: T)
         requires first { 1 ≤ p }
         requires last { p ≤ length (traces_of self.old) }
-        requires inside { IsInside self.old.loaded.bytes base }
-        requires whole { IsTrace self.old.head (base_of self.old.loaded.bytes base) }
+        requires whole { IsTrace self.old.head bytes.value.items }
         ensures head { self.new.head ≡ self.old.head }
         ensures loaded { self.new.loaded ≡ self.old.loaded }
-        ensures traces { traces_of self.new ≡ slice_set (traces_of self.old) (p - 1)
-            (base_of self.old.loaded.bytes base) }
+        ensures traces { traces_of self.new
+            ≡ slice_set (traces_of self.old) (p - 1) bytes.value.items }
         ensures payloads { payloads_of self.new ≡ slice_set (payloads_of self.old) (p - 1) payload }
     {
         let id = self.id(p);
         let fresh = Slot {
-            base,
-            runs: Vec::new(alloc),
+            layers: Layers::added(bytes),
             payload,
         };
         match self.slots.get_mut(id) {

@@ -73,7 +73,7 @@ fn exchanged(
     ensures { IfOk result
         (λ list. contents list.items ≡ contents (take first runs.now ++ run ∷ drop last runs.now)) }
 {
-    // Room for these runs and no more: most traces that are edited have one.
+    // Room for these runs and no more: a list stays as it was made until the next put.
     let count = first.saturating_add(runs.len() - last).saturating_add(1);
     let mut list = Vec::with_capacity(alloc, count)?;
     push_copies(alloc, &mut list, &runs[..first])?;

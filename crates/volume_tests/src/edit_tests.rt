@@ -2,7 +2,7 @@
 // out: the check of a function that owns an overlay takes the longer the more it does, and that of
 // a borrower stays short. What it is lent to is a `dyn`: a type parameter would have it checked
 // anew for each test.
-ghost use Rattle.std.specs.Prelude.{◌≡◌, ◌+◌, [], length, OnOk};
+ghost use Rattle.std.specs.Prelude.{◌≡◌, ◌+◌, [], length, IfOk, OnOk};
 ghost use Rattle.frame_cut.specs.Traces.{count_of};
 
 use crate::files::two_traces;
@@ -11,7 +11,7 @@ use crate::tables::volume_of;
 use device_io::{Sink, Source, StepReader, StepWriter};
 use edit_overlay::{Loading, Overlay, SaveFault};
 use frame_cut::{Limits, LoadFault, Reading};
-use std::alloc::Global;
+use std::alloc::{AllocError, Global};
 use std::process::Abort;
 use std::test::Fail;
 use trace_view::TraceView;
@@ -51,8 +51,46 @@ fn on_small(
     requires { IsAlwaysCallable ask.now }
 {
     let file = two_traces(alloc)?;
+    on_file(alloc, file.as_slice(), ask)
+}
+
+fn on_file(
+    alloc: Global,
+    file: &[u8],
+    ask: &mut dyn FnMut(&[u8], &mut Overlay<u32>) -> Result<(), Fail>,
+) -> Result<(), Fail>
+    requires { IsAlwaysCallable ask.now }
+{
     let mut volume = volume(alloc)?;
-    ask(file.as_slice(), &mut volume)
+    ask(file, &mut volume)
+}
+
+// These parts, one behind the other.
+fn joined(alloc: Global, parts: &[&[u8]]) -> Result<Vec<u8>, AllocError> {
+    let mut bytes = Vec::new(alloc);
+    for part in parts {
+        bytes.extend_from_slice(part)?;
+    }
+    Ok(bytes)
+}
+
+// What a save writes.
+fn saved(alloc: Global, volume: &mut Overlay<u32>) -> Result<Vec<u8>, SaveFault> {
+    let mut writer = Sink::new(Vec::new(alloc));
+    volume.write_to(&mut writer)?;
+    Ok(writer.into_inner())
+}
+
+fn expect_file(
+    rt: &impl Abort,
+    alloc: Global,
+    volume: &mut Overlay<u32>,
+    expected: &[u8],
+) -> Result<(), Fail> {
+    let file = saved(alloc, volume)?;
+    assert_eq!(rt; file.len(), volume.length() as usize);
+    assert!(rt; file.as_slice() == expected);
+    Ok(())
 }
 
 // Asserts that a save writes these parts, one behind the other.
@@ -62,16 +100,8 @@ pub(crate) fn expect_saved(
     volume: &mut Overlay<u32>,
     parts: &[&[u8]],
 ) -> Result<(), Fail> {
-    let mut expected = Vec::new(alloc);
-    for part in parts {
-        expected.extend_from_slice(part)?;
-    }
-    let mut writer = Sink::new(Vec::new(alloc));
-    volume.write_to(&mut writer)?;
-    let file = writer.into_inner();
-    assert_eq!(rt; file.len(), volume.length() as usize);
-    assert!(rt; file.as_slice() == expected.as_slice());
-    Ok(())
+    let expected = joined(alloc, parts)?;
+    expect_file(rt, alloc, volume, expected.as_slice())
 }
 
 // Asserts that trace p has these bytes, at most 300.
@@ -229,7 +259,8 @@ fn replace(
     if !is_trace(&volume.head(), bytes) {
         return Err(Fail::from("no trace"));
     }
-    volume.replace(alloc, p, Vec::from_slice(alloc, bytes)?, payload);
+    let own = Box::new(alloc, Vec::from_slice(alloc, bytes)?)?;
+    volume.replace(p, own, payload);
     Ok(())
 }
 
@@ -359,10 +390,19 @@ fn give_payloads(
     Ok(())
 }
 
-fn load_in_steps(rt: &impl Abort, alloc: Global, file: &[u8]) -> Result<(), Fail> {
+// The file, read byte by byte.
+fn loading_in_steps(rt: &impl Abort, alloc: Global, file: &[u8]) -> Result<Loading<u32>, Fail>
+    ensures { IfOk result (λ l. l.payloads ≡ []) }
+{
+    let limits = limits()?;
     let mut reader = Source::new(StepReader::new(file, 1, u64::MAX));
-    let mut loading = Loading::load(alloc, &mut reader, Reading::as_written(), limits()?)?;
+    let loading = Loading::load(alloc, &mut reader, Reading::as_written(), limits)?;
     assert_eq!(rt; reader.failures(), 0);
+    Ok(loading)
+}
+
+fn load_in_steps(rt: &impl Abort, alloc: Global, file: &[u8]) -> Result<(), Fail> {
+    let mut loading = loading_in_steps(rt, alloc, file)?;
     give_payloads(rt, alloc, &mut loading, file)?;
     expect_as_loaded(rt, alloc, &mut loading.finish(), file)
 }
@@ -388,7 +428,10 @@ fn refuse_to_load(rt: &impl Abort, alloc: Global, file: &[u8]) -> Result<(), Fai
     let refused = load_fault(alloc, &mut reader, limits()?);
     assert_eq!(rt; refused, Some(LoadFault::ReadFailed));
     assert_eq!(rt; reader.failures(), 1);
+    Ok(())
+}
 
+fn refuse_what_is_too_large(rt: &impl Abort, alloc: Global, file: &[u8]) -> Result<(), Fail> {
     let small = Limits::new(4087, 2).ok_or("limits")?;
     let mut reader = Source::new(StepReader::new(file, 1000, u64::MAX));
     let refused = load_fault(alloc, &mut reader, small);
@@ -396,11 +439,16 @@ fn refuse_to_load(rt: &impl Abort, alloc: Global, file: &[u8]) -> Result<(), Fai
     Ok(())
 }
 
+fn refuse_both(rt: &impl Abort, alloc: Global, file: &[u8]) -> Result<(), Fail> {
+    refuse_to_load(rt, alloc, file)?;
+    refuse_what_is_too_large(rt, alloc, file)
+}
+
 #[test]
 fn refuses_what_cannot_be_read(rt: HostRuntime) -> Result<(), Fail> {
     let alloc = rt.alloc();
     let file = two_traces(alloc)?;
-    refuse_to_load(&rt, alloc, file.as_slice())
+    refuse_both(&rt, alloc, file.as_slice())
 }
 
 // A put over an older one, and one beside it.

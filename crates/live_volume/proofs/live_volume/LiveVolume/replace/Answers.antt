@@ -1,4 +1,4 @@
-use Rattle.std.proofs.Common.{◌≡◌, ◌∙◌, ◌-◌, IsTrue, List, map, ap, sym, arith, subst, rules, refl}
+use Rattle.std.proofs.Common.{◌≡◌, ◌∙◌, ◌-◌, ℕ, IsTrue, List, Vec, Global, length, map, ap, sym, arith, subst, rules, refl}
 use Rattle.std.specs.Prelude.{slice_set}
 use Rattle.std.proofs.lemmas.List.{map-set}
 use Rattle.frame_cut.specs.Cuts.{IsCut}
@@ -52,12 +52,13 @@ replace-requires-clause-last c =
 pub replace-requires-clause-whole : goal.replace-requires-clause-whole
 replace-requires-clause-whole c =
     let may : MayReplace (state_of c.self.inside) c.args.p c.args.bytes.items = rw (← c.self.view_is) at c.requires.fits in
-    may.whole
+    rw c.in_ok-bytes.ensures.bytes may.whole
 
 pub replace-requires-clause-small : goal.replace-requires-clause-small
 replace-requires-clause-small c =
     let may : MayReplace (state_of c.self.inside) c.args.p c.args.bytes.items = rw (← c.self.view_is) at c.requires.fits in
-    omega (arith, may.small, c.self.invariant.frame.small, c.self.inside.limits.small)
+    let size : length c.in_ok-bytes.bytes.value.items ≡ length c.args.bytes.items = ap (λ (v : Vec ℕ Global). length v.items) c.in_ok-bytes.ensures.bytes in
+    omega (arith, size, may.small, c.self.invariant.frame.small, c.self.inside.limits.small)
 
 pub invariant_of-self-2 : goal.invariant_of-self-2
 invariant_of-self-2 c =
@@ -70,13 +71,14 @@ invariant_of-self-2 c =
     let may : MayReplace (state_of b) c.args.p t = rw (← c.self.view_is) at c.requires.fits in
     let w : Volume = with_trace v c.args.p t in
     let e : CountedVolume PackedRecord = c.replace.new.self in
-    let is : e.volume ≡ w = ap (λ (o : CountedVolume PackedRecord). o.volume) c.replace.ensures in
+    let placed : with_trace v c.args.p c.in_ok-bytes.bytes.value.items ≡ w = ap (λ (bs : Vec ℕ Global). with_trace v c.args.p bs.items) c.in_ok-bytes.ensures.bytes in
+    let is : e.volume ≡ w = ap (λ (o : CountedVolume PackedRecord). o.volume) c.replace.ensures ∙ placed in
     let put : map record_in e.payloads ≡ slice_set rs i c.args.trace.now =
     ap (λ (o : CountedVolume PackedRecord). map record_in o.payloads) c.replace.ensures ∙ (map-set record_in b.overlay.payloads i c.of.result ∙ ap (λ (r : Record). slice_set rs i r) c.of.ensures) in
     let stays : e.agreed ≡ b.overlay.agreed = ap (λ (o : CountedVolume PackedRecord). o.agreed) c.replace.ensures in
     let cut : IsTrue b.overlay.agreed → IsCut (bytes_of w) b.reading b.limits w = rw (← c.self.view_is) at c.requires.cut in
     let own = rw (← c.self.view_is) at c.requires.record in
-    held_edited b e c.exchange.new.self w (slice_set rs i c.args.trace.now) c.self.invariant is (ap (λ (o : CountedVolume PackedRecord). o.prepared) c.replace.ensures ∙ sym is) put refl
+    held_edited b e c.exchange.new.self w (slice_set rs i c.args.trace.now) c.self.invariant is (ap (λ (o : CountedVolume PackedRecord). o.prepared) c.replace.ensures ∙ (placed ∙ sym is)) put refl
     (frame_replaced b.limits v c.args.p t c.self.invariant.frame may.first may.last may.small)
     (measured_set rs v.traces i c.args.trace.now t c.requires.number (header_of_trace v.head t may.whole) c.self.invariant.measured)
     (λ sure. cut (subst IsTrue stays sure))

@@ -23,8 +23,8 @@ fetch-requires-clause-fit g c =
     let s = c.args.self.now in
     let slot = c.in-Some.slot.now in
     let sound = slot-found s.loaded s.head s.order.ids s.slots c.args.p c.id-id.result slot s.sound.held c.id-id.ensures (sym c.in-Some.ensures) in
-    let runs = chosen_runs c.args.laid c.as_slice.result c.unwrap_or-runs.result slot.runs.items c.unwrap_or-runs.ensures c.as_slice.ensures.value in
-    subst (λ (rs : List Run). Fit rs (size_of slot.base)) (sym runs)
+    let runs = chosen_runs c.args.laid c.runs.result c.unwrap_or-runs.result slot.layers.runs c.unwrap_or-runs.ensures c.runs.ensures in
+    subst (λ (rs : List Run). Fit rs (size_of slot.layers.base)) (sym runs)
     (laid-fit s c.args.p c.id-id.result slot c.id-id.ensures (sym c.in-Some.ensures) (option_copied c.args.laid) sound c.requires.laid)
 
 pub invariant_of-self-in-Some : goal.invariant_of-self-in-Some

@@ -16,7 +16,7 @@ pub returns-in_err-reserve-clause-err : goal.returns-in_err-reserve-clause-err
 returns-in_err-reserve-clause-err g c =
     let s = c.args.self.now in
     let room : SameValues s.slots c.reserve.new.self = room-made s.slots c.reserve.new.self c.reserve.new.self.capacity c.reserve.ensures.rest_kept in
-    on_err c.from_residual.result _ (traces-same s.loaded.bytes s.order.ids s.slots c.reserve.new.self room)
+    on_err c.from_residual-in_err-reserve.result _ (traces-same s.loaded.bytes s.order.ids s.slots c.reserve.new.self room)
 
 -- where the order has no room, the slot is taken out again
 
@@ -24,7 +24,7 @@ pub invariant_of-self-then-is_err : goal.invariant_of-self-then-is_err
 invariant_of-self-then-is_err g c =
     let s = c.args.self.now in
     let room : SameValues s.slots c.reserve.new.self = room-made s.slots c.reserve.new.self c.reserve.new.self.capacity c.reserve.ensures.rest_kept in
-    let back : SameValues c.reserve.new.self c.remove.new.self = taken-back c.reserve.new.self c.insert_reserved-id.new.self c.remove.new.self c.insert_reserved-id.result (Some (record { base = c.args.base; runs = c.new.result; payload = c.args.payload })) c.insert_reserved-id.ensures.was_vacant c.insert_reserved-id.ensures.updates c.remove.ensures.updates in
+    let back : SameValues c.reserve.new.self c.remove.new.self = taken-back c.reserve.new.self c.insert_reserved-id.new.self c.remove.new.self c.insert_reserved-id.result (Some (record { layers = c.in_ok-layers.layers; payload = c.args.payload })) c.insert_reserved-id.ensures.was_vacant c.insert_reserved-id.ensures.updates c.remove.ensures.updates in
     let held : AreHeld s.loaded s.head s.order.ids c.remove.new.self =
     held-same s.loaded s.head s.order.ids c.reserve.new.self c.remove.new.self (held-same s.loaded s.head s.order.ids s.slots c.reserve.new.self s.sound.held room) back in
     record {
@@ -40,7 +40,7 @@ pub returns-then-is_err-clause-err : goal.returns-then-is_err-clause-err
 returns-then-is_err-clause-err g c =
     let s = c.args.self.now in
     let room : SameValues s.slots c.reserve.new.self = room-made s.slots c.reserve.new.self c.reserve.new.self.capacity c.reserve.ensures.rest_kept in
-    let back : SameValues c.reserve.new.self c.remove.new.self = taken-back c.reserve.new.self c.insert_reserved-id.new.self c.remove.new.self c.insert_reserved-id.result (Some (record { base = c.args.base; runs = c.new.result; payload = c.args.payload })) c.insert_reserved-id.ensures.was_vacant c.insert_reserved-id.ensures.updates c.remove.ensures.updates in
+    let back : SameValues c.reserve.new.self c.remove.new.self = taken-back c.reserve.new.self c.insert_reserved-id.new.self c.remove.new.self c.insert_reserved-id.result (Some (record { layers = c.in_ok-layers.layers; payload = c.args.payload })) c.insert_reserved-id.ensures.was_vacant c.insert_reserved-id.ensures.updates c.remove.ensures.updates in
     ap (λ (xs : List ℕ). map (bytes_under s.loaded.bytes c.remove.new.self) xs) c.reserve_one.ensures.ids
     ∙ (traces-same s.loaded.bytes s.order.ids c.reserve.new.self c.remove.new.self back ∙ traces-same s.loaded.bytes s.order.ids s.slots c.reserve.new.self room)
 
@@ -48,7 +48,7 @@ pub returns-then-is_err-clause-bases : goal.returns-then-is_err-clause-bases
 returns-then-is_err-clause-bases g c =
     let s = c.args.self.now in
     let room : SameValues s.slots c.reserve.new.self = room-made s.slots c.reserve.new.self c.reserve.new.self.capacity c.reserve.ensures.rest_kept in
-    let back : SameValues c.reserve.new.self c.remove.new.self = taken-back c.reserve.new.self c.insert_reserved-id.new.self c.remove.new.self c.insert_reserved-id.result (Some (record { base = c.args.base; runs = c.new.result; payload = c.args.payload })) c.insert_reserved-id.ensures.was_vacant c.insert_reserved-id.ensures.updates c.remove.ensures.updates in
+    let back : SameValues c.reserve.new.self c.remove.new.self = taken-back c.reserve.new.self c.insert_reserved-id.new.self c.remove.new.self c.insert_reserved-id.result (Some (record { layers = c.in_ok-layers.layers; payload = c.args.payload })) c.insert_reserved-id.ensures.was_vacant c.insert_reserved-id.ensures.updates c.remove.ensures.updates in
     ap (λ (xs : List ℕ). map (base_under s.loaded.bytes c.remove.new.self) xs) c.reserve_one.ensures.ids
     ∙ (bases-same s.loaded.bytes s.order.ids c.reserve.new.self c.remove.new.self back ∙ bases-same s.loaded.bytes s.order.ids s.slots c.reserve.new.self room)
 
@@ -56,8 +56,8 @@ pub invariant_of-self-2 : goal.invariant_of-self-2
 invariant_of-self-2 g c =
     let s = c.args.self.now in
     let key = c.insert_reserved-id.result in
-    let new : Slot g.row.T.Denot = record { base = c.args.base; runs = c.new.result; payload = c.args.payload } in
-    let fresh : IsFreshSlot s.loaded s.head new = fresh-slot s.loaded s.head new c.new.ensures.items c.requires.inside c.requires.whole in
+    let new : Slot g.row.T.Denot = record { layers = c.in_ok-layers.layers; payload = c.args.payload } in
+    let fresh : IsFreshSlot s.loaded s.head new c.args.base = fresh-slot s.loaded s.head new c.args.base c.in_ok-layers.ensures c.requires.inside c.requires.whole in
     let room : SameValues s.slots c.reserve.new.self = room-made s.slots c.reserve.new.self c.reserve.new.self.capacity c.reserve.ensures.rest_kept in
     let held : AreHeld s.loaded s.head s.order.ids c.reserve.new.self = held-same s.loaded s.head s.order.ids s.slots c.reserve.new.self s.sound.held room in
     let absent : times key s.order.ids ≡ 0 = vacant-absent s.loaded s.head s.order.ids c.reserve.new.self key held c.insert_reserved-id.ensures.was_vacant in
@@ -77,8 +77,8 @@ pub returns-clause-ok : goal.returns-clause-ok
 returns-clause-ok g c =
     let s = c.args.self.now in
     let key = c.insert_reserved-id.result in
-    let new : Slot g.row.T.Denot = record { base = c.args.base; runs = c.new.result; payload = c.args.payload } in
-    let fresh : IsFreshSlot s.loaded s.head new = fresh-slot s.loaded s.head new c.new.ensures.items c.requires.inside c.requires.whole in
+    let new : Slot g.row.T.Denot = record { layers = c.in_ok-layers.layers; payload = c.args.payload } in
+    let fresh : IsFreshSlot s.loaded s.head new c.args.base = fresh-slot s.loaded s.head new c.args.base c.in_ok-layers.ensures c.requires.inside c.requires.whole in
     let room : SameValues s.slots c.reserve.new.self = room-made s.slots c.reserve.new.self c.reserve.new.self.capacity c.reserve.ensures.rest_kept in
     let held : AreHeld s.loaded s.head s.order.ids c.reserve.new.self = held-same s.loaded s.head s.order.ids s.slots c.reserve.new.self s.sound.held room in
     let absent : times key s.order.ids ≡ 0 = vacant-absent s.loaded s.head s.order.ids c.reserve.new.self key held c.insert_reserved-id.ensures.was_vacant in
@@ -91,13 +91,13 @@ pub returns-in_err-reserve-clause-payloads : goal.returns-in_err-reserve-clause-
 returns-in_err-reserve-clause-payloads g c =
     let s = c.args.self.now in
     let room : SameValues s.slots c.reserve.new.self = room-made s.slots c.reserve.new.self c.reserve.new.self.capacity c.reserve.ensures.rest_kept in
-    on_err c.from_residual.result _ (ap (λ (os : List (Option g.row.T.Denot)). somes os) (payloads-same s.order.ids s.slots c.reserve.new.self room))
+    on_err c.from_residual-in_err-reserve.result _ (ap (λ (os : List (Option g.row.T.Denot)). somes os) (payloads-same s.order.ids s.slots c.reserve.new.self room))
 
 pub returns-then-is_err-clause-payloads : goal.returns-then-is_err-clause-payloads
 returns-then-is_err-clause-payloads g c =
     let s = c.args.self.now in
     let room : SameValues s.slots c.reserve.new.self = room-made s.slots c.reserve.new.self c.reserve.new.self.capacity c.reserve.ensures.rest_kept in
-    let back : SameValues c.reserve.new.self c.remove.new.self = taken-back c.reserve.new.self c.insert_reserved-id.new.self c.remove.new.self c.insert_reserved-id.result (Some (record { base = c.args.base; runs = c.new.result; payload = c.args.payload })) c.insert_reserved-id.ensures.was_vacant c.insert_reserved-id.ensures.updates c.remove.ensures.updates in
+    let back : SameValues c.reserve.new.self c.remove.new.self = taken-back c.reserve.new.self c.insert_reserved-id.new.self c.remove.new.self c.insert_reserved-id.result (Some (record { layers = c.in_ok-layers.layers; payload = c.args.payload })) c.insert_reserved-id.ensures.was_vacant c.insert_reserved-id.ensures.updates c.remove.ensures.updates in
     ap (λ (xs : List ℕ). somes (map (payload_under c.remove.new.self) xs)) c.reserve_one.ensures.ids
     ∙ ap (λ (os : List (Option g.row.T.Denot)). somes os) (payloads-same s.order.ids c.reserve.new.self c.remove.new.self back ∙ payloads-same s.order.ids s.slots c.reserve.new.self room)
 
@@ -105,7 +105,7 @@ pub returns-clause-put : goal.returns-clause-put
 returns-clause-put g c =
     let s = c.args.self.now in
     let key = c.insert_reserved-id.result in
-    let new : Slot g.row.T.Denot = record { base = c.args.base; runs = c.new.result; payload = c.args.payload } in
+    let new : Slot g.row.T.Denot = record { layers = c.in_ok-layers.layers; payload = c.args.payload } in
     let room : SameValues s.slots c.reserve.new.self = room-made s.slots c.reserve.new.self c.reserve.new.self.capacity c.reserve.ensures.rest_kept in
     let held : AreHeld s.loaded s.head s.order.ids c.reserve.new.self = held-same s.loaded s.head s.order.ids s.slots c.reserve.new.self s.sound.held room in
     let absent : times key s.order.ids ≡ 0 = vacant-absent s.loaded s.head s.order.ids c.reserve.new.self key held c.insert_reserved-id.ensures.was_vacant in

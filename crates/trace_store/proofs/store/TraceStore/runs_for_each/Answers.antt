@@ -1,4 +1,4 @@
-use Rattle.std.proofs.Common.{◌≡◌, ◌+◌, ◌-◌, ◌≤◌, [], ◌∷◌, List, Vec, Global, length, ap, arith, length-append}
+use Rattle.std.proofs.Common.{◌≡◌, ◌+◌, ◌-◌, ◌≤◌, [], ◌∷◌, List, length, ap, arith, length-append}
 use Rattle.std.specs.Prelude.{slice_index_or}
 use Rattle.trace_view.specs.declared.run.Run.{Run}
 use Rattle.trace_store.specs.Stores.{bases_of, traces_of}
@@ -15,7 +15,7 @@ pub loop-k-preserved : goal.loop-k-preserved
 loop-k-preserved g c =
     let place : c.args.a + c.loop-k.k - 1 ≡ c.args.a - 1 + c.loop-k.k = omega (arith, c.requires.first) in
     record {
-      count = omega (arith, ap (λ (xs : List (Vec Run Global)). length xs) c.in_ok-push.ensures.items, length-append c.loop-k.lists.items (c.in_ok-runs.runs ∷ []), c.loop-k.invariant.count);
+      count = omega (arith, ap (λ (xs : List (List Run)). length xs) c.in_ok-push.ensures.items, length-append c.loop-k.lists.items (c.in_ok-runs.runs ∷ []), c.loop-k.invariant.count);
       runs = rw c.in_ok-push.ensures.items
           (runs-more (bases_of c.args.self.now) (traces_of c.args.self.now) (c.args.a - 1) c.args.at c.args.size c.args.bytes.now c.loop-k.k (c.args.a + c.loop-k.k - 1) c.part-part.result.now c.loop-k.lists.items c.in_ok-runs.runs c.loop-k.invariant.runs place c.part-part.ensures.part c.in_ok-runs.ensures);
     }

@@ -1,4 +1,4 @@
-use Rattle.std.proofs.Common.{◌-◌, [], ℕ, List, Vec, Global, length, sym, ap, subst, arith}
+use Rattle.std.proofs.Common.{◌-◌, [], ℕ, List, length, sym, ap, subst, arith}
 use Rattle.std.specs.Prelude.{slice_index_or}
 use Rattle.trace_view.specs.declared.run.Run.{Run}
 use Rattle.trace_view.specs.Runs.{Fit}
@@ -14,7 +14,7 @@ runs_with-requires-clause-fit g c =
     let s = c.args.self.now in
     let here = c.in-Some.slot.now in
     let slot = slot-found s.loaded s.head s.order.ids s.slots c.args.p c.id-id.result here s.sound.held c.id-id.ensures (sym c.in-Some.ensures) in
-    subst (λ (n : ℕ). Fit here.runs.items n) (base-length s.loaded.bytes here.base slot.inside) slot.fit
+    subst (λ (n : ℕ). Fit here.layers.runs n) (base-length s.loaded.bytes here.layers.base slot.inside) slot.fit
 
 pub runs_with-requires-clause-inside : goal.runs_with-requires-clause-inside
 runs_with-requires-clause-inside g c =
@@ -22,7 +22,7 @@ runs_with-requires-clause-inside g c =
     let here = c.in-Some.slot.now in
     let slot = slot-found s.loaded s.head s.order.ids s.slots c.args.p c.id-id.result here s.sound.held c.id-id.ensures (sym c.in-Some.ensures) in
     let trace = trace-at s.loaded.bytes s.order.ids s.slots c.args.p c.id-id.result here c.id-id.ensures (sym c.in-Some.ensures) in
-    omega (arith, c.requires.inside, ap (λ (t : List ℕ). length t) trace, length-written (base_of s.loaded.bytes here.base) here.runs.items slot.fit, base-length s.loaded.bytes here.base slot.inside)
+    omega (arith, c.requires.inside, ap (λ (t : List ℕ). length t) trace, length-written (base_of s.loaded.bytes here.layers.base) here.layers.runs slot.fit, base-length s.loaded.bytes here.layers.base slot.inside)
 
 pub unreachable-requires : goal.unreachable-requires
 unreachable-requires g c =
@@ -37,4 +37,4 @@ returns g c =
     let trace = trace-at s.loaded.bytes s.order.ids s.slots c.args.p c.id-id.result here c.id-id.ensures (sym c.in-Some.ensures) in
     let base = base-at s.loaded.bytes s.order.ids s.slots c.args.p c.id-id.result here c.id-id.ensures (sym c.in-Some.ensures) in
     both_ok _ _ _ c.runs_with.result c.runs_with.ensures.fit c.runs_with.ensures.bytes
-    (λ (list : Vec Run Global) fit shows. put-runs s.loaded.bytes here (slice_index_or (bases_of s) (c.args.p - 1) []) (slice_index_or (traces_of s) (c.args.p - 1) []) c.args.at c.args.bytes.now list.items slot.inside base trace fit shows)
+    (λ (list : List Run) fit shows. put-runs s.loaded.bytes here (slice_index_or (bases_of s) (c.args.p - 1) []) (slice_index_or (traces_of s) (c.args.p - 1) []) c.args.at c.args.bytes.now list slot.inside base trace fit shows)

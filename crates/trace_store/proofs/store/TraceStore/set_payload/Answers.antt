@@ -16,7 +16,7 @@ invariant_of-self g c =
     let s = c.args.self.now in
     let id = c.id-id.result in
     let old : Slot g.row.T.Denot = c.in-Some.slot.now in
-    let new : Slot g.row.T.Denot = record { base = old.base; runs = old.runs; payload = c.args.payload } in
+    let new : Slot g.row.T.Denot = record { layers = old.layers; payload = c.args.payload } in
     let slot = slot-found s.loaded s.head s.order.ids s.slots c.args.p id old s.sound.held c.id-id.ensures (sym c.in-Some.ensures.value) in
     let sound : IsSlot s.loaded s.head new = record { inside = slot.inside; fit = slot.fit; whole = slot.whole } in
     let up : Updates s.slots (with_value s.slots id new) id (Some new) = write-updates s.slots id old new (sym c.in-Some.ensures.value) in
@@ -34,7 +34,7 @@ returns-clause-bases g c =
     let s = c.args.self.now in
     let id = c.id-id.result in
     let old : Slot g.row.T.Denot = c.in-Some.slot.now in
-    let new : Slot g.row.T.Denot = record { base = old.base; runs = old.runs; payload = c.args.payload } in
+    let new : Slot g.row.T.Denot = record { layers = old.layers; payload = c.args.payload } in
     let up : Updates s.slots (with_value s.slots id new) id (Some new) = write-updates s.slots id old new (sym c.in-Some.ensures.value) in
     bases-kept s.loaded.bytes s.order.ids s.slots (with_value s.slots id new) id old new (sym c.in-Some.ensures.value) refl up
 
@@ -43,7 +43,7 @@ returns-clause-traces g c =
     let s = c.args.self.now in
     let id = c.id-id.result in
     let old : Slot g.row.T.Denot = c.in-Some.slot.now in
-    let new : Slot g.row.T.Denot = record { base = old.base; runs = old.runs; payload = c.args.payload } in
+    let new : Slot g.row.T.Denot = record { layers = old.layers; payload = c.args.payload } in
     let up : Updates s.slots (with_value s.slots id new) id (Some new) = write-updates s.slots id old new (sym c.in-Some.ensures.value) in
     traces-kept s.loaded.bytes s.order.ids s.slots (with_value s.slots id new) id old new (sym c.in-Some.ensures.value) refl refl up
 
@@ -52,6 +52,6 @@ returns-clause-payloads g c =
     let s = c.args.self.now in
     let id = c.id-id.result in
     let old : Slot g.row.T.Denot = c.in-Some.slot.now in
-    let new : Slot g.row.T.Denot = record { base = old.base; runs = old.runs; payload = c.args.payload } in
+    let new : Slot g.row.T.Denot = record { layers = old.layers; payload = c.args.payload } in
     let up : Updates s.slots (with_value s.slots id new) id (Some new) = write-updates s.slots id old new (sym c.in-Some.ensures.value) in
     payloads-changed s.loaded s.head s.order.ids s.slots s.sound.held (with_value s.slots id new) c.args.p id new s.sound.distinct c.id-id.ensures up

@@ -1,9 +1,10 @@
-use Rattle.std.proofs.Common.{◌-◌, [], ◌∙◌, ℕ, List, Option, Some, length, refl, sym, ap}
+use Rattle.std.proofs.Common.{◌-◌, [], ◌∙◌, ℕ, List, Option, Some, length, refl, sym, ap, subst}
 use Rattle.std.specs.Prelude.{slice_index_or, slice_set}
 use Rattle.slab.specs.Slab.{with_value, Updates}
 use Rattle.trace_view.specs.Runs.{bytes_with_runs}
 use Rattle.trace_store.specs.declared.slot.Slot.{Slot}
-use Rattle.trace_store.specs.Slots.{IsSlot}
+use Rattle.trace_store.specs.Layers.{Layered, laid_over}
+use Rattle.trace_store.specs.Slots.{base_of, IsSlot}
 use Rattle.trace_store.specs.Stores.{bases_of, traces_of}
 use Rattle.trace_store.proofs.SlotLemmas.{slot-found, slot-missed, base-at, runs-slot, bases-kept, write-updates, write-counts, traces-changed, held-changed}
 use Rattle.trace_store.proofs.PayloadLemmas.{payloads-kept}
@@ -20,10 +21,13 @@ invariant_of-self g c =
     let s = c.args.self.now in
     let id = c.id-id.result in
     let old : Slot g.row.T.Denot = c.in-Some.slot.now in
-    let new : Slot g.row.T.Denot = record { base = old.base; runs = c.args.runs; payload = old.payload } in
+    let new : Slot g.row.T.Denot = record { layers = c.lay.new.self; payload = old.payload } in
     let slot = slot-found s.loaded s.head s.order.ids s.slots c.args.p id old s.sound.held c.id-id.ensures (sym c.in-Some.ensures.value) in
     let base = base-at s.loaded.bytes s.order.ids s.slots c.args.p id old c.id-id.ensures (sym c.in-Some.ensures.value) in
-    let sound : IsSlot s.loaded s.head new = runs-slot s.loaded s.head old new (slice_index_or (bases_of s) (c.args.p - 1) []) refl base slot c.requires.runs.fit c.requires.runs.whole in
+    let at : Layered → Slot g.row.T.Denot = λ l. record { layers = l; payload = old.payload } in
+    let sound : IsSlot s.loaded s.head new =
+    subst (λ (l : Layered). IsSlot s.loaded s.head (at l)) (sym c.lay.ensures)
+    (runs-slot s.loaded s.head old (at (laid_over old.layers c.args.runs)) (slice_index_or (bases_of s) (c.args.p - 1) []) refl base slot c.requires.runs.fit c.requires.runs.whole) in
     let up : Updates s.slots (with_value s.slots id new) id (Some new) = write-updates s.slots id old new (sym c.in-Some.ensures.value) in
     record {
       sound = record {
@@ -39,26 +43,27 @@ returns-clause-bases g c =
     let s = c.args.self.now in
     let id = c.id-id.result in
     let old : Slot g.row.T.Denot = c.in-Some.slot.now in
-    let new : Slot g.row.T.Denot = record { base = old.base; runs = c.args.runs; payload = old.payload } in
+    let new : Slot g.row.T.Denot = record { layers = c.lay.new.self; payload = old.payload } in
     let up : Updates s.slots (with_value s.slots id new) id (Some new) = write-updates s.slots id old new (sym c.in-Some.ensures.value) in
-    bases-kept s.loaded.bytes s.order.ids s.slots (with_value s.slots id new) id old new (sym c.in-Some.ensures.value) refl up
+    bases-kept s.loaded.bytes s.order.ids s.slots (with_value s.slots id new) id old new (sym c.in-Some.ensures.value) (ap (λ (l : Layered). l.base) c.lay.ensures) up
 
 pub returns-clause-traces : goal.returns-clause-traces
 returns-clause-traces g c =
     let s = c.args.self.now in
     let id = c.id-id.result in
     let old : Slot g.row.T.Denot = c.in-Some.slot.now in
-    let new : Slot g.row.T.Denot = record { base = old.base; runs = c.args.runs; payload = old.payload } in
+    let new : Slot g.row.T.Denot = record { layers = c.lay.new.self; payload = old.payload } in
     let base = base-at s.loaded.bytes s.order.ids s.slots c.args.p id old c.id-id.ensures (sym c.in-Some.ensures.value) in
     let up : Updates s.slots (with_value s.slots id new) id (Some new) = write-updates s.slots id old new (sym c.in-Some.ensures.value) in
     traces-changed s.loaded.bytes s.order.ids s.slots (with_value s.slots id new) c.args.p id new s.sound.distinct c.id-id.ensures up
-    ∙ ap (λ (b : List ℕ). slice_set (traces_of s) (c.args.p - 1) (bytes_with_runs b c.args.runs.items)) (sym base)
+    ∙ (ap (λ (l : Layered). slice_set (traces_of s) (c.args.p - 1) (bytes_with_runs (base_of s.loaded.bytes l.base) l.runs)) c.lay.ensures
+    ∙ ap (λ (b : List ℕ). slice_set (traces_of s) (c.args.p - 1) (bytes_with_runs b c.args.runs)) (sym base))
 
 pub returns-clause-payloads : goal.returns-clause-payloads
 returns-clause-payloads g c =
     let s = c.args.self.now in
     let id = c.id-id.result in
     let old : Slot g.row.T.Denot = c.in-Some.slot.now in
-    let new : Slot g.row.T.Denot = record { base = old.base; runs = c.args.runs; payload = old.payload } in
+    let new : Slot g.row.T.Denot = record { layers = c.lay.new.self; payload = old.payload } in
     let up : Updates s.slots (with_value s.slots id new) id (Some new) = write-updates s.slots id old new (sym c.in-Some.ensures.value) in
     ap (λ (os : List (Option g.row.T.Denot)). somes os) (payloads-kept s.order.ids s.slots (with_value s.slots id new) id old new (sym c.in-Some.ensures.value) refl up)

@@ -13,10 +13,10 @@ returns-clause-inside g c =
     let s = c.args.self.now in
     let slot = c.in-Some.slot.now in
     let sound = slot-found s.loaded s.head s.order.ids s.slots c.args.p c.id-id.result slot s.sound.held c.id-id.ensures (sym c.in-Some.ensures) in
-    range_inside s.loaded.bytes slot c.whole_range.result sound.inside c.whole_range.ensures
+    range_inside s.loaded.bytes slot c.whole_range.result sound.inside c.whole_range.ensures.range
 
 pub returns-clause-bytes : goal.returns-clause-bytes
 returns-clause-bytes g c =
     let s = c.args.self.now in
     let slot = c.in-Some.slot.now in
-    range_bytes s.loaded.bytes slot _ c.whole_range.result (trace-at s.loaded.bytes s.order.ids s.slots c.args.p c.id-id.result slot c.id-id.ensures (sym c.in-Some.ensures)) c.whole_range.ensures
+    range_bytes s.loaded.bytes slot _ c.whole_range.result (trace-at s.loaded.bytes s.order.ids s.slots c.args.p c.id-id.result slot c.id-id.ensures (sym c.in-Some.ensures)) c.whole_range.ensures.range

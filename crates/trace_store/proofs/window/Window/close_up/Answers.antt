@@ -1,4 +1,4 @@
-use Rattle.std.proofs.Common.{◌≡◌, ◌∙◌, ◌-◌, take, ap}
+use Rattle.std.proofs.Common.{◌∙◌, ◌-◌, take, ap}
 use Rattle.trace_store.specs.Windows.{WindowBytes}
 use Rattle.trace_store.proofs.WindowLemmas.{view_moved}
 use Rattle.trace_store.proofs.window.Window.close_up.Goals as goal

@@ -2,7 +2,7 @@ use Rattle.std.proofs.Common.{◌≡◌, ℕ, Bool, Option, Some, None, IsTrue, 
 use Rattle.std.specs.Option.{option_eq}
 use Rattle.std.proofs.lemmas.Bool.Decides.{eqb_tells}
 use Rattle.trace_view.proofs.WrittenLemmas.{length-written}
-use Rattle.trace_store.proofs.slot.is_whole.Goals as goal
+use Rattle.trace_store.proofs.whole.is_whole.Goals as goal
 
 -- a test that it is this number
 is_number : (o : Option ℕ) (n : ℕ) (b : Bool) → b ≡ option_eq nat_eq o (Some n) → (IsTrue b → o ≡ Some n) × (o ≡ Some n → IsTrue b)

@@ -11,7 +11,7 @@ ghost use Rattle.fault_live.specs.OfKeys.{times_among};
 ghost use Rattle.fault_live.specs.OfFaults.{count_in, HasRoom, tally_of_faults};
 ghost use Rattle.fault_live.specs.Faults.{faults_of};
 
-use crate::firsts::{extent_of, first_place, key_alone, key_beside, key_of, keys_of};
+use crate::firsts::{first_place, key_alone, key_beside, key_of, keys_of, window_of};
 use crate::report::{push_head, push_trace, units_of_first};
 use crate::{Fault, HeadFacts, OutOfMemory};
 use key_counts::{lower_any, raise_any};
@@ -19,7 +19,7 @@ use record_table::{Records, Running};
 use std::alloc::Global;
 use std::collections::BTreeMap;
 use trace_record::Record;
-use window_counts::{OffsetRectangle, TripleCounts, Window};
+use window_counts::{TripleCounts, Window};
 
 /// How often inline, crossline and offset stand together, over traces that come and go.
 #[derive(Drop)]
@@ -44,7 +44,7 @@ impl Running for Faults {
     }
 
     fn from_records(alloc: Global, records: &Records) -> Result<Faults, record_table::OutOfMemory> {
-        let window = OffsetRectangle::over(&extent_of(records), records.len());
+        let window = window_of(alloc, records)?;
         if window.len() == 0 {
             return Faults::from_key_list(alloc, records);
         }

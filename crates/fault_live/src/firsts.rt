@@ -14,7 +14,7 @@ use record_table::Records;
 use std::alloc::{AllocError, Global};
 use std::collections::BTreeMap;
 use trace_record::Record;
-use window_counts::{Extent, OffsetExtent};
+use window_counts::{Extent, OffsetExtent, OffsetRectangle, Window};
 
 // Inline, crossline and offset together.
 pub(crate) fn key_of(trace: &Record) -> (i32, i32, i32)
@@ -38,8 +38,32 @@ pub(crate) fn key_beside(trace: &Record, other: &Record) -> Option<(i32, i32, i3
     beside(key_alone(trace), key_alone(other))
 }
 
+// Places for the keys of these traces: the cells at one offset, where enough traces share it, or
+// else each at the offset of its last trace; none where they lie apart. Takes memory for the
+// offsets of cells.
+pub(crate) fn window_of(alloc: Global, records: &Records) -> Result<OffsetRectangle, AllocError> {
+    let extent = extent_of(records);
+    let window = OffsetRectangle::over(&extent, records.len());
+    if window.len() > 0 {
+        return Ok(window);
+    }
+    let window = OffsetRectangle::by_cell(alloc, &extent, records.len())?;
+    if window.len() == 0 {
+        return Ok(window);
+    }
+    Ok(with_offsets_of(window, records))
+}
+
+// The cells at the offsets of these traces.
+fn with_offsets_of(mut window: OffsetRectangle, records: &Records) -> OffsetRectangle {
+    for trace in records.iter() {
+        window.meet(key_of(&trace));
+    }
+    window
+}
+
 // How far the keys of these traces reach.
-pub(crate) fn extent_of(records: &Records) -> OffsetExtent {
+fn extent_of(records: &Records) -> OffsetExtent {
     let mut extent = OffsetExtent::none();
     for trace in records.iter() {
         extent.include(key_of(&trace));

@@ -20,16 +20,17 @@ pub(crate) struct Values {
 }
 
 impl Values {
-    // The values that counted these records, each made at once.
+    // The values that counted these records, each made at once: first those that may need the
+    // longest lists while they are made, so that little else is held beside the lists.
     pub(crate) fn from_records(alloc: Global, records: &Records) -> Result<Values, OutOfMemory>
         requires { AreSmall (tallies_of_records (map facts_of records.now)) }
         ensures { IfOk result (λ values. SameEach (tallies_of values)
             (tallies_of_records (map facts_of records.now))) }
     {
-        let grid = Grid::from_records(alloc, records)?;
-        let ranges = Ranges::from_records(alloc, records)?;
         let totals = Totals::from_records(alloc, records)?;
         let triples = Faults::from_records(alloc, records)?;
+        let ranges = Ranges::from_records(alloc, records)?;
+        let grid = Grid::from_records(alloc, records)?;
         Ok(Values {
             grid,
             ranges,

@@ -40,3 +40,5 @@ mod tables;
 mod view_tests;
 #[cfg(test)]
 mod views;
+#[cfg(test)]
+mod window_tests;

@@ -11,7 +11,7 @@ use Rattle.std.proofs.lemmas.Map.Lookups.{exact_signed}
 use Rattle.std.specs.declared.cmp.Ordering.{Ordering}
 use Rattle.std.specs.declared.cmp.Ordering.TheVariants.{Less, Equal, Greater}
 use Rattle.window_counts.specs.Window.{ArePlaced}
-use Rattle.window_counts.specs.Places.{place_within, interval_place, interval_key, cell_cmp, place_at, cell_place, cell_key, triple_cmp, triple_place, triple_key}
+use Rattle.window_counts.specs.Places.{place_within, interval_place, interval_key, cell_cmp, place_at, cell_place, cell_key, triple_cmp, place_with, triple_place, triple_key}
 
 less : (a b : ℤ) → a <ℤ b → int_cmp a b ≡ Less
 less a b h = sym (int_cmp_is a b Less h)
@@ -130,23 +130,30 @@ cell_rising low n w p q h high =
 pub cell_placed : (low : ℤ × ℤ) (n w : ℕ) → ArePlaced cell_cmp (n * w) (cell_place low n w) (cell_key low w)
 cell_placed low n w = record { within = cell_within low n w; found = cell_found low n w; rising = cell_rising low n w }
 
--- ---- a rectangle at one offset
+-- ---- a rectangle, each cell at one offset
 
-triple_within : (low : ℤ × ℤ) (n w : ℕ) (o : ℤ) (k : ℤ × ℤ × ℤ) (p : ℕ) → triple_place low n w o k ≡ Some p → (p < n * w) × (triple_cmp k (triple_key low w o p) ≡ Equal)
-triple_within low n w o k p e = by (int_eq k.2 o) refl e
+triple_within : (low : ℤ × ℤ) (n w : ℕ) (offset : ℕ → ℤ) (k : ℤ × ℤ × ℤ) (p : ℕ) → triple_place low n w offset k ≡ Some p → (p < n * w) × (triple_cmp k (triple_key low w offset p) ≡ Equal)
+triple_within low n w offset k p e = by (cell_place low n w (k.0, k.1)) refl e
   where
-    by : (b : Bool) → int_eq k.2 o ≡ b → (if b then cell_place low n w (k.0, k.1) else None) ≡ Some p → (p < n * w) × (triple_cmp k (triple_key low w o p) ≡ Equal)
-    by true f e = let h = cell_within low n w (k.0, k.1) p e in (h.0, same_both _ _ h.1 ((Equal-is (int_cmp k.2 o)).0 f))
-    by false f e = absurd cc
+    at : (q : ℕ) (b : Bool) → cell_place low n w (k.0, k.1) ≡ Some q → int_eq k.2 (offset q) ≡ b → (if b then Some q else None) ≡ Some p → (p < n * w) × (triple_cmp k (triple_key low w offset p) ≡ Equal)
+    at q true c f e =
+        let is : q ≡ p = cc in
+        let h = cell_within low n w (k.0, k.1) p (c ∙ ap Some is) in
+        (h.0, same_both _ _ h.1 ((Equal-is (int_cmp k.2 (offset p))).0 (ap (λ m. int_eq k.2 (offset m)) (sym is) ∙ f)))
+    at q false c f e = absurd cc
 
-triple_found : (low : ℤ × ℤ) (n w : ℕ) (o : ℤ) (k : ℤ × ℤ × ℤ) (p : ℕ) → p < n * w → triple_cmp k (triple_key low w o p) ≡ Equal → triple_place low n w o k ≡ Some p
-triple_found low n w o k p h e =
-    let both = both_equal (cell_cmp (k.0, k.1) (cell_key low w p)) (int_cmp k.2 o) e in
-    ap (λ (b : Bool). if b then cell_place low n w (k.0, k.1) else None) (ap is_eq both.1) ∙ cell_found low n w (k.0, k.1) p h both.0
+    by : (o : Option ℕ) → cell_place low n w (k.0, k.1) ≡ o → place_with offset k.2 o ≡ Some p → (p < n * w) × (triple_cmp k (triple_key low w offset p) ≡ Equal)
+    by None c e = absurd cc
+    by (Some q) c e = at q (int_eq k.2 (offset q)) c refl e
 
-pub triple_placed : (low : ℤ × ℤ) (n w : ℕ) (o : ℤ) → ArePlaced triple_cmp (n * w) (triple_place low n w o) (triple_key low w o)
-triple_placed low n w o = record {
-  within = triple_within low n w o;
-  found = triple_found low n w o;
-  rising = λ p q h high. first_less (cell_cmp (cell_key low w p) (cell_key low w q)) (int_cmp o o) (cell_rising low n w p q h high);
+triple_found : (low : ℤ × ℤ) (n w : ℕ) (offset : ℕ → ℤ) (k : ℤ × ℤ × ℤ) (p : ℕ) → p < n * w → triple_cmp k (triple_key low w offset p) ≡ Equal → triple_place low n w offset k ≡ Some p
+triple_found low n w offset k p h e =
+    let both = both_equal (cell_cmp (k.0, k.1) (cell_key low w p)) (int_cmp k.2 (offset p)) e in
+    ap (place_with offset k.2) (cell_found low n w (k.0, k.1) p h both.0) ∙ ap (λ (b : Bool). if b then Some p else None) (ap is_eq both.1)
+
+pub triple_placed : (low : ℤ × ℤ) (n w : ℕ) (offset : ℕ → ℤ) → ArePlaced triple_cmp (n * w) (triple_place low n w offset) (triple_key low w offset)
+triple_placed low n w offset = record {
+  within = triple_within low n w offset;
+  found = triple_found low n w offset;
+  rising = λ p q h high. first_less (cell_cmp (cell_key low w p) (cell_key low w q)) (int_cmp (offset p) (offset q)) (cell_rising low n w p q h high);
 }

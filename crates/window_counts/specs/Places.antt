@@ -1,5 +1,6 @@
--- Places of whole numbers, of cells and of cells at one offset.
-use Rattle.std.specs.Prelude.{ℕ, ℤ, pos, negsuc, ◌+◌, ◌*◌, ◌/◌, ◌%◌, ◌^◌, ◌<◌, ◌+ℤ◌, ◌-ℤ◌, ◌≤ℤ◌, nat_lt, if◌then◌else◌, Option, Some, None}
+-- Places of whole numbers, of cells and of cells at one offset each.
+use Rattle.std.specs.Prelude.{ℕ, ℤ, pos, negsuc, ◌+◌, ◌*◌, ◌/◌, ◌%◌, ◌^◌, ◌<◌, ◌+ℤ◌, ◌-ℤ◌, ◌≤ℤ◌, nat_lt, if◌then◌else◌, List, Vec, Option, Some, None, slice_get, unwrap_or}
+use Rattle.std.specs.Global.{Global}
 use Rattle.std.specs.Ordering.{int_cmp, int_eq, ordering_then}
 use Rattle.std.specs.declared.cmp.Ordering.{Ordering}
 
@@ -44,16 +45,30 @@ pub record IsRectangle (low : ℤ × ℤ) (n w : ℕ) : Type 0 where
   pub columns : (low.1 +ℤ pos w) ≤ℤ pos (2 ^ 31)
   pub area : n * w < 2 ^ 64
 
--- ---- the cells of a rectangle at one offset
+-- ---- the cells of a rectangle, each at one offset
 
 -- triples by inline, then by crossline, then by offset
 abbrev pub triple_cmp : ℤ × ℤ × ℤ → ℤ × ℤ × ℤ → Ordering
 triple_cmp a b = ordering_then (ordering_then (int_cmp a.0 b.0) (int_cmp a.1 b.1)) (int_cmp a.2 b.2)
 
--- the place of a cell with that offset
-abbrev pub triple_place : ℤ × ℤ → ℕ → ℕ → ℤ → ℤ × ℤ × ℤ → Option ℕ
-triple_place low n w o k = if int_eq k.2 o then cell_place low n w (k.0, k.1) else None
+-- the offset at a place of this list, or else the usual one
+abbrev pub offset_in : List ℤ → ℤ → ℕ → ℤ
+offset_in own o p = unwrap_or (slice_get own p) o
+
+-- the offset at a place: its own, where places have one each, or else that of all
+abbrev pub offset_at : Option (Vec ℤ Global) → ℤ → ℕ → ℤ
+offset_at None o p = o
+offset_at (Some own) o p = offset_in own.items o p
+
+-- the place, if the offset is that of the place
+abbrev pub place_with : (ℕ → ℤ) → ℤ → Option ℕ → Option ℕ
+place_with offset o None = None
+place_with offset o (Some p) = if int_eq o (offset p) then Some p else None
+
+-- the place of a cell with the offset that it has there
+abbrev pub triple_place : ℤ × ℤ → ℕ → ℕ → (ℕ → ℤ) → ℤ × ℤ × ℤ → Option ℕ
+triple_place low n w offset k = place_with offset k.2 (cell_place low n w (k.0, k.1))
 
 -- the triple of a place
-abbrev pub triple_key : ℤ × ℤ → ℕ → ℤ → ℕ → ℤ × ℤ × ℤ
-triple_key low w o p = (interval_key low.0 (p / w), interval_key low.1 (p % w), o)
+abbrev pub triple_key : ℤ × ℤ → ℕ → (ℕ → ℤ) → ℕ → ℤ × ℤ × ℤ
+triple_key low w offset p = (interval_key low.0 (p / w), interval_key low.1 (p % w), offset p)

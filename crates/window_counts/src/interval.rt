@@ -99,7 +99,7 @@ impl IntervalExtent {
 }
 
 // Whether so many places are at most 2 for each of so many keys, and 1,024: they then take no more
-// memory than counts in order, but for 8 KiB.
+// memory than counts in order, but for 8 KiB, or 12 where each cell has an offset of its own.
 pub(crate) fn is_dense(places: usize, keys: usize) -> bool {
     places / 2 <= keys.saturating_add(512)
 }

@@ -1,11 +1,12 @@
 //! How often keys were counted that lie densely, as those of a survey do. `WindowCounts` has one
 //! number for each place of a window, and counts in order for the keys outside it; a key in the
 //! window is raised, lowered and read by one access. A `Window` is an `Interval` of whole numbers,
-//! a `Rectangle` of inlines and crosslines, or an `OffsetRectangle` of them at one offset.
+//! a `Rectangle` of inlines and crosslines, or an `OffsetRectangle` of them, each at one offset.
 //!
 //! `raise` takes memory only for a key outside the window that is not held, and leaves all as it
-//! was where the growth is refused; `from_keys` takes it for what it makes, and `list` for the
-//! list. No other call takes memory.
+//! was where the growth is refused; `from_keys` and `within` take it for what they make,
+//! `OffsetRectangle::by_cell` for the offsets of its cells, and `list` for the list. No other call
+//! takes memory.
 #![tactic(auto)]
 
 mod interval;

@@ -2,7 +2,7 @@ ghost use Rattle.std.specs.Prelude.{◌≡◌, ℕ, ◌<◌, Option};
 ghost use Rattle.window_counts.specs.Window.{ArePlaced};
 
 /// Keys that have a place each, counted from 0 in their order. A key without one is outside.
-pub trait Window<K: Copy + Ord>: Copy {
+pub trait Window<K: Copy + Ord>: Drop {
     /// How far keys reach.
     type Extent: Extent<K>;
 

@@ -1,0 +1,55 @@
+// Places of cells that have an offset each, worked by hand.
+use std::alloc::{AllocError, Global};
+use std::test::Fail;
+use window_counts::{Extent, OffsetExtent, OffsetRectangle, Window};
+
+// Places for so many traces in these cells, each of which is at the offset of its last one.
+fn places_of(
+    alloc: Global,
+    traces: usize,
+    triples: &[(i32, i32, i32)],
+) -> Result<OffsetRectangle, AllocError> {
+    let mut extent = OffsetExtent::none();
+    for triple in triples {
+        extent.include(*triple);
+    }
+    let window = OffsetRectangle::by_cell(alloc, &extent, traces)?;
+    Ok(met(window, triples))
+}
+
+fn met(mut window: OffsetRectangle, triples: &[(i32, i32, i32)]) -> OffsetRectangle {
+    for triple in triples {
+        window.meet(*triple);
+    }
+    window
+}
+
+#[test]
+fn gives_each_cell_the_offset_of_its_last_trace(rt: HostRuntime) -> Result<(), Fail> {
+    let triples = [(10, 20, 100), (10, 21, 200), (10, 21, 300)];
+    let window = places_of(rt.alloc(), 3, &triples)?;
+    assert_eq!(rt; window.len(), 2);
+    assert_eq!(rt; window.place_of((10, 20, 100)), Some(0));
+    assert_eq!(rt; window.place_of((10, 21, 300)), Some(1));
+    assert_eq!(rt; window.place_of((10, 21, 200)), None);
+    assert_eq!(rt; window.place_of((11, 20, 100)), None);
+    Ok(())
+}
+
+#[test]
+fn leaves_a_triple_outside_alone(rt: HostRuntime) -> Result<(), Fail> {
+    let mut window = places_of(rt.alloc(), 2, &[(10, 20, 100), (10, 21, 200)])?;
+    window.meet((12, 20, 700));
+    assert_eq!(rt; window.place_of((12, 20, 700)), None);
+    assert_eq!(rt; window.place_of((10, 20, 100)), Some(0));
+    Ok(())
+}
+
+// Two cells have no place where there are ten traces.
+#[test]
+fn has_no_place_for_many_traces_a_cell(rt: HostRuntime) -> Result<(), Fail> {
+    let window = places_of(rt.alloc(), 10, &[(10, 20, 100), (10, 21, 200)])?;
+    assert_eq!(rt; window.len(), 0);
+    assert_eq!(rt; window.place_of((10, 20, 100)), None);
+    Ok(())
+}

@@ -1,10 +1,10 @@
 // A field of many traces computed from numbers and other fields, over a small survey that is made
 // by hand: three traces of inline 10 and crosslines 21 to 23.
 use crate::report_tests::on_survey;
-use crate::tests::{meets, on_file, put_bytes, sample_file, signed, value};
+use crate::tests::{has, is_answered, meets, on_file, put_bytes, sample_file, signed, value};
 use bench_core::{Bench, Edit, Field, Items, Operand, Operator, Query, Refusal, Text};
 use frame_cut::Reading;
-use std::alloc::Global;
+use std::alloc::{AllocError, Global};
 use std::process::Abort;
 use std::test::Fail;
 
@@ -12,52 +12,67 @@ fn crossline() -> Operand {
     Operand::Field(signed(0, 193, 4))
 }
 
-// The field of traces a to b from the crossline by these steps, on numbers.
-fn from_crossline(
+// The steps on numbers.
+fn on_numbers(
     alloc: Global,
-    a: u32,
-    b: u32,
-    field: Field,
     steps: &[(Operator, i128)],
-) -> Result<Edit, Fail> {
+) -> Result<Items<(Operator, Operand)>, AllocError> {
     let mut list = Vec::new(alloc);
     for step in steps {
         let (operator, number) = *step;
-        let Ok(()) = list.push((operator, Operand::Number(number))) else {
-            return Err("memory".into());
-        };
+        list.push((operator, Operand::Number(number)))?;
     }
-    Ok(Edit::Compute {
-        first_trace: a,
-        last_trace: b,
-        field,
-        source: crossline(),
-        steps: Items::new(list),
-    })
+    Ok(Items::new(list))
 }
 
-fn compute_sequence(rt: &impl Abort, alloc: Global, bench: &mut Bench) -> Result<(), Fail> {
-    bench.ask(alloc, &Query::Slice(0))?;
-    let before = bench.looks();
+// Whether the field of traces a to b from the crossline by these steps meets this refusal, or none.
+fn computes(
+    bench: &mut Bench,
+    alloc: Global,
+    (first_trace, last_trace): (u32, u32),
+    field: Field,
+    steps: &[(Operator, i128)],
+    expected: Option<Refusal>,
+) -> bool {
+    let Ok(steps) = on_numbers(alloc, steps) else {
+        return false;
+    };
+    let source = crossline();
+    let edit = Edit::Compute {
+        first_trace,
+        last_trace,
+        field,
+        source,
+        steps,
+    };
+    meets(bench, alloc, edit, expected)
+}
+
+// Whether the sequence numbers are computed, with two looks at each trace at most.
+fn computes_sequence(bench: &mut Bench, alloc: Global) -> bool {
     let steps = [
         (Operator::Over, -2),
         (Operator::Times, 10),
         (Operator::Modulo, 7),
     ];
-    let sequence = from_crossline(alloc, 1, 3, signed(0, 1, 4), &steps)?;
-    assert!(rt; meets(bench, alloc, sequence, None));
-    assert!(rt; bench.looks().checked_sub(before) <= Some(6));
+    let before = bench.looks();
+    let is_done = computes(bench, alloc, (1, 3), signed(0, 1, 4), &steps, None);
+    is_done && bench.looks().checked_sub(before) <= Some(6)
+}
+
+fn compute_sequence(rt: &impl Abort, alloc: Global, bench: &mut Bench) {
+    assert!(rt; is_answered(bench, alloc, Query::Slice(0)));
+    assert!(rt; computes_sequence(bench, alloc));
     assert!(rt; bench.cached(0));
     // 21 over -2 is -11, 22 over -2 is -11, and 23 over -2 is -12; -110 modulo 7 is 2.
-    for (p, expected) in &[(1, 2), (2, 2), (3, 6)] {
-        assert_eq!(rt; value(bench, alloc, *p, signed(0, 1, 4))?, *expected);
-    }
-    let crosslines = from_crossline(alloc, 1, 2, signed(0, 193, 4), &[(Operator::Plus, 100)])?;
-    assert!(rt; meets(bench, alloc, crosslines, None));
+    assert!(rt; has(bench, alloc, 1, signed(0, 1, 4), 2));
+    assert!(rt; has(bench, alloc, 2, signed(0, 1, 4), 2));
+    assert!(rt; has(bench, alloc, 3, signed(0, 1, 4), 6));
+    let steps = [(Operator::Plus, 100)];
+    assert!(rt; computes(bench, alloc, (1, 2), signed(0, 193, 4), &steps, None));
     assert!(rt; !bench.cached(0));
-    assert_eq!(rt; value(bench, alloc, 2, signed(0, 193, 4))?, 122);
-    assert_eq!(rt; value(bench, alloc, 3, signed(0, 193, 4))?, 23);
-    Ok(())
+    assert!(rt; has(bench, alloc, 2, signed(0, 193, 4), 122));
+    assert!(rt; has(bench, alloc, 3, signed(0, 193, 4), 23));
 }
 
 // A field that is computed forgets the slices where a trace has another inline or crossline, and
@@ -71,27 +86,38 @@ fn a_field_is_computed(rt: HostRuntime) -> Result<(), Fail> {
     )
 }
 
-fn refuse_whole(rt: &impl Abort, alloc: Global, bench: &mut Bench) -> Result<(), Fail> {
-    let sequence = value(bench, alloc, 1, signed(0, 1, 4))?;
-    let cases = [
-        (1, 4, 1, 4, Operator::Plus, 0, Refusal::NoTrace(4, 3)),
-        (1, 3, 240, 4, Operator::Over, 0, Refusal::NoPlace),
-        (2, 3, 1, 4, Operator::Over, 0, Refusal::ZeroDivisor(2)),
-        (1, 3, 1, 4, Operator::Times, i128::MAX, Refusal::DoesNotFit),
-        (1, 3, 1, 1, Operator::Times, 6, Refusal::DoesNotFit),
-    ];
-    for (a, b, byte, size, operator, number, expected) in &cases {
-        let edit = from_crossline(
-            alloc,
-            *a,
-            *b,
-            signed(0, *byte, *size),
-            &[(*operator, *number)],
-        )?;
-        assert!(rt; meets(bench, alloc, edit, Some(*expected)));
-    }
-    assert_eq!(rt; value(bench, alloc, 1, signed(0, 1, 4))?, sequence);
-    Ok(())
+// Whether a field of traces a to b from the crossline by one step is refused so.
+fn refuses(
+    bench: &mut Bench,
+    alloc: Global,
+    range: (u32, u32),
+    field: Field,
+    step: (Operator, i128),
+    expected: Refusal,
+) -> bool {
+    computes(bench, alloc, range, field, &[step], Some(expected))
+}
+
+fn refuse_each(rt: &impl Abort, alloc: Global, bench: &mut Bench) {
+    let (plus, over) = ((Operator::Plus, 0), (Operator::Over, 0));
+    let at = signed(0, 1, 4);
+    assert!(rt; refuses(bench, alloc, (1, 4), at, plus, Refusal::NoTrace(4, 3)));
+    let outside = signed(0, 240, 4);
+    assert!(rt; refuses(bench, alloc, (1, 3), outside, over, Refusal::NoPlace));
+    let at = signed(0, 1, 4);
+    assert!(rt; refuses(bench, alloc, (2, 3), at, over, Refusal::ZeroDivisor(2)));
+    let (at, most) = (signed(0, 1, 4), (Operator::Times, i128::MAX));
+    assert!(rt; refuses(bench, alloc, (1, 3), at, most, Refusal::DoesNotFit));
+    let (at, six) = (signed(0, 1, 1), (Operator::Times, 6));
+    assert!(rt; refuses(bench, alloc, (1, 3), at, six, Refusal::DoesNotFit));
+}
+
+// Trace 1 has the sequence number that it had.
+fn refuse_whole(rt: &impl Abort, alloc: Global, bench: &mut Bench) {
+    let sequence = value(bench, alloc, 1, signed(0, 1, 4));
+    assert!(rt; sequence.is_some());
+    refuse_each(rt, alloc, bench);
+    assert!(rt; value(bench, alloc, 1, signed(0, 1, 4)) == sequence);
 }
 
 // Where one trace is refused nothing is changed.
@@ -104,23 +130,32 @@ fn a_refused_computation_changes_nothing(rt: HostRuntime) -> Result<(), Fail> {
     )
 }
 
-fn refuse_names(rt: &impl Abort, alloc: Global, bench: &mut Bench) -> Result<(), Fail> {
+// The quotient by the field of a name that is not there.
+fn over_nothing(alloc: Global) -> Result<Items<(Operator, Operand)>, AllocError> {
     let name = Text::new(String::from_str(alloc, "nothing")?);
-    let mut list = Vec::new(alloc);
-    let Ok(()) = list.push((Operator::Over, Operand::Field(Field::Name(name)))) else {
-        return Err("memory".into());
+    let steps = vec![in alloc; (Operator::Over, Operand::Field(Field::Name(name)))]?;
+    Ok(Items::new(steps))
+}
+
+// Whether the sequence numbers from a name that is not there are refused for it.
+fn refuses_name(bench: &mut Bench, alloc: Global) -> bool {
+    let Ok(steps) = over_nothing(alloc) else {
+        return false;
     };
     let edit = Edit::Compute {
         first_trace: 1,
         last_trace: 3,
         field: signed(0, 1, 4),
         source: crossline(),
-        steps: Items::new(list),
+        steps,
     };
+    meets(bench, alloc, edit, Some(Refusal::NoField))
+}
+
+fn refuse_names(rt: &impl Abort, alloc: Global, bench: &mut Bench) {
     let before = bench.looks();
-    assert!(rt; meets(bench, alloc, edit, Some(Refusal::NoField)));
+    assert!(rt; refuses_name(bench, alloc));
     assert_eq!(rt; bench.looks(), before);
-    Ok(())
 }
 
 // A name that is not there is told before any trace is looked at.
@@ -131,6 +166,17 @@ fn a_name_that_is_not_there_refuses_a_computation(rt: HostRuntime) -> Result<(),
         alloc,
         &mut |bench: &mut Bench| refuse_names(&rt, alloc, bench),
     )
+}
+
+fn refuse_length(rt: &impl Abort, alloc: Global, bench: &mut Bench) {
+    let edit = Edit::Compute {
+        first_trace: 1,
+        last_trace: 3,
+        field: signed(0, 115, 2),
+        source: Operand::Number(9),
+        steps: Items::new(Vec::new(alloc)),
+    };
+    assert!(rt; meets(bench, alloc, edit, Some(Refusal::Frame)));
 }
 
 // The number of samples of each trace, in a file whose traces have their own lengths.
@@ -144,17 +190,6 @@ fn a_computation_changes_no_length(rt: HostRuntime) -> Result<(), Fail> {
         file.as_slice(),
         Reading::as_written(),
         (4334, 3),
-        &mut |bench: &mut Bench| {
-            let steps = Items::new(Vec::new(alloc));
-            let edit = Edit::Compute {
-                first_trace: 1,
-                last_trace: 3,
-                field: signed(0, 115, 2),
-                source: Operand::Number(9),
-                steps,
-            };
-            assert!(&rt; meets(bench, alloc, edit, Some(Refusal::Frame)));
-            Ok(())
-        },
+        &mut |bench: &mut Bench| refuse_length(&rt, alloc, bench),
     )
 }

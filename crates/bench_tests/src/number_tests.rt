@@ -1,26 +1,27 @@
 // Another number of samples of a trace, and a field of many traces counted up, over small files
 // that are made by hand.
 use crate::report_tests::on_survey;
-use crate::tests::{meets, on_file, put_bytes, renumber, sample_file, shows, signed, value};
+use crate::tests::{
+    has, is_answered, meets, on_file, put_bytes, renumber, sample_file, shows, signed,
+};
 use bench_core::{Bench, Edit, Query, Refusal};
 use frame_cut::Reading;
 use std::alloc::Global;
 use std::process::Abort;
 use std::test::Fail;
 
-fn count_up(rt: &impl Abort, alloc: Global, bench: &mut Bench) -> Result<(), Fail> {
-    bench.ask(alloc, &Query::Slice(0))?;
+fn count_up(rt: &impl Abort, alloc: Global, bench: &mut Bench) {
+    assert!(rt; is_answered(bench, alloc, Query::Slice(0)));
     let before = bench.looks();
     let sequence = renumber(1, 3, signed(0, 1, 4), 7, -2);
     assert!(rt; meets(bench, alloc, sequence, None));
     assert_eq!(rt; bench.looks(), before);
     assert!(rt; bench.cached(0));
-    assert_eq!(rt; value(bench, alloc, 3, signed(0, 1, 4))?, 3);
+    assert!(rt; has(bench, alloc, 3, signed(0, 1, 4), 3));
     let inlines = renumber(1, 3, signed(0, 189, 4), 10, 1);
     assert!(rt; meets(bench, alloc, inlines, None));
     assert!(rt; !bench.cached(0));
-    assert_eq!(rt; value(bench, alloc, 3, signed(0, 189, 4))?, 12);
-    Ok(())
+    assert!(rt; has(bench, alloc, 3, signed(0, 189, 4), 12));
 }
 
 // A field counted up forgets the slices where a trace has another inline or crossline, and only
@@ -40,16 +41,23 @@ fn looks_for_set(bench: &mut Bench, alloc: Global, byte: u16, size: u8) -> Optio
     bench.looks().checked_sub(before)
 }
 
-fn set_numbers(rt: &impl Abort, alloc: Global, bench: &mut Bench) -> Result<(), Fail> {
+fn set_numbers(rt: &impl Abort, alloc: Global, bench: &mut Bench) {
     for byte in &[5, 9, 37, 181, 185, 189, 193] {
-        assert_eq!(rt; looks_for_set(bench, alloc, *byte, 4), Some(0));
-        assert_eq!(rt; value(bench, alloc, 2, signed(0, *byte, 4))?, 7);
+        assert!(rt; looks_for_set(bench, alloc, *byte, 4) == Some(0));
+        assert!(rt; has(bench, alloc, 2, signed(0, *byte, 4), 7));
     }
+}
+
+fn set_others(rt: &impl Abort, alloc: Global, bench: &mut Bench) {
     for byte in &[71, 89, 117, 189] {
-        assert_eq!(rt; looks_for_set(bench, alloc, *byte, 2), Some(1));
+        assert!(rt; looks_for_set(bench, alloc, *byte, 2) == Some(1));
     }
-    assert_eq!(rt; value(bench, alloc, 2, signed(0, 189, 4))?, 458759);
-    Ok(())
+    assert!(rt; has(bench, alloc, 2, signed(0, 189, 4), 458759));
+}
+
+fn set_all(rt: &impl Abort, alloc: Global, bench: &mut Bench) {
+    set_numbers(rt, alloc, bench);
+    set_others(rt, alloc, bench);
 }
 
 // The sequence number, offset, x, y, inline and crossline, and bytes 9-12, which no record keeps,
@@ -58,23 +66,19 @@ fn set_numbers(rt: &impl Abort, alloc: Global, bench: &mut Bench) -> Result<(), 
 #[test]
 fn what_the_records_tell_is_set_without_a_look(rt: HostRuntime) -> Result<(), Fail> {
     let alloc = rt.alloc();
-    on_survey(
-        alloc,
-        &mut |bench: &mut Bench| set_numbers(&rt, alloc, bench),
-    )
+    on_survey(alloc, &mut |bench: &mut Bench| set_all(&rt, alloc, bench))
 }
 
-fn refuse_whole(rt: &impl Abort, alloc: Global, bench: &mut Bench) -> Result<(), Fail> {
+fn refuse_whole(rt: &impl Abort, alloc: Global, bench: &mut Bench) {
     let wide = renumber(1, 3, signed(0, 189, 4), 2147483646, 1);
     assert!(rt; meets(bench, alloc, wide, Some(Refusal::DoesNotFit)));
-    assert_eq!(rt; value(bench, alloc, 1, signed(0, 189, 4))?, 10);
+    assert!(rt; has(bench, alloc, 1, signed(0, 189, 4), 10));
     let before = bench.looks();
     let past = renumber(2, 4, signed(0, 189, 4), 1, 1);
     assert!(rt; meets(bench, alloc, past, Some(Refusal::NoTrace(4, 3))));
     let turned = renumber(2, 1, signed(0, 189, 4), 1, 1);
     assert!(rt; meets(bench, alloc, turned, Some(Refusal::NoTrace(1, 3))));
     assert_eq!(rt; bench.looks(), before);
-    Ok(())
 }
 
 // Where the last value alone does not fit nothing is changed; a range that is none costs no look.
@@ -87,21 +91,25 @@ fn a_refused_count_changes_nothing(rt: HostRuntime) -> Result<(), Fail> {
     )
 }
 
-fn resize_one(rt: &impl Abort, alloc: Global, bench: &mut Bench) -> Result<(), Fail> {
-    bench.ask(alloc, &Query::Slice(0))?;
+// Whether trace 2 gets three samples in two looks at most.
+fn resizes(bench: &mut Bench, alloc: Global) -> bool {
     let before = bench.looks();
-    assert!(rt; meets(bench, alloc, Edit::Resize(2, 3), None));
-    assert!(rt; bench.looks().checked_sub(before) <= Some(2));
+    let is_done = meets(bench, alloc, Edit::Resize(2, 3), None);
+    is_done && bench.looks().checked_sub(before) <= Some(2)
+}
+
+fn resize_one(rt: &impl Abort, alloc: Global, bench: &mut Bench) {
+    assert!(rt; is_answered(bench, alloc, Query::Slice(0)));
+    assert!(rt; resizes(bench, alloc));
     assert!(rt; !bench.cached(0));
-    for (k, expected) in &[(0, 0), (1, 9), (2, 0)] {
-        assert!(rt; shows(bench, alloc, 2, *k, *expected));
-    }
-    assert_eq!(rt; value(bench, alloc, 2, signed(0, 115, 2))?, 3);
+    assert!(rt; shows(bench, alloc, 2, 0, 0));
+    assert!(rt; shows(bench, alloc, 2, 1, 9));
+    assert!(rt; shows(bench, alloc, 2, 2, 0));
+    assert!(rt; has(bench, alloc, 2, signed(0, 115, 2), 3));
     assert_eq!(rt; bench.length(), 4334);
     let empty = Some(Refusal::DoesNotFit);
     assert!(rt; meets(bench, alloc, Edit::Resize(2, 0), empty));
     assert!(rt; meets(bench, alloc, Edit::Resize(2, 4), Some(Refusal::TooLarge)));
-    Ok(())
 }
 
 // A trace of a file whose traces have their own lengths, under a limit of 4334 bytes.

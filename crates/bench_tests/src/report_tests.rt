@@ -1,5 +1,5 @@
 // Reports over small files that are made by hand, before and after edits.
-use crate::tests::{meets, on_file, put_bytes, sample_file, signed};
+use crate::tests::{fails, meets, on_file, patches, put_bytes, sample_file, signed};
 use bench_core::{Answer, AskFault, Bench, Edit, Field, Query, Text};
 use field_map::Place;
 use frame_cut::Reading;
@@ -10,12 +10,9 @@ use std::alloc::Global;
 use std::process::Abort;
 use std::test::Fail;
 
-// What the function answers of the small file: its traces on crosslines 21, 22 and 23, and with
+// Has the function try the small file: its traces on crosslines 21, 22 and 23, and with
 // samples 1 and -2, 3 and 4, -5 and 6.
-pub(crate) fn on_survey(
-    alloc: Global,
-    ask: &mut dyn FnMut(&mut Bench) -> Result<(), Fail>,
-) -> Result<(), Fail>
+pub(crate) fn on_survey(alloc: Global, ask: &mut dyn FnMut(&mut Bench)) -> Result<(), Fail>
     requires { IsAlwaysCallable ask.now }
 {
     let mut file = sample_file(alloc)?;
@@ -41,59 +38,76 @@ pub(crate) fn on_survey(
     )
 }
 
-// How many traces lie in the cell: the query's answer, where the grid that is lent says the same.
-fn fold(bench: &mut Bench, alloc: Global, inline: i128, crossline: i128) -> Option<u64> {
-    let lent = bench.grid().fold(inline, crossline);
-    match bench.ask(alloc, &Query::Fold(inline, crossline)) {
-        Ok(Answer::Fold(number)) if number == lent => Some(number),
+// Whether so many traces lie in a cell answers.
+fn is_fold(asked: &Result<Answer, AskFault>, expected: u64) -> bool {
+    match asked {
+        Ok(Answer::Fold(number)) => *number == expected,
+        _ => false,
+    }
+}
+
+// Whether so many traces lie in the cell, by the query and by the grid that is lent.
+fn folds(bench: &mut Bench, alloc: Global, cell: (i128, i128), expected: u64) -> bool {
+    let lent = bench.grid().fold(cell.0, cell.1);
+    let asked = bench.ask(alloc, &Query::Fold(cell.0, cell.1));
+    lent == expected && is_fold(&asked, expected)
+}
+
+// How many items the answer lists.
+fn listed(asked: &Result<Answer, AskFault>) -> Option<usize> {
+    match asked {
+        Ok(Answer::Grid(cells)) => Some(cells.as_slice().len()),
+        Ok(Answer::Inlines(lines)) => Some(lines.as_slice().len()),
+        Ok(Answer::Crosslines(lines)) => Some(lines.as_slice().len()),
+        Ok(Answer::Histogram(folds)) => Some(folds.as_slice().len()),
+        Ok(Answer::Slice(rows)) => Some(rows.as_slice().len()),
+        Ok(Answer::Faults(faults)) => Some(faults.as_slice().len()),
         _ => None,
     }
 }
 
-// How many items the answer lists.
-fn listed(bench: &mut Bench, alloc: Global, query: &Query) -> Result<usize, Fail> {
-    match bench.ask(alloc, query)? {
-        Answer::Grid(cells) => Ok(cells.as_slice().len()),
-        Answer::Inlines(lines) => Ok(lines.as_slice().len()),
-        Answer::Crosslines(lines) => Ok(lines.as_slice().len()),
-        Answer::Histogram(folds) => Ok(folds.as_slice().len()),
-        Answer::Slice(rows) => Ok(rows.as_slice().len()),
-        Answer::Faults(faults) => Ok(faults.as_slice().len()),
-        _ => Err("a list".into()),
-    }
+// Whether the answer lists so many items.
+fn lists(bench: &mut Bench, alloc: Global, query: Query, expected: usize) -> bool {
+    listed(&bench.ask(alloc, &query)) == Some(expected)
 }
 
-// The least, greatest, sum and number of the samples of trace p, or of all traces for p 0.
-fn statistics(bench: &mut Bench, alloc: Global, p: u32) -> Result<[i128; 4], Fail> {
-    let query = if p == 0 {
-        Query::Totals
-    } else {
-        Query::Stat(p)
-    };
-    match bench.ask(alloc, &query)? {
-        Answer::Stat(Some(all)) | Answer::Totals(Some(all)) => {
-            Ok([all.least, all.greatest, all.sum, i128::from(all.number)])
+// The least, greatest, sum and number of samples that answer.
+fn statistics(asked: &Result<Answer, AskFault>) -> Option<[i128; 4]> {
+    match asked {
+        Ok(Answer::Stat(Some(all)) | Answer::Totals(Some(all))) => {
+            Some([all.least, all.greatest, all.sum, i128::from(all.number)])
         }
-        _ => Err("statistics".into()),
+        _ => None,
     }
 }
 
-// The ends of a range of whole numbers.
-fn ends(bench: &mut Bench, alloc: Global, quantity: Quantity) -> Result<(Ratio, Ratio), Fail> {
-    match bench.ask(alloc, &Query::Range(quantity))? {
-        Answer::Range(Some(ends)) => Ok(ends),
-        _ => Err("a range".into()),
+// Whether these are the least, greatest, sum and number of the samples of trace p.
+fn sums(bench: &mut Bench, alloc: Global, p: u32, expected: [i128; 4]) -> bool {
+    statistics(&bench.ask(alloc, &Query::Stat(p))) == Some(expected)
+}
+
+// Whether these are the least, greatest, sum and number of the samples of all traces.
+fn sums_all(bench: &mut Bench, alloc: Global, expected: [i128; 4]) -> bool {
+    statistics(&bench.ask(alloc, &Query::Totals)) == Some(expected)
+}
+
+// Whether these whole numbers are the ends of the range that answers.
+fn are_ends(asked: &Result<Answer, AskFault>, least: i32, greatest: i32) -> bool {
+    match asked {
+        Ok(Answer::Range(Some(ends))) => {
+            *ends == (Ratio::scaled(least, 0), Ratio::scaled(greatest, 0))
+        }
+        _ => false,
     }
 }
 
-fn answer_reports(rt: &impl Abort, alloc: Global, bench: &mut Bench) -> Result<(), Fail> {
-    assert_eq!(rt; fold(bench, alloc, 10, 22), Some(1));
-    assert_eq!(rt; fold(bench, alloc, 1 << 40, -1), Some(0));
-    assert_eq!(rt; statistics(bench, alloc, 2)?, [3, 4, 7, 2]);
-    assert_eq!(rt; statistics(bench, alloc, 0)?, [-5, 6, 7, 6]);
-    let whole = |number| Ratio::scaled(number, 0);
-    assert!(rt; ends(bench, alloc, Quantity::Crossline)? == (whole(21), whole(23)));
-    Ok(())
+fn answer_reports(rt: &impl Abort, alloc: Global, bench: &mut Bench) {
+    assert!(rt; folds(bench, alloc, (10, 22), 1));
+    assert!(rt; folds(bench, alloc, (1 << 40, -1), 0));
+    assert!(rt; sums(bench, alloc, 2, [3, 4, 7, 2]));
+    assert!(rt; sums_all(bench, alloc, [-5, 6, 7, 6]));
+    let crosslines = Query::Range(Quantity::Crossline);
+    assert!(rt; are_ends(&bench.ask(alloc, &crosslines), 21, 23));
 }
 
 #[test]
@@ -105,20 +119,14 @@ fn answers_each_report(rt: HostRuntime) -> Result<(), Fail> {
     )
 }
 
-fn lists_items(rt: &impl Abort, alloc: Global, bench: &mut Bench) -> Result<(), Fail> {
-    let cases = [
-        (Query::Grid, 3),
-        (Query::Inlines, 1),
-        (Query::Crosslines, 3),
-        (Query::Histogram, 1),
-        (Query::Slice(1), 3),
-        (Query::Slice(2), 0),
-        (Query::Faults, 4),
-    ];
-    for (query, expected) in &cases {
-        assert_eq!(rt; listed(bench, alloc, query)?, *expected);
-    }
-    Ok(())
+fn lists_items(rt: &impl Abort, alloc: Global, bench: &mut Bench) {
+    assert!(rt; lists(bench, alloc, Query::Grid, 3));
+    assert!(rt; lists(bench, alloc, Query::Inlines, 1));
+    assert!(rt; lists(bench, alloc, Query::Crosslines, 3));
+    assert!(rt; lists(bench, alloc, Query::Histogram, 1));
+    assert!(rt; lists(bench, alloc, Query::Slice(1), 3));
+    assert!(rt; lists(bench, alloc, Query::Slice(2), 0));
+    assert!(rt; lists(bench, alloc, Query::Faults, 4));
 }
 
 // The faults are the three sequence numbers, which are 0, and the 40 lines without a C.
@@ -131,12 +139,10 @@ fn answers_each_list(rt: HostRuntime) -> Result<(), Fail> {
     )
 }
 
-fn ask_of_no_trace(rt: &impl Abort, alloc: Global, bench: &mut Bench) -> Result<(), Fail> {
-    for query in &[Query::Geometry(4), Query::Stat(4)] {
-        let fault = bench.ask(alloc, query).err();
-        assert!(rt; fault == Some(AskFault::NoTrace(4, 3)));
-    }
-    Ok(())
+fn ask_of_no_trace(rt: &impl Abort, alloc: Global, bench: &mut Bench) {
+    let behind = AskFault::NoTrace(4, 3);
+    assert!(rt; fails(bench, alloc, Query::Geometry(4), behind));
+    assert!(rt; fails(bench, alloc, Query::Stat(4), behind));
 }
 
 #[test]
@@ -148,35 +154,33 @@ fn no_trace_has_no_report(rt: HostRuntime) -> Result<(), Fail> {
     )
 }
 
-fn edit_with_reports(rt: &impl Abort, alloc: Global, bench: &mut Bench) -> Result<(), Fail> {
+fn edit_with_reports(rt: &impl Abort, alloc: Global, bench: &mut Bench) {
     assert!(rt; meets(bench, alloc, Edit::Set(2, signed(0, 189, 4), 11), None));
-    assert_eq!(rt; fold(bench, alloc, 11, 22), Some(1));
-    assert_eq!(rt; fold(bench, alloc, 10, 22), Some(0));
+    assert!(rt; folds(bench, alloc, (11, 22), 1));
+    assert!(rt; folds(bench, alloc, (10, 22), 0));
     assert_eq!(rt; bench.totals().number(), 6);
     assert!(rt; meets(bench, alloc, Edit::Copy(2, 1), None));
-    assert_eq!(rt; fold(bench, alloc, 11, 22), Some(2));
+    assert!(rt; folds(bench, alloc, (11, 22), 2));
     assert!(rt; meets(bench, alloc, Edit::Blank(5), None));
-    assert_eq!(rt; fold(bench, alloc, 0, 0), Some(1));
-    assert_eq!(rt; statistics(bench, alloc, 0)?, [-5, 6, 14, 10]);
-    Ok(())
+    assert!(rt; folds(bench, alloc, (0, 0), 1));
+    assert!(rt; sums_all(bench, alloc, [-5, 6, 14, 10]));
 }
 
-fn undo_with_reports(rt: &impl Abort, alloc: Global, bench: &mut Bench) -> Result<(), Fail> {
+fn undo_with_reports(rt: &impl Abort, alloc: Global, bench: &mut Bench) {
     let looks = bench.looks();
-    for p in &[5, 4, 1] {
-        assert!(rt; meets(bench, alloc, Edit::Delete(*p), None));
-    }
+    assert!(rt; meets(bench, alloc, Edit::Delete(5), None));
+    assert!(rt; meets(bench, alloc, Edit::Delete(4), None));
+    assert!(rt; meets(bench, alloc, Edit::Delete(1), None));
     assert!(rt; meets(bench, alloc, Edit::Move(1, 2), None));
-    assert_eq!(rt; statistics(bench, alloc, 0)?, [-2, 4, 6, 4]);
-    assert_eq!(rt; statistics(bench, alloc, 2)?, [-2, 1, -1, 2]);
-    assert_eq!(rt; listed(bench, alloc, &Query::Inlines)?, 2);
+    assert!(rt; sums_all(bench, alloc, [-2, 4, 6, 4]));
+    assert!(rt; sums(bench, alloc, 2, [-2, 1, -1, 2]));
+    assert!(rt; lists(bench, alloc, Query::Inlines, 2));
     assert_eq!(rt; bench.looks(), looks);
-    Ok(())
 }
 
-fn edit_and_undo(rt: &impl Abort, alloc: Global, bench: &mut Bench) -> Result<(), Fail> {
-    edit_with_reports(rt, alloc, bench)?;
-    undo_with_reports(rt, alloc, bench)
+fn edit_and_undo(rt: &impl Abort, alloc: Global, bench: &mut Bench) {
+    edit_with_reports(rt, alloc, bench);
+    undo_with_reports(rt, alloc, bench);
 }
 
 #[test]
@@ -188,10 +192,8 @@ fn reports_follow_edits(rt: HostRuntime) -> Result<(), Fail> {
     )
 }
 
-// Inline numbers where the crosslines stand.
-fn bind_inline_anew(rt: &impl Abort, alloc: Global, bench: &mut Bench) -> Result<(), Fail> {
-    let looks = bench.looks();
-    let name = Text::new(String::from_str(alloc, "inline")?);
+// Whether the inline is bound to the place where the crosslines stand.
+fn binds_inline(bench: &mut Bench, alloc: Global) -> bool {
     let place = Place {
         extension: 0,
         byte: 193,
@@ -200,11 +202,18 @@ fn bind_inline_anew(rt: &impl Abort, alloc: Global, bench: &mut Bench) -> Result
             signed: true,
         },
     };
-    assert!(rt; meets(bench, alloc, Edit::Map(name, place), None));
-    assert_eq!(rt; fold(bench, alloc, 22, 22), Some(1));
-    assert_eq!(rt; listed(bench, alloc, &Query::Inlines)?, 3);
+    match String::from_str(alloc, "inline") {
+        Ok(name) => meets(bench, alloc, Edit::Map(Text::new(name), place), None),
+        Err(_) => false,
+    }
+}
+
+fn bind_inline_anew(rt: &impl Abort, alloc: Global, bench: &mut Bench) {
+    let looks = bench.looks();
+    assert!(rt; binds_inline(bench, alloc));
+    assert!(rt; folds(bench, alloc, (22, 22), 1));
+    assert!(rt; lists(bench, alloc, Query::Inlines, 3));
     assert!(rt; bench.looks() <= looks.saturating_add(3));
-    Ok(())
 }
 
 #[test]
@@ -216,15 +225,25 @@ fn a_geometry_name_bound_anew_changes_the_reports(rt: HostRuntime) -> Result<(),
     )
 }
 
+// Whether x of trace 2 is set.
+fn sets_x(bench: &mut Bench, alloc: Global) -> bool {
+    match String::from_str(alloc, "x") {
+        Ok(name) => meets(
+            bench,
+            alloc,
+            Edit::Set(2, Field::Name(Text::new(name)), 7),
+            None,
+        ),
+        Err(_) => false,
+    }
+}
+
 // A patch reads the trace again, and a set in the headers of the same trace does not lose it.
-fn patch_and_set(rt: &impl Abort, alloc: Global, bench: &mut Bench) -> Result<(), Fail> {
-    let values = bench_core::Items::new(Vec::from_slice(alloc, &[100])?);
-    assert!(rt; meets(bench, alloc, Edit::Patch(2, 1, values), None));
-    let x = Field::Name(Text::new(String::from_str(alloc, "x")?));
-    assert!(rt; meets(bench, alloc, Edit::Set(2, x, 7), None));
-    assert_eq!(rt; statistics(bench, alloc, 2)?, [3, 100, 103, 2]);
-    assert_eq!(rt; statistics(bench, alloc, 0)?, [-5, 100, 103, 6]);
-    Ok(())
+fn patch_and_set(rt: &impl Abort, alloc: Global, bench: &mut Bench) {
+    assert!(rt; patches(bench, alloc, (2, 1), &[100], None));
+    assert!(rt; sets_x(bench, alloc));
+    assert!(rt; sums(bench, alloc, 2, [3, 100, 103, 2]));
+    assert!(rt; sums_all(bench, alloc, [-5, 100, 103, 6]));
 }
 
 #[test]

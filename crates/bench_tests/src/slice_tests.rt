@@ -1,17 +1,17 @@
 // Slices that are kept, over the small survey of three traces: which are, and what an ask looks at.
 use crate::report_tests::on_survey;
-use crate::tests::{meets, signed};
-use bench_core::{Answer, Bench, Edit, Field, Items, Query, Refusal, Text};
+use crate::tests::{is_answered, meets, patches, signed};
+use bench_core::{Answer, AskFault, Bench, Edit, Query, Refusal, Text};
 use field_map::Place;
 use num_order::Kind;
-use std::alloc::Global;
+use std::alloc::{AllocError, Global};
 use std::process::Abort;
 use std::test::Fail;
 use time_slice::Row;
 
-// How many rows slice k has, where it is answered.
-fn rows(bench: &mut Bench, alloc: Global, k: u32) -> Option<usize> {
-    match bench.ask(alloc, &Query::Slice(k)) {
+// How many rows the answer has.
+fn rows(asked: &Result<Answer, AskFault>) -> Option<usize> {
+    match asked {
         Ok(Answer::Slice(slice)) => Some(slice.as_slice().len()),
         _ => None,
     }
@@ -20,10 +20,9 @@ fn rows(bench: &mut Bench, alloc: Global, k: u32) -> Option<usize> {
 // How many looks the answer to slice k takes, where it has so many rows.
 fn looks_for(bench: &mut Bench, alloc: Global, k: u32, expected: usize) -> Option<u64> {
     let before = bench.looks();
-    if rows(bench, alloc, k) != Some(expected) {
-        return None;
-    }
-    bench.looks().checked_sub(before)
+    let found = rows(&bench.ask(alloc, &Query::Slice(k)));
+    let looks = bench.looks().checked_sub(before);
+    if found == Some(expected) { looks } else { None }
 }
 
 // Whether exactly these of the slices 0 to 8 are kept.
@@ -36,32 +35,29 @@ fn keeps(bench: &Bench, expected: [bool; 9]) -> bool {
     true
 }
 
-fn patch(alloc: Global, p: u32, k: u32, values: &[i128]) -> Result<Edit, Fail> {
-    let mut list = Vec::new(alloc);
-    list.extend_from_slice(values)?;
-    Ok(Edit::Patch(p, k, Items::new(list)))
-}
-
-fn asks_nine(rt: &impl Abort, alloc: Global, bench: &mut Bench) -> Result<(), Fail> {
+// Asks slices 0 to 7, of which two have rows.
+fn asks_eight(rt: &impl Abort, alloc: Global, bench: &mut Bench) {
     for k in 0..8u32 {
         let rows = if k < 2 { 3 } else { 0 };
-        assert_eq!(rt; looks_for(bench, alloc, k, rows), Some(3));
+        assert!(rt; looks_for(bench, alloc, k, rows) == Some(3));
     }
-    assert!(rt;
-        keeps(
-            bench,
-            [true, true, true, true, true, true, true, true, false]
-        )
-    );
-    assert_eq!(rt; looks_for(bench, alloc, 0, 3), Some(0));
-    assert_eq!(rt; looks_for(bench, alloc, 8, 0), Some(3));
-    assert!(rt;
-        keeps(
-            bench,
-            [true, false, true, true, true, true, true, true, true]
-        )
-    );
-    Ok(())
+}
+
+// All that may be kept are, without this one.
+fn all_but(k: usize) -> [bool; 9] {
+    let mut kept = [true; 9];
+    if k < 9 {
+        kept[k] = false;
+    }
+    kept
+}
+
+fn asks_nine(rt: &impl Abort, alloc: Global, bench: &mut Bench) {
+    asks_eight(rt, alloc, bench);
+    assert!(rt; keeps(bench, all_but(8)));
+    assert!(rt; looks_for(bench, alloc, 0, 3) == Some(0));
+    assert!(rt; looks_for(bench, alloc, 8, 0) == Some(3));
+    assert!(rt; keeps(bench, all_but(1)));
 }
 
 // The last eight slices are kept, the one that was asked again among them.
@@ -71,31 +67,32 @@ fn eight_slices_are_kept(rt: HostRuntime) -> Result<(), Fail> {
     on_survey(alloc, &mut |bench: &mut Bench| asks_nine(&rt, alloc, bench))
 }
 
-fn edits_around(rt: &impl Abort, alloc: Global, bench: &mut Bench) -> Result<(), Fail> {
-    for k in 0..3u32 {
-        bench.ask(alloc, &Query::Slice(k))?;
-    }
-    let patched = patch(alloc, 1, 0, &[9])?;
-    assert!(rt; meets(bench, alloc, patched, None));
-    assert!(rt;
-        keeps(
-            bench,
-            [false, true, true, false, false, false, false, false, false]
-        )
-    );
+// Whether slices 0 to 2 are answered.
+fn asks_three(bench: &mut Bench, alloc: Global) -> bool {
+    is_answered(bench, alloc, Query::Slice(0))
+        && is_answered(bench, alloc, Query::Slice(1))
+        && is_answered(bench, alloc, Query::Slice(2))
+}
+
+// Whether slices 1 and 2 alone are kept.
+fn keeps_two(bench: &Bench) -> bool {
+    keeps(
+        bench,
+        [false, true, true, false, false, false, false, false, false],
+    )
+}
+
+fn edits_around(rt: &impl Abort, alloc: Global, bench: &mut Bench) {
+    assert!(rt; asks_three(bench, alloc));
+    assert!(rt; patches(bench, alloc, (1, 0), &[9], None));
+    assert!(rt; keeps_two(bench));
     assert!(rt; meets(bench, alloc, Edit::Set(1, signed(0, 193, 4), 21), None));
     assert!(rt; meets(bench, alloc, Edit::Set(1, signed(0, 5, 4), 9), None));
-    let behind = patch(alloc, 1, 2, &[1])?;
-    assert!(rt; meets(bench, alloc, behind, Some(Refusal::NoSample(2, 2))));
-    assert!(rt;
-        keeps(
-            bench,
-            [false, true, true, false, false, false, false, false, false]
-        )
-    );
-    assert_eq!(rt; looks_for(bench, alloc, 1, 3), Some(0));
-    assert_eq!(rt; looks_for(bench, alloc, 0, 3), Some(3));
-    Ok(())
+    let behind = Some(Refusal::NoSample(2, 2));
+    assert!(rt; patches(bench, alloc, (1, 2), &[1], behind));
+    assert!(rt; keeps_two(bench));
+    assert!(rt; looks_for(bench, alloc, 1, 3) == Some(0));
+    assert!(rt; looks_for(bench, alloc, 0, 3) == Some(3));
 }
 
 // A patch forgets the slices of its samples alone; a set that leaves inline and crossline, and a
@@ -109,7 +106,8 @@ fn kept_slices_stay_after_edits_elsewhere(rt: HostRuntime) -> Result<(), Fail> {
     )
 }
 
-fn edits_of_all(rt: &impl Abort, alloc: Global, bench: &mut Bench) -> Result<(), Fail> {
+// Offset bound to bytes 1 to 4.
+fn bound_offset(alloc: Global) -> Result<Edit, AllocError> {
     let offset = Place {
         extension: 0,
         byte: 1,
@@ -119,23 +117,33 @@ fn edits_of_all(rt: &impl Abort, alloc: Global, bench: &mut Bench) -> Result<(),
         },
     };
     let name = Text::new(String::from_str(alloc, "offset")?);
-    let edits = [
-        Edit::Set(2, signed(0, 189, 4), 11),
-        Edit::Map(name, offset),
-        Edit::Move(1, 3),
-        Edit::Copy(2, 1),
-        Edit::Delete(1),
-        Edit::Blank(4),
-    ];
-    for edit in &edits {
-        bench.ask(alloc, &Query::Slice(1))?;
-        assert!(rt; bench.cached(1));
-        let before = bench.looks();
-        bench.apply(alloc, edit)?;
-        assert!(rt; !bench.cached(1));
-        assert!(rt; bench.looks().checked_sub(before) <= Some(3));
+    Ok(Edit::Map(name, offset))
+}
+
+// Whether slice 1 is kept before the edit and not after it, which takes three looks at most.
+fn forgets(bench: &mut Bench, alloc: Global, edit: Edit) -> bool {
+    let is_answered = is_answered(bench, alloc, Query::Slice(1));
+    let is_kept = bench.cached(1);
+    let before = bench.looks();
+    let is_done = meets(bench, alloc, edit, None);
+    let is_cheap = bench.looks().checked_sub(before) <= Some(3);
+    is_answered && is_kept && is_done && is_cheap && !bench.cached(1)
+}
+
+fn forgets_for_a_name(bench: &mut Bench, alloc: Global) -> bool {
+    match bound_offset(alloc) {
+        Ok(edit) => forgets(bench, alloc, edit),
+        Err(_) => false,
     }
-    Ok(())
+}
+
+fn edits_of_all(rt: &impl Abort, alloc: Global, bench: &mut Bench) {
+    assert!(rt; forgets(bench, alloc, Edit::Set(2, signed(0, 189, 4), 11)));
+    assert!(rt; forgets_for_a_name(bench, alloc));
+    assert!(rt; forgets(bench, alloc, Edit::Move(1, 3)));
+    assert!(rt; forgets(bench, alloc, Edit::Copy(2, 1)));
+    assert!(rt; forgets(bench, alloc, Edit::Delete(1)));
+    assert!(rt; forgets(bench, alloc, Edit::Blank(4)));
 }
 
 // Edits that may change each slice forget all.
@@ -158,16 +166,18 @@ fn row(crossline: i32, position: u32, value: i128) -> Row {
     }
 }
 
-fn answer_again(rt: &impl Abort, alloc: Global, bench: &mut Bench) -> Result<(), Fail> {
-    let first = bench.ask(alloc, &Query::Slice(1))?;
-    let again = bench.ask(alloc, &Query::Slice(1))?;
-    let (Answer::Slice(first), Answer::Slice(again)) = (first, again) else {
-        return Err("slices".into());
-    };
-    assert!(rt; first.as_slice() == again.as_slice());
+// Whether the answer has the rows of slice 1.
+fn are_rows(asked: &Result<Answer, AskFault>) -> bool {
     let rows = [row(21, 1, -2), row(22, 2, 4), row(23, 3, 6)];
-    assert!(rt; again.as_slice() == &rows[..]);
-    Ok(())
+    match asked {
+        Ok(Answer::Slice(slice)) => slice.as_slice() == &rows[..],
+        _ => false,
+    }
+}
+
+fn answer_again(rt: &impl Abort, alloc: Global, bench: &mut Bench) {
+    assert!(rt; are_rows(&bench.ask(alloc, &Query::Slice(1))));
+    assert!(rt; are_rows(&bench.ask(alloc, &Query::Slice(1))));
 }
 
 // A kept slice gives the rows of the first answer.

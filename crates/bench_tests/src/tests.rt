@@ -2,19 +2,19 @@
 // each test and lends it out: the check of a function that owns a bench takes long, and that of a
 // borrower stays short. What it is lent to is a `dyn`: a type parameter would have it checked anew
 // for each test.
-use bench_core::{Answer, AskFault, Bench, Edit, Field, Info, Query, Refusal, Text};
+use bench_core::{Answer, AskFault, Bench, Edit, Field, Items, Query, Refusal, Text};
 use device_io::{Sink, Source, StepReader, StepWriter};
 use edit_overlay::SaveFault;
 use field_map::{MapFault, Place};
 use frame_cut::{Limits, Reading};
 use num_order::Kind;
-use std::alloc::Global;
+use std::alloc::{AllocError, Global};
 use std::process::Abort;
 use std::test::Fail;
 use text_block::{Code, TextFault};
 
 // Big-endian, revision 1.0, two 16-bit samples a trace, three traces on inline 10 (bytes 189-192).
-pub(crate) fn sample_file(alloc: Global) -> Result<Vec<u8>, Fail> {
+pub(crate) fn sample_file(alloc: Global) -> Result<Vec<u8>, AllocError> {
     let mut file = vec![in alloc; 0u8; 4332]?;
     let bytes = [
         (3221, 2),
@@ -43,28 +43,29 @@ pub(crate) fn put_bytes(file: &mut [u8], bytes: &[(usize, u8)]) {
     }
 }
 
-// What the function answers of this file, loaded with room for so many bytes and traces.
+// Has the function try this file, loaded with room for so many bytes and traces.
 pub(crate) fn on_file(
     alloc: Global,
     file: &[u8],
     reading: Reading,
     room: (u64, u32),
-    ask: &mut dyn FnMut(&mut Bench) -> Result<(), Fail>,
+    ask: &mut dyn FnMut(&mut Bench),
 ) -> Result<(), Fail>
     requires { IsAlwaysCallable ask.now }
 {
     let limits = Limits::new(room.0, room.1).ok_or("limits")?;
     let mut reader = Source::new(StepReader::new(file, 1000, u64::MAX));
     let mut bench = Bench::load(alloc, &mut reader, reading, limits)?;
-    ask(&mut bench)
+    ask(&mut bench);
+    Ok(())
 }
 
-// What the function answers of the small file with these bytes put into it.
+// Has the function try the small file with these bytes put into it.
 fn on_small_with(
     alloc: Global,
     reading: Reading,
     bytes: &[(usize, u8)],
-    ask: &mut dyn FnMut(&mut Bench) -> Result<(), Fail>,
+    ask: &mut dyn FnMut(&mut Bench),
 ) -> Result<(), Fail>
     requires { IsAlwaysCallable ask.now }
 {
@@ -73,8 +74,8 @@ fn on_small_with(
     on_file(alloc, file.as_slice(), reading, (1 << 32, u32::MAX), ask)
 }
 
-// What the function answers of the small file as it is.
-fn on_small(alloc: Global, ask: &mut dyn FnMut(&mut Bench) -> Result<(), Fail>) -> Result<(), Fail>
+// Has the function try the small file as it is.
+fn on_small(alloc: Global, ask: &mut dyn FnMut(&mut Bench)) -> Result<(), Fail>
     requires { IsAlwaysCallable ask.now }
 {
     on_small_with(alloc, Reading::as_written(), &[], ask)
@@ -123,53 +124,88 @@ pub(crate) fn fault(bench: &mut Bench, alloc: Global, query: Query) -> Option<As
     bench.ask(alloc, &query).err()
 }
 
-pub(crate) fn value(bench: &mut Bench, alloc: Global, p: u32, field: Field) -> Result<i128, Fail> {
-    number(bench, alloc, Query::Get(p, field))
+// Whether the query meets this fault.
+pub(crate) fn fails(bench: &mut Bench, alloc: Global, query: Query, expected: AskFault) -> bool {
+    fault(bench, alloc, query) == Some(expected)
 }
 
-fn sample(bench: &mut Bench, alloc: Global, p: u32, k: u32) -> Result<i128, Fail> {
-    number(bench, alloc, Query::Sample(p, k))
+pub(crate) fn is_answered(bench: &mut Bench, alloc: Global, query: Query) -> bool {
+    fault(bench, alloc, query).is_none()
 }
 
-// The number that answers a query.
-fn number(bench: &mut Bench, alloc: Global, query: Query) -> Result<i128, Fail> {
-    match bench.ask(alloc, &query)? {
-        Answer::Value(value) => Ok(value),
-        _ => Err("a value".into()),
+// The number that answers, if one does.
+fn number_in(asked: &Result<Answer, AskFault>) -> Option<i128> {
+    match asked {
+        Ok(Answer::Value(number)) => Some(*number),
+        _ => None,
     }
+}
+
+// Whether this number answers a query.
+fn tells(bench: &mut Bench, alloc: Global, query: Query, expected: i128) -> bool {
+    number_in(&bench.ask(alloc, &query)) == Some(expected)
+}
+
+// The number in the field of trace p, if it has one.
+pub(crate) fn value(bench: &mut Bench, alloc: Global, p: u32, field: Field) -> Option<i128> {
+    number_in(&bench.ask(alloc, &Query::Get(p, field)))
+}
+
+// Whether the field of trace p has this number.
+pub(crate) fn has(bench: &mut Bench, alloc: Global, p: u32, field: Field, expected: i128) -> bool {
+    tells(bench, alloc, Query::Get(p, field), expected)
 }
 
 // Whether sample k of trace p is this one.
 pub(crate) fn shows(bench: &mut Bench, alloc: Global, p: u32, k: u32, expected: i128) -> bool {
-    match bench.ask(alloc, &Query::Sample(p, k)) {
-        Ok(Answer::Value(number)) => number == expected,
-        _ => false,
+    tells(bench, alloc, Query::Sample(p, k), expected)
+}
+
+// Whether these values from sample k of trace p on meet this refusal, or none.
+pub(crate) fn patches(
+    bench: &mut Bench,
+    alloc: Global,
+    (p, k): (u32, u32),
+    numbers: &[i128],
+    expected: Option<Refusal>,
+) -> bool {
+    match Vec::from_slice(alloc, numbers) {
+        Ok(values) => meets(
+            bench,
+            alloc,
+            Edit::Patch(p, k, Items::new(values)),
+            expected,
+        ),
+        Err(_) => false,
     }
 }
 
 // Whether the bench saves these bytes.
-pub(crate) fn saves(bench: &mut Bench, alloc: Global, file: &[u8]) -> Result<bool, Fail> {
+pub(crate) fn saves(bench: &mut Bench, alloc: Global, file: &[u8]) -> bool {
     let mut writer = Sink::new(Vec::new(alloc));
-    bench.save(&mut writer)?;
-    Ok(writer.into_inner().as_slice() == file)
+    let is_saved = bench.save(&mut writer).is_ok();
+    let saved = writer.into_inner();
+    is_saved && saved.as_slice() == file
 }
 
 // Whether the bench saves the small file with these bytes put into it.
-fn saves_with(bench: &mut Bench, alloc: Global, bytes: &[(usize, u8)]) -> Result<bool, Fail> {
-    let mut file = sample_file(alloc)?;
-    put_bytes(file.as_mut_slice(), bytes);
-    saves(bench, alloc, file.as_slice())
+fn saves_with(bench: &mut Bench, alloc: Global, bytes: &[(usize, u8)]) -> bool {
+    match sample_file(alloc) {
+        Ok(mut file) => {
+            put_bytes(file.as_mut_slice(), bytes);
+            saves(bench, alloc, file.as_slice())
+        }
+        Err(_) => false,
+    }
 }
 
-fn set_and_get(rt: &impl Abort, alloc: Global, bench: &mut Bench) -> Result<(), Fail> {
+fn set_and_get(rt: &impl Abort, alloc: Global, bench: &mut Bench) {
     assert_eq!(rt; bench.count(), 3);
     assert_eq!(rt; bench.length(), 4332);
     assert!(rt; meets(bench, alloc, Edit::Set(2, signed(0, 189, 4), 7), None));
-    for (p, expected) in &[(2, 7), (1, 10)] {
-        assert_eq!(rt; value(bench, alloc, *p, signed(0, 189, 4))?, *expected);
-    }
-    assert!(rt; saves_with(bench, alloc, &[(4035, 7)])?);
-    Ok(())
+    assert!(rt; has(bench, alloc, 2, signed(0, 189, 4), 7));
+    assert!(rt; has(bench, alloc, 1, signed(0, 189, 4), 10));
+    assert!(rt; saves_with(bench, alloc, &[(4035, 7)]));
 }
 
 #[test]
@@ -194,18 +230,17 @@ fn refuse_sets(rt: &impl Abort, alloc: Global, bench: &mut Bench) {
     ];
     for (p, at, number, expected) in &cases {
         let set = Edit::Set(*p, Field::Place(*at), *number);
-        assert_eq!(rt; refusal(bench, alloc, set), Some(*expected));
+        assert!(rt; meets(bench, alloc, set, Some(*expected)));
     }
 }
 
-fn refuse_sets_and_gets(rt: &impl Abort, alloc: Global, bench: &mut Bench) -> Result<(), Fail> {
+fn refuse_sets_and_gets(rt: &impl Abort, alloc: Global, bench: &mut Bench) {
     refuse_sets(rt, alloc, bench);
-    for (p, expected) in &[(4, AskFault::NoTrace(4, 3)), (3, AskFault::NoPlace)] {
-        let get = Query::Get(*p, signed(0, 0, 4));
-        assert_eq!(rt; fault(bench, alloc, get), Some(*expected));
-    }
-    assert!(rt; saves_with(bench, alloc, &[])?);
-    Ok(())
+    let behind = AskFault::NoTrace(4, 3);
+    assert!(rt; fails(bench, alloc, Query::Get(4, signed(0, 0, 4)), behind));
+    let outside = AskFault::NoPlace;
+    assert!(rt; fails(bench, alloc, Query::Get(3, signed(0, 0, 4)), outside));
+    assert!(rt; saves_with(bench, alloc, &[]));
 }
 
 #[test]
@@ -217,19 +252,24 @@ fn names_the_first_refusal(rt: HostRuntime) -> Result<(), Fail> {
     )
 }
 
-fn info(bench: &mut Bench, alloc: Global) -> Result<Info, Fail> {
-    match bench.ask(alloc, &Query::Info)? {
-        Answer::Info(info) => Ok(info),
-        _ => Err("info".into()),
+// Whether the answer is the number of traces of the small file.
+fn is_count(asked: &Result<Answer, AskFault>) -> bool {
+    matches!(asked, Ok(Answer::Count(3)))
+}
+
+// Whether the answer tells of the small file.
+fn is_info(asked: &Result<Answer, AskFault>) -> bool {
+    match asked {
+        Ok(Answer::Info(info)) => {
+            info.traces == 3 && info.bytes == 4332 && info.head.traces_at == 3600
+        }
+        _ => false,
     }
 }
 
-fn tell_counts(rt: &impl Abort, alloc: Global, bench: &mut Bench) -> Result<(), Fail> {
-    assert!(rt; matches!(bench.ask(alloc, &Query::Count), Ok(Answer::Count(3))));
-    let info = info(bench, alloc)?;
-    let told = (info.traces, info.bytes, info.head.traces_at);
-    assert_eq!(rt; told, (3, 4332, 3600));
-    Ok(())
+fn tell_counts(rt: &impl Abort, alloc: Global, bench: &mut Bench) {
+    assert!(rt; is_count(&bench.ask(alloc, &Query::Count)));
+    assert!(rt; is_info(&bench.ask(alloc, &Query::Info)));
 }
 
 #[test]
@@ -244,18 +284,12 @@ fn tells_counts(rt: HostRuntime) -> Result<(), Fail> {
     )
 }
 
-fn tell_samples(rt: &impl Abort, alloc: Global, bench: &mut Bench) -> Result<(), Fail> {
-    assert_eq!(rt; sample(bench, alloc, 1, 1)?, -2);
-    assert_eq!(rt; sample(bench, alloc, 3, 0)?, 0);
-    let cases = [
-        (1, 2, AskFault::NoSample(2, 2)),
-        (1, 9, AskFault::NoSample(9, 2)),
-        (4, 9, AskFault::NoTrace(4, 3)),
-    ];
-    for (p, k, expected) in &cases {
-        assert_eq!(rt; fault(bench, alloc, Query::Sample(*p, *k)), Some(*expected));
-    }
-    Ok(())
+fn tell_samples(rt: &impl Abort, alloc: Global, bench: &mut Bench) {
+    assert!(rt; shows(bench, alloc, 1, 1, -2));
+    assert!(rt; shows(bench, alloc, 3, 0, 0));
+    assert!(rt; fails(bench, alloc, Query::Sample(1, 2), AskFault::NoSample(2, 2)));
+    assert!(rt; fails(bench, alloc, Query::Sample(1, 9), AskFault::NoSample(9, 2)));
+    assert!(rt; fails(bench, alloc, Query::Sample(4, 9), AskFault::NoTrace(4, 3)));
 }
 
 #[test]
@@ -270,12 +304,11 @@ fn tells_samples(rt: HostRuntime) -> Result<(), Fail> {
     )
 }
 
-fn set_around_the_length(rt: &impl Abort, alloc: Global, bench: &mut Bench) -> Result<(), Fail> {
+fn set_around_the_length(rt: &impl Abort, alloc: Global, bench: &mut Bench) {
     let longer = Edit::Set(1, signed(0, 115, 2), 4);
     assert!(rt; meets(bench, alloc, longer, Some(Refusal::Frame)));
     let beside = Edit::Set(1, signed(0, 113, 4), 2);
     assert!(rt; meets(bench, alloc, beside, None));
-    Ok(())
 }
 
 #[test]
@@ -289,10 +322,9 @@ fn no_set_moves_the_end_of_a_trace(rt: HostRuntime) -> Result<(), Fail> {
     )
 }
 
-fn set_the_length(rt: &impl Abort, alloc: Global, bench: &mut Bench) -> Result<(), Fail> {
+fn set_the_length(rt: &impl Abort, alloc: Global, bench: &mut Bench) {
     let longer = Edit::Set(1, signed(0, 115, 2), 4);
     assert!(rt; meets(bench, alloc, longer, None));
-    Ok(())
 }
 
 #[test]
@@ -323,85 +355,81 @@ fn save_to_a_failing_writer(rt: &impl Abort, bench: &mut Bench, file: &[u8]) {
     assert!(rt; begins_alike(&room, file, 4000));
 }
 
-fn save_twice(rt: &impl Abort, alloc: Global, bench: &mut Bench) -> Result<(), Fail> {
-    let file = sample_file(alloc)?;
-    save_to_a_failing_writer(rt, bench, file.as_slice());
-    assert!(rt; saves(bench, alloc, file.as_slice())?);
-    Ok(())
+fn save_twice(rt: &impl Abort, alloc: Global, bench: &mut Bench, file: &[u8]) {
+    save_to_a_failing_writer(rt, bench, file);
+    assert!(rt; saves(bench, alloc, file));
 }
 
 #[test]
 fn names_the_bytes_that_a_failing_writer_took(rt: HostRuntime) -> Result<(), Fail> {
     let alloc = rt.alloc();
+    let file = sample_file(alloc)?;
     on_small(
         alloc,
-        &mut |bench: &mut Bench| save_twice(&rt, alloc, bench),
+        &mut |bench: &mut Bench| save_twice(&rt, alloc, bench, file.as_slice()),
     )
 }
 
-fn text(alloc: Global, text: &str) -> Result<Text, Fail> {
+fn text(alloc: Global, text: &str) -> Result<Text, AllocError> {
     Ok(Text::new(String::from_str(alloc, text)?))
 }
 
-fn named(alloc: Global, name: &str) -> Result<Field, Fail> {
+fn named(alloc: Global, name: &str) -> Result<Field, AllocError> {
     Ok(Field::Name(text(alloc, name)?))
 }
 
-// The refusal of a number in the field of this name of trace p.
-fn set_named(
+// Whether a number in the field of this name of trace p meets this refusal, or none.
+fn sets_named(
     bench: &mut Bench,
     alloc: Global,
     p: u32,
     name: &str,
     number: i128,
-) -> Result<Option<Refusal>, Fail> {
-    let field = named(alloc, name)?;
-    Ok(refusal(bench, alloc, Edit::Set(p, field, number)))
-}
-
-// The fault of a query for the field of this name of trace p.
-fn fault_named(
-    bench: &mut Bench,
-    alloc: Global,
-    p: u32,
-    name: &str,
-) -> Result<Option<AskFault>, Fail> {
-    let field = named(alloc, name)?;
-    Ok(fault(bench, alloc, Query::Get(p, field)))
-}
-
-fn value_named(bench: &mut Bench, alloc: Global, p: u32, name: &str) -> Result<i128, Fail> {
-    value(bench, alloc, p, named(alloc, name)?)
-}
-
-fn refuse_names(rt: &impl Abort, alloc: Global, bench: &mut Bench) -> Result<(), Fail> {
-    let cases = [
-        (2, "nothing", 7, Refusal::NoField),
-        (4, "nothing", 7, Refusal::NoTrace(4, 3)),
-        // A standard name that stands in an extension that the trace lacks.
-        (1, "ext_count", 1, Refusal::NoPlace),
-    ];
-    for (p, name, number, expected) in &cases {
-        let met = set_named(bench, alloc, *p, name, *number)?;
-        assert_eq!(rt; met, Some(*expected));
+    expected: Option<Refusal>,
+) -> bool {
+    match named(alloc, name) {
+        Ok(field) => meets(bench, alloc, Edit::Set(p, field, number), expected),
+        Err(_) => false,
     }
-    Ok(())
 }
 
-fn ask_for_nothing(rt: &impl Abort, alloc: Global, bench: &mut Bench) -> Result<(), Fail> {
-    for (p, expected) in &[(1, AskFault::NoField), (0, AskFault::NoTrace(0, 3))] {
-        let met = fault_named(bench, alloc, *p, "nothing")?;
-        assert_eq!(rt; met, Some(*expected));
+// Whether a query for the field of this name of trace p meets this fault.
+fn fails_named(bench: &mut Bench, alloc: Global, p: u32, name: &str, expected: AskFault) -> bool {
+    match named(alloc, name) {
+        Ok(field) => fails(bench, alloc, Query::Get(p, field), expected),
+        Err(_) => false,
     }
-    Ok(())
 }
 
-fn set_by_name(rt: &impl Abort, alloc: Global, bench: &mut Bench) -> Result<(), Fail> {
-    assert_eq!(rt; set_named(bench, alloc, 2, "inline", 7)?, None);
-    assert_eq!(rt; value(bench, alloc, 2, signed(0, 189, 4))?, 7);
-    assert_eq!(rt; value_named(bench, alloc, 2, "inline_number")?, 7);
-    refuse_names(rt, alloc, bench)?;
-    ask_for_nothing(rt, alloc, bench)
+// Whether the field of this name of trace p has this number.
+fn has_named(bench: &mut Bench, alloc: Global, p: u32, name: &str, expected: i128) -> bool {
+    match named(alloc, name) {
+        Ok(field) => has(bench, alloc, p, field, expected),
+        Err(_) => false,
+    }
+}
+
+fn refuse_names(rt: &impl Abort, alloc: Global, bench: &mut Bench) {
+    let unknown = Some(Refusal::NoField);
+    assert!(rt; sets_named(bench, alloc, 2, "nothing", 7, unknown));
+    let behind = Some(Refusal::NoTrace(4, 3));
+    assert!(rt; sets_named(bench, alloc, 4, "nothing", 7, behind));
+    // A standard name that stands in an extension that the trace lacks.
+    let absent = Some(Refusal::NoPlace);
+    assert!(rt; sets_named(bench, alloc, 1, "ext_count", 1, absent));
+}
+
+fn ask_for_nothing(rt: &impl Abort, alloc: Global, bench: &mut Bench) {
+    assert!(rt; fails_named(bench, alloc, 1, "nothing", AskFault::NoField));
+    assert!(rt; fails_named(bench, alloc, 0, "nothing", AskFault::NoTrace(0, 3)));
+}
+
+fn set_by_name(rt: &impl Abort, alloc: Global, bench: &mut Bench) {
+    assert!(rt; sets_named(bench, alloc, 2, "inline", 7, None));
+    assert!(rt; has(bench, alloc, 2, signed(0, 189, 4), 7));
+    assert!(rt; has_named(bench, alloc, 2, "inline_number", 7));
+    refuse_names(rt, alloc, bench);
+    ask_for_nothing(rt, alloc, bench);
 }
 
 #[test]
@@ -413,34 +441,33 @@ fn sets_fields_by_their_names(rt: HostRuntime) -> Result<(), Fail> {
     )
 }
 
-// The refusal of a number in the field of this name of the binary header.
-fn set_bin_named(
+// Whether a number in the field of this name of the binary header meets this refusal, or none.
+fn sets_bin_named(
     bench: &mut Bench,
     alloc: Global,
     name: &str,
     number: i128,
-) -> Result<Option<Refusal>, Fail> {
-    let field = named(alloc, name)?;
-    Ok(refusal(bench, alloc, Edit::SetBin(field, number)))
+    expected: Option<Refusal>,
+) -> bool {
+    match named(alloc, name) {
+        Ok(field) => meets(bench, alloc, Edit::SetBin(field, number), expected),
+        Err(_) => false,
+    }
 }
 
-// The fault of a query for the field of this name of the binary header.
-fn bin_fault_named(bench: &mut Bench, alloc: Global, name: &str) -> Result<Option<AskFault>, Fail> {
-    let field = named(alloc, name)?;
-    Ok(fault(bench, alloc, Query::GetBin(field)))
+// Whether a query for the field of this name of the binary header meets this fault.
+fn fails_bin_named(bench: &mut Bench, alloc: Global, name: &str, expected: AskFault) -> bool {
+    match named(alloc, name) {
+        Ok(field) => fails(bench, alloc, Query::GetBin(field), expected),
+        Err(_) => false,
+    }
 }
 
-fn set_bin_names(rt: &impl Abort, alloc: Global, bench: &mut Bench) -> Result<(), Fail> {
-    assert_eq!(rt; set_bin_named(bench, alloc, "interval", 4000)?, None);
-    assert_eq!(rt;
-        number(bench, alloc, Query::GetBin(signed(0, 3217, 2)))?,
-        4000
-    );
-    let met = bin_fault_named(bench, alloc, "inline")?;
-    assert_eq!(rt; met, Some(AskFault::NoField));
-    let met = set_bin_named(bench, alloc, "inline", 1)?;
-    assert_eq!(rt; met, Some(Refusal::NoField));
-    Ok(())
+fn set_bin_names(rt: &impl Abort, alloc: Global, bench: &mut Bench) {
+    assert!(rt; sets_bin_named(bench, alloc, "interval", 4000, None));
+    assert!(rt; tells(bench, alloc, Query::GetBin(signed(0, 3217, 2)), 4000));
+    assert!(rt; fails_bin_named(bench, alloc, "inline", AskFault::NoField));
+    assert!(rt; sets_bin_named(bench, alloc, "inline", 1, Some(Refusal::NoField)));
 }
 
 fn set_bin_places(rt: &impl Abort, alloc: Global, bench: &mut Bench) {
@@ -455,14 +482,13 @@ fn set_bin_places(rt: &impl Abort, alloc: Global, bench: &mut Bench) {
     ];
     for (at, number, expected) in &cases {
         let set = Edit::SetBin(Field::Place(*at), *number);
-        assert_eq!(rt; refusal(bench, alloc, set), *expected);
+        assert!(rt; meets(bench, alloc, set, *expected));
     }
 }
 
-fn set_bin(rt: &impl Abort, alloc: Global, bench: &mut Bench) -> Result<(), Fail> {
-    set_bin_names(rt, alloc, bench)?;
+fn set_bin(rt: &impl Abort, alloc: Global, bench: &mut Bench) {
+    set_bin_names(rt, alloc, bench);
     set_bin_places(rt, alloc, bench);
-    Ok(())
 }
 
 #[test]
@@ -471,62 +497,58 @@ fn sets_the_binary_header(rt: HostRuntime) -> Result<(), Fail> {
     on_small(alloc, &mut |bench: &mut Bench| set_bin(&rt, alloc, bench))
 }
 
-// The refusal of this text as line q.
-fn set_line(bench: &mut Bench, alloc: Global, q: u32, line: &str) -> Result<Option<Refusal>, Fail> {
-    let line = text(alloc, line)?;
-    Ok(refusal(bench, alloc, Edit::SetText(q, line)))
-}
-
-// Line q of block b, as it is shown.
-fn line(bench: &mut Bench, alloc: Global, b: u32, q: u32) -> Result<String, Fail> {
-    match bench.ask(alloc, &Query::Line(b, q))? {
-        Answer::Line(shown) => Ok(shown.into_string()),
-        _ => Err("a line".into()),
+// Whether this text as line q meets this refusal, or none.
+fn sets_line(
+    bench: &mut Bench,
+    alloc: Global,
+    q: u32,
+    line: &str,
+    expected: Option<Refusal>,
+) -> bool {
+    match text(alloc, line) {
+        Ok(line) => meets(bench, alloc, Edit::SetText(q, line), expected),
+        Err(_) => false,
     }
 }
 
-fn is_ascii(bench: &mut Bench, alloc: Global, b: u32) -> bool {
-    matches!(
-        bench.ask(alloc, &Query::Code(b)),
-        Ok(Answer::Code(Code::Ascii))
-    )
-}
-
-fn set_lines(rt: &impl Abort, alloc: Global, bench: &mut Bench) -> Result<(), Fail> {
-    assert!(rt; is_ascii(bench, alloc, 0));
-    assert_eq!(rt; set_line(bench, alloc, 2, "C 2 LINE")?, None);
-    let shown = line(bench, alloc, 0, 2)?;
-    assert_eq!(rt; shown.len(), 80);
-    assert!(rt; shown.as_str().starts_with("C 2 LINE "));
-    Ok(())
-}
-
-fn refuse_lines(rt: &impl Abort, alloc: Global, bench: &mut Bench) -> Result<(), Fail> {
-    let met = set_line(bench, alloc, 41, "C")?;
-    assert_eq!(rt; met, Some(Refusal::NoPlace));
-    let met = set_line(bench, alloc, 1, "C 1 \\")?;
-    assert_eq!(rt; met, Some(Refusal::Text(TextFault::NoCode(5))));
-    for (b, q) in &[(1, 1), (0, 0)] {
-        let met = fault(bench, alloc, Query::Line(*b, *q));
-        assert_eq!(rt; met, Some(AskFault::NoPlace));
-    }
-    let met = fault(bench, alloc, Query::Code(1));
-    assert_eq!(rt; met, Some(AskFault::NoPlace));
-    Ok(())
-}
-
-fn has_no_stanzas(bench: &mut Bench, alloc: Global) -> Result<bool, Fail> {
-    match bench.ask(alloc, &Query::Stanzas)? {
-        Answer::Stanzas(stanzas) => Ok(stanzas.as_slice().is_empty()),
-        _ => Err("stanzas".into()),
+// Whether the answer is a whole line that begins so.
+fn begins(asked: &Result<Answer, AskFault>, start: &str) -> bool {
+    match asked {
+        Ok(Answer::Line(shown)) => shown.as_str().len() == 80 && shown.as_str().starts_with(start),
+        _ => false,
     }
 }
 
-fn write_and_show(rt: &impl Abort, alloc: Global, bench: &mut Bench) -> Result<(), Fail> {
-    set_lines(rt, alloc, bench)?;
-    refuse_lines(rt, alloc, bench)?;
-    assert!(rt; has_no_stanzas(bench, alloc)?);
-    Ok(())
+fn is_ascii(asked: &Result<Answer, AskFault>) -> bool {
+    matches!(asked, Ok(Answer::Code(Code::Ascii)))
+}
+
+fn has_no_stanzas(asked: &Result<Answer, AskFault>) -> bool {
+    match asked {
+        Ok(Answer::Stanzas(stanzas)) => stanzas.as_slice().is_empty(),
+        _ => false,
+    }
+}
+
+fn set_lines(rt: &impl Abort, alloc: Global, bench: &mut Bench) {
+    assert!(rt; is_ascii(&bench.ask(alloc, &Query::Code(0))));
+    assert!(rt; sets_line(bench, alloc, 2, "C 2 LINE", None));
+    assert!(rt; begins(&bench.ask(alloc, &Query::Line(0, 2)), "C 2 LINE "));
+}
+
+fn refuse_lines(rt: &impl Abort, alloc: Global, bench: &mut Bench) {
+    assert!(rt; sets_line(bench, alloc, 41, "C", Some(Refusal::NoPlace)));
+    let no_code = Some(Refusal::Text(TextFault::NoCode(5)));
+    assert!(rt; sets_line(bench, alloc, 1, "C 1 \\", no_code));
+    assert!(rt; fails(bench, alloc, Query::Line(1, 1), AskFault::NoPlace));
+    assert!(rt; fails(bench, alloc, Query::Line(0, 0), AskFault::NoPlace));
+    assert!(rt; fails(bench, alloc, Query::Code(1), AskFault::NoPlace));
+}
+
+fn write_and_show(rt: &impl Abort, alloc: Global, bench: &mut Bench) {
+    set_lines(rt, alloc, bench);
+    refuse_lines(rt, alloc, bench);
+    assert!(rt; has_no_stanzas(&bench.ask(alloc, &Query::Stanzas)));
 }
 
 #[test]
@@ -538,49 +560,51 @@ fn writes_and_shows_lines(rt: HostRuntime) -> Result<(), Fail> {
     )
 }
 
-// The refusal of a name for the place of the inline number.
-fn bind(bench: &mut Bench, alloc: Global, name: &str) -> Result<Option<Refusal>, Fail> {
-    let name = text(alloc, name)?;
-    Ok(refusal(bench, alloc, Edit::Map(name, place(0, 189, 4))))
-}
-
-// The refusal to unbind a name.
-fn unbind(bench: &mut Bench, alloc: Global, name: &str) -> Result<Option<Refusal>, Fail> {
-    let name = text(alloc, name)?;
-    Ok(refusal(bench, alloc, Edit::Unmap(name)))
-}
-
-// The bound names with their places.
-fn bound(bench: &mut Bench, alloc: Global) -> Result<Vec<(Text, Place)>, Fail> {
-    match bench.ask(alloc, &Query::Fields)? {
-        Answer::Fields(fields) => Ok(fields.into_vec()),
-        _ => Err("fields".into()),
+// Whether a name for the place of the inline number meets this refusal, or none.
+fn binds(bench: &mut Bench, alloc: Global, name: &str, expected: Option<Refusal>) -> bool {
+    match text(alloc, name) {
+        Ok(name) => meets(bench, alloc, Edit::Map(name, place(0, 189, 4)), expected),
+        Err(_) => false,
     }
 }
 
-fn seven_with_mine_last(rt: &impl Abort, fields: &[(Text, Place)]) -> Result<(), Fail> {
-    assert_eq!(rt; fields.len(), 7);
-    let last = fields.last().ok_or("a field")?;
-    assert_eq!(rt; last.0.as_str(), "mine");
-    assert_eq!(rt; last.1, place(0, 189, 4));
-    Ok(())
+// Whether to unbind a name meets this refusal, or none.
+fn unbinds(bench: &mut Bench, alloc: Global, name: &str, expected: Option<Refusal>) -> bool {
+    match text(alloc, name) {
+        Ok(name) => meets(bench, alloc, Edit::Unmap(name), expected),
+        Err(_) => false,
+    }
 }
 
-fn bind_mine(rt: &impl Abort, alloc: Global, bench: &mut Bench) -> Result<(), Fail> {
-    assert_eq!(rt; bind(bench, alloc, "mine")?, None);
-    assert_eq!(rt; value_named(bench, alloc, 1, "mine")?, 10);
-    let met = bind(bench, alloc, "bad-name")?;
-    assert_eq!(rt; met, Some(Refusal::Map(MapFault::BadName)));
-    let fields = bound(bench, alloc)?;
-    seven_with_mine_last(rt, fields.as_slice())
+// Whether this is the name that was bound, with its place.
+fn is_mine(last: &(Text, Place)) -> bool {
+    last.0.as_str() == "mine" && last.1 == place(0, 189, 4)
 }
 
-fn bind_and_unbind(rt: &impl Abort, alloc: Global, bench: &mut Bench) -> Result<(), Fail> {
-    bind_mine(rt, alloc, bench)?;
-    assert_eq!(rt; unbind(bench, alloc, "mine")?, None);
-    let met = unbind(bench, alloc, "mine")?;
-    assert_eq!(rt; met, Some(Refusal::Map(MapFault::Unknown)));
-    Ok(())
+// Whether seven names are bound, and the last of them is this one.
+fn are_seven_with_mine_last(asked: &Result<Answer, AskFault>) -> bool {
+    match asked {
+        Ok(Answer::Fields(fields)) => {
+            let fields = fields.as_slice();
+            fields.len() == 7 && is_mine(&fields[6])
+        }
+        _ => false,
+    }
+}
+
+fn bind_mine(rt: &impl Abort, alloc: Global, bench: &mut Bench) {
+    assert!(rt; binds(bench, alloc, "mine", None));
+    assert!(rt; has_named(bench, alloc, 1, "mine", 10));
+    let bad = Some(Refusal::Map(MapFault::BadName));
+    assert!(rt; binds(bench, alloc, "bad-name", bad));
+    assert!(rt; are_seven_with_mine_last(&bench.ask(alloc, &Query::Fields)));
+}
+
+fn bind_and_unbind(rt: &impl Abort, alloc: Global, bench: &mut Bench) {
+    bind_mine(rt, alloc, bench);
+    assert!(rt; unbinds(bench, alloc, "mine", None));
+    let unknown = Some(Refusal::Map(MapFault::Unknown));
+    assert!(rt; unbinds(bench, alloc, "mine", unknown));
 }
 
 #[test]

@@ -2,7 +2,27 @@
 // worked by hand.
 use num_order::{Kind, Order};
 use sample_codes::{Format, FormatFault, IntegerFormat};
+use std::process::Abort;
 use std::test::Fail;
+
+// Asserts that the code has samples of this width, with values with a sign or without one.
+fn expect_values(
+    rt: &impl Abort,
+    code: u16,
+    opaque: bool,
+    width: u8,
+    signed: bool,
+) -> Result<(), Fail> {
+    let format = Format::of(code, opaque)?;
+    let kind = Kind {
+        size: width,
+        signed,
+    };
+    assert_eq!(rt; format.code(), code);
+    assert_eq!(rt; format.width(), width);
+    assert_eq!(rt; format.values().map(|f| f.kind()), Some(kind));
+    Ok(())
+}
 
 #[test]
 fn has_the_codes_of_the_standard(rt: HostRuntime) -> Result<(), Fail> {
@@ -18,28 +38,31 @@ fn has_the_codes_of_the_standard(rt: HostRuntime) -> Result<(), Fail> {
         (15, 3, false),
         (16, 1, false),
     ] {
-        for opaque in [false, true] {
-            let format = Format::of(code, opaque)?;
-            assert_eq!(rt; format.code(), code);
-            assert_eq!(rt; format.width(), width);
-            let kind = Kind {
-                size: width,
-                signed,
-            };
-            assert_eq!(rt; format.values().map(|f| f.kind()), Some(kind));
-        }
+        expect_values(&rt, code, false, width, signed)?;
+        expect_values(&rt, code, true, width, signed)?;
     }
+    Ok(())
+}
+
+// Asserts that the code has samples of this width, which are bytes without a value.
+fn expect_no_values(rt: &impl Abort, code: u16, width: u8) -> Result<(), Fail> {
+    let format = Format::of(code, true)?;
+    assert_eq!(rt; format.code(), code);
+    assert_eq!(rt; format.width(), width);
+    assert_eq!(rt; format.values(), None);
+    Ok(())
+}
+
+#[test]
+fn has_the_codes_of_samples_without_values(rt: HostRuntime) -> Result<(), Fail> {
     for (code, width) in [(1, 4), (4, 4), (5, 4), (6, 8)] {
-        let format = Format::of(code, true)?;
-        assert_eq!(rt; format.code(), code);
-        assert_eq!(rt; format.width(), width);
-        assert_eq!(rt; format.values(), None);
+        expect_no_values(&rt, code, width)?;
     }
     Ok(())
 }
 
 #[test]
-fn refuses_other_codes(rt: HostRuntime) {
+fn refuses_samples_without_values(rt: HostRuntime) {
     for (code, fault) in [
         (1, FormatFault::Float),
         (4, FormatFault::Gain),
@@ -48,6 +71,10 @@ fn refuses_other_codes(rt: HostRuntime) {
     ] {
         assert_eq!(rt; Format::of(code, false), Err(fault));
     }
+}
+
+#[test]
+fn refuses_other_codes(rt: HostRuntime) {
     for code in [0, 13, 14, 17, 65535] {
         assert_eq!(rt; Format::of(code, false), Err(FormatFault::Unknown));
         assert_eq!(rt; Format::of(code, true), Err(FormatFault::Unknown));
@@ -55,7 +82,7 @@ fn refuses_other_codes(rt: HostRuntime) {
 }
 
 #[test]
-fn decodes_and_encodes_samples(rt: HostRuntime) {
+fn decodes_samples(rt: HostRuntime) {
     assert_eq!(rt;
         IntegerFormat::Signed24.decode(Order::Little, &[0xFE, 0xFF, 0xFF]),
         -2
@@ -68,9 +95,17 @@ fn decodes_and_encodes_samples(rt: HostRuntime) {
         IntegerFormat::Signed16.decode(Order::Big, &[0x80, 0x00]),
         -32_768
     );
+}
+
+#[test]
+fn encodes_a_sample(rt: HostRuntime) {
     let mut bytes = [0; 4];
     IntegerFormat::Signed32.encode(Order::Big, -2, &mut bytes);
     assert_eq!(rt; bytes, [0xFF, 0xFF, 0xFF, 0xFE]);
+}
+
+#[test]
+fn knows_what_fits(rt: HostRuntime) {
     assert!(rt; IntegerFormat::Signed8.fits(-128));
     assert!(rt; !IntegerFormat::Signed8.fits(128));
     assert!(rt; IntegerFormat::Unsigned64.fits(18_446_744_073_709_551_615));

@@ -38,21 +38,37 @@ fn on_standard(
 }
 
 #[test]
-fn looks_up_standard_names(rt: HostRuntime) -> Result<(), Fail> {
-    assert_eq!(rt; standard("sequence_line"), Some(signed(0, 1, 4)));
-    assert_eq!(rt; standard("samples"), Some(unsigned(0, 115, 2)));
-    assert_eq!(rt; standard("shotpoint_scalar"), Some(signed(0, 201, 2)));
-    assert_eq!(rt; standard("ext_count"), Some(unsigned(1, 157, 2)));
-    assert_eq!(rt; standard("inline"), None);
-    assert_eq!(rt; standard("sequence_lin"), None);
-    assert_eq!(rt; bin_field("interval"), Some(unsigned(0, 3217, 2)));
-    assert_eq!(rt; bin_field("trailer"), Some(signed(0, 3529, 4)));
-    assert_eq!(rt; bin_field("delay"), None);
-    Ok(())
+fn looks_up_standard_names(rt: HostRuntime) {
+    let cases = [
+        ("sequence_line", Some(signed(0, 1, 4))),
+        ("samples", Some(unsigned(0, 115, 2))),
+        ("shotpoint_scalar", Some(signed(0, 201, 2))),
+        ("ext_count", Some(unsigned(1, 157, 2))),
+        ("inline", None),
+        ("sequence_lin", None),
+        ("total_static", None),
+    ];
+    for (name, place) in &cases {
+        assert_eq!(rt; standard(name), *place);
+    }
 }
 
 #[test]
-fn looks_up_the_names_of_other_tools(rt: HostRuntime) -> Result<(), Fail> {
+fn looks_up_names_of_the_binary_header(rt: HostRuntime) {
+    let cases = [
+        ("interval", Some(unsigned(0, 3217, 2))),
+        ("trailer", Some(signed(0, 3529, 4))),
+        ("delay", None),
+        ("ns", None),
+        ("total_static", None),
+    ];
+    for (name, place) in &cases {
+        assert_eq!(rt; bin_field(name), *place);
+    }
+}
+
+#[test]
+fn looks_up_the_names_of_other_tools(rt: HostRuntime) {
     let cases = [
         ("delay", signed(0, 109, 2)),
         ("total_static", signed(0, 103, 2)),
@@ -62,6 +78,15 @@ fn looks_up_the_names_of_other_tools(rt: HostRuntime) -> Result<(), Fail> {
         ("tstat", signed(0, 103, 2)),
         ("ns", unsigned(0, 115, 2)),
         ("otrav", signed(0, 179, 2)),
+    ];
+    for (name, place) in &cases {
+        assert_eq!(rt; named(name), Some(*place));
+    }
+}
+
+#[test]
+fn looks_up_names_in_capitals(rt: HostRuntime) {
+    let cases = [
         ("TotalStaticApplied", signed(0, 103, 2)),
         ("INLINE_3D", signed(0, 189, 4)),
         ("inline_3d", signed(0, 189, 4)),
@@ -71,6 +96,10 @@ fn looks_up_the_names_of_other_tools(rt: HostRuntime) -> Result<(), Fail> {
     for (name, place) in &cases {
         assert_eq!(rt; named(name), Some(*place));
     }
+}
+
+#[test]
+fn knows_no_other_names(rt: HostRuntime) {
     for name in &[
         "TSTAT",
         "Delay",
@@ -84,34 +113,22 @@ fn looks_up_the_names_of_other_tools(rt: HostRuntime) -> Result<(), Fail> {
     ] {
         assert_eq!(rt; named(name), None);
     }
-    assert_eq!(rt; bin_field("ns"), None);
-    assert_eq!(rt; bin_field("total_static"), None);
-    assert_eq!(rt; standard("total_static"), None);
-    Ok(())
 }
 
 #[test]
-fn lists_the_fields_of_the_header(rt: HostRuntime) -> Result<(), Fail> {
-    assert_eq!(rt; header_field(0), Some(("sequence_line", signed(0, 1, 4))));
-    assert_eq!(rt;
-        header_field(8),
-        Some(("vertically_summed", signed(0, 31, 2)))
-    );
-    assert_eq!(rt;
-        header_field(89),
-        Some(("source_measure_unit", signed(0, 231, 2)))
-    );
-    assert_eq!(rt;
-        header_field(90),
-        Some(("ext_sequence_line", unsigned(1, 1, 8)))
-    );
-    assert_eq!(rt;
-        header_field(98),
-        Some(("ext_last_trace", signed(1, 159, 2)))
-    );
-    assert_eq!(rt; header_field(99), None);
-    assert_eq!(rt; header_field(u32::MAX), None);
-    Ok(())
+fn lists_the_fields_of_the_header(rt: HostRuntime) {
+    let fields = [
+        (0, Some(("sequence_line", signed(0, 1, 4)))),
+        (8, Some(("vertically_summed", signed(0, 31, 2)))),
+        (89, Some(("source_measure_unit", signed(0, 231, 2)))),
+        (90, Some(("ext_sequence_line", unsigned(1, 1, 8)))),
+        (98, Some(("ext_last_trace", signed(1, 159, 2)))),
+        (99, None),
+        (u32::MAX, None),
+    ];
+    for (k, field) in fields {
+        assert_eq!(rt; header_field(k), field);
+    }
 }
 
 fn bind_known(rt: &impl Abort, alloc: Global, fields: &mut FieldMap) -> Result<(), Fail> {
@@ -119,17 +136,26 @@ fn bind_known(rt: &impl Abort, alloc: Global, fields: &mut FieldMap) -> Result<(
     fields.bind(alloc, "total_static", signed(0, 5, 4))?;
     assert_eq!(rt; fields.place("cdp"), Some(signed(0, 233, 4)));
     assert_eq!(rt; named("cdp"), Some(signed(0, 21, 4)));
-    assert_eq!(rt;
-        fields.bind(alloc, "CDP", signed(0, 5, 4)).err(),
-        Some(MapFault::BadName)
-    );
-    assert_eq!(rt;
-        fields.bind(alloc, "samples", signed(0, 5, 4)).err(),
-        Some(MapFault::Standard)
-    );
+    refuse_two(rt, alloc, fields);
     fields.unbind("cdp")?;
     assert_eq!(rt; fields.place("cdp"), None);
     Ok(())
+}
+
+// Why the name is not bound to the place.
+fn refusal(alloc: Global, fields: &mut FieldMap, name: &str, place: Place) -> Option<MapFault> {
+    fields.bind(alloc, name, place).err()
+}
+
+fn refuse_two(rt: &impl Abort, alloc: Global, fields: &mut FieldMap) {
+    assert_eq!(rt;
+        refusal(alloc, fields, "CDP", signed(0, 5, 4)),
+        Some(MapFault::BadName)
+    );
+    assert_eq!(rt;
+        refusal(alloc, fields, "samples", signed(0, 5, 4)),
+        Some(MapFault::Standard)
+    );
 }
 
 #[test]
@@ -142,7 +168,7 @@ fn binds_the_names_of_other_tools(rt: HostRuntime) -> Result<(), Fail> {
     )
 }
 
-fn refuse_each(rt: &impl Abort, alloc: Global, fields: &mut FieldMap) -> Result<(), Fail> {
+fn refuse_to_bind(rt: &impl Abort, alloc: Global, fields: &mut FieldMap) {
     let cases = [
         ("bad-name", signed(0, 1, 4), MapFault::BadName),
         ("", signed(0, 1, 4), MapFault::BadName),
@@ -157,13 +183,20 @@ fn refuse_each(rt: &impl Abort, alloc: Global, fields: &mut FieldMap) -> Result<
         ("delay", signed(0, 5, 4), MapFault::Standard),
     ];
     for (name, place, fault) in &cases {
-        assert_eq!(rt; fields.bind(alloc, name, *place).err(), Some(*fault));
+        assert_eq!(rt; refusal(alloc, fields, name, *place), Some(*fault));
     }
-    assert_eq!(rt; fields.unbind("inline").err(), Some(MapFault::Geometry));
-    assert_eq!(rt; fields.unbind("mine").err(), Some(MapFault::Unknown));
-    assert_eq!(rt; fields.unbind("delay").err(), Some(MapFault::Unknown));
-    assert_eq!(rt; fields.unbind("bad-name").err(), Some(MapFault::Unknown));
-    Ok(())
+}
+
+fn refuse_to_leave_out(rt: &impl Abort, fields: &mut FieldMap) {
+    let cases = [
+        ("inline", MapFault::Geometry),
+        ("mine", MapFault::Unknown),
+        ("delay", MapFault::Unknown),
+        ("bad-name", MapFault::Unknown),
+    ];
+    for (name, fault) in &cases {
+        assert_eq!(rt; fields.unbind(name).err(), Some(*fault));
+    }
 }
 
 #[test]
@@ -172,7 +205,11 @@ fn names_the_first_refusal(rt: HostRuntime) -> Result<(), Fail> {
     on_standard(
         alloc,
         0,
-        &mut |fields: &mut FieldMap| refuse_each(&rt, alloc, fields),
+        &mut |fields: &mut FieldMap| {
+            refuse_to_bind(&rt, alloc, fields);
+            refuse_to_leave_out(&rt, fields);
+            Ok(())
+        },
     )
 }
 
@@ -195,6 +232,11 @@ fn bind_and_list(rt: &impl Abort, alloc: Global, fields: &mut FieldMap) -> Resul
     fields.bind(alloc, "x", signed(0, 73, 4))?;
     assert_eq!(rt; fields.place("mine"), Some(signed(1, 1, 1)));
     assert_eq!(rt; fields.place("delay"), None);
+    expect_bound(rt, fields);
+    bind_again(rt, alloc, fields)
+}
+
+fn expect_bound(rt: &impl Abort, fields: &FieldMap) {
     let bound = [
         ("inline", signed(0, 189, 4)),
         ("crossline", signed(0, 193, 4)),
@@ -206,9 +248,18 @@ fn bind_and_list(rt: &impl Abort, alloc: Global, fields: &mut FieldMap) -> Resul
         ("yours", unsigned(1, 5, 3)),
     ];
     assert!(rt; lists(fields, &bound));
+}
+
+// The name that was left out comes last.
+fn bind_again(rt: &impl Abort, alloc: Global, fields: &mut FieldMap) -> Result<(), Fail> {
     fields.unbind("mine")?;
     fields.bind(alloc, "mine", signed(0, 1, 2))?;
     assert_eq!(rt; fields.unbind("none").err(), Some(MapFault::Unknown));
+    expect_bound_again(rt, fields);
+    Ok(())
+}
+
+fn expect_bound_again(rt: &impl Abort, fields: &FieldMap) {
     let again = [
         ("inline", signed(0, 189, 4)),
         ("crossline", signed(0, 193, 4)),
@@ -220,7 +271,6 @@ fn bind_and_list(rt: &impl Abort, alloc: Global, fields: &mut FieldMap) -> Resul
         ("mine", signed(0, 1, 2)),
     ];
     assert!(rt; lists(fields, &again));
-    Ok(())
 }
 
 #[test]
@@ -236,7 +286,7 @@ fn binds_in_order(rt: HostRuntime) -> Result<(), Fail> {
 fn unbind_geometry(rt: &impl Abort, alloc: Global, fields: &mut FieldMap) -> Result<(), Fail> {
     fields.bind(alloc, "x", signed(1, 5, 2))?;
     assert_eq!(rt;
-        fields.bind(alloc, "x", signed(2, 5, 2)).err(),
+        refusal(alloc, fields, "x", signed(2, 5, 2)),
         Some(MapFault::OutsideHeader)
     );
     for name in &["inline", "crossline", "offset", "x", "y", "scalar"] {
@@ -266,17 +316,21 @@ fn bind_many(fields: &mut FieldMap, alloc: Global) -> Result<(), Fail> {
     Ok(())
 }
 
+// A full map is told before a standard name.
+fn refuse_when_full(rt: &impl Abort, alloc: Global, fields: &mut FieldMap) {
+    assert_eq!(rt;
+        refusal(alloc, fields, "n65", signed(0, 1, 4)),
+        Some(MapFault::Full)
+    );
+    assert_eq!(rt;
+        refusal(alloc, fields, "delay", signed(0, 5, 4)),
+        Some(MapFault::Full)
+    );
+}
+
 fn fill(rt: &impl Abort, alloc: Global, fields: &mut FieldMap) -> Result<(), Fail> {
     bind_many(fields, alloc)?;
-    assert_eq!(rt;
-        fields.bind(alloc, "n65", signed(0, 1, 4)).err(),
-        Some(MapFault::Full)
-    );
-    // A full map is told before a standard name.
-    assert_eq!(rt;
-        fields.bind(alloc, "delay", signed(0, 5, 4)).err(),
-        Some(MapFault::Full)
-    );
+    refuse_when_full(rt, alloc, fields);
     fields.bind(alloc, "n1", signed(0, 5, 4))?;
     fields.bind(alloc, "x", signed(0, 5, 4))?;
     assert_eq!(rt; fields.place("n1"), Some(signed(0, 5, 4)));

@@ -1,6 +1,6 @@
 // Numbers of each size read and written in both orders of bytes, and the range of each kind, with
 // values worked by hand.
-ghost use Rattle.num_order.specs.Number.{IsSize};
+ghost use Rattle.num_order.specs.Number.{InRange, IsSize};
 
 use num_order::{Kind, Order, fits, read, write};
 
@@ -54,38 +54,51 @@ const U64: Kind = Kind {
     signed: false,
 };
 
+// Whether the first of the bytes 80 01 02 .. 07 are this number.
+fn reads(order: Order, kind: Kind, number: i128) -> bool
+    requires { IsSize kind.size }
+{
+    let bytes = [0x80, 0x01, 0x02, 0x03, 0x04, 0x05, 0x06, 0x07];
+    read(order, kind, &bytes[..kind.size as usize]) == number
+}
+
 #[test]
 fn reads_each_size(rt: HostRuntime) {
-    let bytes = [0x80, 0x01, 0x02, 0x03, 0x04, 0x05, 0x06, 0x07];
-    assert_eq!(rt; read(Order::Big, I8, &bytes[..1]), -128);
-    assert_eq!(rt; read(Order::Little, U8, &bytes[..1]), 128);
-    assert_eq!(rt; read(Order::Big, I16, &bytes[..2]), -32_767);
-    assert_eq!(rt; read(Order::Little, U16, &bytes[..2]), 384);
-    assert_eq!(rt; read(Order::Big, I24, &bytes[..3]), -8_388_350);
-    assert_eq!(rt; read(Order::Little, U24, &bytes[..3]), 131_456);
-    assert_eq!(rt; read(Order::Big, U32, &bytes[..4]), 2_147_549_699);
-    assert_eq!(rt; read(Order::Little, I32, &bytes[..4]), 50_463_104);
-    assert_eq!(rt; read(Order::Big, I64, &bytes), -9_223_088_349_902_469_625);
-    assert_eq!(rt; read(Order::Little, U64, &bytes), 506_097_522_914_230_656);
+    assert!(rt; reads(Order::Big, I8, -128));
+    assert!(rt; reads(Order::Little, U8, 128));
+    assert!(rt; reads(Order::Big, I16, -32_767));
+    assert!(rt; reads(Order::Little, U16, 384));
+    assert!(rt; reads(Order::Big, I24, -8_388_350));
+    assert!(rt; reads(Order::Little, U24, 131_456));
+    assert!(rt; reads(Order::Big, U32, 2_147_549_699));
+    assert!(rt; reads(Order::Little, I32, 50_463_104));
+    assert!(rt; reads(Order::Big, I64, -9_223_088_349_902_469_625));
+    assert!(rt; reads(Order::Little, U64, 506_097_522_914_230_656));
+}
+
+// Whether these are the number's bytes.
+fn writes(order: Order, kind: Kind, number: i128, expected: &[u8]) -> bool
+    requires size { IsSize kind.size }
+    requires fits { InRange kind number }
+{
+    let mut bytes = [0; 8];
+    let room = &mut bytes[..kind.size as usize];
+    write(order, kind, number, room);
+    *room == *expected
 }
 
 #[test]
 fn writes_each_size(rt: HostRuntime) {
-    let mut bytes = [0; 8];
-    write(Order::Little, I8, -1, &mut bytes[..1]);
-    assert_eq!(rt; bytes[0], 0xFF);
-    write(Order::Big, U16, 65_534, &mut bytes[..2]);
-    assert_eq!(rt; &bytes[..2], [0xFF, 0xFE].as_slice());
-    write(Order::Little, I24, -8_388_608, &mut bytes[..3]);
-    assert_eq!(rt; &bytes[..3], [0x00, 0x00, 0x80].as_slice());
-    write(Order::Big, I24, -2, &mut bytes[..3]);
-    assert_eq!(rt; &bytes[..3], [0xFF, 0xFF, 0xFE].as_slice());
-    write(Order::Little, U32, 4_294_967_294, &mut bytes[..4]);
-    assert_eq!(rt; &bytes[..4], [0xFE, 0xFF, 0xFF, 0xFF].as_slice());
-    write(Order::Big, I64, -9_223_372_036_854_775_808, &mut bytes);
-    assert_eq!(rt; bytes, [0x80, 0, 0, 0, 0, 0, 0, 0]);
-    write(Order::Little, U64, 18_446_744_073_709_551_614, &mut bytes);
-    assert_eq!(rt; bytes, [0xFE, 0xFF, 0xFF, 0xFF, 0xFF, 0xFF, 0xFF, 0xFF]);
+    assert!(rt; writes(Order::Little, I8, -1, &[0xFF]));
+    assert!(rt; writes(Order::Big, U16, 65_534, &[0xFF, 0xFE]));
+    assert!(rt; writes(Order::Little, I24, -8_388_608, &[0x00, 0x00, 0x80]));
+    assert!(rt; writes(Order::Big, I24, -2, &[0xFF, 0xFF, 0xFE]));
+    let bytes = [0xFE, 0xFF, 0xFF, 0xFF];
+    assert!(rt; writes(Order::Little, U32, 4_294_967_294, &bytes));
+    let bytes = [0x80, 0, 0, 0, 0, 0, 0, 0];
+    assert!(rt; writes(Order::Big, I64, -9_223_372_036_854_775_808, &bytes));
+    let bytes = [0xFE, 0xFF, 0xFF, 0xFF, 0xFF, 0xFF, 0xFF, 0xFF];
+    assert!(rt; writes(Order::Little, U64, 18_446_744_073_709_551_614, &bytes));
 }
 
 // Whether these are the least and the greatest number of the kind.

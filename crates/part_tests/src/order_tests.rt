@@ -49,22 +49,32 @@ fn place_of<S: TraceSeq>(seq: &S, id: usize) -> Option<u32> {
     seq.place_of(id, &mut probes)
 }
 
-// 2000 ids, each put in front; the first of them moved behind all; removed there.
-fn fills_and_moves<S: TraceSeq, R: Abort>(rt: &R, alloc: Global, seq: &mut S) -> Result<(), Fail> {
+// 2000 ids, each put in front.
+fn fills<S: TraceSeq, R: Abort>(rt: &R, alloc: Global, seq: &mut S) -> Result<(), Fail> {
     for id in 0..2000 {
         assert!(rt; try_insert(alloc, seq, 1, id)?);
     }
     assert_eq!(rt; seq.len(), 2000);
     assert!(rt; seq.bound() >= 2000);
     assert_eq!(rt; get(seq, 1), Some(1999));
+    Ok(())
+}
+
+// 2000 ids; the first of them moved behind all; removed there.
+fn fills_and_moves<S: TraceSeq, R: Abort>(rt: &R, alloc: Global, seq: &mut S) -> Result<(), Fail> {
+    fills(rt, alloc, seq)?;
     assert!(rt; try_move(alloc, seq, 1, 2000)?);
     assert_eq!(rt; place_of(seq, 1999), Some(2000));
     assert_eq!(rt; place_of(seq, 0), Some(1999));
+    removes_the_last(rt, seq);
+    Ok(())
+}
+
+fn removes_the_last<S: TraceSeq, R: Abort>(rt: &R, seq: &mut S) {
     assert!(rt; try_remove(seq, 2000));
     assert_eq!(rt; place_of(seq, 1999), None);
     assert_eq!(rt; get(seq, 2000), None);
     assert_eq!(rt; get(seq, 0), None);
-    Ok(())
 }
 
 // Removes each position that 20 does not divide, the last first.
@@ -92,31 +102,48 @@ fn flat_row(rt: HostRuntime) -> Result<(), Fail> {
     fill_and_thin_flat(&rt, rt.alloc(), &mut seq)
 }
 
+fn expect_probes_of_places(rt: &impl Abort, seq: &ChunkSeq) {
+    for p in 0..101 {
+        let mut probes = 0;
+        let _ = seq.get(p, &mut probes);
+        assert!(rt; probes <= 2);
+    }
+}
+
+fn expect_probes_of_ids(rt: &impl Abort, seq: &ChunkSeq) {
+    for id in 0..2000 {
+        let mut probes = 0;
+        let _ = seq.place_of(id, &mut probes);
+        assert!(rt; probes <= 513);
+    }
+}
+
+// No more probes are counted than a number holds.
+fn expect_most_probes(rt: &impl Abort, seq: &ChunkSeq) {
+    let mut probes = u64::MAX;
+    assert_eq!(rt; seq.get(1, &mut probes), Some(1979));
+    assert_eq!(rt; probes, u64::MAX);
+    assert_eq!(rt; seq.place_of(19, &mut probes), Some(99));
+    assert_eq!(rt; probes, u64::MAX);
+}
+
+fn expect_one_chunk(rt: &impl Abort, seq: &ChunkSeq) {
+    assert_eq!(rt; seq.len(), 99);
+    assert_eq!(rt; seq.chunks(), 1);
+    assert_eq!(rt; get(seq, 1), Some(1979));
+    assert_eq!(rt; get(seq, 99), Some(19));
+}
+
 fn fill_and_thin_chunks(rt: &impl Abort, alloc: Global, seq: &mut ChunkSeq) -> Result<(), Fail> {
     assert_eq!(rt; seq.chunks(), 0);
     fills_and_moves(rt, alloc, seq)?;
     assert!(rt; seq.chunks() <= 16);
     assert!(rt; seq.chunks() > 3);
     thins(seq);
-    assert_eq!(rt; seq.len(), 99);
-    assert_eq!(rt; seq.chunks(), 1);
-    assert_eq!(rt; get(seq, 1), Some(1979));
-    assert_eq!(rt; get(seq, 99), Some(19));
-    for p in 0..101 {
-        let mut probes = 0;
-        let _ = seq.get(p, &mut probes);
-        assert!(rt; probes <= 2);
-    }
-    for id in 0..2000 {
-        let mut probes = 0;
-        let _ = seq.place_of(id, &mut probes);
-        assert!(rt; probes <= 513);
-    }
-    let mut probes = u64::MAX;
-    assert_eq!(rt; seq.get(1, &mut probes), Some(1979));
-    assert_eq!(rt; probes, u64::MAX);
-    assert_eq!(rt; seq.place_of(19, &mut probes), Some(99));
-    assert_eq!(rt; probes, u64::MAX);
+    expect_one_chunk(rt, seq);
+    expect_probes_of_places(rt, seq);
+    expect_probes_of_ids(rt, seq);
+    expect_most_probes(rt, seq);
     Ok(())
 }
 
@@ -126,16 +153,16 @@ fn chunk_row(rt: HostRuntime) -> Result<(), Fail> {
     fill_and_thin_chunks(&rt, rt.alloc(), &mut seq)
 }
 
-fn give_ids(rt: &impl Abort, alloc: Global, seq: &mut ChunkSeq) -> Result<(), Fail> {
-    assert_eq!(rt; seq.ids().next(), None);
-    fills_and_moves(rt, alloc, seq)?;
+fn expect_all_ids(rt: &impl Abort, seq: &ChunkSeq) {
     let mut ids = seq.ids();
     for id in (0..1999).rev() {
         assert_eq!(rt; ids.next(), Some(id));
     }
     assert_eq!(rt; ids.next(), None);
     assert_eq!(rt; ids.next(), None);
-    thins(seq);
+}
+
+fn expect_each_20th_id(rt: &impl Abort, seq: &ChunkSeq) {
     assert_eq!(rt; seq.ids().next(), Some(1979));
     assert_eq!(rt; seq.ids().last(), Some(19));
     let mut left: u32 = 0;
@@ -143,6 +170,14 @@ fn give_ids(rt: &impl Abort, alloc: Global, seq: &mut ChunkSeq) -> Result<(), Fa
         left = left.saturating_add(1);
     }
     assert_eq!(rt; left, 99);
+}
+
+fn give_ids(rt: &impl Abort, alloc: Global, seq: &mut ChunkSeq) -> Result<(), Fail> {
+    assert_eq!(rt; seq.ids().next(), None);
+    fills_and_moves(rt, alloc, seq)?;
+    expect_all_ids(rt, seq);
+    thins(seq);
+    expect_each_20th_id(rt, seq);
     Ok(())
 }
 
@@ -185,6 +220,7 @@ fn step(
     )
 }
 
+// 2000 operations, of which the later ones remove more than they insert.
 fn change_both(
     rt: &impl Abort,
     alloc: Global,
@@ -196,13 +232,31 @@ fn change_both(
         let kinds = if turn < 1200 { 4 } else { 8 };
         assert!(rt; step(alloc, flat, chunks, &mut state, kinds)?);
     }
+    Ok(())
+}
+
+fn expect_the_same_at_each_place(rt: &impl Abort, flat: &FlatSeq, chunks: &ChunkSeq) {
     for p in 0..3002 {
         assert_eq!(rt; get(chunks, p), get(flat, p));
     }
+}
+
+fn expect_the_same_ids(rt: &impl Abort, flat: &FlatSeq, chunks: &ChunkSeq) {
     let mut ids = chunks.ids();
     for p in 1..3002 {
         assert_eq!(rt; ids.next(), get(flat, p));
     }
+}
+
+fn change_and_compare(
+    rt: &impl Abort,
+    alloc: Global,
+    flat: &mut FlatSeq,
+    chunks: &mut ChunkSeq,
+) -> Result<(), Fail> {
+    change_both(rt, alloc, flat, chunks)?;
+    expect_the_same_at_each_place(rt, flat, chunks);
+    expect_the_same_ids(rt, flat, chunks);
     Ok(())
 }
 
@@ -210,5 +264,5 @@ fn change_both(
 fn answers_alike(rt: HostRuntime) -> Result<(), Fail> {
     let mut flat = FlatSeq::new(rt.alloc());
     let mut chunks = ChunkSeq::new(rt.alloc());
-    change_both(&rt, rt.alloc(), &mut flat, &mut chunks)
+    change_and_compare(&rt, rt.alloc(), &mut flat, &mut chunks)
 }

@@ -1,5 +1,8 @@
 // A save over a folder in memory, of which each call fails in turn.
+ghost use Rattle.std.specs.Prelude.{◌<◌, ◌^◌};
+
 use safe_save::{FakeFolder, Save, SaveError, Step, save_all};
+use std::alloc::Global;
 use std::io::BufWriter;
 use std::process::Abort;
 use std::test::Fail;
@@ -8,16 +11,23 @@ use std::test::Fail;
 // most (the buffer holds four), the mode, two syncs and the rename.
 const CALLS: u32 = 10;
 
+// Asserts what a save leaves whose n-th call fails, and all later ones where it is the last.
+fn expect_failure(rt: &impl Abort, alloc: Global, nth: u32, last: bool) -> Result<(), Fail>
+    requires { nth < 2 ^ 8 }
+{
+    let to = if last { u32::MAX } else { nth + 1 };
+    let folder = FakeFolder::new(alloc, nth, to, 2);
+    let writer = BufWriter::with_capacity(alloc, 4, Save::new(folder))?;
+    let (folder, saved) = save_all(writer, b"nine byte", Some(0o640));
+    check(rt, nth, last, &folder, saved);
+    Ok(())
+}
+
 #[test]
 fn each_call_fails_in_turn(rt: HostRuntime) -> Result<(), Fail> {
-    for last in [false, true] {
-        for nth in 0..CALLS + 2 {
-            let to = if last { u32::MAX } else { nth + 1 };
-            let folder = FakeFolder::new(rt.alloc(), nth, to, 2);
-            let writer = BufWriter::with_capacity(rt.alloc(), 4, Save::new(folder))?;
-            let (folder, saved) = save_all(writer, b"nine byte", Some(0o640));
-            check(&rt, nth, last, &folder, saved);
-        }
+    for nth in 0..CALLS + 2 {
+        expect_failure(&rt, rt.alloc(), nth, false)?;
+        expect_failure(&rt, rt.alloc(), nth, true)?;
     }
     Ok(())
 }

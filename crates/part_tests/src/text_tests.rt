@@ -1,6 +1,8 @@
 // Values from outside: bytes of code page 037, and stanzas of the standard's form.
 ghost use Rattle.std.specs.Prelude.{◌≤◌, length};
 
+use std::alloc::Global;
+use std::process::Abort;
 use std::test::Fail;
 use text_block::{Code, TextFault, code_of, encode_line, ends_text, line, stanzas};
 
@@ -26,29 +28,47 @@ fn judges_the_code(rt: HostRuntime) {
     );
 }
 
+// Asserts that this line of the block shows this text, and blanks behind it.
+fn expect_line(
+    rt: &impl Abort,
+    alloc: Global,
+    block: &[u8; 3200],
+    number: u32,
+    expected: &str,
+) -> Result<(), Fail>
+    requires first { 1 ≤ number }
+    requires last { number ≤ 40 }
+{
+    let text = line(alloc, block, number)?;
+    assert_eq!(rt; text.as_str().trim_end(), expected);
+    Ok(())
+}
+
+// Asserts that the first line is 80 bytes long, and that the last one has blanks before its text.
+fn expect_other_lines(rt: &impl Abort, alloc: Global, block: &[u8; 3200]) -> Result<(), Fail> {
+    assert_eq!(rt; line(alloc, block, 1)?.len(), 80);
+    assert_eq!(rt; line(alloc, block, 40)?.as_str().trim_start(), "*");
+    Ok(())
+}
+
 #[test]
 fn shows_lines(rt: HostRuntime) -> Result<(), Fail> {
     let mut block = [0x40; 3200];
     block[80..88].copy_from_slice(&[0xC3, 0x40, 0xF1, 0x40, 0xD3, 0xC9, 0xD5, 0xC5]);
     block[3199] = 0x5C;
-    assert_eq!(rt;
-        line(rt.alloc(), &block, 2)?.as_str().trim_end(),
-        "C 1 LINE"
-    );
-    assert_eq!(rt; line(rt.alloc(), &block, 1)?.len(), 80);
-    assert_eq!(rt; line(rt.alloc(), &block, 40)?.as_str().trim_start(), "*");
+    expect_line(&rt, rt.alloc(), &block, 2, "C 1 LINE")?;
+    expect_other_lines(&rt, rt.alloc(), &block)
+}
 
-    // A carriage return, an ASCII backslash, bytes with no character.
+// A carriage return, an ASCII backslash, bytes with no character.
+#[test]
+fn shows_what_is_no_character(rt: HostRuntime) -> Result<(), Fail> {
     let block = block_of(b"A\r\\~\x7F\xE0[", 0x20);
-    assert_eq!(rt;
-        line(rt.alloc(), &block, 1)?.as_str().trim_end(),
-        "A\\0d\\5c~\\7f\\e0["
-    );
-    Ok(())
+    expect_line(&rt, rt.alloc(), &block, 1, "A\\0d\\5c~\\7f\\e0[")
 }
 
 #[test]
-fn encodes_lines(rt: HostRuntime) -> Result<(), Fail> {
+fn encodes_signs(rt: HostRuntime) -> Result<(), Fail> {
     let signs = encode_line(Code::Ebcdic, ".<(+&$*);-/,%_>?:#@'=\"")?;
     assert_eq!(rt;
         &signs[..22],
@@ -59,6 +79,11 @@ fn encodes_lines(rt: HostRuntime) -> Result<(), Fail> {
         .as_slice()
     );
     assert_eq!(rt; &signs[22..], [0x40; 58].as_slice());
+    Ok(())
+}
+
+#[test]
+fn encodes_letters(rt: HostRuntime) -> Result<(), Fail> {
     let letters = encode_line(Code::Ebcdic, "AIJRSZ aijrsz 09")?;
     assert_eq!(rt;
         &letters[..16],
@@ -68,6 +93,11 @@ fn encodes_lines(rt: HostRuntime) -> Result<(), Fail> {
         ]
         .as_slice()
     );
+    Ok(())
+}
+
+#[test]
+fn encodes_ascii(rt: HostRuntime) -> Result<(), Fail> {
     assert_eq!(rt; &encode_line(Code::Ascii, "C ~")?[..4], b"C ~ ".as_slice());
     assert_eq!(rt; encode_line(Code::Ascii, "")?, [0x20; 80]);
     Ok(())
@@ -93,25 +123,42 @@ fn refuses_what_is_no_line(rt: HostRuntime) {
     assert_eq!(rt; encode_line(Code::Ascii, "[\\"), Err(TextFault::NoCode(2)));
 }
 
+// Whether these are the names.
+fn are(names: &[String], expected: &[&str]) -> bool {
+    let mut same = names.len() == expected.len();
+    for (name, text) in names.iter().zip(expected) {
+        same = same && name.as_str() == *text;
+    }
+    same
+}
+
+// Asserts that these are the names of the block's stanzas.
+fn expect_stanzas(
+    rt: &impl Abort,
+    alloc: Global,
+    block: &[u8; 3200],
+    expected: &[&str],
+) -> Result<(), Fail> {
+    let names = stanzas(alloc, block)?;
+    assert!(rt; are(&names, expected));
+    Ok(())
+}
+
 #[test]
-fn finds_stanzas(rt: HostRuntime) -> Result<(), Fail> {
+fn finds_a_stanza(rt: HostRuntime) -> Result<(), Fail> {
     let note = block_of(
         &[
             0x4D, 0x4D, 0xC1, 0x83, 0x94, 0x85, 0x7A, 0x40, 0xD5, 0x96, 0xA3, 0x85, 0x5D, 0x5D,
         ],
         0x40,
     );
-    let names = stanzas(rt.alloc(), &note)?;
-    assert_eq!(rt; names.len(), 1);
-    assert_eq!(rt; names[0].as_str(), "Acme: Note");
+    expect_stanzas(&rt, rt.alloc(), &note, &["Acme: Note"])
+}
 
+#[test]
+fn finds_stanzas(rt: HostRuntime) -> Result<(), Fail> {
     let several = block_of(b"(((a)) ((a)b)) (()) (( ))((\x01c))d))", 0x20);
-    let names = stanzas(rt.alloc(), &several)?;
-    assert_eq!(rt; names.len(), 3);
-    assert_eq!(rt; names[0].as_str(), "a");
-    assert_eq!(rt; names[1].as_str(), " ");
-    assert_eq!(rt; names[2].as_str(), "\\01c");
-    Ok(())
+    expect_stanzas(&rt, rt.alloc(), &several, &["a", " ", "\\01c"])
 }
 
 #[test]

@@ -1,5 +1,5 @@
 // Runs over the small file on disk, which stays there, whole and then without its last trace.
-use crate::tests::{options, put, sample_file};
+use crate::tests::{Told, is_told, options, put, sample_file};
 use device_io::{Sink, Source, StepReader};
 use edit_overlay::ReadFault;
 use frame_cut::LoadFault;
@@ -10,14 +10,6 @@ use std::fs;
 use std::fs::File;
 use std::rt::Files;
 use std::test::Fail;
-
-// What a run printed and saved, and how it ended.
-#[derive(Drop)]
-struct Told {
-    end: RunEnd,
-    answers: Vec<u8>,
-    saved: Vec<u8>,
-}
 
 // A run of this script over a file of this name that has these bytes when it is loaded, and those
 // then.
@@ -69,36 +61,36 @@ fn run_over(
 
 #[test]
 fn runs_and_saves_on_disk(rt: HostRuntime) -> Result<(), Fail> {
-    let mut file = sample_file(rt.alloc())?;
+    let file = sample_file(rt.alloc())?;
+    let mut saved = sample_file(rt.alloc())?;
+    put(saved.as_mut_slice(), 4036, &[7]);
     let bytes = (file.as_slice(), file.as_slice());
     let script = b"set 2 @189:4 7\nget 2 @189:4\n";
     let told = run_meanwhile(&rt, rt.alloc(), "whole.sgy", bytes, script)?;
-    put(file.as_mut_slice(), 4036, &[7]);
-    assert_eq!(rt; told.end, RunEnd::Done { refused: 0 });
-    assert!(rt; told.answers.as_slice() == b"ok\nvalue 7\n".as_slice());
-    assert!(rt; told.saved.as_slice() == file.as_slice());
+    let end = RunEnd::Done { refused: 0 };
+    assert!(rt; is_told(&told, (end, b"ok\nvalue 7\n", saved.as_slice())));
     Ok(())
+}
+
+// Whether the save failed for a read, behind these answers.
+fn fails_to_save(told: &Told, answers: &[u8]) -> bool {
+    match told.end {
+        RunEnd::Save(fault) => {
+            fault.read == Some(ReadFault::ReadFailed) && told.answers.as_slice() == answers
+        }
+        _ => false,
+    }
 }
 
 #[test]
 fn tells_of_what_cannot_be_read(rt: HostRuntime) -> Result<(), Fail> {
     let file = sample_file(rt.alloc())?;
     let short = file.as_slice().get(..4100).ok_or("part")?;
+    let bytes = (file.as_slice(), short);
     let script = b"set 3 @71:2 7\nget 3 @189:4\nget 2 @189:4\n";
-    let told = run_meanwhile(
-        &rt,
-        rt.alloc(),
-        "short.sgy",
-        (file.as_slice(), short),
-        script,
-    )?;
+    let told = run_meanwhile(&rt, rt.alloc(), "short.sgy", bytes, script)?;
     let printed = b"refused E14 read failed\nrefused E14 read failed\nvalue 10\n";
-    assert!(rt; told.answers.as_slice() == printed.as_slice());
-    let read = match told.end {
-        RunEnd::Save(fault) => fault.read,
-        _ => None,
-    };
-    assert_eq!(rt; read, Some(ReadFault::ReadFailed));
+    assert!(rt; fails_to_save(&told, printed));
     Ok(())
 }
 
@@ -118,20 +110,28 @@ fn run_end(
     Ok(run_on_disk(alloc, file, size, script, answers, out, options, notes).end)
 }
 
+// A run of these lines over a file on disk, which has so many bytes.
+fn run_file(alloc: Global, file: File, size: u64, lines: &[u8]) -> Result<Told, Fail> {
+    let mut answers = Sink::new(Vec::new(alloc));
+    let mut out = Sink::new(Vec::new(alloc));
+    let end = run_end(alloc, file, size, lines, &mut answers, &mut out)?;
+    Ok(Told {
+        end,
+        answers: answers.into_inner(),
+        saved: out.into_inner(),
+    })
+}
+
 #[test]
 fn a_run_on_disk_is_one_call(rt: HostRuntime) -> Result<(), Fail> {
     let alloc = rt.alloc();
     let file = sample_file(alloc)?;
     fs::write(&rt, "run.sgy", file.as_slice())?;
-    let mut answers = Sink::new(Vec::new(alloc));
-    let mut out = Sink::new(Vec::new(alloc));
     let opened = fs::open(&rt, "run.sgy")?;
     let size = file.len() as u64;
-    let lines = b"count\nget 2 @189:4\n";
-    let end = run_end(alloc, opened, size, lines, &mut answers, &mut out)?;
-    assert_eq!(rt; end, RunEnd::Done { refused: 0 });
-    assert!(rt; answers.into_inner().as_slice() == b"traces 3\nvalue 10\n".as_slice());
-    assert!(rt; out.into_inner().as_slice() == file.as_slice());
+    let told = run_file(alloc, opened, size, b"count\nget 2 @189:4\n")?;
+    let end = RunEnd::Done { refused: 0 };
+    assert!(rt; is_told(&told, (end, b"traces 3\nvalue 10\n", file.as_slice())));
     Ok(())
 }
 
@@ -148,24 +148,31 @@ fn session_end(
     Ok(session_on_disk(alloc, file, size, lines, answers, out, options).end)
 }
 
+// Whether a session over the file, which is told to have so many bytes, ends so and answers so.
+fn answers_session(
+    rt: &impl Files<File = File>,
+    alloc: Global,
+    size: u64,
+    end: RunEnd,
+    told: &[u8],
+) -> Result<bool, Fail> {
+    let opened = fs::open(rt, "session.sgy")?;
+    let mut answers = Sink::new(Vec::new(alloc));
+    let ended = session_end(alloc, opened, size, &mut answers)?;
+    Ok(ended == end && answers.into_inner().as_slice() == told)
+}
+
 // A file that is one byte shorter than it was told to be, and then the whole one.
 #[test]
 fn a_session_on_disk_is_one_call(rt: HostRuntime) -> Result<(), Fail> {
     let alloc = rt.alloc();
     let file = sample_file(alloc)?;
     fs::write(&rt, "session.sgy", file.as_slice())?;
-    let mut answers = Sink::new(Vec::new(alloc));
-    let ends = [
-        (1, RunEnd::Load(LoadFault::ReadFailed)),
-        (0, RunEnd::Done { refused: 0 }),
-    ];
-    for (more, wanted) in &ends {
-        let opened = fs::open(&rt, "session.sgy")?;
-        let size = file.len() as u64 + *more;
-        let end = session_end(alloc, opened, size, &mut answers)?;
-        assert_eq!(rt; end, *wanted);
-    }
-    let told = b"load refused L01 read failed\ntraces 3\n\n";
-    assert!(rt; answers.into_inner().as_slice() == told.as_slice());
+    let size = file.len() as u64;
+    let unread = RunEnd::Load(LoadFault::ReadFailed);
+    let line = b"load refused L01 read failed\n";
+    assert!(rt; answers_session(&rt, alloc, size + 1, unread, line)?);
+    let end = RunEnd::Done { refused: 0 };
+    assert!(rt; answers_session(&rt, alloc, size, end, b"traces 3\n\n")?);
     Ok(())
 }

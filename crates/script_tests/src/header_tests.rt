@@ -1,20 +1,13 @@
 // The commands on the headers of traces: what is read of a line, and what is printed for it.
+use crate::tests::{reads, refuses};
 use bench_rules::{
     Answer, Edit, Extremes, Field, Items, Operand, Operator, Query, Refusal, Table, Text,
 };
 use device_io::Sink;
 use script_text::{OutBuffer, Reply, push_reply};
-use script_words::{Command, LineFault, parse_line};
+use script_words::{Command, LineFault};
 use std::alloc::Global;
 use std::test::Fail;
-
-// The query of a line.
-fn read_query(alloc: Global, line: &[u8]) -> Result<Query, Fail> {
-    match parse_line(alloc, line)? {
-        Some(Command::Ask(query)) => Ok(query),
-        _ => Err("a query".into()),
-    }
-}
 
 // Whether a field is the name.
 fn is_name(field: &Field, name: &str) -> bool {
@@ -24,28 +17,41 @@ fn is_name(field: &Field, name: &str) -> bool {
     }
 }
 
+// Whether the fields are offset, the place of the inline number, and offset.
+fn are_three_fields(fields: &[Field]) -> bool {
+    fields.len() == 3
+        && is_name(&fields[0], "offset")
+        && matches!(&fields[1], Field::Place(at) if at.byte == 189)
+        && is_name(&fields[2], "offset")
+}
+
+fn is_table(command: &Command) -> bool {
+    match command {
+        Command::Ask(Query::Table(1, 3, fields)) => are_three_fields(fields.as_slice()),
+        _ => false,
+    }
+}
+
+fn is_find(command: &Command) -> bool {
+    match command {
+        Command::Ask(Query::Find(2, 4294967295, at, -5, 7)) => is_name(at, "offset"),
+        _ => false,
+    }
+}
+
 #[test]
-fn reads_queries_of_headers(rt: HostRuntime) -> Result<(), Fail> {
+fn reads_queries_of_headers(rt: HostRuntime) {
     let alloc = rt.alloc();
-    let table = match read_query(alloc, b"table 1 3 offset @189:4 offset")? {
-        Query::Table(1, 3, fields) => {
-            let fields = fields.as_slice();
-            fields.len() == 3
-                && is_name(&fields[0], "offset")
-                && matches!(&fields[1], Field::Place(at) if at.byte == 189)
-                && is_name(&fields[2], "offset")
-        }
-        _ => false,
-    };
-    let find = match read_query(alloc, b"find 2 4294967295 offset -5 7")? {
-        Query::Find(2, 4294967295, at, -5, 7) => is_name(&at, "offset"),
-        _ => false,
-    };
-    let others = matches!(read_query(alloc, b"header 2")?, Query::Header(2))
-        && matches!(read_query(alloc, b"extremes 1 3")?, Query::Extremes(1, 3))
-        && matches!(read_query(alloc, b"lines 0")?, Query::Lines(0));
-    assert!(rt; table && find && others);
-    Ok(())
+    let table = b"table 1 3 offset @189:4 offset";
+    assert!(rt; reads(alloc, table, &mut |command: &Command| is_table(command)));
+    let find = b"find 2 4294967295 offset -5 7";
+    assert!(rt; reads(alloc, find, &mut |command: &Command| is_find(command)));
+    let header = &mut |command: &Command| matches!(command, Command::Ask(Query::Header(2)));
+    assert!(rt; reads(alloc, b"header 2", header));
+    let extremes = &mut |command: &Command| matches!(command, Command::Ask(Query::Extremes(1, 3)));
+    assert!(rt; reads(alloc, b"extremes 1 3", extremes));
+    let lines = &mut |command: &Command| matches!(command, Command::Ask(Query::Lines(0)));
+    assert!(rt; reads(alloc, b"lines 0", lines));
 }
 
 // Whether the steps are plus -5, and then over offset.
@@ -57,50 +63,63 @@ fn are_two_steps(steps: &[(Operator, Operand)]) -> bool {
         && matches!(&steps[1].1, Operand::Field(at) if is_name(at, "offset"))
 }
 
-#[test]
-fn reads_computed_fields(rt: HostRuntime) -> Result<(), Fail> {
-    let read = match parse_line(rt.alloc(), b"compute 1 3 sx -7 + -5 / offset")? {
-        Some(
-            Command::Apply(
-                Edit::Compute {
-                    first_trace: 1,
-                    last_trace: 3,
-                    field: at,
-                    source: Operand::Number(-7),
-                    steps,
-                },
-            ),
-        ) => { is_name(&at, "sx") && are_two_steps(steps.as_slice()) }
+// Whether the command computes sx of traces 1 to 3 from -7 by those steps.
+fn is_computed(command: &Command) -> bool {
+    match command {
+        Command::Apply(
+            Edit::Compute {
+                first_trace: 1,
+                last_trace: 3,
+                field: at,
+                source: Operand::Number(-7),
+                steps,
+            },
+        ) => is_name(at, "sx") && are_two_steps(steps.as_slice()),
         _ => false,
-    };
-    assert!(rt; read);
-    Ok(())
+    }
 }
 
 #[test]
-fn reads_a_sort(rt: HostRuntime) -> Result<(), Fail> {
-    let read = match parse_line(rt.alloc(), b"sort 1 3 inline -offset -")? {
-        Some(
-            Command::Apply(
-                Edit::Sort {
-                    first_trace: 1,
-                    last_trace: 3,
-                    fields,
-                    falling,
-                },
-            ),
+fn reads_computed_fields(rt: HostRuntime) {
+    let line = b"compute 1 3 sx -7 + -5 / offset";
+    assert!(rt;
+        reads(
+            rt.alloc(),
+            line,
+            &mut |command: &Command| is_computed(command)
+        )
+    );
+}
+
+// Whether the fields are inline, offset and the name -.
+fn are_three_names(names: &[Field]) -> bool {
+    names.len() == 3
+        && is_name(&names[0], "inline")
+        && is_name(&names[1], "offset")
+        && is_name(&names[2], "-")
+}
+
+// Whether the command sorts traces 1 to 3 by these names, of which the second falls.
+fn is_sort(command: &Command) -> bool {
+    match command {
+        Command::Apply(
+            Edit::Sort {
+                first_trace: 1,
+                last_trace: 3,
+                fields,
+                falling,
+            },
         ) => {
-            let names = fields.as_slice();
-            names.len() == 3
-                && is_name(&names[0], "inline")
-                && is_name(&names[1], "offset")
-                && is_name(&names[2], "-")
-                && matches!(falling.as_slice(), [false, true, false])
+            are_three_names(fields.as_slice()) && matches!(falling.as_slice(), [false, true, false])
         }
         _ => false,
-    };
-    assert!(rt; read);
-    Ok(())
+    }
+}
+
+#[test]
+fn reads_a_sort(rt: HostRuntime) {
+    let line = b"sort 1 3 inline -offset -";
+    assert!(rt; reads(rt.alloc(), line, &mut |command: &Command| is_sort(command)));
 }
 
 #[test]
@@ -133,8 +152,8 @@ fn refuses_lines_of_headers(rt: HostRuntime) {
         (b"sort 1 3 a b c d e f g h i", LineFault::Words),
         (b"sort 1 3 inline -@189", LineFault::Number),
     ];
-    for (line, fault) in cases {
-        assert_eq!(rt; parse_line(rt.alloc(), line).err(), Some(fault));
+    for (line, fault) in &cases {
+        assert!(rt; refuses(rt.alloc(), line, *fault));
     }
 }
 
@@ -147,55 +166,76 @@ fn printed(alloc: Global, reply: &Reply) -> Result<Vec<u8>, Fail> {
     Ok(writer.into_inner())
 }
 
-fn text_of(alloc: Global, text: &str) -> Result<Text, Fail> {
-    Ok(Text::new(String::from_str(alloc, text)?))
+// Whether this is printed for a reply.
+fn prints_reply(alloc: Global, reply: Reply, wanted: &[u8]) -> Result<bool, Fail> {
+    Ok(printed(alloc, &reply)?.as_slice() == wanted)
+}
+
+// Whether this is printed for an answer.
+fn prints_answer(alloc: Global, answer: Answer, wanted: &[u8]) -> Result<bool, Fail> {
+    prints_reply(alloc, Reply::Asked(Ok(answer)), wanted)
+}
+
+// Two rows of two numbers.
+fn two_rows(alloc: Global) -> Result<Answer, Fail> {
+    let numbers = vec![in alloc; 100, -1, i128::MIN, 0]?;
+    Ok(Answer::Table(Table::new(9, 2, 2, numbers)))
+}
+
+// The last trace there may be, with a number.
+fn one_trace(alloc: Global) -> Result<Answer, Fail> {
+    Ok(Answer::Found(Items::new(vec![in alloc; (4294967295, -5)]?)))
 }
 
 #[test]
 fn prints_tables(rt: HostRuntime) -> Result<(), Fail> {
     let alloc = rt.alloc();
-    let numbers = vec![in alloc; 100, -1, i128::MIN, 0]?;
-    let table = Reply::Asked(Ok(Answer::Table(Table::new(9, 2, 2, numbers))));
-    let told = printed(alloc, &table)?;
     let wanted = b"table 2\n9 100 -1\n10 -170141183460469231731687303715884105728 0\n";
-    assert_eq!(rt; told.as_slice(), wanted.as_slice());
-    let found = Items::new(vec![in alloc; (4294967295, -5)]?);
-    let told = printed(alloc, &Reply::Asked(Ok(Answer::Found(found))))?;
-    assert_eq!(rt;
-        told.as_slice(),
-        b"found 1\ntrace 4294967295 -5\n".as_slice()
-    );
+    assert!(rt; prints_answer(alloc, two_rows(alloc)?, wanted)?);
+    let wanted = b"found 1\ntrace 4294967295 -5\n";
+    assert!(rt; prints_answer(alloc, one_trace(alloc)?, wanted)?);
     Ok(())
 }
 
-#[test]
-fn prints_headers(rt: HostRuntime) -> Result<(), Fail> {
-    let alloc = rt.alloc();
-    let header = Items::new(vec![in alloc; (text_of(alloc, "sx")?, -2)]?);
-    let told = printed(alloc, &Reply::Asked(Ok(Answer::Header(header))))?;
-    assert_eq!(rt; told.as_slice(), b"header 1\nfield sx -2\n".as_slice());
+fn text_of(alloc: Global, text: &str) -> Result<Text, Fail> {
+    Ok(Text::new(String::from_str(alloc, text)?))
+}
+
+// A header with one number.
+fn one_field(alloc: Global) -> Result<Answer, Fail> {
+    let name = text_of(alloc, "sx")?;
+    Ok(Answer::Header(Items::new(vec![in alloc; (name, -2)]?)))
+}
+
+// The extremes of one field.
+fn one_span(alloc: Global) -> Result<Answer, Fail> {
+    let name = text_of(alloc, "sx")?;
     let extremes = Extremes {
         least: -5,
         greatest: 7,
         first: 6,
         last: 0,
     };
-    let extremes = Items::new(vec![in alloc; (text_of(alloc, "sx")?, extremes)]?);
-    let told = printed(alloc, &Reply::Asked(Ok(Answer::Extremes(extremes))))?;
-    assert_eq!(rt;
-        told.as_slice(),
-        b"extremes 1\nfield sx -5 7 6 0\n".as_slice()
-    );
-    let lines = Items::new(vec![in alloc; text_of(alloc, "C 1  ")?, text_of(alloc, " ")?]?);
-    let told = printed(alloc, &Reply::Asked(Ok(Answer::Lines(lines))))?;
-    assert_eq!(rt;
-        told.as_slice(),
-        b"lines 2\nline |C 1|\nline ||\n".as_slice()
-    );
-    let told = printed(alloc, &Reply::Edited(Err(Refusal::ZeroDivisor(7))))?;
-    assert_eq!(rt;
-        told.as_slice(),
-        b"refused E13 zero divisor trace 7\n".as_slice()
-    );
+    Ok(Answer::Extremes(Items::new(vec![in alloc; (name, extremes)]?)))
+}
+
+// Two lines with blanks at their ends.
+fn two_lines(alloc: Global) -> Result<Answer, Fail> {
+    let first = text_of(alloc, "C 1  ")?;
+    let second = text_of(alloc, " ")?;
+    Ok(Answer::Lines(Items::new(vec![in alloc; first, second]?)))
+}
+
+#[test]
+fn prints_headers(rt: HostRuntime) -> Result<(), Fail> {
+    let alloc = rt.alloc();
+    let wanted = b"header 1\nfield sx -2\n";
+    assert!(rt; prints_answer(alloc, one_field(alloc)?, wanted)?);
+    let wanted = b"extremes 1\nfield sx -5 7 6 0\n";
+    assert!(rt; prints_answer(alloc, one_span(alloc)?, wanted)?);
+    let wanted = b"lines 2\nline |C 1|\nline ||\n";
+    assert!(rt; prints_answer(alloc, two_lines(alloc)?, wanted)?);
+    let refused = Reply::Edited(Err(Refusal::ZeroDivisor(7)));
+    assert!(rt; prints_reply(alloc, refused, b"refused E13 zero divisor trace 7\n")?);
     Ok(())
 }

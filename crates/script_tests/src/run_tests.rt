@@ -101,29 +101,28 @@ fn holds(room: &[u8], from: usize, to: usize, text: &[u8]) -> bool {
     }
 }
 
+// Whether the run ends so when the writer fails behind so many bytes, of which it holds these.
+fn cuts(
+    alloc: Global,
+    limit: usize,
+    wanted: RunEnd,
+    (from, to): (usize, usize),
+    text: &[u8],
+) -> Result<bool, Fail> {
+    let (room, end) = cut_slice(alloc, limit)?;
+    Ok(end == wanted && holds(room.as_slice(), from, to, text))
+}
+
 // 11 bytes, then 16 for each of 9 rows, 17 for each of 90, 18 for each of 900, and 19.
 #[test]
 fn counts_all_bytes_of_a_long_answer(rt: HostRuntime) -> Result<(), Fail> {
-    let (cut, end) = cut_slice(rt.alloc(), 9000)?;
-    assert_eq!(rt; end, RunEnd::Answers { written: 9000 });
-    assert!(rt;
-        holds(
-            cut.as_slice(),
-            8975,
-            9003,
-            b"row 10 -21 505 -5\nrow 10 \0\0\0"
-        )
-    );
-    let (whole, end) = cut_slice(rt.alloc(), 20000)?;
-    assert_eq!(rt; end, RunEnd::Done { refused: 0 });
-    assert!(rt; holds(whole.as_slice(), 0, 15, b"slice 1000\nrow "));
-    assert!(rt;
-        holds(
-            whole.as_slice(),
-            17885,
-            17907,
-            b"row 10 -21 1000 -5\n\0\0\0"
-        )
-    );
+    let alloc = rt.alloc();
+    let end = RunEnd::Answers { written: 9000 };
+    let last = b"row 10 -21 505 -5\nrow 10 \0\0\0";
+    assert!(rt; cuts(alloc, 9000, end, (8975, 9003), last)?);
+    let end = RunEnd::Done { refused: 0 };
+    assert!(rt; cuts(alloc, 20000, end, (0, 15), b"slice 1000\nrow ")?);
+    let last = b"row 10 -21 1000 -5\n\0\0\0";
+    assert!(rt; cuts(alloc, 20000, end, (17885, 17907), last)?);
     Ok(())
 }

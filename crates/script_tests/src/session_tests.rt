@@ -1,5 +1,5 @@
 // Sessions: a line is answered before the next is read, with an empty line behind its answer.
-use crate::tests::{options, put, sample_file};
+use crate::tests::{Told, Wanted, is_told, options, put, sample_file};
 use device_io::{Sink, Source, StepReader};
 use script_run::{Options, RunEnd, session};
 use script_text::ScriptFault;
@@ -12,7 +12,7 @@ fn answers(
     alloc: Global,
     reader: StepReader,
     options: Options,
-    wanted: (RunEnd, &[u8], &[u8]),
+    wanted: Wanted,
 ) -> Result<bool, Fail> {
     let file = sample_file(alloc)?;
     let mut volume = Source::new(StepReader::new(file.as_slice(), 1000, u64::MAX));
@@ -26,8 +26,12 @@ fn answers(
         &mut out,
         options,
     );
-    let (printed, saved) = (answers.into_inner(), out.into_inner());
-    Ok(end == wanted.0 && printed.as_slice() == wanted.1 && saved.as_slice() == wanted.2)
+    let told = Told {
+        end,
+        answers: answers.into_inner(),
+        saved: out.into_inner(),
+    };
+    Ok(is_told(&told, wanted))
 }
 
 #[test]

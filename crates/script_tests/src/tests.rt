@@ -61,17 +61,25 @@ pub(crate) fn options(stop: bool, save: bool) -> Result<Options, Fail> {
     })
 }
 
-// What a run printed and saved.
+// What a run printed and saved, and how it ended.
 #[derive(Drop)]
-struct Told {
-    end: RunEnd,
-    answers: Vec<u8>,
-    saved: Vec<u8>,
+pub(crate) struct Told {
+    pub(crate) end: RunEnd,
+    pub(crate) answers: Vec<u8>,
+    pub(crate) saved: Vec<u8>,
 }
 
-fn run_script(alloc: Global, file: &[u8], script: &[u8], options: Options) -> Result<Told, Fail> {
-    let mut reader = Source::new(StepReader::new(file, 1000, u64::MAX));
-    let mut lines = Source::new(StepReader::new(script, 4096, u64::MAX));
+// How a run ends, what it prints and what it saves.
+pub(crate) type Wanted<'a> = (RunEnd, &'a [u8], &'a [u8]);
+
+pub(crate) fn is_told(run: &Told, wanted: Wanted) -> bool {
+    run.end == wanted.0 && run.answers.as_slice() == wanted.1 && run.saved.as_slice() == wanted.2
+}
+
+// A run over readers of the file and of the script.
+fn run_readers(alloc: Global, file: StepReader, script: StepReader, options: Options) -> Told {
+    let mut reader = Source::new(file);
+    let mut lines = Source::new(script);
     let mut answers = Sink::new(Vec::new(alloc));
     let mut out = Sink::new(Vec::new(alloc));
     let end = run(
@@ -83,31 +91,42 @@ fn run_script(alloc: Global, file: &[u8], script: &[u8], options: Options) -> Re
         options,
         &mut Notes::new(),
     );
-    Ok(Told {
+    Told {
         end,
         answers: answers.into_inner(),
         saved: out.into_inner(),
-    })
-}
-
-// The trace, place and value of a line that sets a place.
-fn read_set(alloc: Global, line: &[u8]) -> Result<(u32, Place, i128), Fail> {
-    match parse_line(alloc, line)? {
-        Some(Command::Apply(Edit::Set(p, Field::Place(at), value))) => Ok((p, at, value)),
-        _ => Err("a set".into()),
     }
 }
 
-// The trace and place of a line that asks for a place.
-fn read_get(alloc: Global, line: &[u8]) -> Result<(u32, Place), Fail> {
-    match parse_line(alloc, line)? {
-        Some(Command::Ask(Query::Get(p, Field::Place(at)))) => Ok((p, at)),
-        _ => Err("a get".into()),
+// Whether a run of this script ends so, prints these answers and saves these bytes.
+fn tells(alloc: Global, file: &[u8], script: &[u8], options: Options, wanted: Wanted) -> bool {
+    let file = StepReader::new(file, 1000, u64::MAX);
+    let script = StepReader::new(script, 4096, u64::MAX);
+    is_told(&run_readers(alloc, file, script, options), wanted)
+}
+
+// Whether a line was read as a command that the function takes.
+fn is_read(
+    read: &Result<Option<Command>, LineFault>,
+    is_wanted: &mut dyn FnMut(&Command) -> bool,
+) -> bool
+    requires { IsAlwaysCallable is_wanted.now }
+{
+    match read {
+        Ok(Some(command)) => is_wanted(command),
+        _ => false,
     }
 }
 
-#[test]
-fn reads_commands(rt: HostRuntime) -> Result<(), Fail> {
+// Whether a line is a command that the function takes.
+pub(crate) fn reads(alloc: Global, line: &[u8], is_wanted: &mut dyn FnMut(&Command) -> bool) -> bool
+    requires { IsAlwaysCallable is_wanted.now }
+{
+    is_read(&parse_line(alloc, line), is_wanted)
+}
+
+// Whether the command is a set of trace 7, by a value at bytes 157 and 158 of its first extension.
+fn is_set(command: &Command) -> bool {
     let place = Place {
         extension: 1,
         byte: 157,
@@ -116,39 +135,69 @@ fn reads_commands(rt: HostRuntime) -> Result<(), Fail> {
             signed: false,
         },
     };
-    let set = read_set(rt.alloc(), b"\tset\t007  @1.157:2u -2 ")?;
-    assert_eq!(rt; set, (7, place, -2));
-    let get = read_get(rt.alloc(), b"get 4294967295 @0:255")?;
-    assert_eq!(rt; (get.0, get.1.kind.size), (4294967295, 255));
-    Ok(())
+    match command {
+        Command::Apply(Edit::Set(7, Field::Place(at), -2)) => *at == place,
+        _ => false,
+    }
 }
 
-// The query of a line.
-fn read_query(alloc: Global, line: &[u8]) -> Result<Query, Fail> {
-    match parse_line(alloc, line)? {
-        Some(Command::Ask(query)) => Ok(query),
-        _ => Err("a query".into()),
+// Whether the command asks for 255 bytes of the last trace there may be.
+fn is_get(command: &Command) -> bool {
+    match command {
+        Command::Ask(Query::Get(4294967295, Field::Place(at))) => at.kind.size == 255,
+        _ => false,
     }
 }
 
 #[test]
-fn reads_reports(rt: HostRuntime) -> Result<(), Fail> {
+fn reads_commands(rt: HostRuntime) {
     let alloc = rt.alloc();
-    let of_words = matches!(
-        read_query(alloc, b"geometry 4294967295")?,
-        Query::Geometry(4294967295)
-    ) && matches!(read_query(alloc, b"stat 1")?, Query::Stat(1))
-        && matches!(read_query(alloc, b"fold 10 -1")?, Query::Fold(10, -1))
-        && matches!(read_query(alloc, b"range x")?, Query::Range(Quantity::X))
-        && matches!(read_query(alloc, b"slice 0")?, Query::Slice(0));
-    let alone = matches!(read_query(alloc, b"grid")?, Query::Grid)
-        && matches!(read_query(alloc, b"inlines")?, Query::Inlines)
-        && matches!(read_query(alloc, b"crosslines")?, Query::Crosslines)
-        && matches!(read_query(alloc, b"histogram")?, Query::Histogram)
-        && matches!(read_query(alloc, b"totals")?, Query::Totals)
-        && matches!(read_query(alloc, b"faults")?, Query::Faults);
-    assert!(rt; of_words && alone);
-    Ok(())
+    let set = b"\tset\t007  @1.157:2u -2 ";
+    assert!(rt; reads(alloc, set, &mut |command: &Command| is_set(command)));
+    let get = b"get 4294967295 @0:255";
+    assert!(rt; reads(alloc, get, &mut |command: &Command| is_get(command)));
+}
+
+// Whether the reports that take words are read.
+fn are_read_with_words(alloc: Global) -> bool {
+    let far = &mut |command: &Command| matches!(command, Command::Ask(Query::Geometry(4294967295)));
+    let stat = &mut |command: &Command| matches!(command, Command::Ask(Query::Stat(1)));
+    let fold = &mut |command: &Command| matches!(command, Command::Ask(Query::Fold(10, -1)));
+    let range = &mut |command: &Command| matches!(command, Command::Ask(Query::Range(Quantity::X)));
+    let slice = &mut |command: &Command| matches!(command, Command::Ask(Query::Slice(0)));
+    reads(alloc, b"geometry 4294967295", far)
+        && reads(alloc, b"stat 1", stat)
+        && reads(alloc, b"fold 10 -1", fold)
+        && reads(alloc, b"range x", range)
+        && reads(alloc, b"slice 0", slice)
+}
+
+// Whether those that stand alone are.
+fn are_read_alone(alloc: Global) -> bool {
+    let grid = &mut |command: &Command| matches!(command, Command::Ask(Query::Grid));
+    let inlines = &mut |command: &Command| matches!(command, Command::Ask(Query::Inlines));
+    let crosslines = &mut |command: &Command| matches!(command, Command::Ask(Query::Crosslines));
+    let histogram = &mut |command: &Command| matches!(command, Command::Ask(Query::Histogram));
+    let totals = &mut |command: &Command| matches!(command, Command::Ask(Query::Totals));
+    let faults = &mut |command: &Command| matches!(command, Command::Ask(Query::Faults));
+    reads(alloc, b"grid", grid)
+        && reads(alloc, b"inlines", inlines)
+        && reads(alloc, b"crosslines", crosslines)
+        && reads(alloc, b"histogram", histogram)
+        && reads(alloc, b"totals", totals)
+        && reads(alloc, b"faults", faults)
+}
+
+#[test]
+fn reads_reports(rt: HostRuntime) {
+    let alloc = rt.alloc();
+    assert!(rt; are_read_with_words(alloc));
+    assert!(rt; are_read_alone(alloc));
+}
+
+// Whether a line is no command for this reason.
+pub(crate) fn refuses(alloc: Global, line: &[u8], fault: LineFault) -> bool {
+    parse_line(alloc, line).err() == Some(fault)
 }
 
 #[test]
@@ -162,21 +211,9 @@ fn refuses_reports(rt: HostRuntime) {
         (b"range z", LineFault::Number),
         (b"slice 4294967296", LineFault::Number),
     ];
-    for (line, fault) in cases {
-        assert_eq!(rt; parse_line(rt.alloc(), line).err(), Some(fault));
+    for (line, fault) in &cases {
+        assert!(rt; refuses(rt.alloc(), line, *fault));
     }
-}
-
-// Whether a run of this script ends so, prints these answers and saves these bytes.
-fn tells(
-    alloc: Global,
-    file: &[u8],
-    script: &[u8],
-    options: Options,
-    told: (RunEnd, &[u8], &[u8]),
-) -> Result<bool, Fail> {
-    let run = run_script(alloc, file, script, options)?;
-    Ok(run.end == told.0 && run.answers.as_slice() == told.1 && run.saved.as_slice() == told.2)
 }
 
 #[test]
@@ -193,7 +230,7 @@ fn tells_what_a_file_is(rt: HostRuntime) -> Result<(), Fail> {
         printed.as_slice(),
         b"".as_slice(),
     );
-    assert!(rt; tells(alloc, file.as_slice(), script, options(false, false)?, told)?);
+    assert!(rt; tells(alloc, file.as_slice(), script, options(false, false)?, told));
     Ok(())
 }
 
@@ -218,21 +255,32 @@ fn refuses_lines(rt: HostRuntime) {
         ),
         (b"# \xff", LineFault::NotText),
     ];
-    for (line, fault) in cases {
-        assert_eq!(rt; parse_line(rt.alloc(), line).err(), Some(fault));
+    for (line, fault) in &cases {
+        assert!(rt; refuses(rt.alloc(), line, *fault));
     }
 }
 
 // A value set by its place, and read again: one byte of the saved file is another.
 #[test]
 fn sets_and_saves(rt: HostRuntime) -> Result<(), Fail> {
-    let mut file = sample_file(rt.alloc())?;
+    let file = sample_file(rt.alloc())?;
+    let mut saved = sample_file(rt.alloc())?;
+    put(saved.as_mut_slice(), 4036, &[7]);
     let script = b"set 2 @189:4 7\nget 2 @189:4\r\n";
-    let told = run_script(rt.alloc(), file.as_slice(), script, options(false, true)?)?;
-    assert_eq!(rt; told.end, RunEnd::Done { refused: 0 });
-    assert_eq!(rt; told.answers.as_slice(), b"ok\nvalue 7\n".as_slice());
-    put(file.as_mut_slice(), 4036, &[7]);
-    assert_eq!(rt; told.saved.as_slice(), file.as_slice());
+    let wanted = (
+        RunEnd::Done { refused: 0 },
+        b"ok\nvalue 7\n".as_slice(),
+        saved.as_slice(),
+    );
+    assert!(rt;
+        tells(
+            rt.alloc(),
+            file.as_slice(),
+            script,
+            options(false, true)?,
+            wanted
+        )
+    );
     Ok(())
 }
 
@@ -255,7 +303,7 @@ fn counts_and_stops(rt: HostRuntime) -> Result<(), Fail> {
             script,
             options(false, false)?,
             whole
-        )?
+        )
     );
     let printed = b"value 3\nrefused E01 no trace 4 of 3\n";
     let stopped = (RunEnd::Stopped { line: 4 }, printed.as_slice(), nothing);
@@ -266,47 +314,42 @@ fn counts_and_stops(rt: HostRuntime) -> Result<(), Fail> {
             script,
             options(true, true)?,
             stopped
-        )?
+        )
     );
     Ok(())
 }
 
+// Whether the first bytes of the file are refused for this fault, with this line.
+fn refuses_part(
+    alloc: Global,
+    file: &[u8],
+    length: usize,
+    fault: LoadFault,
+    line: &[u8],
+) -> Result<bool, Fail> {
+    let cut = file.get(..length).ok_or("a shorter file")?;
+    let wanted = (RunEnd::Load(fault), line, b"".as_slice());
+    Ok(tells(alloc, cut, b"get 1 @5:4", options(false, true)?, wanted))
+}
+
 #[test]
 fn tells_refused_files(rt: HostRuntime) -> Result<(), Fail> {
-    let file = sample_file(rt.alloc())?;
+    let alloc = rt.alloc();
+    let file = sample_file(alloc)?;
     let whole = file.as_slice();
-    let cases: [(usize, LoadFault, &[u8]); 2] = [
-        (
-            4331,
-            LoadFault::Truncated(3),
-            b"load refused L14 truncated trace 3\n",
-        ),
-        (
-            3599,
-            LoadFault::Short(3599),
-            b"load refused L03 short 3599\n",
-        ),
-    ];
-    for (length, fault, line) in cases {
-        let cut = whole.get(..length).ok_or("a shorter file")?;
-        let told = run_script(rt.alloc(), cut, b"get 1 @5:4", options(false, true)?)?;
-        assert_eq!(rt; told.end, RunEnd::Load(fault));
-        assert_eq!(rt; told.answers.as_slice(), line);
-        assert_eq!(rt; told.saved.len(), 0);
-    }
+    let truncated = b"load refused L14 truncated trace 3\n";
+    assert!(rt; refuses_part(alloc, whole, 4331, LoadFault::Truncated(3), truncated)?);
+    let short = b"load refused L03 short 3599\n";
+    assert!(rt; refuses_part(alloc, whole, 3599, LoadFault::Short(3599), short)?);
     Ok(())
 }
 
 // Whether a run of so many blanks over this file, with a save, ends so, prints these answers and
 // saves these bytes.
-fn tells_blanks(
-    alloc: Global,
-    file: &[u8],
-    count: usize,
-    told: (RunEnd, &[u8], &[u8]),
-) -> Result<bool, Fail> {
+fn tells_blanks(alloc: Global, file: &[u8], count: usize, wanted: Wanted) -> Result<bool, Fail> {
+    let options = options(false, true)?;
     let blanks = vec![in alloc; b' '; count]?;
-    tells(alloc, file, blanks.as_slice(), options(false, true)?, told)
+    Ok(tells(alloc, file, blanks.as_slice(), options, wanted))
 }
 
 // 16777216 bytes of blanks are a script, and one byte more is too much.
@@ -326,93 +369,94 @@ fn limits_scripts(rt: HostRuntime) -> Result<(), Fail> {
     Ok(())
 }
 
+// Whether a run whose readers fail at a later call ends so and prints this line.
+fn fails_to_read(
+    alloc: Global,
+    file: &[u8],
+    (file_calls, script_calls): (u64, u64),
+    end: RunEnd,
+    line: &[u8],
+) -> Result<bool, Fail> {
+    let file = StepReader::new(file, 1000, file_calls);
+    let script = StepReader::new(b"get 1 @5:4", 7, script_calls);
+    let told = run_readers(alloc, file, script, options(false, true)?);
+    Ok(is_told(&told, (end, line, b"".as_slice())))
+}
+
 // Readers that fail at a later call.
 #[test]
 fn tells_failed_reads(rt: HostRuntime) -> Result<(), Fail> {
-    let file = sample_file(rt.alloc())?;
-    for (file_calls, script_calls, end, line) in [
-        (
-            2,
-            9,
-            RunEnd::Load(LoadFault::ReadFailed),
-            b"load refused L01 read failed\n".as_slice(),
-        ),
-        (
-            9,
-            1,
-            RunEnd::Script(ScriptFault::ReadFailed),
-            b"script refused P01 read failed\n",
-        ),
-    ] {
-        let mut reader = Source::new(StepReader::new(file.as_slice(), 1000, file_calls));
-        let mut lines = Source::new(StepReader::new(b"get 1 @5:4", 7, script_calls));
-        let mut answers = Sink::new(Vec::new(rt.alloc()));
-        let mut out = Sink::new(Vec::new(rt.alloc()));
-        let ended = run(
-            rt.alloc(),
-            &mut reader,
-            &mut lines,
-            &mut answers,
-            &mut out,
-            options(false, true)?,
-            &mut Notes::new(),
-        );
-        assert_eq!(rt; ended, end);
-        assert_eq!(rt; answers.into_inner().as_slice(), line);
-        assert_eq!(rt; out.into_inner().len(), 0);
-    }
+    let alloc = rt.alloc();
+    let file = sample_file(alloc)?;
+    let unread = RunEnd::Load(LoadFault::ReadFailed);
+    let line = b"load refused L01 read failed\n";
+    assert!(rt; fails_to_read(alloc, file.as_slice(), (2, 9), unread, line)?);
+    let unread = RunEnd::Script(ScriptFault::ReadFailed);
+    let line = b"script refused P01 read failed\n";
+    assert!(rt; fails_to_read(alloc, file.as_slice(), (9, 1), unread, line)?);
     Ok(())
+}
+
+// The end of a run of two lines over a file, which writes its answers and what it saves into these
+// rooms, up to so many bytes of each.
+fn run_into(
+    alloc: Global,
+    file: &[u8],
+    (answers_limit, out_limit): (usize, usize),
+    printed: &mut [u8],
+    saved: &mut [u8],
+) -> Result<RunEnd, Fail> {
+    let options = options(false, true)?;
+    let mut reader = Source::new(StepReader::new(file, 1000, 99));
+    let mut lines = Source::new(StepReader::new(b"get 1 @5:4\nget 1 @5:4", 7, 99));
+    let mut answers = Sink::new(StepWriter::new(printed, 3, answers_limit));
+    let mut out = Sink::new(StepWriter::new(saved, 7, out_limit));
+    let end = run(
+        alloc,
+        &mut reader,
+        &mut lines,
+        &mut answers,
+        &mut out,
+        options,
+        &mut Notes::new(),
+    );
+    let _answers = answers.into_inner();
+    let _out = out.into_inner();
+    Ok(end)
+}
+
+// Whether that run over a file ends so, and what it printed begins so. Where the save alone fails
+// its first bytes are saved.
+fn fails_to_write(
+    alloc: Global,
+    file: &[u8],
+    limits: (usize, usize),
+    end: RunEnd,
+    held: &[u8],
+) -> Result<bool, Fail> {
+    let mut printed = [0u8; 99];
+    let mut saved = [0u8; 100];
+    let ended = run_into(alloc, file, limits, &mut printed, &mut saved)?;
+    let is_printed = printed.get(..held.len()) == Some(held);
+    Ok(ended == end && is_printed && (saved[16] == 0) == (limits.1 != 100))
 }
 
 // Writers that fail within an answer, within a refusal's line and within the save.
 #[test]
 fn tells_failed_writes(rt: HostRuntime) -> Result<(), Fail> {
-    let file = sample_file(rt.alloc())?;
-    for (length, answers_limit, out_limit, end, held) in [
-        (
-            4332,
-            12,
-            9000,
-            RunEnd::Answers { written: 12 },
-            b"value 1\nvalu".as_slice(),
-        ),
-        (3599, 5, 9000, RunEnd::Answers { written: 5 }, b"load "),
-        (
-            4332,
-            99,
-            100,
-            RunEnd::Save(SaveFault {
-                written: 100,
-                read: None,
-            }),
-            b"value 1\nvalue 1\n",
-        ),
-    ] {
-        let mut printed = [0u8; 99];
-        let mut saved = [0u8; 100];
-        let mut reader = Source::new(StepReader::new(
-            file.as_slice().get(..length).ok_or("a file")?,
-            1000,
-            99,
-        ));
-        let mut lines = Source::new(StepReader::new(b"get 1 @5:4\nget 1 @5:4", 7, 99));
-        let mut answers = Sink::new(StepWriter::new(&mut printed, 3, answers_limit));
-        let mut out = Sink::new(StepWriter::new(&mut saved, 7, out_limit));
-        let ended = run(
-            rt.alloc(),
-            &mut reader,
-            &mut lines,
-            &mut answers,
-            &mut out,
-            options(false, true)?,
-            &mut Notes::new(),
-        );
-        let _answers = answers.into_inner();
-        let _out = out.into_inner();
-        assert_eq!(rt; ended, end);
-        assert_eq!(rt; printed.get(..held.len()), Some(held));
-        assert_eq!(rt; saved[16] == 0, out_limit != 100);
-    }
+    let alloc = rt.alloc();
+    let file = sample_file(alloc)?;
+    let whole = file.as_slice();
+    let end = RunEnd::Answers { written: 12 };
+    assert!(rt; fails_to_write(alloc, whole, (12, 9000), end, b"value 1\nvalu")?);
+    let short = whole.get(..3599).ok_or("a file")?;
+    let end = RunEnd::Answers { written: 5 };
+    assert!(rt; fails_to_write(alloc, short, (5, 9000), end, b"load ")?);
+    let end = RunEnd::Save(SaveFault {
+        written: 100,
+        read: None,
+    });
+    assert!(rt; fails_to_write(alloc, whole, (99, 100), end, b"value 1\nvalue 1\n")?);
     Ok(())
 }
 
@@ -424,8 +468,8 @@ pub(crate) fn prints(
     refused: u64,
     printed: &[u8],
 ) -> Result<bool, Fail> {
-    let told = run_script(alloc, file, script, options(false, false)?)?;
-    Ok(told.end == RunEnd::Done { refused } && told.answers.as_slice() == printed)
+    let wanted = (RunEnd::Done { refused }, printed, b"".as_slice());
+    Ok(tells(alloc, file, script, options(false, false)?, wanted))
 }
 
 #[test]

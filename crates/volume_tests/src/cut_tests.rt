@@ -52,6 +52,34 @@ fn traces_by(
     }
 }
 
+// Asserts that the first bytes of the file are so many traces, or are refused so.
+fn expect_cut(
+    rt: &impl Abort,
+    alloc: Global,
+    file: &[u8],
+    length: usize,
+    expected: Result<u32, LoadFault>,
+) {
+    assert_eq!(rt;
+        traces(alloc, front(file, length), wide(rt)),
+        expected,
+        "at {length}"
+    );
+}
+
+// Asserts that the file with these bytes from a byte on is so many traces, or is refused so.
+fn expect_changed(
+    rt: &impl Abort,
+    alloc: Global,
+    file: &mut [u8],
+    byte: usize,
+    new: &[u8],
+    expected: Result<u32, LoadFault>,
+) {
+    put(file, byte, new);
+    assert_eq!(rt; traces(alloc, file, wide(rt)), expected, "at {byte}");
+}
+
 // This order of bytes, where the file does not tell one.
 fn asked(order: Order) -> Reading {
     Reading {
@@ -198,8 +226,7 @@ fn refuses_by_the_head(rt: HostRuntime) -> Result<(), Fail> {
     ];
     for (byte, new, fault) in changes {
         let mut file = plain_file(alloc)?;
-        put(&mut file, byte, new);
-        assert_eq!(rt; traces(alloc, &file, wide(&rt)), Err(fault), "at {byte}");
+        expect_changed(&rt, alloc, &mut file, byte, new, Err(fault));
     }
     Ok(())
 }
@@ -321,15 +348,17 @@ fn refuses_hostile_counts(rt: HostRuntime) -> Result<(), Fail> {
     ];
     for (byte, new, fault) in changes {
         let mut file = extended_file(alloc)?;
-        put(&mut file, byte, new);
-        assert_eq!(rt; traces(alloc, &file, wide(&rt)), Err(fault), "at {byte}");
+        expect_changed(&rt, alloc, &mut file, byte, new, Err(fault));
     }
+    Ok(())
+}
+
+#[test]
+fn refuses_more_extensions_than_the_most(rt: HostRuntime) -> Result<(), Fail> {
+    let alloc = rt.alloc();
     let mut file = counted_file(alloc)?;
-    put(&mut file, 3997, &[0, 4]);
-    assert_eq!(rt;
-        traces(alloc, &file, wide(&rt)),
-        Err(LoadFault::ExtensionCount(1))
-    );
+    let fault = LoadFault::ExtensionCount(1);
+    expect_changed(&rt, alloc, &mut file, 3997, &[0, 4], Err(fault));
     Ok(())
 }
 
@@ -345,56 +374,66 @@ fn passes_over_other_counts(rt: HostRuntime) -> Result<(), Fail> {
     ];
     for (byte, new) in changes {
         let mut file = extended_file(alloc)?;
-        put(&mut file, byte, new);
-        assert_eq!(rt; traces(alloc, &file, wide(&rt)), Ok(1), "at {byte}");
+        expect_changed(&rt, alloc, &mut file, byte, new, Ok(1));
     }
-    let mut file = varying_file(alloc)?;
-    put(&mut file, 3846 + 115, &[0xFF, 0xFF]);
-    assert_eq!(rt; traces(alloc, &file, wide(&rt)), Ok(3));
     Ok(())
+}
+
+// In a file of traces of several lengths it does: here the second becomes the long one.
+#[test]
+fn cuts_by_the_count_of_the_second_trace(rt: HostRuntime) -> Result<(), Fail> {
+    let alloc = rt.alloc();
+    let mut file = varying_file(alloc)?;
+    expect_changed(&rt, alloc, &mut file, 3846 + 115, &[0xFF, 0xFF], Ok(3));
+    Ok(())
+}
+
+// What the first bytes of the plain file are.
+fn front_of_plain(length: usize) -> Result<u32, LoadFault> {
+    match length {
+        0..3600 => Err(LoadFault::Short(length as u64)),
+        3600 => Ok(0),
+        3601..3844 => Err(LoadFault::Truncated(1)),
+        3844 => Ok(1),
+        3845..4088 => Err(LoadFault::Truncated(2)),
+        4088 => Ok(2),
+        4332 => Ok(3),
+        _ => Err(LoadFault::Truncated(3)),
+    }
+}
+
+fn expect_fronts_of_plain(rt: &impl Abort, alloc: Global, file: &[u8]) {
+    for length in 0..4333 {
+        expect_cut(rt, alloc, file, length, front_of_plain(length));
+    }
 }
 
 #[test]
 fn cuts_traces_of_one_length_at_every_length(rt: HostRuntime) -> Result<(), Fail> {
-    let alloc = rt.alloc();
-    let s = plain_file(alloc)?;
-    for length in 0..4333 {
-        let expected = match length {
-            0..3600 => Err(LoadFault::Short(length as u64)),
-            3600 => Ok(0),
-            3601..3844 => Err(LoadFault::Truncated(1)),
-            3844 => Ok(1),
-            3845..4088 => Err(LoadFault::Truncated(2)),
-            4088 => Ok(2),
-            4332 => Ok(3),
-            _ => Err(LoadFault::Truncated(3)),
-        };
-        assert_eq!(rt;
-            traces(alloc, front(&s, length), wide(&rt)),
-            expected,
-            "at {length}"
-        );
-    }
-    let x = extended_file(alloc)?;
+    let file = plain_file(rt.alloc())?;
+    expect_fronts_of_plain(&rt, rt.alloc(), &file);
+    Ok(())
+}
+
+fn expect_fronts_of_extended(rt: &impl Abort, alloc: Global, file: &[u8]) {
     for length in 3600..4084 {
         let expected = if length == 3600 {
             Ok(0)
         } else {
             Err(LoadFault::Truncated(1))
         };
-        assert_eq!(rt;
-            traces(alloc, front(&x, length), wide(&rt)),
-            expected,
-            "at {length}"
-        );
+        expect_cut(rt, alloc, file, length, expected);
     }
-    Ok(())
 }
 
 #[test]
-fn keeps_the_trailer_records_apart(rt: HostRuntime) -> Result<(), Fail> {
-    let alloc = rt.alloc();
-    let z = trailed_file(alloc)?;
+fn cuts_a_trace_with_an_extension_at_every_length(rt: HostRuntime) -> Result<(), Fail> {
+    let file = extended_file(rt.alloc())?;
+    expect_fronts_of_extended(&rt, rt.alloc(), &file);
+    Ok(())
+}
+
+fn expect_fronts_of_trailed(rt: &impl Abort, alloc: Global, file: &[u8]) {
     for (length, expected) in [
         (10484, Ok(1)),
         (10483, Err(LoadFault::Truncated(1))),
@@ -402,22 +441,42 @@ fn keeps_the_trailer_records_apart(rt: HostRuntime) -> Result<(), Fail> {
         (9999, Err(LoadFault::Trailer(2))),
         (3600, Err(LoadFault::Trailer(2))),
     ] {
-        assert_eq!(rt;
-            traces(alloc, front(&z, length), wide(&rt)),
-            expected,
-            "at {length}"
-        );
+        expect_cut(rt, alloc, file, length, expected);
     }
+}
+
+#[test]
+fn keeps_the_trailer_records_apart(rt: HostRuntime) -> Result<(), Fail> {
+    let file = trailed_file(rt.alloc())?;
+    expect_fronts_of_trailed(&rt, rt.alloc(), &file);
     Ok(())
 }
 
 #[test]
-fn keeps_the_limits(rt: HostRuntime) -> Result<(), Fail> {
-    let alloc = rt.alloc();
+fn has_limits_up_to_the_largest(rt: HostRuntime) {
     assert!(rt; Limits::new((1 << 40) + 1, 0).is_none());
     let largest = Limits::new(1 << 40, 7).expect(&rt, "2^40");
     assert_eq!(rt; (largest.bytes(), largest.traces()), (1 << 40, 7));
-    let s = plain_file(alloc)?;
+}
+
+// Asserts that the file of three traces is cut under these limits, or is refused so.
+fn expect_within(
+    rt: &impl Abort,
+    alloc: Global,
+    file: &[u8],
+    bytes: u64,
+    count: u32,
+    expected: Result<u32, LoadFault>,
+) {
+    let limits = Limits::new(bytes, count).expect(rt, "below 2^40");
+    assert_eq!(rt;
+        traces(alloc, file, limits),
+        expected,
+        "{bytes} bytes, {count} traces"
+    );
+}
+
+fn expect_limits_kept(rt: &impl Abort, alloc: Global, file: &[u8]) {
     for (bytes, count, expected) in [
         (4332, 3, Ok(3)),
         (4331, 3, Err(LoadFault::TooLarge)),
@@ -425,35 +484,32 @@ fn keeps_the_limits(rt: HostRuntime) -> Result<(), Fail> {
         (4332, 2, Err(LoadFault::TooManyTraces)),
         (4332, 0, Err(LoadFault::TooManyTraces)),
     ] {
-        let limits = Limits::new(bytes, count).expect(&rt, "below 2^40");
-        assert_eq!(rt;
-            traces(alloc, &s, limits),
-            expected,
-            "{bytes} bytes, {count} traces"
-        );
+        expect_within(rt, alloc, file, bytes, count, expected);
     }
+}
+
+#[test]
+fn keeps_the_limits(rt: HostRuntime) -> Result<(), Fail> {
+    let file = plain_file(rt.alloc())?;
+    expect_limits_kept(&rt, rt.alloc(), &file);
+    Ok(())
+}
+
+#[test]
+fn tells_torn_traces_before_too_many(rt: HostRuntime) -> Result<(), Fail> {
+    let file = plain_file(rt.alloc())?;
+    let torn = Err(LoadFault::Truncated(3));
+    expect_within(&rt, rt.alloc(), front(&file, 4331), 4332, 2, torn);
     Ok(())
 }
 
 #[test]
 fn tells_torn_traces_first(rt: HostRuntime) -> Result<(), Fail> {
     let alloc = rt.alloc();
-    let s = plain_file(alloc)?;
-    let limits = Limits::new(4332, 2).expect(&rt, "below 2^40");
-    assert_eq!(rt;
-        traces(alloc, front(&s, 4331), limits),
-        Err(LoadFault::Truncated(3))
-    );
-    let mut x = extended_file(alloc)?;
-    put(&mut x, 3600 + 240 + 157, &[0, 2]);
-    assert_eq!(rt;
-        traces(alloc, front(&x, 4079), wide(&rt)),
-        Err(LoadFault::Truncated(1))
-    );
-    assert_eq!(rt;
-        traces(alloc, front(&x, 4080), wide(&rt)),
-        Err(LoadFault::ExtensionCount(1))
-    );
+    let mut file = extended_file(alloc)?;
+    put(&mut file, 3600 + 240 + 157, &[0, 2]);
+    expect_cut(&rt, alloc, &file, 4079, Err(LoadFault::Truncated(1)));
+    expect_cut(&rt, alloc, &file, 4080, Err(LoadFault::ExtensionCount(1)));
     Ok(())
 }
 
@@ -470,18 +526,34 @@ fn measures_the_longest(rt: &impl Abort, mut head: Head, front: &[u8; 480]) {
     assert_eq!(rt; trace_length(&head, front), None);
 }
 
+// Headers of zeros.
+fn measures_the_shortest(rt: &impl Abort, head: &Head, front: &[u8; 480]) {
+    assert_eq!(rt; front_length(head), 480);
+    assert!(rt; head.extensions != 0);
+    assert_eq!(rt; extension_count(head, front), Some(3));
+    assert_eq!(rt; sample_count(head, front), 2);
+}
+
+// The number of samples in the main header, and then in the extension.
+fn measures_by_both_headers(rt: &impl Abort, head: &Head, front: &mut [u8; 480]) {
+    assert_eq!(rt; front_length(head), 480);
+    put(front, 115, &[1, 0]);
+    assert_eq!(rt; sample_count(head, front), 256);
+    put(front, 240 + 137, &[0xFF; 4]);
+    assert_eq!(rt; sample_count(head, front), u32::MAX);
+}
+
+fn head_of_counted(rt: &impl Abort, alloc: Global) -> Result<Head, Fail> {
+    let file = counted_file(alloc)?;
+    Ok(head(&file, Reading::as_written(), wide(rt))?)
+}
+
 #[test]
 fn measures_traces(rt: HostRuntime) -> Result<(), Fail> {
-    let head = head(&counted_file(rt.alloc())?, Reading::as_written(), wide(&rt))?;
+    let head = head_of_counted(&rt, rt.alloc())?;
     let mut front = [0u8; 480];
-    assert_eq!(rt; front_length(&head), 480);
-    assert!(rt; head.extensions != 0);
-    assert_eq!(rt; extension_count(&head, &front), Some(3));
-    assert_eq!(rt; sample_count(&head, &front), 2);
-    put(&mut front, 115, &[1, 0]);
-    assert_eq!(rt; sample_count(&head, &front), 256);
-    put(&mut front, 240 + 137, &[0xFF; 4]);
-    assert_eq!(rt; sample_count(&head, &front), u32::MAX);
+    measures_the_shortest(&rt, &head, &front);
+    measures_by_both_headers(&rt, &head, &mut front);
     put(&mut front, 240 + 157, &[0, 1]);
     measures_the_longest(&rt, head, &front);
     Ok(())

@@ -4,6 +4,7 @@ ghost use Rattle.std.specs.Prelude.{OnOk};
 ghost use Rattle.edit_overlay.specs.PassedFile.{HasAllTraces};
 
 use crate::edit_tests::{expect_payloads, expect_saved, expect_trace, expect_traces, limits, part};
+use crate::files;
 use crate::files::two_traces;
 use crate::puts::put;
 use device_io::Sink;
@@ -12,6 +13,7 @@ use frame_cut::{Limits, LoadFault, Reading};
 use std::alloc::Global;
 use std::fs;
 use std::fs::File;
+use std::process::Abort;
 use std::rt::Files;
 use std::test::Fail;
 
@@ -30,12 +32,17 @@ fn pass_traces(alloc: Global, passing: &mut Passing<u32>) -> Result<(), LoadFaul
     Err(LoadFault::TooManyTraces)
 }
 
-// The volume of a file that stays on disk, and has so many bytes.
+// A pass over a file that stays on disk, and has so many bytes.
+fn begun(alloc: Global, file: File, size: u64, limits: Limits) -> Result<Passing<u32>, LoadFault> {
+    match Passing::begin(alloc, file, size, Reading::as_written(), limits) {
+        Ok(passing) => Ok(passing),
+        Err(refused) => Err(refused.fault()),
+    }
+}
+
+// The volume of the file.
 fn passed(alloc: Global, file: File, size: u64, limits: Limits) -> Result<Overlay<u32>, LoadFault> {
-    let mut passing = match Passing::begin(alloc, file, size, Reading::as_written(), limits) {
-        Ok(passing) => passing,
-        Err(refused) => return Err(refused.fault()),
-    };
+    let mut passing = begun(alloc, file, size, limits)?;
     pass_traces(alloc, &mut passing)?;
     passing.finish(alloc).map_err(|refused| refused.fault())
 }
@@ -57,9 +64,32 @@ fn on_disk(
     requires { IsAlwaysCallable ask.now }
 {
     let bytes = two_traces(alloc)?;
-    let file = laid(rt, name, bytes.as_slice())?;
-    let mut volume = passed(alloc, file, bytes.len() as u64, limits()?)?;
-    ask(bytes.as_slice(), &mut volume)
+    on_laid(rt, alloc, name, bytes.as_slice(), ask)
+}
+
+// The same of these bytes.
+fn on_laid(
+    rt: &impl Files<File = File>,
+    alloc: Global,
+    name: &str,
+    bytes: &[u8],
+    ask: &mut dyn FnMut(&[u8], &mut Overlay<u32>) -> Result<(), Fail>,
+) -> Result<(), Fail>
+    requires { IsAlwaysCallable ask.now }
+{
+    let mut volume = volume_on_disk(rt, alloc, name, bytes)?;
+    ask(bytes, &mut volume)
+}
+
+fn volume_on_disk(
+    rt: &impl Files<File = File>,
+    alloc: Global,
+    name: &str,
+    bytes: &[u8],
+) -> Result<Overlay<u32>, Fail> {
+    let limits = limits()?;
+    let file = laid(rt, name, bytes)?;
+    Ok(passed(alloc, file, bytes.len() as u64, limits)?)
 }
 
 #[test]
@@ -85,6 +115,10 @@ fn loads_edits_and_saves_on_disk(rt: HostRuntime) -> Result<(), Fail> {
     )
 }
 
+fn fault_of(alloc: Global, file: File, size: u64, limits: Limits) -> Option<LoadFault> {
+    passed(alloc, file, size, limits).err()
+}
+
 // The fault of a pass over these bytes, of which it is said that they are so many.
 fn pass_fault(
     rt: &impl Files<File = File>,
@@ -92,8 +126,31 @@ fn pass_fault(
     bytes: &[u8],
     size: u64,
 ) -> Result<Option<LoadFault>, Fail> {
+    let limits = limits()?;
     let file = laid(rt, "refused.sgy", bytes)?;
-    Ok(passed(alloc, file, size, limits()?).err())
+    Ok(fault_of(alloc, file, size, limits))
+}
+
+fn expect_faults(
+    rt: &(impl Files<File = File> + Abort),
+    alloc: Global,
+    long: &[u8],
+) -> Result<(), Fail> {
+    let (all, short) = (part(long, 0, 4088), part(long, 0, 4000));
+    assert_eq!(rt; pass_fault(rt, alloc, all, 4088)?, None);
+    assert_eq!(rt;
+        pass_fault(rt, alloc, short, 4088)?,
+        Some(LoadFault::ReadFailed)
+    );
+    assert_eq!(rt;
+        pass_fault(rt, alloc, long, 4088)?,
+        Some(LoadFault::ReadFailed)
+    );
+    assert_eq!(rt;
+        pass_fault(rt, alloc, long, 4089)?,
+        Some(LoadFault::TooLarge)
+    );
+    Ok(())
 }
 
 // One that ends before what is said of it, or goes on behind, and one above the limit.
@@ -102,22 +159,7 @@ fn refuses_a_file_of_another_length(rt: HostRuntime) -> Result<(), Fail> {
     let alloc = rt.alloc();
     let mut bytes = two_traces(alloc)?;
     bytes.push(0)?;
-    let long = bytes.as_slice();
-    let (all, short) = (part(long, 0, 4088), part(long, 0, 4000));
-    assert_eq!(rt; pass_fault(&rt, alloc, all, 4088)?, None);
-    assert_eq!(rt;
-        pass_fault(&rt, alloc, short, 4088)?,
-        Some(LoadFault::ReadFailed)
-    );
-    assert_eq!(rt;
-        pass_fault(&rt, alloc, long, 4088)?,
-        Some(LoadFault::ReadFailed)
-    );
-    assert_eq!(rt;
-        pass_fault(&rt, alloc, long, 4089)?,
-        Some(LoadFault::TooLarge)
-    );
-    Ok(())
+    expect_faults(&rt, alloc, bytes.as_slice())
 }
 
 // The fault of a save, which a writer in memory does not refuse.
@@ -135,16 +177,31 @@ fn tells_that_a_read_failed(rt: HostRuntime) -> Result<(), Fail> {
         alloc,
         "short.sgy",
         &mut |file: &[u8], volume: &mut Overlay<u32>| {
-            let _short = laid(&rt, "short.sgy", part(file, 0, 4000))?;
+            fs::write(&rt, "short.sgy", part(file, 0, 4000))?;
             expect_trace(&rt, volume, 1, part(file, 3600, 3844));
             assert_eq!(rt; volume.look(2).err(), Some(ReadFault::ReadFailed));
             let fault = save_fault(alloc, volume);
             assert_eq!(rt; fault.map(|f| f.read), Some(Some(ReadFault::ReadFailed)));
-            let _whole = laid(&rt, "short.sgy", file)?;
+            fs::write(&rt, "short.sgy", file)?;
             expect_trace(&rt, volume, 2, part(file, 3844, 4088));
             expect_saved(&rt, alloc, volume, &[file])
         },
     )
+}
+
+// The same file, whose first trace says that it has three samples.
+fn lay_another(rt: &impl Files<File = File>, alloc: Global, file: &[u8]) -> Result<(), Fail> {
+    let mut other = Vec::from_slice(alloc, file)?;
+    files::put(&mut other, 3716, &[3]);
+    fs::write(rt, "changed.sgy", other.as_slice())?;
+    Ok(())
+}
+
+// One look more, which tells it.
+fn expect_changed(rt: &impl Abort, volume: &mut Overlay<u32>) {
+    let before = volume.looks();
+    assert_eq!(rt; volume.look(1).err(), Some(ReadFault::Changed));
+    assert_eq!(rt; volume.looks(), before.saturating_add(1));
 }
 
 // Its first trace now says that it has three samples.
@@ -156,14 +213,8 @@ fn tells_that_the_file_changed(rt: HostRuntime) -> Result<(), Fail> {
         alloc,
         "changed.sgy",
         &mut |file: &[u8], volume: &mut Overlay<u32>| {
-            let mut other = Vec::from_slice(alloc, file)?;
-            for byte in other.iter_mut().skip(3715).take(1) {
-                *byte = 3;
-            }
-            let _other = laid(&rt, "changed.sgy", other.as_slice())?;
-            let before = volume.looks();
-            assert_eq!(rt; volume.look(1).err(), Some(ReadFault::Changed));
-            assert_eq!(rt; volume.looks(), before.saturating_add(1));
+            lay_another(&rt, alloc, file)?;
+            expect_changed(&rt, volume);
             expect_trace(&rt, volume, 2, part(file, 3844, 4088));
             Ok(())
         },

@@ -7,6 +7,7 @@ use fault_live::{Fault, Faults, HeadFacts};
 use key_counts::Ratio;
 use record_table::{OutOfMemory, Records, Running};
 use std::alloc::Global;
+use std::process::Abort;
 use std::test::Fail;
 use trace_record::{Amplitudes, Record};
 use trace_store::Column;
@@ -50,8 +51,29 @@ fn report_of(alloc: Global, records: &[Record], head: &HeadFacts) -> Result<Vec<
 {
     let table = table_of(alloc, records)?;
     let list = Records::new(Column::new(&table));
-    let faults = Faults::from_records(alloc, &list)?;
-    Ok(faults.report(alloc, &list, head)?)
+    report_on(alloc, &list, head)
+}
+
+fn report_on(alloc: Global, list: &Records, head: &HeadFacts) -> Result<Vec<Fault>, Fail>
+    requires { length list.now < 2 ^ 16 }
+{
+    let faults = Faults::from_records(alloc, list)?;
+    Ok(faults.report(alloc, list, head)?)
+}
+
+// Asserts that these are the faults of the traces.
+fn expect_report(
+    rt: &impl Abort,
+    alloc: Global,
+    records: &[Record],
+    head: &HeadFacts,
+    expected: &[Fault],
+) -> Result<(), Fail>
+    requires { length records.now < 2 ^ 16 }
+{
+    let report = report_of(alloc, records, head)?;
+    assert_eq!(rt; report.as_slice(), expected);
+    Ok(())
 }
 
 #[tactic(auto, unfolding(trace_record::specs::Packable::IsPackable, trace_record::specs::Packable::HaveRange))]
@@ -89,73 +111,61 @@ fn head_of(major: u8, trace_count: u64, lines: u32) -> HeadFacts {
 
 #[test]
 fn names_the_first_of_those_repeated(rt: HostRuntime) -> Result<(), Fail> {
+    let alloc = rt.alloc();
     let head = head_of(1, 0, 0);
     let first = trace_at(1, 21, 100);
     let second = trace_at(2, 22, 200);
     let third = trace_at(3, 21, 100);
-    let sound = report_of(rt.alloc(), &[first, second, trace_at(3, 23, 300)], &head)?;
-    assert!(rt; sound.is_empty());
-    let repeated = report_of(rt.alloc(), &[first, second, third], &head)?;
-    assert_eq!(rt; repeated.as_slice(), [Fault::Repeated(3, 1)].as_slice());
-    let moved = report_of(rt.alloc(), &[third, first, second], &head)?;
-    assert_eq!(rt;
-        moved.as_slice(),
-        [
-            Fault::Sequence(1, 3),
-            Fault::Sequence(2, 1),
-            Fault::Repeated(2, 1),
-            Fault::Sequence(3, 2)
-        ]
-        .as_slice()
-    );
-    Ok(())
+    let sound = [first, second, trace_at(3, 23, 300)];
+    expect_report(&rt, alloc, &sound, &head, &[])?;
+    let repeated = [Fault::Repeated(3, 1)];
+    expect_report(&rt, alloc, &[first, second, third], &head, &repeated)?;
+    let moved = [
+        Fault::Sequence(1, 3),
+        Fault::Sequence(2, 1),
+        Fault::Repeated(2, 1),
+        Fault::Sequence(3, 2),
+    ];
+    expect_report(&rt, alloc, &[third, first, second], &head, &moved)
 }
 
 #[test]
 fn reports_numbers_of_a_trace(rt: HostRuntime) -> Result<(), Fail> {
+    let alloc = rt.alloc();
     let head = head_of(1, 0, 0);
     let second = trace_at(2, 22, 200);
     let mut first = trace_at(1, 21, 100);
     first.scalar = 5;
-    let scalar = report_of(rt.alloc(), &[first, second], &head)?;
-    assert_eq!(rt; scalar.as_slice(), [Fault::Scalar(1, 5)].as_slice());
+    let scalar = [Fault::Scalar(1, 5)];
+    expect_report(&rt, alloc, &[first, second], &head, &scalar)?;
     first.scalar = -10000;
     first.samples_field = 4;
     first.interval = 2000;
     first.units = 3;
-    let several = report_of(rt.alloc(), &[first, second], &head)?;
-    assert_eq!(rt;
-        several.as_slice(),
-        [
-            Fault::Samples(1, 4, 2),
-            Fault::Interval(1, 2000, 4000),
-            Fault::Units(2, 0, 3)
-        ]
-        .as_slice()
-    );
+    let several = [
+        Fault::Samples(1, 4, 2),
+        Fault::Interval(1, 2000, 4000),
+        Fault::Units(2, 0, 3),
+    ];
+    expect_report(&rt, alloc, &[first, second], &head, &several)?;
     first.sequence = 0;
     first.samples_field = 0;
     first.interval = 0;
-    let blank = report_of(rt.alloc(), &[first], &head)?;
-    assert_eq!(rt; blank.as_slice(), [Fault::Sequence(1, 0)].as_slice());
-    Ok(())
+    let blank = [Fault::Sequence(1, 0)];
+    expect_report(&rt, alloc, &[first], &head, &blank)
 }
 
 #[test]
 fn reports_the_head(rt: HostRuntime) -> Result<(), Fail> {
+    let alloc = rt.alloc();
     let mut first = trace_at(1, 21, 100);
     first.has_known_name = false;
-    let lines = report_of(rt.alloc(), &[first], &head_of(1, 2, 40))?;
-    assert_eq!(rt; lines.as_slice(), [Fault::TextLines(40)].as_slice());
-    let count = report_of(rt.alloc(), &[first], &head_of(2, 2, 39))?;
-    assert_eq!(rt;
-        count.as_slice(),
-        [
-            Fault::TraceCount(2, 1),
-            Fault::TextLines(39),
-            Fault::Name(1)
-        ]
-        .as_slice()
-    );
-    Ok(())
+    let lines = [Fault::TextLines(40)];
+    expect_report(&rt, alloc, &[first], &head_of(1, 2, 40), &lines)?;
+    let count = [
+        Fault::TraceCount(2, 1),
+        Fault::TextLines(39),
+        Fault::Name(1),
+    ];
+    expect_report(&rt, alloc, &[first], &head_of(2, 2, 39), &count)
 }

@@ -3,6 +3,7 @@ use grid_live::{Cell, FoldCount, Grid, Line};
 use key_counts::Ratio;
 use record_table::{OutOfMemory, Running};
 use std::alloc::Global;
+use std::process::Abort;
 use std::test::Fail;
 use trace_record::{Amplitudes, Record};
 
@@ -39,36 +40,63 @@ fn trace_at(inline: i32, crossline: i32) -> Record {
     }
 }
 
-#[test]
-fn forgets_a_cell(rt: HostRuntime) -> Result<(), Fail> {
-    let grid = second_alone(rt.alloc(), &trace_at(10, 21), &trace_at(10, -22))?;
+fn expect_folds(rt: &impl Abort, grid: &Grid) {
     assert_eq!(rt; grid.fold(10, 21), 0);
     assert_eq!(rt; grid.fold(10, -22), 1);
     assert_eq!(rt; grid.fold(4_294_967_306, -22), 0);
     assert_eq!(rt; grid.fold(10, 4_294_967_274), 0);
-    let cells = grid.cells(rt.alloc())?;
+}
+
+fn expect_a_cell(rt: &impl Abort, alloc: Global, grid: &Grid) -> Result<(), Fail> {
+    let cells = grid.cells(alloc)?;
     let cell = Cell {
         inline: 10,
         crossline: -22,
         fold: 1,
     };
     assert_eq!(rt; cells.as_slice(), [cell].as_slice());
-    let inlines = grid.inlines(rt.alloc())?;
+    Ok(())
+}
+
+fn expect_an_inline(rt: &impl Abort, alloc: Global, grid: &Grid) -> Result<(), Fail> {
+    let inlines = grid.inlines(alloc)?;
     let inline = Line {
         number: 10,
         traces: 1,
     };
     assert_eq!(rt; inlines.as_slice(), [inline].as_slice());
-    let crosslines = grid.crosslines(rt.alloc())?;
+    Ok(())
+}
+
+fn expect_a_crossline(rt: &impl Abort, alloc: Global, grid: &Grid) -> Result<(), Fail> {
+    let crosslines = grid.crosslines(alloc)?;
     let crossline = Line {
         number: -22,
         traces: 1,
     };
     assert_eq!(rt; crosslines.as_slice(), [crossline].as_slice());
-    let histogram = grid.histogram(rt.alloc())?;
+    Ok(())
+}
+
+fn expect_a_fold(rt: &impl Abort, alloc: Global, grid: &Grid) -> Result<(), Fail> {
+    let histogram = grid.histogram(alloc)?;
     let times = FoldCount { fold: 1, cells: 1 };
     assert_eq!(rt; histogram.as_slice(), [times].as_slice());
     Ok(())
+}
+
+fn expect_one_cell(rt: &impl Abort, alloc: Global, grid: &Grid) -> Result<(), Fail> {
+    expect_folds(rt, grid);
+    expect_a_cell(rt, alloc, grid)?;
+    expect_an_inline(rt, alloc, grid)?;
+    expect_a_crossline(rt, alloc, grid)?;
+    expect_a_fold(rt, alloc, grid)
+}
+
+#[test]
+fn forgets_a_cell(rt: HostRuntime) -> Result<(), Fail> {
+    let grid = second_alone(rt.alloc(), &trace_at(10, 21), &trace_at(10, -22))?;
+    expect_one_cell(&rt, rt.alloc(), &grid)
 }
 
 #[test]

@@ -123,6 +123,26 @@ fn exchange_both(
     Ok(())
 }
 
+// No trace stands in for none, in front of the second of two and behind both.
+fn exchange_none(
+    alloc: Global,
+    reports: &mut LiveReports,
+    records: &Records,
+    first: &Record,
+    second: &Record,
+) -> Result<(), Fail>
+    requires counted { AreReportsOf reports.old records.now }
+    requires pair { records.now ≡ first.now ∷ second.now ∷ [] }
+    requires first { first.now.number ≡ 2 }
+    requires second { second.now.number ≡ 2 }
+    ensures { OnOk result (AreReportsOf reports.new records.now) }
+{
+    let none = list_of(alloc, &[])?;
+    reports.exchange_each(records, 1, &none)?;
+    reports.exchange_each(records, 2, &none)?;
+    Ok(())
+}
+
 // No trace stands in for none, and then one for the second of two.
 fn exchange_behind(
     alloc: Global,
@@ -139,9 +159,7 @@ fn exchange_behind(
     requires new { new.now.number ≡ 2 }
     ensures { OnOk result (AreReportsOf reports.new (first.now ∷ new.now ∷ [])) }
 {
-    let none = list_of(alloc, &[])?;
-    reports.exchange_each(records, 1, &none)?;
-    reports.exchange_each(records, 2, &none)?;
+    exchange_none(alloc, reports, records, first, second)?;
     let one = list_of(alloc, &[*new])?;
     reports.exchange_each(records, 1, &one)?;
     Ok(())
@@ -212,10 +230,14 @@ fn faults_of(alloc: Global, reports: &LiveReports, records: &Records) -> Result<
 // How many faults there are, where the first of them, if any, is a repeat of trace 1 at trace 2.
 fn repeats_of(alloc: Global, reports: &LiveReports, records: &Records) -> Result<usize, Fail> {
     let faults = faults_of(alloc, reports, records)?;
+    Ok(repeats_in(&faults))
+}
+
+fn repeats_in(faults: &[Fault]) -> usize {
     match faults.first() {
-        Some(Fault::Repeated(2, 1)) => Ok(faults.len()),
-        Some(_) => Ok(99),
-        None => Ok(0),
+        Some(Fault::Repeated(2, 1)) => faults.len(),
+        Some(_) => 99,
+        None => 0,
     }
 }
 
@@ -288,9 +310,10 @@ fn has_the_cells(
     records: &Records,
     moved: Record,
     second: Record,
-) -> Result<(), Fail>
-    requires { length records.now ≡ 2 }
-{
+) -> Result<(), Fail> {
+    if records.len() != 2 {
+        return Err(Fail::from("not two records"));
+    }
     assert!(rt; has_cells(alloc, records, 0, &[moved, second])?);
     assert!(rt; has_cells(alloc, records, 0, &[deep_trace()])?);
     assert!(rt; has_cells(alloc, records, 2, &[])?);
@@ -304,15 +327,12 @@ fn compares_cells(rt: HostRuntime) -> Result<(), Fail> {
     let second = trace_at(2, 22, 200000);
     let table = table_of(rt.alloc(), &[trace_at(1, 21, 100000), second])?;
     let records = Records::new(Column::new(&table));
-    if records.len() != 2 {
-        return Err(Fail::from("not two records"));
-    }
     let moved = trace_at(3, 21, 300000);
     has_the_cells(&rt, rt.alloc(), &records, moved, second)
 }
 
 // A trace stands in for the second of two, so that it repeats the first.
-fn exchanges_one(
+fn counts_a_repeat(
     rt: &impl Abort,
     alloc: Global,
     old: &Records,
@@ -328,10 +348,10 @@ fn exchanges_one(
     requires deep { deep.now.number ≡ 2 }
 {
     let mut reports = pair(alloc, old, first, second)?;
-    exchange_one(rt, alloc, &mut reports, old, new, first, second, deep)
+    expect_a_repeat(rt, alloc, &mut reports, old, new, first, second, deep)
 }
 
-fn exchange_one(
+fn expect_a_repeat(
     rt: &impl Abort,
     alloc: Global,
     reports: &mut LiveReports,
@@ -351,17 +371,32 @@ fn exchange_one(
     tells_of_a_repeat(rt, alloc, reports, new, Ratio::whole(1000))
 }
 
+// The same, over the table of the records as they are then.
+fn brings_a_repeat(
+    rt: &impl Abort,
+    alloc: Global,
+    old: &Records,
+    first: &Record,
+    second: &Record,
+) -> Result<(), Fail>
+    requires old { old.now ≡ first.now ∷ second.now ∷ [] }
+    requires first { first.now.number ≡ 2 }
+    requires second { second.now.number ≡ 2 }
+{
+    let deep = deep_trace();
+    let new = table_of(alloc, &[*first, deep])?;
+    let new = Records::new(Column::new(&new));
+    counts_a_repeat(rt, alloc, old, &new, first, second, &deep)
+}
+
 #[test]
 fn another_trace_stands_in(rt: HostRuntime) -> Result<(), Fail> {
     let alloc = rt.alloc();
     let first = trace_at(1, 21, 100000);
     let second = trace_at(2, 22, 200000);
-    let deep = deep_trace();
     let old = table_of(alloc, &[first, second])?;
-    let new = table_of(alloc, &[first, deep])?;
     let old = Records::new(Column::new(&old));
-    let new = Records::new(Column::new(&new));
-    exchanges_one(&rt, alloc, &old, &new, &first, &second, &deep)
+    brings_a_repeat(&rt, alloc, &old, &first, &second)
 }
 
 // A trace stands in for the second of two, so that nothing is repeated.
@@ -410,7 +445,7 @@ fn change_both(
 }
 
 // A trace stands in for the second of two, and then others for both.
-fn change_twice(
+fn expect_each_change(
     rt: &impl Abort,
     alloc: Global,
     reports: &mut LiveReports,
@@ -436,7 +471,7 @@ fn change_twice(
     change_both(rt, alloc, reports, new, last, first, third, moved, deep)
 }
 
-fn changes_twice(
+fn counts_each_change(
     rt: &impl Abort,
     alloc: Global,
     old: &Records,
@@ -457,7 +492,7 @@ fn changes_twice(
     requires deep { deep.now.number ≡ 2 }
 {
     let mut reports = pair(alloc, old, first, second)?;
-    change_twice(
+    expect_each_change(
         rt,
         alloc,
         &mut reports,
@@ -472,26 +507,60 @@ fn changes_twice(
     )
 }
 
+// The same, over the table of the records as they are at last.
+fn brings_a_last_pair(
+    rt: &impl Abort,
+    alloc: Global,
+    old: &Records,
+    new: &Records,
+    first: &Record,
+    second: &Record,
+    third: &Record,
+) -> Result<(), Fail>
+    requires old { old.now ≡ first.now ∷ second.now ∷ [] }
+    requires new { new.now ≡ first.now ∷ third.now ∷ [] }
+    requires first { first.now.number ≡ 2 }
+    requires second { second.now.number ≡ 2 }
+    requires third { third.now.number ≡ 2 }
+{
+    let (moved, deep) = (trace_at(1, 21, 300000), deep_trace());
+    let last = table_of(alloc, &[moved, deep])?;
+    let last = Records::new(Column::new(&last));
+    counts_each_change(
+        rt, alloc, old, new, &last, first, second, third, &moved, &deep,
+    )
+}
+
+// The same, over the table of the records as they are after the first change.
+fn brings_a_third(
+    rt: &impl Abort,
+    alloc: Global,
+    old: &Records,
+    first: &Record,
+    second: &Record,
+) -> Result<(), Fail>
+    requires old { old.now ≡ first.now ∷ second.now ∷ [] }
+    requires first { first.now.number ≡ 2 }
+    requires second { second.now.number ≡ 2 }
+{
+    let third = trace_at(2, 23, 50000);
+    let new = table_of(alloc, &[*first, third])?;
+    let new = Records::new(Column::new(&new));
+    brings_a_last_pair(rt, alloc, old, &new, first, second, &third)
+}
+
 #[test]
 fn other_traces_stand_in(rt: HostRuntime) -> Result<(), Fail> {
     let alloc = rt.alloc();
     let first = trace_at(1, 21, 100000);
     let second = trace_at(2, 22, 200000);
-    let third = trace_at(2, 23, 50000);
-    let (moved, deep) = (trace_at(1, 21, 300000), deep_trace());
-    let loaded = table_of(alloc, &[first, second])?;
-    let changed = table_of(alloc, &[first, third])?;
-    let last = table_of(alloc, &[moved, deep])?;
-    let old = Records::new(Column::new(&loaded));
-    let new = Records::new(Column::new(&changed));
-    let last = Records::new(Column::new(&last));
-    changes_twice(
-        &rt, alloc, &old, &new, &last, &first, &second, &third, &moved, &deep,
-    )
+    let old = table_of(alloc, &[first, second])?;
+    let old = Records::new(Column::new(&old));
+    brings_a_third(&rt, alloc, &old, &first, &second)
 }
 
 // A third trace comes between two, so that it repeats the first.
-fn inserts_one(
+fn counts_three(
     rt: &impl Abort,
     alloc: Global,
     old: &Records,
@@ -506,10 +575,10 @@ fn inserts_one(
     requires deep { deep.now.number ≡ 2 }
 {
     let mut reports = pair(alloc, old, first, second)?;
-    insert_one(rt, alloc, &mut reports, old, new, first, second, deep)
+    expect_three(rt, alloc, &mut reports, old, new, first, second, deep)
 }
 
-fn insert_one(
+fn expect_three(
     rt: &impl Abort,
     alloc: Global,
     reports: &mut LiveReports,
@@ -531,21 +600,36 @@ fn insert_one(
     Ok(())
 }
 
+// The same, over the table of the records as they are then.
+fn brings_one_between(
+    rt: &impl Abort,
+    alloc: Global,
+    old: &Records,
+    first: &Record,
+    second: &Record,
+) -> Result<(), Fail>
+    requires old { old.now ≡ first.now ∷ second.now ∷ [] }
+    requires first { first.now.number ≡ 2 }
+    requires second { second.now.number ≡ 2 }
+{
+    let deep = deep_trace();
+    let new = table_of(alloc, &[*first, deep, *second])?;
+    let new = Records::new(Column::new(&new));
+    counts_three(rt, alloc, old, &new, first, second, &deep)
+}
+
 #[test]
 fn a_trace_comes_between(rt: HostRuntime) -> Result<(), Fail> {
     let alloc = rt.alloc();
     let first = trace_at(1, 21, 100000);
     let second = trace_at(3, 22, 200000);
-    let deep = deep_trace();
     let old = table_of(alloc, &[first, second])?;
-    let new = table_of(alloc, &[first, deep, second])?;
     let old = Records::new(Column::new(&old));
-    let new = Records::new(Column::new(&new));
-    inserts_one(&rt, alloc, &old, &new, &first, &second, &deep)
+    brings_one_between(&rt, alloc, &old, &first, &second)
 }
 
 // The first of two traces goes.
-fn removes_one(
+fn counts_the_second_alone(
     rt: &impl Abort,
     alloc: Global,
     old: &Records,
@@ -558,10 +642,10 @@ fn removes_one(
     requires second { second.now.number ≡ 2 }
 {
     let mut reports = pair(alloc, old, first, second)?;
-    remove_one(rt, alloc, &mut reports, old, new)
+    expect_the_second_alone(rt, alloc, &mut reports, old, new)
 }
 
-fn remove_one(
+fn expect_the_second_alone(
     rt: &impl Abort,
     alloc: Global,
     reports: &mut LiveReports,
@@ -577,14 +661,29 @@ fn remove_one(
     Ok(())
 }
 
+// The same, over the table of the record that is left.
+fn leaves_one(
+    rt: &impl Abort,
+    alloc: Global,
+    old: &Records,
+    first: &Record,
+    second: &Record,
+) -> Result<(), Fail>
+    requires old { old.now ≡ first.now ∷ second.now ∷ [] }
+    requires first { first.now.number ≡ 2 }
+    requires second { second.now.number ≡ 2 }
+{
+    let new = table_of(alloc, &[*second])?;
+    let new = Records::new(Column::new(&new));
+    counts_the_second_alone(rt, alloc, old, &new, first, second)
+}
+
 #[test]
 fn a_trace_goes(rt: HostRuntime) -> Result<(), Fail> {
     let alloc = rt.alloc();
     let first = deep_trace();
     let second = trace_at(1, 22, 200000);
     let old = table_of(alloc, &[first, second])?;
-    let new = table_of(alloc, &[second])?;
     let old = Records::new(Column::new(&old));
-    let new = Records::new(Column::new(&new));
-    removes_one(&rt, alloc, &old, &new, &first, &second)
+    leaves_one(&rt, alloc, &old, &first, &second)
 }

@@ -87,36 +87,33 @@ fn prepared_two(
     Ok(prepared_records(alloc, volume, fields, 2, 2, at, 2, bytes)?)
 }
 
-// The small volume beside whose traces their records stand, under the map at a load, and this map.
-fn small(alloc: Global) -> Result<(Overlay<PackedRecord>, FieldMap), Fail>
-    ensures fields { IfOk result (λ made. made.1.extensions ≡ made.0.volume.head.extensions) }
-    ensures records { IfOk result (λ made. map facts_of (map record_in made.0.payloads) ≡
-        records_of made.0.volume made.1.pairs) }
+// The small file, cut.
+fn small_loading(alloc: Global) -> Result<Loading<PackedRecord>, Fail>
+    ensures file { IfOk result (λ l. IsOfFile l.volume) }
+    ensures none { IfOk result (λ l. l.payloads ≡ []) }
 {
     let limits = Limits::new(4330, 3).ok_or("limits")?;
     let file = three_traces(alloc)?;
     let loading = Loading::from_bytes(alloc, file, Reading::as_written(), limits)?;
-    let fields = FieldMap::standard(alloc, loading.head().extensions)?;
-    recorded(alloc, loading, fields)
+    Ok(loading)
 }
 
-// The volume with its records, and the map.
+// The volume beside whose traces their records stand, under the map. What is reported of them is
+// let go.
 fn recorded(
     alloc: Global,
     loading: Loading<PackedRecord>,
-    fields: FieldMap,
-) -> Result<(Overlay<PackedRecord>, FieldMap), Fail>
+    fields: &FieldMap,
+) -> Result<Overlay<PackedRecord>, Fail>
     requires file { IsOfFile loading.volume }
     requires none { loading.payloads ≡ [] }
-    requires fields { fields.extensions ≡ loading.volume.head.extensions }
-    ensures fields { IfOk result (λ made. made.1.extensions ≡ made.0.volume.head.extensions) }
-    ensures records { IfOk result (λ made. map facts_of (map record_in made.0.payloads) ≡
-        records_of made.0.volume made.1.pairs) }
+    requires fields { fields.now.extensions ≡ loading.volume.head.extensions }
+    ensures fields { IfOk result (λ o. fields.now.extensions ≡ o.volume.head.extensions) }
+    ensures records { IfOk result (λ o. map facts_of (map record_in o.payloads) ≡
+        records_of o.volume fields.now.pairs) }
 {
-    match with_records(alloc, loading, &fields) {
-        Ok((volume, _)) => Ok((volume, fields)),
-        Err(error) => Err(Fail::from(error)),
-    }
+    let made = with_records(alloc, loading, fields)?;
+    Ok(made.0)
 }
 
 // Asserts that the records of all three traces stand there, and that those of two are told, after a
@@ -169,11 +166,27 @@ fn other_record(alloc: Global) -> Result<Record, Fail> {
     made_of_bytes(&FieldMap::standard(alloc, 0)?)
 }
 
+// Asserts the same of the volume that the loading makes.
+fn records_the_loading(
+    rt: &impl Abort,
+    alloc: Global,
+    loading: Loading<PackedRecord>,
+    fields: &FieldMap,
+) -> Result<(), Fail>
+    requires file { IsOfFile loading.volume }
+    requires none { loading.payloads ≡ [] }
+    requires fields { fields.now.extensions ≡ loading.volume.head.extensions }
+{
+    let mut volume = recorded(alloc, loading, fields)?;
+    expect_two(rt, alloc, &mut volume, fields)
+}
+
 #[test]
 fn makes_the_records_of_a_volume(rt: HostRuntime) -> Result<(), Fail> {
     let alloc = rt.alloc();
-    let (mut volume, fields) = small(alloc)?;
-    expect_two(&rt, alloc, &mut volume, &fields)
+    let loading = small_loading(alloc)?;
+    let fields = FieldMap::standard(alloc, loading.head().extensions)?;
+    records_the_loading(&rt, alloc, loading, &fields)
 }
 
 // Asserts that the record of trace 2 with bytes laid over it is told, and that of its headers.
@@ -191,9 +204,25 @@ fn expect_prepared(
     Ok(())
 }
 
+// Asserts the same of the volume that the loading makes.
+fn prepares_the_loading(
+    rt: &impl Abort,
+    alloc: Global,
+    loading: Loading<PackedRecord>,
+    fields: &FieldMap,
+) -> Result<(), Fail>
+    requires file { IsOfFile loading.volume }
+    requires none { loading.payloads ≡ [] }
+    requires fields { fields.now.extensions ≡ loading.volume.head.extensions }
+{
+    let mut volume = recorded(alloc, loading, fields)?;
+    expect_prepared(rt, alloc, &mut volume, fields)
+}
+
 #[test]
 fn makes_prepared_records(rt: HostRuntime) -> Result<(), Fail> {
     let alloc = rt.alloc();
-    let (mut volume, fields) = small(alloc)?;
-    expect_prepared(&rt, alloc, &mut volume, &fields)
+    let loading = small_loading(alloc)?;
+    let fields = FieldMap::standard(alloc, loading.head().extensions)?;
+    prepares_the_loading(&rt, alloc, loading, &fields)
 }

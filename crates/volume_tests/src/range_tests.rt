@@ -7,6 +7,7 @@ use key_counts::Ratio;
 use range_stats::{Quantity, Ranges, Totals};
 use record_table::{OutOfMemory, Running};
 use std::alloc::Global;
+use std::process::Abort;
 use std::test::Fail;
 use trace_record::{Amplitudes, Record};
 
@@ -90,11 +91,15 @@ fn wholes(least: i32, greatest: i32) -> Option<(Ratio, Ratio)> {
     Some((Ratio::whole(least), Ratio::whole(greatest)))
 }
 
-#[test]
-fn ranges_run_with_traces(rt: HostRuntime) -> Result<(), Fail> {
-    let none = Ranges::new(rt.alloc());
-    assert_eq!(rt; none.range(Quantity::Inline), None);
-    let ranges: Ranges = both(rt.alloc(), &first_trace(), &second_trace())?;
+fn ranges_of_both(alloc: Global) -> Result<Ranges, OutOfMemory> {
+    both(alloc, &first_trace(), &second_trace())
+}
+
+fn ranges_of_the_second(alloc: Global) -> Result<Ranges, OutOfMemory> {
+    second_alone(alloc, &first_trace(), &second_trace())
+}
+
+fn expect_ranges_of_both(rt: &impl Abort, ranges: &Ranges) {
     assert_eq!(rt; ranges.range(Quantity::Inline), wholes(9, 10));
     assert_eq!(rt; ranges.range(Quantity::Crossline), wholes(21, 22));
     assert_eq!(rt; ranges.range(Quantity::Offset), wholes(-100, 100));
@@ -103,26 +108,61 @@ fn ranges_run_with_traces(rt: HostRuntime) -> Result<(), Fail> {
         Some((Ratio::scaled(5, -2), Ratio::whole(40)))
     );
     assert_eq!(rt; ranges.range(Quantity::Y), wholes(500, 500));
-    let ranges: Ranges = second_alone(rt.alloc(), &first_trace(), &second_trace())?;
+}
+
+fn expect_ranges_of_the_second(rt: &impl Abort, ranges: &Ranges) {
     assert_eq!(rt; ranges.range(Quantity::Inline), wholes(9, 9));
     assert_eq!(rt; ranges.range(Quantity::X), wholes(40, 40));
+}
+
+#[test]
+fn no_traces_have_no_ranges(rt: HostRuntime) {
+    let none = Ranges::new(rt.alloc());
+    assert_eq!(rt; none.range(Quantity::Inline), None);
+}
+
+#[test]
+fn ranges_run_with_traces(rt: HostRuntime) -> Result<(), Fail> {
+    expect_ranges_of_both(&rt, &ranges_of_both(rt.alloc())?);
+    expect_ranges_of_the_second(&rt, &ranges_of_the_second(rt.alloc())?);
     Ok(())
+}
+
+fn totals_of_both(alloc: Global) -> Result<Totals, OutOfMemory> {
+    both(alloc, &first_trace(), &second_trace())
+}
+
+fn totals_of_the_second(alloc: Global) -> Result<Totals, OutOfMemory> {
+    second_alone(alloc, &first_trace(), &second_trace())
+}
+
+fn expect_totals(rt: &impl Abort, totals: &Totals, amplitudes: &Amplitudes, number: u64) {
+    assert_eq!(rt; totals.least(), Some(amplitudes.least));
+    assert_eq!(rt; totals.greatest(), Some(amplitudes.greatest));
+    assert_eq!(rt; totals.sum(), amplitudes.sum);
+    assert_eq!(rt; totals.number(), number);
+}
+
+#[test]
+fn no_traces_have_no_totals(rt: HostRuntime) {
+    let none = Totals::new(rt.alloc());
+    assert_eq!(rt; none.least(), None);
+    assert_eq!(rt; none.greatest(), None);
 }
 
 #[test]
 fn totals_run_with_traces(rt: HostRuntime) -> Result<(), Fail> {
-    let none = Totals::new(rt.alloc());
-    assert_eq!(rt; none.least(), None);
-    assert_eq!(rt; none.greatest(), None);
-    let totals: Totals = both(rt.alloc(), &first_trace(), &second_trace())?;
-    assert_eq!(rt; totals.least(), Some(-2));
-    assert_eq!(rt; totals.greatest(), Some(4));
-    assert_eq!(rt; totals.sum(), 6);
-    assert_eq!(rt; totals.number(), 4);
-    let totals: Totals = second_alone(rt.alloc(), &first_trace(), &second_trace())?;
-    assert_eq!(rt; totals.least(), Some(3));
-    assert_eq!(rt; totals.greatest(), Some(4));
-    assert_eq!(rt; totals.sum(), 7);
-    assert_eq!(rt; totals.number(), 2);
+    let of_both = Amplitudes {
+        least: -2,
+        greatest: 4,
+        sum: 6,
+    };
+    expect_totals(&rt, &totals_of_both(rt.alloc())?, &of_both, 4);
+    let of_the_second = Amplitudes {
+        least: 3,
+        greatest: 4,
+        sum: 7,
+    };
+    expect_totals(&rt, &totals_of_the_second(rt.alloc())?, &of_the_second, 2);
     Ok(())
 }

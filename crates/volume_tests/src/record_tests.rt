@@ -1,7 +1,7 @@
 // Records of traces, with values worked by hand. One function owns the map of each test and lends
 // it out: the proof of a function that owns a map takes the longer the more it does, and that of a
 // borrower stays short.
-ghost use Rattle.std.specs.Prelude.{◌≡◌, length};
+ghost use Rattle.std.specs.Prelude.{◌≡◌, length, IfOk};
 ghost use Rattle.trace_view.specs.Runs.{Fit};
 
 use crate::heads::{head_of, plain_head, run};
@@ -11,7 +11,7 @@ use frame_cut::Head;
 use key_counts::Ratio;
 use num_order::{Kind, Order};
 use sample_codes::{Format, IntegerFormat, OpaqueFormat};
-use std::alloc::Global;
+use std::alloc::{AllocError, Global};
 use std::process::Abort;
 use std::test::Fail;
 use trace_record::{Amplitudes, Record, record_of, record_with_samples_of};
@@ -70,6 +70,10 @@ fn record_of_small(rt: &impl Abort, fields: &FieldMap) {
     assert_eq!(rt; record.amplitudes, amplitudes(-2, 1, -1));
     assert_eq!(rt; record.x, Ratio::whole(1000));
     assert_eq!(rt; record.y, Ratio::whole(500));
+    expect_small_numbers(rt, &record);
+}
+
+fn expect_small_numbers(rt: &impl Abort, record: &Record) {
     assert_eq!(rt; (record.inline, record.crossline), (10, 21));
     assert_eq!(rt; (record.offset, record.sequence), (100, 1));
     assert_eq!(rt; (record.number, record.samples_field), (2, 2));
@@ -105,46 +109,71 @@ fn record_under_runs(rt: &impl Abort, fields: &FieldMap, runs: &[Run])
     assert!(rt; !record.has_known_name);
 }
 
-#[test]
-fn reads_headers_under_runs_and_by_the_map(rt: HostRuntime) -> Result<(), Fail> {
-    let alloc = rt.alloc();
-    let mut fields = FieldMap::standard(alloc, 0)?;
-    let place = Place {
+// Two bytes for each of the inline, the scalar, the units and the number of samples, and a name.
+fn header_runs(alloc: Global) -> Result<[Run; 5], AllocError>
+    ensures { IfOk result (λ runs. Fit runs 244) }
+{
+    let inline = run(alloc, 8, &[0xFF, 0xFB])?;
+    let scalar = run(alloc, 70, &[0xFF, 0x9C])?;
+    let units = run(alloc, 88, &[0xFF, 0xFF])?;
+    let number = run(alloc, 114, &[0xFF, 0xFF])?;
+    let name = run(alloc, 232, b"SEG00001")?;
+    Ok([inline, scalar, units, number, name])
+}
+
+// The inline's place, in bytes 9 and 10.
+fn inline_place() -> Place {
+    Place {
         extension: 0,
         byte: 9,
         kind: Kind {
             size: 2,
             signed: true,
         },
-    };
-    assert!(rt; fields.bind(alloc, "inline", place).is_ok());
-    let runs = [
-        run(alloc, 8, &[0xFF, 0xFB])?,
-        run(alloc, 70, &[0xFF, 0x9C])?,
-        run(alloc, 88, &[0xFF, 0xFF])?,
-        run(alloc, 114, &[0xFF, 0xFF])?,
-        run(alloc, 232, b"SEG00001")?,
-    ];
-    record_under_runs(&rt, &fields, &runs);
+    }
+}
+
+fn expect_moved_headers(rt: &impl Abort, alloc: Global, fields: &mut FieldMap) -> Result<(), Fail> {
+    assert!(rt; fields.bind(alloc, "inline", inline_place()).is_ok());
+    let runs = header_runs(alloc)?;
+    record_under_runs(rt, fields, &runs);
     Ok(())
 }
 
+#[test]
+fn reads_headers_under_runs_and_by_the_map(rt: HostRuntime) -> Result<(), Fail> {
+    let alloc = rt.alloc();
+    let mut fields = FieldMap::standard(alloc, 0)?;
+    expect_moved_headers(&rt, alloc, &mut fields)
+}
+
 // Whether the trace with this name in bytes 233-240 says a plain trace.
-fn has_known_name(rt: &impl Abort, alloc: Global, name: &[u8; 8]) -> Result<bool, Fail> {
-    let fields = FieldMap::standard(alloc, 0)?;
+fn has_known_name(
+    rt: &impl Abort,
+    alloc: Global,
+    fields: &FieldMap,
+    name: &[u8; 8],
+) -> Result<bool, Fail> {
     let head = plain_head();
     let runs = [run(alloc, 232, name)?];
-    Ok(made(rt, &head, &fields, &small_trace(), &runs).has_known_name)
+    Ok(made(rt, &head, fields, &small_trace(), &runs).has_known_name)
+}
+
+fn expect_known_names(rt: &impl Abort, alloc: Global, fields: &FieldMap) -> Result<(), Fail> {
+    assert!(rt; has_known_name(rt, alloc, fields, b"SEG00000")?);
+    let ebcdic = [0xE2, 0xC5, 0xC7, 0xF0, 0xF0, 0xF0, 0xF0, 0xF0];
+    assert!(rt; has_known_name(rt, alloc, fields, &ebcdic)?);
+    assert!(rt; !has_known_name(rt, alloc, fields, b"SEG00002")?);
+    Ok(())
 }
 
 #[test]
 fn knows_a_name_in_both_codes(rt: HostRuntime) -> Result<(), Fail> {
     let alloc = rt.alloc();
-    assert!(rt; has_known_name(&rt, alloc, b"SEG00000")?);
-    let ebcdic = [0xE2, 0xC5, 0xC7, 0xF0, 0xF0, 0xF0, 0xF0, 0xF0];
-    assert!(rt; has_known_name(&rt, alloc, &ebcdic)?);
-    assert!(rt; !has_known_name(&rt, alloc, b"SEG00002")?);
-    Ok(())
+    with_standard(
+        alloc,
+        &mut |fields: &FieldMap| expect_known_names(&rt, alloc, fields),
+    )
 }
 
 // The 24 bytes 80 00 .. 00 01 FF as samples of each width, in both orders: the first sample, zeros,
@@ -256,13 +285,23 @@ fn samples_under_a_run(rt: &impl Abort, fields: &FieldMap, runs: &[Run])
     assert_eq!(rt; made(rt, &head, fields, &base, &[]), record);
 }
 
+fn expect_samples_under_a_run(
+    rt: &impl Abort,
+    alloc: Global,
+    fields: &FieldMap,
+) -> Result<(), Fail> {
+    let runs = [run(alloc, 1776, &[0x7F, 0xFF, 0xFF, 0x80])?];
+    samples_under_a_run(rt, fields, &runs);
+    Ok(())
+}
+
 #[test]
 fn takes_samples_under_a_run(rt: HostRuntime) -> Result<(), Fail> {
     let alloc = rt.alloc();
-    let fields = FieldMap::standard(alloc, 0)?;
-    let runs = [run(alloc, 1776, &[0x7F, 0xFF, 0xFF, 0x80])?];
-    samples_under_a_run(&rt, &fields, &runs);
-    Ok(())
+    with_standard(
+        alloc,
+        &mut |fields: &FieldMap| expect_samples_under_a_run(&rt, alloc, fields),
+    )
 }
 
 fn record_without_samples(rt: &impl Abort, fields: &FieldMap) {

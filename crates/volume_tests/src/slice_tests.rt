@@ -104,6 +104,25 @@ fn expect_looks(
     Ok(())
 }
 
+// Asserts that slice k has these rows.
+fn expect_slice(
+    rt: &impl Abort,
+    alloc: Global,
+    cache: &mut SliceCache,
+    volume: &mut Overlay<PackedRecord>,
+    k: u32,
+    expected: &[Row],
+) -> Result<(), Fail>
+    requires { IsTrue volume.old.agreed → AreRightOf volume.old.volume.head
+        (map record_in volume.old.payloads) volume.old.volume.traces cache.old.entries }
+    ensures { OnOk result (IsTrue volume.new.agreed → AreRightOf volume.new.volume.head
+        (map record_in volume.new.payloads) volume.new.volume.traces cache.new.entries) }
+{
+    let made = ask(alloc, cache, volume, k)?;
+    assert!(rt; made.as_slice() == expected);
+    Ok(())
+}
+
 // Asserts that slice k has these rows, made anew and kept.
 fn expect_kept(
     rt: &impl Abort,
@@ -116,11 +135,9 @@ fn expect_kept(
     requires { IsTrue volume.old.agreed → AreRightOf volume.old.volume.head
         (map record_in volume.old.payloads) volume.old.volume.traces cache.old.entries }
 {
-    let made = ask(alloc, cache, volume, k)?;
-    assert!(rt; made.as_slice() == expected);
+    expect_slice(rt, alloc, cache, volume, k, expected)?;
     let looks = volume.looks();
-    let kept = ask(alloc, cache, volume, k)?;
-    assert!(rt; kept.as_slice() == expected);
+    expect_slice(rt, alloc, cache, volume, k, expected)?;
     assert_eq!(rt; volume.looks(), looks);
     Ok(())
 }
@@ -208,23 +225,56 @@ fn keeps_a_negative_sample(
     expect_kept(rt, alloc, cache, volume, 1, &edited)
 }
 
+fn keeps_slices(
+    rt: &impl Abort,
+    alloc: Global,
+    volume: &mut Overlay<PackedRecord>,
+) -> Result<(), Fail> {
+    let mut cache = SliceCache::new(alloc, 3)?;
+    keeps_each(rt, alloc, &mut cache, volume)
+}
+
+fn keeps_each(
+    rt: &impl Abort,
+    alloc: Global,
+    cache: &mut SliceCache,
+    volume: &mut Overlay<PackedRecord>,
+) -> Result<(), Fail>
+    requires { IsTrue volume.old.agreed → AreRightOf volume.old.volume.head
+        (map record_in volume.old.payloads) volume.old.volume.traces cache.old.entries }
+{
+    keeps_three(rt, alloc, cache, volume)?;
+    keeps_a_negative_sample(rt, alloc, cache, volume)
+}
+
 #[test]
 fn keeps_the_last_asked(rt: HostRuntime) -> Result<(), Fail> {
     let alloc = rt.alloc();
     let mut volume = small_volume(alloc)?;
-    let mut cache = SliceCache::new(alloc, 3)?;
-    keeps_three(&rt, alloc, &mut cache, &mut volume)?;
-    keeps_a_negative_sample(&rt, alloc, &mut cache, &mut volume)
+    keeps_slices(&rt, alloc, &mut volume)
+}
+
+fn keeps_the_greatest(
+    rt: &impl Abort,
+    alloc: Global,
+    volume: &mut Overlay<PackedRecord>,
+) -> Result<(), Fail> {
+    let mut cache = SliceCache::new(alloc, 1)?;
+    let greatest = [row(1, 2, 1, 18446744073709551615)];
+    expect_kept(rt, alloc, &mut cache, volume, 0, &greatest)
+}
+
+// One trace of one sample of 64 bits.
+fn wide_volume(alloc: Global) -> Result<Overlay<PackedRecord>, Fail> {
+    let limits = Limits::new(3848, 1).ok_or("limits")?;
+    let file = wide_trace(alloc)?;
+    volume_of(alloc, file, limits, &[packed_at(1, 2)])
 }
 
 // The greatest sample of 64 bits comes back from what is kept.
 #[test]
 fn keeps_the_greatest_sample(rt: HostRuntime) -> Result<(), Fail> {
     let alloc = rt.alloc();
-    let limits = Limits::new(3848, 1).ok_or("limits")?;
-    let file = wide_trace(alloc)?;
-    let mut volume = volume_of(alloc, file, limits, &[packed_at(1, 2)])?;
-    let mut cache = SliceCache::new(alloc, 1)?;
-    let greatest = [row(1, 2, 1, 18446744073709551615)];
-    expect_kept(&rt, alloc, &mut cache, &mut volume, 0, &greatest)
+    let mut volume = wide_volume(alloc)?;
+    keeps_the_greatest(&rt, alloc, &mut volume)
 }

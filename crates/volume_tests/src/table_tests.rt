@@ -40,10 +40,13 @@ fn keeps_records_small(rt: HostRuntime) {
 fn comes_back(rt: &impl Abort, alloc: Global, trace: Record) -> Result<(), Fail> {
     assert_eq!(rt; PackedRecord::of(trace).record(), trace);
     let table = table_of(alloc, &[trace])?;
-    let records = Records::new(Column::new(&table));
+    expect_first(rt, &Records::new(Column::new(&table)), trace);
+    Ok(())
+}
+
+fn expect_first(rt: &impl Abort, records: &Records, trace: Record) {
     assert_eq!(rt; records.get(0), Some(trace));
     assert_eq!(rt; records.iter().next(), Some(trace));
-    Ok(())
 }
 
 #[test]
@@ -158,6 +161,12 @@ fn follow_one_another(rt: &impl Abort, table: &TraceStore<PackedRecord>, inlines
     assert_eq!(rt; items.next(), None);
 }
 
+// The fourth record, and none behind it.
+fn expect_last(rt: &impl Abort, records: &Records) {
+    assert_eq!(rt; records.get(3), Some(mixed_record(-12)));
+    assert_eq!(rt; records.get(4), None);
+}
+
 fn change_records(
     rt: &impl Abort,
     alloc: Global,
@@ -166,9 +175,7 @@ fn change_records(
     insert(alloc, table, 1, &mixed_record(7))?;
     insert(alloc, table, 3, &mixed_record(-12))?;
     follow_one_another(rt, table, &[4, 7, 9, -12]);
-    let records = Records::new(Column::new(table));
-    assert_eq!(rt; records.get(3), Some(mixed_record(-12)));
-    assert_eq!(rt; records.get(4), None);
+    expect_last(rt, &Records::new(Column::new(table)));
     set(table, 0, 5)?;
     shift(alloc, table, 0, 2)?;
     assert_eq!(rt; remove(table, 0)?, mixed_record(7));

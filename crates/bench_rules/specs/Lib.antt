@@ -11,6 +11,7 @@ pub mod KeptExamples
 pub mod Letters
 pub mod Live
 pub mod Looks
+pub mod LooksExamples
 pub mod ManyTraces
 pub mod MapFaults
 pub mod NumberExamples

@@ -165,9 +165,9 @@ fn read_matches<'a>(matches: &ArgMatches<'a>, order: Option<Order>) -> Option<Ar
 
 /// What the words of a command line say, the program's name first: `FILE --script S [--out O]
 /// [--in-place] [--on-disk] [--fixed] [--opaque-samples] [--order big|little] [--max-bytes N]
-/// [--stop] [--quiet]`, N from 1 to 1099511627776; an option may stand more than once, and the last
-/// one counts. Refused with clap's text where they are not accepted, `--help` too, or where a
-/// growth was refused. Takes memory.
+/// [--stop] [--quiet]`, or `FILE --session` with the same options but `--script`; N from 1 to
+/// 1099511627776; an option may stand more than once, and the last one counts. Refused with clap's
+/// text where they are not accepted, `--help` too, or where a growth was refused. Takes memory.
 pub fn arguments<'a>(alloc: Global, words: &'a [String]) -> Result<Arguments<'a>, Error>
     ensures file { IfOk result (λ a. first_of (codes "FILE") (matched (map string_bytes words.now))
         ≡ Some a.file.now) }

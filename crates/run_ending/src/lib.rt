@@ -17,6 +17,6 @@ mod where_to;
 pub use crate::ending::{Message, SaveEnd, exit_status, told};
 pub use crate::finishing::{finish, refused_out};
 pub use crate::in_place::InPlace;
-pub use crate::refused::{tell_how_to_begin, tell_refused};
+pub use crate::refused::tell_how_to_begin;
 pub use crate::target::Target;
 pub use crate::where_to::{OutRefusal, misuse, target_of};

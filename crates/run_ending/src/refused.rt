@@ -6,7 +6,7 @@ use script_text::RunEnd;
 
 /// Tells of the refused lines of a script, or of the refused file, and that the file was saved
 /// without the refused lines.
-pub fn tell_refused<R: Eprint>(
+pub(crate) fn tell_refused<R: Eprint>(
     rt: &R,
     arguments: &Arguments,
     end: RunEnd,

@@ -3,8 +3,9 @@
 //! [`Notes`] keeps the first 20 refused lines of a run in a room of fixed size, and counts all.
 //! [`NoteLine`] is what is told of one of them, [`LoadNote`] of a refused file; each is one line,
 //! without its line feed. What may be meant is one of the commands ([`COMMANDS`], each with its
-//! [`form`]) or of the names of header fields ([`TRACE_NAMES`], [`BINARY_NAMES`]). Nothing here
-//! takes memory, and no answer depends on it. Lines count from 1, and bytes of a header from 1.
+//! [`form`]), of the names of header fields ([`TRACE_NAMES`], [`BINARY_NAMES`]), or of the words
+//! of `range`. Nothing here takes memory, and no answer depends on it. Lines count from 1, and
+//! bytes of a header from 1.
 #![tactic(auto)]
 
 mod commands;

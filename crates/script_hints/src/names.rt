@@ -136,4 +136,4 @@ pub static BINARY_NAMES: [&str; 21] = [
 ];
 
 /// What `range` tells of.
-pub static QUANTITIES: [&str; 5] = ["inline", "crossline", "offset", "x", "y"];
+pub(crate) static QUANTITIES: [&str; 5] = ["inline", "crossline", "offset", "x", "y"];

@@ -1,5 +1,5 @@
--- Bytes laid over a trace whose record is known: where they are one of the numbers that the record keeps, or none of them, the record
--- tells that of the trace with them, and no byte of the trace is needed.
+-- Bytes laid over a trace whose record is known: where they leave alone what is seldom edited, and cover each of six numbers exactly
+-- or not at all, the record tells that of the trace with them, and no byte of the trace is needed.
 use Rattle.std.specs.Prelude.{◌≡◌, ℕ, ◌+◌, ◌==◌, ◌&&◌, ◌||◌, nat_le, Bool, true, false, List, codes, refl}
 use Rattle.std.specs.Option.{option_map_or}
 use Rattle.field_map.specs.declared.place.Place.{Place}

@@ -36,8 +36,8 @@ pub struct NewRuns {
 }
 
 // The first three have no runs: an extent of the loaded file, whose length is in 32 bits where it
-// can be, so that all fit in 16 bytes; or bytes of the trace's own. They are those of `Under`, which
-// would take 24 bytes within another enum.
+// can be, so that all fit in 16 bytes; or bytes of the trace's own. They are those of `Under`,
+// which would take 24 bytes within another enum.
 #[derive(Drop)]
 enum Kind {
     Short { length: u32, start: u64 },
@@ -230,8 +230,8 @@ impl Layers {
         self.extent()
     }
 
-    // The runs with these bytes laid over the trace from place `at` on, counted from 0. Takes memory
-    // for the new runs. One run needs no list.
+    // The runs with these bytes laid over the trace from place `at` on, counted from 0. Takes
+    // memory for the new runs. One run needs no list.
     pub(crate) fn runs_with(
         &self,
         alloc: Global,
@@ -350,7 +350,8 @@ impl Kind {
 
     // These runs over another base.
     fn over(self, under: Under) -> Kind
-        ensures { layers_of_kind result ≡ record { base = base_of_under under; runs = runs_of_kind self } }
+        ensures { layers_of_kind result
+            ≡ record { base = base_of_under under; runs = runs_of_kind self } }
     {
         match self {
             Kind::One(mut one) => {

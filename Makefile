@@ -51,9 +51,7 @@ test:
 	test -x $(BUILT) || tools/build
 	cd dist && sha256sum -c SHA256SUMS
 	@cmp $(BUILT) $(SHIPPED) || { echo 'The sources do not give the shipped program: see make dist.'; exit 1; }
-	bash tests/run.sh $(BUILT)
-	bash tests/python.sh $(BUILT)
-	bash tests/desk.sh $(BUILT)
+	bash tests/all.sh $(BUILT)
 
 # Once for each delivery, after make build.
 dist:

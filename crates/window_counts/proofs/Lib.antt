@@ -2,3 +2,4 @@ pub mod HeldLemmas
 pub mod PlaceLemmas
 pub mod SpanLemmas
 pub mod MergeLemmas
+pub mod RowsLemmas

@@ -248,6 +248,13 @@ pub entries-zeros : {K : Type 0} (n : ℕ) (key : ℕ → K) → entries key (re
 entries-zeros zero key = refl
 entries-zeros (suc n) key = entries-zeros n (λ p. key (suc p))
 
+-- nor have those at 0 that are added behind, where the others keep their keys
+pub entries-grown : {K : Type 0} (ns : List ℕ) (key new : ℕ → K) (n : ℕ) → ((p : ℕ) → p < length ns → new p ≡ key p) → entries new (ns ++ replicate n 0) ≡ entries key ns
+entries-grown [] key new n kept = entries-zeros n new
+entries-grown (m ∷ ns) key new n kept =
+    ap (λ k. entry_before k m (entries (λ p. new (suc p)) (ns ++ replicate n 0))) (kept 0 (omega arith))
+    ∙ ap (entry_before (key 0) m) (entries-grown ns (λ p. key (suc p)) (λ p. new (suc p)) n (λ p h. kept (suc p) (omega arith)))
+
 -- without a place all are apart
 pub apart-none : {K : Type 0} (cmp : K → K → Ordering) (size : ℕ) (place : K → Option ℕ) (key : ℕ → K) → ArePlaced cmp size place key → size ≡ 0 → (outside : List (K × ℕ)) → IsApart cmp size place [] outside
 apart-none cmp size place key placed none outside = record { places = sym none; apart = λ k p e. absurd (let h = (placed.within k p e).0 in omega arith) }

@@ -1,7 +1,9 @@
 ghost use Rattle.std.specs.Prelude.{◌≡◌, pos, ◌+ℤ◌, ◌-ℤ◌, ◌≤ℤ◌, ◌<ℤ◌, ◌^◌, ◌≤◌};
+ghost use Rattle.std.specs.Bool.{OnTrue};
 ghost use Rattle.window_counts.specs.Places.{place_within, interval_key};
 
 use crate::window::{Extent, Window};
+use std::alloc::Global;
 
 /// So many whole numbers from the lowest one on, each with a place.
 #[derive(Clone, Copy)]
@@ -12,6 +14,7 @@ pub struct Interval {
 }
 
 impl Window<i32> for Interval {
+    ghost use Rattle.std.specs.Prelude.{⊤};
     ghost use Rattle.window_counts.specs.Places.{interval_place, interval_key};
     ghost use Rattle.window_counts.specs.PlaceLaws.{interval_placed};
 
@@ -22,6 +25,10 @@ impl Window<i32> for Interval {
     ghost place = { λ w. interval_place w.lowest w.places };
 
     ghost key_of = { λ w. interval_key w.lowest };
+
+    ghost row = { λ w. 0 };
+
+    ghost CanGrow = { λ w k. ⊤ };
 
     fn none() -> Interval {
         Interval {
@@ -49,6 +56,23 @@ impl Window<i32> for Interval {
     fn place_of(&self, key: i32) -> Option<usize> {
         place_from(self.lowest, self.places, key)
     }
+
+    // No row is added: a number above the interval is outside.
+    fn prepare(&mut self, _alloc: Global) {}
+
+    fn can_grow(&self, _key: i32) -> bool {
+        false
+    }
+
+    fn row_len(&self) -> usize {
+        0
+    }
+
+    fn added_len(&self) -> usize {
+        0
+    }
+
+    fn grow(&mut self, _key: i32) {}
 
     fn key_at(&self, at: usize) -> i32 {
         key_from(self.lowest, at)
@@ -113,6 +137,14 @@ pub(crate) fn place_from(lowest: i32, places: usize, key: i32) -> Option<usize>
     }
     let place = (i64::from(key) - i64::from(lowest)) as usize;
     if place < places { Some(place) } else { None }
+}
+
+// Whether a whole number lies above so many from the lowest on.
+pub(crate) fn is_above(lowest: i32, places: usize, key: i32) -> bool
+    requires { places ≤ 2 ^ 32 }
+    ensures { OnTrue result ((lowest +ℤ pos places) ≤ℤ key) }
+{
+    i64::from(lowest) + places as i64 <= i64::from(key)
 }
 
 // The whole number of a place.

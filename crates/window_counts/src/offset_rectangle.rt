@@ -1,12 +1,13 @@
-ghost use Rattle.std.specs.Prelude.{◌≡◌};
-ghost use Rattle.window_counts.specs.Places.{offset_at as offset_of};
+ghost use Rattle.std.specs.Prelude.{◌≡◌, ◌+◌, ◌*◌, ◌<◌, length};
+ghost use Rattle.window_counts.specs.Places.{numbers_in, place_below, offset_at as offset_of};
 
 use crate::rectangle::{Rectangle, RectangleExtent};
 use crate::window::{Extent, Window};
 use std::alloc::{AllocError, Global};
 
 /// The cells of a rectangle, each at one offset and with a place, row by row. Either all are at the
-/// same offset, or each is at its own, which takes 4 bytes a cell.
+/// same offset, or each is at its own, which takes 4 bytes a cell; a row that is added has the
+/// offsets of the last one that there was at first.
 #[derive(Drop)]
 pub struct OffsetRectangle {
     cells: Rectangle,
@@ -49,6 +50,16 @@ impl OffsetRectangle {
 
     // The offset of the cell at a place.
     fn offset_at(&self, place: usize) -> i32
+        requires { place < (self.now.cells.rows.count + length (numbers_in
+            self.now.cells.rows.added)) * self.now.cells.columns }
+        ensures { result ≡ offset_of self.now.own self.now.offset
+            (place_below self.now.cells.rows.count self.now.cells.columns place) }
+    {
+        self.first_offset(self.cells.place_below(place))
+    }
+
+    // The offset at a place of the rows that there were at first.
+    fn first_offset(&self, place: usize) -> i32
         ensures { result ≡ offset_of self.now.own self.now.offset place }
     {
         match &self.own {
@@ -59,19 +70,31 @@ impl OffsetRectangle {
 }
 
 impl Window<(i32, i32, i32)> for OffsetRectangle {
-    ghost use Rattle.std.specs.Prelude.{◌*◌};
-    ghost use Rattle.window_counts.specs.Places.{offset_at, triple_place, triple_key};
-    ghost use Rattle.window_counts.specs.PlaceLaws.{triple_placed};
+    ghost use Rattle.std.specs.Prelude.{◌+◌, ◌*◌, ◌<◌, ◌^◌, length};
+    ghost use Rattle.window_counts.specs.Places.{row_place, row_key, numbers_in, CanAdd, place_below, offset_at, triple_place, triple_key};
+    ghost use Rattle.window_counts.specs.PlaceLaws.{rows_placed, triple_placed};
 
     type Extent = OffsetExtent;
 
-    ghost size = { λ w. w.cells.rows * w.cells.columns };
+    ghost size = { λ w.
+        (w.cells.rows.count + length (numbers_in w.cells.rows.added)) * w.cells.columns };
 
-    ghost place = { λ w. triple_place (w.cells.inline, w.cells.crossline) w.cells.rows
-        w.cells.columns (offset_at w.own w.offset) };
+    ghost place = { λ w. triple_place
+        (row_place w.cells.rows.lowest w.cells.rows.count (numbers_in w.cells.rows.added))
+        w.cells.crossline w.cells.columns
+        (λ p. offset_at w.own w.offset (place_below w.cells.rows.count w.cells.columns p)) };
 
-    ghost key_of = { λ w. triple_key (w.cells.inline, w.cells.crossline) w.cells.columns
-        (offset_at w.own w.offset) };
+    ghost key_of = { λ w. triple_key
+        (row_key w.cells.rows.lowest w.cells.rows.count (numbers_in w.cells.rows.added))
+        w.cells.crossline w.cells.columns
+        (λ p. offset_at w.own w.offset (place_below w.cells.rows.count w.cells.columns p)) };
+
+    ghost row = { λ w. w.cells.columns };
+
+    ghost CanGrow = { λ w k.
+        CanAdd w.cells.rows.lowest w.cells.rows.count w.cells.rows.added k.0 ×
+        ((w.cells.rows.count + length (numbers_in w.cells.rows.added) + 1) * w.cells.columns <
+        2 ^ 64) };
 
     fn none() -> OffsetRectangle {
         OffsetRectangle {
@@ -106,13 +129,42 @@ impl Window<(i32, i32, i32)> for OffsetRectangle {
         }
     }
 
+    fn prepare(&mut self, alloc: Global) {
+        self.cells.prepare(alloc);
+    }
+
+    fn can_grow(&self, key: (i32, i32, i32)) -> bool {
+        self.cells.can_grow((key.0, key.1))
+            && match self.cells.place_in_last_row(key.1) {
+                Some(place) => self.first_offset(place) == key.2,
+                None => false,
+            }
+    }
+
+    fn row_len(&self) -> usize {
+        self.cells.row_len()
+    }
+
+    fn added_len(&self) -> usize {
+        self.cells.added_len()
+    }
+
+    fn grow(&mut self, key: (i32, i32, i32)) {
+        self.cells.add_row(key.0);
+    }
+
     fn key_at(&self, at: usize) -> (i32, i32, i32) {
         let cell = self.cells.key_at(at);
         (cell.0, cell.1, self.offset_at(at))
     }
 
-    ghost placed = { λ w. triple_placed (w.cells.inline, w.cells.crossline) w.cells.rows
-        w.cells.columns (offset_at w.own w.offset) };
+    ghost placed = { λ w. triple_placed (w.cells.rows.count + length (numbers_in
+        w.cells.rows.added))
+        (row_place w.cells.rows.lowest w.cells.rows.count (numbers_in w.cells.rows.added))
+        (row_key w.cells.rows.lowest w.cells.rows.count (numbers_in w.cells.rows.added))
+        (rows_placed w.cells.rows.lowest w.cells.rows.count (numbers_in w.cells.rows.added)
+        w.cells.rows.fit) w.cells.crossline w.cells.columns
+        (λ p. offset_at w.own w.offset (place_below w.cells.rows.count w.cells.columns p)) };
 }
 
 /// The least and the greatest inline and crossline of triples, and their usual offset: that of more

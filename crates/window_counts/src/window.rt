@@ -1,7 +1,11 @@
-ghost use Rattle.std.specs.Prelude.{◌≡◌, ℕ, ◌<◌, Option};
+ghost use Rattle.std.specs.Prelude.{◌≡◌, ℕ, ◌+◌, ◌<◌, Option};
+ghost use Rattle.std.specs.Bool.{OnTrue};
 ghost use Rattle.window_counts.specs.Window.{ArePlaced};
 
-/// Keys that have a place each, counted from 0 in their order. A key without one is outside.
+use std::alloc::Global;
+
+/// Keys that have a place each, counted from 0 in their order. A key without one is outside. A row
+/// of places may be added behind the others, for keys above theirs.
 pub trait Window<K: Copy + Ord>: Drop {
     /// How far keys reach.
     type Extent: Extent<K>;
@@ -14,6 +18,12 @@ pub trait Window<K: Copy + Ord>: Drop {
 
     // The key of a place.
     ghost key_of: { Self → ℕ → K };
+
+    // How many places a row has.
+    ghost row: { Self → ℕ };
+
+    // A row that has a place for the key can be added.
+    ghost CanGrow: { Self → K → Type 0 };
 
     /// No place. Takes no memory.
     fn none() -> Self
@@ -31,6 +41,27 @@ pub trait Window<K: Copy + Ord>: Drop {
     /// The place of the key, where it has one. Takes no memory.
     fn place_of(&self, key: K) -> Option<usize>
         ensures { result ≡ place self.now key };
+
+    /// Makes ready for rows to be added. Takes memory; where it is refused, none can be.
+    fn prepare(&mut self, alloc: Global);
+
+    /// Whether a row that has a place for the key can be added behind the others: at most as many
+    /// are as there were at first. Takes no memory.
+    fn can_grow(&self, key: K) -> bool
+        ensures { OnTrue result (CanGrow self.now key) };
+
+    /// How many places a row has. Takes no memory.
+    fn row_len(&self) -> usize
+        ensures { result ≡ row self.now };
+
+    /// How many places the rows that were added have. Takes no memory.
+    fn added_len(&self) -> usize;
+
+    /// Adds the row. Takes no memory.
+    fn grow(&mut self, key: K)
+        requires { CanGrow self.old key }
+        ensures size { size self.new ≡ size self.old + row self.old }
+        ensures kept { (p : ℕ) → p < size self.old → key_of self.new p ≡ key_of self.old p };
 
     /// The key of a place. Takes no memory.
     fn key_at(&self, at: usize) -> K

@@ -55,15 +55,37 @@ impl<K: Copy + Ord, W: Window<K>> WindowCounts<K, W> {
     }
 
     /// No key, and this window. Takes memory for the window.
-    pub fn within(alloc: Global, window: W) -> Result<WindowCounts<K, W>, OutOfMemory>
+    pub fn within(alloc: Global, mut window: W) -> Result<WindowCounts<K, W>, OutOfMemory>
         ensures { IfOk result (λ v. v ≡ []) }
     {
+        window.prepare(alloc);
         let slots = Slots::new(alloc, window.len())?;
         Ok(WindowCounts {
             window,
             slots,
             outside: Counts::new(alloc),
         })
+    }
+
+    // Adds a row of places that has one for the key, where the window can grow so, the rows that
+    // were added are in use, and no key is outside, where it might lie in the new row. Where memory
+    // is refused, the key stays outside.
+    fn make_room(&mut self, key: K)
+        ensures { self.new ≡ self.old }
+    {
+        if self.window.can_grow(key)
+            && self.outside.is_empty()
+            && self.is_in_use()
+            && self.slots.grow(self.window.row_len()).is_ok()
+        {
+            self.window.grow(key);
+        }
+    }
+
+    // Whether at least half of the places that were added have a key.
+    fn is_in_use(&self) -> bool {
+        let added = self.window.added_len();
+        added / 2 <= self.slots.held_in_last(added)
     }
 
     /// How often each of these keys occurs among them. A window has a place for each where they lie
@@ -125,6 +147,7 @@ impl<K: Copy + Ord, W: Window<K>> WindowCounts<K, W> {
         ensures err { OnErr result (self.new ≡ self.old) }
         ensures held { 0 < count_of K.cmp self.old key → IsOk result }
     {
+        self.make_room(key);
         match self.window.place_of(key) {
             Some(place) => {
                 self.slots.raise(place);

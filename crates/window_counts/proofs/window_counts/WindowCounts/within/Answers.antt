@@ -3,4 +3,4 @@ use Rattle.window_counts.proofs.PlaceLemmas.{entries-zeros}
 use Rattle.window_counts.proofs.window_counts.WindowCounts.within.Goals as goal
 
 pub returns : goal.returns
-returns g c = rw (c.in_ok-slots.ensures, c.new-2.ensures, entries-zeros c.len.result (g.W.Window.key_of c.args.window)) refl
+returns g c = rw (c.in_ok-slots.ensures, c.new-2.ensures, entries-zeros c.len.result (g.W.Window.key_of c.prepare.new.self)) refl

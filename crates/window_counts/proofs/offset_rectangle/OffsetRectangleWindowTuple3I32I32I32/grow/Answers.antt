@@ -1,0 +1,13 @@
+use Rattle.std.proofs.Common.{◌+◌, ◌/◌, ◌%◌, ap, length}
+use Rattle.std.proofs.Math.Nat.{div-lt_iff_lt-mul}
+use Rattle.window_counts.specs.Places.{numbers_in, interval_key, offset_at, place_below}
+use Rattle.window_counts.specs.PlaceLaws.{has_columns}
+use Rattle.window_counts.proofs.RowsLemmas.{row_key-more}
+use Rattle.window_counts.proofs.offset_rectangle.OffsetRectangleWindowTuple3I32I32I32.grow.Goals as goal
+
+pub returns-clause-kept : goal.returns-clause-kept
+returns-clause-kept c p h =
+    let w = c.args.self.now.cells in
+    let more = numbers_in w.rows.added in
+    let low = (div-lt_iff_lt-mul (has_columns (w.rows.count + length more) w.columns p h)).1 h in
+    rw (c.add_row.ensures.lowest, c.add_row.ensures.count, c.add_row.ensures.added, c.add_row.ensures.crossline, c.add_row.ensures.columns) (ap (λ i. (i, interval_key w.crossline (p % w.columns), offset_at c.args.self.now.own c.args.self.now.offset (place_below w.rows.count w.columns p))) (row_key-more w.rows.lowest w.rows.count more _ (p / w.columns) low))

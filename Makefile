@@ -46,12 +46,9 @@ test:
 	@echo 'The whole gate: each proof, must-fail edit, test and run. docs/TIMES.md says how long it takes.'
 	@test -x $(SHIPPED) || { echo 'There is no shipped program $(SHIPPED): make build, then make dist.'; exit 1; }
 	bash tests/lines.sh
-	rm -f $(BUILT)
-	RT_JOBS=$${RT_JOBS:-$$(tools/lanes)} rt ci
-	test -x $(BUILT) || tools/build
 	cd dist && sha256sum -c SHA256SUMS
-	@cmp $(BUILT) $(SHIPPED) || { echo 'The sources do not give the shipped program: see make dist.'; exit 1; }
-	bash tests/all.sh $(BUILT)
+	rm -f $(BUILT)
+	bash tests/gate.sh $(BUILT) $(SHIPPED)
 
 # Once for each delivery, after make build.
 dist:

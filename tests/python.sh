@@ -22,4 +22,4 @@ if [ -n "$lacking" ]; then
     [ -z "${CI:-}" ] || exit 1
     exit 0
 fi
-exec $python -X dev -W error::ResourceWarning -m pytest -q "$here/../python/tests" "$@"
+exec $python -X dev -W error::ResourceWarning -m pytest -q -p no:cacheprovider "$here/../python/tests" "$@"

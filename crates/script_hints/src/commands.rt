@@ -43,65 +43,67 @@ pub static COMMANDS: [&str; 39] = [
     "faults",
 ];
 
-// The form of a computed field.
-const COMPUTE: &str = "compute P Q FIELD SOURCE [OP OPERAND] ..";
+// Their forms, in the same order. They are searched: a `match` of so many texts takes minutes to
+// prove.
+static FORMS: [&str; 39] = [
+    "set P FIELD NUMBER",
+    "get P FIELD",
+    "bin FIELD NUMBER",
+    "getbin FIELD",
+    "text L TEXT",
+    "line B L",
+    "lines B",
+    "code B",
+    "stanzas",
+    "map NAME PLACE",
+    "unmap NAME",
+    "fields",
+    "table P Q FIELD ..",
+    "find P Q FIELD LOW HIGH",
+    "header P",
+    "extremes P Q",
+    "count",
+    "info",
+    "sample P K",
+    "patch P K NUMBER ..",
+    "blank P",
+    "copy Q P",
+    "delete P",
+    "move P Q",
+    "resize P NUMBER",
+    "renumber P Q FIELD FIRST STEP",
+    "compute P Q FIELD SOURCE [OP OPERAND] ..",
+    "sort P Q FIELD ..",
+    "geometry P",
+    "stat P",
+    "fold NUMBER NUMBER",
+    "grid",
+    "inlines",
+    "crosslines",
+    "histogram",
+    "range WHICH",
+    "totals",
+    "slice K",
+    "faults",
+];
 
 /// The form of a command, by its word: empty where the word is none.
 pub fn form(word: &[u8]) -> &'static str {
-    match word {
-        b"set" => "set P FIELD NUMBER",
-        b"get" => "get P FIELD",
-        b"bin" => "bin FIELD NUMBER",
-        b"getbin" => "getbin FIELD",
-        b"text" => "text L TEXT",
-        b"line" => "line B L",
-        b"lines" => "lines B",
-        b"code" => "code B",
-        b"map" => "map NAME PLACE",
-        b"unmap" => "unmap NAME",
-        b"sample" => "sample P K",
-        b"patch" => "patch P K NUMBER ..",
-        b"blank" => "blank P",
-        b"copy" => "copy Q P",
-        b"delete" => "delete P",
-        b"move" => "move P Q",
-        b"resize" => "resize P NUMBER",
-        b"renumber" => "renumber P Q FIELD FIRST STEP",
-        b"compute" => COMPUTE,
-        b"sort" => "sort P Q FIELD ..",
-        b"geometry" => "geometry P",
-        b"stat" => "stat P",
-        b"fold" => "fold NUMBER NUMBER",
-        b"range" => "range WHICH",
-        b"slice" => "slice K",
-        _ => form_of_headers(word),
+    for form in FORMS.iter() {
+        if has_first_word(form.as_bytes(), word) {
+            return form;
+        }
     }
+    ""
 }
 
-// The form of a query about the headers of traces.
-fn form_of_headers(word: &[u8]) -> &'static str {
-    match word {
-        b"table" => "table P Q FIELD ..",
-        b"find" => "find P Q FIELD LOW HIGH",
-        b"header" => "header P",
-        b"extremes" => "extremes P Q",
-        _ => form_alone(word),
+// Whether a form begins with the word.
+fn has_first_word(form: &[u8], word: &[u8]) -> bool {
+    if !form.starts_with(word) {
+        return false;
     }
-}
-
-// The form of a command of one word.
-fn form_alone(word: &[u8]) -> &'static str {
-    match word {
-        b"stanzas" => "stanzas",
-        b"fields" => "fields",
-        b"count" => "count",
-        b"info" => "info",
-        b"grid" => "grid",
-        b"inlines" => "inlines",
-        b"crosslines" => "crosslines",
-        b"histogram" => "histogram",
-        b"totals" => "totals",
-        b"faults" => "faults",
-        _ => "",
+    match form.get(word.len()) {
+        Some(byte) => *byte == b' ',
+        None => true,
     }
 }

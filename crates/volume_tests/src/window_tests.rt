@@ -53,3 +53,33 @@ fn has_no_place_for_many_traces_a_cell(rt: HostRuntime) -> Result<(), Fail> {
     assert_eq!(rt; window.place_of((10, 20, 100)), None);
     Ok(())
 }
+
+// Adds a row that has a place for the triple, where one can be added.
+fn grows(window: &mut OffsetRectangle, triple: (i32, i32, i32)) -> bool {
+    let can = window.can_grow(triple);
+    if can {
+        window.grow(triple);
+    }
+    can
+}
+
+// A row above the last one, with its offsets, and as many as there were at first.
+#[test]
+fn adds_a_row_with_the_offsets_of_the_last(rt: HostRuntime) -> Result<(), Fail> {
+    let mut window = places_of(rt.alloc(), 2, &[(10, 20, 100), (10, 21, 200)])?;
+    let unready = grows(&mut window, (15, 21, 200));
+    window.prepare(rt.alloc());
+    let other_offset = grows(&mut window, (15, 21, 100));
+    let beside = grows(&mut window, (15, 22, 200));
+    let below = grows(&mut window, (9, 21, 200));
+    let above = grows(&mut window, (15, 21, 200));
+    let second = grows(&mut window, (16, 21, 200));
+    assert_eq!(rt; (unready, other_offset, beside, below), (false, false, false, false));
+    assert_eq!(rt; (above, second), (true, false));
+    assert_eq!(rt; (window.len(), window.added_len()), (4, 2));
+    assert_eq!(rt; window.place_of((10, 20, 100)), Some(0));
+    assert_eq!(rt; window.place_of((15, 20, 100)), Some(2));
+    assert_eq!(rt; window.place_of((15, 21, 200)), Some(3));
+    assert_eq!(rt; window.place_of((12, 20, 100)), None);
+    Ok(())
+}

@@ -2,6 +2,7 @@
 
 import os
 import shutil
+import signal
 import subprocess
 import sys
 from pathlib import Path
@@ -15,6 +16,9 @@ sys.path.insert(0, str(HERE))
 
 import segywb  # noqa: E402
 from segywb import program  # noqa: E402
+
+# A shell's job in the background ignores an interrupt, and one of the tests sends itself one.
+signal.signal(signal.SIGINT, signal.default_int_handler)
 
 
 @pytest.fixture

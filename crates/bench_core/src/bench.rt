@@ -83,10 +83,10 @@ impl Bench {
         ensures failures { MatchResult result (λ _. reader.new.failures ≡ reader.old.failures)
             (λ fault. FailuresAfterRefusal fault reader.old.failures reader.new.failures) }
     {
-        let volume = LiveVolume::load(alloc, reader, reading, limits)?;
         let Ok(slices) = no_slices(alloc) else {
             return Err(LoadFault::OutOfMemory);
         };
+        let volume = LiveVolume::load(alloc, reader, reading, limits)?;
         Ok(Bench { volume, slices })
     }
 

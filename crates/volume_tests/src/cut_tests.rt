@@ -6,7 +6,7 @@ use crate::files::{
 };
 use crate::heads::plain_head;
 use frame_cut::{
-    Extent, Head, Limits, LoadFault, Reading, cut, extension_count, front_length, head,
+    Cut, Extent, Head, Limits, LoadFault, Reading, cut, extension_count, front_length, head,
     sample_count, trace_length,
 };
 use num_order::Order;
@@ -106,10 +106,20 @@ fn lie_at(extents: &[Extent], places: &[(u64, u64)]) -> bool {
 // Cuts the file into traces at these places, with these lengths.
 fn cuts_at(rt: &impl Abort, alloc: Global, file: &[u8], places: &[(u64, u64)]) -> Result<(), Fail> {
     let cut = cut(alloc, file, Reading::as_written(), wide(rt))?;
+    expect_places(rt, &cut, file, places)?;
+    assert!(rt; lie_at(&cut.into_extents(), places));
+    Ok(())
+}
+
+fn expect_places(
+    rt: &impl Abort,
+    cut: &Cut,
+    file: &[u8],
+    places: &[(u64, u64)],
+) -> Result<(), Fail> {
     assert_eq!(rt; cut.count() as usize, places.len());
     assert_eq!(rt; cut.head(), head(file, Reading::as_written(), wide(rt))?);
     assert!(rt; lie_at(cut.extents(), places));
-    assert!(rt; lie_at(&cut.into_extents(), places));
     Ok(())
 }
 
@@ -247,15 +257,28 @@ fn cuts_opaque_samples_by_their_width(rt: HostRuntime) -> Result<(), Fail> {
         let mut file = plain_file(alloc)?;
         put(&mut file, 3221, &[0, 1, 0, 0, 0, code]);
         expected.format = Format::Opaque(format);
-        assert_eq!(rt; head(&file, OPAQUE, wide(&rt))?, expected);
-        assert_eq!(rt;
-            traces_by(alloc, front(&file, length), OPAQUE, wide(&rt)),
-            Ok(count)
-        );
-        let short = front(&file, length.saturating_sub(1));
-        let short = traces_by(alloc, short, OPAQUE, wide(&rt));
-        assert_eq!(rt; short, Err(LoadFault::Truncated(u64::from(count))));
+        expect_opaque(&rt, alloc, &file, &expected, length, count)?;
     }
+    Ok(())
+}
+
+// The head of the file, and that so many bytes of it are so many traces, and one less too few.
+fn expect_opaque(
+    rt: &impl Abort,
+    alloc: Global,
+    file: &[u8],
+    expected: &Head,
+    length: usize,
+    count: u32,
+) -> Result<(), Fail> {
+    assert_eq!(rt; head(file, OPAQUE, wide(rt))?, *expected);
+    assert_eq!(rt;
+        traces_by(alloc, front(file, length), OPAQUE, wide(rt)),
+        Ok(count)
+    );
+    let short = front(file, length.saturating_sub(1));
+    let short = traces_by(alloc, short, OPAQUE, wide(rt));
+    assert_eq!(rt; short, Err(LoadFault::Truncated(u64::from(count))));
     Ok(())
 }
 

@@ -44,7 +44,17 @@ fn begun(alloc: Global, file: File, size: u64, limits: Limits) -> Result<Passing
 fn passed(alloc: Global, file: File, size: u64, limits: Limits) -> Result<Overlay<u32>, LoadFault> {
     let mut passing = begun(alloc, file, size, limits)?;
     pass_traces(alloc, &mut passing)?;
-    passing.finish(alloc).map_err(|refused| refused.fault())
+    finished(alloc, passing)
+}
+
+// The volume of the file whose traces are all passed.
+fn finished(alloc: Global, passing: Passing<u32>) -> Result<Overlay<u32>, LoadFault>
+    requires { HasAllTraces passing }
+{
+    match passing.finish(alloc) {
+        Ok(volume) => Ok(volume),
+        Err(refused) => Err(refused.fault()),
+    }
 }
 
 // Lays these bytes on disk under this name, and opens them.
@@ -100,19 +110,36 @@ fn loads_edits_and_saves_on_disk(rt: HostRuntime) -> Result<(), Fail> {
         alloc,
         "round.sgy",
         &mut |file: &[u8], volume: &mut Overlay<u32>| {
-            assert_eq!(rt; volume.looks(), 2);
-            expect_traces(
-                &rt,
-                volume,
-                &[part(file, 3600, 3844), part(file, 3844, 4088)],
-            )?;
-            expect_payloads(&rt, volume, &[1, 2]);
-            expect_saved(&rt, alloc, volume, &[file])?;
-            put(alloc, volume, 2, 240, &[1, 2])?;
-            put(alloc, volume, 2, 241, &[3])?;
-            expect_saved(&rt, alloc, volume, &[part(file, 0, 4084), &[1, 3, 0, 9]])
+            expect_loaded(&rt, alloc, file, volume)?;
+            expect_edited(&rt, alloc, file, volume)
         },
     )
+}
+
+// What was loaded, and a save of it.
+fn expect_loaded(
+    rt: &impl Abort,
+    alloc: Global,
+    file: &[u8],
+    volume: &mut Overlay<u32>,
+) -> Result<(), Fail> {
+    assert_eq!(rt; volume.looks(), 2);
+    let traces = [part(file, 3600, 3844), part(file, 3844, 4088)];
+    expect_traces(rt, volume, &traces)?;
+    expect_payloads(rt, volume, &[1, 2]);
+    expect_saved(rt, alloc, volume, &[file])
+}
+
+// A save of it with a put over an older one.
+fn expect_edited(
+    rt: &impl Abort,
+    alloc: Global,
+    file: &[u8],
+    volume: &mut Overlay<u32>,
+) -> Result<(), Fail> {
+    put(alloc, volume, 2, 240, &[1, 2])?;
+    put(alloc, volume, 2, 241, &[3])?;
+    expect_saved(rt, alloc, volume, &[part(file, 0, 4084), &[1, 3, 0, 9]])
 }
 
 fn fault_of(alloc: Global, file: File, size: u64, limits: Limits) -> Option<LoadFault> {

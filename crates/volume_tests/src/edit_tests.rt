@@ -305,15 +305,20 @@ fn counts_looks(rt: HostRuntime) -> Result<(), Fail> {
         rt.alloc(),
         &mut |_: &[u8], volume: &mut Overlay<u32>| {
             assert_eq!(rt; volume.looks(), 0);
-            assert!(rt; volume.look(1)?.is_some());
-            assert!(rt; volume.look(2)?.is_some());
-            assert!(rt; volume.look(2)?.is_some());
-            assert!(rt; volume.look(0)?.is_none());
-            assert!(rt; volume.look(3)?.is_none());
+            assert!(rt; has(volume, 1)?);
+            assert!(rt; has(volume, 2)?);
+            assert!(rt; has(volume, 2)?);
+            assert!(rt; !has(volume, 0)?);
+            assert!(rt; !has(volume, 3)?);
             assert_eq!(rt; volume.looks(), 3);
             Ok(())
         },
     )
+}
+
+// Whether a look at trace p shows one.
+fn has(volume: &mut Overlay<u32>, p: u32) -> Result<bool, Fail> {
+    Ok(volume.look(p)?.is_some())
 }
 
 // A put over the second trace and a new one in front are seen by looks at one trace after another.
@@ -396,15 +401,21 @@ fn loading_in_steps(rt: &impl Abort, alloc: Global, file: &[u8]) -> Result<Loadi
 {
     let limits = limits()?;
     let mut reader = Source::new(StepReader::new(file, 1, u64::MAX));
-    let loading = Loading::load(alloc, &mut reader, Reading::as_written(), limits)?;
+    let loading = Loading::load(alloc, &mut reader, Reading::as_written(), limits);
     assert_eq!(rt; reader.failures(), 0);
-    Ok(loading)
+    Ok(loading?)
+}
+
+// The volume of the file, once its traces got their payloads.
+fn loaded_in_steps(rt: &impl Abort, alloc: Global, file: &[u8]) -> Result<Overlay<u32>, Fail> {
+    let mut loading = loading_in_steps(rt, alloc, file)?;
+    give_payloads(rt, alloc, &mut loading, file)?;
+    Ok(loading.finish())
 }
 
 fn load_in_steps(rt: &impl Abort, alloc: Global, file: &[u8]) -> Result<(), Fail> {
-    let mut loading = loading_in_steps(rt, alloc, file)?;
-    give_payloads(rt, alloc, &mut loading, file)?;
-    expect_as_loaded(rt, alloc, &mut loading.finish(), file)
+    let mut loaded = loaded_in_steps(rt, alloc, file)?;
+    expect_as_loaded(rt, alloc, &mut loaded, file)
 }
 
 #[test]

@@ -84,6 +84,9 @@ fn pair(
     Ok(LiveReports::from_records(alloc, records)?)
 }
 
+// Drops the reports. The proof of that is long, so that it stands here alone.
+pub(crate) fn let_go(_reports: LiveReports) {}
+
 // Another trace stands in for the second of two.
 fn exchange_second(
     reports: &mut LiveReports,
@@ -348,7 +351,9 @@ fn counts_a_repeat(
     requires deep { deep.now.number ≡ 2 }
 {
     let mut reports = pair(alloc, old, first, second)?;
-    expect_a_repeat(rt, alloc, &mut reports, old, new, first, second, deep)
+    let answer = expect_a_repeat(rt, alloc, &mut reports, old, new, first, second, deep);
+    let_go(reports);
+    answer
 }
 
 fn expect_a_repeat(
@@ -492,7 +497,7 @@ fn counts_each_change(
     requires deep { deep.now.number ≡ 2 }
 {
     let mut reports = pair(alloc, old, first, second)?;
-    expect_each_change(
+    let answer = expect_each_change(
         rt,
         alloc,
         &mut reports,
@@ -504,7 +509,9 @@ fn counts_each_change(
         third,
         moved,
         deep,
-    )
+    );
+    let_go(reports);
+    answer
 }
 
 // The same, over the table of the records as they are at last.
@@ -575,7 +582,9 @@ fn counts_three(
     requires deep { deep.now.number ≡ 2 }
 {
     let mut reports = pair(alloc, old, first, second)?;
-    expect_three(rt, alloc, &mut reports, old, new, first, second, deep)
+    let answer = expect_three(rt, alloc, &mut reports, old, new, first, second, deep);
+    let_go(reports);
+    answer
 }
 
 fn expect_three(
@@ -642,7 +651,9 @@ fn counts_the_second_alone(
     requires second { second.now.number ≡ 2 }
 {
     let mut reports = pair(alloc, old, first, second)?;
-    expect_the_second_alone(rt, alloc, &mut reports, old, new)
+    let answer = expect_the_second_alone(rt, alloc, &mut reports, old, new);
+    let_go(reports);
+    answer
 }
 
 fn expect_the_second_alone(

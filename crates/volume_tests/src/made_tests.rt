@@ -7,6 +7,7 @@ ghost use Rattle.volume_records.specs.OfVolume.{records_of, IsOfFile};
 
 use crate::files::three_traces;
 use crate::heads::plain_head;
+use crate::live_tests::let_go;
 use crate::puts::{is_trace, may_put};
 use edit_overlay::{Loading, Overlay};
 use field_map::FieldMap;
@@ -112,8 +113,9 @@ fn recorded(
     ensures records { IfOk result (λ o. map facts_of (map record_in o.payloads) ≡
         records_of o.volume fields.now.pairs) }
 {
-    let made = with_records(alloc, loading, fields)?;
-    Ok(made.0)
+    let (volume, reports) = with_records(alloc, loading, fields)?;
+    let_go(reports);
+    Ok(volume)
 }
 
 // Asserts that the records of all three traces stand there, and that those of two are told, after a

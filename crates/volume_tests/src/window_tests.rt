@@ -74,7 +74,10 @@ fn adds_a_row_with_the_offsets_of_the_last(rt: HostRuntime) -> Result<(), Fail> 
     let below = grows(&mut window, (9, 21, 200));
     let above = grows(&mut window, (15, 21, 200));
     let second = grows(&mut window, (16, 21, 200));
-    assert_eq!(rt; (unready, other_offset, beside, below), (false, false, false, false));
+    assert_eq!(rt;
+        (unready, other_offset, beside, below),
+        (false, false, false, false)
+    );
     assert_eq!(rt; (above, second), (true, false));
     assert_eq!(rt; (window.len(), window.added_len()), (4, 2));
     assert_eq!(rt; window.place_of((10, 20, 100)), Some(0));

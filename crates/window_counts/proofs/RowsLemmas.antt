@@ -28,6 +28,10 @@ none_are low n fit small = record {
   rising = λ i j l h. absurd (omega arith);
 }
 
+-- rows can be counted
+pub rows_fit : (low : ℤ) (n : ℕ) (more : List ℤ) → AreRows low n more → n + length more ≤ 2 ^ 33
+rows_fit low n more are = let few = are.few in let small = are.small in omega arith
+
 -- what is shown where a test holds
 pub on_less : (a b : ℤ) (P : Type 0) → (a <ℤ b → P) → OnTrue (lt_z a b) P
 on_less a b P h = by (lt_z a b) (λ t. h (lt_z_yes t))

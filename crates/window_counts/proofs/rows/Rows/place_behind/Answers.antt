@@ -1,15 +1,13 @@
 use Rattle.std.proofs.Common.{◌≡◌, ◌+◌, ◌∙◌, sym, ap, subst, arith, length, option_map, Some, None, w32, rules}
 use mir.Val.{SFits}
 use Rattle.std.proofs.lemmas.Int.{to_z-of_z}
-use Rattle.window_counts.proofs.RowsLemmas.{found_at, not_found, ranks_rise}
+use Rattle.window_counts.proofs.RowsLemmas.{found_at, not_found, ranks_rise, rows_fit}
 use Rattle.window_counts.specs.Places.{index_of, AreRows}
 use Rattle.window_counts.proofs.rows.Rows.place_behind.Goals as goal
 
 pub overflow_add-result : goal.overflow_add-result
 overflow_add-result c =
-    let fit = c.args.self.now.fit in
-    let few = fit.few in
-    let small = fit.small in
+    let fit = rows_fit _ _ _ c.args.self.now.fit in
     let is = ap length c.added.ensures in
     let short = c.in-Ok.ensures.bound in
     omega arith

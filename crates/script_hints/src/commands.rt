@@ -89,21 +89,10 @@ static FORMS: [&str; 39] = [
 
 /// The form of a command, by its word: empty where the word is none.
 pub fn form(word: &[u8]) -> &'static str {
-    for form in FORMS.iter() {
-        if has_first_word(form.as_bytes(), word) {
-            return form;
+    for place in 0..COMMANDS.len() {
+        if COMMANDS[place].as_bytes() == word {
+            return FORMS[place];
         }
     }
     ""
-}
-
-// Whether a form begins with the word.
-fn has_first_word(form: &[u8], word: &[u8]) -> bool {
-    if !form.starts_with(word) {
-        return false;
-    }
-    match form.get(word.len()) {
-        Some(byte) => *byte == b' ',
-        None => true,
-    }
 }

@@ -1,7 +1,9 @@
-// Places of cells that have an offset each, worked by hand.
+// Places of cells that have an offset each, and of rows that are added, worked by hand.
 use std::alloc::{AllocError, Global};
 use std::test::Fail;
-use window_counts::{Extent, OffsetExtent, OffsetRectangle, Window};
+use window_counts::{
+    CellCounts, Extent, OffsetExtent, OffsetRectangle, Rectangle, RectangleExtent, Window,
+};
 
 // Places for so many traces in these cells, each of which is at the offset of its last one.
 fn places_of(
@@ -84,5 +86,50 @@ fn adds_a_row_with_the_offsets_of_the_last(rt: HostRuntime) -> Result<(), Fail> 
     assert_eq!(rt; window.place_of((15, 20, 100)), Some(2));
     assert_eq!(rt; window.place_of((15, 21, 200)), Some(3));
     assert_eq!(rt; window.place_of((12, 20, 100)), None);
+    Ok(())
+}
+
+// Counts of two inlines of so many crosslines from 20 on, none yet.
+fn counts_of(alloc: Global, columns: i32) -> Result<CellCounts, AllocError> {
+    let mut extent = RectangleExtent::none();
+    extent.include((10, 20));
+    extent.include((11, 19 + columns));
+    Ok(CellCounts::within(alloc, Rectangle::over(&extent, 200))?)
+}
+
+// How many places there are once the cell was counted.
+fn places_with(cells: &mut CellCounts, cell: (i32, i32)) -> Result<usize, AllocError> {
+    if cells.count(cell) < 10 {
+        cells.raise(cell)?;
+    }
+    Ok(cells.places())
+}
+
+// Rows are added for cells above the others, as many as there were at first, and not for those
+// below, between or beside them.
+#[test]
+fn counts_cells_above_in_rows(rt: HostRuntime) -> Result<(), Fail> {
+    let mut cells = counts_of(rt.alloc(), 2)?;
+    let cells = &mut cells;
+    assert_eq!(rt; cells.places(), 4);
+    assert_eq!(rt; places_with(cells, (15, 20))?, 6);
+    assert_eq!(rt; places_with(cells, (15, 21))?, 6);
+    assert_eq!(rt; places_with(cells, (18, 21))?, 8);
+    assert_eq!(rt; places_with(cells, (19, 20))?, 8);
+    assert_eq!(rt; places_with(cells, (16, 20))?, 8);
+    assert_eq!(rt; (cells.count((15, 21)), cells.count((19, 20))), (1, 1));
+    assert_eq!(rt; cells.span(), Some(((15, 20), (19, 20))));
+    Ok(())
+}
+
+// A row of 200 places with one cell is not in use, so that none follows.
+#[test]
+fn adds_no_row_behind_one_that_is_not_in_use(rt: HostRuntime) -> Result<(), Fail> {
+    let mut cells = counts_of(rt.alloc(), 200)?;
+    let cells = &mut cells;
+    assert_eq!(rt; cells.places(), 400);
+    assert_eq!(rt; places_with(cells, (15, 20))?, 600);
+    assert_eq!(rt; places_with(cells, (16, 20))?, 600);
+    assert_eq!(rt; (cells.count((15, 20)), cells.count((16, 20))), (1, 1));
     Ok(())
 }

@@ -61,6 +61,13 @@ place-own_other = refl
 pub key-own : triple_key (row_key (pos 10) 1 []) (pos 20) 2 (offset_in (pos 100 ∷ pos 200 ∷ []) (pos 0)) 1 ≡ (pos 10, pos 21, pos 200)
 key-own = refl
 
+-- with inline 50 behind them: its crosslines have places 2 and 3, at the offsets of those of inline 10
+pub place-added : triple_place (row_place (pos 10) 1 (pos 50 ∷ [])) (pos 20) 2 (λ p. offset_in (pos 100 ∷ pos 200 ∷ []) (pos 0) (place_below 1 2 p)) (pos 50, pos 21, pos 200) ≡ Some 3
+place-added = refl
+
+pub key-added : triple_key (row_key (pos 10) 1 (pos 50 ∷ [])) (pos 20) 2 (λ p. offset_in (pos 100 ∷ pos 200 ∷ []) (pos 0) (place_below 1 2 p)) 2 ≡ (pos 50, pos 20, pos 100)
+key-added = refl
+
 -- no trace at 10, two at 11 and one at 12
 pub entries-line : entries (interval_key (pos 10)) (0 ∷ 2 ∷ 1 ∷ []) ≡ (pos 11, 2) ∷ (pos 12, 1) ∷ []
 entries-line = refl

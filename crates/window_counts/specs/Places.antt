@@ -27,7 +27,7 @@ abbrev pub index_of : List ℤ → ℤ → Option ℕ
 index_of [] k = None
 index_of (x ∷ xs) k = if int_eq x k then Some 0 else option_map suc (index_of xs k)
 
--- the first place, or else the other one behind so many
+-- a place among so many, or else one counted on behind them
 abbrev pub or_behind : ℕ → Option ℕ → Option ℕ → Option ℕ
 or_behind n (Some p) other = Some p
 or_behind n None other = option_map (λ i. n + i) other
@@ -40,7 +40,7 @@ row_place low n more k = or_behind n (interval_place low n k) (index_of more k)
 abbrev pub row_key : ℤ → ℕ → List ℤ → ℕ → ℤ
 row_key low n more p = if nat_lt p n then interval_key low p else get_or more (p - n) (pos 0)
 
--- those behind are above the others, and rise; they are at most as many
+-- all are whole numbers of 32 bits; those behind are above the others, and rise; they are at most as many
 pub record AreRows (low : ℤ) (n : ℕ) (more : List ℤ) : Type 0 where
   pub fit : (low +ℤ pos n) ≤ℤ pos (2 ^ 31)
   pub small : n ≤ 2 ^ 32
@@ -100,7 +100,7 @@ triple_cmp a b = ordering_then (ordering_then (int_cmp a.0 b.0) (int_cmp a.1 b.1
 abbrev pub offset_in : List ℤ → ℤ → ℕ → ℤ
 offset_in own o p = unwrap_or (slice_get own p) o
 
--- a place itself among so many rows, and behind them the one in its column of the last of them
+-- where the offset of a place is kept: at the place itself among the first rows, and behind them in its column of the last of these
 abbrev pub place_below : ℕ → ℕ → ℕ → ℕ
 place_below rows w p = if nat_lt p (rows * w) then p else (rows - 1) * w + p % w
 

@@ -14,7 +14,6 @@ pub struct Interval {
 }
 
 impl Window<i32> for Interval {
-    ghost use Rattle.std.specs.Prelude.{⊤};
     ghost use Rattle.window_counts.specs.Places.{interval_place, interval_key};
     ghost use Rattle.window_counts.specs.PlaceLaws.{interval_placed};
 
@@ -28,7 +27,7 @@ impl Window<i32> for Interval {
 
     ghost row = { λ w. 0 };
 
-    ghost CanGrow = { λ w k. ⊤ };
+    ghost CanGrow = { λ w k. ⊥ };
 
     fn none() -> Interval {
         Interval {
@@ -123,7 +122,8 @@ impl IntervalExtent {
 }
 
 // Whether so many places are at most 2 for each of so many keys, and 1,024: they then take no more
-// memory than counts in order, but for 8 KiB, or 12 where each cell has an offset of its own.
+// memory than counts in order, but for 8 KiB, or 12 where each cell has an offset of its own. Rows
+// that are added later may take as much once more.
 pub(crate) fn is_dense(places: usize, keys: usize) -> bool {
     places / 2 <= keys.saturating_add(512)
 }

@@ -130,7 +130,7 @@ impl Window<(i32, i32, i32)> for OffsetRectangle {
     }
 
     fn prepare(&mut self, alloc: Global) {
-        self.cells.prepare(alloc);
+        self.cells.prepare_rows(alloc);
     }
 
     fn can_grow(&self, key: (i32, i32, i32)) -> bool {

@@ -32,6 +32,17 @@ impl Rectangle {
         }
     }
 
+    // Makes room for the inlines of rows that are added.
+    pub(crate) fn prepare_rows(&mut self, alloc: Global)
+        ensures lowest { self.new.rows.lowest ≡ self.old.rows.lowest }
+        ensures count { self.new.rows.count ≡ self.old.rows.count }
+        ensures added { numbers_in self.new.rows.added ≡ numbers_in self.old.rows.added }
+        ensures crossline { self.new.crossline ≡ self.old.crossline }
+        ensures columns { self.new.columns ≡ self.old.columns }
+    {
+        self.rows.prepare(alloc);
+    }
+
     // Adds a row behind the others.
     pub(crate) fn add_row(&mut self, inline: i32)
         requires can { CanAdd self.old.rows.lowest self.old.rows.count self.old.rows.added inline }
@@ -107,7 +118,7 @@ impl Window<(i32, i32)> for Rectangle {
     }
 
     fn prepare(&mut self, alloc: Global) {
-        self.rows.prepare(alloc);
+        self.prepare_rows(alloc);
     }
 
     fn can_grow(&self, key: (i32, i32)) -> bool {

@@ -22,7 +22,7 @@ pub trait Window<K: Copy + Ord>: Drop {
     // How many places a row has.
     ghost row: { Self → ℕ };
 
-    // A row that has a place for the key can be added.
+    // A row can be added for the key and those that stand in one row with it.
     ghost CanGrow: { Self → K → Type 0 };
 
     /// No place. Takes no memory.
@@ -42,11 +42,15 @@ pub trait Window<K: Copy + Ord>: Drop {
     fn place_of(&self, key: K) -> Option<usize>
         ensures { result ≡ place self.now key };
 
-    /// Makes ready for rows to be added. Takes memory; where it is refused, none can be.
-    fn prepare(&mut self, alloc: Global);
+    /// Makes ready for rows to be added. Takes 4 bytes of memory a row; where they are refused, none
+    /// can be.
+    fn prepare(&mut self, alloc: Global)
+        ensures size { size self.new ≡ size self.old }
+        ensures keys { (p : ℕ) → key_of self.new p ≡ key_of self.old p };
 
-    /// Whether a row that has a place for the key can be added behind the others: at most as many
-    /// are as there were at first. Takes no memory.
+    /// Whether a row for the key is to be added behind the others: the key lies above them, in a
+    /// place of such a row, and fewer rows were added than there were at first. What it answers
+    /// costs time and memory, and changes no number. Takes no memory.
     fn can_grow(&self, key: K) -> bool
         ensures { OnTrue result (CanGrow self.now key) };
 

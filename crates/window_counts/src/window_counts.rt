@@ -67,9 +67,9 @@ impl<K: Copy + Ord, W: Window<K>> WindowCounts<K, W> {
         })
     }
 
-    // Adds a row of places that has one for the key, where the window can grow so, the rows that
-    // were added are in use, and no key is outside, where it might lie in the new row. Where memory
-    // is refused, the key stays outside.
+    // Adds a row of places for a key above all others, where the window can grow so, the row that
+    // was added last is in use, and no key is outside, where it might lie in the new row. Where
+    // memory is refused, the key stays outside.
     fn make_room(&mut self, key: K)
         ensures { self.new ≡ self.old }
     {
@@ -82,10 +82,11 @@ impl<K: Copy + Ord, W: Window<K>> WindowCounts<K, W> {
         }
     }
 
-    // Whether at least half of the places that were added have a key.
+    // Whether about half of the places in the row that was added last have a key. One row is looked
+    // at, so that a survey of many rows costs as many looks as it has places.
     fn is_in_use(&self) -> bool {
-        let added = self.window.added_len();
-        added / 2 <= self.slots.held_in_last(added)
+        let places = usize::min(self.window.added_len(), self.window.row_len());
+        places as u64 / 2 <= self.slots.held_in_last(places)
     }
 
     /// How often each of these keys occurs among them. A window has a place for each where they lie
@@ -129,6 +130,11 @@ impl<K: Copy + Ord, W: Window<K>> WindowCounts<K, W> {
         Ok(())
     }
 
+    /// How many places the window has, those of added rows among them. Takes no memory.
+    pub fn places(&self) -> usize {
+        self.window.len()
+    }
+
     /// The number at the key, 0 where it has none. Takes no memory.
     pub fn count(&self, key: K) -> u64
         ensures { result ≡ count_of K.cmp self.now key }
@@ -139,8 +145,10 @@ impl<K: Copy + Ord, W: Window<K>> WindowCounts<K, W> {
         }
     }
 
-    /// Counts the key once more. Takes memory for a key outside the window that is not held, and
-    /// leaves all as it was where the growth is refused.
+    /// Counts the key once more. Takes memory for a key that is not held and has no place, and
+    /// leaves all as it was where the growth is refused. For a key above a rectangle it may take
+    /// memory for a row of places, or for as many as there are; where that is refused, the key is
+    /// counted outside.
     pub fn raise(&mut self, key: K) -> Result<(), OutOfMemory>
         requires { count_of K.cmp self.old key + 1 < 2 ^ 64 }
         ensures ok { OnOk result (HasOneMore K.cmp self.old self.new key) }

@@ -89,16 +89,16 @@ fn adds_a_row_with_the_offsets_of_the_last(rt: HostRuntime) -> Result<(), Fail> 
     Ok(())
 }
 
-// Counts of two inlines of so many crosslines from 20 on, none yet.
-fn counts_of(alloc: Global, columns: i32) -> Result<CellCounts, AllocError> {
+// Counts of two inlines of the crosslines from 20 to the last, none yet.
+fn counts_of(alloc: Global, last: i32) -> Result<CellCounts, Fail> {
     let mut extent = RectangleExtent::none();
     extent.include((10, 20));
-    extent.include((11, 19 + columns));
+    extent.include((11, last));
     Ok(CellCounts::within(alloc, Rectangle::over(&extent, 200))?)
 }
 
 // How many places there are once the cell was counted.
-fn places_with(cells: &mut CellCounts, cell: (i32, i32)) -> Result<usize, AllocError> {
+fn places_with(cells: &mut CellCounts, cell: (i32, i32)) -> Result<usize, Fail> {
     if cells.count(cell) < 10 {
         cells.raise(cell)?;
     }
@@ -109,7 +109,7 @@ fn places_with(cells: &mut CellCounts, cell: (i32, i32)) -> Result<usize, AllocE
 // below, between or beside them.
 #[test]
 fn counts_cells_above_in_rows(rt: HostRuntime) -> Result<(), Fail> {
-    let mut cells = counts_of(rt.alloc(), 2)?;
+    let mut cells = counts_of(rt.alloc(), 21)?;
     let cells = &mut cells;
     assert_eq!(rt; cells.places(), 4);
     assert_eq!(rt; places_with(cells, (15, 20))?, 6);
@@ -125,7 +125,7 @@ fn counts_cells_above_in_rows(rt: HostRuntime) -> Result<(), Fail> {
 // A row of 200 places with one cell is not in use, so that none follows.
 #[test]
 fn adds_no_row_behind_one_that_is_not_in_use(rt: HostRuntime) -> Result<(), Fail> {
-    let mut cells = counts_of(rt.alloc(), 200)?;
+    let mut cells = counts_of(rt.alloc(), 219)?;
     let cells = &mut cells;
     assert_eq!(rt; cells.places(), 400);
     assert_eq!(rt; places_with(cells, (15, 20))?, 600);

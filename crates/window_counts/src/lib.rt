@@ -4,14 +4,14 @@
 //! a `Rectangle` of inlines and crosslines, or an `OffsetRectangle` of them, each at one offset.
 //!
 //! A key above all of a rectangle may get a row of places behind the others, so that a survey that
-//! is renumbered upwards, line by line, is counted in places too: at most as many rows as there were
-//! at first, each once about half of the one before is in use, and while no key is outside. Its row
-//! is found by a search by halves.
+//! is renumbered upwards, line by line, is counted in places too: at most as many rows as there
+//! were at first, each once about half of the one before is in use, and while no key is outside.
+//! Its row is found by a search by halves.
 //!
 //! `raise` takes memory only for a key that is not held, and leaves all as it was where a growth is
-//! refused, but that a row may be added or not; `from_keys`, `within` and `prepare` take it for what
-//! they make, `OffsetRectangle::by_cell` for the offsets of its cells, and `list` for the list. No
-//! other call takes memory.
+//! refused, but that a row may be added or not; `from_keys`, `within` and `prepare` take it for
+//! what they make, `OffsetRectangle::by_cell` for the offsets of its cells, and `list` for the
+//! list. No other call takes memory.
 #![tactic(auto)]
 
 mod interval;

@@ -42,8 +42,8 @@ pub trait Window<K: Copy + Ord>: Drop {
     fn place_of(&self, key: K) -> Option<usize>
         ensures { result ≡ place self.now key };
 
-    /// Makes ready for rows to be added. Takes 4 bytes of memory a row; where they are refused, none
-    /// can be.
+    /// Makes ready for rows to be added. Takes 4 bytes of memory a row; where they are refused,
+    /// none can be.
     fn prepare(&mut self, alloc: Global)
         ensures size { size self.new ≡ size self.old }
         ensures keys { (p : ℕ) → key_of self.new p ≡ key_of self.old p };

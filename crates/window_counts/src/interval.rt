@@ -14,6 +14,7 @@ pub struct Interval {
 }
 
 impl Window<i32> for Interval {
+    ghost use Rattle.std.specs.Prelude.{⊤};
     ghost use Rattle.window_counts.specs.Places.{interval_place, interval_key};
     ghost use Rattle.window_counts.specs.PlaceLaws.{interval_placed};
 
@@ -27,7 +28,8 @@ impl Window<i32> for Interval {
 
     ghost row = { λ w. 0 };
 
-    ghost CanGrow = { λ w k. ⊥ };
+    // A row of an interval has no place, so that one more changes nothing.
+    ghost CanGrow = { λ w k. ⊤ };
 
     fn none() -> Interval {
         Interval {

@@ -1,13 +1,13 @@
 # For use, without any toolchain:
 #   make demo       the first job on a sample file, with the shipped program
 #   make install    the program, its tools for pictures, its man pages and completions, under PREFIX (and DESTDIR); make uninstall takes them away
-#   make quick      the end-to-end tests, in a minute or two
+#   make quick      the end-to-end tests, in a few minutes
 #   make python     the tests of the Python package
 #   make desk       the tests of the desk, in a browser
 # With the Rattle kit (the command rt on the PATH):
 #   make build      proves and builds the program from the sources
 #   make test       the whole gate: every proof from nothing, the must-fail edits, then the end-to-end runs
-#   make bench      the speed, as ratios to cp and md5sum
+#   make speed      the speed, as ratios to cp and md5sum
 #   make dist       the program that was built becomes the shipped one
 # demo, install, quick, python and desk take the shipped program, or the one that PROGRAM=.. names.
 SHIPPED = dist/segywb-x86_64-linux
@@ -19,7 +19,7 @@ DESTDIR ?=
 INTO = $(DESTDIR)$(PREFIX)
 TOOLS = segywb-plot segywb-report segywb-desk
 
-.PHONY: help demo quick python desk install uninstall build test dist bench pages program
+.PHONY: help demo quick python desk install uninstall build test dist speed pages program
 
 help:
 	@sed -n '/^#/s/^# *//p; /^SHIPPED/q' Makefile
@@ -92,7 +92,7 @@ uninstall:
 
 # Speed: the program as ratios to cp and md5sum of the same file in the same run: the jobs of a repair, loads and saves, reports,
 # slices, renumberings, headers, a volume on disk, Python, the desk, and the order of traces at three sizes.
-bench: build
+speed: build
 	cd crates/timings && { rt run > out.log 2>&1 || true; }
 	bash speed/jobs $(BUILT)
 	bash speed/run $(BUILT) $(TIMINGS)

@@ -2,7 +2,6 @@ ghost use Rattle.std.specs.Prelude.{◌≡◌, ◌≤◌, true, false, length, I
 ghost use Rattle.std.specs.Io.KnownBytes.{Consumes, IsAtEnd};
 ghost use Rattle.field_map.specs.Binding.{geometry_at_load, HasGeometry};
 ghost use Rattle.frame_cut.specs.Cuts.{IsCut};
-ghost use Rattle.frame_cut.specs.Traces.{count_of};
 ghost use Rattle.frame_cut.specs.Volume.{bytes_of};
 ghost use Rattle.edit_overlay.specs.CountedVolume.{RisesAtMost};
 ghost use Rattle.edit_overlay.specs.PassedFile.{IsPassFault};
@@ -12,7 +11,8 @@ ghost use Rattle.live_volume.specs.Held.{IsReadAs};
 ghost use Rattle.bench_rules.specs.declared.query.Query.TheVariants as queries;
 ghost use Rattle.bench_rules.specs.Answer.{IsReply};
 ghost use Rattle.bench_rules.specs.Kept.{is_kept, kept_after_load, kept_after_edit, kept_after_query};
-ghost use Rattle.bench_rules.specs.Live.{IsGridOf, AreRangesOf, AreTotalsOf, AreTriplesOf, kept_after_reply};
+ghost use Rattle.bench_core.specs.Lent.{volume_of};
+ghost use Rattle.bench_rules.specs.Live.{kept_after_reply};
 ghost use Rattle.bench_rules.specs.Looks.{load_looks, edit_looks, query_looks};
 ghost use Rattle.bench_rules.specs.Steps.{Step};
 
@@ -20,11 +20,8 @@ use crate::changes::{change, follow, no_slices};
 use bench_rules::{Answer, AskFault, Edit, Items, Query, Refusal};
 use device_io::{Sink, Source};
 use edit_overlay::{PassFault, SaveFault};
-use fault_live::Faults;
 use frame_cut::{Limits, LoadFault, Reading};
-use grid_live::Grid;
 use live_volume::LiveVolume;
-use range_stats::{Ranges, Totals};
 use std::alloc::Global;
 use std::fs::File;
 use std::io::{Read, Write};
@@ -213,36 +210,13 @@ impl Bench {
         self.slices.cached(k)
     }
 
-    /// The grid, which has counted the traces as they are now. Takes no memory and looks at none.
-    /// Claimed, as of the next three, where each read of the loaded bytes agreed.
-    pub fn grid(&self) -> &Grid
-        ensures { IsTrue self.now.agreed → IsGridOf self.now.state result.now }
+    /// The volume, which lends its reports (`grid`, `ranges`, `totals`, `triples`), and tells how
+    /// many traces (`count`) and bytes (`length`) it has, and how often traces were looked at
+    /// (`looks`). Takes no memory and looks at no trace.
+    pub fn volume(&self) -> &LiveVolume
+        ensures { result.now ≡ volume_of self.now }
     {
-        self.volume.grid()
-    }
-
-    /// The ranges, which have counted the traces as they are now. Takes no memory and looks at
-    /// none.
-    pub fn ranges(&self) -> &Ranges
-        ensures { IsTrue self.now.agreed → AreRangesOf self.now.state result.now }
-    {
-        self.volume.ranges()
-    }
-
-    /// The totals, which have counted the traces as they are now. Takes no memory and looks at
-    /// none.
-    pub fn totals(&self) -> &Totals
-        ensures { IsTrue self.now.agreed → AreTotalsOf self.now.state result.now }
-    {
-        self.volume.totals()
-    }
-
-    /// How often inline, crossline and offset stand together in the traces as they are now. Takes
-    /// no memory and looks at none.
-    pub fn triples(&self) -> &Faults
-        ensures { IsTrue self.now.agreed → AreTriplesOf self.now.state result.now }
-    {
-        self.volume.triples()
+        &self.volume
     }
 
     /// Writes the file as it is now. Refused where the writer failed, or on disk where a read of
@@ -261,27 +235,5 @@ impl Bench {
         ensures kept { self.new.kept ≡ self.old.kept }
     {
         self.volume.save(writer)
-    }
-
-    /// The number of traces.
-    pub fn count(&self) -> u32
-        ensures { result ≡ count_of self.now.state.volume }
-    {
-        self.volume.count()
-    }
-
-    /// How often traces were looked at since the file was loaded; stays at `u64::MAX` once there.
-    /// Takes no memory.
-    pub fn looks(&self) -> u64
-        ensures { result ≡ self.now.looks }
-    {
-        self.volume.looks()
-    }
-
-    /// The file's length in bytes.
-    pub fn length(&self) -> u64
-        ensures { result ≡ length (bytes_of self.now.state.volume) }
-    {
-        self.volume.length()
     }
 }

@@ -6,9 +6,9 @@
 //! bytes in a header from 1, samples of a trace from 0. A refused edit or query leaves the state
 //! and the kept slices as they are.
 //!
-//! A bench holds a volume whose reports follow each edit (`live_volume`), and beside it the last 8
-//! slices that were asked. A slice stays kept as long as no edit can have changed it, and is then
-//! answered without a look at any trace.
+//! A bench holds a volume whose reports follow each edit, which it lends (`live_volume`), and
+//! beside it the last 8 slices that were asked. A slice stays kept as long as no edit can have
+//! changed it, and is then answered without a look at any trace.
 //!
 //! `load` takes memory for the file's bytes, the list of its traces, the six geometry names, the
 //! records with what has counted them, and room for kept slices; `apply` for `Set`, `Map`,

@@ -55,9 +55,9 @@ fn computes_sequence(bench: &mut Bench, alloc: Global) -> bool {
         (Operator::Times, 10),
         (Operator::Modulo, 7),
     ];
-    let before = bench.looks();
+    let before = bench.volume().looks();
     let is_done = computes(bench, alloc, (1, 3), signed(0, 1, 4), &steps, None);
-    is_done && bench.looks().checked_sub(before) <= Some(6)
+    is_done && bench.volume().looks().checked_sub(before) <= Some(6)
 }
 
 fn compute_sequence(rt: &impl Abort, alloc: Global, bench: &mut Bench) {
@@ -153,9 +153,9 @@ fn refuses_name(bench: &mut Bench, alloc: Global) -> bool {
 }
 
 fn refuse_names(rt: &impl Abort, alloc: Global, bench: &mut Bench) {
-    let before = bench.looks();
+    let before = bench.volume().looks();
     assert!(rt; refuses_name(bench, alloc));
-    assert_eq!(rt; bench.looks(), before);
+    assert_eq!(rt; bench.volume().looks(), before);
 }
 
 // A name that is not there is told before any trace is looked at.

@@ -86,12 +86,12 @@ fn saves_with(bench: &mut Bench, alloc: Global, bytes: &[u8], at: usize, byte: u
 }
 
 fn edit_and_save(rt: &impl Abort, alloc: Global, file: &[u8], bench: &mut Bench) {
-    assert_eq!(rt; bench.count(), 3);
-    assert_eq!(rt; bench.looks(), 3);
+    assert_eq!(rt; bench.volume().count(), 3);
+    assert_eq!(rt; bench.volume().looks(), 3);
     assert!(rt; has(bench, alloc, 3, inline(), 10));
-    let looks = bench.looks();
+    let looks = bench.volume().looks();
     assert!(rt; meets(bench, alloc, Edit::Set(2, inline(), 7), None));
-    assert_eq!(rt; bench.looks(), looks);
+    assert_eq!(rt; bench.volume().looks(), looks);
     assert!(rt; has(bench, alloc, 2, inline(), 7));
     assert!(rt; saves_with(bench, alloc, file, 4035, 7));
 }

@@ -98,12 +98,12 @@ fn finds(bench: &mut Bench, alloc: Global, (low, high): (i128, i128), expected: 
 }
 
 fn ask_before(rt: &impl Abort, alloc: Global, bench: &mut Bench) {
-    let looks = bench.looks();
+    let looks = bench.volume().looks();
     assert!(rt; tabulates(bench, alloc));
-    assert!(rt; bench.looks().checked_sub(looks) == Some(2));
+    assert!(rt; bench.volume().looks().checked_sub(looks) == Some(2));
     assert!(rt; finds(bench, alloc, (22, 1 << 100), &[2, 3]));
     assert!(rt; finds(bench, alloc, (23, 22), &[]));
-    assert!(rt; bench.looks().checked_sub(looks) == Some(8));
+    assert!(rt; bench.volume().looks().checked_sub(looks) == Some(8));
     assert!(rt; heads(bench, alloc, "crossline_number", Some(22)));
     assert!(rt; heads(bench, alloc, "ext_count", None));
     assert!(rt; spans(bench, alloc, "day", None));

@@ -12,10 +12,10 @@ use std::test::Fail;
 
 fn count_up(rt: &impl Abort, alloc: Global, bench: &mut Bench) {
     assert!(rt; is_answered(bench, alloc, Query::Slice(0)));
-    let before = bench.looks();
+    let before = bench.volume().looks();
     let sequence = renumber(1, 3, signed(0, 1, 4), 7, -2);
     assert!(rt; meets(bench, alloc, sequence, None));
-    assert_eq!(rt; bench.looks(), before);
+    assert_eq!(rt; bench.volume().looks(), before);
     assert!(rt; bench.cached(0));
     assert!(rt; has(bench, alloc, 3, signed(0, 1, 4), 3));
     let inlines = renumber(1, 3, signed(0, 189, 4), 10, 1);
@@ -34,11 +34,11 @@ fn a_field_is_counted_up(rt: HostRuntime) -> Result<(), Fail> {
 
 // How many looks a set of a signed number of trace 2 takes, of so many bytes from this one on.
 fn looks_for_set(bench: &mut Bench, alloc: Global, byte: u16, size: u8) -> Option<u64> {
-    let before = bench.looks();
+    let before = bench.volume().looks();
     if !meets(bench, alloc, Edit::Set(2, signed(0, byte, size), 7), None) {
         return None;
     }
-    bench.looks().checked_sub(before)
+    bench.volume().looks().checked_sub(before)
 }
 
 fn set_numbers(rt: &impl Abort, alloc: Global, bench: &mut Bench) {
@@ -73,12 +73,12 @@ fn refuse_whole(rt: &impl Abort, alloc: Global, bench: &mut Bench) {
     let wide = renumber(1, 3, signed(0, 189, 4), 2147483646, 1);
     assert!(rt; meets(bench, alloc, wide, Some(Refusal::DoesNotFit)));
     assert!(rt; has(bench, alloc, 1, signed(0, 189, 4), 10));
-    let before = bench.looks();
+    let before = bench.volume().looks();
     let past = renumber(2, 4, signed(0, 189, 4), 1, 1);
     assert!(rt; meets(bench, alloc, past, Some(Refusal::NoTrace(4, 3))));
     let turned = renumber(2, 1, signed(0, 189, 4), 1, 1);
     assert!(rt; meets(bench, alloc, turned, Some(Refusal::NoTrace(1, 3))));
-    assert_eq!(rt; bench.looks(), before);
+    assert_eq!(rt; bench.volume().looks(), before);
 }
 
 // Where the last value alone does not fit nothing is changed; a range that is none costs no look.
@@ -93,9 +93,9 @@ fn a_refused_count_changes_nothing(rt: HostRuntime) -> Result<(), Fail> {
 
 // Whether trace 2 gets three samples in two looks at most.
 fn resizes(bench: &mut Bench, alloc: Global) -> bool {
-    let before = bench.looks();
+    let before = bench.volume().looks();
     let is_done = meets(bench, alloc, Edit::Resize(2, 3), None);
-    is_done && bench.looks().checked_sub(before) <= Some(2)
+    is_done && bench.volume().looks().checked_sub(before) <= Some(2)
 }
 
 fn resize_one(rt: &impl Abort, alloc: Global, bench: &mut Bench) {
@@ -106,7 +106,7 @@ fn resize_one(rt: &impl Abort, alloc: Global, bench: &mut Bench) {
     assert!(rt; shows(bench, alloc, 2, 1, 9));
     assert!(rt; shows(bench, alloc, 2, 2, 0));
     assert!(rt; has(bench, alloc, 2, signed(0, 115, 2), 3));
-    assert_eq!(rt; bench.length(), 4334);
+    assert_eq!(rt; bench.volume().length(), 4334);
     let empty = Some(Refusal::DoesNotFit);
     assert!(rt; meets(bench, alloc, Edit::Resize(2, 0), empty));
     assert!(rt; meets(bench, alloc, Edit::Resize(2, 4), Some(Refusal::TooLarge)));

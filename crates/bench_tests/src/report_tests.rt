@@ -48,7 +48,7 @@ fn is_fold(asked: &Result<Answer, AskFault>, expected: u64) -> bool {
 
 // Whether so many traces lie in the cell, by the query and by the grid that is lent.
 fn folds(bench: &mut Bench, alloc: Global, cell: (i128, i128), expected: u64) -> bool {
-    let lent = bench.grid().fold(cell.0, cell.1);
+    let lent = bench.volume().grid().fold(cell.0, cell.1);
     let asked = bench.ask(alloc, &Query::Fold(cell.0, cell.1));
     lent == expected && is_fold(&asked, expected)
 }
@@ -158,7 +158,7 @@ fn edit_with_reports(rt: &impl Abort, alloc: Global, bench: &mut Bench) {
     assert!(rt; meets(bench, alloc, Edit::Set(2, signed(0, 189, 4), 11), None));
     assert!(rt; folds(bench, alloc, (11, 22), 1));
     assert!(rt; folds(bench, alloc, (10, 22), 0));
-    assert_eq!(rt; bench.totals().number(), 6);
+    assert_eq!(rt; bench.volume().totals().number(), 6);
     assert!(rt; meets(bench, alloc, Edit::Copy(2, 1), None));
     assert!(rt; folds(bench, alloc, (11, 22), 2));
     assert!(rt; meets(bench, alloc, Edit::Blank(5), None));
@@ -167,7 +167,7 @@ fn edit_with_reports(rt: &impl Abort, alloc: Global, bench: &mut Bench) {
 }
 
 fn undo_with_reports(rt: &impl Abort, alloc: Global, bench: &mut Bench) {
-    let looks = bench.looks();
+    let looks = bench.volume().looks();
     assert!(rt; meets(bench, alloc, Edit::Delete(5), None));
     assert!(rt; meets(bench, alloc, Edit::Delete(4), None));
     assert!(rt; meets(bench, alloc, Edit::Delete(1), None));
@@ -175,7 +175,7 @@ fn undo_with_reports(rt: &impl Abort, alloc: Global, bench: &mut Bench) {
     assert!(rt; sums_all(bench, alloc, [-2, 4, 6, 4]));
     assert!(rt; sums(bench, alloc, 2, [-2, 1, -1, 2]));
     assert!(rt; lists(bench, alloc, Query::Inlines, 2));
-    assert_eq!(rt; bench.looks(), looks);
+    assert_eq!(rt; bench.volume().looks(), looks);
 }
 
 fn edit_and_undo(rt: &impl Abort, alloc: Global, bench: &mut Bench) {
@@ -209,11 +209,11 @@ fn binds_inline(bench: &mut Bench, alloc: Global) -> bool {
 }
 
 fn bind_inline_anew(rt: &impl Abort, alloc: Global, bench: &mut Bench) {
-    let looks = bench.looks();
+    let looks = bench.volume().looks();
     assert!(rt; binds_inline(bench, alloc));
     assert!(rt; folds(bench, alloc, (22, 22), 1));
     assert!(rt; lists(bench, alloc, Query::Inlines, 3));
-    assert!(rt; bench.looks() <= looks.saturating_add(3));
+    assert!(rt; bench.volume().looks() <= looks.saturating_add(3));
 }
 
 #[test]

@@ -19,9 +19,9 @@ fn rows(asked: &Result<Answer, AskFault>) -> Option<usize> {
 
 // How many looks the answer to slice k takes, where it has so many rows.
 fn looks_for(bench: &mut Bench, alloc: Global, k: u32, expected: usize) -> Option<u64> {
-    let before = bench.looks();
+    let before = bench.volume().looks();
     let found = rows(&bench.ask(alloc, &Query::Slice(k)));
-    let looks = bench.looks().checked_sub(before);
+    let looks = bench.volume().looks().checked_sub(before);
     if found == Some(expected) { looks } else { None }
 }
 
@@ -124,9 +124,9 @@ fn bound_offset(alloc: Global) -> Result<Edit, AllocError> {
 fn forgets(bench: &mut Bench, alloc: Global, edit: Edit) -> bool {
     let is_answered = is_answered(bench, alloc, Query::Slice(1));
     let is_kept = bench.cached(1);
-    let before = bench.looks();
+    let before = bench.volume().looks();
     let is_done = meets(bench, alloc, edit, None);
-    let is_cheap = bench.looks().checked_sub(before) <= Some(3);
+    let is_cheap = bench.volume().looks().checked_sub(before) <= Some(3);
     is_answered && is_kept && is_done && is_cheap && !bench.cached(1)
 }
 

@@ -47,9 +47,9 @@ fn stand(bench: &mut Bench, alloc: Global, crosslines: [i128; 3]) -> bool {
 
 // Whether the traces are put in the order of falling crosslines, with a look at each at most.
 fn sorts_falling(bench: &mut Bench, alloc: Global) -> bool {
-    let before = bench.looks();
+    let before = bench.volume().looks();
     let is_done = sorts(bench, alloc, (1, 3), &[(193, true)], None);
-    is_done && bench.looks().checked_sub(before) <= Some(3)
+    is_done && bench.volume().looks().checked_sub(before) <= Some(3)
 }
 
 fn sort_and_back(rt: &impl Abort, alloc: Global, bench: &mut Bench) {
@@ -110,9 +110,9 @@ fn refuse_ranges(rt: &impl Abort, alloc: Global, bench: &mut Bench) {
 fn refuse_each(rt: &impl Abort, alloc: Global, bench: &mut Bench) {
     assert!(rt; is_answered(bench, alloc, Query::Slice(0)));
     refuse_ranges(rt, alloc, bench);
-    let before = bench.looks();
+    let before = bench.volume().looks();
     assert!(rt; refuses_name(bench, alloc));
-    assert_eq!(rt; bench.looks(), before);
+    assert_eq!(rt; bench.volume().looks(), before);
     assert!(rt; bench.cached(0));
     assert!(rt; stand(bench, alloc, [21, 22, 23]));
 }

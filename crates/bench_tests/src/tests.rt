@@ -200,8 +200,8 @@ fn saves_with(bench: &mut Bench, alloc: Global, bytes: &[(usize, u8)]) -> bool {
 }
 
 fn set_and_get(rt: &impl Abort, alloc: Global, bench: &mut Bench) {
-    assert_eq!(rt; bench.count(), 3);
-    assert_eq!(rt; bench.length(), 4332);
+    assert_eq!(rt; bench.volume().count(), 3);
+    assert_eq!(rt; bench.volume().length(), 4332);
     assert!(rt; meets(bench, alloc, Edit::Set(2, signed(0, 189, 4), 7), None));
     assert!(rt; has(bench, alloc, 2, signed(0, 189, 4), 7));
     assert!(rt; has(bench, alloc, 1, signed(0, 189, 4), 10));
@@ -344,13 +344,14 @@ fn a_set_under_a_fixed_length_moves_no_end(rt: HostRuntime) -> Result<(), Fail> 
 
 fn save_to_a_failing_writer(rt: &impl Abort, bench: &mut Bench, file: &[u8]) {
     let mut room = [0u8; 4332];
-    let mut writer = Sink::new(StepWriter::new(&mut room, 1, 4000));
+    let mut writer = Sink::new(StepWriter::new(&mut room, 7, 4000));
     let saved = bench.save(&mut writer).err();
     let expected = SaveFault {
         written: 4000,
         read: None,
     };
     assert_eq!(rt; saved, Some(expected));
+    assert_eq!(rt; writer.failures(), 1);
     let _writer = writer.into_inner();
     assert!(rt; begins_alike(&room, file, 4000));
 }
@@ -360,6 +361,7 @@ fn save_twice(rt: &impl Abort, alloc: Global, bench: &mut Bench, file: &[u8]) {
     assert!(rt; saves(bench, alloc, file));
 }
 
+// A writer that fails is told of with the bytes that it took, and no read; the next save has all.
 #[test]
 fn names_the_bytes_that_a_failing_writer_took(rt: HostRuntime) -> Result<(), Fail> {
     let alloc = rt.alloc();

@@ -49,7 +49,7 @@ fn lie_on(bench: &mut Bench, alloc: Global, inlines: &[i128]) -> bool {
         }
         p = p.saturating_add(1);
     }
-    bench.count() as usize == inlines.len()
+    bench.volume().count() as usize == inlines.len()
 }
 
 fn put_three_values(rt: &impl Abort, alloc: Global, bench: &mut Bench) {
@@ -215,7 +215,7 @@ fn tells_a_sample_behind_the_last(rt: HostRuntime) -> Result<(), Fail> {
 
 fn put_blanks_in(rt: &impl Abort, alloc: Global, bench: &mut Bench) {
     assert!(rt; meets(bench, alloc, Edit::Blank(4), None));
-    assert_eq!(rt; bench.length(), 4332 + 244);
+    assert_eq!(rt; bench.volume().length(), 4332 + 244);
     assert!(rt; lie_on(bench, alloc, &[1, 2, 3, 0]));
     assert!(rt; meets(bench, alloc, Edit::Blank(2), None));
     assert!(rt; lie_on(bench, alloc, &[1, 0, 2, 3, 0]));
@@ -249,9 +249,9 @@ fn on_extended(alloc: Global, ask: &mut dyn FnMut(&mut Bench)) -> Result<(), Fai
 }
 
 fn put_a_long_blank_in(rt: &impl Abort, alloc: Global, bench: &mut Bench) {
-    assert_eq!(rt; bench.count(), 0);
+    assert_eq!(rt; bench.volume().count(), 0);
     assert!(rt; meets(bench, alloc, Edit::Blank(1), None));
-    assert_eq!(rt; bench.length(), 3600 + 240 * 3 + 4);
+    assert_eq!(rt; bench.volume().length(), 3600 + 240 * 3 + 4);
     assert!(rt; has(bench, alloc, 1, signed(2, 237, 4), 0));
     assert!(rt; shows(bench, alloc, 1, 1, 0));
 }
@@ -374,7 +374,7 @@ fn later_edits_of_a_copy_leave_the_other_alone(rt: HostRuntime) -> Result<(), Fa
 
 fn take_one_out(rt: &impl Abort, alloc: Global, bench: &mut Bench) {
     assert!(rt; meets(bench, alloc, Edit::Delete(2), None));
-    assert_eq!(rt; bench.length(), 4332 - 244);
+    assert_eq!(rt; bench.volume().length(), 4332 - 244);
     assert!(rt; lie_on(bench, alloc, &[1, 3]));
     let none = Some(Refusal::NoTrace(3, 2));
     assert!(rt; meets(bench, alloc, Edit::Delete(3), none));
@@ -384,7 +384,7 @@ fn take_one_out(rt: &impl Abort, alloc: Global, bench: &mut Bench) {
 fn take_the_rest_out(rt: &impl Abort, alloc: Global, bench: &mut Bench) {
     assert!(rt; meets(bench, alloc, Edit::Delete(1), None));
     assert!(rt; meets(bench, alloc, Edit::Delete(1), None));
-    assert_eq!(rt; bench.length(), 3600);
+    assert_eq!(rt; bench.volume().length(), 3600);
     assert!(rt; meets(bench, alloc, Edit::Blank(1), None));
     assert!(rt; lie_on(bench, alloc, &[0]));
 }
@@ -410,7 +410,7 @@ fn move_around(rt: &impl Abort, alloc: Global, bench: &mut Bench) {
     assert!(rt; lie_on(bench, alloc, &[2, 1, 3]));
     assert!(rt; meets(bench, alloc, Edit::Move(2, 2), None));
     assert!(rt; lie_on(bench, alloc, &[2, 1, 3]));
-    assert_eq!(rt; bench.length(), 4332);
+    assert_eq!(rt; bench.volume().length(), 4332);
 }
 
 #[test]
@@ -441,14 +441,14 @@ fn moves_no_trace_that_is_not_there(rt: HostRuntime) -> Result<(), Fail> {
 }
 
 fn count_looks(rt: &impl Abort, alloc: Global, bench: &mut Bench) {
-    let looks = bench.looks();
+    let looks = bench.volume().looks();
     assert!(rt; looks <= 3);
     assert!(rt; is_answered(bench, alloc, Query::Count));
-    assert_eq!(rt; bench.looks(), looks);
+    assert_eq!(rt; bench.volume().looks(), looks);
     assert!(rt; shows(bench, alloc, 2, 1, 0));
-    let looks = bench.looks();
+    let looks = bench.volume().looks();
     assert!(rt; meets(bench, alloc, Edit::Delete(1), None));
-    assert_eq!(rt; bench.looks(), looks);
+    assert_eq!(rt; bench.volume().looks(), looks);
 }
 
 #[test]

@@ -78,11 +78,6 @@ pub on_ok : {T E A B : Type 0} (r : Result T E) → (A → B) → OnOk r A → O
 on_ok (Ok x) f a = f a
 on_ok (Err e) f a = a
 
--- what holds of a value holds of what follows from it
-pub if_ok : {T E : Type 0} {P Q : T → Type 0} (r : Result T E) → ((v : T) → P v → Q v) → IfOk r P → IfOk r Q
-if_ok (Ok v) f p = f v p
-if_ok (Err e) f p = tt
-
 -- the sizes of numbers are at most 8 bytes
 pub size_small : (n : ℕ) → is_size n ≡ true → n ≤ 8
 size_small n h = grind (arith, nat_tests)

@@ -2,9 +2,7 @@
 use Rattle.std.specs.Prelude.{◌≡◌, ℕ, ◌+◌, ◌-◌, ◌*◌, ◌≤◌, Bool, IsTrue, not, List, All, length, map}
 use Rattle.std.specs.List.{list_any, range_with_len}
 use Rattle.text_block.specs.declared.block.TheConstants.{TEXT_BLOCK_BYTES}
-use Rattle.field_map.specs.Pairs.{Pairs}
 use Rattle.field_map.specs.declared.place.TheConstants.{TRACE_HEADER_BYTES}
-use Rattle.frame_cut.specs.declared.file_head.Head.{Head}
 use Rattle.frame_cut.specs.declared.limits.Limits.{Limits}
 use Rattle.frame_cut.specs.declared.sizes.TheConstants.{BINARY_HEADER_BYTES}
 use Rattle.frame_cut.specs.Cuts.{IsCut}
@@ -12,8 +10,6 @@ use Rattle.frame_cut.specs.Traces.{count_of, trace_at}
 use Rattle.frame_cut.specs.Volume.{Volume, bytes_of}
 use Rattle.sample_codes.specs.Formats.{width}
 use Rattle.trace_view.specs.Values.{samples_at}
-use Rattle.trace_record.specs.Facts.{facts_of, with_samples_of}
-use Rattle.trace_record.specs.OfTrace.{record_of}
 use Rattle.trace_record.specs.Packed.{record_in}
 use Rattle.trace_record.specs.declared.record.Record.{Record}
 use Rattle.edit_overlay.specs.CountedVolume.{RisesAtMost}
@@ -88,10 +84,6 @@ IsCutAs s v = IsCut (bytes_of v) s.reading s.limits v
 -- where sample k of trace p begins in the trace
 abbrev pub sample_start : Volume → ℕ → ℕ → ℕ
 sample_start v p k = samples_at v.head (trace_at v p) + width v.head.format * k
-
--- the record has the statistics of the trace's samples
-abbrev pub HasSamplesOf : Head → Pairs → List ℕ → Record → Type 0
-HasSamplesOf h fields t r = with_samples_of (record_of h fields t) (facts_of r) ≡ record_of h fields t
 
 -- trace p of the new state has another inline or crossline than that of the old one, both under the old field map
 abbrev pub moves : State → State → ℕ → Bool

@@ -1,36 +1,32 @@
 // Changes of the volume and of the reports that hold the records of its traces: of both, or of
 // neither where memory or a read of a trace is refused. What can be refused comes first, and what
 // is done then takes no memory and reads no trace.
-ghost use Rattle.std.specs.Prelude.{◌≡◌, ◌+◌, ◌-◌, ◌≤◌, ◌<◌, ◌/◌, ◌%◌, [], length, map, slice_index_or, slice_set, ℕ, IsTrue, IsSome, IfSome, IsOk, IfOk, OnOk, IfErr};
+ghost use Rattle.std.specs.Prelude.{◌≡◌, ◌+◌, ◌-◌, ◌≤◌, ◌<◌, ◌/◌, ◌%◌, [], length, slice_index_or, ℕ, IsTrue, IsSome, IfSome, IfOk, OnOk, IfErr};
 ghost use Rattle.frame_cut.specs.Cuts.{IsTrace};
 ghost use Rattle.frame_cut.specs.Parts.{with_each, with_inserted};
 ghost use Rattle.frame_cut.specs.Splice.{splice};
-ghost use Rattle.frame_cut.specs.Traces.{count_of, is_trace, trace_at, with_trace};
+ghost use Rattle.frame_cut.specs.Traces.{count_of, trace_at, with_trace};
 ghost use Rattle.frame_cut.specs.Volume.{bytes_of};
 ghost use Rattle.trace_record.specs.Facts.{facts_of};
 ghost use Rattle.trace_record.specs.OfTrace.{record_of};
-ghost use Rattle.trace_record.specs.Packed.{record_in};
 ghost use Rattle.trace_record.specs.Told.{tells_record};
-ghost use Rattle.edit_overlay.specs.CountedVolume.{IsSeen, RisesAtMost, with_volume as with_counted_volume};
-ghost use Rattle.live_reports.specs.Exchanged.{with_records};
-ghost use Rattle.live_reports.specs.OfRecords.{AreReportsOf};
-ghost use Rattle.live_reports.specs.Reports.{AreFew};
+ghost use Rattle.edit_overlay.specs.CountedVolume.{RisesAtMost};
 ghost use Rattle.bench_rules.specs.declared.refusal.Refusal.TheVariants.{OutOfMemory as no_memory};
-ghost use Rattle.volume_records.specs.Laid.{IsLaid};
+ghost use Rattle.volume_records.specs.Laid.{HasSamplesOf};
 ghost use Rattle.volume_records.specs.OfVolume.{AreHeaderParts};
-ghost use Rattle.live_volume.specs.Held.{any_moves, with_volume, HasSamplesOf, IsCutAs};
+ghost use Rattle.live_volume.specs.Held.{any_moves, with_volume, IsCutAs};
 ghost use Rattle.live_volume.specs.Places.{MayReplace};
 ghost use Rattle.live_volume.specs.Refusals.{refusal_of_records as refusal_of, IsOfMachine};
 
 use crate::live_volume::LiveVolume;
 use bench_rules::Refusal;
-use edit_overlay::{Overlay, ReadFault};
-use field_map::FieldMap;
-use live_reports::{LiveReports, same_cells};
-use record_table::{RecordList, Records};
+use live_reports::same_cells;
+use record_table::Records;
 use std::alloc::Global;
 use trace_record::{PackedRecord, Record};
-use volume_records::{RecordsFault, laid_headers, prepared_record, prepared_records, set_records};
+use volume_records::{
+    RecordsFault, commit_with_record, commit_with_records, prepared_records, record_after,
+};
 
 impl LiveVolume {
     // The record of trace p.
@@ -87,9 +83,12 @@ impl LiveVolume {
             (self.new.looks ≡ self.old.looks) × IfErr result (λ refusal. refusal ≡ no_memory) }
     {
         self.overlay.prepare_put(alloc, p, at, bytes)?;
-        match new_record(&mut self.overlay, &self.fields, p, at, bytes, known) {
+        match record_after(&mut self.overlay, &self.fields, p, at, bytes, known) {
             Ok(record) => {
-                exchange(&mut self.overlay, &mut self.reports, p, &record)?;
+                let overlay = &mut self.overlay;
+                let Ok(()) = commit_with_record(overlay, &mut self.reports, p, &record) else {
+                    return Err(Refusal::OutOfMemory);
+                };
                 Ok(())
             }
             Err(fault) => {
@@ -229,8 +228,10 @@ impl LiveVolume {
                     a as usize - 1,
                     &records,
                 );
-                exchange_each(&mut self.overlay, &mut self.reports, a, &records)?;
-                Ok(!stays)
+                match commit_with_records(&mut self.overlay, &mut self.reports, a, &records) {
+                    Ok(()) => Ok(!stays),
+                    Err(_) => Err(Refusal::OutOfMemory),
+                }
             }
             Err(fault) => {
                 self.overlay.discard();
@@ -247,117 +248,6 @@ pub(crate) fn refusal_of_records(fault: RecordsFault) -> Refusal
     match fault {
         RecordsFault::OutOfMemory => Refusal::OutOfMemory,
         RecordsFault::Read(read) => Refusal::from(read),
-    }
-}
-
-// The record of trace p with the prepared edit, which lays the bytes over it from place `at` on, in
-// one look at most. No sample is read where the record is known that the trace had, and has the
-// same ones; no look where that record tells the new one.
-fn new_record(
-    overlay: &mut Overlay<PackedRecord>,
-    fields: &FieldMap,
-    p: u32,
-    at: u64,
-    bytes: &[u8],
-    known: Option<Record>,
-) -> Result<Record, ReadFault>
-    requires trace { IsTrue (is_trace overlay.old.prepared p) }
-    requires fields { fields.now.extensions ≡ overlay.old.prepared.head.extensions }
-    requires laid { IsTrue overlay.old.agreed → IfSome known (IsLaid overlay.old.volume
-        overlay.old.prepared fields.now.pairs p at bytes.now) }
-    requires samples { IsTrue overlay.old.agreed → IfSome known (HasSamplesOf
-        overlay.old.prepared.head fields.now.pairs (trace_at overlay.old.prepared p)) }
-    requires few { IfSome known (λ r. r.number ≤ length (trace_at overlay.old.prepared p)) }
-    ensures record { IfOk result (λ r. IsTrue overlay.new.agreed →
-        facts_of r ≡ record_of overlay.old.prepared.head fields.now.pairs
-        (trace_at overlay.old.prepared p)) }
-    ensures few { IfOk result (λ r. r.number ≤ length (trace_at overlay.old.prepared p)) }
-    ensures seen { IsSeen overlay.old overlay.new 1 }
-    ensures read { IfErr result (λ _. IsTrue overlay.old.loaded.on_disk) }
-    ensures told { IsSome known → IsTrue (tells_record fields.now.pairs at (length bytes.now)) →
-        IsOk result × (overlay.new ≡ overlay.old) }
-{
-    match known {
-        Some(known) => laid_headers(overlay, fields, p, &known, at, bytes),
-        None => prepared_record(overlay, fields, p),
-    }
-}
-
-// Makes the prepared edit of trace p, whose record is then this one, or drops it where memory is
-// refused.
-fn exchange(
-    overlay: &mut Overlay<PackedRecord>,
-    reports: &mut LiveReports,
-    p: u32,
-    trace: &Record,
-) -> Result<(), Refusal>
-    requires first { 1 ≤ p }
-    requires last { p ≤ count_of overlay.old.volume }
-    requires held { p ≤ length overlay.old.payloads }
-    requires stay { overlay.old.payloads_prepared ≡ overlay.old.payloads }
-    requires counted { AreReportsOf reports.old (map record_in overlay.old.payloads) }
-    requires few { AreFew (slice_set (map record_in overlay.old.payloads) (p - 1) trace.now) }
-    ensures records { OnOk result (map record_in overlay.new.payloads ≡
-        slice_set (map record_in overlay.old.payloads) (p - 1) trace.now) }
-    ensures reports { OnOk result (AreReportsOf reports.new (map record_in overlay.new.payloads)) }
-    ensures volume { OnOk result (overlay.new.volume ≡ overlay.old.prepared) }
-    ensures err { IfErr result (λ refusal. (refusal ≡ no_memory)
-        × (overlay.new ≡ with_counted_volume overlay.old overlay.old.volume)
-        × AreReportsOf reports.new (map record_in overlay.old.payloads)) }
-    ensures prepared { overlay.new.prepared ≡ overlay.new.volume }
-    ensures loaded { overlay.new.loaded ≡ overlay.old.loaded }
-    ensures agreed { overlay.new.agreed ≡ overlay.old.agreed }
-    ensures looks { overlay.new.looks ≡ overlay.old.looks }
-{
-    match reports.exchange(&Records::new(overlay.payloads()), p as usize - 1, trace) {
-        Ok(()) => {
-            overlay.commit_with(p, PackedRecord::of(*trace));
-            Ok(())
-        }
-        Err(_) => {
-            overlay.discard();
-            Err(Refusal::OutOfMemory)
-        }
-    }
-}
-
-// Makes the prepared edit of as many traces as there are records, from trace a on, whose records
-// are then these, or drops it where memory is refused.
-fn exchange_each(
-    overlay: &mut Overlay<PackedRecord>,
-    reports: &mut LiveReports,
-    a: u32,
-    records: &RecordList,
-) -> Result<(), Refusal>
-    requires first { 1 ≤ a }
-    requires last { a - 1 + length records.now ≤ count_of overlay.old.prepared }
-    requires held { a - 1 + length records.now ≤ length overlay.old.payloads }
-    requires stay { overlay.old.payloads_prepared ≡ overlay.old.payloads }
-    requires counted { AreReportsOf reports.old (map record_in overlay.old.payloads) }
-    requires few { AreFew (with_records (map record_in overlay.old.payloads) (a - 1)
-        records.now) }
-    ensures records { OnOk result (map record_in overlay.new.payloads ≡
-        with_records (map record_in overlay.old.payloads) (a - 1) records.now) }
-    ensures reports { OnOk result (AreReportsOf reports.new (map record_in overlay.new.payloads)) }
-    ensures volume { OnOk result (overlay.new.volume ≡ overlay.old.prepared) }
-    ensures err { IfErr result (λ refusal. (refusal ≡ no_memory)
-        × (overlay.new ≡ with_counted_volume overlay.old overlay.old.volume)
-        × AreReportsOf reports.new (map record_in overlay.old.payloads)) }
-    ensures prepared { overlay.new.prepared ≡ overlay.new.volume }
-    ensures loaded { overlay.new.loaded ≡ overlay.old.loaded }
-    ensures agreed { overlay.new.agreed ≡ overlay.old.agreed }
-    ensures looks { overlay.new.looks ≡ overlay.old.looks }
-{
-    match reports.exchange_each(&Records::new(overlay.payloads()), a as usize - 1, records) {
-        Ok(()) => {
-            overlay.commit();
-            set_records(overlay, a, records);
-            Ok(())
-        }
-        Err(_) => {
-            overlay.discard();
-            Err(Refusal::OutOfMemory)
-        }
     }
 }
 

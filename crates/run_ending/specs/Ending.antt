@@ -48,6 +48,30 @@ told (Script fault) ended = t.Nothing
 told (Answers written) ended = t.AnswersFailed
 told (Save fault) ended = told_of_failed (is_some fault.read) ended
 
+-- whether a read of FILE ended the save
+abbrev pub is_unread : RunEnd → Bool
+is_unread (Done refused) = false
+is_unread (Stopped line) = false
+is_unread (Load fault) = false
+is_unread (Script fault) = false
+is_unread (Answers written) = false
+is_unread (Save fault) = is_some fault.read
+
+-- what standard error says of a change of FILE behind a save that could not read it, and behind any other end: where no save was begun,
+-- the answers may be wrong; one that found FILE changed has said so, and of all others no more is told
+abbrev pub of_change : Bool → SaveEnd → Message
+of_change true ended = t.ChangedUnread
+of_change false s.NotBegun = t.AnswersDoubtful
+of_change false s.Saved = t.Nothing
+of_change false s.Failed = t.Nothing
+of_change false s.Unsettled = t.Nothing
+of_change false s.Stale = t.Nothing
+of_change false s.Doubtful = t.Nothing
+
+-- what standard error says behind what it says of the run and the save, where FILE was changed by another program
+abbrev pub told_of_change : RunEnd → SaveEnd → Message
+told_of_change end ended = of_change (is_unread end) ended
+
 -- the exit status is that of some end of the save
 abbrev pub IsExitStatus : RunEnd → ℕ → Type 0
 IsExitStatus end status = (ended : SaveEnd) × (status ≡ exit_status end ended)

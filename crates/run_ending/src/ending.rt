@@ -1,6 +1,6 @@
 // How a run ends for the one who called the program: the exit status, and what standard error says.
 ghost use Rattle.std.specs.Prelude.{◌≡◌};
-ghost use Rattle.run_ending.specs.Ending.{exit_status, told, told_of_failed, told_of_save};
+ghost use Rattle.run_ending.specs.Ending.{exit_status, is_unread, told, told_of_change, told_of_failed, told_of_save};
 
 use script_text::RunEnd;
 
@@ -32,6 +32,10 @@ pub enum Message {
     SaveUnsettled,
     FileChanged,
     SaveDoubtful,
+    /// FILE was changed while it could be read for answers.
+    AnswersDoubtful,
+    /// FILE could not be read again for the save because it was changed.
+    ChangedUnread,
 }
 
 /// The exit status.
@@ -60,6 +64,38 @@ pub fn told(end: RunEnd, save: SaveEnd) -> Message
         RunEnd::Save(fault) => told_of_failed(fault.read.is_some(), save),
         RunEnd::Stopped { .. } | RunEnd::Load(_) | RunEnd::Script(_) => Message::Nothing,
         RunEnd::Answers { .. } => Message::AnswersFailed,
+    }
+}
+
+/// What standard error says behind that where FILE was changed by another program. Where this is
+/// nothing, the program does not look again.
+pub fn told_of_change(end: RunEnd, save: SaveEnd) -> Message
+    ensures { result ≡ told_of_change end save }
+{
+    if is_unread(end) {
+        return Message::ChangedUnread;
+    }
+    match save {
+        SaveEnd::NotBegun => Message::AnswersDoubtful,
+        SaveEnd::Saved
+        | SaveEnd::Failed
+        | SaveEnd::Unsettled
+        | SaveEnd::Stale
+        | SaveEnd::Doubtful => Message::Nothing,
+    }
+}
+
+// Whether a read of FILE ended the save.
+fn is_unread(end: RunEnd) -> bool
+    ensures { result ≡ is_unread end }
+{
+    match end {
+        RunEnd::Save(fault) => fault.read.is_some(),
+        RunEnd::Done { .. }
+        | RunEnd::Stopped { .. }
+        | RunEnd::Load(_)
+        | RunEnd::Script(_)
+        | RunEnd::Answers { .. } => false,
     }
 }
 

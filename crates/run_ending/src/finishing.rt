@@ -1,7 +1,7 @@
 // The end of a run: the save, the exit status, and what standard error says.
 ghost use Rattle.run_ending.specs.Ending.{IsExitStatus};
 
-use crate::ending::{Message, SaveEnd, exit_status, told};
+use crate::ending::{Message, SaveEnd, exit_status, told, told_of_change};
 use crate::refused::tell_refused;
 use crate::target::Target;
 use crate::where_to::OutRefusal;
@@ -38,15 +38,10 @@ where
     if !arguments.quiet {
         tell_refused(rt, arguments, end, save, notes);
     }
-    let message = told(end, save);
-    tell(rt, arguments, message, error, is_beside);
-    let then = match message {
-        Message::FileUnread => "look at it, and run the script again",
-        _ => "the answers may be those of a file that never was",
-    };
-    let is_open = save == SaveEnd::NotBegun || message == Message::FileUnread;
-    if is_open && original.is_some_and(|original| original.is_changed(rt)) {
-        changed(rt, arguments.file, then);
+    tell(rt, arguments, told(end, save), error, is_beside);
+    let behind = told_of_change(end, save);
+    if behind != Message::Nothing && original.is_some_and(|original| original.is_changed(rt)) {
+        tell(rt, arguments, behind, None, is_beside);
     }
     exit_status(end, save)
 }
@@ -83,6 +78,13 @@ fn tell<R: Eprint>(
         (Message::FileChanged, _) => {
             let then = "nothing is saved; look at it, and run the script again";
             changed(rt, arguments.file, then);
+        }
+        (Message::AnswersDoubtful, _) => {
+            let then = "the answers may be those of a file that never was";
+            changed(rt, arguments.file, then);
+        }
+        (Message::ChangedUnread, _) => {
+            changed(rt, arguments.file, "look at it, and run the script again");
         }
         _ => {}
     }

@@ -1,11 +1,12 @@
 // A save over OUT itself.
-ghost use Rattle.std.specs.Prelude.{◌≡◌, None, option_map};
+ghost use Rattle.std.specs.Prelude.{◌≡◌, None, Option};
 ghost use Rattle.std.specs.Io.{WritesAtMost};
 ghost use Rattle.run_ending.specs.Passing.{PassesOn};
 
 use safe_save::{BoundedFile, Original, size_limit};
 use std::fs::{OpenFile, OpenOptions};
 use std::io::{Error, ErrorKind, Result, Write};
+use std::marker::Model;
 use std::os::unix::fs::OpenOptionsExt;
 use std::rt::Files;
 
@@ -13,7 +14,8 @@ use std::rt::Files;
 const NEW_MODE: u32 = 0o666;
 
 /// A pipe, a device, or a file that is to be written in place. It is opened at the first write, so
-/// that a run which saves nothing leaves it alone, and nothing is made beside it.
+/// that a run which saves nothing leaves it alone, and nothing is made beside it. A clause sees it
+/// as the file, where it is open.
 #[derive(Drop)]
 pub struct InPlace<'a, R: Files> {
     rt: &'a R,
@@ -25,6 +27,12 @@ pub struct InPlace<'a, R: Files> {
     is_stale: bool,
 }
 
+impl<'a, R: Files> Model for InPlace<'a, R> {
+    ghost Value = { Option R.File };
+
+    ghost view = { λ s. s.file };
+}
+
 impl<'a, R: Files + AllocGlobal> InPlace<'a, R> {
     /// A save to this path. `original` is not to change until it is opened.
     pub fn new(
@@ -32,7 +40,9 @@ impl<'a, R: Files + AllocGlobal> InPlace<'a, R> {
         path: &'a str,
         original: Option<Original<'a>>,
         is_file: bool,
-    ) -> InPlace<'a, R> {
+    ) -> InPlace<'a, R>
+        ensures { result ≡ None }
+    {
         InPlace {
             rt,
             path,
@@ -70,9 +80,11 @@ impl<'a, R: Files + AllocGlobal> InPlace<'a, R> {
         Ok(())
     }
 
-    /// Writes to the open file.
+    /// Writes to the open file the first of these bytes, in order and once, behind those that it
+    /// has. An `Err` has written none; where no file is open it is one.
     pub fn write(&mut self, bytes: &[u8]) -> Result<usize>
         ensures bound { WritesAtMost result bytes.now }
+        ensures bytes { PassesOn R.File.contents self.old self.new result bytes.now }
     {
         put(&mut self.file, bytes)
     }

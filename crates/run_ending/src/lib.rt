@@ -14,7 +14,7 @@ mod refused;
 mod target;
 mod where_to;
 
-pub use crate::ending::{Message, SaveEnd, exit_status, told};
+pub use crate::ending::{Message, SaveEnd, exit_status, told, told_of_change};
 pub use crate::finishing::{finish, refused_out};
 pub use crate::in_place::InPlace;
 pub use crate::refused::tell_how_to_begin;

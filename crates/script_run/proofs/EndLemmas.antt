@@ -21,7 +21,7 @@ use Rattle.script_text.specs.Replies.{Printed}
 use Rattle.script_words.specs.Words.{script_lines}
 use Rattle.script_run.specs.FromScratch.{ScratchSteps, saved}
 use Rattle.script_run.specs.Runs.{LineStep, LineSteps, RunsWhole, StopsAt, BreaksOff}
-use Rattle.script_run.proofs.ScratchLemmas.{scratch, line_keeps}
+use Rattle.script_run.proofs.ScratchLemmas.{scratch, stays_cut, line_keeps}
 use Rattle.script_run.specs.Ends.{Devices, RefusesLoad, RefusesScript, RunsThrough, Stops, LosesAnswer, IsTold, Runs}
 
 -- a load into memory is one of a volume that stands where it stands
@@ -78,6 +78,7 @@ module _ (stay : StepsStayCut) (on_disk : Bool) (options : Options) (old new : D
         begins = record { loaded = loaded; read = read };
         lines = lines;
         from_scratch = as_from_scratch (script_lines script) lines.printed lines.steps;
+        cut = stays_cut LineStep (line_keeps stay) options.reading options.limits on_disk start end (script_lines script) lines.printed loaded.cut loaded.reading_is loaded.limits_are lines.steps;
         printed = printed;
       }
 

@@ -16,24 +16,13 @@ use Rattle.script_words.specs.declared.command.Command.TheVariants.{Apply, Ask}
 use Rattle.script_words.specs.declared.line_fault.LineFault.{LineFault}
 use Rattle.script_text.specs.Replies.{Printed}
 use Rattle.script_run.specs.FromScratch.{saved, ScratchSteps}
-use Rattle.script_run.specs.Laws.{IsRead, LinesAreEdits, LinesFromScratch, ReloadsAsSaved}
-use Rattle.script_run.specs.Runs.{ReadStep, LineStep, StepsBy}
+use Rattle.script_run.specs.Laws.{IsRead, IsReload, Replied, none_yet, AddsEdit, AddsLine, LinesAreEdits, LinesFromScratch, ReloadsAsSaved}
+use Rattle.script_run.specs.Runs.{ReadStep, LineStep, LineSteps, StepsBy}
 use Rattle.script_run.specs.Sessions.{SessionStep}
 
 -- ---- lines as edits
 
--- what a line does to a volume is what no edit or one does
-read_edits : (old new : State) (read : Result (Option Command) LineFault) (p : Printed) → ReadStep old read p new
-    → (edits : List Edit) × (replies : List (Result (Unit {0}) Refusal)) × Steps old edits replies new
-read_edits old new (Ok None) p step = ([], [], step.1)
-read_edits old new (Ok (Some (Apply edit))) p step = (edit ∷ [], step.0 ∷ [], (new, step.1, refl))
-read_edits old new (Ok (Some (Ask query))) p step = ([], [], step.3)
-read_edits old new (Err fault) p step = ([], [], step.1)
-
-pub line_edits : (old new : State) (line : List ℕ) (p : Printed) → LineStep old line p new
-    → (edits : List Edit) × (replies : List (Result (Unit {0}) Refusal)) × Steps old edits replies new
-line_edits old new line p step = read_edits old new step.0 p step.2
-
+-- edits behind others
 steps_behind : (old mid new : State) (edits more : List Edit) (replies others : List (Result (Unit {0}) Refusal)) → Steps old edits replies mid → Steps mid more others new
     → Steps old (edits ++ more) (replies ++ others) new
 steps_behind old mid new [] more [] others h k = subst (λ s. Steps s more others new) h k
@@ -41,14 +30,39 @@ steps_behind old mid new [] more (r ∷ rs) others h k = absurd h
 steps_behind old mid new (e ∷ es) more [] others h k = absurd h
 steps_behind old mid new (e ∷ es) more (r ∷ rs) others (s, first, rest) k = (s, first, steps_behind s mid new es more rs others rest k)
 
+module _ (start : State) where
+  -- the edits so far, with those that are added, lead to this state
+  abbrev LeadsTo : State → (Replied → Type 0) → Type 0
+  LeadsTo new Added = (all : Replied) × Added all × Steps start all.edits all.replies new
+
+  add_read : (before : Replied) (old new : State) (read : Result (Option Command) LineFault) (p : Printed) → Steps start before.edits before.replies old → ReadStep old read p new
+      → LeadsTo new (AddsEdit read p before)
+  add_read before old new (Ok None) p sofar step = (before, refl, subst (λ (s : State). Steps start before.edits before.replies s) (sym step.1) sofar)
+  add_read before old new (Ok (Some (Apply edit))) p sofar (reply, step, is) = (
+    record { edits = before.edits ++ edit ∷ []; replies = before.replies ++ reply ∷ [] },
+    (reply, is, refl),
+    steps_behind start old new before.edits (edit ∷ []) before.replies (reply ∷ []) sofar (new, step, refl),
+  )
+  add_read before old new (Ok (Some (Ask query))) p sofar step = (before, refl, subst (λ (s : State). Steps start before.edits before.replies s) (sym step.3) sofar)
+  add_read before old new (Err fault) p sofar step = (before, (step.0, refl), subst (λ (s : State). Steps start before.edits before.replies s) (sym step.1) sofar)
+
+  add_line : (before : Replied) (old new : State) (line : List ℕ) (p : Printed) → Steps start before.edits before.replies old → LineStep old line p new
+      → LeadsTo new (AddsLine before line p)
+  add_line before old new line p sofar (read, parsed, step) =
+      let one = add_read before old new read p sofar step in (one.0, (read, parsed, one.1), one.2)
+
+  pub add_lines : (before : Replied) (old new : State) (lines : List (List ℕ)) (ps : List Printed) → Steps start before.edits before.replies old → LineSteps old lines ps new
+      → LeadsTo new (StepsBy AddsLine before lines ps)
+  add_lines before old new [] [] sofar h = (before, refl, subst (λ (s : State). Steps start before.edits before.replies s) (sym h) sofar)
+  add_lines before old new [] (p ∷ ps) sofar h = absurd h
+  add_lines before old new (l ∷ ls) [] sofar h = absurd h
+  add_lines before old new (l ∷ ls) (p ∷ ps) sofar (mid, first, rest) =
+      let one = add_line before old mid l p sofar first in
+      let others = add_lines one.0 mid new ls ps one.2 rest in
+      (others.0, (one.0, one.1, others.1), others.2)
+
 pub lines_are_edits : LinesAreEdits
-lines_are_edits old new [] [] h = ([], [], h)
-lines_are_edits old new [] (p ∷ ps) h = absurd h
-lines_are_edits old new (l ∷ ls) [] h = absurd h
-lines_are_edits old new (l ∷ ls) (p ∷ ps) (mid, first, rest) =
-    let one = line_edits old mid l p first in
-    let others = lines_are_edits mid new ls ps rest in
-    (one.0 ++ others.0, one.1 ++ others.1, steps_behind old mid new one.0 others.0 one.1 others.1 one.2 others.2)
+lines_are_edits old new lines ps h = add_lines old none_yet old new lines ps refl h
 
 -- ---- a line leaves a file that is read again
 
@@ -58,7 +72,7 @@ Keeps Step = (old new : State) (line : List ℕ) (p : Printed) → IsRead old �
 
 pub line_keeps : StepsStayCut → Keeps LineStep
 line_keeps stay old new line p cut step =
-    let some = line_edits old new line p step in stay old new some.0 some.1 cut some.2
+    let some = add_line old none_yet old new line p refl step in stay old new some.0.edits some.0.replies cut some.2
 
 pub session_keeps : StepsStayCut → Keeps SessionStep
 session_keeps stay old new line p cut (a, inl step, is) = stay old new [] [] cut step.2
@@ -79,18 +93,34 @@ module _ (Step : State → List ℕ → Printed → State → Type 0) (keeps : K
         scratch mid new xs ps (rw (← r, ← l) alike.cut) (alike.reading ∙ r) (alike.limits ∙ l) (alike.on_disk ∙ d) rest,
       )
 
+  -- and what is held behind the lines is the cut of its own bytes
+  pub stays_cut : (old new : State) (lines : List (List ℕ)) (ps : List Printed) → IsCut (bytes_of old.volume) reading limits old.volume → old.reading ≡ reading → old.limits ≡ limits
+      → StepsBy Step old lines ps new → IsCut (bytes_of new.volume) reading limits new.volume
+  stays_cut old new [] [] cut r l h = subst (λ (s : State). IsCut (bytes_of s.volume) reading limits s.volume) (sym h) cut
+  stays_cut old new [] (p ∷ ps) cut r l h = absurd h
+  stays_cut old new (x ∷ xs) [] cut r l h = absurd h
+  stays_cut old new (x ∷ xs) (p ∷ ps) cut r l (mid, first, rest) =
+      let read : IsRead old = rw (r, l) cut in
+      let alike = keeps old mid x p read first in
+      stays_cut mid new xs ps (rw (← r, ← l) alike.cut) (alike.reading ∙ r) (alike.limits ∙ l) rest
+
 pub lines_from_scratch : StepsStayCut → LinesFromScratch
 lines_from_scratch stay old new lines ps cut steps = scratch LineStep (line_keeps stay) old.reading old.limits old.on_disk old new lines ps cut refl refl refl steps
 
 -- ---- a load of what was saved
 
 pub reloads_as_saved : StepsStayCut → AnswersFromScratch → ReloadsAsSaved
-reloads_as_saved stay scratch_answers old new again lines ps cut steps read same r l =
+reloads_as_saved stay scratch_answers old new lines ps cut steps =
     let some = lines_are_edits old new lines ps steps in
-    let alike = stay old new some.0 some.1 cut some.2 in
-    let here : IsCut (bytes_of new.volume) old.reading old.limits again.volume = rw (← same, ← r, ← l) read in (
-      at_most_one_cut (bytes_of new.volume) old.reading old.limits again.volume new.volume here alike.cut,
-      λ query. ap (λ (x : Reading). let s : State = record again { fields = new.fields; reading = x } in answer s query) r
-          ∙ ap (λ (x : Limits). let s : State = record again { fields = new.fields; reading = old.reading; limits = x } in answer s query) l
-          ∙ sym (scratch_answers old new some.0 some.1 again.volume again.on_disk query cut some.2 here),
-    )
+    let alike = stay old new some.0.edits some.0.replies cut some.2 in
+    (alike.cut, reload some.0.edits some.0.replies some.2 alike.cut)
+  where
+    reload : (edits : List Edit) (replies : List (Result (Unit {0}) Refusal)) → Steps old edits replies new → IsCut (bytes_of new.volume) old.reading old.limits new.volume
+        → (again : State) → IsRead again → bytes_of again.volume ≡ bytes_of new.volume → again.reading ≡ old.reading → again.limits ≡ old.limits → IsReload new again
+    reload edits replies all held again read same r l =
+        let here : IsCut (bytes_of new.volume) old.reading old.limits again.volume = rw (← same, ← r, ← l) read in (
+          at_most_one_cut (bytes_of new.volume) old.reading old.limits again.volume new.volume here held,
+          λ query. ap (λ (x : Reading). let s : State = record again { fields = new.fields; reading = x } in answer s query) r
+              ∙ ap (λ (x : Limits). let s : State = record again { fields = new.fields; reading = old.reading; limits = x } in answer s query) l
+              ∙ sym (scratch_answers old new edits replies again.volume again.on_disk query cut all here),
+        )

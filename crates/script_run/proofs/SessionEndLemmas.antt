@@ -15,7 +15,7 @@ use Rattle.script_run.specs.declared.session_lines.SessionLines.TheVariants as l
 use Rattle.script_run.specs.Loading.{Loads}
 use Rattle.script_run.specs.Runs.{printed_text}
 use Rattle.script_run.specs.Ends.{Devices, RefusesLoad, IsTold}
-use Rattle.script_run.proofs.ScratchLemmas.{scratch, session_keeps}
+use Rattle.script_run.proofs.ScratchLemmas.{scratch, stays_cut, session_keeps}
 use Rattle.script_run.proofs.FullAnswerLemmas.{session_full, plain_at_load}
 use Rattle.script_run.specs.Sessions.{SessionStep, AnswersLines, SessionThrough, SessionStops, SessionLosesAnswer, Session}
 use Rattle.script_run.specs.SessionLineRuns.{Answered, AnswersTo}
@@ -42,6 +42,7 @@ module _ (stay : StepsStayCut) (on_disk : Bool) (options : Options) (old new : D
     given = done.given;
     steps = done.steps;
     from_scratch = scratch SessionStep (session_keeps stay) options.reading options.limits on_disk start end done.lines printed loaded.cut loaded.reading_is loaded.limits_are loaded.place_is done.steps;
+    cut = stays_cut SessionStep (session_keeps stay) options.reading options.limits on_disk start end done.lines printed loaded.cut loaded.reading_is loaded.limits_are done.steps;
     full = session_full start end done.lines printed (plain_at_load start loaded.fields) done.steps;
   }
 

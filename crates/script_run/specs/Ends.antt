@@ -3,6 +3,7 @@ use Rattle.std.specs.Prelude.{◌≡◌, ◌⊎◌, ◌<◌, ℕ, ◌+◌, Match
 use Rattle.frame_cut.specs.declared.load_fault.LoadFault.{LoadFault}
 use Rattle.std.specs.Io.KnownBytes.{Appends}
 use Rattle.edit_overlay.specs.declared.save_fault.SaveFault.{SaveFault}
+use Rattle.frame_cut.specs.Cuts.{IsCut}
 use Rattle.frame_cut.specs.Volume.{bytes_of}
 use Rattle.bench_rules.specs.State.{State}
 use Rattle.script_run.specs.declared.options.Options.{Options}
@@ -45,7 +46,8 @@ pub record RefusesScript (on_disk : Bool) (options : Options) (old new : Devices
   pub refused : IsScriptRefused old.script new.script fault
   pub unsaved : new.out ≡ old.out
 
--- all lines are run, with so many refused, and the writer of the answers takes what they print
+-- all lines are run, with so many refused, and the writer of the answers takes what they print; what is held then is the cut of its own bytes,
+-- so that the file which a save writes is accepted, and loaded as what is held
 pub record RunsThrough (on_disk : Bool) (options : Options) (old new : Devices) (refused : ℕ) (end : State) : Type 0 where
   pub start : State
   pub script : List ℕ
@@ -53,6 +55,7 @@ pub record RunsThrough (on_disk : Bool) (options : Options) (old new : Devices) 
   pub begins : Begins on_disk options old new start script
   pub lines : RunsWhole start script options.stop text refused end
   pub from_scratch : ScratchSteps LineStep options.reading options.limits on_disk (saved start) (script_lines script) lines.printed (saved end)
+  pub cut : IsCut (bytes_of end.volume) options.reading options.limits end.volume
   pub printed : Takes old.answers new.answers text
 
 -- the lines are run up to the first that is refused; nothing is saved

@@ -1,5 +1,5 @@
 -- What holds of lines whatever they are.
-use Rattle.std.specs.Prelude.{◌≡◌, ◌≢◌, ℕ, ◌≤◌, ⊤, List, [], ◌∷◌, length, map, Result}
+use Rattle.std.specs.Prelude.{◌≡◌, ◌≢◌, ℕ, ◌≤◌, ⊤, List, [], ◌∷◌, ◌++◌, length, map, Option, Some, None, Result, Ok, Err}
 use Rattle.frame_cut.specs.Cuts.{IsCut}
 use Rattle.frame_cut.specs.Volume.{bytes_of}
 use Rattle.bench_rules.specs.declared.edit.Edit.{Edit}
@@ -8,32 +8,67 @@ use Rattle.bench_rules.specs.declared.refusal.Refusal.{Refusal}
 use Rattle.bench_rules.specs.Answer.{answer}
 use Rattle.bench_rules.specs.State.{State}
 use Rattle.bench_rules.specs.Steps.{Steps}
+use Rattle.script_words.specs.declared.command.Command.{Command}
+use Rattle.script_words.specs.declared.command.Command.TheVariants.{Apply, Ask}
+use Rattle.script_words.specs.declared.line_fault.LineFault.{LineFault}
 use Rattle.script_words.specs.declared.line_fault.LineFault.TheVariants.{OutOfMemory}
-use Rattle.script_text.specs.Replies.{Printed, fault_reply}
+use Rattle.script_text.specs.Replies.{Printed, edit_reply, fault_reply}
+use Rattle.script_words.specs.Commands.{IsParsed}
 use Rattle.script_words.specs.Words.{without_return}
 use Rattle.script_run.specs.FromScratch.{ScratchSteps, saved}
-use Rattle.script_run.specs.Runs.{LineStep, LineSteps}
+use Rattle.script_run.specs.Runs.{LineStep, LineSteps, StepsBy}
 use Rattle.script_run.specs.Sessions.{SessionSteps, with_empty_line}
 
 -- the parts that are held are the cut of their own bytes
 abbrev pub IsRead : State → Type 0
 IsRead s = IsCut (bytes_of s.volume) s.reading s.limits s.volume
 
--- what lines do to a volume is what their edits do, one after another, each with its reply
+-- edits, with the reply to each
+pub record Replied : Type 0 where
+  pub edits : List Edit
+  pub replies : List (Result (Unit {0}) Refusal)
+
+-- none so far
+abbrev pub none_yet : Replied
+none_yet = record { edits = []; replies = [] }
+
+-- a line that was read and is an edit comes behind those before it, with the reply that is printed for it; a query, an empty line, and one
+-- whose fault is printed add none
+abbrev pub AddsEdit : Result (Option Command) LineFault → Printed → Replied → Replied → Type 0
+AddsEdit (Ok (Some (Apply edit))) printed old new =
+    (reply : Result (Unit {0}) Refusal) × (printed ≡ edit_reply reply)
+    × (new ≡ record { edits = old.edits ++ edit ∷ []; replies = old.replies ++ reply ∷ [] })
+AddsEdit (Ok (Some (Ask query))) printed old new = new ≡ old
+AddsEdit (Ok None) printed old new = new ≡ old
+AddsEdit (Err fault) printed old new = (printed ≡ fault_reply fault) × (new ≡ old)
+
+-- the same of a line as it stands
+abbrev pub AddsLine : Replied → List ℕ → Printed → Replied → Type 0
+AddsLine old line printed new = (read : Result (Option Command) LineFault) × IsParsed line read × AddsEdit read printed old new
+
+-- the edits of these lines, in order, each with the reply that is printed for it
+abbrev pub AreEditsOf : List (List ℕ) → List Printed → Replied → Type 0
+AreEditsOf lines printed all = StepsBy AddsLine none_yet lines printed all
+
+-- what lines do to a volume is what their edits do, one after another, each with the reply that is printed
 abbrev pub LinesAreEdits : Type 0
 LinesAreEdits = (old new : State) (lines : List (List ℕ)) (printed : List Printed) → LineSteps old lines printed new
-    → (edits : List Edit) × (replies : List (Result (Unit {0}) Refusal)) × Steps old edits replies new
+    → (all : Replied) × AreEditsOf lines printed all × Steps old all.edits all.replies new
 
 -- each line of a script prints what a load of the bytes that a save before it writes answers, and leaves the bytes that it then saves
 abbrev pub LinesFromScratch : Type 0
 LinesFromScratch = (old new : State) (lines : List (List ℕ)) (printed : List Printed) → IsRead old → LineSteps old lines printed new
     → ScratchSteps LineStep old.reading old.limits old.on_disk (saved old) lines printed (saved new)
 
--- a load of the bytes that are saved behind the lines holds the volume that was saved, and so every query has the answer that it had
+-- what a load of the bytes that are saved behind the lines holds is the volume that was saved, and so every query has the answer that it had
+abbrev pub IsReload : State → State → Type 0
+IsReload new again = (again.volume ≡ new.volume) × ((query : Query) → answer (record again { fields = new.fields }) query ≡ answer new query)
+
+-- the bytes that are saved behind the lines are a file that is accepted, as the first was read, and a load of them is such a reload
 abbrev pub ReloadsAsSaved : Type 0
-ReloadsAsSaved = (old new again : State) (lines : List (List ℕ)) (printed : List Printed) → IsRead old → LineSteps old lines printed new
-    → IsRead again → bytes_of again.volume ≡ bytes_of new.volume → again.reading ≡ old.reading → again.limits ≡ old.limits
-    → (again.volume ≡ new.volume) × ((query : Query) → answer (record again { fields = new.fields }) query ≡ answer new query)
+ReloadsAsSaved = (old new : State) (lines : List (List ℕ)) (printed : List Printed) → IsRead old → LineSteps old lines printed new
+    → IsCut (bytes_of new.volume) old.reading old.limits new.volume
+    × ((again : State) → IsRead again → bytes_of again.volume ≡ bytes_of new.volume → again.reading ≡ old.reading → again.limits ≡ old.limits → IsReload new again)
 
 -- this is none of what is printed
 abbrev pub NoneIs : Printed → List Printed → Type 0

@@ -2,6 +2,7 @@
 use Rattle.std.specs.Prelude.{ℕ, Bool, ◌≡◌, ◌≢◌, ◌⊎◌, ◌<◌, ◌≤◌, List, length, IfSome}
 use Rattle.std.specs.Io.KnownBytes.{Consumes, IsAtEnd}
 use Rattle.device_io.specs.Failures.{one_more}
+use Rattle.device_io.specs.WholeReads.{GivesSome}
 use Rattle.field_map.specs.Binding.{geometry_at_load}
 use Rattle.frame_cut.specs.declared.limits.Limits.{Limits}
 use Rattle.frame_cut.specs.declared.reading.Reading.{Reading}
@@ -40,7 +41,9 @@ pub record ReadsScript (old new : Device) (script : List ℕ) : Type 0 where
   pub within : length script ≤ 16777216
   pub failures : new.failures ≡ old.failures
 
--- the script is refused: P01 where a read failed, P02 where there are more than 16777216 bytes, P03 for want of memory
+-- the script is refused: P01 where a read failed, P02 where there are more than 16777216 bytes, P03 for want of memory; at most one byte
+-- above that limit is taken from the reader
 pub record IsScriptRefused (old new : Device) (fault : ScriptFault) : Type 0 where
   pub reason : (fault ≡ ReadFailed) ⊎ (fault ≡ OutOfMemory) ⊎ ((fault ≡ TooLarge) × IfSome old.bytes (λ script. 16777216 < length script))
+  pub taken : GivesSome old.bytes new.bytes 0 16777217
   pub failures : ((fault ≡ ReadFailed) × (new.failures ≡ one_more old.failures)) ⊎ ((fault ≢ ReadFailed) × (new.failures ≡ old.failures))

@@ -1,6 +1,7 @@
 -- A session: the lines of a reader are answered one by one, with an empty line behind each answer.
 use Rattle.std.specs.Prelude.{◌≡◌, ◌⊎◌, ℕ, ◌<◌, ◌≤◌, ◌+◌, ⊤, Bool, IsTrue, List, [], ◌∷◌, ◌++◌, length, take, codes, Option, IfSome}
 use Rattle.frame_cut.specs.declared.load_fault.LoadFault.{LoadFault}
+use Rattle.frame_cut.specs.Cuts.{IsCut}
 use Rattle.frame_cut.specs.Volume.{bytes_of}
 use Rattle.bench_rules.specs.State.{State}
 use Rattle.device_io.specs.Failures.{one_more}
@@ -66,13 +67,14 @@ AllLines known lines = IfSome known (λ bytes. parts_by_line_feed bytes ≡ line
 
 -- ---- the ends
 
--- the volume is loaded, and the first lines of the reader are answered
+-- the volume is loaded, and the first lines of the reader are answered; what is held then is the cut of its own bytes
 pub record AnswersLines (on_disk : Bool) (options : Options) (old new : Devices) (lines : List (List ℕ)) (printed : List Printed) (end : State) : Type 0 where
   pub start : State
   pub loaded : Loads old.reader new.reader options.reading options.limits on_disk start
   pub given : FirstLines old.script.bytes lines
   pub steps : SessionSteps start lines printed end
   pub from_scratch : ScratchSteps SessionStep options.reading options.limits on_disk (saved start) lines printed (saved end)
+  pub cut : IsCut (bytes_of end.volume) options.reading options.limits end.volume
   pub full : AreAnswers printed
 
 -- all lines are answered, with so many refused

@@ -3,7 +3,8 @@ ghost use Rattle.script_run.specs.Laws.{LinesAreEdits, LinesFromScratch, Reloads
 
 use bench_laws::{answers_from_scratch, steps_stay_cut};
 
-/// What the lines of a script do to a volume is what their edits do, one after another.
+/// What the lines of a script do to a volume is what their edits do, one after another, each with
+/// the reply that is printed for its line.
 pub fn lines_are_edits()
     ensures { LinesAreEdits }
 {}
@@ -17,8 +18,9 @@ pub fn lines_from_scratch()
     steps_stay_cut();
 }
 
-/// A load of the bytes that are saved behind the lines holds the volume that was saved; so, under
-/// the same field map, every query has the answer that it had before the save.
+/// The bytes that are saved behind the lines are a file that is accepted, and a load of them holds
+/// the volume that was saved; so, under the same field map, every query has the answer that it had
+/// before the save.
 pub fn reloads_as_saved()
     ensures { ReloadsAsSaved }
 {

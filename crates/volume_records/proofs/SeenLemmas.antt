@@ -1,6 +1,6 @@
 -- The record of a trace that is looked at.
 use Rattle.std.proofs.Common.{◌≡◌, ℕ, ◌+◌, ◌-◌, ◌≤◌, ◌^◌, Bool, true, false, IsTrue, List, length, refl, subst, sym, ap, ap₂, ◌∙◌, arith}
-use Rattle.std.specs.Prelude.{nat_lt, if◌then◌else◌}
+use Rattle.std.specs.Prelude.{nat_lt, if◌then◌else◌, Result, Ok, Err, IfOk}
 use Rattle.field_map.specs.Maps.{NameMap}
 use Rattle.field_map.specs.Binding.{HasGeometry}
 use Rattle.frame_cut.specs.declared.file_head.Head.{Head}
@@ -13,6 +13,11 @@ use Rattle.trace_record.specs.OfTrace.{has_geometry}
 use Rattle.trace_record.proofs.GeometryLemmas.{geometry_of_each_trace}
 use Rattle.edit_overlay.specs.CountedVolume.{CountedVolume, one_more, RisesAtMost, after_look, IsSeen, IsViewOf, HasShapeOf}
 use Rattle.volume_records.proofs.FewLemmas.{samples_within}
+
+-- what holds of a value holds of what follows from it
+pub if_ok : {T E : Type 0} {P Q : T → Type 0} (r : Result T E) → ((v : T) → P v → Q v) → IfOk r P → IfOk r Q
+if_ok (Ok v) f p = f v p
+if_ok (Err e) f p = tt
 
 -- a map for the view's file gives its trace a geometry
 pub geometry_in_view : (view : TraceView) (m : NameMap) → HasGeometry m.extensions m.pairs → m.extensions ≡ (head_of view).extensions → has_geometry (head_of view) m.pairs (bytes_of view) ≡ true

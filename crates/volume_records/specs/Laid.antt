@@ -44,6 +44,10 @@ IsRecordAfter order fields at bytes known new =
     (h : Head) (t : List ℕ) → h.order ≡ order → at + length bytes ≤ length t → facts_of known ≡ record_of h fields t
     → facts_of new ≡ with_samples_of (record_of h fields (splice t at (length bytes) bytes)) (facts_of known)
 
+-- the record has the statistics of the trace's samples
+abbrev pub HasSamplesOf : Head → Pairs → List ℕ → Record → Type 0
+HasSamplesOf h fields t r = with_samples_of (record_of h fields t) (facts_of r) ≡ record_of h fields t
+
 -- trace p, which has the known record, gets the bytes laid over it from place `at` on
 pub record IsLaid (v prepared : Volume) (fields : Pairs) (p at : ℕ) (bytes : List ℕ) (known_record : Record) : Type 0 where
   pub head : prepared.head ≡ v.head

@@ -2,24 +2,28 @@
 //! running reports made of them (`with_records`), all again under another map (`remake`), of one
 //! trace as it would be with the edit that is prepared (`prepared_record`; `prepared_headers`,
 //! which reads no sample; `laid_headers`, which reads nothing where the record that the trace had
-//! tells the new one), of traces that follow one another (`prepared_records`, which reads no more),
-//! and of a whole trace in memory that no volume holds yet (`record_of_bytes`).
+//! tells the new one; `record_after`, whichever of these serves), of traces that follow one another
+//! (`prepared_records`, which reads no more), and of a whole trace in memory that no volume holds
+//! yet (`record_of_bytes`). An edit that is prepared is made with the new records, which the
+//! reports then count (`commit_with_record`, `commit_with_records`).
 //!
 //! The record that a trace had tells the one with bytes laid over its headers where these share
 //! none with the coordinate scalar and with bytes 89-90, 115-118 and 233-240; and with each of
 //! inline, crossline, offset, x, y and the sequence number (bytes 5-8) share none, or are exactly
-//! its bytes. `laid_headers` and `prepared_records` look at no trace then.
+//! its bytes. `laid_headers`, `record_after` and `prepared_records` look at no trace then.
 //!
 //! Traces count from 1. Each call that looks at a trace of the volume says how often; a look
-//! leaves the volume and what is prepared as they are. `with_records`, `remake` and
-//! `prepared_records` alone take memory, and may be refused for want of it. Where the bytes of the
-//! volume are on disk a look may be refused too: `prepared_record`, `prepared_headers` and
-//! `laid_headers` tell the `ReadFault`, `remake` and `prepared_records` a `RecordsFault`.
+//! leaves the volume and what is prepared as they are. These alone take memory, and may be refused
+//! for want of it: `with_records`, `remake`, `prepared_records`, `commit_with_record` and
+//! `commit_with_records`. Where the bytes of the volume are on disk a look may be refused too:
+//! `prepared_record`, `prepared_headers`, `laid_headers` and `record_after` tell the `ReadFault`,
+//! `remake` and `prepared_records` a `RecordsFault`.
 //!
 //! That records are those of the traces is claimed where each read since the load gave the bytes
 //! that the load read (`agreed`); how many there are, and how many samples they tell, in any case.
 #![tactic(auto)]
 
+mod committing;
 mod laid;
 mod of_pass;
 mod of_trace;
@@ -29,8 +33,11 @@ mod out_of_memory;
 mod records_fault;
 mod remaking;
 
+pub use crate::committing::{commit_with_record, commit_with_records};
 pub use crate::of_pass::with_records_on_disk;
-pub use crate::of_trace::{laid_headers, prepared_headers, prepared_record, record_of_bytes};
+pub use crate::of_trace::{
+    laid_headers, prepared_headers, prepared_record, record_after, record_of_bytes,
+};
 pub use crate::of_traces::prepared_records;
 pub use crate::of_volume::with_records;
 pub use crate::out_of_memory::OutOfMemory;

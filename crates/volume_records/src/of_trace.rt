@@ -1,11 +1,11 @@
-ghost use Rattle.std.specs.Prelude.{◌≡◌, ◌≤◌, length, IfOk, IfErr, IsOk, IsTrue};
+ghost use Rattle.std.specs.Prelude.{◌≡◌, ◌≤◌, length, IfOk, IfErr, IfSome, IsOk, IsSome, IsTrue};
 ghost use Rattle.frame_cut.specs.Cuts.{IsTrace};
 ghost use Rattle.frame_cut.specs.Traces.{is_trace, trace_at};
 ghost use Rattle.trace_record.specs.Facts.{facts_of, with_samples_of};
 ghost use Rattle.trace_record.specs.OfTrace.{record_of as record_of_trace};
 ghost use Rattle.trace_record.specs.Told.{tells_record};
 ghost use Rattle.edit_overlay.specs.CountedVolume.{after_look, IsSeen};
-ghost use Rattle.volume_records.specs.Laid.{IsLaid};
+ghost use Rattle.volume_records.specs.Laid.{HasSamplesOf, IsLaid};
 
 use crate::laid::laid_record;
 use edit_overlay::{Overlay, ReadFault};
@@ -99,6 +99,41 @@ pub fn laid_headers(
     match laid_record(known, order, fields, at, bytes) {
         Some(record) => Ok(record),
         None => prepared_headers(overlay, fields, p, known),
+    }
+}
+
+/// The record of trace p, counted from 1, as it would be with the edit that is prepared, which lays
+/// these bytes over it from place `at` on, counted from 0. `known` is the record that the trace
+/// had, given only where the edit leaves its samples: then no sample is read, and no look is taken
+/// where it tells the new one, as for [`laid_headers`]. Else one look, which may be refused where
+/// the volume's bytes are on disk. Takes no memory.
+pub fn record_after(
+    overlay: &mut Overlay<PackedRecord>,
+    fields: &FieldMap,
+    p: u32,
+    at: u64,
+    bytes: &[u8],
+    known: Option<Record>,
+) -> Result<Record, ReadFault>
+    requires trace { IsTrue (is_trace overlay.old.prepared p) }
+    requires fields { fields.now.extensions ≡ overlay.old.prepared.head.extensions }
+    requires laid { IsTrue overlay.old.agreed → IfSome known (IsLaid overlay.old.volume
+        overlay.old.prepared fields.now.pairs p at bytes.now) }
+    requires samples { IsTrue overlay.old.agreed → IfSome known (HasSamplesOf
+        overlay.old.prepared.head fields.now.pairs (trace_at overlay.old.prepared p)) }
+    requires few { IfSome known (λ r. r.number ≤ length (trace_at overlay.old.prepared p)) }
+    ensures record { IfOk result (λ r. IsTrue overlay.new.agreed →
+        facts_of r ≡ record_of_trace overlay.old.prepared.head fields.now.pairs
+        (trace_at overlay.old.prepared p)) }
+    ensures few { IfOk result (λ r. r.number ≤ length (trace_at overlay.old.prepared p)) }
+    ensures seen { IsSeen overlay.old overlay.new 1 }
+    ensures read { IfErr result (λ _. IsTrue overlay.old.loaded.on_disk) }
+    ensures told { IsSome known → IsTrue (tells_record fields.now.pairs at (length bytes.now)) →
+        IsOk result × (overlay.new ≡ overlay.old) }
+{
+    match known {
+        Some(known) => laid_headers(overlay, fields, p, &known, at, bytes),
+        None => prepared_record(overlay, fields, p),
     }
 }
 

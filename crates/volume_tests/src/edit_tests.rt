@@ -8,7 +8,7 @@ ghost use Rattle.frame_cut.specs.Traces.{count_of};
 use crate::files::two_traces;
 use crate::puts::{is_trace, may_put, put};
 use crate::tables::volume_of;
-use device_io::{Sink, Source, StepReader, StepWriter};
+use device_io::{Sink, Source, StepReader};
 use edit_overlay::{Loading, Overlay, SaveFault};
 use frame_cut::{Limits, LoadFault, Reading};
 use std::alloc::{AllocError, Global};
@@ -706,34 +706,6 @@ fn replaces_a_trace(rt: HostRuntime) -> Result<(), Fail> {
             let changed = part(longer, 0, 249);
             let second = part(file, 3844, 4088);
             expect_saved(&rt, alloc, volume, &[headers, changed, &[9], second])
-        },
-    )
-}
-
-// A save to a writer that takes no more than 4000 bytes.
-fn save_to_a_failing_writer(rt: &impl Abort, file: &[u8], volume: &mut Overlay<u32>) {
-    let mut room = [0u8; 4088];
-    let mut writer = Sink::new(StepWriter::new(&mut room, 7, 4000));
-    let fault = volume.write_to(&mut writer).err();
-    let expected = SaveFault {
-        written: 4000,
-        read: None,
-    };
-    assert_eq!(rt; fault, Some(expected));
-    assert_eq!(rt; writer.failures(), 1);
-    let _writer = writer.into_inner();
-    assert!(rt; part(&room, 0, 4000) == part(file, 0, 4000));
-}
-
-// A writer that fails is told of with the bytes that it took, and no read; the next save has all.
-#[test]
-fn names_the_bytes_that_a_failing_writer_took(rt: HostRuntime) -> Result<(), Fail> {
-    let alloc = rt.alloc();
-    on_small(
-        alloc,
-        &mut |file: &[u8], volume: &mut Overlay<u32>| {
-            save_to_a_failing_writer(&rt, file, volume);
-            expect_saved(&rt, alloc, volume, &[file])
         },
     )
 }

@@ -11,21 +11,21 @@ use Rattle.trace_record.specs.declared.record.Record.{Record}
 use Rattle.trace_record.specs.declared.packed_record.PackedRecord.{PackedRecord}
 use Rattle.edit_overlay.specs.CountedVolume.{CountedVolume}
 use Rattle.frame_cut.proofs.EditLemmas.{length-splice}
-use Rattle.live_volume.specs.Held.{HasSamplesOf}
+use Rattle.volume_records.specs.Laid.{HasSamplesOf}
 use Rattle.live_volume.proofs.HeldLemmas.{trace_again, is_trace_with}
 use Rattle.live_volume.proofs.EditLemmas as edit
 use Rattle.live_volume.proofs.live_volume.LiveVolume.put.Goals as goal
 
-pub new_record-requires-clause-trace : goal.new_record-requires-clause-trace
-new_record-requires-clause-trace c =
+pub record_after-requires-clause-trace : goal.record_after-requires-clause-trace
+record_after-requires-clause-trace c =
     let v : Volume = c.self.inside.overlay.volume in
     let t : List ℕ = splice (trace_at v c.args.p) c.args.at (length c.args.bytes.now) c.args.bytes.now in
     let last : c.args.p ≤ count_of v = rw (← c.self.view_is) at c.requires.last in
     let prep : c.prepare_put.new.self.prepared ≡ with_trace v c.args.p t = ap (λ (o : CountedVolume PackedRecord). o.prepared) c.in_ok-prepare_put.ensures.ok in
     subst (λ (u : Volume). is_trace u c.args.p ≡ true) (sym prep) (is_trace_with v c.args.p t c.requires.first last)
 
-pub new_record-requires-clause-samples : goal.new_record-requires-clause-samples
-new_record-requires-clause-samples c =
+pub record_after-requires-clause-samples : goal.record_after-requires-clause-samples
+record_after-requires-clause-samples c =
     let v : Volume = c.self.inside.overlay.volume in
     let fields : Pairs = c.self.inside.fields.pairs in
     let t : List ℕ = splice (trace_at v c.args.p) c.args.at (length c.args.bytes.now) c.args.bytes.now in
@@ -36,16 +36,16 @@ new_record-requires-clause-samples c =
     λ sure. subst (λ (u : Volume). IfSome c.args.known (HasSamplesOf u.head fields (trace_at u c.args.p))) (sym prep)
     (subst (λ (u : List ℕ). IfSome c.args.known (HasSamplesOf v.head fields u)) (sym (trace_again v c.args.p t c.requires.first last)) (known (subst IsTrue same sure)))
 
-pub new_record-requires-clause-laid : goal.new_record-requires-clause-laid
-new_record-requires-clause-laid c =
+pub record_after-requires-clause-laid : goal.record_after-requires-clause-laid
+record_after-requires-clause-laid c =
     let last : c.args.p ≤ count_of c.self.inside.overlay.volume = rw (← c.self.view_is) at c.requires.last in
     let inside : c.args.at + length c.args.bytes.now ≤ length (trace_at c.self.inside.overlay.volume c.args.p) = rw (← c.self.view_is) at c.requires.inside in
     let held : IsTrue c.self.inside.overlay.agreed → IfSome c.args.known (λ r. facts_of r ≡ record_of c.self.inside.overlay.volume.head c.self.inside.fields.pairs (trace_at c.self.inside.overlay.volume c.args.p)) = rw (← c.self.view_is) at c.requires.known in
     let same : c.prepare_put.new.self.agreed ≡ c.self.inside.overlay.agreed = ap (λ (o : CountedVolume PackedRecord). o.agreed) c.in_ok-prepare_put.ensures.ok in
     λ sure. edit.put_laid c.self.inside c.args.p c.args.at c.args.bytes.now c.prepare_put.new.self c.args.known c.requires.first last inside c.in_ok-prepare_put.ensures.ok (held (subst IsTrue same sure))
 
-pub new_record-requires-clause-few : goal.new_record-requires-clause-few
-new_record-requires-clause-few c =
+pub record_after-requires-clause-few : goal.record_after-requires-clause-few
+record_after-requires-clause-few c =
     let v : Volume = c.self.inside.overlay.volume in
     let t : List ℕ = splice (trace_at v c.args.p) c.args.at (length c.args.bytes.now) c.args.bytes.now in
     let last : c.args.p ≤ count_of v = rw (← c.self.view_is) at c.requires.last in
@@ -56,37 +56,37 @@ new_record-requires-clause-few c =
     sym (ap (λ (u : List ℕ). length u) (trace_again v c.args.p t c.requires.first last) ∙ length-splice (trace_at v c.args.p) c.args.at c.args.bytes.now inside) in
     subst (λ (u : Volume). IfSome c.args.known (λ (r : Record). r.number ≤ length (trace_at u c.args.p))) (sym prep) (subst (λ (n : ℕ). IfSome c.args.known (λ (r : Record). r.number ≤ n)) long few)
 
-pub exchange-requires-clause-last : goal.exchange-requires-clause-last
-exchange-requires-clause-last c =
+pub commit_with_record-requires-clause-last : goal.commit_with_record-requires-clause-last
+commit_with_record-requires-clause-last c =
     let last : c.args.p ≤ count_of c.self.inside.overlay.volume = rw (← c.self.view_is) at c.requires.last in
     let inside : c.args.at + length c.args.bytes.now ≤ length (trace_at c.self.inside.overlay.volume c.args.p) = rw (← c.self.view_is) at c.requires.inside in
-    edit.put_last c.self.inside c.self.invariant c.args.p c.args.at c.args.bytes.now c.prepare_put.new.self c.new_record.new.overlay c.requires.first last inside c.in_ok-prepare_put.ensures.ok c.new_record.ensures.seen
+    edit.put_last c.self.inside c.self.invariant c.args.p c.args.at c.args.bytes.now c.prepare_put.new.self c.record_after.new.overlay c.requires.first last inside c.in_ok-prepare_put.ensures.ok c.record_after.ensures.seen
 
-pub exchange-requires-clause-held : goal.exchange-requires-clause-held
-exchange-requires-clause-held c =
+pub commit_with_record-requires-clause-held : goal.commit_with_record-requires-clause-held
+commit_with_record-requires-clause-held c =
     let last : c.args.p ≤ count_of c.self.inside.overlay.volume = rw (← c.self.view_is) at c.requires.last in
     let inside : c.args.at + length c.args.bytes.now ≤ length (trace_at c.self.inside.overlay.volume c.args.p) = rw (← c.self.view_is) at c.requires.inside in
-    edit.put_held c.self.inside c.self.invariant c.args.p c.args.at c.args.bytes.now c.prepare_put.new.self c.new_record.new.overlay c.requires.first last inside c.in_ok-prepare_put.ensures.ok c.new_record.ensures.seen
+    edit.put_held c.self.inside c.self.invariant c.args.p c.args.at c.args.bytes.now c.prepare_put.new.self c.record_after.new.overlay c.requires.first last inside c.in_ok-prepare_put.ensures.ok c.record_after.ensures.seen
 
-pub exchange-requires-clause-stay : goal.exchange-requires-clause-stay
-exchange-requires-clause-stay c =
+pub commit_with_record-requires-clause-stay : goal.commit_with_record-requires-clause-stay
+commit_with_record-requires-clause-stay c =
     let last : c.args.p ≤ count_of c.self.inside.overlay.volume = rw (← c.self.view_is) at c.requires.last in
     let inside : c.args.at + length c.args.bytes.now ≤ length (trace_at c.self.inside.overlay.volume c.args.p) = rw (← c.self.view_is) at c.requires.inside in
-    edit.put_stay c.self.inside c.self.invariant c.args.p c.args.at c.args.bytes.now c.prepare_put.new.self c.new_record.new.overlay c.requires.first last inside c.in_ok-prepare_put.ensures.ok c.new_record.ensures.seen
+    edit.put_stay c.self.inside c.self.invariant c.args.p c.args.at c.args.bytes.now c.prepare_put.new.self c.record_after.new.overlay c.requires.first last inside c.in_ok-prepare_put.ensures.ok c.record_after.ensures.seen
 
-pub exchange-requires-clause-counted : goal.exchange-requires-clause-counted
-exchange-requires-clause-counted c =
+pub commit_with_record-requires-clause-counted : goal.commit_with_record-requires-clause-counted
+commit_with_record-requires-clause-counted c =
     let last : c.args.p ≤ count_of c.self.inside.overlay.volume = rw (← c.self.view_is) at c.requires.last in
     let inside : c.args.at + length c.args.bytes.now ≤ length (trace_at c.self.inside.overlay.volume c.args.p) = rw (← c.self.view_is) at c.requires.inside in
-    edit.put_counted c.self.inside c.self.invariant c.args.p c.args.at c.args.bytes.now c.prepare_put.new.self c.new_record.new.overlay c.requires.first last inside c.in_ok-prepare_put.ensures.ok c.new_record.ensures.seen
+    edit.put_counted c.self.inside c.self.invariant c.args.p c.args.at c.args.bytes.now c.prepare_put.new.self c.record_after.new.overlay c.requires.first last inside c.in_ok-prepare_put.ensures.ok c.record_after.ensures.seen
 
-pub exchange-requires-clause-few : goal.exchange-requires-clause-few
-exchange-requires-clause-few c =
+pub commit_with_record-requires-clause-few : goal.commit_with_record-requires-clause-few
+commit_with_record-requires-clause-few c =
     let last : c.args.p ≤ count_of c.self.inside.overlay.volume = rw (← c.self.view_is) at c.requires.last in
     let inside : c.args.at + length c.args.bytes.now ≤ length (trace_at c.self.inside.overlay.volume c.args.p) = rw (← c.self.view_is) at c.requires.inside in
-    let small : c.in-Ok.record.number ≤ length (trace_at c.new_record.new.overlay.prepared c.args.p) =
-    subst (λ (u : Volume). c.in-Ok.record.number ≤ length (trace_at u c.args.p)) (sym c.new_record.ensures.seen.prepared) c.in-Ok.ensures.few in
-    edit.put_few c.self.inside c.self.invariant c.args.p c.args.at c.args.bytes.now c.prepare_put.new.self c.new_record.new.overlay c.requires.first last inside c.in_ok-prepare_put.ensures.ok c.new_record.ensures.seen c.in-Ok.record (search rules) small
+    let small : c.in-Ok.record.number ≤ length (trace_at c.record_after.new.overlay.prepared c.args.p) =
+    subst (λ (u : Volume). c.in-Ok.record.number ≤ length (trace_at u c.args.p)) (sym c.record_after.ensures.seen.prepared) c.in-Ok.ensures.few in
+    edit.put_few c.self.inside c.self.invariant c.args.p c.args.at c.args.bytes.now c.prepare_put.new.self c.record_after.new.overlay c.requires.first last inside c.in_ok-prepare_put.ensures.ok c.record_after.ensures.seen c.in-Ok.record (search rules) small
 
 pub invariant_of-self-in-Ok : goal.invariant_of-self-in-Ok
 invariant_of-self-in-Ok c =
@@ -96,9 +96,9 @@ invariant_of-self-in-Ok c =
     let inside : c.args.at + length c.args.bytes.now ≤ length (trace_at v c.args.p) = rw (← c.self.view_is) at c.requires.inside in
     let cut : IsTrue c.self.inside.overlay.agreed → IsCut (bytes_of w) c.self.inside.reading c.self.inside.limits w = rw (← c.self.view_is) at c.requires.cut in
     let same : c.prepare_put.new.self.agreed ≡ c.self.inside.overlay.agreed = ap (λ (o : CountedVolume PackedRecord). o.agreed) c.in_ok-prepare_put.ensures.ok in
-    let prep : c.new_record.new.overlay.prepared ≡ c.prepare_put.new.self.prepared = c.new_record.ensures.seen.prepared in
-    let facts = subst (λ (u : Volume). IsTrue c.new_record.new.overlay.agreed → facts_of c.in-Ok.record ≡ record_of u.head c.self.inside.fields.pairs (trace_at u c.args.p)) (sym prep) c.in-Ok.ensures.record in
-    let small : c.in-Ok.record.number ≤ length (trace_at c.new_record.new.overlay.prepared c.args.p) = subst (λ (u : Volume). c.in-Ok.record.number ≤ length (trace_at u c.args.p)) (sym prep) c.in-Ok.ensures.few in
-    edit.put_done c.self.inside c.self.invariant c.args.p c.args.at c.args.bytes.now c.prepare_put.new.self c.new_record.new.overlay c.requires.first last inside c.in_ok-prepare_put.ensures.ok c.new_record.ensures.seen c.exchange.new.overlay c.exchange.new.reports c.in-Ok.record
-    c.in_ok-exchange-in-Ok.ensures.volume c.exchange.ensures.prepared c.in_ok-exchange-in-Ok.ensures.records c.exchange.ensures.agreed (λ sure. subst IsTrue same (c.new_record.ensures.seen.agreed sure)) cut facts small
-    c.in_ok-exchange-in-Ok.ensures.reports
+    let prep : c.record_after.new.overlay.prepared ≡ c.prepare_put.new.self.prepared = c.record_after.ensures.seen.prepared in
+    let facts = subst (λ (u : Volume). IsTrue c.record_after.new.overlay.agreed → facts_of c.in-Ok.record ≡ record_of u.head c.self.inside.fields.pairs (trace_at u c.args.p)) (sym prep) c.in-Ok.ensures.record in
+    let small : c.in-Ok.record.number ≤ length (trace_at c.record_after.new.overlay.prepared c.args.p) = subst (λ (u : Volume). c.in-Ok.record.number ≤ length (trace_at u c.args.p)) (sym prep) c.in-Ok.ensures.few in
+    edit.put_done c.self.inside c.self.invariant c.args.p c.args.at c.args.bytes.now c.prepare_put.new.self c.record_after.new.overlay c.requires.first last inside c.in_ok-prepare_put.ensures.ok c.record_after.ensures.seen c.commit_with_record.new.overlay c.commit_with_record.new.reports c.in-Ok.record
+    c.in-Ok-commit_with_record.ensures.volume c.commit_with_record.ensures.prepared c.in-Ok-commit_with_record.ensures.records c.commit_with_record.ensures.agreed (λ sure. subst IsTrue same (c.record_after.ensures.seen.agreed sure)) cut facts small
+    c.in-Ok-commit_with_record.ensures.reports

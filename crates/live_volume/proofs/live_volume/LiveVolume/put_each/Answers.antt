@@ -72,48 +72,48 @@ same_cells-stays-requires c =
     let list : c.new.result ≡ records_in b = c.new.ensures ∙ ap (λ (qs : List PackedRecord). map record_in qs) (c.payloads.ensures ∙ payloads) in
     rw list room
 
-pub exchange_each-requires-clause-last : goal.exchange_each-requires-clause-last
-exchange_each-requires-clause-last c =
+pub commit_with_records-requires-clause-last : goal.commit_with_records-requires-clause-last
+commit_with_records-requires-clause-last c =
     let b = c.self.inside in
     let last : c.args.a - 1 + c.args.count ≤ count_of b.overlay.volume = rw (← c.self.view_is) at c.requires.last in
     let inside : (k : ℕ) → k < length c.args.bytes.now / c.args.size → c.args.at + c.args.size ≤ length (get_or b.overlay.volume.traces (c.args.a - 1 + k) []) = rw (← c.self.view_is) at c.requires.inside in
     edit.each_last b c.self.invariant c.args.a c.args.count c.args.at c.args.size c.args.bytes.now c.prepare_put_each.new.self c.prepared_records.new.overlay c.in-Ok.records c.requires.first c.requires.some c.requires.exact c.requires.count
     last inside c.in_ok-prepare_put_each.ensures.ok c.prepared_records.ensures.seen c.in-Ok.ensures.many c.in-Ok.ensures.numbers
 
-pub exchange_each-requires-clause-held : goal.exchange_each-requires-clause-held
-exchange_each-requires-clause-held c =
+pub commit_with_records-requires-clause-held : goal.commit_with_records-requires-clause-held
+commit_with_records-requires-clause-held c =
     let b = c.self.inside in
     let last : c.args.a - 1 + c.args.count ≤ count_of b.overlay.volume = rw (← c.self.view_is) at c.requires.last in
     let inside : (k : ℕ) → k < length c.args.bytes.now / c.args.size → c.args.at + c.args.size ≤ length (get_or b.overlay.volume.traces (c.args.a - 1 + k) []) = rw (← c.self.view_is) at c.requires.inside in
     edit.each_held b c.self.invariant c.args.a c.args.count c.args.at c.args.size c.args.bytes.now c.prepare_put_each.new.self c.prepared_records.new.overlay c.in-Ok.records c.requires.first c.requires.some c.requires.exact c.requires.count
     last inside c.in_ok-prepare_put_each.ensures.ok c.prepared_records.ensures.seen c.in-Ok.ensures.many c.in-Ok.ensures.numbers
 
-pub exchange_each-requires-clause-stay : goal.exchange_each-requires-clause-stay
-exchange_each-requires-clause-stay c =
+pub commit_with_records-requires-clause-stay : goal.commit_with_records-requires-clause-stay
+commit_with_records-requires-clause-stay c =
     let b = c.self.inside in
     let last : c.args.a - 1 + c.args.count ≤ count_of b.overlay.volume = rw (← c.self.view_is) at c.requires.last in
     let inside : (k : ℕ) → k < length c.args.bytes.now / c.args.size → c.args.at + c.args.size ≤ length (get_or b.overlay.volume.traces (c.args.a - 1 + k) []) = rw (← c.self.view_is) at c.requires.inside in
     edit.each_stay b c.self.invariant c.args.a c.args.count c.args.at c.args.size c.args.bytes.now c.prepare_put_each.new.self c.prepared_records.new.overlay c.in-Ok.records c.requires.first c.requires.some c.requires.exact c.requires.count
     last inside c.in_ok-prepare_put_each.ensures.ok c.prepared_records.ensures.seen c.in-Ok.ensures.many c.in-Ok.ensures.numbers
 
-pub exchange_each-requires-clause-counted : goal.exchange_each-requires-clause-counted
-exchange_each-requires-clause-counted c =
+pub commit_with_records-requires-clause-counted : goal.commit_with_records-requires-clause-counted
+commit_with_records-requires-clause-counted c =
     let b = c.self.inside in
     let last : c.args.a - 1 + c.args.count ≤ count_of b.overlay.volume = rw (← c.self.view_is) at c.requires.last in
     let inside : (k : ℕ) → k < length c.args.bytes.now / c.args.size → c.args.at + c.args.size ≤ length (get_or b.overlay.volume.traces (c.args.a - 1 + k) []) = rw (← c.self.view_is) at c.requires.inside in
     edit.each_counted b c.self.invariant c.args.a c.args.count c.args.at c.args.size c.args.bytes.now c.prepare_put_each.new.self c.prepared_records.new.overlay c.in-Ok.records c.requires.first c.requires.some c.requires.exact c.requires.count
     last inside c.in_ok-prepare_put_each.ensures.ok c.prepared_records.ensures.seen c.in-Ok.ensures.many c.in-Ok.ensures.numbers
 
-pub exchange_each-requires-clause-few : goal.exchange_each-requires-clause-few
-exchange_each-requires-clause-few c =
+pub commit_with_records-requires-clause-few : goal.commit_with_records-requires-clause-few
+commit_with_records-requires-clause-few c =
     let b = c.self.inside in
     let last : c.args.a - 1 + c.args.count ≤ count_of b.overlay.volume = rw (← c.self.view_is) at c.requires.last in
     let inside : (k : ℕ) → k < length c.args.bytes.now / c.args.size → c.args.at + c.args.size ≤ length (get_or b.overlay.volume.traces (c.args.a - 1 + k) []) = rw (← c.self.view_is) at c.requires.inside in
     edit.each_few b c.self.invariant c.args.a c.args.count c.args.at c.args.size c.args.bytes.now c.prepare_put_each.new.self c.prepared_records.new.overlay c.in-Ok.records c.requires.first c.requires.some c.requires.exact c.requires.count
     last inside c.in_ok-prepare_put_each.ensures.ok c.prepared_records.ensures.seen c.in-Ok.ensures.many c.in-Ok.ensures.numbers (search rules)
 
-pub invariant_of-self-in-Ok : goal.invariant_of-self-in-Ok
-invariant_of-self-in-Ok c =
+pub invariant_of-self-in-Ok-commit_with_records : goal.invariant_of-self-in-Ok-commit_with_records
+invariant_of-self-in-Ok-commit_with_records c =
     let b = c.self.inside in
     let last : c.args.a - 1 + c.args.count ≤ count_of b.overlay.volume = rw (← c.self.view_is) at c.requires.last in
     let inside : (k : ℕ) → k < length c.args.bytes.now / c.args.size → c.args.at + c.args.size ≤ length (get_or b.overlay.volume.traces (c.args.a - 1 + k) []) = rw (← c.self.view_is) at c.requires.inside in
@@ -130,11 +130,11 @@ invariant_of-self-in-Ok c =
     rw (← c.self.view_is) at c.requires.cut in
     edit.each_done b c.self.invariant c.args.a c.args.count c.args.at c.args.size c.args.bytes.now c.prepare_put_each.new.self c.prepared_records.new.overlay c.in-Ok.records c.requires.first c.requires.some c.requires.exact c.requires.count
     last inside c.in_ok-prepare_put_each.ensures.ok c.prepared_records.ensures.seen c.in-Ok.ensures.many c.in-Ok.ensures.numbers
-    c.exchange_each.new.overlay c.exchange_each.new.reports c.in_ok-exchange_each-in-Ok.ensures.volume c.exchange_each.ensures.prepared c.in_ok-exchange_each-in-Ok.ensures.records c.exchange_each.ensures.agreed
-    (λ sure. cut (before sure)) (λ sure. (found sure).records) c.in_ok-exchange_each-in-Ok.ensures.reports
+    c.commit_with_records.new.overlay c.commit_with_records.new.reports c.in-Ok-commit_with_records.ensures.volume c.commit_with_records.ensures.prepared c.in-Ok-commit_with_records.ensures.records c.commit_with_records.ensures.agreed
+    (λ sure. cut (before sure)) (λ sure. (found sure).records) c.in-Ok-commit_with_records.ensures.reports
 
-pub returns-in_ok-exchange_each-in-Ok-clause-moved : goal.returns-in_ok-exchange_each-in-Ok-clause-moved
-returns-in_ok-exchange_each-in-Ok-clause-moved c =
+pub returns-in-Ok-commit_with_records-clause-moved : goal.returns-in-Ok-commit_with_records-clause-moved
+returns-in-Ok-commit_with_records-clause-moved c =
     let b = c.self.inside in
     let last : c.args.a - 1 + c.args.count ≤ count_of b.overlay.volume = rw (← c.self.view_is) at c.requires.last in
     let inside : (k : ℕ) → k < length c.args.bytes.now / c.args.size → c.args.at + c.args.size ≤ length (get_or b.overlay.volume.traces (c.args.a - 1 + k) []) = rw (← c.self.view_is) at c.requires.inside in
@@ -160,7 +160,7 @@ returns-in_ok-exchange_each-in-Ok-clause-moved c =
     last inside c.in_ok-prepare_put_each.ensures.ok c.prepared_records.ensures.seen c.in-Ok.ensures.many c.in-Ok.ensures.numbers in
     let list : c.new.result ≡ records_in b = c.new.ensures ∙ ap (λ (qs : List PackedRecord). map record_in qs) (c.payloads.ensures ∙ payloads) in
     let within : at + c.args.count ≤ length w.traces = omega (arith, last, length-put_each v.traces at c.args.at c.args.size c.args.bytes.now) in
-    let stays : IsTrue c.exchange_each.new.overlay.agreed → IsTrue c.prepared_records.new.overlay.agreed = subst IsTrue c.exchange_each.ensures.agreed in
+    let stays : IsTrue c.commit_with_records.new.overlay.agreed → IsTrue c.prepared_records.new.overlay.agreed = subst IsTrue c.commit_with_records.ensures.agreed in
     rw (← c.self.view_is) (λ sure.
     let held = c.self.invariant.records (before (stays sure)) in
     let old_facts : map facts_of (drop at rs) ≡ map f (drop at v.traces) = sym (drop-map facts_of at rs) ∙ ap (λ (fs : List Facts). drop at fs) held ∙ drop-map f at v.traces in

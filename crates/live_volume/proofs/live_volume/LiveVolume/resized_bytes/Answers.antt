@@ -15,8 +15,9 @@ use Rattle.bench_rules.specs.TraceEdits.{resized}
 use Rattle.bench_rules.proofs.SetLemmas.{both}
 use Rattle.bench_rules.proofs.WholeTraceLemmas.{length-without}
 use Rattle.many_traces.specs.Formulas.{IsRefusalFor}
+use Rattle.volume_records.proofs.SeenLemmas.{if_ok}
 use Rattle.live_volume.specs.Held.{state_of}
-use Rattle.live_volume.proofs.HeldLemmas.{if_err, if_ok, held_again, looked_at, seen_once}
+use Rattle.live_volume.proofs.HeldLemmas.{if_err, held_again, looked_at, seen_once}
 use Rattle.live_volume.proofs.RoomLemmas.{counts, count_told, may_replace}
 use Rattle.live_volume.proofs.live_volume.LiveVolume.resized_bytes.Goals as goal
 

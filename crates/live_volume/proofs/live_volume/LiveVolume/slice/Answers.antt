@@ -4,7 +4,8 @@ use Rattle.time_slice.specs.OfRecords.{with_sample_of}
 use Rattle.time_slice.specs.Slices.{slice_rows, slice_of}
 use Rattle.time_slice.proofs.CacheLemmas.{right_of_records}
 use Rattle.time_slice.proofs.PassLemmas.{rows_are_of_traces}
-use Rattle.live_volume.proofs.HeldLemmas.{if_ok, held_again, kept_as_told}
+use Rattle.volume_records.proofs.SeenLemmas.{if_ok}
+use Rattle.live_volume.proofs.HeldLemmas.{held_again, kept_as_told}
 use Rattle.live_volume.specs.Held.{records_in}
 use Rattle.live_volume.proofs.live_volume.LiveVolume.slice.Goals as goal
 

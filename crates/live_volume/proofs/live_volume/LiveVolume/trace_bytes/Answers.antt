@@ -2,7 +2,7 @@ use Rattle.std.proofs.Common.{◌∙◌, List, ℕ, ap, length, subst}
 use Rattle.frame_cut.specs.Cuts.{IsTrace}
 use Rattle.frame_cut.specs.declared.file_head.Head.{Head}
 use Rattle.trace_view.specs.Shown.{bytes_of}
-use Rattle.live_volume.proofs.HeldLemmas.{if_ok}
+use Rattle.volume_records.proofs.SeenLemmas.{if_ok}
 use Rattle.live_volume.proofs.live_volume.LiveVolume.trace_bytes.Goals as goal
 
 pub returns-clause-ok : goal.returns-clause-ok

@@ -6,7 +6,7 @@ use Rattle.trace_record.specs.declared.packed_record.PackedRecord.{PackedRecord}
 use Rattle.trace_record.specs.declared.record.Record.{Record}
 use Rattle.edit_overlay.specs.CountedVolume.{CountedVolume}
 use Rattle.live_reports.specs.OfRecords.{AreReportsOf}
-use Rattle.live_volume.proofs.volume_edits.exchange.Goals as goal
+use Rattle.volume_records.proofs.committing.commit_with_record.Goals as goal
 
 pub returns-in-Ok-clause-records : goal.returns-in-Ok-clause-records
 returns-in-Ok-clause-records c =

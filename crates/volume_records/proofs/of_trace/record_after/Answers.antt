@@ -2,11 +2,9 @@ use Rattle.std.proofs.Common.{◌∙◌, ◌≤◌, IsTrue, length, subst, arith
 use Rattle.std.specs.Prelude.{Option, IfSome}
 use Rattle.frame_cut.specs.Traces.{trace_at}
 use Rattle.trace_record.specs.declared.record.Record.{Record}
-use Rattle.volume_records.specs.Laid.{IsLaid}
-use Rattle.volume_records.proofs.SeenLemmas.{seen_more, seen_none}
-use Rattle.live_volume.specs.Held.{HasSamplesOf}
-use Rattle.live_volume.proofs.HeldLemmas.{if_ok}
-use Rattle.live_volume.proofs.volume_edits.new_record.Goals as goal
+use Rattle.volume_records.specs.Laid.{HasSamplesOf, IsLaid}
+use Rattle.volume_records.proofs.SeenLemmas.{if_ok, seen_more, seen_none}
+use Rattle.volume_records.proofs.of_trace.record_after.Goals as goal
 
 pub returns-in-Some-clause-record : goal.returns-in-Some-clause-record
 returns-in-Some-clause-record c =

@@ -143,76 +143,86 @@ fn cuts_files_with_extensions_or_text_headers(rt: HostRuntime) -> Result<(), Fai
     cuts_at(&rt, alloc, &texted_file(alloc)?, &texted)
 }
 
+// Asserts that the file has this head under the reading.
+fn expect_head(
+    rt: &impl Abort,
+    file: &[u8],
+    reading: Reading,
+    expected: &Head,
+) -> Result<(), Fail> {
+    assert_eq!(rt; head(file, reading, wide(rt))?, *expected);
+    Ok(())
+}
+
+// The file with these bytes over it.
+fn changed(mut file: Vec<u8>, byte: usize, new: &[u8]) -> Vec<u8> {
+    put(&mut file, byte, new);
+    file
+}
+
 #[test]
 fn reads_heads(rt: HostRuntime) -> Result<(), Fail> {
     let alloc = rt.alloc();
-    let mut v = plain_head();
-    v.fixed = false;
-    let mut k = plain_head();
-    k.blocks = 2;
-    k.traces_at = 10000;
-    let mut t = plain_head();
-    t.order = Order::Little;
-    t.major = 2;
-    t.format = Format::Integer(IntegerFormat::Signed24);
-    let mut counted = texted_file(alloc)?;
-    put(&mut counted, 3505, &[0, 2]);
-    let heads = [
-        (plain_file(alloc)?, plain_head()),
-        (varying_file(alloc)?, v),
-        (texted_file(alloc)?, k),
-        (counted, k),
-        (little_file(alloc)?, t),
-    ];
-    for (file, expected) in heads {
-        assert_eq!(rt; head(&file, Reading::as_written(), wide(&rt))?, expected);
-    }
-    Ok(())
+    let written = Reading::as_written();
+    let plain = plain_head();
+    expect_head(&rt, &plain_file(alloc)?, written, &plain)?;
+    let mut varying = plain;
+    varying.fixed = false;
+    expect_head(&rt, &varying_file(alloc)?, written, &varying)?;
+    let mut little = plain;
+    little.order = Order::Little;
+    little.major = 2;
+    little.format = Format::Integer(IntegerFormat::Signed24);
+    expect_head(&rt, &little_file(alloc)?, written, &little)?;
+    let mut texted = plain;
+    texted.blocks = 2;
+    texted.traces_at = 10000;
+    expect_head(&rt, &texted_file(alloc)?, written, &texted)?;
+    let counted = changed(texted_file(alloc)?, 3505, &[0, 2]);
+    expect_head(&rt, &counted, written, &texted)
+}
+
+// The head of the file as it is written, and where all traces are to have one length.
+fn expect_heads(rt: &impl Abort, file: &[u8], mut expected: Head) -> Result<(), Fail> {
+    expect_head(rt, file, Reading::as_written(), &expected)?;
+    expected.fixed = true;
+    expect_head(rt, file, FIXED, &expected)
 }
 
 #[test]
 fn reads_heads_with_trace_header_extensions(rt: HostRuntime) -> Result<(), Fail> {
     let alloc = rt.alloc();
-    let mut x = plain_head();
-    x.major = 2;
-    x.extensions = 1;
-    let mut y = x;
-    y.fixed = false;
-    y.extensions = 3;
-    let mut z = x;
-    z.trailer = 2;
-    for (file, expected) in [
-        (extended_file(alloc)?, x),
-        (counted_file(alloc)?, y),
-        (trailed_file(alloc)?, z),
-    ] {
-        assert_eq!(rt; head(&file, Reading::as_written(), wide(&rt))?, expected);
-        let mut fixed = expected;
-        fixed.fixed = true;
-        assert_eq!(rt; head(&file, FIXED, wide(&rt))?, fixed, "as fixed");
-    }
-    Ok(())
+    let mut one = plain_head();
+    one.major = 2;
+    one.extensions = 1;
+    expect_heads(&rt, &extended_file(alloc)?, one)?;
+    let mut three = one;
+    three.fixed = false;
+    three.extensions = 3;
+    expect_heads(&rt, &counted_file(alloc)?, three)?;
+    one.trailer = 2;
+    expect_heads(&rt, &trailed_file(alloc)?, one)
 }
 
-// In revision 0 bytes 3503 to 3532 do not count, and the wide number of samples neither.
-#[test]
-fn reads_heads_of_revision_0(rt: HostRuntime) -> Result<(), Fail> {
-    let alloc = rt.alloc();
+// The file as one of revision 0.7, with a wide number of samples. In revision 0 bytes 3503 to 3532
+// do not count, and that number neither.
+fn expect_revision_0(rt: &impl Abort, file: Vec<u8>) -> Result<(), Fail> {
     let mut expected = plain_head();
     expected.major = 0;
     expected.minor = 7;
     expected.fixed = false;
-    for mut file in [
-        plain_file(alloc)?,
-        extended_file(alloc)?,
-        trailed_file(alloc)?,
-        texted_file(alloc)?,
-    ] {
-        put(&mut file, 3269, &[0, 0, 0, 9]);
-        put(&mut file, 3501, &[0, 7]);
-        assert_eq!(rt; head(&file, Reading::as_written(), wide(&rt))?, expected);
-    }
-    Ok(())
+    let file = changed(file, 3269, &[0, 0, 0, 9]);
+    let file = changed(file, 3501, &[0, 7]);
+    expect_head(rt, &file, Reading::as_written(), &expected)
+}
+
+#[test]
+fn reads_heads_of_revision_0(rt: HostRuntime) -> Result<(), Fail> {
+    let alloc = rt.alloc();
+    expect_revision_0(&rt, plain_file(alloc)?)?;
+    expect_revision_0(&rt, extended_file(alloc)?)?;
+    expect_revision_0(&rt, trailed_file(alloc)?)?;
+    expect_revision_0(&rt, texted_file(alloc)?)
 }
 
 #[test]
@@ -282,71 +292,79 @@ fn expect_opaque(
     Ok(())
 }
 
+// Asserts that the file is so many traces under the reading, or is refused so.
+fn expect_count(
+    rt: &impl Abort,
+    alloc: Global,
+    file: &[u8],
+    reading: Reading,
+    expected: Result<u32, LoadFault>,
+) {
+    assert_eq!(rt; traces_by(alloc, file, reading, wide(rt)), expected);
+}
+
 #[test]
 fn refuses_unknown_formats_either_way(rt: HostRuntime) -> Result<(), Fail> {
     let alloc = rt.alloc();
     for code in [0, 13, 14, 17, 255] {
-        let mut file = plain_file(alloc)?;
-        put(&mut file, 3226, &[code]);
-        let fault = LoadFault::UnknownFormat(u16::from(code));
-        assert_eq!(rt; traces(alloc, &file, wide(&rt)), Err(fault));
-        assert_eq!(rt; traces_by(alloc, &file, OPAQUE, wide(&rt)), Err(fault));
+        let file = changed(plain_file(alloc)?, 3226, &[code]);
+        let unknown = Err(LoadFault::UnknownFormat(u16::from(code)));
+        expect_count(&rt, alloc, &file, Reading::as_written(), unknown);
+        expect_count(&rt, alloc, &file, OPAQUE, unknown);
     }
     Ok(())
 }
 
 // A little-endian file of revision 0, whose byte-order constant is not there.
-#[test]
-fn takes_the_order_asked_for(rt: HostRuntime) -> Result<(), Fail> {
-    let alloc = rt.alloc();
-    let mut file = little_file(alloc)?;
-    put(&mut file, 3297, &[0; 4]);
-    put(&mut file, 3501, &[0, 0, 0, 0]);
+fn expect_order_taken(rt: &impl Abort, alloc: Global, file: &[u8]) -> Result<(), Fail> {
     let unknown = Err(LoadFault::UnknownFormat(0x700));
-    assert_eq!(rt; traces(alloc, &file, wide(&rt)), unknown);
-    assert_eq!(rt;
-        traces_by(alloc, &file, asked(Order::Big), wide(&rt)),
-        unknown
-    );
+    expect_count(rt, alloc, file, Reading::as_written(), unknown);
+    expect_count(rt, alloc, file, asked(Order::Big), unknown);
+    expect_count(rt, alloc, file, asked(Order::Little), Ok(1));
     let mut expected = plain_head();
     expected.order = Order::Little;
     expected.major = 0;
     expected.fixed = false;
     expected.format = Format::Integer(IntegerFormat::Signed24);
-    assert_eq!(rt; head(&file, asked(Order::Little), wide(&rt))?, expected);
-    assert_eq!(rt;
-        traces_by(alloc, &file, asked(Order::Little), wide(&rt)),
-        Ok(1)
-    );
-    Ok(())
+    expect_head(rt, file, asked(Order::Little), &expected)
+}
+
+#[test]
+fn takes_the_order_asked_for(rt: HostRuntime) -> Result<(), Fail> {
+    let alloc = rt.alloc();
+    let unmarked = changed(little_file(alloc)?, 3297, &[0; 4]);
+    let old = changed(unmarked, 3501, &[0, 0, 0, 0]);
+    expect_order_taken(&rt, alloc, &old)
+}
+
+// Asserts what the file is where this order is asked for, and the other.
+fn expect_orders(
+    rt: &impl Abort,
+    alloc: Global,
+    file: &[u8],
+    order: Order,
+    expected: Result<u32, LoadFault>,
+    other: LoadFault,
+) {
+    let opposite = match order {
+        Order::Big => Order::Little,
+        Order::Little => Order::Big,
+    };
+    expect_count(rt, alloc, file, asked(order), expected);
+    expect_count(rt, alloc, file, asked(opposite), Err(other));
 }
 
 // The word of a byte-order constant stands, and pairs that are swapped come first.
 #[test]
 fn refuses_the_other_order(rt: HostRuntime) -> Result<(), Fail> {
     let alloc = rt.alloc();
-    let big = extended_file(alloc)?;
-    let little = little_file(alloc)?;
-    let other = Err(LoadFault::OtherOrder);
-    assert_eq!(rt;
-        traces_by(alloc, &big, asked(Order::Little), wide(&rt)),
-        other
-    );
-    assert_eq!(rt; traces_by(alloc, &big, asked(Order::Big), wide(&rt)), Ok(1));
-    assert_eq!(rt;
-        traces_by(alloc, &little, asked(Order::Big), wide(&rt)),
-        other
-    );
-    assert_eq!(rt;
-        traces_by(alloc, &little, asked(Order::Little), wide(&rt)),
-        Ok(1)
-    );
-    let mut swapped = plain_file(alloc)?;
-    put(&mut swapped, 3297, &[2, 1, 4, 3]);
-    for order in [Order::Big, Order::Little] {
-        let fault = traces_by(alloc, &swapped, asked(order), wide(&rt));
-        assert_eq!(rt; fault, Err(LoadFault::PairSwapped));
-    }
+    let (big, little) = (Order::Big, Order::Little);
+    let other = LoadFault::OtherOrder;
+    expect_orders(&rt, alloc, &extended_file(alloc)?, big, Ok(1), other);
+    expect_orders(&rt, alloc, &little_file(alloc)?, little, Ok(1), other);
+    let swapped = changed(plain_file(alloc)?, 3297, &[2, 1, 4, 3]);
+    let fault = LoadFault::PairSwapped;
+    expect_orders(&rt, alloc, &swapped, big, Err(fault), fault);
     Ok(())
 }
 

@@ -17,95 +17,143 @@ pub(crate) fn put(bytes: &mut [u8], byte: usize, new: &[u8]) {
     }
 }
 
+// The same with these bytes over it, each run from a byte on.
+fn with_bytes(
+    alloc: Global,
+    length: usize,
+    runs: &[(usize, &[u8])],
+) -> Result<Vec<u8>, AllocError> {
+    let mut bytes = file_of(alloc, length)?;
+    put_all(&mut bytes, runs);
+    Ok(bytes)
+}
+
+fn put_all(bytes: &mut [u8], runs: &[(usize, &[u8])]) {
+    for (byte, new) in runs {
+        put(bytes, *byte, new);
+    }
+}
+
 // Revision 1.0, 16-bit samples, two a trace, three traces of 244 bytes.
 pub(crate) fn plain_file(alloc: Global) -> Result<Vec<u8>, AllocError> {
-    let mut bytes = file_of(alloc, 4332)?;
-    put(&mut bytes, 3217, &[0x0F, 0xA0]);
-    put(&mut bytes, 3221, &[0, 2]);
-    put(&mut bytes, 3225, &[0, 3]);
-    put(&mut bytes, 3501, &[1]);
-    put(&mut bytes, 3503, &[0, 1]);
-    for trace in [3600, 3844, 4088] {
-        put(&mut bytes, trace + 115, &[0, 2]);
-        put(&mut bytes, trace + 241, &[0, 1, 0xFF, 0xFE]);
-    }
-    Ok(bytes)
+    with_bytes(
+        alloc,
+        4332,
+        &[
+            (3217, &[0x0F, 0xA0]),
+            (3221, &[0, 2]),
+            (3225, &[0, 3]),
+            (3501, &[1]),
+            (3503, &[0, 1]),
+            (3715, &[0, 2]),
+            (3841, &[0, 1, 0xFF, 0xFE]),
+            (3959, &[0, 2]),
+            (4085, &[0, 1, 0xFF, 0xFE]),
+            (4203, &[0, 2]),
+            (4329, &[0, 1, 0xFF, 0xFE]),
+        ],
+    )
 }
 
 // The same headers without the fixed length flag, and three traces of 3, 2 (the binary header's
 // number) and 65535 samples.
 pub(crate) fn varying_file(alloc: Global) -> Result<Vec<u8>, AllocError> {
-    let mut bytes = file_of(alloc, 135400)?;
-    put(&mut bytes, 3221, &[0, 2]);
-    put(&mut bytes, 3225, &[0, 3]);
-    put(&mut bytes, 3501, &[1]);
-    put(&mut bytes, 3600 + 115, &[0, 3]);
-    put(&mut bytes, 4090 + 115, &[0xFF, 0xFF]);
-    Ok(bytes)
+    with_bytes(
+        alloc,
+        135400,
+        &[
+            (3221, &[0, 2]),
+            (3225, &[0, 3]),
+            (3501, &[1]),
+            (3715, &[0, 3]),
+            (4205, &[0xFF, 0xFF]),
+        ],
+    )
 }
 
 // Revision 2.0, one trace with one header extension and two samples.
 pub(crate) fn extended_file(alloc: Global) -> Result<Vec<u8>, AllocError> {
-    file_2(alloc, 4084)
+    file_2(alloc, 4084, &[])
 }
 
-fn file_2(alloc: Global, length: usize) -> Result<Vec<u8>, AllocError> {
-    let mut bytes = file_of(alloc, length)?;
-    put(&mut bytes, 3221, &[0, 2]);
-    put(&mut bytes, 3225, &[0, 3]);
-    put(&mut bytes, 3297, &[1, 2, 3, 4]);
-    put(&mut bytes, 3501, &[2]);
-    put(&mut bytes, 3503, &[0, 1]);
-    put(&mut bytes, 3507, &[0, 0, 0, 1]);
-    put(&mut bytes, 3608, &[1]);
+// Its headers, with these bytes over the file.
+fn file_2(alloc: Global, length: usize, runs: &[(usize, &[u8])]) -> Result<Vec<u8>, AllocError> {
+    let mut bytes = with_bytes(
+        alloc,
+        length,
+        &[
+            (3221, &[0, 2]),
+            (3225, &[0, 3]),
+            (3297, &[1, 2, 3, 4]),
+            (3501, &[2]),
+            (3503, &[0, 1]),
+            (3507, &[0, 0, 0, 1]),
+            (3608, &[1]),
+        ],
+    )?;
+    put_all(&mut bytes, runs);
     Ok(bytes)
 }
 
 // Revision 2.0, up to three header extensions a trace, of which the only trace has two, and its own
 // number of samples.
 pub(crate) fn counted_file(alloc: Global) -> Result<Vec<u8>, AllocError> {
-    let mut bytes = file_2(alloc, 4324)?;
-    put(&mut bytes, 3503, &[0, 0]);
-    put(&mut bytes, 3507, &[0, 0, 0, 3]);
-    put(&mut bytes, 3600 + 115, &[0, 2]);
-    put(&mut bytes, 3600 + 240 + 157, &[0, 2]);
-    Ok(bytes)
+    file_2(
+        alloc,
+        4324,
+        &[
+            (3503, &[0, 0]),
+            (3507, &[0, 0, 0, 3]),
+            (3715, &[0, 2]),
+            (3997, &[0, 2]),
+        ],
+    )
 }
 
 // Revision 2.0, one trace with one header extension, two data trailer records.
 pub(crate) fn trailed_file(alloc: Global) -> Result<Vec<u8>, AllocError> {
-    let mut bytes = file_2(alloc, 10484)?;
-    put(&mut bytes, 3529, &[0, 0, 0, 2]);
-    put(&mut bytes, 4085, b"((Acme: Tail))");
-    Ok(bytes)
+    file_2(
+        alloc,
+        10484,
+        &[(3529, &[0, 0, 0, 2]), (4085, b"((Acme: Tail))")],
+    )
 }
 
 // Little-endian, revision 2.0, 24-bit samples, one trace of two.
 pub(crate) fn little_file(alloc: Global) -> Result<Vec<u8>, AllocError> {
-    let mut bytes = file_of(alloc, 3846)?;
-    put(&mut bytes, 3221, &[2, 0]);
-    put(&mut bytes, 3225, &[7, 0]);
-    put(&mut bytes, 3297, &[4, 3, 2, 1]);
-    put(&mut bytes, 3501, &[2]);
-    put(&mut bytes, 3503, &[1, 0]);
-    put(&mut bytes, 3841, &[0xFF, 0xFF, 0xFF, 0, 0, 0x80]);
-    Ok(bytes)
+    with_bytes(
+        alloc,
+        3846,
+        &[
+            (3221, &[2, 0]),
+            (3225, &[7, 0]),
+            (3297, &[4, 3, 2, 1]),
+            (3501, &[2]),
+            (3503, &[1, 0]),
+            (3841, &[0xFF, 0xFF, 0xFF, 0, 0, 0x80]),
+        ],
+    )
 }
 
 // The headers and traces of the first, with two extended textual headers between them that end by
 // themselves.
 pub(crate) fn texted_file(alloc: Global) -> Result<Vec<u8>, AllocError> {
     let mut bytes = file_of(alloc, 10732)?;
-    put(&mut bytes, 3221, &[0, 2]);
-    put(&mut bytes, 3225, &[0, 3]);
-    put(&mut bytes, 3501, &[1]);
-    put(&mut bytes, 3503, &[0, 1]);
-    put(&mut bytes, 3505, &[0xFF, 0xFF]);
     for byte in bytes.iter_mut().skip(3600).take(6400) {
         *byte = b' ';
     }
-    put(&mut bytes, 3601, b"((Acme: Note))");
-    put(&mut bytes, 6801, b"((Seg:  ENDtext))");
+    put_all(
+        &mut bytes,
+        &[
+            (3221, &[0, 2]),
+            (3225, &[0, 3]),
+            (3501, &[1]),
+            (3503, &[0, 1]),
+            (3505, &[0xFF, 0xFF]),
+            (3601, b"((Acme: Note))"),
+            (6801, b"((Seg:  ENDtext))"),
+        ],
+    );
     Ok(bytes)
 }
 

@@ -45,6 +45,7 @@ fn on_opened(
 {
     let mut bench = loaded(alloc, file, bytes.len() as u64, limits)?;
     ask(bytes, &mut bench);
+    bench.close();
     Ok(())
 }
 

@@ -57,6 +57,7 @@ pub(crate) fn on_file(
     let mut reader = Source::new(StepReader::new(file, 1000, u64::MAX));
     let mut bench = Bench::load(alloc, &mut reader, reading, limits)?;
     ask(&mut bench);
+    bench.close();
     Ok(())
 }
 

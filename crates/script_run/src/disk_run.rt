@@ -1,3 +1,5 @@
+ghost use Rattle.std.specs.Prelude.{◌≡◌};
+
 use bench_core::Bench;
 use edit_overlay::PassFault;
 use script_text::RunEnd;
@@ -9,4 +11,22 @@ use script_text::RunEnd;
 pub struct DiskRun {
     pub end: RunEnd,
     pub volume: Result<Bench, PassFault>,
+}
+
+impl DiskRun {
+    /// How it ended. Gives back the memory of the volume, and closes its file.
+    pub fn close(self) -> RunEnd
+        ensures { result ≡ self.end }
+    {
+        let end = self.end;
+        close_volume(self.volume);
+        end
+    }
+}
+
+fn close_volume(volume: Result<Bench, PassFault>) {
+    match volume {
+        Ok(bench) => bench.close(),
+        Err(_refused) => {}
+    }
 }

@@ -54,6 +54,7 @@ pub fn run<R: Read, S: Read, A: Write, O: Write>(
             let end = run_loaded(alloc, &mut bench, script, answers, out, options, notes);
             // The law by which each read of bytes in memory agrees, for the proof.
             bench.memory_agrees();
+            bench.close();
             end
         }
         Err(fault) => tell(answers, &load_fault_line(fault), RunEnd::Load(fault)),

@@ -50,6 +50,7 @@ pub fn session<R: Read, S: Read, A: Write, O: Write>(
             let end = session_loaded(alloc, &mut bench, script, answers, out, options);
             // The law by which each read of bytes in memory agrees, for the proof.
             bench.memory_agrees();
+            bench.close();
             end
         }
         Err(fault) => tell(answers, &load_fault_line(fault), RunEnd::Load(fault)),

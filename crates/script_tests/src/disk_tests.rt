@@ -23,10 +23,14 @@ fn run_meanwhile(
     let options = options(false, true)?;
     fs::write(rt, name, bytes)?;
     let file = fs::open(rt, name)?;
-    let Ok(mut bench) = load_on_disk(alloc, file, bytes.len() as u64, options) else {
-        return Err("a load".into());
-    };
-    run_over(rt, alloc, name, later, &mut bench, script)
+    match load_on_disk(alloc, file, bytes.len() as u64, options) {
+        Ok(mut bench) => {
+            let told = run_over(rt, alloc, name, later, &mut bench, script);
+            bench.close();
+            told
+        }
+        Err(_refused) => Err("a load".into()),
+    }
 }
 
 // The run, behind the load, of which the file has the later bytes.
@@ -107,7 +111,7 @@ fn run_end(
     let options = options(false, true)?;
     let script = &mut Source::new(StepReader::new(lines, 4096, u64::MAX));
     let notes = &mut Notes::new();
-    Ok(run_on_disk(alloc, file, size, script, answers, out, options, notes).end)
+    Ok(run_on_disk(alloc, file, size, script, answers, out, options, notes).close())
 }
 
 // A run of these lines over a file on disk, which has so many bytes.
@@ -145,7 +149,7 @@ fn session_end(
     let options = options(false, false)?;
     let lines = &mut Source::new(StepReader::new(b"count\n", 4096, u64::MAX));
     let out = &mut Sink::new(Vec::new(alloc));
-    Ok(session_on_disk(alloc, file, size, lines, answers, out, options).end)
+    Ok(session_on_disk(alloc, file, size, lines, answers, out, options).close())
 }
 
 // Whether a session over the file, which is told to have so many bytes, ends so and answers so.

@@ -238,7 +238,7 @@ fn answer_on_disk<R: Files<File = File> + AllocGlobal + Print + Input, O: Write>
     }
 }
 
-// The lines of a script. The volume that the run gives back is dropped here.
+// The lines of a script. The volume that the run gives back is closed here.
 fn script_on_disk<R: AllocGlobal + Print, S: Read, O: Write>(
     rt: &R,
     volume: File,
@@ -259,7 +259,7 @@ fn script_on_disk<R: AllocGlobal + Print, S: Read, O: Write>(
         options,
         notes,
     )
-    .end
+    .close()
 }
 
 // The lines of a session on standard input, likewise.
@@ -272,7 +272,7 @@ fn session_lines_on_disk<R: AllocGlobal + Print + Input, O: Write>(
 ) -> RunEnd {
     let script = &mut Source::new(rt.reader());
     let answers = &mut Sink::new(io::writer(rt));
-    session_on_disk(rt.alloc(), volume, bytes, script, answers, out, options).end
+    session_on_disk(rt.alloc(), volume, bytes, script, answers, out, options).close()
 }
 
 // How the command line asks for the run.

@@ -6,7 +6,11 @@ here=$(cd "$(dirname "$0")" && pwd)
 program=$(realpath "${1:-$here/../crates/segywb/out/segywb}")
 . "$here/files.sh"
 work=$(mktemp -d)
-trap 'rm -rf "$work"' EXIT
+named=$(mktemp -d)
+trap 'rm -rf "$work" "$named"' EXIT
+# Its help prints the name that it is called by, and the shipped one has another.
+cp "$program" "$named/segywb" || exit 1
+program=$named/segywb
 cd "$work" || exit 1
 passed=0
 failed=0

@@ -161,6 +161,10 @@ impl<T: Copy> Loading<T> {
         Ok(())
     }
 
+    /// Gives the file up, and its memory back. Who owns one that is not finished ends it by this,
+    /// as an [`Overlay`] is closed.
+    pub fn close(self) {}
+
     /// The overlay of the file, where each trace has its payload. Takes no memory.
     pub fn finish(self) -> Overlay<T>
         requires { length self.payloads ≡ count_of self.volume }

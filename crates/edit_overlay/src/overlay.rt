@@ -534,6 +534,10 @@ impl<T: Copy> Overlay<T> {
         PassFault::of(fault, self.laid.store.loaded)
     }
 
+    /// Ends the volume: gives back its memory, and closes a file on disk. Who owns one ends it by
+    /// this, since each crate that drops one proves anew how its parts are dropped.
+    pub fn close(self) {}
+
     /// Writes the file as it is now. Takes no memory. Refused where the writer failed, or on disk
     /// where a read of the loaded bytes did; `written` is then the length of the prefix that the
     /// writer took.

@@ -44,6 +44,10 @@ impl LiveReports {
         Ok(LiveReports { values })
     }
 
+    /// Ends the reports, and gives their memory back. Who owns them ends them by this, since each
+    /// crate that drops them proves anew how their parts are dropped.
+    pub fn close(self) {}
+
     /// The grid. Takes no memory.
     pub fn grid(&self) -> &Grid
         ensures { (rs : List Record) → AreReportsOf self.now rs →

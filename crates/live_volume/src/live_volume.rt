@@ -37,6 +37,7 @@ use num_order::{fits, write};
 use std::alloc::Global;
 use std::io::{Read, Write};
 use std::marker::Model;
+use std::mem;
 use text_block::{code_of, encode_line};
 use trace_record::PackedRecord;
 use volume_answers::{
@@ -101,19 +102,23 @@ impl LiveVolume {
             (λ fault. FailuresAfterRefusal fault reader.old.failures reader.new.failures) }
     {
         let loading = Loading::load(alloc, reader, reading, limits)?;
-        let Ok(fields) = FieldMap::standard(alloc, loading.head().extensions) else {
-            return Err(LoadFault::OutOfMemory);
+        let fields = match FieldMap::standard(alloc, loading.head().extensions) {
+            Ok(fields) => fields,
+            Err(_refused) => {
+                loading.close();
+                return Err(LoadFault::OutOfMemory);
+            }
         };
-        let Ok((overlay, reports)) = with_records(alloc, loading, &fields) else {
-            return Err(LoadFault::OutOfMemory);
-        };
-        Ok(LiveVolume {
-            overlay,
-            fields,
-            reading,
-            limits,
-            reports,
-        })
+        match with_records(alloc, loading, &fields) {
+            Ok((overlay, reports)) => Ok(LiveVolume {
+                overlay,
+                fields,
+                reading,
+                limits,
+                reports,
+            }),
+            Err(_refused) => Err(LoadFault::OutOfMemory),
+        }
     }
 
     /// One edit: done, and the reports follow it; or refused, and all is as it was. `Set`, `Map`,
@@ -376,7 +381,7 @@ impl LiveVolume {
         self.fields.set_geometry(text, place);
         match remake(alloc, &mut self.overlay, &self.fields) {
             Ok(reports) => {
-                self.reports = reports;
+                mem::replace(&mut self.reports, reports).close();
                 Ok(())
             }
             Err(fault) => {

@@ -41,16 +41,19 @@ impl LiveVolume {
             (λ refused. IsPassFault size reading limits refused.read refused.fault) }
     {
         let passing = Passing::begin(alloc, file, size, reading, limits)?;
-        let Ok(fields) = FieldMap::standard(alloc, passing.head().extensions) else {
-            return Err(passing.refuse(LoadFault::OutOfMemory));
+        let fields = match FieldMap::standard(alloc, passing.head().extensions) {
+            Ok(fields) => fields,
+            Err(_refused) => return Err(passing.refuse(LoadFault::OutOfMemory)),
         };
-        let (overlay, reports) = with_records_on_disk(alloc, passing, &fields)?;
-        Ok(LiveVolume {
-            overlay,
-            fields,
-            reading,
-            limits,
-            reports,
-        })
+        match with_records_on_disk(alloc, passing, &fields) {
+            Ok((overlay, reports)) => Ok(LiveVolume {
+                overlay,
+                fields,
+                reading,
+                limits,
+                reports,
+            }),
+            Err(refused) => Err(refused),
+        }
     }
 }

@@ -63,7 +63,7 @@ pub fn with_records_on_disk(
     let _count = overlay.count();
     match LiveReports::from_records(alloc, &Records::new(overlay.payloads())) {
         Ok(reports) => Ok((overlay, reports)),
-        Err(_) => Err(overlay.refuse(LoadFault::OutOfMemory)),
+        Err(_refused) => Err(overlay.refuse(LoadFault::OutOfMemory)),
     }
 }
 

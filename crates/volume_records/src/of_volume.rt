@@ -41,10 +41,21 @@ pub fn with_records(
         (r.0.agreed ≡ loading.agreed)) }
 {
     let mut loading = loading;
-    push_records(alloc, &mut loading, fields)?;
+    match push_records(alloc, &mut loading, fields) {
+        Ok(()) => {}
+        Err(refused) => {
+            loading.close();
+            return Err(refused);
+        }
+    }
     let overlay = loading.finish();
-    let reports = LiveReports::from_records(alloc, &Records::new(overlay.payloads()))?;
-    Ok((overlay, reports))
+    match LiveReports::from_records(alloc, &Records::new(overlay.payloads())) {
+        Ok(reports) => Ok((overlay, reports)),
+        Err(_refused) => {
+            overlay.close();
+            Err(OutOfMemory)
+        }
+    }
 }
 
 // Gives each trace its record.

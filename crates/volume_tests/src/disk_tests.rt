@@ -43,8 +43,10 @@ fn begun(alloc: Global, file: File, size: u64, limits: Limits) -> Result<Passing
 // The volume of the file.
 fn passed(alloc: Global, file: File, size: u64, limits: Limits) -> Result<Overlay<u32>, LoadFault> {
     let mut passing = begun(alloc, file, size, limits)?;
-    pass_traces(alloc, &mut passing)?;
-    finished(alloc, passing)
+    match pass_traces(alloc, &mut passing) {
+        Ok(()) => finished(alloc, passing),
+        Err(fault) => Err(passing.refuse(fault).fault()),
+    }
 }
 
 // The volume of the file whose traces are all passed.
@@ -88,7 +90,9 @@ fn on_laid(
     requires { IsAlwaysCallable ask.now }
 {
     let mut volume = volume_on_disk(rt, alloc, name, bytes)?;
-    ask(bytes, &mut volume)
+    let asked = ask(bytes, &mut volume);
+    volume.close();
+    asked
 }
 
 fn volume_on_disk(

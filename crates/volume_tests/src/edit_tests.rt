@@ -62,7 +62,9 @@ fn on_file(
     requires { IsAlwaysCallable ask.now }
 {
     let mut volume = volume(alloc)?;
-    ask(file, &mut volume)
+    let asked = ask(file, &mut volume);
+    volume.close();
+    asked
 }
 
 // These parts, one behind the other.
@@ -409,13 +411,20 @@ fn loading_in_steps(rt: &impl Abort, alloc: Global, file: &[u8]) -> Result<Loadi
 // The volume of the file, once its traces got their payloads.
 fn loaded_in_steps(rt: &impl Abort, alloc: Global, file: &[u8]) -> Result<Overlay<u32>, Fail> {
     let mut loading = loading_in_steps(rt, alloc, file)?;
-    give_payloads(rt, alloc, &mut loading, file)?;
-    Ok(loading.finish())
+    match give_payloads(rt, alloc, &mut loading, file) {
+        Ok(()) => Ok(loading.finish()),
+        Err(fail) => {
+            loading.close();
+            Err(fail)
+        }
+    }
 }
 
 fn load_in_steps(rt: &impl Abort, alloc: Global, file: &[u8]) -> Result<(), Fail> {
     let mut loaded = loaded_in_steps(rt, alloc, file)?;
-    expect_as_loaded(rt, alloc, &mut loaded, file)
+    let as_loaded = expect_as_loaded(rt, alloc, &mut loaded, file);
+    loaded.close();
+    as_loaded
 }
 
 #[test]
@@ -431,7 +440,13 @@ fn load_fault(
     reader: &mut Source<StepReader<'_>>,
     limits: Limits,
 ) -> Option<LoadFault> {
-    Loading::<u32>::load(alloc, reader, Reading::as_written(), limits).err()
+    match Loading::<u32>::load(alloc, reader, Reading::as_written(), limits) {
+        Ok(loading) => {
+            loading.close();
+            None
+        }
+        Err(fault) => Some(fault),
+    }
 }
 
 fn refuse_to_load(rt: &impl Abort, alloc: Global, file: &[u8]) -> Result<(), Fail> {

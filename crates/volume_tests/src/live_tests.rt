@@ -84,9 +84,6 @@ fn pair(
     Ok(LiveReports::from_records(alloc, records)?)
 }
 
-// Drops the reports. The proof of that is long, so that it stands here alone.
-pub(crate) fn let_go(_reports: LiveReports) {}
-
 // Another trace stands in for the second of two.
 fn exchange_second(
     reports: &mut LiveReports,
@@ -352,7 +349,7 @@ fn counts_a_repeat(
 {
     let mut reports = pair(alloc, old, first, second)?;
     let answer = expect_a_repeat(rt, alloc, &mut reports, old, new, first, second, deep);
-    let_go(reports);
+    reports.close();
     answer
 }
 
@@ -510,7 +507,7 @@ fn counts_each_change(
         moved,
         deep,
     );
-    let_go(reports);
+    reports.close();
     answer
 }
 
@@ -583,7 +580,7 @@ fn counts_three(
 {
     let mut reports = pair(alloc, old, first, second)?;
     let answer = expect_three(rt, alloc, &mut reports, old, new, first, second, deep);
-    let_go(reports);
+    reports.close();
     answer
 }
 
@@ -652,7 +649,7 @@ fn counts_the_second_alone(
 {
     let mut reports = pair(alloc, old, first, second)?;
     let answer = expect_the_second_alone(rt, alloc, &mut reports, old, new);
-    let_go(reports);
+    reports.close();
     answer
 }
 

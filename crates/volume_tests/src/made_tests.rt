@@ -7,7 +7,6 @@ ghost use Rattle.volume_records.specs.OfVolume.{records_of, IsOfFile};
 
 use crate::files::three_traces;
 use crate::heads::plain_head;
-use crate::live_tests::let_go;
 use crate::puts::{is_trace, may_put};
 use edit_overlay::{Loading, Overlay};
 use field_map::FieldMap;
@@ -114,7 +113,7 @@ fn recorded(
         records_of o.volume fields.now.pairs) }
 {
     let (volume, reports) = with_records(alloc, loading, fields)?;
-    let_go(reports);
+    reports.close();
     Ok(volume)
 }
 
@@ -180,15 +179,22 @@ fn records_the_loading(
     requires fields { fields.now.extensions ≡ loading.volume.head.extensions }
 {
     let mut volume = recorded(alloc, loading, fields)?;
-    expect_two(rt, alloc, &mut volume, fields)
+    let told = expect_two(rt, alloc, &mut volume, fields);
+    volume.close();
+    told
 }
 
 #[test]
 fn makes_the_records_of_a_volume(rt: HostRuntime) -> Result<(), Fail> {
     let alloc = rt.alloc();
     let loading = small_loading(alloc)?;
-    let fields = FieldMap::standard(alloc, loading.head().extensions)?;
-    records_the_loading(&rt, alloc, loading, &fields)
+    match FieldMap::standard(alloc, loading.head().extensions) {
+        Ok(fields) => records_the_loading(&rt, alloc, loading, &fields),
+        Err(_refused) => {
+            loading.close();
+            Err(Fail::from("no memory"))
+        }
+    }
 }
 
 // Asserts that the record of trace 2 with bytes laid over it is told, and that of its headers.
@@ -218,13 +224,20 @@ fn prepares_the_loading(
     requires fields { fields.now.extensions ≡ loading.volume.head.extensions }
 {
     let mut volume = recorded(alloc, loading, fields)?;
-    expect_prepared(rt, alloc, &mut volume, fields)
+    let told = expect_prepared(rt, alloc, &mut volume, fields);
+    volume.close();
+    told
 }
 
 #[test]
 fn makes_prepared_records(rt: HostRuntime) -> Result<(), Fail> {
     let alloc = rt.alloc();
     let loading = small_loading(alloc)?;
-    let fields = FieldMap::standard(alloc, loading.head().extensions)?;
-    prepares_the_loading(&rt, alloc, loading, &fields)
+    match FieldMap::standard(alloc, loading.head().extensions) {
+        Ok(fields) => prepares_the_loading(&rt, alloc, loading, &fields),
+        Err(_refused) => {
+            loading.close();
+            Err(Fail::from("no memory"))
+        }
+    }
 }

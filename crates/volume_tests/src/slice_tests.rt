@@ -188,7 +188,9 @@ fn makes_each(
 fn makes_rows(rt: HostRuntime) -> Result<(), Fail> {
     let alloc = rt.alloc();
     let mut volume = small_volume(alloc)?;
-    makes_each(&rt, alloc, &mut volume)
+    let made = makes_each(&rt, alloc, &mut volume);
+    volume.close();
+    made
 }
 
 // Of four slices three are kept, and one that is asked again comes first: no trace is looked at.
@@ -251,7 +253,9 @@ fn keeps_each(
 fn keeps_the_last_asked(rt: HostRuntime) -> Result<(), Fail> {
     let alloc = rt.alloc();
     let mut volume = small_volume(alloc)?;
-    keeps_slices(&rt, alloc, &mut volume)
+    let kept = keeps_slices(&rt, alloc, &mut volume);
+    volume.close();
+    kept
 }
 
 fn keeps_the_greatest(
@@ -276,5 +280,7 @@ fn wide_volume(alloc: Global) -> Result<Overlay<PackedRecord>, Fail> {
 fn keeps_the_greatest_sample(rt: HostRuntime) -> Result<(), Fail> {
     let alloc = rt.alloc();
     let mut volume = wide_volume(alloc)?;
-    keeps_the_greatest(&rt, alloc, &mut volume)
+    let kept = keeps_the_greatest(&rt, alloc, &mut volume);
+    volume.close();
+    kept
 }

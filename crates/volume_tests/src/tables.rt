@@ -74,11 +74,26 @@ pub(crate) fn volume_of<T: Copy>(
     ensures payloads { IfOk result (λ o. o.payloads ≡ payloads.now) }
 {
     let mut loading = Loading::from_bytes(alloc, file, Reading::as_written(), limits)?;
+    match give_each(alloc, &mut loading, payloads) {
+        Ok(()) => Ok(loading.finish()),
+        Err(fail) => {
+            loading.close();
+            Err(fail)
+        }
+    }
+}
+
+// Gives each trace its payload, where there are as many.
+fn give_each<T: Copy>(alloc: Global, loading: &mut Loading<T>, payloads: &[T]) -> Result<(), Fail>
+    requires none { loading.old.payloads ≡ [] }
+    ensures volume { loading.new.volume ≡ loading.old.volume }
+    ensures each { OnOk result (length payloads.now ≡ count_of loading.old.volume) }
+    ensures payloads { OnOk result (loading.new.payloads ≡ payloads.now) }
+{
     if payloads.len() != loading.count() as usize {
         return Err(Fail::from("not a payload for each trace"));
     }
-    push_each(alloc, &mut loading, payloads)?;
-    Ok(loading.finish())
+    push_each(alloc, loading, payloads)
 }
 
 // Gives each trace its payload.

@@ -11,6 +11,7 @@ use Rattle.edit_overlay.specs.Loaded.{Loaded}
 use Rattle.trace_record.specs.Packed.{record_in}
 use Rattle.trace_record.specs.declared.record.Record.{Record}
 use Rattle.live_reports.specs.OfRecords.{AreReportsOf}
+use Rattle.live_reports.specs.declared.live_reports.LiveReports.{LiveReports}
 use Rattle.volume_records.specs.OfVolume.{records_of}
 use Rattle.live_volume.specs.Held.{state_of, records_in, AreMeasured, HasFrame}
 use Rattle.live_volume.proofs.HeldLemmas.{map_passed, read_as_before, same_state}
@@ -44,7 +45,7 @@ invariant_of-self c =
       measured = subst (λ (u : Volume). AreMeasured (map record_in o.payloads) u.traces) (sym is)
           (measured_anew (records_in b) (map record_in o.payloads) v.traces c.self.invariant.measured (length-map o.payloads record_in ∙ c.remake.ensures.each)
           (λ j less. subst (λ (ns : List ℕ). get_or ns j 0 ≤ length (get_or v.traces j [])) (numbers_are o.payloads) (c.in-Ok.ensures.within j less)));
-      reports = c.in-Ok.ensures.reports;
+      reports = subst (λ (r : LiveReports). AreReportsOf r (map record_in o.payloads)) (sym c.replace.ensures.after) c.in-Ok.ensures.reports;
     }
 
 pub invariant_of-self-in-Err : goal.invariant_of-self-in-Err

@@ -15,15 +15,15 @@ pub invariant_of-result : goal.invariant_of-result
 invariant_of-result c =
     let p = c.in_ok-passing.passing in
     let begun = c.in_ok-passing.ensures.begun in
-    let o = c.in_ok-overlay.overlay in
-    let cut = cut_so o.volume p.reading c.args.reading p.limits c.args.limits begun.reading begun.limits c.in_ok-overlay.ensures.cut in
-    let own = c.in_ok-overlay.ensures.records in
+    let o = c.in-Ok-with_records_on_disk.overlay in
+    let cut = cut_so o.volume p.reading c.args.reading p.limits c.args.limits begun.reading begun.limits c.in-Ok-with_records_on_disk.ensures.cut in
+    let own = c.in-Ok-with_records_on_disk.ensures.records in
     record {
       cut = λ sure. cut;
       frame = frame_of_cut c.args.reading c.args.limits o.volume cut;
-      prepared = c.in_ok-overlay.ensures.prepared;
-      extensions = c.in-Ok.ensures.extensions ∙ ap (λ (h : Head). h.extensions) (c.head.ensures ∙ sym c.in_ok-overlay.ensures.head);
+      prepared = c.in-Ok-with_records_on_disk.ensures.prepared;
+      extensions = c.in-Ok.ensures.extensions ∙ ap (λ (h : Head). h.extensions) (c.head.ensures ∙ sym c.in-Ok-with_records_on_disk.ensures.head);
       records = λ sure. own;
       measured = measured_of_cut c.args.reading c.args.limits o.volume c.in-Ok.fields.pairs _ cut own;
-      reports = c.in_ok-overlay.ensures.reports;
+      reports = c.in-Ok-with_records_on_disk.ensures.reports;
     }

@@ -25,7 +25,7 @@ fn trace(alloc: Global, samples: u8, sample: u8) -> Result<Vec<u8>, Fail> {
 }
 
 // The bytes from..to, where there are as many.
-pub(crate) fn part(bytes: &[u8], from: usize, to: usize) -> &[u8] {
+fn part(bytes: &[u8], from: usize, to: usize) -> &[u8] {
     if from <= to && to <= bytes.len() {
         &bytes[from..to]
     } else {
@@ -33,7 +33,7 @@ pub(crate) fn part(bytes: &[u8], from: usize, to: usize) -> &[u8] {
     }
 }
 
-pub(crate) fn limits() -> Result<Limits, Fail> {
+fn limits() -> Result<Limits, Fail> {
     Ok(Limits::new(4088, 2).ok_or("limits")?)
 }
 
@@ -96,7 +96,7 @@ fn expect_file(
 }
 
 // Asserts that a save writes these parts, one behind the other.
-pub(crate) fn expect_saved(
+fn expect_saved(
     rt: &impl Abort,
     alloc: Global,
     volume: &mut Overlay<u32>,
@@ -107,7 +107,7 @@ pub(crate) fn expect_saved(
 }
 
 // Asserts that trace p has these bytes, at most 300.
-pub(crate) fn expect_trace(rt: &impl Abort, volume: &mut Overlay<u32>, p: u32, expected: &[u8]) {
+fn expect_trace(rt: &impl Abort, volume: &mut Overlay<u32>, p: u32, expected: &[u8]) {
     assert!(rt; shows(volume, p, expected));
 }
 
@@ -129,7 +129,7 @@ fn has_bytes(view: &TraceView<'_>, expected: &[u8]) -> bool {
 }
 
 // Asserts that these are the bytes of the traces, at most 300 each, and that none is behind them.
-pub(crate) fn expect_traces(
+fn expect_traces(
     rt: &impl Abort,
     volume: &mut Overlay<u32>,
     expected: &[&[u8]],
@@ -144,7 +144,7 @@ pub(crate) fn expect_traces(
 }
 
 // Asserts that the traces have these payloads, in this order.
-pub(crate) fn expect_payloads(rt: &impl Abort, volume: &Overlay<u32>, expected: &[u32]) {
+fn expect_payloads(rt: &impl Abort, volume: &Overlay<u32>, expected: &[u32]) {
     let column = volume.payloads();
     let mut payloads = column.iter();
     for payload in expected {

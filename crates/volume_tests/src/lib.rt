@@ -1,13 +1,12 @@
 //! Tests of one volume through the public calls of its crates: how a file is cut, one trace, the
-//! records of traces and their table, the volume under edits, its reports, faults and slices; over
-//! small files that are made by hand. They stand in a crate of their own, since a crate with tests
+//! records of traces and their table, the volume under edits, its faults and slices; over small
+//! files that are made by hand. Its reports under edits, and a file that stays on disk, are tried
+//! through the bench (`bench_tests`). They stand in a crate of their own, since a crate with tests
 //! is proved twice.
 #![tactic(auto)]
 
 #[cfg(test)]
 mod cut_tests;
-#[cfg(test)]
-mod disk_tests;
 #[cfg(test)]
 mod edit_tests;
 #[cfg(test)]
@@ -15,19 +14,11 @@ mod fault_tests;
 #[cfg(test)]
 mod files;
 #[cfg(test)]
-mod grid_tests;
-#[cfg(test)]
 mod heads;
 #[cfg(test)]
 mod key_tests;
 #[cfg(test)]
-mod live_tests;
-#[cfg(test)]
-mod made_tests;
-#[cfg(test)]
 mod puts;
-#[cfg(test)]
-mod range_tests;
 #[cfg(test)]
 mod record_tests;
 #[cfg(test)]

@@ -1,5 +1,5 @@
-// Tables that tests begin with: records beside traces of no interest, and in lists of their own,
-// and small volumes with given payloads.
+// Tables that tests begin with: records beside traces of no interest, and small volumes with given
+// payloads.
 ghost use Rattle.std.specs.Prelude.{◌≡◌, [], length, map, IfOk, OnOk};
 ghost use Rattle.std.specs.List.{insert as inserted};
 ghost use Rattle.frame_cut.specs.Cuts.{IsCut};
@@ -12,7 +12,6 @@ use crate::heads::plain_head;
 use crate::puts::is_trace;
 use edit_overlay::{Loading, Overlay};
 use frame_cut::{Limits, Reading};
-use record_table::RecordList;
 use std::alloc::Global;
 use std::test::Fail;
 use trace_record::{PackedRecord, Record};
@@ -50,17 +49,6 @@ pub(crate) fn table_of(alloc: Global, records: &[Record]) -> Result<TraceStore<P
         insert(alloc, &mut table, count, record)?;
     }
     Ok(table)
-}
-
-// These records in a list of their own.
-pub(crate) fn list_of(alloc: Global, records: &[Record]) -> Result<RecordList, Fail>
-    ensures { IfOk result (λ list. list ≡ records.now) }
-{
-    let mut list = RecordList::with_capacity(alloc, records.len())?;
-    for record in records {
-        list.push(record)?;
-    }
-    Ok(list)
 }
 
 // The volume of the file, in which the traces have these payloads.

@@ -1,15 +1,19 @@
 """Saves, scripts, tabs, and a program that is killed under the desk."""
 
+import asyncio
 import os
 import shutil
 import signal
 import stat
 import sys
+import threading
+from types import SimpleNamespace
 
 import pytest
 from conftest import TOP, run, wait_for
 from page import Page
 from selenium.webdriver.common.by import By
+from segywb.desk.server import Server
 from selenium.webdriver.common.keys import Keys
 from test_guard import asked
 from test_page import BROKEN, SOUND
@@ -138,6 +142,32 @@ def test_two_tabs(opened):
         browser.switch_to.window(browser.window_handles[1])
         browser.close()
         browser.switch_to.window(first)
+
+
+def test_a_program_that_is_started_anew_has_not_ended():
+    """An edit that is taken back ends the program and starts another, while the pages ask how things stand."""
+    desk = SimpleNamespace(alive=True, version=1)
+    server = Server(desk, "token")
+    server.status = {"phase": "ready", "version": 1}
+    between, on = threading.Event(), threading.Event()
+
+    def starts_anew():
+        desk.alive = False
+        between.set()
+        on.wait(10)
+        desk.alive = True
+        return {}
+
+    async def asked_meanwhile():
+        call = asyncio.create_task(server.work(starts_anew))
+        await asyncio.get_running_loop().run_in_executor(None, between.wait)
+        meanwhile = server.told()["phase"]
+        on.set()
+        await call
+        desk.alive = False
+        return meanwhile, server.told()["phase"]
+
+    assert asyncio.run(asked_meanwhile()) == ("ready", "ended")
 
 
 def test_the_program_is_killed(opened, tmp_path):

@@ -78,6 +78,7 @@ class Server:
         self.status: Answer = {"phase": "loading", "what": "the file", "done": 0, "of": 0}
         self.failed: Optional[LoadRefused] = None
         self._worker = ThreadPoolExecutor(max_workers=1, thread_name_prefix="desk")
+        self._at_work = 0
         self._faults = Kept()
         self._slices = views.Slices()
         self._runner: Optional[web.AppRunner] = None
@@ -168,7 +169,11 @@ class Server:
 
     async def work(self, call: Callable[[], Answer]) -> Answer:
         """Does something in the desk's thread."""
-        return await asyncio.get_running_loop().run_in_executor(self._worker, call)
+        self._at_work += 1
+        try:
+            return await asyncio.get_running_loop().run_in_executor(self._worker, call)
+        finally:
+            self._at_work -= 1
 
     async def _answered(self, call: Callable[[], Answer]) -> web.StreamResponse:
         if self.status["phase"] != "ready":
@@ -219,7 +224,9 @@ class Server:
         if self.status["phase"] == "loading" and not self.status["of"]:
             self.status = {**self.status, **read_of(self.desk.path)}
         if self.status["phase"] == "ready":
-            if not self.desk.alive:
+            # What is done in the desk's thread may end a program and start another (an edit that is taken back); where
+            # one ends by itself meanwhile, the call tells it.
+            if not self._at_work and not self.desk.alive:
                 self._end("the program ended")
             else:
                 self.status = {"phase": "ready", "version": self.desk.version}

@@ -186,8 +186,9 @@ deep.sgy 3977 00000003 L14 truncated trace 1
 deep.sgy 3977 80000000 L14 truncated trace 1
 deep.sgy 3977 ffffffff L14 truncated trace 1
 x.sgy 3977 ffffffff traces 1
+x.sgy 3715 ffff traces 1
 END
-[ $number = 113 ] && tell 'the table of counts' ok || tell 'the table of counts' "$number rows"
+[ $number = 114 ] && tell 'the table of counts' ok || tell 'the table of counts' "$number rows"
 
 # ---- what such files answer
 cp x.sgy bad.sgy

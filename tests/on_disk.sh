@@ -1,7 +1,7 @@
 #!/usr/bin/env bash
 # The bytes of the file stay on disk: answers, status and saved bytes are those of a run in memory, also of cut and hostile files and
 # where a growth of memory is refused; a device that fails, and a file that changes meanwhile, are told, and OUT is whole; a file of
-# 20 GB is repaired in 1 GB of address space.
+# 8 GB is repaired in 1 GB of address space.
 # usage: tests/on_disk.sh [PROGRAM]
 . "$(dirname "$0")/sweeps.sh"
 varying v.sgy
@@ -126,6 +126,7 @@ meanwhile() {
 }
 last=$("$program" v.sgy --script /dev/stdin <<< count | cut -d' ' -f2)
 meanwhile 'cut' "get $last inline" 'refused E14 read failed' 'truncate -s 3700 own.sgy'
+meanwhile 'cut, and a slice' 'slice 0' 'refused E14 read failed' 'truncate -s 3700 own.sgy'
 meanwhile 'cut, and a set that reads nothing' "set $last inline 7" 'ok' 'truncate -s 3700 own.sgy'
 meanwhile 'grown' 'count' "traces $last" 'printf x >> own.sgy'
 meanwhile 'a trace of another length' "get 1 inline" 'refused E15 file changed' 'put own.sgy $((3600 + 114)) 0fff'
@@ -148,22 +149,22 @@ wait "$id"
 status=$?
 if [ $status = 4 ] && grep -q '^segywb: copied.sgy: what was saved may be of two files; ' errors; then tell 'changed while it is copied' ok; else tell 'changed while it is copied' "status $status: $(head -c 300 errors)"; fi
 
-# ---- 20 GB in 1 GB of address space: 327679 traces of 30720 samples of two bytes, zeros that take no disk
+# ---- 8 GB in 1 GB of address space: 131072 traces of 30720 samples of two bytes, zeros that take no disk
 survey big.sgy
 truncate -s 3600 big.sgy
 put big.sgy 3220 7800
-truncate -s $((3600 + 327679 * (240 + 2 * 30720))) big.sgy
+truncate -s $((3600 + 131072 * (240 + 2 * 30720))) big.sgy
 bytes=$(wc -c < big.sgy)
-printf 'set 200000 inline 7\nget 200000 inline\ncount\n' > script
+printf 'set 120000 inline 7\nget 120000 inline\ncount\n' > script
 mkfifo saved
 cmp -l big.sgy saved > differs.txt &
 (ulimit -v 1048576; "$program" big.sgy --on-disk --script script --out saved > answers 2> errors)
 status=$?
 wait $!
-if [ $status = 0 ] && [ "$(tail -n 2 answers)" = $'value 7\ntraces 327679' ] && [ "$(xargs < differs.txt)" = "$((3600 + 199999 * 61680 + 192)) 0 7" ]; then
-    tell '20 GB in 1 GB' ok
+if [ $status = 0 ] && [ "$(tail -n 2 answers)" = $'value 7\ntraces 131072' ] && [ "$(xargs < differs.txt)" = "$((3600 + 119999 * 61680 + 192)) 0 7" ]; then
+    tell '8 GB in 1 GB' ok
 else
-    tell '20 GB in 1 GB' "status $status of $bytes bytes: $(head -c 300 errors) $(< differs.txt)"
+    tell '8 GB in 1 GB' "status $status of $bytes bytes: $(head -c 300 errors) $(< differs.txt)"
 fi
 rm big.sgy
 

@@ -54,11 +54,16 @@ renumber 1 2 @5:4 7 2
 geometry 2
 inlines
 sample 1 0
+sample 1 9
 sample 9 0
 patch 2 1 70000000000
+patch 2 9 1
+patch 9 9 1
 stat 1
+stat 0
 totals
 slice 0
+slice 9
 bin format 3
 END
 for major in 0 1 2; do
@@ -73,7 +78,7 @@ for major in 0 1 2; do
             fixed=yes
             [ $major != 0 ] || fixed=no
             no_value='refused E12 samples have no value\n'
-            expect "$name" 1 "info order $order revision $major.0 format $format samples 2 fixed $fixed extensions 0 blocks 0 trailer 0 traces 3 bytes $length\nok\nok\nok\nok\nok\ngeometry inline 11 crossline 22 offset 0 x 30864/25 y 0\ninlines 2\ninline 10 1\ninline 11 1\n${no_value}refused E01 no trace 9 of 2\n$no_value$no_value$no_value${no_value}refused E06 frame\n" '' f.sgy --script script --out o.sgy "${options[@]}"
+            expect "$name" 1 "info order $order revision $major.0 format $format samples 2 fixed $fixed extensions 0 blocks 0 trailer 0 traces 3 bytes $length\nok\nok\nok\nok\nok\ngeometry inline 11 crossline 22 offset 0 x 30864/25 y 0\ninlines 2\ninline 10 1\ninline 11 1\n$no_value${no_value}refused E01 no trace 9 of 2\n$no_value${no_value}refused E01 no trace 9 of 2\n${no_value}refused E01 no trace 0 of 2\n$no_value$no_value${no_value}refused E06 frame\n" '' f.sgy --script script --out o.sgy "${options[@]}"
             head -c $((second + (length - 3600) / 3)) f.sgy > wanted.sgy
             at $order wanted.sgy $((second + 188)) 0000000b
             at $order wanted.sgy $((second + 180)) 0001e240

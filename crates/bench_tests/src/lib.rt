@@ -5,13 +5,9 @@
 #[cfg(test)]
 mod compute_tests;
 #[cfg(test)]
-mod disk_tests;
-#[cfg(test)]
 mod header_tests;
 #[cfg(test)]
 mod number_tests;
-#[cfg(test)]
-mod opaque_tests;
 #[cfg(test)]
 mod report_tests;
 #[cfg(test)]

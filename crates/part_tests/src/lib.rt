@@ -1,5 +1,5 @@
 //! Tests of the lowest crates through their public calls: numbers as bytes, sample formats, text
-//! blocks, names bound to places, the order of traces, readers and writers that count their
+//! blocks, names of fields, the order of traces, readers and writers that count their
 //! failures, a save that fails at each call; with values from outside or worked by hand. They stand
 //! in a crate of their own, since a crate with tests is proved twice.
 #![tactic(auto)]

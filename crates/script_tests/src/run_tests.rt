@@ -32,31 +32,6 @@ fn prints_lists_of_reports(rt: HostRuntime) -> Result<(), Fail> {
     Ok(())
 }
 
-// The headers of a file alone, whose textual header has no line that begins with a C.
-#[test]
-fn prints_reports_of_no_trace(rt: HostRuntime) -> Result<(), Fail> {
-    let file = sample_file(rt.alloc())?;
-    let headers = file.as_slice().get(..3600).ok_or("headers")?;
-    let script = b"totals\nrange x\ngrid\nslice 0\nfaults\n";
-    let printed = b"totals none\nrange none\ncells 0\nslice 0\nfaults 1\nF8 lines 40\n";
-    assert!(rt; prints(rt.alloc(), headers, script, 0, printed)?);
-    Ok(())
-}
-
-// The second and the third trace repeat the first one's inline, crossline and offset.
-#[test]
-fn prints_faults(rt: HostRuntime) -> Result<(), Fail> {
-    let file = sample_file(rt.alloc())?;
-    let script = b"set 1 @5:4 -1\nset 1 @115:2 4\nset 1 @117:2 2000\nset 1 scalar 5\n\
-          set 2 @89:2 -1\nfaults\n";
-    let printed = b"ok\nok\nok\nok\nok\nfaults 8\nF8 lines 40\nF1 trace 1 sequence -1\n\
-          F2 trace 1 field 4 samples 2\nF3 trace 1 interval 2000 binary 4000\n\
-          F4 trace 1 scalar 5\nF5 trace 2 units -1 first 0\nF6 trace 2 first 1\n\
-          F6 trace 3 first 1\n";
-    assert!(rt; prints(rt.alloc(), file.as_slice(), script, 0, printed)?);
-    Ok(())
-}
-
 // A thousand traces of one sample, each -5 on inline 10 and crossline -21.
 fn thousand_traces(alloc: Global) -> Result<Vec<u8>, Fail> {
     let mut file = vec![in alloc; 0u8; 245600]?;

@@ -217,24 +217,6 @@ fn refuses_reports(rt: HostRuntime) {
 }
 
 #[test]
-fn tells_what_a_file_is(rt: HostRuntime) -> Result<(), Fail> {
-    let alloc = rt.alloc();
-    let file = sample_file(alloc)?;
-    let script = b"count\ninfo\nsample 1 1\nsample 1 2\nsample 4 0\ncount 1\nsample 1\n";
-    let printed = b"traces 3\n\
-          info order big revision 1.0 format 3 samples 2 fixed yes extensions 0 blocks 0 trailer \
-          0 traces 3 bytes 4332\nvalue -2\nrefused E05 no sample 2 of 2\n\
-          refused E01 no trace 4 of 3\nrefused S02 words\nrefused S02 words\n";
-    let told = (
-        RunEnd::Done { refused: 4 },
-        printed.as_slice(),
-        b"".as_slice(),
-    );
-    assert!(rt; tells(alloc, file.as_slice(), script, options(false, false)?, told));
-    Ok(())
-}
-
-#[test]
 fn refuses_lines(rt: HostRuntime) {
     let cases: [(&[u8], LineFault); 14] = [
         (b"sett 1 @1:4 7", LineFault::Unknown),
@@ -470,66 +452,4 @@ pub(crate) fn prints(
 ) -> Result<bool, Fail> {
     let wanted = (RunEnd::Done { refused }, printed, b"".as_slice());
     Ok(tells(alloc, file, script, options(false, false)?, wanted))
-}
-
-#[test]
-fn binds_names_and_lists_them(rt: HostRuntime) -> Result<(), Fail> {
-    let file = sample_file(rt.alloc())?;
-    let script = b"map bad-name @1:4\nmap mine @239:4\nmap mine @1:5\nmap inline @189:4u\n\
-          map inline @1.5:4\nmap delay @5:4\nunmap inline\nunmap mine\nmap mine @233:8u\n\
-          get 1 mine\nfields\nunmap mine\nget 1 mine\n";
-    let printed =
-        b"refused E08 M01 bad name\nrefused E08 M02 outside header\nrefused E08 M03 bad kind\n\
-          refused E08 M03 bad kind\nrefused E08 M02 outside header\nrefused E08 M07 standard\n\
-          refused E08 M05 geometry\nrefused E08 M06 unknown\nok\nvalue 0\nfields 7\n\
-          field inline @189:4\nfield crossline @193:4\nfield offset @37:4\nfield x @181:4\n\
-          field y @185:4\nfield scalar @71:2\nfield mine @233:8u\nok\nrefused E02 no field\n";
-    assert!(rt; prints(rt.alloc(), file.as_slice(), script, 9, printed)?);
-    Ok(())
-}
-
-#[test]
-fn sets_by_names(rt: HostRuntime) -> Result<(), Fail> {
-    let file = sample_file(rt.alloc())?;
-    let script =
-        b"set 1 scalar -32768\nset 1 x -2147483648\nset 1 x 2147483648\nmap scalar @189:2\n\
-          set 1 inline 327680\nget 1 scalar\ngetbin interval\nbin @3225:2 2\nbin samples 3\n\
-          bin inline 3\nbin job 77\ngetbin job\ngetbin @3201:4\n";
-    let printed =
-        b"ok\nok\nrefused E04 does not fit\nok\nok\nvalue 5\nvalue 4000\nrefused E06 frame\n\
-          refused E06 frame\nrefused E02 no field\nok\nvalue 77\nvalue 77\n";
-    assert!(rt; prints(rt.alloc(), file.as_slice(), script, 4, printed)?);
-    Ok(())
-}
-
-#[test]
-fn writes_and_shows_text(rt: HostRuntime) -> Result<(), Fail> {
-    let file = sample_file(rt.alloc())?;
-    let script = b"code 0\ntext 1 C 1 LINE[\n\
-          text 1 C2345678901234567890123456789012345678901234567890123456789012345678901234567\
-          890\ntext 1 C 1 LINE  \nline 0 1\ntext 41 C\ntext 1\nline 0 1\nline 1 1\ncode 1\n\
-          stanzas\n";
-    let printed = b"code ebcdic\nrefused E07 T02 no code for column 9\nok\nok\nline |C 1 LINE|\n\
-          refused E03 no place\nok\nline ||\nrefused E03 no place\nrefused E03 no place\n\
-          stanzas 0\n";
-    assert!(rt; prints(rt.alloc(), file.as_slice(), script, 4, printed)?);
-    Ok(())
-}
-
-// Two extended textual headers, of which the second ends them, and no trace.
-#[test]
-fn lists_stanzas(rt: HostRuntime) -> Result<(), Fail> {
-    let mut file = vec![in rt.alloc(); b' '; 10000]?;
-    for byte in file.iter_mut().skip(3200).take(400) {
-        *byte = 0;
-    }
-    put(file.as_mut_slice(), 3221, &[0, 2, 0, 0, 0, 3]);
-    put(file.as_mut_slice(), 3501, &[1, 0, 0, 1, 0xff, 0xff]);
-    put(file.as_mut_slice(), 3601, b"((Acme: Note))");
-    put(file.as_mut_slice(), 6801, b"((Seg:  ENDtext))");
-    let script = b"count\nstanzas\nline 1 1\nline 2 1\nline 3 1\n";
-    let printed = b"traces 0\nstanzas 2\nstanza 1 Acme: Note\nstanza 2 Seg:  ENDtext\n\
-          line |((Acme: Note))|\nline |((Seg:  ENDtext))|\nrefused E03 no place\n";
-    assert!(rt; prints(rt.alloc(), file.as_slice(), script, 1, printed)?);
-    Ok(())
 }

@@ -10,7 +10,7 @@ use crate::puts::{is_trace, may_put, put};
 use crate::tables::volume_of;
 use device_io::{Sink, Source, StepReader};
 use edit_overlay::{Loading, Overlay, SaveFault};
-use frame_cut::{Limits, LoadFault, Reading};
+use frame_cut::{Limits, Reading};
 use std::alloc::{AllocError, Global};
 use std::process::Abort;
 use std::test::Fail;
@@ -266,23 +266,6 @@ fn replace(
     Ok(())
 }
 
-// Takes trace p out, and answers its payload.
-fn delete(volume: &mut Overlay<u32>, p: u32) -> Result<u32, Fail> {
-    if p == 0 || p > volume.count() {
-        return Err(Fail::from("no such trace"));
-    }
-    Ok(volume.delete(p))
-}
-
-fn move_to(alloc: Global, volume: &mut Overlay<u32>, a: u32, b: u32) -> Result<(), Fail> {
-    let count = volume.count();
-    if a == 0 || a > count || b == 0 || b > count {
-        return Err(Fail::from("no such trace"));
-    }
-    volume.move_to(alloc, a, b)?;
-    Ok(())
-}
-
 #[test]
 fn cuts_bytes_in_memory(rt: HostRuntime) -> Result<(), Fail> {
     let alloc = rt.alloc();
@@ -432,65 +415,6 @@ fn loads_in_steps(rt: HostRuntime) -> Result<(), Fail> {
     let alloc = rt.alloc();
     let file = two_traces(alloc)?;
     load_in_steps(&rt, alloc, file.as_slice())
-}
-
-// The fault of a load, if it met one.
-fn load_fault(
-    alloc: Global,
-    reader: &mut Source<StepReader<'_>>,
-    limits: Limits,
-) -> Option<LoadFault> {
-    match Loading::<u32>::load(alloc, reader, Reading::as_written(), limits) {
-        Ok(loading) => {
-            loading.close();
-            None
-        }
-        Err(fault) => Some(fault),
-    }
-}
-
-fn refuse_to_load(rt: &impl Abort, alloc: Global, file: &[u8]) -> Result<(), Fail> {
-    let mut reader = Source::new(StepReader::new(file, 1000, 3));
-    let refused = load_fault(alloc, &mut reader, limits()?);
-    assert_eq!(rt; refused, Some(LoadFault::ReadFailed));
-    assert_eq!(rt; reader.failures(), 1);
-    Ok(())
-}
-
-fn refuse_what_is_too_large(rt: &impl Abort, alloc: Global, file: &[u8]) -> Result<(), Fail> {
-    let small = Limits::new(4087, 2).ok_or("limits")?;
-    let mut reader = Source::new(StepReader::new(file, 1000, u64::MAX));
-    let refused = load_fault(alloc, &mut reader, small);
-    assert_eq!(rt; refused, Some(LoadFault::TooLarge));
-    Ok(())
-}
-
-fn refuse_both(rt: &impl Abort, alloc: Global, file: &[u8]) -> Result<(), Fail> {
-    refuse_to_load(rt, alloc, file)?;
-    refuse_what_is_too_large(rt, alloc, file)
-}
-
-#[test]
-fn refuses_what_cannot_be_read(rt: HostRuntime) -> Result<(), Fail> {
-    let alloc = rt.alloc();
-    let file = two_traces(alloc)?;
-    refuse_both(&rt, alloc, file.as_slice())
-}
-
-// A put over an older one, and one beside it.
-#[test]
-fn puts_and_saves(rt: HostRuntime) -> Result<(), Fail> {
-    let alloc = rt.alloc();
-    on_small(
-        alloc,
-        &mut |file: &[u8], volume: &mut Overlay<u32>| {
-            put(alloc, volume, 2, 240, &[1, 2])?;
-            put(alloc, volume, 2, 241, &[3])?;
-            put(alloc, volume, 2, 242, &[4, 5])?;
-            let front = part(file, 0, 4084);
-            expect_saved(&rt, alloc, volume, &[front, &[1, 3, 4, 5]])
-        },
-    )
 }
 
 #[test]
@@ -657,52 +581,6 @@ fn prepares_and_commits_a_move(rt: HostRuntime) -> Result<(), Fail> {
     )
 }
 
-// In front of the first, and behind the last.
-#[test]
-fn inserts_and_deletes(rt: HostRuntime) -> Result<(), Fail> {
-    let alloc = rt.alloc();
-    let first = trace(alloc, 3, 0x11)?;
-    let last = trace(alloc, 1, 0x22)?;
-    on_small(
-        alloc,
-        &mut |file: &[u8], volume: &mut Overlay<u32>| {
-            let (first, last) = (first.as_slice(), last.as_slice());
-            insert(alloc, volume, 1, first, 11)?;
-            insert(alloc, volume, 4, last, 22)?;
-            expect_payloads(&rt, volume, &[11, 1, 2, 22]);
-            let headers = part(file, 0, 3600);
-            let traces = part(file, 3600, 4088);
-            expect_saved(&rt, alloc, volume, &[headers, first, traces, last])?;
-            assert_eq!(rt; delete(volume, 2)?, 1);
-            expect_payloads(&rt, volume, &[11, 2, 22]);
-            let traces = part(file, 3844, 4088);
-            expect_saved(&rt, alloc, volume, &[headers, first, traces, last])
-        },
-    )
-}
-
-// To the front, and to the back.
-#[test]
-fn moves_traces(rt: HostRuntime) -> Result<(), Fail> {
-    let alloc = rt.alloc();
-    let new = trace(alloc, 3, 0x11)?;
-    on_small(
-        alloc,
-        &mut |file: &[u8], volume: &mut Overlay<u32>| {
-            let new = new.as_slice();
-            insert(alloc, volume, 3, new, 3)?;
-            let headers = part(file, 0, 3600);
-            let first = part(file, 3600, 3844);
-            let second = part(file, 3844, 4088);
-            move_to(alloc, volume, 3, 1)?;
-            expect_saved(&rt, alloc, volume, &[headers, new, first, second])?;
-            move_to(alloc, volume, 2, 3)?;
-            expect_payloads(&rt, volume, &[3, 2, 1]);
-            expect_saved(&rt, alloc, volume, &[headers, new, second, first])
-        },
-    )
-}
-
 // By a longer one; what was put over it before is gone.
 #[test]
 fn replaces_a_trace(rt: HostRuntime) -> Result<(), Fail> {
@@ -721,44 +599,6 @@ fn replaces_a_trace(rt: HostRuntime) -> Result<(), Fail> {
             let changed = part(longer, 0, 249);
             let second = part(file, 3844, 4088);
             expect_saved(&rt, alloc, volume, &[headers, changed, &[9], second])
-        },
-    )
-}
-
-// Inserts the trace so often in front of the first.
-fn insert_many(
-    alloc: Global,
-    volume: &mut Overlay<u32>,
-    times: u32,
-    new: &[u8],
-) -> Result<(), Fail> {
-    for _ in 0..times {
-        insert(alloc, volume, 1, new, 0)?;
-    }
-    Ok(())
-}
-
-// Deletes the first trace so often.
-fn delete_many(volume: &mut Overlay<u32>, times: u32) -> Result<(), Fail> {
-    for _ in 0..times {
-        let _ = delete(volume, 1)?;
-    }
-    Ok(())
-}
-
-#[test]
-fn is_as_loaded_after_many_inserts_and_deletes(rt: HostRuntime) -> Result<(), Fail> {
-    let alloc = rt.alloc();
-    let new = trace(alloc, 2, 0x44)?;
-    on_small(
-        alloc,
-        &mut |file: &[u8], volume: &mut Overlay<u32>| {
-            insert_many(alloc, volume, 1200, new.as_slice())?;
-            assert_eq!(rt; volume.count(), 1202);
-            expect_trace(&rt, volume, 1201, part(file, 3600, 3844));
-            delete_many(volume, 1200)?;
-            expect_payloads(&rt, volume, &[1, 2]);
-            expect_saved(&rt, alloc, volume, &[file])
         },
     )
 }

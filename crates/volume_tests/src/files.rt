@@ -168,35 +168,3 @@ pub(crate) fn two_traces(alloc: Global) -> Result<Vec<u8>, AllocError> {
     file[4087] = 9;
     Ok(bytes)
 }
-
-// Revision 1.0, three traces of 16-bit samples at inlines 10, 20 and 30: 5 and 7, 6 alone, 4 and
-// 258.
-pub(crate) fn three_traces(alloc: Global) -> Result<Vec<u8>, AllocError> {
-    let mut bytes = vec![in alloc; 0u8; 4330]?;
-    let file = bytes.as_mut_slice();
-    file[3221] = 2;
-    file[3225] = 3;
-    file[3500] = 1;
-    file[3791] = 10;
-    file[3841] = 5;
-    file[3843] = 7;
-    file[3959] = 1;
-    file[4035] = 20;
-    file[4085] = 6;
-    file[4277] = 30;
-    file[4327] = 4;
-    file[4328] = 1;
-    file[4329] = 2;
-    Ok(bytes)
-}
-
-// Revision 1.0, one trace with one sample of 64 bits without a sign: 2^64 - 1.
-pub(crate) fn wide_trace(alloc: Global) -> Result<Vec<u8>, AllocError> {
-    let mut bytes = vec![in alloc; 0u8; 3848]?;
-    let file = bytes.as_mut_slice();
-    file[3221] = 1;
-    file[3225] = 12;
-    file[3500] = 1;
-    file[3840..].fill(255);
-    Ok(bytes)
-}

@@ -10,7 +10,7 @@ use Rattle.field_map.specs.declared.place.Place.{Place}
 use Rattle.frame_cut.specs.Cuts.{IsCut}
 use Rattle.frame_cut.specs.Traces.{count_of, trace_of, trace_at, with_trace}
 use Rattle.frame_cut.specs.Volume.{Volume, bytes_of}
-use Rattle.time_slice.specs.Cache.{Cache, kept_numbers, kept_of, is_from, IsRight}
+use Rattle.bench_rules.specs.KeptSlices.{Cache, kept_numbers, kept_of, is_from, IsRight}
 use Rattle.time_slice.proofs.CacheLemmas.{numbers_after_forgotten}
 use Rattle.bench_rules.specs.declared.edit.Edit.{Edit}
 use Rattle.bench_rules.specs.declared.edit.Edit.TheVariants.{Set, SetBin, SetText, Map, Unmap, Patch, Blank, Copy, Delete, Move, Resize, Renumber, Compute, Sort}

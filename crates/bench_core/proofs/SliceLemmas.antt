@@ -1,8 +1,8 @@
 -- The numbers of the slices that are kept after one was asked, whatever its rows are.
 use Rattle.std.proofs.Common.{◌≡◌, ◌∙◌, ℕ, List, ◌∷◌, ap, take}
 use Rattle.std.specs.Prelude.{filter, not, ◌==◌}
-use Rattle.time_slice.specs.Cache.{KeptSlices, IsAsked, kept_numbers}
-use Rattle.time_slice.specs.declared.row.Row.{Row}
+use Rattle.bench_rules.specs.KeptSlices.{KeptSlices, IsAsked, kept_numbers}
+use Rattle.bench_rules.specs.declared.row.Row.{Row}
 use Rattle.time_slice.proofs.CacheLemmas.{numbers_after_asked}
 
 -- there is room for as many

@@ -3,7 +3,7 @@ use Rattle.std.specs.Prelude.{ℕ, ℤ, ◌&&◌, Bool, not, false, [], length, 
 use Rattle.std.specs.Ordering.{int_eq}
 use Rattle.field_map.specs.Binding.{is_geometry}
 use Rattle.frame_cut.specs.Traces.{trace_of}
-use Rattle.time_slice.specs.Cache.{Cache, cache_after_change}
+use Rattle.bench_rules.specs.KeptSlices.{Cache, cache_after_change}
 use Rattle.bench_rules.specs.declared.edit.Edit.{Edit}
 use Rattle.bench_rules.specs.declared.edit.Edit.TheVariants.{Set, SetBin, SetText, Map, Unmap, Patch, Blank, Copy, Delete, Move, Resize, Renumber, Compute, Sort}
 use Rattle.bench_rules.specs.Kept.{cell_of}

@@ -1,6 +1,6 @@
 -- How a bench holds its volume and the slices that it keeps.
 use Rattle.std.specs.Prelude.{◌≡◌, IsTrue}
-use Rattle.time_slice.specs.Cache.{kept_numbers}
+use Rattle.bench_rules.specs.KeptSlices.{kept_numbers}
 use Rattle.bench_rules.specs.Live.{LiveSession, AreSlicesOf}
 use Rattle.bench_core.specs.declared.bench.Bench.TheInside.{Inside}
 

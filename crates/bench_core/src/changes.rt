@@ -1,6 +1,6 @@
 // What an edit that was done leaves of the slices that are kept.
 ghost use Rattle.std.specs.Prelude.{◌≡◌, IsTrue, IfOk, OnErr};
-ghost use Rattle.time_slice.specs.Cache.{none_kept};
+ghost use Rattle.bench_rules.specs.KeptSlices.{none_kept};
 ghost use Rattle.edit_overlay.specs.CountedVolume.{RisesAtMost};
 ghost use Rattle.bench_rules.specs.Looks.{edit_looks};
 ghost use Rattle.bench_rules.specs.Steps.{Step};

@@ -17,7 +17,7 @@ use Rattle.frame_cut.specs.Volume.{Volume, bytes_of}
 use Rattle.frame_cut.proofs.OneCutLemmas.{at_most_one_cut}
 use Rattle.trace_view.specs.Values.{samples_at, sample_of}
 use Rattle.trace_record.specs.OfTrace.{bound_value}
-use Rattle.time_slice.specs.Slices.{slice_of}
+use Rattle.bench_rules.specs.Slices.{slice_of}
 use Rattle.bench_rules.specs.declared.edit.Edit.{Edit}
 use Rattle.bench_rules.specs.declared.edit.Edit.TheVariants.{Set}
 use Rattle.bench_rules.specs.declared.field.Field.{Field}

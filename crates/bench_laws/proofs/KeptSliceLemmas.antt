@@ -11,8 +11,8 @@ use Rattle.frame_cut.specs.declared.file_head.Head.{Head}
 use Rattle.frame_cut.specs.Cuts.{IsTrace}
 use Rattle.frame_cut.specs.Traces.{trace_at, with_trace}
 use Rattle.frame_cut.specs.Volume.{Volume}
-use Rattle.time_slice.specs.Cache.{is_from}
-use Rattle.time_slice.specs.Slices.{slice_of}
+use Rattle.bench_rules.specs.KeptSlices.{is_from}
+use Rattle.bench_rules.specs.Slices.{slice_of}
 use Rattle.bench_rules.specs.declared.edit.Edit.TheVariants.{Set, SetBin, SetText, Map, Unmap, Patch, Blank, Copy, Delete, Move, Resize, Renumber, Compute, Sort}
 use Rattle.bench_laws.specs.KeptLaws.{KeptSlicesStay}
 use Rattle.bench_rules.specs.Places.{place_in_binary}

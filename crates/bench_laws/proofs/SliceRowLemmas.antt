@@ -23,9 +23,9 @@ use Rattle.trace_view.specs.Values.{value_at, samples_at, sample_of}
 use Rattle.trace_record.specs.Facts.{Facts}
 use Rattle.trace_record.specs.OfTrace.{bound_value, record_of}
 use Rattle.key_counts.specs.Rising.{rising}
-use Rattle.time_slice.specs.declared.row.Row.{Row}
-use Rattle.time_slice.specs.Cache.{is_from}
-use Rattle.time_slice.specs.Slices.{row_cmp, row_of, rows_from, with_sample, slice_of}
+use Rattle.bench_rules.specs.declared.row.Row.{Row}
+use Rattle.bench_rules.specs.KeptSlices.{is_from}
+use Rattle.bench_rules.specs.Slices.{row_cmp, row_of, rows_from, with_sample, slice_of}
 use Rattle.bench_rules.proofs.PatchLemmas.{measured, with_samples, length-values, samples_inside}
 use Rattle.frame_cut.proofs.ExtensionLemmas.{extensions_kept}
 use Rattle.bench_rules.proofs.ResizingLemmas.{SameFront, same_extensions, same_samples}

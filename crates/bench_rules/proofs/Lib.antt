@@ -21,3 +21,7 @@ pub mod SortLemmas
 pub mod InOrderLemmas
 pub mod RowOrderLemmas
 pub mod SortedLemmas
+pub mod SeenLemmas
+pub mod EachLemmas
+pub mod LookLemmas
+pub mod RangeLemmas

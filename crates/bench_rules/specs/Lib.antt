@@ -31,3 +31,9 @@ pub mod TraceExamples
 pub mod WholeTraces
 pub mod OpaqueExamples
 pub mod ReadFaults
+pub mod Slices
+pub mod SlicesOfRecords
+pub mod SliceExamples
+pub mod KeptSlices
+pub mod KeptSliceExamples
+pub mod RangeFaults

@@ -24,7 +24,7 @@ use Rattle.range_stats.specs.declared.quantity.Quantity.{Quantity}
 use Rattle.fault_live.specs.Faults.{faults_of}
 use Rattle.fault_live.specs.OfFaults.{tally_of_faults}
 use Rattle.fault_live.specs.declared.faults.Faults.{Faults}
-use Rattle.time_slice.specs.Cache.{Cache, AreRight}
+use Rattle.bench_rules.specs.KeptSlices.{Cache, AreRight}
 use Rattle.bench_rules.specs.Reports.{records, head_facts, fold_in, cells_in, inlines_in, crosslines_in, histogram_in, range_in, totals_in, faults_in}
 use Rattle.bench_rules.specs.State.{State}
 

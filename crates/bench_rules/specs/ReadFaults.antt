@@ -2,8 +2,6 @@
 use Rattle.std.specs.Prelude.{◌≡◌, ◌⊎◌, Bool, IsTrue}
 use Rattle.base_file.specs.declared.read_fault.ReadFault.{ReadFault}
 use Rattle.base_file.specs.declared.read_fault.ReadFault.TheVariants as reads
-use Rattle.time_slice.specs.declared.slice_fault.SliceFault.{SliceFault}
-use Rattle.time_slice.specs.declared.slice_fault.SliceFault.TheVariants as slices
 use Rattle.bench_rules.specs.declared.ask_fault.AskFault.{AskFault}
 use Rattle.bench_rules.specs.declared.ask_fault.AskFault.TheVariants as asks
 use Rattle.bench_rules.specs.declared.refusal.Refusal.{Refusal}
@@ -20,11 +18,6 @@ abbrev pub ask_fault_of : ReadFault → AskFault
 ask_fault_of reads.ReadFailed = asks.ReadFailed
 ask_fault_of reads.Changed = asks.FileChanged
 ask_fault_of reads.TooLarge = asks.ReadFailed
-
--- and of a slice, which may want memory too
-abbrev pub ask_fault_of_slice : SliceFault → AskFault
-ask_fault_of_slice slices.OutOfMemory = asks.OutOfMemory
-ask_fault_of_slice (slices.Read read) = ask_fault_of read
 
 -- an edit is told that a read failed, or gave what shows that the file has changed: only where the loaded bytes are on disk
 abbrev pub IsReadRefusal : Bool → Refusal → Type 0

@@ -20,8 +20,8 @@ use Rattle.range_stats.specs.declared.quantity.Quantity.{Quantity}
 use Rattle.fault_live.specs.Faults.{faults_of}
 use Rattle.fault_live.specs.declared.fault.Fault.{Fault}
 use Rattle.fault_live.specs.declared.head_facts.HeadFacts.{HeadFacts}
-use Rattle.time_slice.specs.Slices.{slice_of}
-use Rattle.time_slice.specs.declared.row.Row.{Row}
+use Rattle.bench_rules.specs.Slices.{slice_of}
+use Rattle.bench_rules.specs.declared.row.Row.{Row}
 use Rattle.bench_rules.specs.declared.location.Location.{Location}
 use Rattle.bench_rules.specs.State.{State}
 

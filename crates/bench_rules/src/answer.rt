@@ -2,6 +2,7 @@ use crate::extremes::Extremes;
 use crate::info::Info;
 use crate::items::Items;
 use crate::location::Location;
+use crate::row::Row;
 use crate::table::Table;
 use crate::text::Text;
 use fault_live::Fault;
@@ -9,7 +10,6 @@ use field_map::Place;
 use grid_live::{Cell, FoldCount};
 use key_counts::Ratio;
 use text_block::Code;
-use time_slice::Row;
 use trace_record::Statistics;
 
 /// The answer to a query.

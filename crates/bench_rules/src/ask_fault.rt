@@ -96,26 +96,3 @@ impl From<fault_live::OutOfMemory> for AskFault {
         AskFault::OutOfMemory
     }
 }
-
-impl From<time_slice::SliceFault> for AskFault {
-    ghost use Rattle.bench_rules.specs.ReadFaults.{ask_fault_of_slice};
-
-    ghost from_gives = { λ slice fault. fault ≡ ask_fault_of_slice slice };
-
-    fn from(fault: time_slice::SliceFault) -> AskFault {
-        match fault {
-            time_slice::SliceFault::OutOfMemory => AskFault::OutOfMemory,
-            time_slice::SliceFault::Read(read) => AskFault::from(read),
-        }
-    }
-}
-
-impl From<time_slice::OutOfMemory> for AskFault {
-    ghost use Rattle.bench_rules.specs.declared.ask_fault.AskFault.TheVariants.{OutOfMemory as no_memory};
-
-    ghost from_gives = { λ _ fault. fault ≡ no_memory };
-
-    fn from(_: time_slice::OutOfMemory) -> AskFault {
-        AskFault::OutOfMemory
-    }
-}

@@ -2,12 +2,12 @@
 use crate::report_tests::on_survey;
 use crate::tests::{is_answered, meets, patches, signed};
 use bench_core::{Answer, AskFault, Bench, Edit, Query, Refusal, Text};
+use bench_rules::Row;
 use field_map::Place;
 use num_order::Kind;
 use std::alloc::{AllocError, Global};
 use std::process::Abort;
 use std::test::Fail;
-use time_slice::Row;
 
 // How many rows the answer has.
 fn rows(asked: &Result<Answer, AskFault>) -> Option<usize> {

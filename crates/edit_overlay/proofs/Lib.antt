@@ -1,9 +1,5 @@
-pub mod FaultLemmas
 pub mod HeldLemmas
-pub mod LoadingLemmas
 pub mod LookLemmas
 pub mod PieceLemmas
 pub mod SavingLemmas
 pub mod StandingLemmas
-pub mod PassLemmas
-pub mod PassingLemmas

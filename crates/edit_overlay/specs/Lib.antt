@@ -1,13 +1,8 @@
-pub mod Loading
 pub mod Saving
 pub mod Held
-pub mod HeldLoading
 pub mod CountedVolume
 pub mod Loaded
-pub mod LoadedVolume
 pub mod Looks
 pub mod Standings
-pub mod PassedFile
-pub mod Passing
-pub mod PassReads
+pub mod RefusedPass
 pub mod PassFaultIn

@@ -1,4 +1,4 @@
--- What an overlay, or a file that is being loaded, is once a view of one of its traces has ended.
+-- What an overlay is once a view of one of its traces has ended.
 use Rattle.std.specs.Prelude.{ℕ, ◌≡◌, ⊤, IsTrue, Option, MatchOption, Result, MatchResult}
 use Rattle.std.specs.Borrow.{Fml, MutBor, RattleType, follows_so}
 use mathlib.Core.Option.{none}
@@ -6,8 +6,6 @@ use Rattle.base_file.specs.declared.read_fault.ReadFault.{ReadFault}
 use Rattle.frame_cut.specs.Volume.{Volume}
 use Rattle.trace_view.specs.declared.view.TraceView.{TraceView}
 use Rattle.edit_overlay.specs.CountedVolume.{CountedVolume, after_look, IsViewOf}
-use Rattle.edit_overlay.specs.LoadedVolume.{LoadedVolume, with_next_look}
-use Rattle.edit_overlay.specs.contracts.loading.Loading as loading
 use Rattle.edit_overlay.specs.contracts.overlay.Overlay.{the_row}
 
 -- it is as before, but for one look more; what did not agree does not agree now
@@ -25,7 +23,3 @@ pub record HasShown {T : Type 0} (old last : CountedVolume T) (of : Volume) (p :
 abbrev pub EndsLooked : (T : RattleType) → MutBor (CountedVolume T.Denot) → Volume → ℕ → Result (Option TraceView) ReadFault → Fml
 EndsLooked T o of p result = follows_so (the_row T) (the_row T) o.ghost_name none (λ _ _. ⊤) (λ last.
     MatchResult result (λ view. MatchOption view (last ≡ o.now) (HasShown o.now last of p)) (λ _. HasLooked o.now last))
-
--- the file that is being loaded is as before, but for one look more where there was a view
-abbrev pub EndsSeen : (T : RattleType) → MutBor (LoadedVolume T.Denot) → Option TraceView → Fml
-EndsSeen T l view = follows_so (loading.the_row T) (loading.the_row T) l.ghost_name none (λ _ _. ⊤) (λ last. MatchOption view (last ≡ l.now) (λ _. last ≡ with_next_look l.now))

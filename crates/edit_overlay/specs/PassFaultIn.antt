@@ -1,6 +1,6 @@
 -- How the refusal of a pass is held.
 use Rattle.base_file.specs.Seen.{joined}
-use Rattle.edit_overlay.specs.PassedFile.{RefusedPass}
+use Rattle.edit_overlay.specs.RefusedPass.{RefusedPass}
 use Rattle.edit_overlay.specs.declared.pass_fault.PassFault.TheInside.{Inside}
 
 -- what is shown

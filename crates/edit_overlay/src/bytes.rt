@@ -10,7 +10,7 @@ pub fn overwrite(all: &mut [u8], at: usize, new: &[u8])
     all[at..at + new.len()].copy_from_slice(new);
 }
 
-// So many bytes from a place on.
+/// So many bytes from a place on.
 pub fn array_at<const N: usize>(bytes: &[u8], at: usize) -> &[u8; N]
     requires { at + N ≤ length bytes.now }
     ensures { result.now ≡ take N (drop at bytes.now) }

@@ -10,18 +10,13 @@
 //! writes the parts one behind the other, neighbouring ranges of the loaded bytes together, by
 //! pieces as long as can be lent at once, and joins nothing in memory.
 //!
-//! A file comes in as a [`Loading`], which shows its traces one after another and takes a payload
-//! for each; once each has one, it is an overlay. A [`Passing`] does so with a file that stays on
-//! disk, in one pass over it, by blocks; where it is refused, a [`PassFault`] has the bytes that
-//! were read.
+//! `volume_loading` makes an overlay of a file ([`Overlay::new`]). Where a file that stays on disk
+//! is refused, a [`PassFault`] has the bytes that were read.
 //!
-//! `load` takes memory for the file's bytes, and like `from_bytes` for a slot for each trace;
-//! `push` for the trace's place in the order, and for the extent of a trace of 2^32 bytes or more;
-//! `put` and `put_each`, and what prepares them, for the runs of the traces that they change;
-//! `insert` for one slot, for what holds its bytes, and for room in the order, `move_to` and
-//! `prepare_move` for room in the order. Each of them may be refused for want of memory, and
-//! then nothing is changed. The calls of a [`Passing`] take memory for the longest part of the file
-//! that is shown at once, and for the table of its traces. No other call takes any.
+//! `put` and `put_each`, and what prepares them, take memory for the runs of the traces that they
+//! change; `insert` for one slot, for what holds its bytes, and for room in the order, `move_to`
+//! and `prepare_move` for room in the order. Each of them may be refused for want of memory, and
+//! then nothing is changed. No other call takes any.
 //!
 //! A put or a move has two parts for a caller that has to show its outcome first, or to take memory
 //! elsewhere too: `prepare_put`, `prepare_put_each` and `prepare_move` take all the memory and
@@ -39,20 +34,15 @@
 
 mod bytes;
 mod laid;
-mod loading;
 mod overlay;
 mod pass_fault;
-mod pass_reads;
-mod passing;
-mod reading_in;
 mod save_fault;
 mod waiting;
 mod writing_out;
 
-pub use crate::loading::Loading;
+pub use crate::bytes::array_at;
 pub use crate::overlay::Overlay;
 pub use crate::pass_fault::PassFault;
-pub use crate::passing::Passing;
 pub use crate::save_fault::SaveFault;
 pub use base_file::ReadFault;
 pub use trace_store::{Column, OutOfMemory, Payloads};

@@ -56,9 +56,9 @@ impl<T: Copy> Overlay<T> {
     ghost use Rattle.edit_overlay.specs.Looks.{EndsLooked};
     ghost use Rattle.edit_overlay.specs.Standings.{is_sure, loaded_in};
 
-    // An overlay of the store of a loaded file, with its headers, and how often traces were looked
-    // at.
-    pub(crate) fn new(
+    /// An overlay of the store of a loaded file, with its headers, and how often traces were looked
+    /// at: for one that loads a file. Takes no memory.
+    pub fn new(
         text: [u8; TEXT_BLOCK_BYTES],
         bin: [u8; BINARY_HEADER_BYTES],
         store: TraceStore<T>,

@@ -15,7 +15,7 @@ pub struct PassFault {
 }
 
 impl Model for PassFault {
-    ghost use Rattle.edit_overlay.specs.PassedFile.{RefusedPass};
+    ghost use Rattle.edit_overlay.specs.RefusedPass.{RefusedPass};
 
     ghost Value = { RefusedPass };
 
@@ -36,8 +36,8 @@ impl PassFault {
         }
     }
 
-    // For this reason, when these bytes had been read; the file is given up.
-    pub(crate) fn of(fault: LoadFault, held: Held) -> PassFault
+    /// For this reason, when these bytes had been read; the file is given up. Takes no memory.
+    pub fn of(fault: LoadFault, held: Held) -> PassFault
         requires { ¬ IsInMemory held.standing }
         ensures fault { result.fault ≡ fault }
         ensures read { result.read ≡ held.bytes }

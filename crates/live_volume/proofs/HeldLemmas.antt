@@ -21,8 +21,8 @@ use Rattle.trace_record.specs.declared.record.Record.{Record}
 use Rattle.edit_overlay.specs.CountedVolume.{CountedVolume, after_look, IsSeen}
 use Rattle.edit_overlay.specs.Loaded.{Loaded}
 use Rattle.live_reports.specs.OfRecords.{AreReportsOf}
-use Rattle.time_slice.specs.declared.row.Row.{Row}
-use Rattle.time_slice.specs.Cache.{KeptSlices, after_slice}
+use Rattle.bench_rules.specs.declared.row.Row.{Row}
+use Rattle.bench_rules.specs.KeptSlices.{KeptSlices, after_slice}
 use Rattle.bench_rules.specs.declared.edit.Edit.{Edit}
 use Rattle.bench_rules.specs.declared.edit.Edit.TheVariants.{Map}
 use Rattle.bench_rules.specs.declared.refusal.Refusal.{Refusal}

@@ -6,15 +6,16 @@ ghost use Rattle.frame_cut.specs.Cuts.{IsCut};
 ghost use Rattle.frame_cut.specs.Traces.{count_of, trace_at, trace_of};
 ghost use Rattle.frame_cut.specs.Volume.{bytes_of};
 ghost use Rattle.edit_overlay.specs.CountedVolume.{RisesAtMost};
-ghost use Rattle.time_slice.specs.Cache.{after_slice, kept_numbers, IsAsked};
+ghost use Rattle.bench_rules.specs.KeptSlices.{after_slice, kept_numbers, IsAsked};
 ghost use Rattle.time_slice.specs.Faults.{IsOfRead};
 ghost use Rattle.bench_rules.specs.Kept.{cell_of, is_kept};
 ghost use Rattle.bench_rules.specs.Live.{AreSlicesOf};
 ghost use Rattle.bench_rules.specs.Reports.{slice_in};
 
 use crate::live_volume::LiveVolume;
+use bench_rules::Row;
 use std::alloc::Global;
-use time_slice::{Row, SliceCache, SliceFault};
+use time_slice::{SliceCache, SliceFault};
 
 impl LiveVolume {
     /// Where each read of the loaded bytes agreed, the volume is the one cut of its own bytes. In

@@ -6,7 +6,7 @@ ghost use Rattle.frame_cut.specs.Cuts.{IsCut};
 ghost use Rattle.frame_cut.specs.Traces.{count_of, is_trace};
 ghost use Rattle.frame_cut.specs.Volume.{bytes_of};
 ghost use Rattle.trace_record.specs.Told.{tells_record};
-ghost use Rattle.edit_overlay.specs.Loading.{IsLoadFault, FailuresAfterRefusal, TakesWithin};
+ghost use Rattle.volume_loading.specs.Loading.{IsLoadFault, FailuresAfterRefusal, TakesWithin};
 ghost use Rattle.edit_overlay.specs.Saving.{CountsSaveFailure, Saves};
 ghost use Rattle.bench_rules.specs.declared.edit.Edit.TheVariants as edits;
 ghost use Rattle.bench_rules.specs.declared.field.Field.TheVariants as fields;
@@ -25,27 +25,29 @@ use crate::number_edits::leaves_length;
 use crate::volume_edits::refusal_of_records;
 use bench_rules::{
     Answer, AskFault, Edit, Field, Query, Refusal, Text, binary_offset, is_line, place_in_binary,
-    set_bin_refusal,
+    place_in_trace, set_bin_refusal,
 };
 use device_io::{Sink, Source};
-use edit_overlay::{Loading, Overlay, SaveFault};
+use edit_overlay::{Overlay, SaveFault};
 use field_map::{FieldMap, Place, is_geometry};
 use frame_cut::{Limits, LoadFault, Reading};
+use header_answers::{extremes_answer, found_answer, header_answer};
 use live_reports::LiveReports;
-use many_traces::place_in_trace;
+use many_traces::table_answer;
 use num_order::{fits, write};
 use std::alloc::Global;
 use std::io::{Read, Write};
 use std::marker::Model;
 use std::mem;
 use text_block::{code_of, encode_line};
+use time_slice::slice_answer;
 use trace_record::PackedRecord;
 use volume_answers::{
-    cells, code_answer, count_answer, crosslines, extremes_answer, faults_answer, fields_answer,
-    fold, found_answer, geometry_answer, get_answer, get_bin_answer, header_answer, histogram,
-    info_answer, inlines, line_answer, lines_answer, range, sample_answer, slice_answer,
-    stanzas_answer, stat_answer, table_answer, totals_answer, value_refusal,
+    cells, code_answer, count_answer, crosslines, faults_answer, fields_answer, fold,
+    geometry_answer, get_answer, get_bin_answer, histogram, info_answer, inlines, line_answer,
+    lines_answer, range, sample_answer, stanzas_answer, stat_answer, totals_answer, value_refusal,
 };
+use volume_loading::Loading;
 use volume_records::{remake, with_records};
 
 /// One volume: a file that was loaded, with the edits that were accepted since.

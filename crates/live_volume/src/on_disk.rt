@@ -3,15 +3,16 @@ ghost use Rattle.std.specs.Prelude.{◌≡◌, ◌≤◌, true, length, IfErr, I
 ghost use Rattle.field_map.specs.Binding.{geometry_at_load};
 ghost use Rattle.frame_cut.specs.Cuts.{IsCut};
 ghost use Rattle.frame_cut.specs.Volume.{bytes_of};
-ghost use Rattle.edit_overlay.specs.PassedFile.{IsPassFault};
+ghost use Rattle.volume_loading.specs.PassedFile.{IsPassFault};
 ghost use Rattle.bench_rules.specs.Looks.{load_looks};
 
 use crate::live_volume::LiveVolume;
-use edit_overlay::{PassFault, Passing};
+use edit_overlay::PassFault;
 use field_map::FieldMap;
 use frame_cut::{Limits, LoadFault, Reading};
 use std::alloc::Global;
 use std::fs::File;
+use volume_loading::Passing;
 use volume_records::with_records_on_disk;
 
 impl LiveVolume {

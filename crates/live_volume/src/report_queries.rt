@@ -7,11 +7,11 @@ ghost use Rattle.trace_record.specs.OfTrace.{record_of};
 ghost use Rattle.bench_rules.specs.Live.{IsGridOf, AreRangesOf, AreTotalsOf, AreTriplesOf};
 
 use crate::live_volume::LiveVolume;
+use bench_rules::has_opaque_samples;
 use fault_live::Faults;
 use grid_live::Grid;
 use range_stats::{Ranges, Totals};
 use trace_record::Record;
-use volume_answers::has_opaque_samples;
 
 impl LiveVolume {
     /// The grid, which has counted the traces as they are now. Takes no memory and looks at none.

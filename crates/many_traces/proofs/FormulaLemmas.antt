@@ -16,7 +16,7 @@ use Rattle.bench_rules.specs.Computed.{chained_from, computed_in, stepped, steps
 use Rattle.bench_rules.specs.ManyTraces.{each_of}
 use Rattle.bench_rules.proofs.ComputedLemmas.{goes_on, with_number, without_number, nothing_goes_on}
 use Rattle.many_traces.specs.Formulas.{named_number_in, step_in}
-use Rattle.many_traces.proofs.EachLemmas.{each_through}
+use Rattle.bench_rules.proofs.EachLemmas.{each_through}
 
 -- ---- the terms of steps
 

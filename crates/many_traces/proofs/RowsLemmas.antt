@@ -16,11 +16,11 @@ use Rattle.trace_view.specs.Values.{value_of}
 use Rattle.bench_rules.specs.declared.ask_fault.AskFault.TheVariants.{NoPlace, OutOfMemory}
 use Rattle.bench_rules.specs.declared.field.Field.{Field}
 use Rattle.bench_rules.specs.Places.{place_in_trace}
-use Rattle.many_traces.specs.Faults.{fault_of}
+use Rattle.bench_rules.specs.RangeFaults.{fault_of}
 use Rattle.many_traces.specs.Fields.{number_in}
 use Rattle.frame_cut.specs.Traces.{trace_at}
 use Rattle.frame_cut.specs.Volume.{Volume}
-use Rattle.many_traces.proofs.EachLemmas.{each_stops, each_goes_on, in_front, next_position, nothing_there, left_decides, each_through}
+use Rattle.bench_rules.proofs.EachLemmas.{each_stops, each_goes_on, in_front, next_position, nothing_there, left_decides, each_through}
 
 -- two functions that agree on these positions give the same list
 same_over : {X : Type 0} (f g : ℕ → X) (a n : ℕ) → ((j : ℕ) → j < a + n → f j ≡ g j) → map f (range_with_len a n) ≡ map g (range_with_len a n)

@@ -24,7 +24,7 @@ use Rattle.bench_rules.specs.Sorted.{in_order, order_of}
 use Rattle.bench_rules.specs.Tables.{row_of, table_of}
 use Rattle.bench_rules.proofs.SortLemmas.{rows-stand, read-positions}
 use Rattle.many_traces.specs.Arranged.{row_near, PutsRows, Puts, Sorts}
-use Rattle.many_traces.specs.Faults.{IsFaultFor, refusal_for}
+use Rattle.bench_rules.specs.RangeFaults.{IsFaultFor, refusal_for}
 use Rattle.many_traces.specs.Formulas.{IsRefusalFor}
 use Rattle.many_traces.proofs.ExchangeLemmas.{order-below}
 

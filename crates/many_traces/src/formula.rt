@@ -5,8 +5,7 @@ ghost use Rattle.bench_rules.specs.Computed.{chained_from, steps_of, term_of as 
 ghost use Rattle.bench_rules.specs.ManyTraces.{each_of};
 ghost use Rattle.many_traces.specs.Formulas.{named_number_in, step_in};
 
-use crate::places::place_in_trace;
-use bench_rules::{Operand, Operator, Refusal, Term, after_step, term_in};
+use bench_rules::{Operand, Operator, Refusal, Term, after_step, place_in_trace, term_in};
 use field_map::{FieldMap, Place};
 use std::alloc::Global;
 use trace_view::TraceView;

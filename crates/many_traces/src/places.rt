@@ -3,23 +3,9 @@ ghost use Rattle.std.specs.Prelude.{◌≡◌, Some, is_some, IfSome};
 ghost use Rattle.bench_rules.specs.ManyTraces.{each_of};
 ghost use Rattle.bench_rules.specs.Places.{place_in_trace as place_of_field};
 
-use bench_rules::Field;
-use field_map::{FieldMap, Place, named};
+use bench_rules::{Field, place_in_trace};
+use field_map::{FieldMap, Place};
 use std::alloc::Global;
-
-/// The place of a trace's field, where it has one: of a name the bound one, else that of a name
-/// that is always known. Takes no memory.
-pub fn place_in_trace(map: &FieldMap, field: &Field) -> Option<Place>
-    ensures { result ≡ place_of_field map.now.pairs field.now }
-{
-    match field {
-        Field::Place(place) => Some(*place),
-        Field::Name(name) => match map.place(name.as_str()) {
-            Some(place) => Some(place),
-            None => named(name.as_str()),
-        },
-    }
-}
 
 /// Whether each field has a place. Takes no memory.
 pub fn have_places(map: &FieldMap, fields: &[Field]) -> bool

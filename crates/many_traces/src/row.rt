@@ -8,8 +8,7 @@ ghost use Rattle.bench_rules.specs.ManyTraces.{each_of};
 ghost use Rattle.bench_rules.specs.Tables.{row_of};
 ghost use Rattle.many_traces.specs.Fields.{number_in};
 
-use crate::places::place_in_trace;
-use bench_rules::Field;
+use bench_rules::{Field, place_in_trace};
 use edit_overlay::{Overlay, ReadFault};
 use field_map::{FieldMap, Place};
 use trace_record::PackedRecord;

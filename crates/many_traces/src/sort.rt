@@ -10,7 +10,7 @@ ghost use Rattle.bench_rules.specs.ReadFaults.{IsReadRefusal};
 ghost use Rattle.bench_rules.specs.Refused.{sort_refusal};
 ghost use Rattle.trace_store.specs.Swapped.{ArePlaces};
 ghost use Rattle.many_traces.specs.Arranged.{PutsRows, Sorts};
-ghost use Rattle.many_traces.specs.Faults.{refusal_for as refusal_for_fault};
+ghost use Rattle.bench_rules.specs.RangeFaults.{refusal_for as refusal_for_fault};
 ghost use Rattle.many_traces.specs.Formulas.{IsRefusalFor};
 
 use crate::sorting::rows_in_order;

@@ -12,7 +12,7 @@ ghost use Rattle.bench_rules.specs.ManyTraces.{each_of};
 ghost use Rattle.bench_rules.specs.Places.{place_in_trace};
 ghost use Rattle.bench_rules.specs.ReadFaults.{IsReadFault};
 ghost use Rattle.bench_rules.specs.Tables.{table_of};
-ghost use Rattle.many_traces.specs.Faults.{fault_of, IsFaultFor};
+ghost use Rattle.bench_rules.specs.RangeFaults.{fault_of, IsFaultFor};
 
 use crate::places::{have_places, places_of};
 use crate::row::{has_row, push_row};

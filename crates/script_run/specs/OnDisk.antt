@@ -1,6 +1,7 @@
 -- A run over a file that stays on disk.
 use Rattle.std.specs.Prelude.{◌≡◌, ℕ, List, [], Some}
-use Rattle.edit_overlay.specs.PassedFile.{RefusedPass, IsPassFault}
+use Rattle.edit_overlay.specs.RefusedPass.{RefusedPass}
+use Rattle.volume_loading.specs.PassedFile.{IsPassFault}
 use Rattle.script_text.specs.Devices.{Device}
 use Rattle.script_text.specs.RefusalTexts.{load_refusal_line}
 use Rattle.script_run.specs.declared.options.Options.{Options}

@@ -18,7 +18,7 @@ use Rattle.grid_live.specs.declared.line.Line.{Line}
 use Rattle.grid_live.specs.declared.fold_count.FoldCount.{FoldCount}
 use Rattle.fault_live.specs.declared.fault.Fault.{Fault}
 use Rattle.fault_live.specs.declared.fault.Fault.TheVariants as faults
-use Rattle.time_slice.specs.declared.row.Row.{Row}
+use Rattle.bench_rules.specs.declared.row.Row.{Row}
 use Rattle.bench_rules.specs.declared.extremes.Extremes.{Extremes}
 use Rattle.bench_rules.specs.declared.info.Info.{Info}
 use Rattle.bench_rules.specs.declared.location.Location.{Location}

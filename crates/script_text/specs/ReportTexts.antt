@@ -8,7 +8,7 @@ use Rattle.grid_live.specs.declared.line.Line.{Line}
 use Rattle.grid_live.specs.declared.fold_count.FoldCount.{FoldCount}
 use Rattle.fault_live.specs.declared.fault.Fault.{Fault}
 use Rattle.fault_live.specs.declared.fault.Fault.TheVariants.{Sequence, Samples, Interval, Scalar, Units, Repeated, TraceCount, TextLines, Name}
-use Rattle.time_slice.specs.declared.row.Row.{Row}
+use Rattle.bench_rules.specs.declared.row.Row.{Row}
 use Rattle.bench_rules.specs.declared.location.Location.{Location}
 use Rattle.script_text.specs.Texts.{with_blanks}
 

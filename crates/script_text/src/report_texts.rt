@@ -6,12 +6,11 @@ ghost use Rattle.script_text.specs.Texts.{with_line_end};
 use crate::list_texts::Listed;
 use crate::text_buffer::TextBuffer;
 use crate::text_from_end::TextFromEnd;
-use bench_rules::Location;
+use bench_rules::{Location, Row};
 use fault_live::Fault;
 use grid_live::{Cell, FoldCount, Line};
 use itoa::Integer;
 use key_counts::Ratio;
-use time_slice::Row;
 use trace_record::Statistics;
 
 /// The line of where a trace lies.

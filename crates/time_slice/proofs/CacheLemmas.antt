@@ -14,10 +14,10 @@ use Rattle.trace_record.specs.Facts.{Facts, facts_of}
 use Rattle.trace_record.specs.OfTrace.{record_of}
 use Rattle.key_counts.specs.Rising.{rising}
 use Rattle.trace_record.specs.declared.record.Record.{Record}
-use Rattle.time_slice.specs.declared.row.Row.{Row}
-use Rattle.time_slice.specs.OfRecords.{with_sample_of}
-use Rattle.time_slice.specs.Slices.{row_cmp, row_of, rows_from, slice_rows, slice_of}
-use Rattle.time_slice.specs.Cache.{Cache, kept_of, row_again, rows_again, is_from, cache_after_slice, cache_after_change, IsRight, IsRightOf, AreRightOf}
+use Rattle.bench_rules.specs.declared.row.Row.{Row}
+use Rattle.bench_rules.specs.SlicesOfRecords.{with_sample_of}
+use Rattle.bench_rules.specs.Slices.{row_cmp, row_of, rows_from, slice_rows, slice_of}
+use Rattle.bench_rules.specs.KeptSlices.{Cache, kept_of, row_again, rows_again, is_from, cache_after_slice, cache_after_change, IsRight, IsRightOf, AreRightOf}
 use Rattle.time_slice.specs.CacheLaws.{NumbersAfterAsked, NumbersAfterForgotten, AskedStaysRight, ForgottenStaysRight, RowsComeBack, RightOfRecords}
 use Rattle.time_slice.proofs.PassLemmas.{beside_own, rows_are_of_traces}
 

@@ -8,8 +8,8 @@ use Rattle.std.proofs.lemmas.List.{take_all}
 use Rattle.std.proofs.lemmas.List.Elements.{All-head, All-tail}
 use Rattle.std.proofs.lemmas.Map.Keys.{IsDistinct-head, IsDistinct-tail}
 use Rattle.lru.specs.LruCache.{LruCache, lru_cache, promoted, put_entries}
-use Rattle.time_slice.specs.declared.row.Row.{Row}
-use Rattle.time_slice.specs.Cache.{Cache, KeptSlices, IsAsked, kept_of, kept_rows, keeps, after_slice}
+use Rattle.bench_rules.specs.declared.row.Row.{Row}
+use Rattle.bench_rules.specs.KeptSlices.{Cache, KeptSlices, IsAsked, kept_of, kept_rows, keeps, after_slice}
 
 -- a key is compared from either side
 pub flip : (a b : ℕ) → nat_eq a b ≡ (b == a)

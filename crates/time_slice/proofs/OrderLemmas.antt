@@ -14,8 +14,8 @@ use Rattle.std.specs.declared.cmp.Ordering.TheVariants.{Less, Equal, Greater}
 use Rattle.trace_record.specs.Facts.{Facts}
 use Rattle.key_counts.specs.Rising.{rising}
 use Rattle.key_counts.proofs.RisingLemmas.{below_all, IsRisingOf-rising, one_rising}
-use Rattle.time_slice.specs.declared.row.Row.{Row}
-use Rattle.time_slice.specs.Slices.{row_cmp, row_of, rows_from, slice_rows}
+use Rattle.bench_rules.specs.declared.row.Row.{Row}
+use Rattle.bench_rules.specs.Slices.{row_cmp, row_of, rows_from, slice_rows}
 use Rattle.time_slice.proofs.SliceLemmas.{row_total, exact_rows}
 
 module _ {K : Type 0} (cmp : K → K → Ordering) (o : IsTotalOrder cmp) where

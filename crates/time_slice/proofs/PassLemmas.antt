@@ -17,11 +17,11 @@ use Rattle.trace_record.specs.Facts.{Facts, facts_of}
 use Rattle.trace_record.specs.OfTrace.{record_of}
 use Rattle.trace_record.specs.Packed.{record_in}
 use Rattle.trace_record.specs.declared.packed_record.PackedRecord.{PackedRecord}
-use Rattle.time_slice.specs.declared.row.Row.{Row}
+use Rattle.bench_rules.specs.declared.row.Row.{Row}
 use Rattle.time_slice.specs.Fitting.{value_fits}
 use Rattle.time_slice.specs.Laws.{RowsAreOfTraces}
-use Rattle.time_slice.specs.OfRecords.{with_sample_of}
-use Rattle.time_slice.specs.Slices.{row_of, rows_from, slice_rows, with_sample}
+use Rattle.bench_rules.specs.SlicesOfRecords.{with_sample_of}
+use Rattle.bench_rules.specs.Slices.{row_of, rows_from, slice_rows, with_sample}
 
 -- the bytes of a sample at their place in the trace
 pub sample_at : (h : Head) (f : IntegerFormat) (t : List ℕ) (k e w j : ℕ) (bytes : List ℕ) → values h.format ≡ Some f → k < sample_count h t → e ≡ extensions_of h t → w ≡ integer_width f → j ≡ k

@@ -7,8 +7,8 @@ use Rattle.std.specs.declared.cmp.Ordering.TheVariants.{Less, Equal, Greater}
 use Rattle.std.proofs.lemmas.Map.Lookups.{CmpEqualImpliesEq, exact_signed, exact_unsigned}
 use Rattle.trace_record.specs.Facts.{Facts}
 use Rattle.key_counts.proofs.RisingLemmas.{IsRisingOf-rising, one_rising}
-use Rattle.time_slice.specs.declared.row.Row.{Row}
-use Rattle.time_slice.specs.Slices.{row_cmp, rows_from, slice_rows, IsSlice}
+use Rattle.bench_rules.specs.declared.row.Row.{Row}
+use Rattle.bench_rules.specs.Slices.{row_cmp, rows_from, slice_rows, IsSlice}
 
 pub row_total : IsTotalOrder row_cmp
 row_total =

@@ -7,7 +7,7 @@ use Rattle.std.proofs.lemmas.Bool.{eq-eqb}
 use Rattle.std.proofs.lemmas.List.{take_more}
 use Rattle.std.proofs.lemmas.Map.Keys.{IsDistinct-head, IsDistinct-tail}
 use Rattle.lru.specs.LruCache.{last_entry, promoted}
-use Rattle.time_slice.specs.Cache.{Cache, is_from, cache_after_change}
+use Rattle.bench_rules.specs.KeptSlices.{Cache, is_from, cache_after_change}
 use Rattle.time_slice.proofs.KeptLemmas.{flip}
 
 -- ---- the last entry

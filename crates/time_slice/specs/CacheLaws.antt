@@ -5,9 +5,9 @@ use Rattle.frame_cut.specs.declared.file_head.Head.{Head}
 use Rattle.trace_record.specs.Facts.{facts_of}
 use Rattle.trace_record.specs.OfTrace.{record_of}
 use Rattle.trace_record.specs.declared.record.Record.{Record}
-use Rattle.time_slice.specs.declared.row.Row.{Row}
-use Rattle.time_slice.specs.Slices.{slice_of}
-use Rattle.time_slice.specs.Cache.{Cache, kept_of, rows_again, kept_numbers, cache_after_slice, is_from, cache_after_change, AreRight, AreRightOf}
+use Rattle.bench_rules.specs.declared.row.Row.{Row}
+use Rattle.bench_rules.specs.Slices.{slice_of}
+use Rattle.bench_rules.specs.KeptSlices.{Cache, kept_of, rows_again, kept_numbers, cache_after_slice, is_from, cache_after_change, AreRight, AreRightOf}
 
 -- after slice k was asked for its number comes first, the others follow as they were, and the last goes where there would be one too many
 abbrev pub NumbersAfterAsked : Type 0

@@ -2,13 +2,14 @@
 ghost use Rattle.std.specs.Prelude.{◌≡◌, ◌++◌, map, All, IfOk, OnOk, IsTrue};
 ghost use Rattle.num_order.specs.Number.{IsBetween};
 ghost use Rattle.trace_record.specs.Facts.{facts_of};
-ghost use Rattle.time_slice.specs.Cache.{kept_of, row_again, rows_again};
+ghost use Rattle.bench_rules.specs.KeptSlices.{kept_of, row_again, rows_again};
 ghost use Rattle.time_slice.specs.Fitting.{has_signs, value_fits};
 ghost use Rattle.time_slice.specs.Shown.{pair_of};
 
+use crate::OutOfMemory;
 use crate::of_volume::push_row;
 use crate::record_walk::RecordWalk;
-use crate::{OutOfMemory, Row};
+use bench_rules::Row;
 use num_order::{Kind, Order};
 use record_table::Records;
 use sample_codes::Format;

@@ -8,10 +8,11 @@ ghost use Rattle.trace_record.specs.Packed.{record_in};
 ghost use Rattle.edit_overlay.specs.CountedVolume.{after_look, IsSeen};
 ghost use Rattle.time_slice.specs.Faults.{IsOfRead};
 ghost use Rattle.time_slice.specs.Fitting.{value_fits};
-ghost use Rattle.time_slice.specs.OfRecords.{with_sample_of};
-ghost use Rattle.time_slice.specs.Slices.{row_of, rows_from, slice_rows};
+ghost use Rattle.bench_rules.specs.SlicesOfRecords.{with_sample_of};
+ghost use Rattle.bench_rules.specs.Slices.{row_of, rows_from, slice_rows};
 
-use crate::{OutOfMemory, Row, SliceFault};
+use crate::{OutOfMemory, SliceFault};
+use bench_rules::Row;
 use edit_overlay::{Overlay, ReadFault};
 use field_map::TRACE_HEADER_BYTES;
 use frame_cut::Head;

@@ -6,12 +6,13 @@ ghost use Rattle.edit_overlay.specs.CountedVolume.{IsSeen};
 ghost use Rattle.lru.specs.LruCache.{lru_cache};
 ghost use Rattle.time_slice.specs.Faults.{IsOfRead};
 ghost use Rattle.time_slice.specs.Fitting.{value_fits};
-ghost use Rattle.time_slice.specs.OfRecords.{with_sample_of};
-ghost use Rattle.time_slice.specs.Slices.{slice_rows};
-ghost use Rattle.time_slice.specs.Cache.{Cache, AreRightOf, IsAsked, keeps, kept_of, kept_rows, rows_again, is_from, cache_after_change, none_kept, after_slice, after_change};
+ghost use Rattle.bench_rules.specs.SlicesOfRecords.{with_sample_of};
+ghost use Rattle.bench_rules.specs.Slices.{slice_rows};
+ghost use Rattle.bench_rules.specs.KeptSlices.{Cache, AreRightOf, IsAsked, keeps, kept_of, kept_rows, rows_again, is_from, cache_after_change, none_kept, after_slice, after_change};
 
 use crate::kept_rows::KeptRows;
-use crate::{OutOfMemory, Row, SliceFault, rows};
+use crate::{OutOfMemory, SliceFault, rows};
+use bench_rules::Row;
 use edit_overlay::Overlay;
 use lru::LruCache;
 use record_table::Records;
@@ -30,7 +31,7 @@ pub struct SliceCache {
 }
 
 impl Model for SliceCache {
-    ghost use Rattle.time_slice.specs.Cache.{KeptSlices, kept_slices_code};
+    ghost use Rattle.bench_rules.specs.KeptSlices.{KeptSlices, kept_slices_code};
 
     ghost Value = { KeptSlices };
 

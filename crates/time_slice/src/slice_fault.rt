@@ -1,4 +1,5 @@
 use crate::OutOfMemory;
+use bench_rules::AskFault;
 use edit_overlay::ReadFault;
 use std::alloc::{AllocError, AllocFailed};
 use thiserror::Error;
@@ -55,5 +56,19 @@ impl<T: Drop> From<AllocFailed<T>> for SliceFault {
 
     fn from(_: AllocFailed<T>) -> SliceFault {
         SliceFault::OutOfMemory
+    }
+}
+
+impl From<SliceFault> for AskFault {
+    ghost use Rattle.std.specs.Prelude.{◌≡◌};
+    ghost use Rattle.time_slice.specs.Faults.{ask_fault_of_slice};
+
+    ghost from_gives = { λ slice fault. fault ≡ ask_fault_of_slice slice };
+
+    fn from(fault: SliceFault) -> AskFault {
+        match fault {
+            SliceFault::OutOfMemory => AskFault::OutOfMemory,
+            SliceFault::Read(read) => AskFault::from(read),
+        }
     }
 }

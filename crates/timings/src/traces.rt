@@ -2,13 +2,13 @@
 ghost use Rattle.std.specs.Prelude.{◌≡◌};
 
 use device_io::Source;
-use edit_overlay::Loading;
 use field_map::FieldMap;
 use frame_cut::{Limits, Reading};
 use std::alloc::Global;
 use std::fs;
 use std::rt::Files;
 use trace_record::{Record, record_of};
+use volume_loading::Loading;
 
 // What the records of all traces say together.
 #[derive(Clone, Copy)]

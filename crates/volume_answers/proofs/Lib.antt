@@ -1,4 +1,3 @@
 mod LetterLemmas
 pub mod StanzaLemmas
-mod RangeLemmas
 mod RoomLemmas

@@ -1,5 +1,6 @@
 //! The answers of queries over a volume under edits, its field map and its running reports, and the
-//! first refusals of edits of one trace.
+//! first refusals of edits of one trace. Named header fields are answered by `header_answers`,
+//! tables by `many_traces`, slices by `time_slice`.
 //!
 //! Each contract speaks of every state that fits what the call is lent: the volume of an overlay,
 //! the pairs of a field map, the records beside the traces, or what a report has counted. So one
@@ -14,7 +15,6 @@
 
 mod file_answers;
 mod of_headers;
-mod range_answers;
 mod refusals;
 mod report_answers;
 mod sample_answers;
@@ -24,14 +24,11 @@ mod trace_answers;
 
 pub use crate::file_answers::{count_answer, fields_answer, get_bin_answer, info_answer};
 pub use crate::of_headers::head_facts;
-pub use crate::range_answers::{extremes_answer, found_answer, table_answer};
 pub use crate::refusals::{blank_refusal, copy_refusal, move_refusal, patch_place, value_refusal};
 pub use crate::report_answers::{
     cells, crosslines, faults, fold, geometry, histogram, inlines, range, stat, totals,
 };
-pub use crate::sample_answers::{faults_answer, has_opaque_samples, slice_answer, totals_answer};
+pub use crate::sample_answers::{faults_answer, totals_answer};
 pub use crate::stanzas::add_stanzas;
 pub use crate::text_answers::{code_answer, line_answer, lines_answer, stanzas_answer};
-pub use crate::trace_answers::{
-    geometry_answer, get_answer, header_answer, sample_answer, stat_answer,
-};
+pub use crate::trace_answers::{geometry_answer, get_answer, sample_answer, stat_answer};

@@ -12,8 +12,7 @@ ghost use Rattle.bench_rules.specs.Refused.{first_refusal, no_trace as no_trace_
 ghost use Rattle.bench_rules.specs.State.{State};
 ghost use Rattle.volume_answers.specs.Rooms.{HasRoom, HasSampleRoom};
 
-use crate::trace_answers::has_trace;
-use bench_rules::{Refusal, blank_length, patch_refusal, sample_place, set_refusal};
+use bench_rules::{Refusal, blank_length, has_trace, patch_refusal, sample_place, set_refusal};
 use edit_overlay::{Overlay, ReadFault};
 use field_map::Place;
 use frame_cut::Limits;

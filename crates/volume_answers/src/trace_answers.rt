@@ -12,10 +12,11 @@ ghost use Rattle.bench_rules.specs.ReadFaults.{IsReadFault};
 ghost use Rattle.bench_rules.specs.State.{State};
 
 use crate::report_answers::{geometry, stat};
-use bench_rules::{Answer, AskFault, Field, trace_sample};
+use bench_rules::{
+    Answer, AskFault, Field, has_opaque_samples, has_trace, place_in_trace, trace_sample,
+};
 use edit_overlay::Overlay;
 use field_map::{FieldMap, Place};
-use many_traces::{header, named_places, place_in_trace};
 use std::alloc::Global;
 use trace_record::{PackedRecord, Record};
 
@@ -40,13 +41,6 @@ pub fn get_answer(
         None if has_trace(overlay, p) => Err(AskFault::NoField),
         None => Err(AskFault::NoTrace(p, overlay.count())),
     }
-}
-
-// Whether there is a trace p.
-pub(crate) fn has_trace(overlay: &Overlay<PackedRecord>, p: u32) -> bool
-    ensures { result ≡ is_trace overlay.now.volume p }
-{
-    p >= 1 && p <= overlay.count()
 }
 
 // The number at the place of trace p: E01, E03.
@@ -84,27 +78,6 @@ pub fn sample_answer(
     trace_sample(&trace, k)
 }
 
-/// All named header fields of trace p. One look at most. Takes memory. Refused: E01, else E11
-/// alone. On disk also where the trace could not be read (E14, E15).
-pub fn header_answer(
-    alloc: Global,
-    overlay: &mut Overlay<PackedRecord>,
-    map: &FieldMap,
-    p: u32,
-) -> Result<Answer, AskFault>
-    ensures reply { (s : State) → s.volume ≡ overlay.old.volume → s.fields ≡ map.now.pairs →
-        s.on_disk ≡ overlay.old.loaded.on_disk → IsTrue overlay.new.agreed →
-        IsReply s (queries.Header p) result }
-    ensures seen { IsSeen overlay.old overlay.new (trace_looks overlay.old.volume p 1) }
-{
-    if !has_trace(overlay, p) {
-        return Err(AskFault::NoTrace(p, overlay.count()));
-    }
-    let names = named_places(alloc, map)?;
-    let numbers = header(alloc, overlay, p, names)?;
-    Ok(Answer::Header(numbers))
-}
-
 /// Where trace p lies, from its record where there is one. Takes no memory and looks at no trace.
 /// Refused: E01.
 pub fn geometry_answer(
@@ -136,7 +109,7 @@ pub fn stat_answer(
     let Some(trace) = trace else {
         return Err(AskFault::NoTrace(p, overlay.count()));
     };
-    if overlay.head().format.values().is_none() {
+    if has_opaque_samples(overlay) {
         return Err(AskFault::NoValues);
     }
     Ok(stat(&trace))

@@ -13,7 +13,7 @@ use Rattle.trace_record.specs.declared.packed_record.PackedRecord.{PackedRecord}
 use Rattle.trace_record.specs.declared.record.Record.{Record}
 use Rattle.trace_store.proofs.GrownLemmas.{no_fewer}
 use Rattle.edit_overlay.specs.CountedVolume.{one_more, RisesAtMost}
-use Rattle.edit_overlay.specs.PassedFile.{PassedFile, with_passed, HasReadOn}
+use Rattle.volume_loading.specs.PassedFile.{PassedFile, with_passed, HasReadOn}
 use Rattle.volume_records.specs.OfPass.{HasRecords}
 use Rattle.volume_records.specs.OfVolume.{records_of}
 

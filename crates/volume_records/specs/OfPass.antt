@@ -5,7 +5,7 @@ use Rattle.trace_record.specs.Facts.{facts_of}
 use Rattle.trace_record.specs.OfTrace.{record_of}
 use Rattle.trace_record.specs.Packed.{record_in}
 use Rattle.trace_record.specs.declared.packed_record.PackedRecord.{PackedRecord}
-use Rattle.edit_overlay.specs.PassedFile.{PassedFile}
+use Rattle.volume_loading.specs.PassedFile.{PassedFile}
 
 -- each trace so far has its record
 abbrev pub HasRecords : Pairs → PassedFile PackedRecord → Type 0

@@ -6,18 +6,19 @@ ghost use Rattle.trace_record.specs.Facts.{facts_of};
 ghost use Rattle.trace_record.specs.OfTrace.{record_of as record_of_trace};
 ghost use Rattle.trace_record.specs.Packed.{record_in};
 ghost use Rattle.edit_overlay.specs.CountedVolume.{RisesAtMost};
-ghost use Rattle.edit_overlay.specs.PassedFile.{HasAllTraces, HasReadOn, IsPassFault};
+ghost use Rattle.volume_loading.specs.PassedFile.{HasAllTraces, HasReadOn, IsPassFault};
 ghost use Rattle.live_reports.specs.OfRecords.{AreReportsOf};
 ghost use Rattle.volume_records.specs.OfPass.{HasRecords, IsSameFile};
 ghost use Rattle.volume_records.specs.OfVolume.{records_of};
 
-use edit_overlay::{Overlay, PassFault, Passing};
+use edit_overlay::{Overlay, PassFault};
 use field_map::FieldMap;
 use frame_cut::LoadFault;
 use live_reports::LiveReports;
 use record_table::Records;
 use std::alloc::Global;
 use trace_record::{PackedRecord, Record, record_of};
+use volume_loading::Passing;
 
 /// The volume of a file that is loaded in one pass over it and stays on disk, of which no trace was
 /// passed yet, under a map for the file: the record of each of its traces stands beside the trace

@@ -5,17 +5,18 @@ ghost use Rattle.trace_record.specs.Facts.{facts_of};
 ghost use Rattle.trace_record.specs.OfTrace.{record_of as record_of_trace};
 ghost use Rattle.trace_record.specs.Packed.{record_in};
 ghost use Rattle.edit_overlay.specs.CountedVolume.{RisesAtMost};
-ghost use Rattle.edit_overlay.specs.LoadedVolume.{with_next_look};
+ghost use Rattle.volume_loading.specs.LoadedVolume.{with_next_look};
 ghost use Rattle.live_reports.specs.OfRecords.{AreReportsOf};
 ghost use Rattle.volume_records.specs.OfVolume.{IsOfFile, records_of};
 
 use crate::OutOfMemory;
-use edit_overlay::{Loading, Overlay};
+use edit_overlay::Overlay;
 use field_map::FieldMap;
 use live_reports::LiveReports;
 use record_table::Records;
 use std::alloc::Global;
 use trace_record::{PackedRecord, Record, record_of};
+use volume_loading::Loading;
 
 /// The volume of a file that is being loaded, of which no trace has a record yet, under a map for
 /// the file: the record of each of its traces stands beside the trace then, and the reports have

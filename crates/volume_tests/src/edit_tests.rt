@@ -9,12 +9,13 @@ use crate::files::two_traces;
 use crate::puts::{is_trace, may_put, put};
 use crate::tables::volume_of;
 use device_io::{Sink, Source, StepReader};
-use edit_overlay::{Loading, Overlay, SaveFault};
+use edit_overlay::{Overlay, SaveFault};
 use frame_cut::{Limits, Reading};
 use std::alloc::{AllocError, Global};
 use std::process::Abort;
 use std::test::Fail;
 use trace_view::TraceView;
+use volume_loading::Loading;
 
 // A trace of so many samples as its header says (bytes 115-116), each of them the same.
 fn trace(alloc: Global, samples: u8, sample: u8) -> Result<Vec<u8>, Fail> {

@@ -10,12 +10,13 @@ ghost use Rattle.trace_store.specs.Stores.{payloads_of};
 
 use crate::heads::plain_head;
 use crate::puts::is_trace;
-use edit_overlay::{Loading, Overlay};
+use edit_overlay::Overlay;
 use frame_cut::{Limits, Reading};
 use std::alloc::Global;
 use std::test::Fail;
 use trace_record::{PackedRecord, Record};
 use trace_store::{Base, TraceStore};
+use volume_loading::Loading;
 
 // The record beside a new trace in front of that at the place, or behind all.
 pub(crate) fn insert(

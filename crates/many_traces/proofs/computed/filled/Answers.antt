@@ -7,7 +7,7 @@ use Rattle.num_order.specs.Number.{InRange}
 use Rattle.frame_cut.specs.Traces.{trace_at}
 use Rattle.bench_rules.specs.Computed.{Formula}
 use Rattle.many_traces.specs.Fields.{HoldsPlace}
-use Rattle.many_traces.proofs.LookLemmas.{seen_after}
+use Rattle.bench_rules.proofs.LookLemmas.{seen_after}
 use Rattle.many_traces.proofs.NumbersLemmas.{one_more, refused_or_read, none_refused, all_bytes, room_left}
 use Rattle.many_traces.proofs.computed.filled.Goals as goal
 

@@ -3,7 +3,7 @@ use borrow.Author.Count.{below_more}
 use Rattle.bench_rules.specs.declared.operator.Operator.{Operator}
 use Rattle.bench_rules.specs.declared.term.Term.{Term}
 use Rattle.bench_rules.specs.Computed.{Formula, compute_refusal, compute_refusal_in}
-use Rattle.many_traces.proofs.LookLemmas.{seen_after}
+use Rattle.bench_rules.proofs.LookLemmas.{seen_after}
 use Rattle.many_traces.proofs.NumbersLemmas.{refused_here, none_refused, refusal_is, memory_is}
 use Rattle.many_traces.proofs.computed.without_memory.Goals as goal
 

@@ -2,7 +2,7 @@ use Rattle.std.proofs.Common.{◌≡◌, ◌∙◌, ap, sym, rules}
 use Rattle.std.specs.Prelude.{is_some, slice_index_or}
 use Rattle.trace_view.specs.Shown.{bytes_of, head_of}
 use Rattle.many_traces.specs.Fields.{number_in}
-use Rattle.many_traces.proofs.EachLemmas.{list_left}
+use Rattle.bench_rules.proofs.EachLemmas.{list_left}
 use Rattle.many_traces.proofs.row.has_fields.Goals as goal
 
 pub loop-field-preserved : goal.loop-field-preserved

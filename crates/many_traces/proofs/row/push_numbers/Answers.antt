@@ -8,7 +8,7 @@ use Rattle.field_map.specs.declared.place.Place.{Place}
 use Rattle.trace_view.specs.Shown.{bytes_of, head_of}
 use Rattle.trace_view.specs.Values.{value_of}
 use Rattle.bench_rules.specs.Tables.{row_of}
-use Rattle.many_traces.proofs.EachLemmas.{list_goes_on, list_stops, list_ends, something, nothing}
+use Rattle.bench_rules.proofs.EachLemmas.{list_goes_on, list_stops, list_ends, something, nothing}
 use Rattle.many_traces.proofs.row.push_numbers.Goals as goal
 
 pub returns-in_default-clause-there : goal.returns-in_default-clause-there

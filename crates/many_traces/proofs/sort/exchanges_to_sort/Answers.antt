@@ -5,7 +5,7 @@ use Rattle.bench_rules.specs.Places.{place_in_trace}
 use Rattle.bench_rules.specs.Refused.{sort_refusal}
 use Rattle.bench_rules.specs.declared.refusal.Refusal.{Refusal}
 use Rattle.many_traces.specs.Formulas.{IsRefusalFor}
-use Rattle.many_traces.proofs.LookLemmas.{if_err}
+use Rattle.bench_rules.proofs.LookLemmas.{if_err}
 use Rattle.many_traces.proofs.NumbersLemmas.{memory_is}
 use Rattle.many_traces.proofs.SortedTraceLemmas.{is-table, table-sorts, sort-free, put-places, told-either, if_ok}
 use Rattle.many_traces.proofs.sort.exchanges_to_sort.Goals as goal

@@ -1,5 +1,5 @@
 use Rattle.std.proofs.Common.{◌≡◌, ◌∙◌, ◌+◌, ◌-◌, ◌*◌, ℕ, ℤ, List, All, length, inr, refl, sym, ap, subst, arith, rules}
-use Rattle.many_traces.proofs.LookLemmas.{seen_after}
+use Rattle.bench_rules.proofs.LookLemmas.{seen_after}
 use Rattle.many_traces.proofs.RowsLemmas.{rows_counted, rows_go_on, rows_stop, rows_wide}
 use Rattle.many_traces.proofs.tables.filled.Goals as goal
 

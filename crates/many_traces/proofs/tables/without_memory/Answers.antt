@@ -1,6 +1,6 @@
 use Rattle.std.proofs.Common.{◌∙◌, sym, arith}
 use Rattle.bench_rules.specs.Tables.{table_of}
-use Rattle.many_traces.proofs.LookLemmas.{seen_after}
+use Rattle.bench_rules.proofs.LookLemmas.{seen_after}
 use Rattle.many_traces.proofs.RowsLemmas.{left_goes_on, left_stops, fault_none}
 use Rattle.many_traces.proofs.tables.without_memory.Goals as goal
 

@@ -3,8 +3,8 @@ use Rattle.std.specs.Int.{w128}
 use Rattle.std.proofs.lemmas.Int.{to_z-of_z}
 use mir.Val.{SFits}
 use Rattle.trace_record.specs.Facts.{facts_of}
-use Rattle.time_slice.specs.Slices.{row_of}
-use Rattle.time_slice.specs.declared.row.Row.{Row}
+use Rattle.bench_rules.specs.Slices.{row_of}
+use Rattle.bench_rules.specs.declared.row.Row.{Row}
 use Rattle.time_slice.specs.Shown.{pair_of}
 use Rattle.time_slice.proofs.CacheLemmas.{row_at_place, no_row_at}
 use Rattle.time_slice.proofs.kept_rows.push_again.Goals as goal

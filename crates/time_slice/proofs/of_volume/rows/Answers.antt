@@ -3,8 +3,8 @@ use Rattle.std.proofs.lemmas.List.Sorted.{All-permutation}
 use Rattle.std.specs.List.Sorted.{IsPermutation}
 use Rattle.trace_record.specs.Packed.{record_in}
 use Rattle.time_slice.specs.Fitting.{value_fits}
-use Rattle.time_slice.specs.OfRecords.{with_sample_of}
-use Rattle.time_slice.specs.declared.row.Row.{Row}
+use Rattle.bench_rules.specs.SlicesOfRecords.{with_sample_of}
+use Rattle.bench_rules.specs.declared.row.Row.{Row}
 use Rattle.time_slice.proofs.OrderLemmas.{slice_from_sorted}
 use Rattle.time_slice.proofs.of_volume.rows.Goals as goal
 

@@ -9,10 +9,10 @@ use Rattle.trace_record.specs.declared.packed_record.PackedRecord.{PackedRecord}
 use Rattle.trace_record.specs.declared.record.Record.{Record}
 use Rattle.edit_overlay.specs.CountedVolume.{CountedVolume}
 use Rattle.time_slice.specs.Fitting.{value_fits}
-use Rattle.time_slice.specs.Slices.{row_of}
-use Rattle.time_slice.specs.declared.row.Row.{Row}
+use Rattle.bench_rules.specs.Slices.{row_of}
+use Rattle.bench_rules.specs.declared.row.Row.{Row}
 use Rattle.time_slice.proofs.PassLemmas.{row_is_written, all_written, fits_more}
-use Rattle.time_slice.proofs.SeenLemmas.{seen_more}
+use Rattle.bench_rules.proofs.SeenLemmas.{seen_more}
 use Rattle.time_slice.proofs.of_volume.rows_in_place.Goals as goal
 
 pub loop-at-preserved : goal.loop-at-preserved

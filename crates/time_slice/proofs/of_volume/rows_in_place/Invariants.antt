@@ -2,8 +2,8 @@ use Rattle.std.proofs.Common.{◌≡◌, ◌+◌, ◌++◌, map, drop, All, IsTr
 use Rattle.trace_record.specs.Packed.{record_in}
 use Rattle.edit_overlay.specs.CountedVolume.{IsSeen}
 use Rattle.time_slice.specs.Fitting.{value_fits}
-use Rattle.time_slice.specs.OfRecords.{with_sample_of}
-use Rattle.time_slice.specs.Slices.{rows_from}
+use Rattle.bench_rules.specs.SlicesOfRecords.{with_sample_of}
+use Rattle.bench_rules.specs.Slices.{rows_from}
 use Rattle.time_slice.proofs.of_volume.rows_in_place.Given as goal
 
 -- the rows of the first traces are written, and the other traces are left, with their records

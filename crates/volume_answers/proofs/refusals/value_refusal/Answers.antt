@@ -2,7 +2,7 @@ use Rattle.std.proofs.Common.{◌∙◌, refl, ap, sym, rules, Some}
 use Rattle.std.proofs.lemmas.Int.{to_z-of_z}
 use Rattle.std.specs.Int.{w128}
 use mir.Val.{SFits}
-use Rattle.time_slice.proofs.SeenLemmas.{seen_more, seen_none}
+use Rattle.bench_rules.proofs.SeenLemmas.{seen_more, seen_none}
 use Rattle.trace_view.specs.Shown.{bytes_of, head_of}
 use Rattle.bench_rules.specs.Refused.{set_refusal}
 use Rattle.bench_rules.proofs.SetLemmas.{refused_by}

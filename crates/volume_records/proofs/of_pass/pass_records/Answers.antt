@@ -3,7 +3,7 @@ use Rattle.std.specs.Prelude.{is_err}
 use Rattle.std.proofs.lemmas.List.{length_push}
 use Rattle.trace_record.specs.declared.packed_record.PackedRecord.{PackedRecord}
 use Rattle.edit_overlay.specs.CountedVolume.{RisesAtMost}
-use Rattle.edit_overlay.specs.PassedFile.{PassedFile, with_passed, HasReadOn}
+use Rattle.volume_loading.specs.PassedFile.{PassedFile, with_passed, HasReadOn}
 use Rattle.volume_records.specs.OfPass.{HasRecords}
 use Rattle.volume_records.proofs.OnePassLemmas.{looks_rise, read_on_again, record_passed}
 use Rattle.volume_records.proofs.of_pass.pass_records.Goals as goal

@@ -1,6 +1,6 @@
 use Rattle.std.proofs.Common.{◌-◌, length}
 use Rattle.edit_overlay.specs.CountedVolume.{RisesAtMost}
-use Rattle.edit_overlay.specs.PassedFile.{HasReadOn}
+use Rattle.volume_loading.specs.PassedFile.{HasReadOn}
 use Rattle.volume_records.specs.OfPass.{HasRecords, IsSameFile}
 use Rattle.volume_records.proofs.of_pass.pass_records.Given as goal
 

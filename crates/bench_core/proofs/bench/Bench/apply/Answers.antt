@@ -1,5 +1,5 @@
 use Rattle.std.proofs.Common.{◌≡◌, ◌∙◌, ap, sym, subst, Bool}
-use Rattle.time_slice.specs.Cache.{Cache, kept_numbers}
+use Rattle.bench_rules.specs.KeptSlices.{Cache, kept_numbers}
 use Rattle.bench_rules.specs.Live.{AreSlicesOf}
 use Rattle.bench_rules.specs.State.{State}
 use Rattle.bench_core.specs.Changes.{has_moved, entries_after}

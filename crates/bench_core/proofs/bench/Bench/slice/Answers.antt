@@ -1,6 +1,6 @@
 use Rattle.std.proofs.Common.{◌≡◌, ◌∙◌, ap, sym, subst, ◌∷◌, take}
 use Rattle.std.specs.Prelude.{filter, not, ◌==◌}
-use Rattle.time_slice.specs.Cache.{KeptSlices, Cache, kept_numbers, cache_after_slice}
+use Rattle.bench_rules.specs.KeptSlices.{KeptSlices, Cache, kept_numbers, cache_after_slice}
 use Rattle.time_slice.proofs.CacheLemmas.{asked_stays_right}
 use Rattle.bench_rules.specs.Live.{AreSlicesOf}
 use Rattle.bench_rules.specs.Reports.{slice_in}

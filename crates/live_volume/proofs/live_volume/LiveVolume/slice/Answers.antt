@@ -1,7 +1,7 @@
 use Rattle.std.proofs.Common.{◌≡◌, ◌∙◌, IsTrue}
 use Rattle.frame_cut.specs.Volume.{Volume}
-use Rattle.time_slice.specs.OfRecords.{with_sample_of}
-use Rattle.time_slice.specs.Slices.{slice_rows, slice_of}
+use Rattle.bench_rules.specs.SlicesOfRecords.{with_sample_of}
+use Rattle.bench_rules.specs.Slices.{slice_rows, slice_of}
 use Rattle.time_slice.proofs.CacheLemmas.{right_of_records}
 use Rattle.time_slice.proofs.PassLemmas.{rows_are_of_traces}
 use Rattle.volume_records.proofs.SeenLemmas.{if_ok}

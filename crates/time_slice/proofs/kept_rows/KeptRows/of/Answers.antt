@@ -2,7 +2,7 @@ use Rattle.std.proofs.Common.{IsTrue, Bool, pos, get_or, sym, subst}
 use Rattle.std.proofs.lemmas.List.Elements.{All-get_or}
 use Rattle.num_order.specs.Number.{IsBetween}
 use Rattle.time_slice.specs.Fitting.{value_fits}
-use Rattle.time_slice.specs.declared.row.Row.{Row}
+use Rattle.bench_rules.specs.declared.row.Row.{Row}
 use Rattle.time_slice.proofs.FitLemmas.{fits_in_8}
 use Rattle.time_slice.proofs.kept_rows.KeptRows.of.Goals as goal
 

@@ -1,5 +1,5 @@
 use Rattle.std.proofs.Common.{◌≡◌, map, take}
-use Rattle.time_slice.specs.Cache.{kept_of}
+use Rattle.bench_rules.specs.KeptSlices.{kept_of}
 use Rattle.time_slice.specs.Fitting.{has_signs}
 use Rattle.time_slice.specs.Shown.{pair_of}
 use Rattle.time_slice.proofs.kept_rows.KeptRows.of.Given as goal

@@ -1,6 +1,6 @@
 use Rattle.std.proofs.Common.{◌≡◌, ◌++◌, map, drop}
 use Rattle.trace_record.specs.Facts.{facts_of}
-use Rattle.time_slice.specs.Cache.{rows_again}
+use Rattle.bench_rules.specs.KeptSlices.{rows_again}
 use Rattle.time_slice.specs.Shown.{pair_of}
 use Rattle.time_slice.proofs.kept_rows.KeptRows.rows.Given as goal
 

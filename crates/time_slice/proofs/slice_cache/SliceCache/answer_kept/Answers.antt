@@ -1,7 +1,7 @@
 use Rattle.std.proofs.Common.{ap, sym, subst, ◌∙◌, ◌≡◌, Some, true, false, map}
 use Rattle.std.specs.Prelude.{is_some}
 use Rattle.trace_record.specs.Facts.{facts_of}
-use Rattle.time_slice.specs.Cache.{KeptSlices, keeps, kept_of, kept_rows, rows_again, after_slice}
+use Rattle.bench_rules.specs.KeptSlices.{KeptSlices, keeps, kept_of, kept_rows, rows_again, after_slice}
 use Rattle.time_slice.proofs.KeptLemmas.{found, is_kept, promoted_seen}
 use Rattle.time_slice.proofs.slice_cache.SliceCache.answer_kept.Goals as goal
 

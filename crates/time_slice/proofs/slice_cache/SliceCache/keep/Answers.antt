@@ -1,5 +1,5 @@
 use Rattle.std.proofs.Common.{ap, sym, subst, ◌∙◌, IsFalse}
-use Rattle.time_slice.specs.Cache.{KeptSlices, keeps, after_slice}
+use Rattle.bench_rules.specs.KeptSlices.{KeptSlices, keeps, after_slice}
 use Rattle.time_slice.proofs.KeptLemmas.{put_seen}
 use Rattle.time_slice.proofs.slice_cache.SliceCache.keep.Goals as goal
 

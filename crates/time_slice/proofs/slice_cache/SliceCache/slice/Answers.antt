@@ -3,11 +3,11 @@ use Rattle.trace_record.specs.Facts.{facts_of}
 use Rattle.trace_view.specs.Values.{sample_of}
 use Rattle.trace_record.specs.declared.packed_record.PackedRecord.{PackedRecord}
 use Rattle.trace_record.specs.declared.record.Record.{Record}
-use Rattle.time_slice.specs.Cache.{kept_of, rows_again, after_slice}
+use Rattle.bench_rules.specs.KeptSlices.{kept_of, rows_again, after_slice}
 use Rattle.trace_record.specs.Packed.{record_in}
-use Rattle.time_slice.specs.OfRecords.{with_sample_of}
-use Rattle.time_slice.specs.Slices.{slice_rows}
-use Rattle.time_slice.specs.declared.row.Row.{Row}
+use Rattle.bench_rules.specs.SlicesOfRecords.{with_sample_of}
+use Rattle.bench_rules.specs.Slices.{slice_rows}
+use Rattle.bench_rules.specs.declared.row.Row.{Row}
 use Rattle.time_slice.proofs.CacheLemmas.{slice_again}
 use Rattle.time_slice.proofs.KeptLemmas.{right_found, kept_of_some, asked_again, asked_first}
 use Rattle.time_slice.proofs.slice_cache.SliceCache.slice.Goals as goal

@@ -1,0 +1,58 @@
+// What edits and queries first ask of a volume and its field map.
+ghost use Rattle.std.specs.Prelude.{◌≡◌, ◌≤◌, None, is_none};
+ghost use Rattle.sample_codes.specs.Formats.{values};
+ghost use Rattle.frame_cut.specs.Traces.{count_of, is_trace};
+ghost use Rattle.bench_rules.specs.Answer.{of_traces, Reply};
+ghost use Rattle.bench_rules.specs.Places.{place_in_trace as place_of_field};
+ghost use Rattle.bench_rules.specs.RangeFaults.{or_fault};
+
+use crate::ask_fault::AskFault;
+use crate::field::Field;
+use edit_overlay::Overlay;
+use field_map::{FieldMap, Place, named};
+use trace_record::PackedRecord;
+
+/// Whether there is a trace p. Takes no memory and looks at no trace.
+pub fn has_trace(overlay: &Overlay<PackedRecord>, p: u32) -> bool
+    ensures { result ≡ is_trace overlay.now.volume p }
+{
+    p >= 1 && p <= overlay.count()
+}
+
+/// The first fault of traces a to b: E01. Takes no memory and looks at no trace.
+pub fn range_fault(overlay: &Overlay<PackedRecord>, a: u32, b: u32) -> Option<AskFault>
+    ensures told { (reply : Reply) → of_traces overlay.now.volume a b reply
+        ≡ or_fault result reply }
+    ensures first { result ≡ None → 1 ≤ a }
+    ensures range { result ≡ None → a ≤ b }
+    ensures last { result ≡ None → b ≤ count_of overlay.now.volume }
+{
+    if !has_trace(overlay, a) {
+        Some(AskFault::NoTrace(a, overlay.count()))
+    } else if b < a || b > overlay.count() {
+        Some(AskFault::NoTrace(b, overlay.count()))
+    } else {
+        None
+    }
+}
+
+/// Whether the samples of the file have no values. Takes no memory and looks at no trace.
+pub fn has_opaque_samples(overlay: &Overlay<PackedRecord>) -> bool
+    ensures { result ≡ is_none (values overlay.now.volume.head.format) }
+{
+    overlay.head().format.values().is_none()
+}
+
+/// The place of a trace's field, where it has one: of a name the bound one, else that of a name
+/// that is always known. Takes no memory.
+pub fn place_in_trace(map: &FieldMap, field: &Field) -> Option<Place>
+    ensures { result ≡ place_of_field map.now.pairs field.now }
+{
+    match field {
+        Field::Place(place) => Some(*place),
+        Field::Name(name) => match map.place(name.as_str()) {
+            Some(place) => Some(place),
+            None => named(name.as_str()),
+        },
+    }
+}

@@ -1,0 +1,4 @@
+pub mod FoundLemmas
+mod NameLemmas
+mod SeenLemmas
+mod MainLemmas

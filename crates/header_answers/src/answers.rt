@@ -1,0 +1,93 @@
+// The answers to queries for named header fields.
+ghost use Rattle.std.specs.Prelude.{◌≡◌, IsTrue};
+ghost use Rattle.edit_overlay.specs.CountedVolume.{IsSeen};
+ghost use Rattle.bench_rules.specs.declared.query.Query.TheVariants as queries;
+ghost use Rattle.bench_rules.specs.Answer.{IsReply};
+ghost use Rattle.bench_rules.specs.Looks.{looks_at, range_looks, trace_looks};
+ghost use Rattle.bench_rules.specs.Places.{place_in_trace as place_of_field};
+ghost use Rattle.bench_rules.specs.State.{State};
+
+use crate::all_extremes::extremes;
+use crate::finds::find;
+use crate::headers::header;
+use crate::names::named_places;
+use bench_rules::{Answer, AskFault, Field, has_trace, place_in_trace, range_fault};
+use edit_overlay::Overlay;
+use field_map::FieldMap;
+use std::alloc::Global;
+use trace_record::PackedRecord;
+
+/// All named header fields of trace p. One look at most. Takes memory. Refused: E01, else E11
+/// alone. On disk also where the trace could not be read (E14, E15).
+pub fn header_answer(
+    alloc: Global,
+    overlay: &mut Overlay<PackedRecord>,
+    map: &FieldMap,
+    p: u32,
+) -> Result<Answer, AskFault>
+    ensures reply { (s : State) → s.volume ≡ overlay.old.volume → s.fields ≡ map.now.pairs →
+        s.on_disk ≡ overlay.old.loaded.on_disk → IsTrue overlay.new.agreed →
+        IsReply s (queries.Header p) result }
+    ensures seen { IsSeen overlay.old overlay.new (trace_looks overlay.old.volume p 1) }
+{
+    if !has_trace(overlay, p) {
+        return Err(AskFault::NoTrace(p, overlay.count()));
+    }
+    let names = named_places(alloc, map)?;
+    let numbers = header(alloc, overlay, p, names)?;
+    Ok(Answer::Header(numbers))
+}
+
+/// Those of traces a to b whose field has a number from low to high. Looks at each of them once at
+/// most, and at none where a or b is refused or the field has no place. Takes memory. Refused: E01,
+/// E02, E03, else E11 alone. On disk also where a trace could not be read (E14, E15).
+pub fn found_answer(
+    alloc: Global,
+    overlay: &mut Overlay<PackedRecord>,
+    map: &FieldMap,
+    a: u32,
+    b: u32,
+    field: &Field,
+    low: i128,
+    high: i128,
+) -> Result<Answer, AskFault>
+    ensures reply { (s : State) → s.volume ≡ overlay.old.volume → s.fields ≡ map.now.pairs →
+        s.on_disk ≡ overlay.old.loaded.on_disk → IsTrue overlay.new.agreed →
+        IsReply s (queries.Find a b field.now low high) result }
+    ensures seen { IsSeen overlay.old overlay.new
+        (looks_at (place_of_field map.now.pairs field.now)
+        (range_looks overlay.old.volume a b)) }
+{
+    if let Some(fault) = range_fault(overlay, a, b) {
+        return Err(fault);
+    }
+    let Some(place) = place_in_trace(map, field) else {
+        return Err(AskFault::NoField);
+    };
+    let found = find(alloc, overlay, a, b, place, low, high)?;
+    Ok(Answer::Found(found))
+}
+
+/// The extremes of all named header fields over traces a to b. Looks at each of them once at most,
+/// and at none where a or b is refused. Takes memory. Refused: E01, else E11 alone. On disk also
+/// where a trace could not be read (E14, E15).
+pub fn extremes_answer(
+    alloc: Global,
+    overlay: &mut Overlay<PackedRecord>,
+    map: &FieldMap,
+    a: u32,
+    b: u32,
+) -> Result<Answer, AskFault>
+    ensures reply { (s : State) → s.volume ≡ overlay.old.volume → s.fields ≡ map.now.pairs →
+        s.on_disk ≡ overlay.old.loaded.on_disk → IsTrue overlay.new.agreed →
+        IsReply s (queries.Extremes a b) result }
+    ensures seen { IsSeen overlay.old overlay.new
+        (range_looks overlay.old.volume a b) }
+{
+    if let Some(fault) = range_fault(overlay, a, b) {
+        return Err(fault);
+    }
+    let names = named_places(alloc, map)?;
+    let found = extremes(alloc, overlay, a, b, names)?;
+    Ok(Answer::Extremes(found))
+}

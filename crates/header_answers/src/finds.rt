@@ -1,0 +1,100 @@
+// The traces whose header field has a number between two bounds.
+ghost use Rattle.std.specs.Prelude.{◌≡◌, ◌+◌, ◌-◌, ◌≤◌, [], ◌∷◌, ◌++◌, ◌⊎◌, Some, IsTrue, IfOk, IfErr, if◌then◌else◌};
+ghost use Rattle.frame_cut.specs.Traces.{count_of, is_trace, trace_at};
+ghost use Rattle.trace_view.specs.Values.{value_of};
+ghost use Rattle.edit_overlay.specs.CountedVolume.{IsSeen};
+ghost use Rattle.bench_rules.specs.ReadFaults.{IsReadFault};
+ghost use Rattle.bench_rules.specs.Tables.{column_of, found_of, is_between};
+ghost use Rattle.bench_rules.specs.RangeFaults.{fault_of};
+
+use bench_rules::{AskFault, Items};
+use edit_overlay::{Overlay, ReadFault};
+use field_map::Place;
+use std::alloc::Global;
+use trace_record::PackedRecord;
+
+/// Those of traces a to b whose number at the place is from low to high, each with it. Looks at
+/// each of them once at most. Refused: E03 where one of them lacks the place, else E11 alone. On
+/// disk also where a trace could not be read (E14, E15).
+pub fn find(
+    alloc: Global,
+    overlay: &mut Overlay<PackedRecord>,
+    a: u32,
+    b: u32,
+    place: Place,
+    low: i128,
+    high: i128,
+) -> Result<Items<(u32, i128)>, AskFault>
+    requires first { 1 ≤ a }
+    requires range { a ≤ b }
+    requires last { b ≤ count_of overlay.old.volume }
+    ensures ok { IfOk result (λ found. IsTrue overlay.new.agreed →
+        found_of overlay.old.volume place low high a b ≡ Some found) }
+    ensures err { IfErr result (λ fault. IsReadFault overlay.old.loaded.on_disk fault ⊎
+        (IsTrue overlay.new.agreed → fault ≡ fault_of
+        (found_of overlay.old.volume place low high a b))) }
+    ensures seen { IsSeen overlay.old overlay.new (b + 1 - a) }
+{
+    let mut found = Vec::new(alloc);
+    for k in 0..b - a + 1 {
+        let here = number_at(overlay, a + k, place)?;
+        let Some(number) = here else {
+            return Err(AskFault::NoPlace);
+        };
+        if !keep(&mut found, a + k, number, low, high) {
+            return Err(without_memory(overlay, a + k, b, place)?);
+        }
+    }
+    Ok(Items::new(found))
+}
+
+// Puts the trace with its number behind those that were found, where it is from low to high; false
+// where there is no room for it.
+fn keep(found: &mut Vec<(u32, i128)>, p: u32, number: i128, low: i128, high: i128) -> bool
+    ensures { IsTrue result → found.new.items ≡ (if is_between low high number
+        then found.old.items ++ (p, number) ∷ [] else found.old.items) }
+{
+    number < low || number > high || found.push((p, number)).is_ok()
+}
+
+// The number at the place of trace p, in one look.
+fn number_at(
+    overlay: &mut Overlay<PackedRecord>,
+    p: u32,
+    place: Place,
+) -> Result<Option<i128>, ReadFault>
+    requires { IsTrue (is_trace overlay.old.volume p) }
+    ensures number { IfOk result (λ number. IsTrue overlay.new.agreed → number ≡ value_of
+        overlay.old.volume.head (trace_at overlay.old.volume p) place) }
+    ensures seen { IsSeen overlay.old overlay.new 1 }
+    ensures read { IfErr result (λ _. IsTrue overlay.old.loaded.on_disk) }
+{
+    let Some(trace) = overlay.look(p)? else {
+        unreachable!()
+    };
+    Ok(trace.value(place))
+}
+
+// Why nothing is found where there is no room for trace p: E03, where a trace behind it up to trace
+// b lacks the place, comes before E11.
+fn without_memory(
+    overlay: &mut Overlay<PackedRecord>,
+    p: u32,
+    b: u32,
+    place: Place,
+) -> Result<AskFault, ReadFault>
+    requires range { p ≤ b }
+    requires last { b ≤ count_of overlay.old.volume }
+    ensures fault { IfOk result (λ fault. IsTrue overlay.new.agreed →
+        fault ≡ fault_of (column_of overlay.old.volume place (p + 1) b)) }
+    ensures seen { IsSeen overlay.old overlay.new (b - p) }
+    ensures read { IfErr result (λ _. IsTrue overlay.old.loaded.on_disk) }
+{
+    for k in 0..b - p {
+        let number = number_at(overlay, p + 1 + k, place)?;
+        if number.is_none() {
+            return Ok(AskFault::NoPlace);
+        }
+    }
+    Ok(AskFault::OutOfMemory)
+}

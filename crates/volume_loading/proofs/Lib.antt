@@ -1,0 +1,4 @@
+pub mod FaultLemmas
+pub mod LoadingLemmas
+pub mod PassLemmas
+pub mod PassingLemmas

@@ -1,0 +1,17 @@
+use Rattle.std.proofs.Common.{rules, subst, sym, arith}
+use Rattle.std.proofs.lemmas.Grind.{common_steps}
+use Rattle.base_file.specs.HeldBytes.{HeldBytes, IsInMemory}
+use Rattle.volume_loading.proofs.loading.Loading.push.Goals as goal
+
+pub invariant_of-self-2 : goal.invariant_of-self-2
+invariant_of-self-2 g c = record {
+  in_memory = subst (λ (l : HeldBytes). IsInMemory l.standing) (sym c.insert.ensures.loaded) c.self.invariant.in_memory;
+  front = rw c.insert.ensures.loaded c.self.invariant.front;
+  back = rw c.insert.ensures.loaded c.self.invariant.back;
+  joined = search rules;
+  laid = search rules;
+  inside = search rules;
+  whole = search rules;
+  few = search rules;
+  so_far = grind (arith, common_steps);
+}

@@ -1,0 +1,94 @@
+use Rattle.std.proofs.Common.{◌≡◌, ◌∙◌, ◌+◌, ◌-◌, ◌*◌, ℕ, length, drop, refl, sym, ap, arith, subst}
+use Rattle.std.proofs.lemmas.List.{length-drop}
+use Rattle.base_file.specs.HeldBytes.{IsInMemory}
+use Rattle.frame_cut.specs.declared.file_head.Head.{Head}
+use Rattle.edit_overlay.specs.Standings.{is_on_disk, is_sure}
+use Rattle.volume_loading.proofs.PassingLemmas.{cut_whole, header_settled, headers_there, joined_whole, laid_whole, settled_of}
+use Rattle.volume_loading.proofs.passing.Passing.finish.Goals as goal
+
+pub array_at-text-requires : goal.array_at-text-requires
+array_at-text-requires g c = (omega arith, omega (arith, headers_there c.self.inside c.self.invariant, ap length c.as_slice.ensures.value))
+
+pub array_at-bin-requires : goal.array_at-bin-requires
+array_at-bin-requires g c = (omega arith, omega (arith, headers_there c.self.inside c.self.invariant, ap length c.as_slice-2.ensures.value))
+
+pub settle-store-requires-clause-back : goal.settle-store-requires-clause-back
+settle-store-requires-clause-back g c =
+    let p = c.self.inside in
+    let file = c.last_bytes.new.store.loaded.bytes in
+    let back = c.in-Ok.ensures.back in
+    let place : p.at ≡ length file - length c.in-Ok.back.items = omega (arith, ap length back, length-drop p.at file, c.in-Ok.ensures.all, c.self.invariant.room) in
+    back ∙ ap (λ (i : ℕ). drop i file) place
+
+pub new-requires-clause-ends : goal.new-requires-clause-ends
+new-requires-clause-ends g c =
+    let p = c.self.inside in
+    let kept = c.settle-store.ensures in
+    let settled = settled_of p c.last_bytes.new.store c.settle-store.result c.last_bytes.ensures.grown c.in-Ok.ensures.all kept.head kept.bytes kept.traces in
+    let end : p.at + 3200 * p.store.head.trailer ≡ p.size = rw (← c.self.view_is) at c.requires in
+    let laid = laid_whole p c.settle-store.result c.self.invariant settled end in
+    let standing = c.last_bytes.ensures.grown.loaded.standing ∙ c.self.invariant.standing in
+    let behind = λ (inside : IsInMemory c.last_bytes.new.store.loaded.standing). subst IsInMemory standing inside in
+    let trailer = ap (λ (h : Head). h.trailer) settled.head in
+    record {
+      front = laid.front;
+      whole = laid.whole;
+      front_kept = omega (arith, kept.front behind, c.self.invariant.long, ap (λ (h : Head). h.traces_at) settled.head);
+      back_kept = omega (arith, kept.back behind, ap length c.in-Ok.ensures.back, length-drop p.at c.last_bytes.new.store.loaded.bytes, c.in-Ok.ensures.all, end, trailer);
+    }
+
+pub new-requires-clause-joined : goal.new-requires-clause-joined
+new-requires-clause-joined g c =
+    let p = c.self.inside in
+    let kept = c.settle-store.ensures in
+    let settled = settled_of p c.last_bytes.new.store c.settle-store.result c.last_bytes.ensures.grown c.in-Ok.ensures.all kept.head kept.bytes kept.traces in
+    let end : p.at + 3200 * p.store.head.trailer ≡ p.size = rw (← c.self.view_is) at c.requires in
+    let text = header_settled p c.settle-store.result c.array_at-text.result.now c.as_slice.result.now 0 3200 c.self.invariant settled c.as_slice.ensures.value (omega arith) c.array_at-text.ensures in
+    let bin = header_settled p c.settle-store.result c.array_at-bin.result.now c.as_slice-2.result.now 3200 400 c.self.invariant settled c.as_slice-2.ensures.value (omega arith) c.array_at-bin.ensures in
+    joined_whole p c.settle-store.result c.self.invariant settled end c.array_at-text.result.now c.array_at-bin.result.now text bin
+
+pub returns-clause-cut : goal.returns-clause-cut
+returns-clause-cut g c =
+    let p = c.self.inside in
+    let kept = c.settle-store.ensures in
+    let settled = settled_of p c.last_bytes.new.store c.settle-store.result c.last_bytes.ensures.grown c.in-Ok.ensures.all kept.head kept.bytes kept.traces in
+    let end : p.at + 3200 * p.store.head.trailer ≡ p.size = rw (← c.self.view_is) at c.requires in
+    let text = header_settled p c.settle-store.result c.array_at-text.result.now c.as_slice.result.now 0 3200 c.self.invariant settled c.as_slice.ensures.value (omega arith) c.array_at-text.ensures in
+    let bin = header_settled p c.settle-store.result c.array_at-bin.result.now c.as_slice-2.result.now 3200 400 c.self.invariant settled c.as_slice-2.ensures.value (omega arith) c.array_at-bin.ensures in
+    let cut = cut_whole p c.settle-store.result c.self.invariant settled end c.array_at-text.result.now c.array_at-bin.result.now text bin in
+    rw (← c.self.view_is, c.new.ensures) cut
+
+pub returns-clause-size : goal.returns-clause-size
+returns-clause-size g c =
+    let p = c.self.inside in
+    let kept = c.settle-store.ensures in
+    let settled = settled_of p c.last_bytes.new.store c.settle-store.result c.last_bytes.ensures.grown c.in-Ok.ensures.all kept.head kept.bytes kept.traces in
+    let end : p.at + 3200 * p.store.head.trailer ≡ p.size = rw (← c.self.view_is) at c.requires in
+    let text = header_settled p c.settle-store.result c.array_at-text.result.now c.as_slice.result.now 0 3200 c.self.invariant settled c.as_slice.ensures.value (omega arith) c.array_at-text.ensures in
+    let bin = header_settled p c.settle-store.result c.array_at-bin.result.now c.as_slice-2.result.now 3200 400 c.self.invariant settled c.as_slice-2.ensures.value (omega arith) c.array_at-bin.ensures in
+    let joined = joined_whole p c.settle-store.result c.self.invariant settled end c.array_at-text.result.now c.array_at-bin.result.now text bin in
+    rw (← c.self.view_is, c.new.ensures) (ap length joined ∙ settled.all)
+
+pub returns-clause-passed : goal.returns-clause-passed
+returns-clause-passed g c =
+    let p = c.self.inside in
+    let kept = c.settle-store.ensures in
+    let settled = settled_of p c.last_bytes.new.store c.settle-store.result c.last_bytes.ensures.grown c.in-Ok.ensures.all kept.head kept.bytes kept.traces in
+    let end : p.at + 3200 * p.store.head.trailer ≡ p.size = rw (← c.self.view_is) at c.requires in
+    let text = header_settled p c.settle-store.result c.array_at-text.result.now c.as_slice.result.now 0 3200 c.self.invariant settled c.as_slice.ensures.value (omega arith) c.array_at-text.ensures in
+    let bin = header_settled p c.settle-store.result c.array_at-bin.result.now c.as_slice-2.result.now 3200 400 c.self.invariant settled c.as_slice-2.ensures.value (omega arith) c.array_at-bin.ensures in
+    let joined = joined_whole p c.settle-store.result c.self.invariant settled end c.array_at-text.result.now c.array_at-bin.result.now text bin in
+    let more = c.last_bytes.ensures.grown in
+    let standing = kept.standing ∙ (more.loaded.standing ∙ c.self.invariant.standing) in
+    rw (← c.self.view_is, c.new.ensures) (record {
+      head = settled.head;
+      traces = settled.traces;
+      prepared = refl;
+      payloads = kept.payloads ∙ more.payloads;
+      payloads_prepared = kept.payloads ∙ more.payloads;
+      looks = refl;
+      read = settled.begins;
+      bytes = sym joined;
+      on_disk = ap is_on_disk standing;
+      agreed = ap is_sure standing;
+    })

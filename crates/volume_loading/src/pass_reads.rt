@@ -1,0 +1,142 @@
+// The reads of a pass over a file: what stands in front of its traces, each trace, and what stands
+// behind them.
+ghost use Rattle.std.specs.Prelude.{ℕ, ◌≡◌, ◌⊎◌, ◌+◌, ◌*◌, ◌<◌, ◌≤◌, List, length, take, drop, Some, Ok, Err, IfErr, IfOk, OnOk};
+ghost use Rattle.base_file.specs.HeldBytes.{HasGrown};
+ghost use Rattle.frame_cut.specs.Cuts.{trace_refusal};
+ghost use Rattle.frame_cut.specs.Fronts.{BeginsWith};
+ghost use Rattle.frame_cut.specs.Heads.{head_of};
+ghost use Rattle.frame_cut.specs.Walk.{left_at};
+ghost use Rattle.trace_store.specs.Grown.{HasMore};
+ghost use Rattle.trace_store.specs.Stores.{traces_of};
+ghost use Rattle.trace_store.specs.Windows.{IsFaultOfPass, IsNextOf};
+ghost use Rattle.volume_loading.specs.PassReads.{HasLengthAt, IsHeadOf, IsHeadFault, IsTraceFault};
+
+use base_file::Held;
+use frame_cut::{Head, Limits, LoadFault, Reading, front_length, head_of_front, length_of_next};
+use std::alloc::Global;
+use text_block::TEXT_BLOCK_BYTES;
+use trace_store::{TraceStore, Window};
+
+// How many bytes are read before the head is looked for; twice as many where they do not tell it.
+const LEAST: u64 = 1 << 18;
+
+// Reads on until the head of the file is told. Takes memory. Refused as `Window::hold`, and for
+// the first reason that the bytes give.
+pub fn read_head(
+    held: &mut Held,
+    window: &mut Window,
+    size: u64,
+    reading: Reading,
+    limits: Limits,
+) -> Result<Head, LoadFault>
+    requires next { IsNextOf held.old.bytes 0 window.old.bytes }
+    requires within { length held.old.bytes ≤ size }
+    ensures grown { HasGrown held.old held.new }
+    ensures next { IsNextOf held.new.bytes 0 window.new.bytes }
+    ensures within { length held.new.bytes ≤ size }
+    ensures head { IfOk result (IsHeadOf held.new.bytes size reading limits) }
+    ensures refused { IfErr result (λ fault. IsFaultOfPass fault ⊎
+        IsHeadFault held.new.bytes size reading limits fault) }
+{
+    'turns: loop {
+        let there = window.len() as u64;
+        let wanted = there.saturating_add(there.max(LEAST)).min(size);
+        window.hold(held, wanted as usize, size)?;
+        let front = window.front(window.len());
+        match head_of_front(front, size, reading, limits) {
+            Ok(Some(head)) => return Ok(head),
+            Ok(None) => {}
+            Err(fault) => return Err(fault),
+        }
+    }
+}
+
+// Reads the n bytes in front of the traces, and takes them. Takes memory. Refused as
+// `Window::hold`.
+pub fn read_front(
+    alloc: Global,
+    held: &mut Held,
+    window: &mut Window,
+    n: usize,
+    size: u64,
+) -> Result<Vec<u8>, LoadFault>
+    requires next { IsNextOf held.old.bytes 0 window.old.bytes }
+    requires within { length held.old.bytes ≤ size }
+    ensures grown { HasGrown held.old held.new }
+    ensures next { OnOk result (IsNextOf held.new.bytes n window.new.bytes) }
+    ensures within { length held.new.bytes ≤ size }
+    ensures front { IfOk result (λ front. front.items ≡ take n held.new.bytes) }
+    ensures fault { IfErr result IsFaultOfPass }
+{
+    window.hold(held, n, size)?;
+    let Ok(front) = Vec::from_slice(alloc, window.front(n)) else {
+        return Err(LoadFault::OutOfMemory);
+    };
+    window.skip(n);
+    Ok(front)
+}
+
+// Reads the trace that begins at a place, in front of the data trailer records: how long it is.
+// Takes memory. Refused as `Window::hold`, and for the first reason that the bytes give.
+pub fn next_whole<T: Copy>(
+    store: &mut TraceStore<T>,
+    window: &mut Window,
+    limits: Limits,
+    size: u64,
+    at: u64,
+) -> Result<u64, LoadFault>
+    requires next { IsNextOf store.old.loaded.bytes at window.old.bytes }
+    requires within { length store.old.loaded.bytes ≤ size }
+    requires some { at + TEXT_BLOCK_BYTES * store.old.head.trailer < size }
+    ensures grown { HasMore store.old store.new }
+    ensures next { IsNextOf store.new.loaded.bytes at window.new.bytes }
+    ensures within { length store.new.loaded.bytes ≤ size }
+    ensures there { IfOk result (λ n. n ≤ length window.new.bytes) }
+    ensures fits { IfOk result (λ n. at + n + TEXT_BLOCK_BYTES * store.old.head.trailer ≤ size) }
+    ensures whole { IfOk result (λ n. (file : List ℕ) →
+        BeginsWith store.new.loaded.bytes size file → HasLengthAt file store.old.head limits
+        (length (traces_of store.old) + 1) at n) }
+    ensures refused { IfErr result (λ fault. IsFaultOfPass fault ⊎
+        IsTraceFault store.new.loaded.bytes size store.old.head limits
+        (length (traces_of store.old) + 1) at fault) }
+{
+    let left = size - at - TEXT_BLOCK_BYTES as u64 * u64::from(store.head.trailer);
+    let p = u64::from(store.count()) + 1;
+    let front = left.min(front_length(&store.head) as u64) as usize;
+    store.hold(window, front, size)?;
+    let length = match length_of_next(&store.head, limits, p, window.front(front), left) {
+        Ok(length) => length,
+        Err(fault) => return Err(fault),
+    };
+    store.hold(window, length as usize, size)?;
+    Ok(length)
+}
+
+// Reads the bytes behind the traces, up to the end of the file. Takes memory. Refused as
+// `Window::hold`, and with L01 where the file does not end there.
+pub fn last_bytes<T: Copy>(
+    alloc: Global,
+    store: &mut TraceStore<T>,
+    window: &mut Window,
+    size: u64,
+    at: u64,
+) -> Result<Vec<u8>, LoadFault>
+    requires next { IsNextOf store.old.loaded.bytes at window.old.bytes }
+    requires within { length store.old.loaded.bytes ≤ size }
+    requires inside { at ≤ size }
+    ensures grown { HasMore store.old store.new }
+    ensures all { OnOk result (length store.new.loaded.bytes ≡ size) }
+    ensures back { IfOk result (λ back. back.items ≡ drop at store.new.loaded.bytes) }
+    ensures fault { IfErr result IsFaultOfPass }
+{
+    let n = (size - at) as usize;
+    store.hold(window, n, size)?;
+    match store.is_at_end() {
+        Ok(true) => {}
+        _ => return Err(LoadFault::ReadFailed),
+    }
+    match Vec::from_slice(alloc, window.front(n)) {
+        Ok(back) => Ok(back),
+        Err(_) => Err(LoadFault::OutOfMemory),
+    }
+}

@@ -205,7 +205,9 @@ impl Bench {
     /// Ends the bench: gives back the memory of its volume, and closes a file on disk. Who owns a
     /// bench ends it by this, since each crate that drops one proves anew how its parts are
     /// dropped.
-    pub fn close(self) {}
+    pub fn close(self) {
+        self.volume.close();
+    }
 
     /// Whether slice k, counted from 0, is kept: a query of it looks at no trace then. Takes no
     /// memory and looks at none.

@@ -470,6 +470,13 @@ impl LiveVolume {
         }
     }
 
+    /// Ends the volume: gives back its memory, and closes a file on disk. Who owns one ends it by
+    /// this, since each crate that drops one proves anew how its parts are dropped.
+    pub fn close(self) {
+        self.overlay.close();
+        self.reports.close();
+    }
+
     /// Writes the file as it is now. Refused where the writer failed, or on disk where a read of
     /// the loaded bytes did; `written` is then the length of the prefix that the writer took. Takes
     /// no memory.

@@ -1,7 +1,7 @@
 # For use, without any toolchain:
 #   make demo       the first job on a sample file, with the shipped program
 #   make install    the program, its tools for pictures, its man pages and completions, under PREFIX (and DESTDIR); make uninstall takes them away
-#   make quick      the end-to-end tests, in a few minutes
+#   make quick      the end-to-end tests, in about ten minutes
 #   make python     the tests of the Python package
 #   make desk       the tests of the desk, in a browser
 # With the Rattle kit (the command rt on the PATH):

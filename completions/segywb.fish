@@ -1,6 +1,7 @@
 # Completion of segywb's command line for fish.
 complete -c segywb -l script -r -F -d 'edits and queries, one a line'
 complete -c segywb -l session -d 'answer the lines of standard input one by one'
+complete -c segywb -l save-at-end -d 'in a session, save at the end of its lines too'
 complete -c segywb -l out -r -F -d 'save the edited file here'
 complete -c segywb -l in-place -d 'write over that file itself'
 complete -c segywb -l on-disk -d 'leave the bytes of the file on disk, for files larger than memory'

@@ -67,37 +67,47 @@ takes 'a refused script takes one byte more' 16777217 s.sgy --script /dev/stdin
 # in place it holds what it took
 EIO=5
 declare -A reason=([$EIO]='Input/output error (os error 5)' [$ENOSPC]='No space left on device (os error 28)' [0]='write zero')
-# failing WAY FAULT ANSWERS BYTES: the ways in which a save may then end, in the array `torn`
+# failing WAY FAULT ANSWERS BYTES [none]: the ways in which a save may then end, in the array `torn`: with the first bytes, or with none
 failing() {
+    local took='it took a part of the file'
+    [ "${5-}" != none ] || took='it took nothing, and is empty if it is a file'
     if [ "$1" = saved ]; then
         torn=(saves o.sgy may torn 4 "$3" "=segywb: save failed after % bytes"$'\n'"segywb: o.sgy: cannot write the file beside it (${reason[$2]}): it is as it was; save elsewhere, or over it with --in-place" -)
         in_place=()
     else
-        torn=(saves o.sgy may torn 4 "$3" "=segywb: save failed after % bytes"$'\n'"segywb: o.sgy: cannot write it (${reason[$2]}): it took a part of the file; save elsewhere" "$4:%")
+        torn=(saves o.sgy may torn 4 "$3" "=segywb: save failed after % bytes"$'\n'"segywb: o.sgy: cannot write it (${reason[$2]}): $took; save elsewhere" "$4:%")
         in_place=(--in-place)
     fi
+}
+# fails WAY FAULT ANSWERS BYTES NAME FIRST LAST WORD..: a sweep of a save that fails once it took FIRST to LAST bytes
+fails() {
+    local from=$6
+    if [ "$from" = 0 ]; then
+        failing "${@:1:4}" none
+        sweep "$5" 0 0 "${torn[@]}" -- "${@:8}" "${in_place[@]}"
+        from=1
+    fi
+    failing "${@:1:4}"
+    [ "$from" -gt "$7" ] || sweep "$5" "$from" "$7" "${torn[@]}" -- "${@:8}" "${in_place[@]}"
 }
 printf 'set 2 inline 7\n' > one
 "$program" v.sgy --script one --out whole_v.sgy > one.txt
 size=$(wc -c < v.sgy)
 for way in saved o.sgy; do
     failing $way $EIO whole.txt whole.sgy
-    sweep "the save ($way) takes single bytes, and fails at" 0 $((bytes - 1)) "${torn[@]}" -- $library DEVICE=$way STEP=1 HOLDS=% "${on[@]}" "${in_place[@]}"
-    failing $way $ENOSPC whole.txt whole.sgy
-    sweep "the save ($way) fails at" 0 $((bytes - 1)) "${torn[@]}" -- $library DEVICE=$way HOLDS=% FAULT=$ENOSPC "${on[@]}" "${in_place[@]}"
     sweep "the save ($way) has just room" $bytes $((bytes + 1)) saves o.sgy "${whole[@]}" -- $library DEVICE=$way HOLDS=% "${on[@]}" "${in_place[@]}"
-    failing $way 0 whole.txt whole.sgy
+    fails $way $EIO whole.txt whole.sgy "the save ($way) takes single bytes, and fails at" 0 $((bytes - 1)) $library DEVICE=$way STEP=1 HOLDS=% "${on[@]}"
+    fails $way $ENOSPC whole.txt whole.sgy "the save ($way) fails at" 0 $((bytes - 1)) $library DEVICE=$way HOLDS=% FAULT=$ENOSPC "${on[@]}"
     for at in 1 2 2000 $bytes; do
-        sweep "the save ($way) takes no byte in write $at" $((at - 1)) $((at - 1)) "${torn[@]}" -- $library DEVICE=$way STEP=1 NO_BYTES="$at" "${on[@]}" "${in_place[@]}"
+        fails $way 0 whole.txt whole.sgy "the save ($way) takes no byte in write $at" $((at - 1)) $((at - 1)) $library DEVICE=$way STEP=1 NO_BYTES="$at" "${on[@]}"
     done
     # a write that a signal interrupts is made again
     for at in 0 1 $((bytes - 1)); do
         sweep "a write of the save ($way) is interrupted at $at" "$at" "$at" saves o.sgy "${whole[@]}" -- $library DEVICE=$way HOLDS=% FAULT=$EINTR "${on[@]}" "${in_place[@]}"
     done
     # more than the program's buffer holds
-    failing $way $EIO one.txt whole_v.sgy
     for at in 0 3190 3590 65526 $((size - 20)); do
-        sweep "the save ($way) of a large file fails at" "$at" $((at + 19)) "${torn[@]}" -- $library DEVICE=$way HOLDS=% "$program" v.sgy --script one --out o.sgy "${in_place[@]}"
+        fails $way $EIO one.txt whole_v.sgy "the save ($way) of a large file fails at" "$at" $((at + 19)) $library DEVICE=$way HOLDS=% "$program" v.sgy --script one --out o.sgy
     done
     sweep "a write of a large piece ($way) is interrupted at" 65536 65536 saves o.sgy may whole 0 one.txt - whole_v.sgy -- $library DEVICE=$way HOLDS=% FAULT=$EINTR "$program" v.sgy --script one --out o.sgy "${in_place[@]}"
     sweep "the save ($way) of a large file has just room" "$size" "$size" saves o.sgy may whole 0 one.txt - whole_v.sgy -- $library DEVICE=$way HOLDS=% "$program" v.sgy --script one --out o.sgy "${in_place[@]}"
@@ -112,7 +122,7 @@ for _ in 1 2 3; do
     printf '%s\n' 'line 0 1' sett 'text 1 C LINE' 'line 0 1' 'unmap mine' 'get 2 mine' 'blank 2' faults histogram 'delete 2' 'delete 2' totals 'range x'
 done > long
 echo 'header 2' >> long
-"$program" s.sgy --script long > long.txt
+"$program" s.sgy --script long --out long.sgy > long.txt
 size=$(wc -c < long.txt)
 lost=(saves o.sgy may lost 4 long.txt:% '=segywb: answers failed' -)
 sweep 'the answers take single bytes, and fail at' 0 $((size - 1)) "${lost[@]}" -- $library DEVICE=answers STEP=1 HOLDS=% "$program" s.sgy --script long --out o.sgy
@@ -120,7 +130,8 @@ sweep 'the answers fail at' 0 $((size - 1)) "${lost[@]}" -- $library DEVICE=answ
 for at in 1 2 500 "$size"; do
     sweep "the answers take no byte in write $at" $((at - 1)) $((at - 1)) "${lost[@]}" -- $library DEVICE=answers STEP=1 NO_BYTES="$at" "$program" s.sgy --script long --out o.sgy
 done
-sweep 'a write of the answers is interrupted at' 0 20 "${lost[@]}" -- $library DEVICE=answers HOLDS=% FAULT=$EINTR "$program" s.sgy --script long --out o.sgy
+# a write that a signal interrupts is made again
+sweep 'a write of the answers is interrupted at' 0 20 saves o.sgy may whole 1 long.txt - long.sgy -- $library DEVICE=answers HOLDS=% FAULT=$EINTR "$program" s.sgy --script long --out o.sgy
 { head -c 3600 s.sgy; zeros 244000; } > blanks.sgy
 echo faults > list
 "$program" blanks.sgy --script list > list.txt

@@ -26,7 +26,7 @@ done
 # ---- the example files, the man pages and the rows of the definitions are what their sources give
 mkdir made
 runs_well 'examples are made' bash "$top/examples/make" made
-runs_well 'the example files' diff -r -x make -x "*.ipynb" made "$top/examples"
+runs_well 'the example files' diff -r -x make -x "*.ipynb" -x "*.py" made "$top/examples"
 rm -rf made
 runs_well 'man pages are made' bash "$top/tools/manpages" made
 runs_well 'the man pages are those of the manual' diff -r made "$top/man"
@@ -68,7 +68,7 @@ fault_rows() { sed -n 's/^| \(F[0-9]\) | `\([^`]*\)` |.*/\1 \2/p' "$top/docs/MAN
 same 'the faults of the manual' "$(fault_words)" "$(fault_rows)"
 # a text of the definitions ends where a number follows, and the manual has a letter there
 texts() { grep -o 'codes "[LPSE][0-9][0-9] [^"]*"' "$top/crates/script_text/specs/RefusalTexts.antt" | sed 's/codes "//; s/ *"$//' | sort -u; }
-rows() { sed -n 's/^| \([LPSE][0-9][0-9]\) | `\([^`]*\)` |.*/\1 \2/p' "$top/docs/MANUAL.md" | sed 's/ [A-Z]\( of N\)\?$//; s/ A\.B$//' | sort -u; }
+rows() { sed -n 's/^| \([LPSE][0-9][0-9]\) | `\([^`]*\)` |.*/\1 \2/p' "$top/docs/MANUAL.md" | sed 's/ [A-Z]\( of N\| bytes\)\?$//; s/ A\.B$//' | sort -u; }
 same 'the refusals of the manual' "$(texts)" "$(rows)"
 [ "$(texts | wc -l)" -ge 40 ] && tell 'there are refusals' ok || tell 'there are refusals' "$(texts | wc -l)"
 
@@ -82,6 +82,20 @@ missing=$(cd "$top" && {
         done
 } | sort -u | while read -r file; do [ -e "$file" ] || echo "$file"; done)
 same 'files that documents name' "$missing" ''
+
+# ---- the README is short, and each link of a document leads to a file, and to a heading of it
+[ "$(wc -l < "$top/README.md")" -lt 120 ] && tell 'the README is short' ok || tell 'the README is short' "$(wc -l < "$top/README.md") lines"
+# headings FILE: as links name them
+headings() { sed -n 's/^##* //p' "$1" | tr '[:upper:]' '[:lower:]' | sed 's/[^a-z0-9 _-]//g; s/ /-/g'; }
+lost=$(cd "$top" && for document in README.md CONTRIBUTING.md docs/*.md; do
+    grep -o '](\(\.\./\)*[A-Za-z0-9_/.#-]*)' "$document" | sed 's/^](//; s/)$//' | sort -u | while read -r link; do
+        file=${link%%#*}
+        [ -n "$file" ] && file=$(dirname "$document")/$file || file=$document
+        case $link in *#*) heading=${link#*#} ;; *) heading='' ;; esac
+        [ -f "$file" ] && { [ -z "$heading" ] || headings "$file" | grep -qxF -- "$heading"; } || echo "$document: $link"
+    done
+done)
+same 'links of documents' "$lost" ''
 
 # ---- the version, and the completions, which know the options of --help and no others
 same 'the version' "$("$program" --version 2>&1)" "segywb $(cat "$top/VERSION")"

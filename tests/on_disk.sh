@@ -102,12 +102,12 @@ for call in $(seq 1 12); do
 done
 
 # ---- the file changes while the program runs: a session, so that it is known when
-# meanwhile NAME LINE ANSWER COMMAND: the file own.sgy is loaded, the command is run, and the line then has this answer; nothing is saved
+# meanwhile NAME LINE ANSWER COMMAND: the file own.sgy is loaded, the command is run, and the line then has this answer; at the end nothing is saved
 meanwhile() {
     local name=$1 line=$2 wanted=$3 command=$4 said outcome=ok status
     cp v.sgy own.sgy
     rm -f o.sgy
-    coproc RUN { "$program" own.sgy --on-disk --session --out o.sgy 2> errors; }
+    coproc RUN { "$program" own.sgy --on-disk --session --save-at-end --out o.sgy 2> errors; }
     local in=${RUN[1]} out=${RUN[0]} id=$RUN_PID
     printf 'count\n' >&"$in"
     read -r said <&"$out"

@@ -77,6 +77,18 @@ for how in '' FAIL_ALL=1 FAULT=28; do
     turns fstat 1 $how
 done
 turns unlink 1
+# FILE that cannot be looked at, when it is opened and before the save
+env $library FAIL_CALL=fstat FAIL_NTH=1 "$program" s.sgy --script script --out $out > answers 2> errors
+[ $? = 3 ] && grep -q '^segywb: cannot look at s.sgy (' errors && tell 'FILE cannot be looked at' ok || tell 'FILE cannot be looked at' "$(head -c 200 errors)"
+unseen=0
+for n in $(seq 40); do
+    env $library FAIL_CALL=stat FAIL_NTH=$n "$program" s.sgy --script script --out $out > answers 2> errors
+    got=$?
+    if grep -q '^segywb: s.sgy: cannot be looked at, .* is as it was' errors && [ $got = 4 ]; then unseen=$((unseen + 1)); fi
+    runs=$((runs + 1))
+done
+runs=$((runs + 1))
+[ $unseen -ge 1 ] && tell 'nor before the save' ok || tell 'nor before the save' "$unseen times"
 rm -f room/.o.sgy*
 
 # ---- a kill at any moment: OUT is the old file or the new one, and a later save is not hindered by what was left
@@ -108,7 +120,7 @@ tell 'a kill leaves FILE whole, old or new' "$outcome"
 : > room/.o.sgy.segywb-0
 "$program" $out --script one --out $out > answers 2> errors
 got=$?
-if [ $got = 0 ] && cmp -s new.sgy $out && [ -e room/.o.sgy.segywb-0 ] && [ ! -s room/.o.sgy.segywb-0 ]; then tell 'a later save is not hindered by them' ok; else tell 'a later save is not hindered by them' "status $got"; fi
+if [ $got = 0 ] && cmp -s new.sgy $out && [ "$(ls -A room)" = o.sgy ]; then tell 'a later save takes them away' ok; else tell 'a later save takes them away' "status $got: $(ls -A room)"; fi
 rm -f room/.o.sgy*
 
 # ---- two saves at once: one of the two whole files stays

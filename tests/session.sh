@@ -44,7 +44,7 @@ as_a_run() {
     rm -f by_run.sgy by_session.sgy
     "$program" "$file" --script lines --out by_run.sgy "$@" > /dev/null 2>&1
     local run=$?
-    "$program" "$file" --session --out by_session.sgy "$@" < lines > answers 2>&1
+    "$program" "$file" --session --out by_session.sgy --save-at-end "$@" < lines > answers 2>&1
     local got=$?
     if [ "$run" != "$got" ]; then tell "$name" "status $got, a run's is $run"
     elif ! cmp -s wanted answers; then tell "$name" "answers: $(head -c 300 answers)"
@@ -60,8 +60,10 @@ printf 'count\n\n# a note\nset 2 @189:4 7\nget 2 @189:4\n' > lines
 expect 'an empty line behind each answer' 0 'traces 3\n\n\n\nok\n\nvalue 7\n\n' '' s.sgy --session
 : > lines
 expect 'no line' 0 '' '' s.sgy --session
-printf 'count' > lines
-expect 'a last line without a line feed' 0 'traces 3\n\n' '' s.sgy --session
+printf 'count\ncount' > lines
+expect 'a last line without a line feed' 1 'traces 3\n\nrefused S06 cut off\n\n' '' s.sgy --session
+printf 'count\n# a note' > lines
+expect 'a last note without a line feed' 1 'traces 3\n\nrefused S06 cut off\n\n' '' s.sgy --session
 printf 'count\r\nnothing\r\n' > lines
 expect 'carriage returns, and a line that is no command' 1 'traces 3\n\nrefused S01 unknown word\n\n' '' s.sgy --session
 printf 'count\0\n\377\ncount\n' > lines
@@ -122,8 +124,10 @@ if [ -e o.sgy ]; then tell 'and saves nothing' 'o.sgy was made'; else tell 'and 
 expect 'a note of 16777216 bytes' 0 '\ntraces 3\n\n' '' s.sgy --session
 { printf '# '; head -c 16777215 /dev/zero | tr '\0' x; printf '\ncount\n'; } > lines
 expect 'one byte more, whatever it holds' 1 'refused S05 too large\n\ntraces 3\n\n' '' s.sgy --session
-{ head -c 50000000 /dev/zero; printf '\ncount'; } > lines
+{ head -c 50000000 /dev/zero; printf '\ncount\n'; } > lines
 expect 'the rest of a long line is passed over' 1 'refused S05 too large\n\ntraces 3\n\n' '' s.sgy --session
+head -c 50000000 /dev/zero > lines
+expect 'a long line that is cut off is too large first' 1 'refused S05 too large\n\n' '' s.sgy --session
 { for _ in $(seq 3); do head -c 9000000 /dev/zero | tr '\0' ' '; printf 'count\n'; done; } > lines
 expect 'no limit on the sum of the lines' 0 'traces 3\n\ntraces 3\n\ntraces 3\n\n' '' s.sgy --session
 # lines whose ends fall on and around the ends of reads of 65536 bytes
@@ -149,12 +153,12 @@ fi
 if command -v cc > /dev/null && cc -O1 -shared -fPIC -o refuse_growth.so "$here/refuse_growth.c" -ldl 2> /dev/null; then
     script=('set 1 inline 5' 'table 1 3 inline x' 'lines 0' "# $(head -c 150000 /dev/zero | tr '\0' x)" 'patch 1 0 7' "map mine @9:4$(head -c 70000 /dev/zero | tr '\0' ' ')" 'get 1 inline' 'text 1 C 1 NOTE' 'copy 1 2' count)
     printf '%s\n' "${script[@]}" > lines
-    env LD_PRELOAD=./refuse_growth.so REFUSE_COUNT=asked "$program" s.sgy --session --out o.sgy < lines > answers 2> errors
+    env LD_PRELOAD=./refuse_growth.so REFUSE_COUNT=asked "$program" s.sgy --session --out o.sgy --save-at-end < lines > answers 2> errors
     outcome=ok
     refused=0
     for ((n = 1; n <= $(< asked); n++)); do
         rm -f o.sgy
-        env LD_PRELOAD=./refuse_growth.so REFUSE=$n "$program" s.sgy --session --out o.sgy < lines > answers 2> errors
+        env LD_PRELOAD=./refuse_growth.so REFUSE=$n "$program" s.sgy --session --out o.sgy --save-at-end < lines > answers 2> errors
         got=$?
         case $got in
             2 | 4) [ ! -e o.sgy ] || outcome="growth $n: status $got, and a file" ; continue ;;
@@ -179,10 +183,10 @@ if command -v cc > /dev/null && cc -O1 -shared -fPIC -o refuse_growth.so "$here/
     done
     [ "$refused" -ge 3 ] || outcome="only $refused lines refused"
     tell 'each growth refused in turn' "$outcome"
-fi
+else echo 'left out: each growth refused in turn, for which there is no C compiler'; fi
 
 # ---- the command line
-for words in '' '--session --script lines' '--script' '--session --session --script lines'; do
+for words in '' '--session --script lines' '--script' '--session --session --script lines' '--script lines --save-at-end --out o.sgy' '--session --save-at-end'; do
     "$program" s.sgy $words < lines > answers 2> errors
     got=$?
     if [ "$got" = 2 ] && [ ! -s answers ] && [ -s errors ]; then tell "refused: s.sgy $words" ok; else tell "refused: s.sgy $words" "status $got: $(head -c 200 answers errors)"; fi
@@ -194,8 +198,125 @@ expect 'a word that stands twice' 0 'traces 3\n\n' '' s.sgy --session --session 
 # ---- saves
 printf 'set 2 @189:4 7\n' > lines
 cp s.sgy own.sgy
-expect 'saves over its own file' 0 'ok\n\n' '' own.sgy --session --out own.sgy
+expect 'saves over its own file' 0 'ok\n\n' '' own.sgy --session --save-at-end --out own.sgy
 if [ "$(cmp -l s.sgy own.sgy | tr -s ' ' | sed 's/^ //')" = '4036 12 7' ]; then tell 'and changes one byte' ok; else tell 'and changes one byte' "$(cmp -l s.sgy own.sgy | head -3)"; fi
+
+# ---- the line save
+# changed NAME FILE OTHER BYTES: the places where two files differ, with both bytes in octal
+changed() {
+    local lines
+    lines=$(cmp -l "$2" "$3" 2>&1 | tr -s ' ' | sed 's/^ //' | tr '\n' ';')
+    if [ "$lines" = "$4" ]; then tell "$1" ok; else tell "$1" "differs at: $lines"; fi
+}
+rm -f o.sgy
+printf 'set 2 @189:4 7\nsave\nset 3 @189:4 8\n' > lines
+expect 'saves at the line save' 0 'ok\n\nsaved 4332\n\nok\n\n' '' s.sgy --session --out o.sgy
+changed 'and not behind it' s.sgy o.sgy '4036 12 7;'
+expect 'saves at the end too, where that is asked for' 0 'ok\n\nsaved 4332\n\nok\n\n' '' s.sgy --session --out o.sgy --save-at-end
+changed 'all that is there then' s.sgy o.sgy '4036 12 7;4280 12 10;'
+rm -f o.sgy
+printf 'set 2 @189:4 7\n' > lines
+expect 'the end of the lines saves nothing' 0 'ok\n\n' '' s.sgy --session --out o.sgy
+if [ -e o.sgy ]; then tell 'and makes no file' 'o.sgy was made'; else tell 'and makes no file' ok; fi
+printf 'set 2 @189:4 7\nset 3 @189:4 8' > lines
+expect 'nor does a line that is cut off, with --save-at-end' 1 'ok\n\nrefused S06 cut off\n\n' '' s.sgy --session --out o.sgy --save-at-end
+if [ -e o.sgy ]; then tell 'and makes no file then' 'o.sgy was made'; else tell 'and makes no file then' ok; fi
+printf ' \tsave \r\nsave it\n# save\nsaves\ndelete 3\nsave\ncount\n' > lines
+expect 'words of a save' 1 'saved 4332\n\nrefused S02 words\n\n\nrefused S01 unknown word\n\nok\n\nsaved 4088\n\ntraces 2\n\n' '' s.sgy --session --out o.sgy
+cmp -s <(head -c 4088 s.sgy) o.sgy && tell 'the last save stands' ok || tell 'the last save stands' 'another file'
+printf 'save\nset 2 @189:4 7\nsave' > lines
+expect 'a save that is cut off' 1 'saved 4332\n\nok\n\nrefused S06 cut off\n\n' '' s.sgy --session --out o.sgy
+changed 'is none' s.sgy o.sgy ''
+printf 'save\ncount\n' > lines
+expect 'no out' 1 'refused S07 no out\n\ntraces 3\n\n' '' s.sgy --session
+expect 'no out stops' 1 'refused S07 no out\n\n' '' s.sgy --session --stop
+printf 'set 2 @189:4 7\nsave\nbogus\nset 3 @189:4 8\nsave\n' > lines
+rm -f o.sgy
+expect 'an earlier save stays where a line stops the session' 1 'ok\n\nsaved 4332\n\nrefused S01 unknown word\n\n' '' s.sgy --session --stop --out o.sgy --save-at-end
+changed 'as it was' s.sgy o.sgy '4036 12 7;'
+printf 'save\n' > script
+"$program" s.sgy --script script --out o.sgy > answers 2> errors
+[ $? = 1 ] && [ "$(< answers)" = 'refused S01 unknown word' ] && grep -q 'word of sessions' errors && tell 'it is no word of scripts' ok || tell 'it is no word of scripts' "$(< answers) $(< errors)"
+
+# a save that fails, and one behind it
+mkdir closed
+cp s.sgy closed/out.sgy
+if [ "$(id -u)" != 0 ]; then
+    printf 'set 2 @189:4 7\nsave\ncount\n' > lines
+    coproc RUN { "$program" s.sgy --session --out closed/out.sgy 2> errors; }
+    run=$RUN_PID
+    echo 'set 2 @189:4 7' >&"${RUN[1]}"; read -r -t 20 told <&"${RUN[0]}"; read -r -t 20 empty <&"${RUN[0]}"
+    chmod 555 closed
+    echo save >&"${RUN[1]}"; read -r -t 20 told <&"${RUN[0]}"; read -r -t 20 empty <&"${RUN[0]}"
+    [ "$told" = 'refused S08 save failed after 0 bytes' ] && tell 'a save that fails' ok || tell 'a save that fails' "$told"
+    cmp -s s.sgy closed/out.sgy && tell 'leaves OUT as it was' ok || tell 'leaves OUT as it was' 'another file'
+    chmod 755 closed
+    echo save >&"${RUN[1]}"; read -r -t 20 told <&"${RUN[0]}"; read -r -t 20 empty <&"${RUN[0]}"
+    [ "$told" = 'saved 4332' ] && tell 'and the session saves again' ok || tell 'and the session saves again' "$told"
+    eval "exec ${RUN[1]}>&-"
+    wait "$run"; [ $? = 1 ] && tell 'with status 1' ok || tell 'with status 1' 'another status'
+fi
+( ulimit -f 2; printf 'set 2 @189:4 7\nsave\ncount\n' | "$program" s.sgy --session --out closed/out.sgy > answers 2> errors; echo $? > status )
+if [ "$(< status)" = 1 ] && [ "$(< answers)" = "$(printf 'ok\n\nrefused S08 save failed after 2048 bytes\n\ntraces 3\n')" ] && grep -q 'save failed after 2048 bytes' errors && cmp -s s.sgy closed/out.sgy; then
+    tell 'a save past the limit on file sizes' ok
+else tell 'a save past the limit on file sizes' "$(< status) $(< answers) $(< errors)"; fi
+
+# saves over FILE itself, each followed by a change of another program or not
+cp s.sgy own.sgy
+coproc RUN { "$program" own.sgy --session --out own.sgy 2> errors; }
+run=$RUN_PID
+ask() { echo "$1" >&"${RUN[1]}"; read -r -t 20 told <&"${RUN[0]}"; read -r -t 20 empty <&"${RUN[0]}"; }
+outcome=ok
+for value in 5 6 7; do
+    ask "set 2 @189:4 $value"; [ "$told" = ok ] || outcome="set: $told"
+    ask save; [ "$told" = 'saved 4332' ] || outcome="save: $told"
+done
+tell 'three saves over FILE itself' "$outcome"
+changed 'of which the last stands' s.sgy own.sgy '4036 12 7;'
+sleep 0.1
+printf X | dd of=own.sgy bs=1 seek=100 conv=notrunc 2> /dev/null
+cp own.sgy theirs.sgy
+ask save
+[ "$told" = 'refused S08 save failed after 4332 bytes' ] && cmp -s own.sgy theirs.sgy && tell 'FILE that another program changed since is kept' ok || tell 'FILE that another program changed since is kept' "$told"
+eval "exec ${RUN[1]}>&-"
+wait "$run"
+grep -q '^segywb: FILE was changed by another program$' errors && tell 'and that is told' ok || tell 'and that is told' "$(< errors)"
+
+# in place, over FILE and to a device that takes nothing
+cp s.sgy own.sgy
+number=$(stat -c %i own.sgy)
+printf 'set 2 @189:4 7\nsave\nset 2 @189:4 8\nsave\n' > lines
+expect 'two saves in place' 0 'ok\n\nsaved 4332\n\nok\n\nsaved 4332\n\n' '' own.sgy --session --out own.sgy --in-place
+changed 'of which the last stands in the same file' s.sgy own.sgy '4036 12 10;'
+[ "$(stat -c %i own.sgy)" = "$number" ] && tell 'which is the same' ok || tell 'which is the same' 'another file'
+mkfifo pipe
+cat pipe > piped &
+printf 'set 2 @189:4 7\nsave\n' | "$program" s.sgy --session --out pipe > answers 2> errors
+got=$?
+wait $!
+[ "$got $(grep -c saved answers)" = '0 1' ] && tell 'a pipe' ok || tell 'a pipe' "$got $(< answers)"
+changed 'gets the bytes' s.sgy piped '4036 12 7;'
+if [ -e /dev/full ]; then
+    printf 'save\ncount\n' > lines
+    expect 'a device that takes nothing' 1 'refused S08 save failed after 0 bytes\n\ntraces 3\n\n' 'segywb: save failed after 0 bytes\nsegywb: /dev/full: cannot write it (No space left on device (os error 28)): it took nothing, and is empty if it is a file; save elsewhere\n' s.sgy --session --out /dev/full
+fi
+
+# what sends the lines dies: at each line, and between two writes
+printf 'set 1 inline %d\nset 2 inline %d\nset 3 inline %d\nsave\n' 1 1 1 2 2 2 3 3 3 > lines
+outcome=ok
+for ((n = 1; n < $(wc -c < lines); n += 7)); do
+    cp s.sgy own.sgy
+    mkfifo cut
+    head -c "$n" lines > cut &
+    "$program" own.sgy --session --out own.sgy < cut > answers 2> errors
+    wait
+    rm cut
+    saves=$(grep -c '^saved 4332$' answers)
+    { cat s.sgy; } > wanted
+    [ "$saves" = 0 ] || { head -n "$((4 * saves))" lines | "$program" s.sgy --session --out wanted > told 2> errors; }
+    cmp -s wanted own.sgy || outcome="behind $n bytes, with $saves saves: $(cmp wanted own.sgy)"
+done
+tell 'a partner that dies leaves what stood at the last save' "$outcome"
 
 printf 'session: %d passed, %d failed\n' "$passed" "$failed"
 [ "$failed" = 0 ]

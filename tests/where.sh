@@ -55,7 +55,7 @@ told 'a table without fields' 'table 1 3' 'S02 words: table 1 3 (the form is tab
 told 'a table of too many fields' "table 1 3$(printf ' x%.0s' $(seq 65))" "S02 words: table 1 3$(printf ' x%.0s' $(seq 25)) .. (a table has at most 64 fields)"
 told 'words in another order' 'set inline 1 7' 'S03 number: set inline 1 7 (the form is set P FIELD NUMBER)'
 told 'a place that is none' 'get 1 @189' 'S03 number: get 1 @189 (a place is @BYTE:SIZE, as @189:4)'
-told 'a place without its sign' 'map shot 17:4' 'S03 number: map shot 17:4 (a place is @BYTE:SIZE, as @189:4)'
+told 'a place without its sign' 'map shot 17:4' 'S03 number: map shot 17:4 (FIELD is a place, as @189:4, or a name, as source_x)'
 told 'a range of what is none' 'range z' 'S03 number: range z (WHICH is inline, crossline, offset, x or y)'
 told 'a range in capital letters' 'range X' 'S03 number: range X (in small letters: x)'
 told 'trace 0' 'get 0 inline' 'E01 no trace 0 of 3: get 0 inline (traces count from 1)'
@@ -221,7 +221,16 @@ cp x.sgy bad.sgy; put bad.sgy 3506 00000100; load_told 'header extensions' 'L10 
 cp x.sgy bad.sgy; put bad.sgy 3528 00000001; load_told 'a trailer' 'L11 trailer 1' 'bytes 3529-3532: data trailer records'
 cp x.sgy bad.sgy; put bad.sgy 3520 ffffffffffffffff; load_told 'a first trace' 'L12 first trace 18446744073709551615' 'bytes 3521-3528: where the first trace begins'
 cp x.sgy bad.sgy; put bad.sgy 3996 ffff; load_told 'an extension count' 'L13 extension count trace 1' 'bytes 157-158 of its first header extension: more than bytes 3507-3510 of the file say'
-head -c 4331 s.sgy > bad.sgy; load_told 'a torn trace' 'L14 truncated trace 3' "the file ends inside that trace; where bytes 115-116 of the traces are wrong, --fixed reads each with the binary header's number of samples"
+head -c 4331 s.sgy > bad.sgy; load_told 'a torn trace' 'L14 truncated trace 3' 'the file ends 243 bytes inside trace 3'
+load_told 'a torn trace, and --fixed, which cannot help' 'L14 truncated trace 3' 'the file ends 243 bytes inside trace 3' --fixed
+load_told 'a torn trace on disk' 'L14 truncated trace 3' 'the file ends 243 bytes inside trace 3' --on-disk
+cp s.sgy bad.sgy; put bad.sgy 3502 0000; for at in 3714 3958 4202; do put bad.sgy $at 0009; done
+load_told 'traces with another number of samples' 'L14 truncated trace 3' 'the file ends 230 bytes inside trace 3; with 2 samples a trace, as the binary header says, it would be even: --fixed reads it so'
+"$program" bad.sgy --script script --fixed > answers 2> errors
+[ $? != 3 ] && tell 'which --fixed reads' ok || tell 'which --fixed reads' "$(< errors)"
+cp s.sgy bad.sgy; put bad.sgy 3220 0005; put bad.sgy 3714 0002
+load_told 'a file with another number of samples' 'L14 truncated trace 3' 'the file ends 232 bytes inside trace 3; it would be even with 2 samples a trace'
+load_told 'which --fixed does not read' 'L14 truncated trace 3' 'the file ends 232 bytes inside trace 3; it would be even with 2 samples a trace' --fixed
 cp t.sgy bad.sgy; load_told 'the other byte order' 'L17 other byte order' 'bytes 3297-3300 tell the order of bytes, which stands: leave out --order' --order big
 cp s.sgy bad.sgy; put bad.sgy 3224 0005
 "$program" bad.sgy --script script --quiet > answers 2> errors

@@ -111,7 +111,7 @@ numbers_follow old new (Set p f x) cache cut none after = by (place_in_trace old
         ∙ numbers_if b cache)
 numbers_follow old new (SetBin f x) cache cut none after = refl
 numbers_follow old new (SetText q text) cache cut none after = refl
-numbers_follow old new (Map name place) cache cut none after = numbers_unless (is_geometry name) cache
+numbers_follow old new (Map name field) cache cut none after = numbers_unless (is_geometry name) cache
 numbers_follow old new (Unmap name) cache cut none after = refl
 numbers_follow old new (Patch p k values) cache cut none after = numbers_after_forgotten k (length values) cache
 numbers_follow old new (Blank p) cache cut none after = refl
@@ -158,7 +158,7 @@ right_part s edit moved cache all = by edit
     by (Set p f x) = if_not moved
     by (SetBin f x) = all
     by (SetText q text) = all
-    by (Map name place) = if_not (is_geometry name)
+    by (Map name field) = if_not (is_geometry name)
     by (Unmap name) = all
     by (Patch p k values) = All-filter (λ e. not (is_from k (length values) e.0)) R cache all
     by (Blank p) = All-nil R

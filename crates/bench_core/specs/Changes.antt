@@ -28,7 +28,7 @@ has_moved old (Renumber a b field first step) new = any_moves old new a b
 has_moved old (Compute a b field source steps) new = any_moves old new a b
 has_moved old (SetBin field x) new = false
 has_moved old (SetText q text) new = false
-has_moved old (Map name place) new = false
+has_moved old (Map name field) new = false
 has_moved old (Unmap name) new = false
 has_moved old (Patch p k values) new = false
 has_moved old (Blank p) new = false
@@ -44,7 +44,7 @@ abbrev pub entries_after : Bool → Edit → Cache → Cache
 entries_after moved (Set p field x) cache = if moved then [] else cache
 entries_after moved (SetBin field x) cache = cache
 entries_after moved (SetText q text) cache = cache
-entries_after moved (Map name place) cache = if is_geometry name then [] else cache
+entries_after moved (Map name field) cache = if is_geometry name then [] else cache
 entries_after moved (Unmap name) cache = cache
 entries_after moved (Patch p k values) cache = cache_after_change k (length values) cache
 entries_after moved (Blank p) cache = []

@@ -42,7 +42,7 @@ stays_cut s (SetBin f x) cut none = by (place_in_binary f) refl
         let v : Volume = with_binary s.volume place x in
         (v, (bin_is_after s f place x e cut (bin_accepted s f place x e none)).volume, refl)
 stays_cut s (SetText q text) cut none = (with_text s.volume q text, (text_is_after s q text cut (text_accepted s q text none)).volume, refl)
-stays_cut s (Map name place) cut none = (s.volume, cut, refl)
+stays_cut s (Map name field) cut none = (s.volume, cut, refl)
 stays_cut s (Unmap name) cut none = (s.volume, cut, refl)
 stays_cut s (Patch p k values) cut none =
     let a = patch_accepted s p k values none in

@@ -15,11 +15,11 @@ use Rattle.bench_rules.specs.KeptSlices.{is_from}
 use Rattle.bench_rules.specs.Slices.{slice_of}
 use Rattle.bench_rules.specs.declared.edit.Edit.TheVariants.{Set, SetBin, SetText, Map, Unmap, Patch, Blank, Copy, Delete, Move, Resize, Renumber, Compute, Sort}
 use Rattle.bench_laws.specs.KeptLaws.{KeptSlicesStay}
-use Rattle.bench_rules.specs.Places.{place_in_binary}
+use Rattle.bench_rules.specs.Places.{place_in_binary, place_in_trace}
 use Rattle.bench_rules.specs.Reports.{slice_in}
 use Rattle.bench_rules.specs.State.{State}
 use Rattle.bench_rules.proofs.AcceptedLemmas.{unless_so, patch_accepted}
-use Rattle.bench_rules.proofs.HeaderEditLemmas.{no_bin_place, no_fault, with_binary, bin_accepted, bin_is_after, with_text, text_accepted, text_is_after}
+use Rattle.bench_rules.proofs.HeaderEditLemmas.{no_bin_place, no_map_place, no_fault, with_binary, bin_accepted, bin_is_after, with_text, text_accepted, text_is_after}
 use Rattle.bench_rules.proofs.PatchLemmas.{with_samples}
 use Rattle.bench_rules.proofs.SetLemmas.{whole_trace}
 use Rattle.bench_laws.proofs.SliceRowLemmas.{slice_of-set, slice_of-bound, front_of-patched, sample_of-patched, bound_value-front}
@@ -59,10 +59,16 @@ kept_slices_stay old new (SetBin f x) kept k cut has none after any = by (place_
 kept_slices_stay old new (SetText q text) kept k cut has none after any =
     let w : Volume = with_text old.volume q text in
     slice_after old new k w (one_volume old new (SetText q text) w after (text_is_after old q text cut (text_accepted old q text none)).volume) after.fields
-kept_slices_stay old new (Map name place) kept k cut has none after any =
-    let free : is_geometry name ≡ false = kept_unless (is_geometry name) kept k any in
-    slice_renamed old new k (bound old.fields name place) (one_volume old new (Map name place) old.volume after cut) after.fields
-    (λ q g. place-bound old.fields name place q (no_geometry name q g free))
+kept_slices_stay old new (Map name f) kept k cut has none after any = by (place_in_trace old.fields f) refl
+  where
+    free : is_geometry name ≡ false
+    free = kept_unless (is_geometry name) kept k any
+
+    by : (o : Option Place) → place_in_trace old.fields f ≡ o → slice_in new k ≡ slice_in old k
+    by None e = absurd (no_map_place old name f e none)
+    by (Some place) e =
+        slice_renamed old new k (bound old.fields name place) (one_volume old new (Map name f) old.volume after cut) (rw e at after.fields)
+        (λ q g. place-bound old.fields name place q (no_geometry name q g free))
 kept_slices_stay old new (Unmap name) kept k cut has none after any =
     let free = unless_so (is_geometry name) faults.Geometry _ (no_fault (unbind_fault old.fields name) _ none) in
     slice_renamed old new k (unbound old.fields name) (one_volume old new (Unmap name) old.volume after cut) after.fields

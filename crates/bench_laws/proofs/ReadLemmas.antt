@@ -36,7 +36,7 @@ use Rattle.bench_rules.specs.Computed.{Formula, formula_of, applied, divides, is
 use Rattle.bench_rules.specs.Headers.{named_places, header_of}
 use Rattle.bench_rules.specs.ManyTraces.{each_of, positions}
 use Rattle.bench_rules.specs.Places.{place_in_trace, place_in_binary, is_in_binary, touches_frame}
-use Rattle.bench_rules.specs.Refused.{first_refusal, is_line, is_sample_count, is_too_large, changes_length, no_trace, no_place_for_trace, room_refusal, insert_refusal, values_refusal, set_refusal, set_bin_refusal, text_refusal, count_refusal, no_trace_from, first_refusal_among, sort_refusal}
+use Rattle.bench_rules.specs.Refused.{first_refusal, is_line, is_sample_count, is_too_large, changes_length, no_trace, no_place_for_trace, room_refusal, insert_refusal, values_refusal, set_refusal, set_bin_refusal, text_refusal, map_refusal, count_refusal, no_trace_from, first_refusal_among, sort_refusal}
 use Rattle.bench_rules.specs.State.{State}
 use Rattle.bench_rules.specs.Steps.{StepUnless}
 use Rattle.bench_rules.specs.Tables.{table_of}
@@ -152,11 +152,15 @@ compute_silent v (Some f) a b = first_at_silent (compute_refusal v f) (λ p. res
 
 -- ---- of every edit
 
+map_silent : (s : State) (name : List ℕ) (o : Option Place) → Silent (map_refusal s name o)
+map_silent s name None = refl
+map_silent s name (Some place) = mapped refusals.Map (bind_fault s.volume.head.extensions s.fields name place) (λ fault. refl)
+
 silent : (s : State) (edit : Edit) → Silent (first_refusal s edit)
 silent s (edits.Set p f x) = either (no_trace s.volume p) _ (no_trace_silent s.volume p) (set_silent s.volume.head (trace_at s.volume p) (place_in_trace s.fields f) x)
 silent s (edits.SetBin f x) = set_bin_silent (place_in_binary f) x
 silent s (edits.SetText q text) = text_silent s.volume.text q text
-silent s (edits.Map name place) = mapped refusals.Map (bind_fault s.volume.head.extensions s.fields name place) (λ fault. refl)
+silent s (edits.Map name f) = map_silent s name (place_in_trace s.fields f)
 silent s (edits.Unmap name) = mapped refusals.Map (unbind_fault s.fields name) (λ fault. refl)
 silent s (edits.Patch p k xs) = either (no_trace s.volume p) _ (no_trace_silent s.volume p) (values_silent (values s.volume.head.format) s.volume.head (trace_at s.volume p) k xs)
 silent s (edits.Blank p) = insert_silent s.volume s.limits p (length (blank_trace s.volume.head))

@@ -34,7 +34,7 @@ use Rattle.bench_rules.specs.declared.refusal.Refusal.TheVariants as refusals
 use Rattle.bench_rules.specs.MapFaults.{refusal_of}
 use Rattle.bench_rules.specs.Places.{place_in_trace, place_in_binary, is_in_binary, touches_frame}
 use Rattle.bench_rules.specs.State.{State}
-use Rattle.bench_rules.specs.Refused.{first_refusal, is_line}
+use Rattle.bench_rules.specs.Refused.{first_refusal, map_refusal, is_line}
 use Rattle.bench_rules.specs.Steps.{FailsToRead, IsAfter, StepUnless, Step}
 use Rattle.bench_rules.proofs.SetLemmas.{unless, both}
 
@@ -80,6 +80,9 @@ pub record BinAccepted (place : Place) (x : ℤ) : Type 0 where
 
 pub no_bin_place : (s : State) (f : Field) (x : ℤ) → place_in_binary f ≡ None → first_refusal s (SetBin f x) ≡ None → ⊥
 no_bin_place s f x e none = let r : (let o : Option Refusal = Some refusals.NoField in o) ≡ None = rw e at none in absurd cc
+
+pub no_map_place : (s : State) (name : List ℕ) (f : Field) → place_in_trace s.fields f ≡ None → first_refusal s (Map name f) ≡ None → ⊥
+no_map_place s name f e none = let r : (let o : Option Refusal = Some refusals.NoField in o) ≡ None = rw e at none in absurd cc
 
 not_so : (b : Bool) (r : Refusal) → cond b (Some r) None ≡ None → b ≡ false
 not_so true r e = absurd cc
@@ -278,8 +281,32 @@ bind_fault_is_map extensions pairs name place f e =
 
 pub map_refused : {T : Type 0} (s new : State) (name : List ℕ) (place : Place) (fault : MapFault) (r : Result T Refusal) → new ≡ s → IsErr r → IsErrAnd r (λ refusal. refusal ≡ refusal_of fault)
     → (bind_fault s.volume.head.extensions s.fields name place ≡ Some fault) ⊎ ((bind_fault s.volume.head.extensions s.fields name place ≡ None) × (fault ≡ faults.OutOfMemory))
-    → Step s (Map name place) r new
+    → Step s (Map name (field.Place place)) r new
 map_refused s new name place fault (Ok done) same err is e = absurd is
 map_refused s new name place fault (Err refusal) same err is (inl e) =
     rw e (inl (is ∙ bind_fault_is_map s.volume.head.extensions s.fields name place fault e), same)
 map_refused s new name place fault (Err refusal) same err is (inr e) = rw e.0 (inl (is ∙ ap refusal_of e.1, tt), same)
+
+-- ---- a name bound to the place of a field
+
+placed_unless : {T : Type 0} (o : Option Refusal) (s new : State) (name : List ℕ) (f : Field) (place : Place) (r : Result T Refusal) → place_in_trace s.fields f ≡ Some place
+    → StepUnless o s (Map name (field.Place place)) r new → StepUnless o s (Map name f) r new
+placed_unless (Some refusal) s new name f place (Ok done) e step = absurd step
+placed_unless (Some refusal) s new name f place (Err t) e (inl told, same) = (inl told, same)
+placed_unless (Some refusal) s new name f place (Err t) e (inr read, same) = (inr (rw e read.0, read.1), same)
+placed_unless None s new name f place (Ok done) e after = record {
+  volume = after.volume;
+  fields = rw e after.fields;
+  reading = after.reading;
+  limits = after.limits;
+  on_disk = after.on_disk;
+}
+placed_unless None s new name f place (Err t) e (inl wants, same) = (inl wants, same)
+placed_unless None s new name f place (Err t) e (inr read, same) = (inr (rw e read.0, read.1), same)
+
+-- a name bound to the place of a field is bound to that place
+pub map_placed : {T : Type 0} (s new : State) (name : List ℕ) (f : Field) (place : Place) (r : Result T Refusal) → place_in_trace s.fields f ≡ Some place
+    → Step s (Map name (field.Place place)) r new → Step s (Map name f) r new
+map_placed s new name f place r e step =
+    let told : map_refusal s name (Some place) ≡ first_refusal s (Map name f) = ap (map_refusal s name) (sym e) in
+    subst (λ (o : Option Refusal). StepUnless o s (Map name f) r new) told (placed_unless (map_refusal s name (Some place)) s new name f place r e step)

@@ -28,7 +28,7 @@ abbrev pub bytes_after : Volume → Pairs → Edit → List ℕ
 bytes_after v fields (Set p field x) = option_map_or (λ place. put_in_trace v p place x (bytes_of v)) (place_in_trace fields field) (bytes_of v)
 bytes_after v fields (SetBin field x) = option_map_or (λ place. put_in_binary v place x (bytes_of v)) (place_in_binary field) (bytes_of v)
 bytes_after v fields (SetText q text) = splice (bytes_of v) (80 * (q - 1)) 80 (encoded_line (code_of v.text) (chars text))
-bytes_after v fields (Map name place) = bytes_of v
+bytes_after v fields (Map name field) = bytes_of v
 bytes_after v fields (Unmap name) = bytes_of v
 bytes_after v fields (Patch p k values) = bytes_after_patch v p k values
 bytes_after v fields (Blank p) = with_blank v p
@@ -42,7 +42,7 @@ bytes_after v fields (Sort a b names falls) = option_map_or (λ places. bytes_af
 
 -- the field map after the edit
 abbrev pub fields_after : Pairs → Edit → Pairs
-fields_after fields (Map name place) = bound fields name place
+fields_after fields (Map name field) = option_map_or (λ place. bound fields name place) (place_in_trace fields field) fields
 fields_after fields (Unmap name) = unbound fields name
 fields_after fields (Set p field x) = fields
 fields_after fields (SetBin field x) = fields

@@ -4,18 +4,18 @@ use Rattle.std.specs.Str.{chars}
 use Rattle.field_map.specs.declared.map_fault.MapFault.TheVariants as map_faults
 use Rattle.field_map.specs.Binding.{geometry_at_load}
 use Rattle.field_map.specs.KnownNames.{named_place}
-use Rattle.field_map.specs.Pairs.{unsigned_at}
+use Rattle.field_map.specs.Pairs.{bound, signed_at, unsigned_at}
 use Rattle.text_block.specs.declared.text_fault.TextFault.TheVariants as text_faults
 use Rattle.frame_cut.specs.Readings.{as_written}
 use Rattle.frame_cut.specs.SmallFiles.{with_bytes_at, wide_limits, file_plain, volume_plain, volume_extended, volume_counted}
 use Rattle.frame_cut.specs.Volume.{Volume}
-use Rattle.bench_rules.specs.declared.edit.Edit.TheVariants.{Set, SetBin, SetText, Unmap}
+use Rattle.bench_rules.specs.declared.edit.Edit.TheVariants.{Set, SetBin, SetText, Map, Unmap}
 use Rattle.bench_rules.specs.declared.field.Field.TheVariants as field
 use Rattle.bench_rules.specs.declared.query.Query.TheVariants as queries
 use Rattle.bench_rules.specs.declared.answer.Answer.TheVariants as answers
 use Rattle.bench_rules.specs.declared.ask_fault.AskFault.TheVariants as faults
 use Rattle.bench_rules.specs.declared.refusal.Refusal.TheVariants as refusals
-use Rattle.bench_rules.specs.After.{bytes_after}
+use Rattle.bench_rules.specs.After.{bytes_after, fields_after}
 use Rattle.bench_rules.specs.Answer.{answer}
 use Rattle.bench_rules.specs.Refused.{first_refusal}
 use Rattle.bench_rules.specs.State.{State}
@@ -53,6 +53,16 @@ text-no_code = refl
 
 pub unmap-geometry : first_refusal (loaded volume_plain) (Unmap (codes "inline")) ≡ Some (refusals.Map map_faults.Geometry)
 unmap-geometry = refl
+
+-- x at the place of a field of another name, which needs not be bound
+pub map-source : fields_after geometry_at_load (Map (codes "x") (field.Name (codes "source_x"))) ≡ bound geometry_at_load (codes "x") (signed_at 73 4)
+unfolding named_place
+map-source = refl
+
+-- a field without a place comes before a name that is none
+pub map-no_field : first_refusal (loaded volume_plain) (Map (codes "1") (field.Name (codes "nothing"))) ≡ Some refusals.NoField
+unfolding named_place
+map-no_field = refl
 
 pub get-inline : answer (loaded volume_plain) (queries.Get 2 (field.Name (codes "inline"))) ≡ Ok (answers.Value (pos 10))
 get-inline = refl

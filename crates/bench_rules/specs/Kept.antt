@@ -96,7 +96,7 @@ abbrev pub kept_after_edit : State → Edit → List ℕ → List ℕ
 kept_after_edit s (Set p field x) kept = kept_after_set s.volume.head s.fields (trace_at s.volume p) (place_in_trace s.fields field) x kept
 kept_after_edit s (SetBin field x) kept = kept
 kept_after_edit s (SetText q text) kept = kept
-kept_after_edit s (Map name place) kept = if is_geometry name then [] else kept
+kept_after_edit s (Map name field) kept = if is_geometry name then [] else kept
 kept_after_edit s (Unmap name) kept = kept
 kept_after_edit s (Patch p k values) kept = filter (λ j. not (is_from k (length values) j)) kept
 kept_after_edit s (Blank p) kept = []

@@ -47,10 +47,10 @@ pub set-byte : kept_after_edit loaded (Set 2 (field.Place (signed_at 192 1)) (po
 set-byte = refl
 
 -- a geometry name, and another
-pub map-inline : kept_after_edit loaded (Map (codes "inline") (signed_at 9 4)) three ≡ []
+pub map-inline : kept_after_edit loaded (Map (codes "inline") (field.Place (signed_at 9 4))) three ≡ []
 map-inline = refl
 
-pub map-other : kept_after_edit loaded (Map (codes "shot") (signed_at 9 4)) three ≡ three
+pub map-other : kept_after_edit loaded (Map (codes "shot") (field.Place (signed_at 9 4))) three ≡ three
 map-other = refl
 
 -- all three traces get the crossline that they have, and then the second another

@@ -67,6 +67,11 @@ set_bin_refusal (Some place) x =
     if not (fits place.kind x) then Some refusals.DoesNotFit else
     if touches_frame place then Some refusals.Frame else None
 
+-- the refusal of a name that is bound to the place of a field, if it has one
+abbrev pub map_refusal : State → List ℕ → Option Place → Option Refusal
+map_refusal s name None = Some refusals.NoField
+map_refusal s name (Some place) = option_map (λ fault. refusals.Map fault) (bind_fault s.volume.head.extensions s.fields name place)
+
 -- a line of a block, from 1 to 40
 abbrev pub is_line : ℕ → Bool
 is_line q = nat_le 1 q && nat_le q 40
@@ -121,7 +126,7 @@ abbrev pub first_refusal : State → Edit → Option Refusal
 first_refusal s (Set p field x) = option_or (no_trace s.volume p) (set_refusal s.volume.head (trace_at s.volume p) (place_in_trace s.fields field) x)
 first_refusal s (SetBin field x) = set_bin_refusal (place_in_binary field) x
 first_refusal s (SetText q text) = text_refusal s.volume.text q text
-first_refusal s (Map name place) = option_map (λ fault. refusals.Map fault) (bind_fault s.volume.head.extensions s.fields name place)
+first_refusal s (Map name field) = map_refusal s name (place_in_trace s.fields field)
 first_refusal s (Unmap name) = option_map (λ fault. refusals.Map fault) (unbind_fault s.fields name)
 first_refusal s (Patch p k values) = option_or (no_trace s.volume p) (patch_refusal s.volume.head (trace_at s.volume p) k values)
 first_refusal s (Blank p) = insert_refusal s.volume s.limits p (length (blank_trace s.volume.head))

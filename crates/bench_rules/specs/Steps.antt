@@ -16,7 +16,7 @@ abbrev pub TakesMemory : Edit → Type 0
 TakesMemory (Set p field x) = Unit {0}
 TakesMemory (SetBin field x) = ⊥
 TakesMemory (SetText q text) = ⊥
-TakesMemory (Map name place) = Unit {0}
+TakesMemory (Map name field) = Unit {0}
 TakesMemory (Unmap name) = ⊥
 TakesMemory (Patch p k values) = Unit {0}
 TakesMemory (Blank p) = Unit {0}

@@ -3,7 +3,6 @@ use crate::items::Items;
 use crate::operand::Operand;
 use crate::operator::Operator;
 use crate::text::Text;
-use field_map::Place;
 
 /// One edit of a volume. Traces count from 1, samples of a trace from 0, lines of the textual
 /// header from 1.
@@ -18,8 +17,9 @@ pub enum Edit {
     /// `SetText(q, text)`: the text as line q of the textual header, in its code, with blanks up to
     /// 80 characters. Refused, in this order: E03, E07.
     SetText(u32, Text),
-    /// `Map(name, place)`: the name bound to the place, in trace headers. Refused: E08.
-    Map(Text, Place),
+    /// `Map(name, field)`: the name bound to the place of the field, in trace headers. Refused, in
+    /// this order: E02, E08.
+    Map(Text, Field),
     /// `Unmap(name)`: the name no longer bound. Refused: E08.
     Unmap(Text),
     /// `Patch(p, k, values)`: the values over samples k, k + 1 and so on of trace p. No values at a

@@ -203,7 +203,12 @@ fn binds_inline(bench: &mut Bench, alloc: Global) -> bool {
         },
     };
     match String::from_str(alloc, "inline") {
-        Ok(name) => meets(bench, alloc, Edit::Map(Text::new(name), place), None),
+        Ok(name) => meets(
+            bench,
+            alloc,
+            Edit::Map(Text::new(name), Field::Place(place)),
+            None,
+        ),
         Err(_) => false,
     }
 }

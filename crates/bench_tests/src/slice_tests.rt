@@ -1,7 +1,7 @@
 // Slices that are kept, over the small survey of three traces: which are, and what an ask looks at.
 use crate::report_tests::on_survey;
 use crate::tests::{is_answered, meets, patches, signed};
-use bench_core::{Answer, AskFault, Bench, Edit, Query, Refusal, Text};
+use bench_core::{Answer, AskFault, Bench, Edit, Field, Query, Refusal, Text};
 use bench_rules::Row;
 use field_map::Place;
 use num_order::Kind;
@@ -117,7 +117,7 @@ fn bound_offset(alloc: Global) -> Result<Edit, AllocError> {
         },
     };
     let name = Text::new(String::from_str(alloc, "offset")?);
-    Ok(Edit::Map(name, offset))
+    Ok(Edit::Map(name, Field::Place(offset)))
 }
 
 // Whether slice 1 is kept before the edit and not after it, which takes three looks at most.

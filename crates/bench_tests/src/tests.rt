@@ -427,12 +427,29 @@ fn ask_for_nothing(rt: &impl Abort, alloc: Global, bench: &mut Bench) {
     assert!(rt; fails_named(bench, alloc, 0, "nothing", AskFault::NoTrace(0, 3)));
 }
 
+// Whether `mine` bound to the field of this name meets this refusal, or none.
+fn binds_mine(bench: &mut Bench, alloc: Global, field: &str, expected: Option<Refusal>) -> bool {
+    match (text(alloc, "mine"), named(alloc, field)) {
+        (Ok(name), Ok(field)) => meets(bench, alloc, Edit::Map(name, field), expected),
+        _ => false,
+    }
+}
+
+// A name is bound where the other name stands, and a name of no field binds nothing.
+fn bind_to_a_name(rt: &impl Abort, alloc: Global, bench: &mut Bench) {
+    assert!(rt; binds_mine(bench, alloc, "nothing", Some(Refusal::NoField)));
+    assert!(rt; fails_named(bench, alloc, 2, "mine", AskFault::NoField));
+    assert!(rt; binds_mine(bench, alloc, "inline", None));
+    assert!(rt; has_named(bench, alloc, 2, "mine", 7));
+}
+
 fn set_by_name(rt: &impl Abort, alloc: Global, bench: &mut Bench) {
     assert!(rt; sets_named(bench, alloc, 2, "inline", 7, None));
     assert!(rt; has(bench, alloc, 2, signed(0, 189, 4), 7));
     assert!(rt; has_named(bench, alloc, 2, "inline_number", 7));
     refuse_names(rt, alloc, bench);
     ask_for_nothing(rt, alloc, bench);
+    bind_to_a_name(rt, alloc, bench);
 }
 
 #[test]
@@ -566,7 +583,12 @@ fn writes_and_shows_lines(rt: HostRuntime) -> Result<(), Fail> {
 // Whether a name for the place of the inline number meets this refusal, or none.
 fn binds(bench: &mut Bench, alloc: Global, name: &str, expected: Option<Refusal>) -> bool {
     match text(alloc, name) {
-        Ok(name) => meets(bench, alloc, Edit::Map(name, place(0, 189, 4)), expected),
+        Ok(name) => meets(
+            bench,
+            alloc,
+            Edit::Map(name, Field::Place(place(0, 189, 4))),
+            expected,
+        ),
         Err(_) => false,
     }
 }

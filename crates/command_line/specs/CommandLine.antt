@@ -56,6 +56,10 @@ stop_rule = record (new_rule (codes "stop")) { long = Some (codes "stop"); actio
 abbrev pub session_rule : Rule
 session_rule = record (new_rule (codes "session")) { long = Some (codes "session"); action = Some SetTrue }
 
+-- the flag `--save-at-end`
+abbrev pub save_at_end_rule : Rule
+save_at_end_rule = record (new_rule (codes "save-at-end")) { long = Some (codes "save-at-end"); action = Some SetTrue }
+
 -- the flag `--quiet`
 abbrev pub quiet_rule : Rule
 quiet_rule = record (new_rule (codes "quiet")) { long = Some (codes "quiet"); action = Some SetTrue }
@@ -65,9 +69,9 @@ quiet_rule = record (new_rule (codes "quiet")) { long = Some (codes "quiet"); ac
 abbrev pub titled : App
 titled = on_top (λ s. record s { has_version = true; args_override_self = true }) (new_app (codes "segywb"))
 
--- `segywb FILE [--script S] [--session] [--out O] [--in-place] [--on-disk] [--fixed] [--opaque-samples] [--order O] [--max-bytes N] [--stop] [--quiet]`
+-- `segywb FILE [--script S] [--session] [--save-at-end] [--out O] [--in-place] [--on-disk] [--fixed] [--opaque-samples] [--order O] [--max-bytes N] [--stop] [--quiet]`
 unfoldable pub segywb : App
-segywb = with_rule (with_rule (with_rule (with_rule (with_rule (with_rule (with_rule (with_rule (with_rule (with_rule (with_rule (with_rule titled file_rule) script_rule) out_rule) in_place_rule) on_disk_rule) fixed_rule) opaque_rule) order_rule) limit_rule) stop_rule) session_rule) quiet_rule
+segywb = with_rule (with_rule (with_rule (with_rule (with_rule (with_rule (with_rule (with_rule (with_rule (with_rule (with_rule (with_rule (with_rule titled file_rule) script_rule) out_rule) in_place_rule) on_disk_rule) fixed_rule) opaque_rule) order_rule) limit_rule) stop_rule) session_rule) save_at_end_rule) quiet_rule
 
 -- what clap matches for the words
 abbrev pub matched : List (List ℕ) → List Row

@@ -67,6 +67,7 @@ fn command<'a>(alloc: Global) -> Result<Command<'a>, AllocError>
         .arg(args::limit(alloc))?
         .arg(args::stop(alloc))?
         .arg(args::session(alloc))?
+        .arg(args::save_at_end(alloc))?
         .arg(args::quiet(alloc))?;
     Ok(command)
 }
@@ -133,6 +134,8 @@ fn read_matches<'a>(matches: &ArgMatches<'a>, order: Option<Order>) -> Option<Ar
         (λ a. a.stop ≡ is_set (first_value (found_of matches.now) (codes "stop"))) }
     ensures session { IfSome result
         (λ a. a.session ≡ is_set (first_value (found_of matches.now) (codes "session"))) }
+    ensures save_at_end { IfSome result
+        (λ a. a.save_at_end ≡ is_set (first_value (found_of matches.now) (codes "save-at-end"))) }
     ensures quiet { IfSome result
         (λ a. a.quiet ≡ is_set (first_value (found_of matches.now) (codes "quiet"))) }
 {
@@ -146,6 +149,7 @@ fn read_matches<'a>(matches: &ArgMatches<'a>, order: Option<Order>) -> Option<Ar
     let opaque = is_set(matches, "opaque-samples");
     let stop = is_set(matches, "stop");
     let session = is_set(matches, "session");
+    let save_at_end = is_set(matches, "save-at-end");
     let quiet = is_set(matches, "quiet");
     Some(Arguments {
         file,
@@ -159,15 +163,17 @@ fn read_matches<'a>(matches: &ArgMatches<'a>, order: Option<Order>) -> Option<Ar
         order,
         stop,
         session,
+        save_at_end,
         quiet,
     })
 }
 
 /// What the words of a command line say, the program's name first: `FILE --script S [--out O]
 /// [--in-place] [--on-disk] [--fixed] [--opaque-samples] [--order big|little] [--max-bytes N]
-/// [--stop] [--quiet]`, or `FILE --session` with the same options but `--script`; N from 1 to
-/// 1099511627776; an option may stand more than once, and the last one counts. Refused with clap's
-/// text where they are not accepted, `--help` too, or where a growth was refused. Takes memory.
+/// [--stop] [--quiet]`, or `FILE --session [--save-at-end]` with the same options but `--script`; N
+/// from 1 to 1099511627776; an option may stand more than once, and the last one counts. Refused
+/// with clap's text where they are not accepted, `--help` too, or where a growth was refused. Takes
+/// memory.
 pub fn arguments<'a>(alloc: Global, words: &'a [String]) -> Result<Arguments<'a>, Error>
     ensures file { IfOk result (λ a. first_of (codes "FILE") (matched (map string_bytes words.now))
         ≡ Some a.file.now) }
@@ -201,6 +207,9 @@ pub fn arguments<'a>(alloc: Global, words: &'a [String]) -> Result<Arguments<'a>
     ensures session { IfOk result
         (λ a. a.session
         ≡ is_set (first_of (codes "session") (matched (map string_bytes words.now)))) }
+    ensures save_at_end { IfOk result
+        (λ a. a.save_at_end
+        ≡ is_set (first_of (codes "save-at-end") (matched (map string_bytes words.now)))) }
     ensures quiet { IfOk result
         (λ a. a.quiet
         ≡ is_set (first_of (codes "quiet") (matched (map string_bytes words.now)))) }

@@ -17,7 +17,7 @@ header_names-length = refl
 pub unix_names-length : length unix_names ≡ 71
 unix_names-length = refl
 
-pub segyio_names-length : length segyio_names ≡ 91
+pub segyio_names-length : length segyio_names ≡ 110
 segyio_names-length = refl
 
 pub header_names-distinct : are_distinct header_names ≡ true
@@ -38,11 +38,11 @@ abbrev pub are_adjacent : ℕ → Pairs → Bool
 are_adjacent byte [] = true
 are_adjacent byte (e ∷ es) = e.1.byte == byte && are_adjacent (byte + e.1.kind.size) es
 
--- so the first 90 names are those of bytes 1 to 232 of the main header, segyio's of bytes 1 to 240
+-- so the first 90 names are those of bytes 1 to 232 of the main header, segyio's first 91 of bytes 1 to 240
 pub header_names-adjacent : are_adjacent 1 (take 90 header_names) ≡ true
 header_names-adjacent = refl
 
-pub segyio_names-adjacent : are_adjacent 1 segyio_names ≡ true
+pub segyio_names-adjacent : are_adjacent 1 (take 91 segyio_names) ≡ true
 segyio_names-adjacent = refl
 
 -- each name of the trace header could be bound where it stands, in a file with an extension, but for those that are
@@ -100,6 +100,15 @@ named-INLINE_3D = refl
 pub named-Inline_3d : named_place (codes "Inline_3d") ≡ Some (signed_at 189 4)
 unfolding named_place
 named-Inline_3d = refl
+
+-- a word of segyio.su, which has another for Seismic Unix's `stas`
+pub named-iline : named_place (codes "iline") ≡ Some (signed_at 189 4)
+unfolding named_place
+named-iline = refl
+
+pub named-stat : named_place (codes "stat") ≡ named_place (codes "stas")
+unfolding named_place
+named-stat = refl
 
 -- the others only as they are written: this one is no name of segyio
 pub named-FLDR : named_place (codes "FLDR") ≡ None

@@ -79,7 +79,8 @@ unix_names =
     ∷ []
 
 -- the names of segyio, in lower case; it takes the three directions of the source's energy for a mantissa and an
--- exponent, and the name of the header for two numbers
+-- exponent, and the name of the header for two numbers; behind the names of all bytes stand the words of its module
+-- segyio.su that Seismic Unix does not have
 abbrev pub segyio_names : Pairs
 segyio_names =
     (codes "trace_sequence_line", signed_at 1 4)
@@ -173,4 +174,23 @@ segyio_names =
     ∷ (codes "sourcemeasurementunit", signed_at 231 2)
     ∷ (codes "unassignedint1", signed_at 233 4)
     ∷ (codes "unassignedint2", signed_at 237 4)
+    ∷ (codes "cdpx", signed_at 181 4)
+    ∷ (codes "cdpy", signed_at 185 4)
+    ∷ (codes "iline", signed_at 189 4)
+    ∷ (codes "xline", signed_at 193 4)
+    ∷ (codes "sp", signed_at 197 4)
+    ∷ (codes "scalsp", signed_at 201 2)
+    ∷ (codes "trunit", signed_at 203 2)
+    ∷ (codes "tdcm", signed_at 205 4)
+    ∷ (codes "tdcp", signed_at 209 2)
+    ∷ (codes "tdunit", signed_at 211 2)
+    ∷ (codes "triden", signed_at 213 2)
+    ∷ (codes "sctrh", signed_at 215 2)
+    ∷ (codes "stype", signed_at 217 2)
+    ∷ (codes "sedm", signed_at 219 4)
+    ∷ (codes "sede", signed_at 223 2)
+    ∷ (codes "smm", signed_at 225 4)
+    ∷ (codes "sme", signed_at 229 2)
+    ∷ (codes "smunit", signed_at 231 2)
+    ∷ (codes "stat", signed_at 135 2)
     ∷ []

@@ -223,8 +223,9 @@ pub(crate) static UNIX_NAMES: [(&str, Place); 71] = [
     ("otrav", signed!(179, 2)),
 ];
 
-// The names of segyio, as it writes them.
-pub(crate) static SEGYIO_NAMES: [(&str, Place); 91] = [
+// The names of segyio, as it writes them; behind them the words of its module `segyio.su` that
+// Seismic Unix does not have.
+pub(crate) static SEGYIO_NAMES: [(&str, Place); 110] = [
     ("TRACE_SEQUENCE_LINE", signed!(1, 4)),
     ("TRACE_SEQUENCE_FILE", signed!(5, 4)),
     ("FieldRecord", signed!(9, 4)),
@@ -316,4 +317,23 @@ pub(crate) static SEGYIO_NAMES: [(&str, Place); 91] = [
     ("SourceMeasurementUnit", signed!(231, 2)),
     ("UnassignedInt1", signed!(233, 4)), // first half of the name of the header
     ("UnassignedInt2", signed!(237, 4)), // second half of the name of the header
+    ("cdpx", signed!(181, 4)),
+    ("cdpy", signed!(185, 4)),
+    ("iline", signed!(189, 4)),
+    ("xline", signed!(193, 4)),
+    ("sp", signed!(197, 4)),
+    ("scalsp", signed!(201, 2)),
+    ("trunit", signed!(203, 2)),
+    ("tdcm", signed!(205, 4)),
+    ("tdcp", signed!(209, 2)),
+    ("tdunit", signed!(211, 2)),
+    ("triden", signed!(213, 2)),
+    ("sctrh", signed!(215, 2)),
+    ("stype", signed!(217, 2)),
+    ("sedm", signed!(219, 4)),
+    ("sede", signed!(223, 2)),
+    ("smm", signed!(225, 4)),
+    ("sme", signed!(229, 2)),
+    ("smunit", signed!(231, 2)),
+    ("stat", signed!(135, 2)),
 ];

@@ -25,6 +25,7 @@ use Rattle.bench_rules.specs.declared.row.Row.{Row}
 use Rattle.bench_rules.specs.KeptSlices.{KeptSlices, after_slice}
 use Rattle.bench_rules.specs.declared.edit.Edit.{Edit}
 use Rattle.bench_rules.specs.declared.edit.Edit.TheVariants.{Map}
+use Rattle.bench_rules.specs.declared.field.Field.TheVariants as field
 use Rattle.bench_rules.specs.declared.refusal.Refusal.{Refusal}
 use Rattle.bench_rules.specs.declared.refusal.Refusal.TheVariants.{OutOfMemory}
 use Rattle.bench_rules.specs.Looks.{edit_looks}
@@ -250,10 +251,10 @@ under p (inr f) = inr (f p)
 
 -- what kept the records of a geometry name bound anew from being made is an answer to a name that nothing else refuses
 pub map_passed : (s u : State) (name : List ℕ) (place : Place) (fault : RecordsFault) (refusal : Refusal) → refusal ≡ refusal_of_records fault → is_geometry name ≡ true → bind_fault s.volume.head.extensions s.fields name place ≡ None
-    → (IsOfRead fault → IsTrue s.on_disk × (0 < count_of s.volume)) → u ≡ s → (let r : Result (Unit {0}) Refusal = Err refusal in Step s (Map name place) r u)
+    → (IsOfRead fault → IsTrue s.on_disk × (0 < count_of s.volume)) → u ≡ s → (let r : Result (Unit {0}) Refusal = Err refusal in Step s (Map name (field.Place place)) r u)
 map_passed s u name place records.OutOfMemory refusal is geometry none read same = rw none (inl (is, record {}), same)
 map_passed s u name place (records.Read fault) refusal is geometry none read same =
-    let looks : 0 < edit_looks s (Map name place) = rw geometry (read tt).1 in
+    let looks : 0 < edit_looks s (Map name (field.Place place)) = rw geometry (read tt).1 in
     rw none (inr (looks, subst (λ (e : Refusal). IsReadRefusal s.on_disk e) (sym is) (read_is_told s.on_disk fault (read tt).0)), same)
 
 -- the state after a change of the volume alone was read in the same way

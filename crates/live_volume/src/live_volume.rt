@@ -141,7 +141,7 @@ impl LiveVolume {
             Edit::Set(p, field, value) => self.set_field(alloc, *p, field, *value),
             Edit::SetBin(field, value) => self.set_bin(field, *value),
             Edit::SetText(q, text) => self.set_text(*q, text),
-            Edit::Map(name, place) => self.bind(alloc, name, *place),
+            Edit::Map(name, field) => self.bind(alloc, name, field),
             Edit::Unmap(name) => self.unbind(name),
             Edit::Patch(p, k, values) => self.patch(alloc, *p, *k, values.as_slice()),
             Edit::Blank(p) => self.blank(alloc, *p),
@@ -339,16 +339,33 @@ impl LiveVolume {
         Ok(())
     }
 
-    // The name bound to the place, or the first refusal.
-    fn bind(&mut self, alloc: Global, name: &Text, place: Place) -> Result<(), Refusal>
+    // The name bound to the place of the field, or the first refusal: E02, E08.
+    fn bind(&mut self, alloc: Global, name: &Text, field: &Field) -> Result<(), Refusal>
         ensures step { IsTrue self.new.agreed →
-            Step self.old.state (edits.Map name.now place) result self.new.state }
+            Step self.old.state (edits.Map name.now field.now) result self.new.state }
         ensures err { OnErr result (self.new.state ≡ self.old.state) }
         ensures same { IsReadAs self.old.state self.new.state }
         ensures agreed { IsTrue self.new.agreed → IsTrue self.old.agreed }
         ensures loaded { self.new.loaded ≡ self.old.loaded }
         ensures looks { RisesAtMost self.old.looks self.new.looks
-            (edit_looks self.old.state (edits.Map name.now place)) }
+            (edit_looks self.old.state (edits.Map name.now field.now)) }
+    {
+        match self.place_in_trace(field) {
+            Some(place) => self.bind_to(alloc, name, place),
+            None => Err(Refusal::NoField),
+        }
+    }
+
+    // The name bound to the place, or the first refusal.
+    fn bind_to(&mut self, alloc: Global, name: &Text, place: Place) -> Result<(), Refusal>
+        ensures step { IsTrue self.new.agreed →
+            Step self.old.state (edits.Map name.now (fields.Place place)) result self.new.state }
+        ensures err { OnErr result (self.new.state ≡ self.old.state) }
+        ensures same { IsReadAs self.old.state self.new.state }
+        ensures agreed { IsTrue self.new.agreed → IsTrue self.old.agreed }
+        ensures loaded { self.new.loaded ≡ self.old.loaded }
+        ensures looks { RisesAtMost self.old.looks self.new.looks
+            (edit_looks self.old.state (edits.Map name.now (fields.Place place))) }
     {
         if is_geometry(name.as_str()) {
             self.bind_geometry(alloc, name, place)
@@ -364,7 +381,7 @@ impl LiveVolume {
     fn bind_geometry(&mut self, alloc: Global, name: &Text, place: Place) -> Result<(), Refusal>
         requires { is_geometry_name name.now ≡ true }
         ensures step { IsTrue self.new.agreed →
-            Step self.old.state (edits.Map name.now place) result self.new.state }
+            Step self.old.state (edits.Map name.now (fields.Place place)) result self.new.state }
         ensures err { OnErr result (self.new.state ≡ self.old.state) }
         ensures same { IsReadAs self.old.state self.new.state }
         ensures agreed { IsTrue self.new.agreed → IsTrue self.old.agreed }
@@ -397,7 +414,7 @@ impl LiveVolume {
     fn bind_name(&mut self, alloc: Global, name: &Text, place: Place) -> Result<(), Refusal>
         requires { is_geometry_name name.now ≡ false }
         ensures step { IsTrue self.new.agreed →
-            Step self.old.state (edits.Map name.now place) result self.new.state }
+            Step self.old.state (edits.Map name.now (fields.Place place)) result self.new.state }
         ensures err { OnErr result (self.new.state ≡ self.old.state) }
         ensures same { IsReadAs self.old.state self.new.state }
         ensures agreed { IsTrue self.new.agreed → IsTrue self.old.agreed }

@@ -1,7 +1,7 @@
 -- How a run ends for the one who called the program.
 use Rattle.std.specs.Prelude.{◌≡◌, ℕ, Bool, true, false, nat_lt, is_some, if◌then◌else◌}
 use Rattle.script_text.specs.declared.run_end.RunEnd.{RunEnd}
-use Rattle.script_text.specs.declared.run_end.RunEnd.TheVariants.{Done, Stopped, Load, Script, Answers, Save}
+use Rattle.script_text.specs.declared.run_end.RunEnd.TheVariants.{Done, Stopped, Load, Script, Answers, Save, SaveAtEnd}
 use Rattle.run_ending.specs.declared.ending.SaveEnd.{SaveEnd}
 use Rattle.run_ending.specs.declared.ending.SaveEnd.TheVariants as s
 use Rattle.run_ending.specs.declared.ending.Message.{Message}
@@ -18,12 +18,14 @@ exit_status (Done refused) s.Saved = status_of_lines refused
 exit_status (Done refused) s.Failed = 4
 exit_status (Done refused) s.Unsettled = 4
 exit_status (Done refused) s.Stale = 4
+exit_status (Done refused) s.Unseen = 4
 exit_status (Done refused) s.Doubtful = 4
 exit_status (Stopped line) ended = 1
 exit_status (Load fault) ended = 3
 exit_status (Script fault) ended = 4
 exit_status (Answers written) ended = 4
 exit_status (Save fault) ended = 4
+exit_status (SaveAtEnd refused) ended = 4
 
 -- what standard error says of a save
 abbrev pub told_of_save : SaveEnd → Message
@@ -32,6 +34,7 @@ told_of_save s.Saved = t.Nothing
 told_of_save s.Failed = t.SaveFailed
 told_of_save s.Unsettled = t.SaveUnsettled
 told_of_save s.Stale = t.FileChanged
+told_of_save s.Unseen = t.FileUnseen
 told_of_save s.Doubtful = t.SaveDoubtful
 
 -- what standard error says of a save that a failed read of FILE ended, or a failed write
@@ -47,6 +50,7 @@ told (Load fault) ended = t.Nothing
 told (Script fault) ended = t.Nothing
 told (Answers written) ended = t.AnswersFailed
 told (Save fault) ended = told_of_failed (is_some fault.read) ended
+told (SaveAtEnd refused) ended = t.Nothing
 
 -- whether a read of FILE ended the save
 abbrev pub is_unread : RunEnd → Bool
@@ -56,6 +60,7 @@ is_unread (Load fault) = false
 is_unread (Script fault) = false
 is_unread (Answers written) = false
 is_unread (Save fault) = is_some fault.read
+is_unread (SaveAtEnd refused) = false
 
 -- what standard error says of a change of FILE behind a save that could not read it, and behind any other end: where no save was begun,
 -- the answers may be wrong; one that found FILE changed has said so, and of all others no more is told
@@ -66,6 +71,7 @@ of_change false s.Saved = t.Nothing
 of_change false s.Failed = t.Nothing
 of_change false s.Unsettled = t.Nothing
 of_change false s.Stale = t.Nothing
+of_change false s.Unseen = t.Nothing
 of_change false s.Doubtful = t.Nothing
 
 -- what standard error says behind what it says of the run and the save, where FILE was changed by another program

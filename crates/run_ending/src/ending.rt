@@ -16,6 +16,8 @@ pub enum SaveEnd {
     Unsettled,
     /// FILE was changed by another program, and OUT is as it was.
     Stale,
+    /// FILE could not be looked at before the save, and OUT is as it was.
+    Unseen,
     /// FILE, whose bytes stay on disk, was changed by another program while they were copied to OUT
     /// itself.
     Doubtful,
@@ -31,6 +33,8 @@ pub enum Message {
     FileUnread,
     SaveUnsettled,
     FileChanged,
+    /// FILE could not be looked at before the save.
+    FileUnseen,
     SaveDoubtful,
     /// FILE was changed while it could be read for answers.
     AnswersDoubtful,
@@ -45,13 +49,17 @@ pub fn exit_status(end: RunEnd, save: SaveEnd) -> u8
     match end {
         RunEnd::Done { refused } => match save {
             SaveEnd::NotBegun | SaveEnd::Saved => u8::from(refused > 0),
-            SaveEnd::Failed | SaveEnd::Unsettled | SaveEnd::Stale | SaveEnd::Doubtful => 4,
+            SaveEnd::Failed
+            | SaveEnd::Unsettled
+            | SaveEnd::Stale
+            | SaveEnd::Unseen
+            | SaveEnd::Doubtful => 4,
         },
         RunEnd::Stopped { .. } => 1,
         RunEnd::Load(_) => 3,
         RunEnd::Script(_) => 4,
         RunEnd::Answers { .. } => 4,
-        RunEnd::Save(_) => 4,
+        RunEnd::Save(_) | RunEnd::SaveAtEnd { .. } => 4,
     }
 }
 
@@ -62,7 +70,9 @@ pub fn told(end: RunEnd, save: SaveEnd) -> Message
     match end {
         RunEnd::Done { .. } => told_of_save(save),
         RunEnd::Save(fault) => told_of_failed(fault.read.is_some(), save),
-        RunEnd::Stopped { .. } | RunEnd::Load(_) | RunEnd::Script(_) => Message::Nothing,
+        // A session tells of each save where it fails.
+        RunEnd::Stopped { .. } | RunEnd::Load(_) | RunEnd::Script(_) | RunEnd::SaveAtEnd { .. } =>
+            Message::Nothing,
         RunEnd::Answers { .. } => Message::AnswersFailed,
     }
 }
@@ -81,6 +91,7 @@ pub fn told_of_change(end: RunEnd, save: SaveEnd) -> Message
         | SaveEnd::Failed
         | SaveEnd::Unsettled
         | SaveEnd::Stale
+        | SaveEnd::Unseen
         | SaveEnd::Doubtful => Message::Nothing,
     }
 }
@@ -95,7 +106,8 @@ fn is_unread(end: RunEnd) -> bool
         | RunEnd::Stopped { .. }
         | RunEnd::Load(_)
         | RunEnd::Script(_)
-        | RunEnd::Answers { .. } => false,
+        | RunEnd::Answers { .. }
+        | RunEnd::SaveAtEnd { .. } => false,
     }
 }
 
@@ -110,7 +122,7 @@ fn told_of_failed(is_unread: bool, save: SaveEnd) -> Message
     }
 }
 
-fn told_of_save(save: SaveEnd) -> Message
+pub(crate) fn told_of_save(save: SaveEnd) -> Message
     ensures { result ≡ told_of_save save }
 {
     match save {
@@ -118,6 +130,7 @@ fn told_of_save(save: SaveEnd) -> Message
         SaveEnd::Failed => Message::SaveFailed,
         SaveEnd::Unsettled => Message::SaveUnsettled,
         SaveEnd::Stale => Message::FileChanged,
+        SaveEnd::Unseen => Message::FileUnseen,
         SaveEnd::Doubtful => Message::SaveDoubtful,
     }
 }

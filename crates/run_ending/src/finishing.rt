@@ -6,15 +6,18 @@ use crate::refused::tell_refused;
 use crate::target::Target;
 use crate::where_to::OutRefusal;
 use command_line::Arguments;
-use safe_save::{Fault, Original, Save, SaveError, Step, end_save, give_up};
+use safe_save::{Fault, Original, Save, SaveError, Step, end_save, give_up, messages_limit};
 use script_hints::Notes;
 use script_text::RunEnd;
+use std::fs::File;
 use std::io::BufWriter;
-use std::os::fd::AsFd;
 use std::rt::Files;
 
+// No message has more bytes beside the paths of FILE and OUT.
+const MESSAGE_ROOM: u64 = 600;
+
 /// Ends the save of a run, tells what there is to tell, and gives the exit status.
-pub fn finish<'a, R: Files + AllocGlobal + Eprint>(
+pub fn finish<'a, R: Files<File = File> + AllocGlobal + Eprint>(
     rt: &'a R,
     arguments: &Arguments<'a>,
     original: Option<Original<'a>>,
@@ -23,31 +26,83 @@ pub fn finish<'a, R: Files + AllocGlobal + Eprint>(
     mode: Option<u32>,
     notes: &Notes,
 ) -> u8
-where
-    R::File: AsFd,
     ensures { IsExitStatus end result }
 {
-    let (save, error, is_beside) = end_of_save(end, writer, mode, arguments.out.is_some());
-    // Beside OUT it was seen before the rename; over OUT itself the copy has been made by now.
-    let is_copied = arguments.on_disk && !is_beside && save == SaveEnd::Saved;
-    let save = if is_copied && original.is_some_and(|original| original.is_changed(rt)) {
-        SaveEnd::Doubtful
-    } else {
-        save
-    };
+    let (save, error, is_beside) = end_of_save(rt, arguments, end, writer, mode);
+    let save = doubted(rt, arguments, original, save, is_beside);
     if !arguments.quiet {
         tell_refused(rt, arguments, end, save, notes);
     }
     tell(rt, arguments, told(end, save), error, is_beside);
-    let behind = told_of_change(end, save);
-    if behind != Message::Nothing && original.is_some_and(|original| original.is_changed(rt)) {
-        tell(rt, arguments, behind, None, is_beside);
-    }
+    tell_change(rt, arguments, original, told_of_change(end, save));
     exit_status(end, save)
 }
 
+/// Tells of the end of a run behind which nothing is to be saved what there is to tell, and gives
+/// the exit status: of a session, each save of which was told of where it failed, or of a file that
+/// was not loaded. `original` is FILE as it was opened, or as the last save over it left it.
+pub fn finish_told<'a, R: Files<File = File> + AllocGlobal + Eprint>(
+    rt: &R,
+    arguments: &Arguments<'a>,
+    original: Option<Original<'a>>,
+    end: RunEnd,
+) -> u8
+    ensures { IsExitStatus end result }
+{
+    let not_begun = SaveEnd::NotBegun;
+    if !arguments.quiet {
+        tell_refused(rt, arguments, end, not_begun, &Notes::new());
+    }
+    tell(rt, arguments, told(end, not_begun), None, true);
+    tell_change(rt, arguments, original, told_of_change(end, not_begun));
+    exit_status(end, not_begun)
+}
+
+/// The end of a save during which FILE may have changed. Beside OUT that was seen before the
+/// rename; over OUT itself the copy has been made by now.
+pub(crate) fn doubted<'a, R: Files>(
+    rt: &R,
+    arguments: &Arguments<'a>,
+    original: Option<Original<'a>>,
+    save: SaveEnd,
+    is_beside: bool,
+) -> SaveEnd {
+    let is_copied = arguments.on_disk && !is_beside && save == SaveEnd::Saved;
+    if is_copied && original.is_some_and(|original| original.is_changed(rt)) {
+        SaveEnd::Doubtful
+    } else {
+        save
+    }
+}
+
+/// Tells, where FILE was changed by another program, what this means.
+pub(crate) fn tell_change<'a, R: Files + AllocGlobal + Eprint>(
+    rt: &R,
+    arguments: &Arguments<'a>,
+    original: Option<Original<'a>>,
+    message: Message,
+) {
+    if message != Message::Nothing && original.is_some_and(|original| original.is_changed(rt)) {
+        tell(rt, arguments, message, None, true);
+    }
+}
+
+/// Whether standard error takes so many bytes of what is to be told. Where it is a file at the
+/// system's limit on file sizes, a write would end the program without its status.
+pub(crate) fn is_heard<R: Files + AllocGlobal>(rt: &R, room: u64) -> bool {
+    messages_limit(rt) >= room
+}
+
+// How many bytes a message may have.
+fn room_of(arguments: &Arguments) -> u64 {
+    let out = arguments.out.unwrap_or("");
+    MESSAGE_ROOM
+        .saturating_add(arguments.file.len() as u64)
+        .saturating_add(out.len() as u64)
+}
+
 // Writes on standard error what there is to tell; of a save that failed also why.
-fn tell<R: Eprint>(
+pub(crate) fn tell<R: Files + AllocGlobal + Eprint>(
     rt: &R,
     arguments: &Arguments,
     message: Message,
@@ -55,6 +110,9 @@ fn tell<R: Eprint>(
     is_beside: bool,
 ) {
     let out = arguments.out.unwrap_or("");
+    if !is_heard(rt, room_of(arguments)) {
+        return;
+    }
     match (message, error) {
         (Message::AnswersFailed, _) => {
             let _ = eprintln!(rt; "segywb: answers failed");
@@ -70,6 +128,9 @@ fn tell<R: Eprint>(
             let _ = eprintln!(rt;
                 "segywb: {out}: its folder did not reach the disk ({error}); run sync"
             );
+        }
+        (Message::FileUnseen, Some(SaveError::NotSaved(fault))) => {
+            file_unseen(rt, arguments.file, out, &fault);
         }
         (Message::SaveDoubtful, _) => {
             let then = "what was saved may be of two files; look at it, and run the script again";
@@ -91,17 +152,15 @@ fn tell<R: Eprint>(
 }
 
 // Ends the save, or gives it up; also whether it went beside OUT.
-fn end_of_save<'a, R: Files + AllocGlobal>(
+fn end_of_save<'a, R: Files<File = File> + AllocGlobal + Eprint>(
+    rt: &R,
+    arguments: &Arguments,
     end: RunEnd,
     writer: BufWriter<Save<Target<'a, R>>>,
     mode: Option<u32>,
-    is_asked: bool,
-) -> (SaveEnd, Option<SaveError>, bool)
-where
-    R::File: AsFd,
-{
+) -> (SaveEnd, Option<SaveError>, bool) {
     let (target, result) = match end {
-        RunEnd::Done { .. } if is_asked => end_save(writer, mode),
+        RunEnd::Done { .. } if arguments.out.is_some() => end_save(writer, mode),
         RunEnd::Save(_) => {
             let (save, _waiting) = writer.into_parts();
             give_up(save)
@@ -112,10 +171,55 @@ where
             return (SaveEnd::NotBegun, None, false);
         }
     };
+    tell_cleared(rt, arguments, target.cleared());
+    how_it_ended(&target, result)
+}
+
+/// Ends a save of a session, or gives it up where not all was written; also the target, which knows
+/// FILE as a later save is to find it.
+pub(crate) fn end_of_one_save<'a, R: Files<File = File> + AllocGlobal>(
+    writer: BufWriter<Save<Target<'a, R>>>,
+    mode: Option<u32>,
+    is_whole: bool,
+) -> (Target<'a, R>, (SaveEnd, Option<SaveError>, bool)) {
+    let (target, result) = if is_whole {
+        end_save(writer, mode)
+    } else {
+        let (save, _waiting) = writer.into_parts();
+        give_up(save)
+    };
+    let ended = how_it_ended(&target, result);
+    (target, ended)
+}
+
+/// Tells of the files of earlier saves to OUT that were taken away.
+pub(crate) fn tell_cleared<R: Files + AllocGlobal + Eprint>(
+    rt: &R,
+    arguments: &Arguments,
+    cleared: u32,
+) {
+    let out = arguments.out.unwrap_or("");
+    if !is_heard(rt, room_of(arguments)) {
+        return;
+    }
+    if cleared == 1 {
+        let _ = eprintln!(rt; "segywb: {out}: a file that a save had left beside it is taken away");
+    } else if cleared > 1 {
+        let _ = eprintln!(rt;
+            "segywb: {out}: {cleared} files that saves had left beside it are taken away"
+        );
+    }
+}
+
+fn how_it_ended<'a, R: Files<File = File> + AllocGlobal>(
+    target: &Target<'a, R>,
+    ended: std::result::Result<(), SaveError>,
+) -> (SaveEnd, Option<SaveError>, bool) {
     let is_beside = target.is_beside();
-    match result {
+    match ended {
         Ok(()) => (SaveEnd::Saved, None, is_beside),
-        Err(_) if target.is_stale() => (SaveEnd::Stale, None, is_beside),
+        Err(error) if target.is_stale() => (SaveEnd::Stale, Some(error), is_beside),
+        Err(error) if target.is_unseen() => (SaveEnd::Unseen, Some(error), is_beside),
         Err(SaveError::NotSaved(fault)) => {
             (SaveEnd::Failed, Some(SaveError::NotSaved(fault)), is_beside)
         }
@@ -152,10 +256,11 @@ fn save_failed<R: Eprint>(rt: &R, out: &str, fault: &Fault, is_beside: bool) {
     } else {
         step_in_place(fault.step)
     };
-    let then = if is_beside {
-        "it is as it was; save elsewhere, or over it with --in-place"
-    } else {
-        "it took a part of the file; save elsewhere"
+    let then = match (is_beside, fault.step) {
+        (true, _) => "it is as it was; save elsewhere, or over it with --in-place",
+        (false, Step::Create) => "it is as it was; save elsewhere",
+        (false, _) if taken == 0 => "it took nothing, and is empty if it is a file; save elsewhere",
+        (false, _) => "it took a part of the file; save elsewhere",
     };
     let left = left_beside(fault);
     let _ = eprintln!(rt; "segywb: save failed after {taken} bytes");
@@ -174,6 +279,17 @@ fn file_unread<R: Eprint>(rt: &R, file: &str, out: &str, fault: &Fault, is_besid
     let left = left_beside(fault);
     let _ = eprintln!(rt; "segywb: save failed after {taken} bytes");
     let _ = eprintln!(rt; "segywb: {file}: cannot be read again: {out} {then}{left}");
+}
+
+// Tells of a save before which FILE could not be looked at.
+fn file_unseen<R: Eprint>(rt: &R, file: &str, out: &str, fault: &Fault) {
+    let (taken, error) = (fault.taken, &fault.error);
+    let left = left_beside(fault);
+    let _ = eprintln!(rt; "segywb: save failed after {taken} bytes");
+    let _ = eprintln!(rt;
+        "segywb: {file}: cannot be looked at, so that it may have been changed ({error}): {out} is \
+         as it was{left}"
+    );
 }
 
 // That the new file may still be there.

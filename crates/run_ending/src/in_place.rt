@@ -3,8 +3,8 @@ ghost use Rattle.std.specs.Prelude.{◌≡◌, None, Option};
 ghost use Rattle.std.specs.Io.{WritesAtMost};
 ghost use Rattle.run_ending.specs.Passing.{PassesOn};
 
-use safe_save::{BoundedFile, Original, size_limit};
-use std::fs::{OpenFile, OpenOptions};
+use safe_save::{BoundedFile, Original, Sight, size_limit};
+use std::fs::{Metadata, OpenFile, OpenOptions};
 use std::io::{Error, ErrorKind, Result, Write};
 use std::marker::Model;
 use std::os::unix::fs::OpenOptionsExt;
@@ -25,6 +25,9 @@ pub struct InPlace<'a, R: Files> {
     // A pipe and a device have no limit, and nothing to sync.
     is_file: bool,
     is_stale: bool,
+    is_unseen: bool,
+    // The file behind the sync, as it was when it was still open.
+    saved: Option<Metadata>,
 }
 
 impl<'a, R: Files> Model for InPlace<'a, R> {
@@ -50,6 +53,8 @@ impl<'a, R: Files + AllocGlobal> InPlace<'a, R> {
             original,
             is_file,
             is_stale: false,
+            is_unseen: false,
+            saved: None,
         }
     }
 
@@ -58,16 +63,41 @@ impl<'a, R: Files + AllocGlobal> InPlace<'a, R> {
         self.is_stale
     }
 
+    /// Whether the save was refused because the original could not be looked at.
+    pub fn is_unseen(&self) -> bool {
+        self.is_unseen
+    }
+
+    /// The original as a later save is to find it: where this one went over it, what it was then.
+    pub fn original(&self) -> Option<Original<'a>> {
+        let original = self.original?;
+        match &self.saved {
+            Some(saved) if original.is_file(saved) => Some(original.again(saved)),
+            _ => Some(original),
+        }
+    }
+
+    // Refuses the save where the original is not as it was; else the mode of a new file.
+    fn look_at_original(&mut self) -> Result<u32> {
+        let Some(original) = &self.original else {
+            return Ok(NEW_MODE);
+        };
+        match original.look(self.rt) {
+            Sight::Same => Ok(original.mode()),
+            Sight::Changed => {
+                self.is_stale = true;
+                Err(Error::new(ErrorKind::Other, "the original was changed"))
+            }
+            Sight::Unseen(error) => {
+                self.is_unseen = true;
+                Err(error)
+            }
+        }
+    }
+
     /// Opens the file, and empties it.
     pub fn create(&mut self) -> Result<()> {
-        let mut mode = NEW_MODE;
-        if let Some(original) = &self.original {
-            if original.is_changed(self.rt) {
-                self.is_stale = true;
-                return Err(Error::new(ErrorKind::Other, "the original was changed"));
-            }
-            mode = original.mode();
-        }
+        let mode = self.look_at_original()?;
         let mut how = OpenOptions::new();
         how.write(true).create(true).truncate(true).mode(mode);
         let file = how.open(self.rt, self.path)?;
@@ -93,7 +123,12 @@ impl<'a, R: Files + AllocGlobal> InPlace<'a, R> {
     /// bytes, the sync has told.
     pub fn sync(&mut self) -> Result<()> {
         match self.file.take() {
-            Some(file) if self.is_file => file.into_inner().sync_all(),
+            Some(file) if self.is_file => {
+                let file = file.into_inner();
+                file.sync_all()?;
+                self.saved = file.metadata().ok();
+                Ok(())
+            }
             _ => Ok(()),
         }
     }

@@ -1,22 +1,42 @@
 // What standard error says of refused lines and of a refused file.
+ghost use Rattle.std.specs.Prelude.{◌≡◌};
+
 use crate::ending::SaveEnd;
+use crate::finishing::is_heard;
+use crate::torn_file::torn_file;
 use command_line::Arguments;
-use script_hints::{LoadNote, NoteLine, Notes};
+use frame_cut::{Limits, LoadFault, Reading};
+use script_hints::{LoadNote, NoteLine, Notes, TornFile};
 use script_text::RunEnd;
+use std::fs::File;
+use std::rt::Files;
+
+// A note has no more bytes beside the path of the script, and there are at most so many lines.
+const NOTE_ROOM: u64 = 400;
+
+const LINES: u64 = 24;
+
+// The most bytes that any file may have.
+const GREATEST: u64 = 1099511627776;
 
 /// Tells of the refused lines of a script, or of the refused file, and that the file was saved
 /// without the refused lines.
-pub(crate) fn tell_refused<R: Eprint>(
+pub(crate) fn tell_refused<R: Files<File = File> + AllocGlobal + Eprint>(
     rt: &R,
     arguments: &Arguments,
     end: RunEnd,
     save: SaveEnd,
     notes: &Notes,
 ) {
+    if !is_heard(rt, notes_room(arguments)) {
+        return;
+    }
     if let RunEnd::Load(fault) = end {
         let line = LoadNote {
             file: arguments.file,
             fault,
+            on_disk: arguments.on_disk,
+            torn: torn(rt, arguments, fault),
         };
         let _ = eprintln!(rt; "{line}");
     }
@@ -36,6 +56,44 @@ pub(crate) fn tell_refused<R: Eprint>(
         let _ = eprintln!(rt;
             "segywb: saved without {refused} refused {lines}; with --stop nothing is saved then"
         );
+    }
+}
+
+// How many bytes the notes of a refused file and of 20 refused lines may have together.
+fn notes_room(arguments: &Arguments) -> u64 {
+    let script = arguments.script.unwrap_or("").len() as u64;
+    let line = script.saturating_add(NOTE_ROOM);
+    line.saturating_mul(LINES)
+        .saturating_add(arguments.file.len() as u64)
+}
+
+// What is seen of a file that ends inside a trace.
+fn torn<R: Files<File = File> + AllocGlobal>(
+    rt: &R,
+    arguments: &Arguments,
+    fault: LoadFault,
+) -> Option<TornFile> {
+    match fault {
+        LoadFault::Truncated(trace) => {
+            let limits = Limits::new(GREATEST, u32::MAX)?;
+            torn_file(rt, arguments.file, reading_of(arguments), limits, trace)
+        }
+        _ => None,
+    }
+}
+
+/// How the command line asks for the file to be read.
+pub fn reading_of(arguments: &Arguments) -> Reading
+    ensures { result ≡ record {
+      fixed = arguments.now.fixed;
+      opaque = arguments.now.opaque;
+      order = arguments.now.order;
+    } }
+{
+    Reading {
+        fixed: arguments.fixed,
+        opaque: arguments.opaque,
+        order: arguments.order,
     }
 }
 

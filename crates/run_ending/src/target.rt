@@ -2,9 +2,9 @@
 ghost use Rattle.std.specs.Prelude.{None};
 
 use crate::in_place::InPlace;
-use safe_save::{FileFolder, Folder};
+use safe_save::{FileFolder, Folder, Original};
+use std::fs::File;
 use std::io::Result;
-use std::os::fd::AsFd;
 use std::rt::Files;
 
 /// The two ways of a save, so that a run has one writer.
@@ -14,10 +14,7 @@ pub enum Target<'a, R: Files> {
     InPlace(InPlace<'a, R>),
 }
 
-impl<'a, R: Files + AllocGlobal> Target<'a, R>
-where
-    R::File: AsFd,
-{
+impl<'a, R: Files<File = File> + AllocGlobal> Target<'a, R> {
     /// The permissions that the saved file is to get, where it is a new one.
     pub fn mode(&self) -> Option<u32> {
         match self {
@@ -38,12 +35,33 @@ where
             Target::InPlace(place) => place.is_stale(),
         }
     }
+
+    /// Whether the save was refused because FILE could not be looked at.
+    pub fn is_unseen(&self) -> bool {
+        match self {
+            Target::Beside(folder) => folder.is_unseen(),
+            Target::InPlace(place) => place.is_unseen(),
+        }
+    }
+
+    /// How many files were taken away that earlier saves to OUT had left.
+    pub fn cleared(&self) -> u32 {
+        match self {
+            Target::Beside(folder) => folder.cleared(),
+            Target::InPlace(_) => 0,
+        }
+    }
+
+    /// FILE as a later save is to find it.
+    pub fn original(&self) -> Option<Original<'a>> {
+        match self {
+            Target::Beside(folder) => folder.original(),
+            Target::InPlace(place) => place.original(),
+        }
+    }
 }
 
-impl<R: Files + AllocGlobal> Folder for Target<'_, R>
-where
-    R::File: AsFd,
-{
+impl<R: Files<File = File> + AllocGlobal> Folder for Target<'_, R> {
     ghost disk = { λ _. None };
 
     fn create(&mut self) -> Result<()> {

@@ -4,9 +4,8 @@ use crate::target::Target;
 use command_line::Arguments;
 use safe_save::{FileFolder, Original, resolve};
 use std::fs;
-use std::fs::{Metadata, OpenOptions};
+use std::fs::{File, Metadata, OpenOptions};
 use std::io::Error;
-use std::os::fd::AsFd;
 use std::os::unix::fs::MetadataExt;
 use std::rt::Files;
 
@@ -24,6 +23,12 @@ pub fn misuse<R: Files>(rt: &R, arguments: &Arguments) -> Option<&'static str> {
     match arguments.script {
         None if !arguments.session => return Some("--script or --session is needed; see --help"),
         Some(_) if arguments.session => return Some("--script and --session exclude each other"),
+        _ if arguments.save_at_end && !arguments.session => {
+            return Some("--save-at-end is for sessions; a script is saved at its end");
+        }
+        _ if arguments.save_at_end && arguments.out.is_none() => {
+            return Some("--save-at-end needs --out");
+        }
         _ => {}
     }
     let Some(out) = arguments.out else {
@@ -48,6 +53,9 @@ pub fn misuse<R: Files>(rt: &R, arguments: &Arguments) -> Option<&'static str> {
     if leads_to(rt, "/dev/stdout", &there) {
         return Some("--out names the file that the answers go to");
     }
+    if leads_to(rt, "/dev/stderr", &there) {
+        return Some("--out names the file that standard error goes to");
+    }
     None
 }
 
@@ -66,14 +74,11 @@ fn leads_to<R: Files>(rt: &R, path: &str, there: &Metadata) -> bool {
 
 /// The target of the save that the command line asks for. What can be known of it before the run is
 /// found out here. Where none is asked for, no file is looked at.
-pub fn target_of<'a, R: Files + AllocGlobal>(
+pub fn target_of<'a, R: Files<File = File> + AllocGlobal>(
     rt: &'a R,
     arguments: &Arguments<'a>,
     original: Option<Original<'a>>,
-) -> Result<Target<'a, R>, OutRefusal>
-where
-    R::File: AsFd,
-{
+) -> Result<Target<'a, R>, OutRefusal> {
     let Some(out) = arguments.out else {
         let nowhere = InPlace::new(rt, "", None, false);
         return Ok(Target::InPlace(nowhere));
@@ -99,14 +104,11 @@ where
 }
 
 // A save over the file itself, which may be written if it is there.
-fn in_place<'a, R: Files + AllocGlobal>(
+fn in_place<'a, R: Files<File = File> + AllocGlobal>(
     rt: &'a R,
     out: &'a str,
     original: Option<Original<'a>>,
-) -> Result<Target<'a, R>, OutRefusal>
-where
-    R::File: AsFd,
-{
+) -> Result<Target<'a, R>, OutRefusal> {
     if fs::metadata(rt, out).is_ok() {
         let mut how = OpenOptions::new();
         how.write(true);

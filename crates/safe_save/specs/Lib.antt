@@ -1,4 +1,6 @@
 pub mod Disk
 pub mod Saving
 pub mod Fake
+pub mod Places
+pub mod Times
 pub mod Examples

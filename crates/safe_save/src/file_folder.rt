@@ -1,23 +1,18 @@
 // The system's own folder, of which no clause says what it shows: what its calls do is trusted.
 ghost use Rattle.std.specs.Prelude.{None};
 
+use crate::beside::{beside_path, clear_left, lock_new};
 use crate::bounded_file::BoundedFile;
 use crate::folder::Folder;
-use crate::original::Original;
+use crate::limits::size_limit;
+use crate::original::{Original, Sight};
 use crate::out_path::resolve;
 use std::alloc::Global;
 use std::fs;
-use std::fs::{Metadata, OpenFile, OpenOptions, Permissions};
+use std::fs::{File, Metadata, OpenOptions, Permissions};
 use std::io::{Error, ErrorKind, Result, Write};
-use std::os::fd::AsFd;
 use std::os::unix::fs::{MetadataExt, OpenOptionsExt, PermissionsExt, fchown};
 use std::rt::Files;
-
-// How many names are tried for the new file.
-const NAMES: u32 = 1000;
-
-// How many bytes of OUT's name the new file's name takes, so that it fits 255.
-const NAME_ROOM: usize = 230;
 
 /// The folder of a file of the system.
 #[derive(Drop)]
@@ -31,14 +26,15 @@ pub struct FileFolder<'a, R: Files> {
     beside: Option<String>,
     file: Option<BoundedFile<R::File>>,
     old: Option<Metadata>,
+    // The new file under OUT, as it was when it was still open.
+    saved: Option<Metadata>,
     original: Option<Original<'a>>,
     is_stale: bool,
+    is_unseen: bool,
+    cleared: u32,
 }
 
-impl<'a, R: Files + AllocGlobal> FileFolder<'a, R>
-where
-    R::File: AsFd,
-{
+impl<'a, R: Files<File = File> + AllocGlobal> FileFolder<'a, R> {
     ghost use Rattle.std.specs.Prelude.{◌≡◌, IfOk, None};
 
     /// The folder of what OUT leads to, links followed. It is refused where that is no regular
@@ -56,10 +52,13 @@ where
             beside: None,
             file: None,
             old,
+            saved: None,
             original,
             is_stale: false,
+            is_unseen: false,
+            cleared: 0,
         };
-        taken.create()?;
+        taken.make()?;
         taken.remove()?;
         Ok(taken)
     }
@@ -80,22 +79,85 @@ where
         self.is_stale
     }
 
-    // The path of OUT, or of the new file's n-th name.
-    fn path(&self, beside: Option<u32>) -> Result<String> {
-        let alloc = self.alloc;
-        let (folder, name) = (self.folder.as_str(), self.name.as_str());
-        match beside {
-            None => Ok(format!(in alloc; "{folder}/{name}")?),
-            Some(number) => {
-                let mut front = String::new(alloc);
-                for letter in name.chars() {
-                    if front.len() >= NAME_ROOM {
-                        break;
-                    }
-                    front.push(letter)?;
-                }
-                let front = front.as_str();
-                Ok(format!(in alloc; "{folder}/.{front}.segywb-{number}")?)
+    /// Whether the rename was refused because the original could not be looked at: why, is the
+    /// error of the rename.
+    pub fn is_unseen(&self) -> bool {
+        self.is_unseen
+    }
+
+    /// How many files were taken away that earlier saves to this OUT had left.
+    pub fn cleared(&self) -> u32 {
+        self.cleared
+    }
+
+    /// The original as a later save is to find it: where this one was saved over it, what the saved
+    /// file was when it was still open, so that a change of another program since then is seen. A
+    /// change that follows at once is seen if it is then `watched`.
+    pub fn original(&self) -> Option<Original<'a>> {
+        let original = self.original?;
+        let (Some(old), Some(saved)) = (&self.old, &self.saved) else {
+            return Some(original);
+        };
+        if !original.is_file(old) {
+            return Some(original);
+        }
+        match fs::metadata(self.rt, original.path()) {
+            // Another name of the old file, which the rename over this one has changed.
+            Ok(there) if original.is_file(&there) => Some(original.again(&there)),
+            _ => Some(original.again(saved)),
+        }
+    }
+
+    // Refuses the rename where the original is not as it was.
+    fn look_at_original(&mut self) -> Result<()> {
+        let Some(original) = &self.original else {
+            return Ok(());
+        };
+        match original.look(self.rt) {
+            Sight::Same => Ok(()),
+            Sight::Changed => {
+                self.is_stale = true;
+                Err(Error::new(ErrorKind::Other, "the original was changed"))
+            }
+            Sight::Unseen(error) => {
+                self.is_unseen = true;
+                Err(error)
+            }
+        }
+    }
+
+    // Makes the new file, under the first name that is free.
+    fn make(&mut self) -> Result<()> {
+        for number in 0..u32::MAX {
+            let (folder, name) = (self.folder.as_str(), self.name.as_str());
+            let path = beside_path(self.alloc, folder, name, number)?;
+            if let Some(file) = self.create_at(path.as_str())? {
+                self.file = Some(BoundedFile::new(file, size_limit(self.rt)));
+                self.beside = Some(path);
+                return Ok(());
+            }
+        }
+        Err(Error::from(ErrorKind::AlreadyExists))
+    }
+
+    // Makes a file under this name, locked for as long as it is open. `None` where the name is
+    // taken, or was taken away before the lock.
+    fn create_at(&self, path: &str) -> Result<Option<File>> {
+        // What OUT kept from others, the new file keeps too, from its first moment.
+        let mode = if self.mode().is_some() { 0o600 } else { 0o666 };
+        let mut how = OpenOptions::new();
+        how.write(true).create_new(true).mode(mode);
+        let file = match how.open(self.rt, path) {
+            Ok(file) => file,
+            Err(error) if error.kind() == ErrorKind::AlreadyExists => return Ok(None),
+            Err(error) => return Err(error),
+        };
+        match lock_new(self.rt, path, &file) {
+            Ok(true) => Ok(Some(file)),
+            Ok(false) => Ok(None),
+            Err(error) => {
+                let _ = fs::remove_file(self.rt, path);
+                Err(error)
             }
         }
     }
@@ -115,51 +177,20 @@ where
     }
 }
 
-/// The system's limit on the size of a file that this process writes, where the system tells it.
-pub fn size_limit<R: Files + AllocGlobal>(rt: &R) -> u64 {
-    let Ok(text) = fs::read_to_string(rt, "/proc/self/limits") else {
-        return u64::MAX;
-    };
-    for line in text.as_str().lines() {
-        if let Some(rest) = line.strip_prefix("Max file size") {
-            let Some(word) = rest.split_whitespace().next() else {
-                return u64::MAX;
-            };
-            return word.parse().unwrap_or(u64::MAX);
-        }
-    }
-    u64::MAX
-}
-
 // No file of the save is open.
 fn no_file() -> Error {
     Error::new(ErrorKind::InvalidInput, "no new file")
 }
 
-impl<R: Files + AllocGlobal> Folder for FileFolder<'_, R>
-where
-    R::File: AsFd,
-{
+impl<R: Files<File = File> + AllocGlobal> Folder for FileFolder<'_, R> {
     ghost disk = { λ _. None };
 
+    // Now that a save is made, the files that earlier ones to this OUT left, whose process has
+    // ended, are taken away before it.
     fn create(&mut self) -> Result<()> {
-        // What OUT kept from others, the new file keeps too, from its first moment.
-        let mode = if self.mode().is_some() { 0o600 } else { 0o666 };
-        for number in 0..NAMES {
-            let path = self.path(Some(number))?;
-            let mut how = OpenOptions::new();
-            how.write(true).create_new(true).mode(mode);
-            match how.open(self.rt, path.as_str()) {
-                Ok(file) => {
-                    self.file = Some(BoundedFile::new(file, size_limit(self.rt)));
-                    self.beside = Some(path);
-                    return Ok(());
-                }
-                Err(error) if error.kind() == ErrorKind::AlreadyExists => {}
-                Err(error) => return Err(error),
-            }
-        }
-        Err(Error::from(ErrorKind::AlreadyExists))
+        let (folder, name) = (self.folder.as_str(), self.name.as_str());
+        self.cleared = clear_left(self.rt, self.alloc, folder, name)?;
+        self.make()
     }
 
     fn write(&mut self, bytes: &[u8]) -> Result<usize> {
@@ -178,36 +209,37 @@ where
     }
 
     fn sync(&mut self) -> Result<()> {
-        match self.file.take() {
-            // It is closed behind its sync, which has told what a close could tell of its bytes.
-            Some(file) => file.into_inner().sync_all(),
+        match &self.file {
+            // It stays open, and locked, until it has lost its name. What a close could tell of its
+            // bytes, the sync has told.
+            Some(file) => file.inner().sync_all(),
             None => Err(no_file()),
         }
     }
 
     fn rename(&mut self) -> Result<()> {
-        if let Some(original) = &self.original
-            && original.is_changed(self.rt)
-        {
-            self.is_stale = true;
-            return Err(Error::new(ErrorKind::Other, "the original was changed"));
-        }
-        let out = self.path(None)?;
+        self.look_at_original()?;
+        let (folder, name) = (self.folder.as_str(), self.name.as_str());
+        let out = format!(in self.alloc; "{folder}/{name}")?;
         match &self.beside {
             Some(beside) => fs::rename(self.rt, beside.as_str(), out.as_str())?,
             None => return Err(no_file()),
         }
         // The name is gone. If it comes again, it is another's.
         self.beside = None;
+        if let Some(file) = self.file.take() {
+            self.saved = file.inner().metadata().ok();
+        }
         Ok(())
     }
 
     fn remove(&mut self) -> Result<()> {
-        self.file = None;
         if let Some(beside) = &self.beside {
             fs::remove_file(self.rt, beside.as_str())?;
         }
         self.beside = None;
+        // It was locked until its name was gone.
+        self.file = None;
         Ok(())
     }
 

@@ -5,8 +5,8 @@ ghost use Rattle.safe_save.specs.Disk.{Disk, created, grown, with_mode, synced_a
 
 use std::io::Result;
 
-/// One folder, with the name OUT in it and a new name beside it. The file under the new name is
-/// open from `create` until `sync` or `remove`.
+/// One folder, with the name OUT in it and a new name beside it. The file under the new name takes
+/// bytes from `create` until `sync` or `remove`.
 pub trait Folder {
     /// What OUT and the new name lead to, where it is known, and what a crash leaves.
     ghost disk: { Self → Option Disk };
@@ -27,7 +27,7 @@ pub trait Folder {
     fn set_mode(&mut self, mode: u32) -> Result<()>
         ensures { Turns result (with_mode mode) loses (disk self.old) (disk self.new) };
 
-    /// After it, a crash leaves of the new file all that was written and set. It is closed.
+    /// After it, a crash leaves of the new file all that was written and set. No more is written.
     fn sync(&mut self) -> Result<()>
         ensures { Turns result synced_all loses (disk self.old) (disk self.new) };
 

@@ -55,7 +55,7 @@ static FORMS: [&str; 39] = [
     "lines B",
     "code B",
     "stanzas",
-    "map NAME PLACE",
+    "map NAME FIELD",
     "unmap NAME",
     "fields",
     "table P Q FIELD ..",

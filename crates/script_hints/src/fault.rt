@@ -4,7 +4,7 @@ ghost use Rattle.script_text.specs.Held.{printed_of};
 
 use bench_rules::{AskFault, Refusal};
 use field_map::MapFault;
-use script_text::Reply;
+use script_text::{Reply, SessionFault};
 use script_words::LineFault;
 use std::fmt;
 use text_block::TextFault;
@@ -14,6 +14,8 @@ use text_block::TextFault;
 pub enum Fault {
     /// The line is no command.
     Line(LineFault),
+    /// A session does not run the line, or did not save at it.
+    Session(SessionFault),
     /// The line is an edit.
     Edit(Refusal),
     /// The line is a query.
@@ -25,8 +27,9 @@ pub fn fault_of(reply: &Reply) -> Option<Fault>
     ensures { is_some result ≡ (printed_of reply.now).is_refusal }
 {
     match reply {
-        Reply::Silent | Reply::Edited(Ok(())) | Reply::Asked(Ok(_)) => None,
+        Reply::Silent | Reply::Session(Ok(_)) | Reply::Edited(Ok(())) | Reply::Asked(Ok(_)) => None,
         Reply::Fault(fault) => Some(Fault::Line(*fault)),
+        Reply::Session(Err(fault)) => Some(Fault::Session(*fault)),
         Reply::Edited(Err(refusal)) => Some(Fault::Edit(*refusal)),
         Reply::Asked(Err(fault)) => Some(Fault::Query(*fault)),
     }
@@ -36,6 +39,7 @@ impl fmt::Display for Fault {
     fn fmt<W: fmt::Write>(&self, f: &mut fmt::Formatter<W>) -> fmt::Result {
         match self {
             Fault::Line(fault) => write!(f, "{fault}"),
+            Fault::Session(fault) => write!(f, "{fault}"),
             Fault::Edit(Refusal::Text(TextFault::TooLong)) => f.write_str("E07 T01 too long"),
             Fault::Edit(Refusal::Text(fault)) => write!(f, "E07 T02 {fault}"),
             Fault::Edit(Refusal::Map(fault)) => {

@@ -21,6 +21,7 @@ mod note_line;
 mod notes;
 mod number_hint;
 mod shown;
+mod torn_file;
 mod words;
 
 pub use crate::commands::{COMMANDS, form};
@@ -30,3 +31,4 @@ pub use crate::names::{BINARY_NAMES, TRACE_NAMES};
 pub use crate::note::Note;
 pub use crate::note_line::NoteLine;
 pub use crate::notes::Notes;
+pub use crate::torn_file::TornFile;

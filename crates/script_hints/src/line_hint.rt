@@ -31,6 +31,8 @@ pub(crate) fn hint_of(note: &Note) -> Hint {
     let words = Words::new(bytes);
     match note.fault() {
         Fault::Line(fault) => line_hint(&words, fault),
+        // The refusals of a session are told to who sent the lines.
+        Fault::Session(_) => Hint::None,
         Fault::Edit(refusal) => edit_hint(&words, refusal),
         Fault::Query(fault) => query_hint(&words, fault),
     }
@@ -48,6 +50,9 @@ fn is_wide(bytes: &[u8]) -> bool {
 // Of a line that is no command.
 fn line_hint(words: &Words, fault: LineFault) -> Hint {
     match fault {
+        LineFault::Unknown if words.at(0) == b"save".as_slice() => {
+            Hint::Text("a script is saved at its end, to --out; save is a word of sessions")
+        }
         LineFault::Unknown => nearest(words.at(0), &COMMANDS),
         LineFault::Words if words.has_note() => note_behind(),
         LineFault::Words => wrong_words(words),
@@ -110,7 +115,7 @@ fn wrong_number(words: &Words) -> Hint {
             Hint::None => Hint::Text("WHICH is inline, crossline, offset, x or y"),
             hint => hint,
         },
-        b"map" => Hint::Text("a place is @BYTE:SIZE, as @189:4"),
+        b"map" => Hint::Text("FIELD is a place, as @189:4, or a name, as source_x"),
         _ => place_or_form(words),
     }
 }

@@ -1,4 +1,5 @@
 // What is told of a file that is refused.
+use crate::torn_file::TornFile;
 use frame_cut::LoadFault;
 use std::fmt;
 
@@ -10,6 +11,10 @@ pub struct LoadNote<'a> {
     pub file: &'a str,
     /// Why it is refused.
     pub fault: LoadFault,
+    /// Whether its bytes were to stay on disk.
+    pub on_disk: bool,
+    /// What is seen of a file that ends inside a trace.
+    pub torn: Option<TornFile>,
 }
 
 impl fmt::Display for LoadNote<'_> {
@@ -17,10 +22,11 @@ impl fmt::Display for LoadNote<'_> {
         let file = self.file;
         let fault = self.fault;
         write!(f, "segywb: {file}: {fault} (")?;
-        match (hint(fault), fault) {
-            (Some(text), _) => f.write_str(text)?,
-            (None, LoadFault::UnknownFormat(code)) => unknown_format(f, code)?,
-            (None, _) => frame_hint(f, fault)?,
+        match (hint(fault, self.on_disk), fault, &self.torn) {
+            (Some(text), _, _) => f.write_str(text)?,
+            (None, LoadFault::UnknownFormat(code), _) => unknown_format(f, code)?,
+            (None, LoadFault::Truncated(trace), Some(torn)) => torn.write(f, trace)?,
+            (None, _, _) => frame_hint(f, fault)?,
         }
         f.write_str(")")?;
         match fault {
@@ -34,7 +40,7 @@ impl fmt::Display for LoadNote<'_> {
 }
 
 // What to do about a file that is read in no way here.
-fn hint(fault: LoadFault) -> Option<&'static str> {
+fn hint(fault: LoadFault, on_disk: bool) -> Option<&'static str> {
     match fault {
         LoadFault::ReadFailed => Some("it is a folder, or its disk fails"),
         LoadFault::TooLarge => Some(
@@ -55,6 +61,9 @@ fn hint(fault: LoadFault) -> Option<&'static str> {
              samples with a value are whole numbers, in formats 2, 3, 7 to 12, 15 and 16",
         ),
         LoadFault::TooManyTraces => Some("a file has at most 4294967295 traces"),
+        LoadFault::OutOfMemory if on_disk => Some(
+            "the records of all traces and the longest trace must fit in memory",
+        ),
         LoadFault::OutOfMemory => Some("without --on-disk the file must fit in memory"),
         LoadFault::OtherOrder => {
             Some("bytes 3297-3300 tell the order of bytes, which stands: leave out --order")
@@ -87,9 +96,6 @@ fn frame_hint<W: fmt::Write>(f: &mut fmt::Formatter<W>, fault: LoadFault) -> fmt
         LoadFault::ExtensionCount(_) => {
             "bytes 157-158 of its first header extension: more than bytes 3507-3510 of the file say"
         }
-        _ => {
-            "the file ends inside that trace; where bytes 115-116 of the traces are wrong, --fixed \
-             reads each with the binary header's number of samples"
-        }
+        _ => "the file ends inside that trace",
     })
 }

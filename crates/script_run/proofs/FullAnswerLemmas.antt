@@ -1,27 +1,36 @@
 -- No answer of a session has an empty line.
 use Rattle.std.proofs.Common.{◌≡◌, ℕ, List, [], ◌∷◌, Bool, true, false, not, Option, Some, None, Result, Ok, Err, cond, refl, sym, ap, subst, inl, inr}
 use Rattle.std.specs.Prelude.{option_map}
+use Rattle.std.specs.Option.{option_map_or}
+use Rattle.field_map.specs.declared.place.Place.{Place}
 use Rattle.field_map.specs.declared.map_fault.MapFault.{MapFault}
 use Rattle.field_map.specs.declared.map_fault.MapFault.TheVariants.{BadName}
-use Rattle.field_map.specs.Pairs.{Pairs}
+use Rattle.field_map.specs.Pairs.{Pairs, bound}
 use Rattle.field_map.specs.Binding.{is_name, bind_fault, geometry_at_load}
 use Rattle.bench_rules.specs.declared.edit.Edit.{Edit}
 use Rattle.bench_rules.specs.declared.edit.Edit.TheVariants as edits
 use Rattle.bench_rules.specs.declared.refusal.Refusal.{Refusal}
 use Rattle.bench_rules.specs.declared.refusal.Refusal.TheVariants as refusals
 use Rattle.bench_rules.specs.After.{fields_after}
-use Rattle.bench_rules.specs.Refused.{first_refusal}
+use Rattle.bench_rules.specs.Places.{place_in_trace}
+use Rattle.bench_rules.specs.Refused.{first_refusal, map_refusal}
 use Rattle.bench_rules.specs.State.{State}
 use Rattle.bench_rules.specs.Steps.{StepUnless}
 use Rattle.script_words.specs.declared.command.Command.{Command}
 use Rattle.script_words.specs.declared.command.Command.TheVariants.{Apply, Ask}
 use Rattle.script_words.specs.declared.line_fault.LineFault.{LineFault}
-use Rattle.script_words.specs.declared.line_fault.LineFault.TheVariants.{TooLarge, OutOfMemory}
-use Rattle.script_text.specs.Replies.{Printed, fault_reply, edit_reply}
+use Rattle.script_words.specs.declared.line_fault.LineFault.TheVariants.{Words, TooLarge, OutOfMemory}
+use Rattle.script_text.specs.declared.session_fault.SessionFault.TheVariants.{CutOff}
+use Rattle.script_text.specs.Replies.{Printed, fault_reply, session_reply, edit_reply}
 use Rattle.script_text.specs.Texts.{IsFullLines}
-use Rattle.script_text.proofs.PlainLemmas.{HasPlainNames, plain_name, plain_bound, plain_unbound, nothing_full, fault_full, edit_full, query_full}
+use Rattle.script_text.proofs.PlainLemmas.{HasPlainNames, plain_name, plain_bound, plain_unbound, nothing_full, fault_full, session_full as session_text_full, edit_full, query_full}
 use Rattle.script_run.specs.Runs.{ReadStep}
-use Rattle.script_run.specs.Sessions.{AnswerStep, SessionSteps, AreAnswers}
+use Rattle.script_words.specs.declared.session_words.SessionWord.{SessionWord}
+use Rattle.script_words.specs.declared.session_words.SessionWord.TheVariants.{Save, SaveWithMore, Other}
+use Rattle.script_words.specs.SessionWords.{session_word_of}
+use Rattle.script_words.specs.Words.{without_return}
+use Rattle.script_run.specs.Input.{SessionLine}
+use Rattle.script_run.specs.Sessions.{Standing, WordStep, EndedStep, AnswerStep, SessionSteps, AreAnswers}
 
 -- ---- what an edit leaves of the names
 
@@ -34,10 +43,15 @@ name_is : (b : Bool) (rest : Option MapFault) → cond (not b) (Some BadName) re
 name_is true rest e = refl
 name_is false rest e = cc
 
-fields_plain : (s : State) (edit : Edit) → first_refusal s edit ≡ None → HasPlainNames s.fields → HasPlainNames (fields_after s.fields edit)
-fields_plain s (edits.Map name place) e h =
+mapped_plain : (s : State) (name : List ℕ) (o : Option Place) → map_refusal s name o ≡ None → HasPlainNames s.fields
+    → HasPlainNames (option_map_or (λ place. bound s.fields name place) o s.fields)
+mapped_plain s name None e h = h
+mapped_plain s name (Some place) e h =
     let none : bind_fault s.volume.head.extensions s.fields name place ≡ None = no_fault (bind_fault s.volume.head.extensions s.fields name place) e in
     plain_bound s.fields name place (plain_name name (name_is (is_name name) _ none)) h
+
+fields_plain : (s : State) (edit : Edit) → first_refusal s edit ≡ None → HasPlainNames s.fields → HasPlainNames (fields_after s.fields edit)
+fields_plain s (edits.Map name f) e h = mapped_plain s name (place_in_trace s.fields f) e h
 fields_plain s (edits.Unmap name) e h = plain_unbound s.fields name h
 fields_plain s (edits.Set p field x) e h = h
 fields_plain s (edits.SetBin field x) e h = h
@@ -73,13 +87,32 @@ read_full old new (Ok (Some (Apply edit))) p h step =
 read_full old new (Ok (Some (Ask query))) p h step = (full_by p _ step.2 (query_full old query step.0 h step.1), same_plain old new step.3 h)
 read_full old new (Err fault) p h step = (full_by p (fault_reply fault) step.0 (fault_full fault), same_plain old new step.1 h)
 
-answer_full : (old new : State) (line : List ℕ) (p : Printed) → HasPlainNames old.fields → AnswerStep old line p new → IsFullLines p.text × HasPlainNames new.fields
-answer_full old new line p h (inl step) = (full_by p (fault_reply TooLarge) step.1 (fault_full TooLarge), same_plain old new step.2 h)
-answer_full old new line p h (inr (within, inl step)) = read_full old new step.0 p h step.2
-answer_full old new line p h (inr (within, inr step)) = (full_by p (fault_reply OutOfMemory) step.0 (fault_full OutOfMemory), same_plain old new step.1 h)
+stands_plain : (old new : Standing) → new ≡ old → HasPlainNames old.state.fields → HasPlainNames new.state.fields
+stands_plain old new e h = same_plain old.state new.state (ap (λ (s : Standing). s.state) e) h
+
+-- what is printed is full lines, and the names that are left are plain
+abbrev IsFull : Printed → Standing → Type 0
+IsFull p new = IsFullLines p.text × HasPlainNames new.state.fields
+
+fault_is_full : (old new : Standing) (fault : LineFault) (p : Printed) → HasPlainNames old.state.fields → p ≡ fault_reply fault → new ≡ old → IsFull p new
+fault_is_full old new fault p h is same = (full_by p (fault_reply fault) is (fault_full fault), stands_plain old new same h)
+
+word_full : (word : SessionWord) (old new : Standing) (line : List ℕ) (p : Printed) → HasPlainNames old.state.fields → WordStep word old line p new → IsFull p new
+word_full Save old new line p h (result, saved, is, same) = (full_by p (session_reply result) is (session_text_full result), same_plain old.state new.state same h)
+word_full SaveWithMore old new line p h step = fault_is_full old new Words p h step.0 step.1
+word_full Other old new line p h (step, out) = read_full old.state new.state step.0 p h step.2
+
+ended_full : (has_end : Bool) (old new : Standing) (text : List ℕ) (p : Printed) → HasPlainNames old.state.fields → EndedStep has_end old text p new → IsFull p new
+ended_full false old new text p h step = (full_by p (session_reply (Err CutOff)) step.0 (session_text_full (Err CutOff)), stands_plain old new step.1 h)
+ended_full true old new text p h (inl step) = word_full (session_word_of (without_return text)) old new (without_return text) p h step
+ended_full true old new text p h (inr step) = fault_is_full old new OutOfMemory p h step.0 step.1
+
+answer_full : (old new : Standing) (line : SessionLine) (p : Printed) → HasPlainNames old.state.fields → AnswerStep old line p new → IsFull p new
+answer_full old new line p h (inl step) = fault_is_full old new TooLarge p h step.1 step.2
+answer_full old new line p h (inr (within, step)) = ended_full line.has_end old new line.text p h step
 
 -- each answer of a session is lines none of which is empty, with an empty line behind them
-pub session_full : (old new : State) (lines : List (List ℕ)) (ps : List Printed) → HasPlainNames old.fields → SessionSteps old lines ps new → AreAnswers ps
+pub session_full : (old new : Standing) (lines : List SessionLine) (ps : List Printed) → HasPlainNames old.state.fields → SessionSteps old lines ps new → AreAnswers ps
 session_full old new [] [] h steps = tt
 session_full old new [] (p ∷ ps) h steps = absurd steps
 session_full old new (l ∷ ls) [] h steps = absurd steps

@@ -5,10 +5,9 @@ use Rattle.std.specs.List.{list_any, before_first, after_first, position_or_len}
 use Rattle.std.proofs.lemmas.List.{drop-take, drop-drop, length-take}
 use Rattle.std.proofs.lemmas.Bool.{eq-eqb}
 use Rattle.std.specs.Io.KnownBytes.{Consumes, IsAtEnd}
-use Rattle.script_words.specs.Words.{is_line_feed, parts_by_line_feed}
-use Rattle.script_words.proofs.PartLemmas.{cut_in_part, part_in_front}
-use Rattle.script_words.proofs.ScriptLemmas.{last_part}
-use Rattle.script_run.specs.Input.{left_of, TakesLine, TakesLines, TakesFront, KeepsTaken, Held, Holds, nothing_held, IsFront}
+use Rattle.script_words.specs.Words.{is_line_feed}
+use Rattle.script_run.proofs.LineEndLemmas.{cut_in_part, part_in_front, last_part}
+use Rattle.script_run.specs.Input.{SessionLine, ended, cut_off, line_of, session_lines, left_of, TakesLine, TakesLines, TakesFront, KeepsTaken, Held, Holds, nothing_held, IsFront}
 
 -- ---- a slice
 
@@ -81,12 +80,12 @@ goes_on old rest ahead next front from to p (none, front_is, next_is) add = reco
 }
 
 takes_cut : (old rest : Option (List ℕ)) (part ahead : List ℕ) → Consumes old (left_of ahead rest) part → list_any is_line_feed part ≡ false → list_any is_line_feed ahead ≡ true
-    → TakesLine old (left_of (after_first is_line_feed ahead) rest) (part ++ before_first is_line_feed ahead)
+    → TakesLine old (left_of (after_first is_line_feed ahead) rest) (ended (part ++ before_first is_line_feed ahead))
 takes_cut None rest part ahead c none some = tt
 takes_cut (Some xs) None part ahead c none some = absurd c
 takes_cut (Some xs) (Some ys) part ahead c none some =
-    ap parts_by_line_feed c
-    ∙ part_in_front part (ahead ++ ys) (after_first is_line_feed ahead ++ ys) (before_first is_line_feed ahead) none (cut_in_part ahead ys some)
+    ap session_lines c
+    ∙ part_in_front part (ahead ++ ys) (after_first is_line_feed ahead ++ ys) (before_first is_line_feed ahead) true none (cut_in_part ahead ys some)
 
 -- the same bytes are taken, as far as more were read ahead
 abbrev pub kept_front : (old rest next : Option (List ℕ)) (held : Held) (p : TakesFront old rest held) → KeepsTaken rest next → TakesFront old next held
@@ -100,40 +99,45 @@ as_many (Some xs) (Some ys) part n c h = omega (arith, ap length c, length-appen
 
 -- the line ends in what is read ahead
 pub ends : (old rest : Option (List ℕ)) (ahead next front : List ℕ) (from to : Held) → TakesFront old (left_of ahead rest) from → IsFront ahead front next true
-    → ((line : List ℕ) → Holds from line → Holds to (line ++ front)) → (line : List ℕ) × TakesLine old (left_of next rest) line × Holds to line
+    → ((line : List ℕ) → Holds from line → Holds to (line ++ front)) → (line : List ℕ) × TakesLine old (left_of next rest) (ended line) × Holds to line × (true ≡ false → IsAtEnd (left_of next rest))
 ends old rest ahead next front from to p (some, front_is, next_is) add = (
   p.part ++ front,
   rw (front_is, next_is) (takes_cut old rest p.part ahead p.taken p.none some),
   add p.part p.holds,
+  λ never. absurd cc,
 )
 
-takes_last : (old rest : Option (List ℕ)) (part : List ℕ) → Consumes old (left_of [] rest) part → IsAtEnd rest → list_any is_line_feed part ≡ false → length part ≢ 0 → TakesLine old (left_of [] rest) part
+left_at_end : (rest : Option (List ℕ)) → IsAtEnd rest → IsAtEnd (left_of [] rest)
+left_at_end None end = tt
+left_at_end (Some ys) end = end
+
+takes_last : (old rest : Option (List ℕ)) (part : List ℕ) → Consumes old (left_of [] rest) part → IsAtEnd rest → list_any is_line_feed part ≡ false → length part ≢ 0 → TakesLine old (left_of [] rest) (cut_off part)
 takes_last None rest part c end none some = tt
 takes_last (Some xs) None part c end none some = absurd c
 takes_last (Some xs) (Some ys) [] c end none some = absurd (some refl)
 takes_last (Some xs) (Some ys) (b ∷ bs) c end none some =
-    ap parts_by_line_feed c ∙ ap (λ s. parts_by_line_feed ((b ∷ bs) ++ s)) end ∙ ap parts_by_line_feed (append-nil (b ∷ bs)) ∙ last_part b bs none ∙ ap (λ s. (b ∷ bs) ∷ parts_by_line_feed s) (sym end)
+    ap session_lines c ∙ ap (λ s. session_lines ((b ∷ bs) ++ s)) end ∙ ap session_lines (append-nil (b ∷ bs)) ∙ last_part b bs none ∙ ap (λ s. cut_off (b ∷ bs) ∷ session_lines s) (sym end)
 
 -- the last line, which lacks a line feed
 pub last : (old rest : Option (List ℕ)) (ahead : List ℕ) (held : Held) → ahead ≡ [] → TakesFront old (left_of ahead rest) held → IsAtEnd rest → ((line : List ℕ) → Holds held line → false ≡ nat_eq (length line) 0)
-    → (line : List ℕ) × TakesLine old (left_of ahead rest) line × Holds held line
+    → (line : List ℕ) × TakesLine old (left_of ahead rest) (cut_off line) × Holds held line × (false ≡ false → IsAtEnd (left_of ahead rest))
 last old rest ahead held empty p end some =
     let c : Consumes old (left_of [] rest) p.part = subst (λ a. Consumes old (left_of a rest) p.part) empty p.taken in
     let more : length p.part ≢ 0 = λ z. (let s = some p.part p.holds ∙ eq-eqb (length p.part) 0 z in cc) in
-    (p.part, rw empty (takes_last old rest p.part c end p.none more), p.holds)
+    (p.part, rw empty (takes_last old rest p.part c end p.none more), p.holds, λ same. rw empty (left_at_end rest end))
 
-ended : (old rest : Option (List ℕ)) (part : List ℕ) → Consumes old (left_of [] rest) part → IsAtEnd rest → length part ≡ 0 → IsAtEnd old × IsAtEnd (left_of [] rest)
-ended None None part c end none = (tt, tt)
-ended None (Some ys) part c end none = (tt, end)
-ended (Some xs) None part c end none = absurd c
-ended (Some xs) (Some ys) [] c end none = (c ∙ end, end)
-ended (Some xs) (Some ys) (b ∷ bs) c end none = cc
+nothing_left : (old rest : Option (List ℕ)) (part : List ℕ) → Consumes old (left_of [] rest) part → IsAtEnd rest → length part ≡ 0 → IsAtEnd old × IsAtEnd (left_of [] rest)
+nothing_left None None part c end none = (tt, tt)
+nothing_left None (Some ys) part c end none = (tt, end)
+nothing_left (Some xs) None part c end none = absurd c
+nothing_left (Some xs) (Some ys) [] c end none = (c ∙ end, end)
+nothing_left (Some xs) (Some ys) (b ∷ bs) c end none = cc
 
 -- nothing is left
 pub at_end : (old rest : Option (List ℕ)) (ahead : List ℕ) (held : Held) → ahead ≡ [] → TakesFront old (left_of ahead rest) held → IsAtEnd rest → ((line : List ℕ) → Holds held line → length line ≡ 0)
     → IsAtEnd old × IsAtEnd (left_of ahead rest)
 at_end old rest ahead held empty p end none =
-    rw empty (ended old rest p.part (subst (λ a. Consumes old (left_of a rest) p.part) empty p.taken) end (none p.part p.holds))
+    rw empty (nothing_left old rest p.part (subst (λ a. Consumes old (left_of a rest) p.part) empty p.taken) end (none p.part p.holds))
 
 -- ---- the lines so far
 
@@ -141,8 +145,8 @@ pub none_taken : (known : Option (List ℕ)) → TakesLines known (left_of [] kn
 none_taken None = tt
 none_taken (Some xs) = refl
 
-pub line_more : (old mid new : Option (List ℕ)) (lines : List (List ℕ)) (line : List ℕ) → TakesLines old mid lines → TakesLine mid new line → TakesLines old new (lines ++ line ∷ [])
+pub line_more : (old mid new : Option (List ℕ)) (lines : List SessionLine) (line : SessionLine) → TakesLines old mid lines → TakesLine mid new line → TakesLines old new (lines ++ line ∷ [])
 line_more None mid new lines line t h = tt
 line_more (Some xs) None new lines line t h = absurd t
 line_more (Some xs) (Some ys) None lines line t h = absurd h
-line_more (Some xs) (Some ys) (Some zs) lines line t h = t ∙ ap (λ s. lines ++ s) h ∙ sym (append_assoc lines (line ∷ []) (parts_by_line_feed zs))
+line_more (Some xs) (Some ys) (Some zs) lines line t h = t ∙ ap (λ s. lines ++ s) h ∙ sym (append_assoc lines (line ∷ []) (session_lines zs))

@@ -2,6 +2,7 @@ pub mod RunLemmas
 pub mod TellLemmas
 pub mod ScratchLemmas
 pub mod EndLemmas
+pub mod LineEndLemmas
 pub mod InputLemmas
 pub mod SessionLemmas
 pub mod FullAnswerLemmas

@@ -31,15 +31,15 @@ lines-le script = let parts = parts-le script in omega (arith, length-map (parts
 
 -- ---- one line more
 
-module _ (Step : State → List ℕ → Printed → State → Type 0) where
-  pub steps_more : (old mid new : State) (lines : List (List ℕ)) (line : List ℕ) (ps : List Printed) (p : Printed)
+module _ {S L : Type 0} (Step : S → L → Printed → S → Type 0) where
+  pub steps_more : (old mid new : S) (lines : List L) (line : L) (ps : List Printed) (p : Printed)
       → StepsBy Step old lines ps mid → Step mid line p new → StepsBy Step old (lines ++ line ∷ []) (ps ++ p ∷ []) new
   steps_more old mid new [] line [] p h step = (new, subst (λ s. Step s line p new) h step, refl)
   steps_more old mid new [] line (q ∷ qs) p h step = absurd h
   steps_more old mid new (l ∷ ls) line [] p h step = absurd h
   steps_more old mid new (l ∷ ls) line (q ∷ qs) p (s, first, rest) step = (s, first, steps_more s mid new ls line qs p rest step)
 
-  pub steps-length : (old new : State) (lines : List (List ℕ)) (ps : List Printed) → StepsBy Step old lines ps new → length lines ≡ length ps
+  pub steps-length : (old new : S) (lines : List L) (ps : List Printed) → StepsBy Step old lines ps new → length lines ≡ length ps
   steps-length old new [] [] h = refl
   steps-length old new [] (p ∷ ps) h = absurd h
   steps-length old new (l ∷ ls) [] h = absurd h

@@ -1,5 +1,5 @@
 -- Lines are answered as by what reading the file from scratch gives.
-use Rattle.std.proofs.Common.{◌≡◌, ℕ, Bool, List, [], ◌∷◌, ◌++◌, Option, Some, None, Result, Ok, Err, refl, sym, ap, subst, ◌∙◌, inl, inr}
+use Rattle.std.proofs.Common.{◌≡◌, ℕ, Bool, true, false, List, [], ◌∷◌, ◌++◌, Option, Some, None, Result, Ok, Err, refl, sym, ap, subst, ◌∙◌, inl, inr}
 use Rattle.frame_cut.specs.declared.limits.Limits.{Limits}
 use Rattle.frame_cut.specs.declared.reading.Reading.{Reading}
 use Rattle.frame_cut.specs.Cuts.{IsCut}
@@ -18,7 +18,12 @@ use Rattle.script_text.specs.Replies.{Printed}
 use Rattle.script_run.specs.FromScratch.{saved, ScratchSteps}
 use Rattle.script_run.specs.Laws.{IsRead, IsReload, Replied, none_yet, AddsEdit, AddsLine, LinesAreEdits, LinesFromScratch, ReloadsAsSaved}
 use Rattle.script_run.specs.Runs.{ReadStep, LineStep, LineSteps, StepsBy}
-use Rattle.script_run.specs.Sessions.{SessionStep}
+use Rattle.script_words.specs.declared.session_words.SessionWord.{SessionWord}
+use Rattle.script_words.specs.declared.session_words.SessionWord.TheVariants.{Save, SaveWithMore, Other}
+use Rattle.script_words.specs.SessionWords.{session_word_of}
+use Rattle.script_words.specs.Words.{without_return}
+use Rattle.script_run.specs.Input.{SessionLine}
+use Rattle.script_run.specs.Sessions.{Standing, standing, WordStep, EndedStep, AnswerStep, SessionSteps, VolumeStep}
 
 -- ---- lines as edits
 
@@ -67,20 +72,46 @@ lines_are_edits old new lines ps h = add_lines old none_yet old new lines ps ref
 -- ---- a line leaves a file that is read again
 
 -- a step that leaves the parts the cut of their own bytes
-abbrev pub Keeps : (State → List ℕ → Printed → State → Type 0) → Type 0
-Keeps Step = (old new : State) (line : List ℕ) (p : Printed) → IsRead old → Step old line p new → IsReadAlike old new
+abbrev pub Keeps : {L : Type 0} → (State → L → Printed → State → Type 0) → Type 0
+Keeps {L} Step = (old new : State) (line : L) (p : Printed) → IsRead old → Step old line p new → IsReadAlike old new
 
 pub line_keeps : StepsStayCut → Keeps LineStep
 line_keeps stay old new line p cut step =
     let some = add_line old none_yet old new line p refl step in stay old new some.0.edits some.0.replies cut some.2
 
-pub session_keeps : StepsStayCut → Keeps SessionStep
-session_keeps stay old new line p cut (a, inl step, is) = stay old new [] [] cut step.2
-session_keeps stay old new line p cut (a, inr (within, inl step), is) = line_keeps stay old new _ a cut step
-session_keeps stay old new line p cut (a, inr (within, inr step), is) = stay old new [] [] cut step.1
+-- what leaves the volume as it is keeps it
+same_keeps : StepsStayCut → (old new : State) → IsRead old → new ≡ old → IsReadAlike old new
+same_keeps stay old new cut same = stay old new [] [] cut same
 
-module _ (Step : State → List ℕ → Printed → State → Type 0) (keeps : Keeps Step) (reading : Reading) (limits : Limits) (on_disk : Bool) where
-  pub scratch : (old new : State) (lines : List (List ℕ)) (ps : List Printed) → IsCut (bytes_of old.volume) reading limits old.volume → old.reading ≡ reading → old.limits ≡ limits → old.on_disk ≡ on_disk
+stands_keeps : StepsStayCut → (old new : Standing) → IsRead old.state → new ≡ old → IsReadAlike old.state new.state
+stands_keeps stay old new cut same = same_keeps stay old.state new.state cut (ap (λ (s : Standing). s.state) same)
+
+word_keeps : StepsStayCut → (word : SessionWord) (old new : Standing) (line : List ℕ) (p : Printed) → IsRead old.state → WordStep word old line p new → IsReadAlike old.state new.state
+word_keeps stay Save old new line p cut (result, saved, is, same) = same_keeps stay old.state new.state cut same
+word_keeps stay SaveWithMore old new line p cut step = stands_keeps stay old new cut step.1
+word_keeps stay Other old new line p cut (step, out) = line_keeps stay old.state new.state line p cut step
+
+ended_keeps : StepsStayCut → (has_end : Bool) (old new : Standing) (text : List ℕ) (p : Printed) → IsRead old.state → EndedStep has_end old text p new → IsReadAlike old.state new.state
+ended_keeps stay false old new text p cut step = stands_keeps stay old new cut step.1
+ended_keeps stay true old new text p cut (inl step) = word_keeps stay (session_word_of (without_return text)) old new (without_return text) p cut step
+ended_keeps stay true old new text p cut (inr step) = stands_keeps stay old new cut step.1
+
+answer_keeps : StepsStayCut → (old new : Standing) (line : SessionLine) (p : Printed) → IsRead old.state → AnswerStep old line p new → IsReadAlike old.state new.state
+answer_keeps stay old new line p cut (inl step) = stands_keeps stay old new cut step.2
+answer_keeps stay old new line p cut (inr (within, step)) = ended_keeps stay line.has_end old new line.text p cut step
+
+pub session_keeps : StepsStayCut → Keeps VolumeStep
+session_keeps stay old new line p cut (before, after, (a, step, is)) = answer_keeps stay (standing old before) (standing new after) line a cut step
+
+-- the lines of a session, of which the volume alone is seen
+pub volume_steps : (old new : Standing) (lines : List SessionLine) (ps : List Printed) → SessionSteps old lines ps new → StepsBy VolumeStep old.state lines ps new.state
+volume_steps old new [] [] h = ap (λ (s : Standing). s.state) h
+volume_steps old new [] (p ∷ ps) h = absurd h
+volume_steps old new (l ∷ ls) [] h = absurd h
+volume_steps old new (l ∷ ls) (p ∷ ps) (mid, first, rest) = (mid.state, (old.out, mid.out, first), volume_steps mid new ls ps rest)
+
+module _ {L : Type 0} (Step : State → L → Printed → State → Type 0) (keeps : Keeps Step) (reading : Reading) (limits : Limits) (on_disk : Bool) where
+  pub scratch : (old new : State) (lines : List L) (ps : List Printed) → IsCut (bytes_of old.volume) reading limits old.volume → old.reading ≡ reading → old.limits ≡ limits → old.on_disk ≡ on_disk
       → StepsBy Step old lines ps new → ScratchSteps Step reading limits on_disk (saved old) lines ps (saved new)
   scratch old new [] [] cut r l d h = ap saved h
   scratch old new [] (p ∷ ps) cut r l d h = absurd h
@@ -94,7 +125,7 @@ module _ (Step : State → List ℕ → Printed → State → Type 0) (keeps : K
       )
 
   -- and what is held behind the lines is the cut of its own bytes
-  pub stays_cut : (old new : State) (lines : List (List ℕ)) (ps : List Printed) → IsCut (bytes_of old.volume) reading limits old.volume → old.reading ≡ reading → old.limits ≡ limits
+  pub stays_cut : (old new : State) (lines : List L) (ps : List Printed) → IsCut (bytes_of old.volume) reading limits old.volume → old.reading ≡ reading → old.limits ≡ limits
       → StepsBy Step old lines ps new → IsCut (bytes_of new.volume) reading limits new.volume
   stays_cut old new [] [] cut r l h = subst (λ (s : State). IsCut (bytes_of s.volume) reading limits s.volume) (sym h) cut
   stays_cut old new [] (p ∷ ps) cut r l h = absurd h

@@ -1,33 +1,32 @@
 -- How a session goes on by one line.
-use Rattle.std.proofs.Common.{◌≡◌, ℕ, ◌+◌, List, [], ◌∷◌, ◌++◌, length, take, Bool, Option, Some, None, cond, true, false, ◌≤◌, refl, ap, ap₂, sym, ◌∙◌, arith, append-nil, length-append, ◌-◌, ◌^◌, inl, inr}
+use Rattle.std.proofs.Common.{◌≡◌, ℕ, ◌+◌, List, [], ◌∷◌, ◌++◌, length, take, Bool, not, Option, Some, None, cond, true, false, ◌≤◌, refl, ap, ap₂, sym, ◌∙◌, arith, append-nil, length-append, ◌-◌, ◌^◌, inl, inr}
 use Rattle.std.specs.Prelude.{IsTrue}
 use Rattle.std.specs.Io.KnownBytes.{Appends, IsAtEnd}
 use Rattle.std.proofs.lemmas.List.{take_at}
-use Rattle.bench_rules.specs.State.{State}
 use Rattle.script_text.specs.declared.script_fault.ScriptFault.{ScriptFault}
-use Rattle.script_words.specs.Words.{parts_by_line_feed}
 use Rattle.script_run.specs.declared.session_lines.SessionLines.TheVariants.{Script}
 use Rattle.script_text.specs.Replies.{Printed}
 use Rattle.script_text.specs.Devices.{Device, Takes, TakesPart, count_in_64_bits}
 use Rattle.script_text.proofs.OutLemmas.{takes_more, takes_part_more}
 use Rattle.script_run.specs.Runs.{printed_text, refusals}
-use Rattle.script_run.specs.Input.{TakesLine, TakesLines, IsEndless, HasTooMany}
-use Rattle.script_run.specs.Sessions.{SessionStep, SessionSteps, FirstLines, AllLines, IsBroken}
+use Rattle.script_run.specs.Input.{SessionLine, line_of, session_lines, any_cut_off, TakesLine, TakesLines, IsEndless, HasTooMany}
+use Rattle.script_run.specs.Sessions.{Standing, SessionStep, SessionSteps, FirstLines, AllLines, IsBroken}
 use Rattle.script_run.specs.SessionLineRuns.{Answered, AnswersTo}
 use Rattle.script_run.proofs.RunLemmas.{steps_more, steps-length, text_more, refusals_more}
 use Rattle.script_run.proofs.InputLemmas.{line_more}
+use Rattle.script_run.proofs.LineEndLemmas.{cut_off_more}
 
 -- ---- the lines that were taken are those of the reader
 
-first_lines : (old left : Option (List ℕ)) (lines : List (List ℕ)) → TakesLines old left lines → FirstLines old lines
+first_lines : (old left : Option (List ℕ)) (lines : List SessionLine) → TakesLines old left lines → FirstLines old lines
 first_lines None left lines t = tt
 first_lines (Some xs) None lines t = absurd t
-first_lines (Some xs) (Some ys) lines t = ap (take (length lines)) t ∙ take_at lines (parts_by_line_feed ys) (length lines) refl
+first_lines (Some xs) (Some ys) lines t = ap (take (length lines)) t ∙ take_at lines (session_lines ys) (length lines) refl
 
-all_lines : (old left : Option (List ℕ)) (lines : List (List ℕ)) → TakesLines old left lines → IsAtEnd left → AllLines old lines
+all_lines : (old left : Option (List ℕ)) (lines : List SessionLine) → TakesLines old left lines → IsAtEnd left → AllLines old lines
 all_lines None left lines t end = tt
 all_lines (Some xs) None lines t end = absurd t
-all_lines (Some xs) (Some ys) lines t end = t ∙ ap (λ s. lines ++ parts_by_line_feed s) end ∙ append-nil lines
+all_lines (Some xs) (Some ys) lines t end = t ∙ ap (λ s. lines ++ session_lines s) end ∙ append-nil lines
 
 -- one refusal more, or none
 pub one_refused : (b : Bool) (r m : ℕ) → b ≡ true → m ≡ r + 1 → m ≡ r + cond b 1 0
@@ -44,10 +43,11 @@ not_both b t f = cc
 -- ---- where a session stands
 
 -- the lines before what is left are answered
-pub record SessionSoFar (start : State) (old left : Option (List ℕ)) (stop : Bool) (number refused written : ℕ) (before after : Device) (now : State) : Type 0 where
-  pub lines : List (List ℕ)
+pub record SessionSoFar (start : Standing) (old left : Option (List ℕ)) (stop : Bool) (number refused written : ℕ) (before after : Device) (now : Standing) : Type 0 where
+  pub lines : List SessionLine
   pub printed : List Printed
   pub given : TakesLines old left lines
+  pub ended : any_cut_off lines ≡ false
   pub steps : SessionSteps start lines printed now
   pub number_is : number ≡ length printed
   pub refused_is : refused ≡ refusals printed
@@ -55,11 +55,12 @@ pub record SessionSoFar (start : State) (old left : Option (List ℕ)) (stop : B
   pub goes_on : IsTrue stop → refused ≡ 0
   pub taken : Takes before after (printed_text printed)
 
-pub none_yet : (start : State) (old left : Option (List ℕ)) (stop : Bool) (before : Device) → TakesLines old left [] → Appends before.bytes before.bytes [] → SessionSoFar start old left stop 0 0 0 before before start
+pub none_yet : (start : Standing) (old left : Option (List ℕ)) (stop : Bool) (before : Device) → TakesLines old left [] → Appends before.bytes before.bytes [] → SessionSoFar start old left stop 0 0 0 before before start
 none_yet start old left stop before given same = record {
   lines = [];
   printed = [];
   given = given;
+  ended = refl;
   steps = refl;
   number_is = refl;
   refused_is = refl;
@@ -68,19 +69,20 @@ none_yet start old left stop before given same = record {
   taken = record { bytes = same; failures = refl };
 }
 
-module _ (start : State) (script : Device) (left : Option (List ℕ)) (stop : Bool) (number refused written : ℕ) (before mid : Device) (now : State)
+module _ (start : Standing) (script : Device) (left : Option (List ℕ)) (stop : Bool) (number refused written : ℕ) (before mid : Device) (now : Standing)
     (so_far : SessionSoFar start script.bytes left stop number refused written before mid now) where
   abbrev answered : Answered start now script so_far.printed
   answered = record { lines = so_far.lines; given = first_lines script.bytes left so_far.lines so_far.given; steps = so_far.steps }
 
   -- no line is left
   pub whole : (script_now : Device) → IsAtEnd left → script_now.failures ≡ script.failures
-      → (printed : List Printed) × (done : Answered start now script printed) × AllLines script.bytes done.lines
+      → (printed : List Printed) × (done : Answered start now script printed) × AllLines script.bytes done.lines × (false ≡ any_cut_off done.lines)
       × (script_now.failures ≡ script.failures) × (refused ≡ refusals printed) × (IsTrue stop → refused ≡ 0) × Takes before mid (printed_text printed)
   whole script_now end same = (
     so_far.printed,
     answered,
     all_lines script.bytes left so_far.lines so_far.given end,
+    sym so_far.ended,
     same,
     so_far.refused_is,
     so_far.goes_on,
@@ -106,8 +108,11 @@ module _ (start : State) (script : Device) (left : Option (List ℕ)) (stop : Bo
   pub too_many : 2 ^ 64 - 1 ≤ number → HasTooMany script.bytes so_far.lines
   too_many h = inl (omega (arith, h, so_far.number_is, steps-length SessionStep start now so_far.lines so_far.printed so_far.steps))
 
-module _ (start : State) (script : Device) (left rest : Option (List ℕ)) (line : List ℕ) (stop : Bool) (number refused written : ℕ) (before mid : Device) (now next : State) (p : Printed)
-    (so_far : SessionSoFar start script.bytes left stop number refused written before mid now) (given : TakesLine left rest line) (step : SessionStep now line p next) where
+module _ (start : Standing) (script : Device) (left rest : Option (List ℕ)) (text : List ℕ) (has_end : Bool) (stop : Bool) (number refused written : ℕ) (before mid : Device) (now next : Standing) (p : Printed)
+    (so_far : SessionSoFar start script.bytes left stop number refused written before mid now) (given : TakesLine left rest (line_of text has_end)) (step : SessionStep now (line_of text has_end) p next) where
+  abbrev line : SessionLine
+  line = line_of text has_end
+
   through : SessionSteps start (so_far.lines ++ line ∷ []) (so_far.printed ++ p ∷ []) next
   through = steps_more SessionStep start now next so_far.lines line so_far.printed p so_far.steps step
 
@@ -118,12 +123,13 @@ module _ (start : State) (script : Device) (left rest : Option (List ℕ)) (line
   answered_more = record { lines = so_far.lines ++ line ∷ []; given = (first_lines script.bytes rest (so_far.lines ++ line ∷ []) lines_given); steps = through }
 
   -- a line whose answer is written
-  pub one_more : (after : Device) (more told : ℕ) → Takes mid after p.text → more ≡ refused + cond p.is_refusal 1 0 → told ≡ count_in_64_bits (written + length p.text) → (IsTrue stop → p.is_refusal ≡ false)
+  pub one_more : (after : Device) (more told : ℕ) → Takes mid after p.text → more ≡ refused + cond p.is_refusal 1 0 → told ≡ count_in_64_bits (written + length p.text) → (IsTrue stop → p.is_refusal ≡ false) → has_end ≡ true
       → SessionSoFar start script.bytes rest stop (number + 1) more told before after next
-  one_more after more told taken more_is told_is not_refused = record {
+  one_more after more told taken more_is told_is not_refused is_whole = record {
     lines = so_far.lines ++ line ∷ [];
     printed = so_far.printed ++ p ∷ [];
     given = lines_given;
+    ended = cut_off_more so_far.lines text has_end so_far.ended ∙ ap not is_whole;
     steps = through;
     number_is = omega (arith, so_far.number_is, length-append so_far.printed (p ∷ []));
     refused_is = more_is ∙ ap (λ n. n + cond p.is_refusal 1 0) so_far.refused_is ∙ sym (refusals_more so_far.printed p);
@@ -131,6 +137,23 @@ module _ (start : State) (script : Device) (left rest : Option (List ℕ)) (line
     goes_on = λ s. let none : refused ≡ 0 = so_far.goes_on s in more_is ∙ ap₂ (λ n b. n + cond b 1 0) none (not_refused s);
     taken = rw (text_more so_far.printed p) (takes_more before mid after (printed_text so_far.printed) p.text so_far.taken taken);
   }
+
+  -- the last line, which is cut off, and whose answer is written
+  pub cut_short : (script_now after : Device) (more : ℕ) → Takes mid after p.text → more ≡ refused + cond p.is_refusal 1 0 → (IsTrue stop → p.is_refusal ≡ false) → has_end ≡ false
+      → IsAtEnd rest → script_now.failures ≡ script.failures
+      → (printed : List Printed) × (done : Answered start next script printed) × AllLines script.bytes done.lines × (true ≡ any_cut_off done.lines)
+      × (script_now.failures ≡ script.failures) × (more ≡ refusals printed) × (IsTrue stop → more ≡ 0) × Takes before after (printed_text printed)
+  unfolding answered_more
+  cut_short script_now after more taken more_is not_refused is_cut end same = (
+    so_far.printed ++ p ∷ [],
+    answered_more,
+    all_lines script.bytes rest (so_far.lines ++ line ∷ []) lines_given end,
+    sym (cut_off_more so_far.lines text has_end so_far.ended ∙ ap not is_cut),
+    same,
+    more_is ∙ ap (λ n. n + cond p.is_refusal 1 0) so_far.refused_is ∙ sym (refusals_more so_far.printed p),
+    λ s. let none : refused ≡ 0 = so_far.goes_on s in more_is ∙ ap₂ (λ n b. n + cond b 1 0) none (not_refused s),
+    rw (text_more so_far.printed p) (takes_more before mid after (printed_text so_far.printed) p.text so_far.taken taken),
+  )
 
   -- a line whose answer is not written whole
   pub breaks_off : (after : Device) (k told : ℕ) → TakesPart mid after p.text k → told ≡ count_in_64_bits (written + k)

@@ -1,23 +1,74 @@
 -- A session is the run of its lines, with an empty line behind each answer.
-use Rattle.std.proofs.Common.{◌≡◌, ◌≤◌, ℕ, List, [], ◌∷◌, length, refl, ap, ap₂, ◌∙◌, inl, inr, arith}
+use Rattle.std.proofs.Common.{◌≡◌, ◌≢◌, ◌≤◌, ℕ, List, [], ◌∷◌, length, Bool, true, false, Result, Ok, Err, refl, ap, ap₂, subst, sym, ◌∙◌, inl, inr, arith}
 use Rattle.bench_rules.specs.State.{State}
 use Rattle.script_words.specs.declared.line_fault.LineFault.TheVariants.{OutOfMemory}
-use Rattle.script_text.specs.Replies.{Printed, fault_reply}
+use Rattle.script_text.specs.declared.session_fault.SessionFault.{SessionFault}
+use Rattle.script_text.specs.declared.session_fault.SessionFault.TheVariants.{SaveFailed}
+use Rattle.script_words.specs.declared.session_words.SessionWord.{SessionWord}
+use Rattle.script_words.specs.declared.session_words.SessionWord.TheVariants.{Save, SaveWithMore, Other}
+use Rattle.script_words.specs.SessionWords.{session_word_of}
+use Rattle.script_text.specs.Replies.{Printed, fault_reply, session_reply}
 use Rattle.script_words.specs.Words.{without_return}
-use Rattle.script_run.specs.Laws.{SessionIsRun}
+use Rattle.script_run.specs.Input.{SessionLine}
+use Rattle.script_run.specs.Laws.{SessionIsRun, IsNoSave, OutIsLastSave}
 use Rattle.script_run.specs.Runs.{LineStep}
-use Rattle.script_run.specs.Sessions.{AnswerStep, with_empty_line}
+use Rattle.script_run.specs.Sessions.{Standing, WordStep, EndedStep, AnswerStep, with_empty_line}
 
-one_line : (old new : State) (line : List ℕ) (p answer : Printed) → length line ≤ 16777216 → (p ≡ with_empty_line (fault_reply OutOfMemory) → ⊥) → p ≡ with_empty_line answer → AnswerStep old line answer new
-    → LineStep old (without_return line) answer new
-one_line old new line p answer within some is (inl step) = absurd (omega (arith, within, step.0))
-one_line old new line p answer within some is (inr (_, inl step)) = step
-one_line old new line p answer within some is (inr (_, inr step)) = absurd (some (is ∙ ap with_empty_line step.0))
+-- a line of a script, and nothing saved
+abbrev IsOfRun : Standing → List ℕ → Printed → Standing → Type 0
+IsOfRun old line p new = LineStep old.state line p new.state × (new.out ≡ old.out)
+
+of_word : (word : SessionWord) (old new : Standing) (line : List ℕ) (p : Printed) → word ≡ Other → WordStep word old line p new → IsOfRun old line p new
+of_word Save old new line p other step = cc
+of_word SaveWithMore old new line p other step = cc
+of_word Other old new line p other step = step
+
+of_end : (has_end : Bool) (old new : Standing) (text : List ℕ) (p : Printed) → has_end ≡ true → session_word_of (without_return text) ≡ Other → (p ≡ fault_reply OutOfMemory → ⊥)
+    → EndedStep has_end old text p new → IsOfRun old (without_return text) p new
+of_end false old new text p there other some step = cc
+of_end true old new text p there other some (inl step) = of_word (session_word_of (without_return text)) old new (without_return text) p other step
+of_end true old new text p there other some (inr step) = absurd (some step.0)
+
+one_line : (old new : Standing) (line : SessionLine) (p answer : Printed) → length line.text ≤ 16777216 → line.has_end ≡ true → session_word_of (without_return line.text) ≡ Other
+    → (p ≡ with_empty_line (fault_reply OutOfMemory) → ⊥) → p ≡ with_empty_line answer → AnswerStep old line answer new → IsOfRun old (without_return line.text) answer new
+one_line old new line p answer within there other some is (inl step) = absurd (omega (arith, within, step.0))
+one_line old new line p answer within there other some is (inr (_, step)) =
+    of_end line.has_end old new line.text answer there other (λ e. some (is ∙ ap with_empty_line e)) step
 
 pub session_is_run : SessionIsRun
-session_is_run old new [] [] steps within some = ([], steps, refl)
-session_is_run old new [] (p ∷ ps) steps within some = absurd steps
-session_is_run old new (l ∷ ls) [] steps within some = absurd steps
-session_is_run old new (l ∷ ls) (p ∷ ps) (mid, (answer, step, is), rest) within some =
-    let others = session_is_run mid new ls ps rest within.1 some.1 in
-    (answer ∷ others.0, (mid, one_line old mid l p answer within.0 some.0 is step, others.1), ap₂ (λ (x : Printed) (xs : List Printed). x ∷ xs) is others.2)
+session_is_run old new [] [] steps of none = ([], ap (λ (s : Standing). s.state) steps, refl, ap (λ (s : Standing). s.out) steps)
+session_is_run old new [] (p ∷ ps) steps of none = absurd steps
+session_is_run old new (l ∷ ls) [] steps of none = absurd steps
+session_is_run old new (l ∷ ls) (p ∷ ps) (mid, (answer, step, is), rest) (within, there, other, of) none =
+    let one = one_line old mid l p answer within there other none.0 is step in
+    let others = session_is_run mid new ls ps rest of none.1 in
+    (answer ∷ others.0, (mid.state, one.0, others.1), ap₂ (λ (x : Printed) (xs : List Printed). x ∷ xs) is others.2, others.3 ∙ one.1)
+
+-- ---- what stands under OUT
+
+kept_by_word : (word : SessionWord) (old new : Standing) (line : List ℕ) (p answer : Printed) → IsNoSave p → p ≡ with_empty_line answer
+    → WordStep word old line answer new → new.out ≡ old.out
+kept_by_word Save old new line p answer none is (Ok bytes, saved, told, same) = absurd (none.0 bytes (is ∙ ap with_empty_line told))
+kept_by_word Save old new line p answer none is (Err fault, inl (nowhere, kept), told, same) = kept
+kept_by_word Save old new line p answer none is (Err fault, inr (taken, failed, either), told, same) =
+    absurd (none.1 taken (is ∙ ap with_empty_line (told ∙ ap (λ (f : SessionFault). session_reply (Err f)) failed)))
+kept_by_word SaveWithMore old new line p answer none is step = ap (λ (s : Standing). s.out) step.1
+kept_by_word Other old new line p answer none is step = step.1
+
+kept_by_end : (has_end : Bool) (old new : Standing) (text : List ℕ) (p answer : Printed) → IsNoSave p → p ≡ with_empty_line answer
+    → EndedStep has_end old text answer new → new.out ≡ old.out
+kept_by_end false old new text p answer none is step = ap (λ (s : Standing). s.out) step.1
+kept_by_end true old new text p answer none is (inl step) = kept_by_word (session_word_of (without_return text)) old new (without_return text) p answer none is step
+kept_by_end true old new text p answer none is (inr step) = ap (λ (s : Standing). s.out) step.1
+
+kept_by_line : (old new : Standing) (line : SessionLine) (p answer : Printed) → IsNoSave p → p ≡ with_empty_line answer
+    → AnswerStep old line answer new → new.out ≡ old.out
+kept_by_line old new line p answer none is (inl step) = ap (λ (s : Standing). s.out) step.2
+kept_by_line old new line p answer none is (inr (_, step)) = kept_by_end line.has_end old new line.text p answer none is step
+
+pub out_is_last_save : OutIsLastSave
+out_is_last_save old new [] [] steps none = ap (λ (s : Standing). s.out) steps
+out_is_last_save old new [] (p ∷ ps) steps none = absurd steps
+out_is_last_save old new (l ∷ ls) [] steps none = absurd steps
+out_is_last_save old new (l ∷ ls) (p ∷ ps) (mid, (answer, step, is), rest) none =
+    out_is_last_save mid new ls ps rest none.1 ∙ kept_by_line old mid l p answer none.0 is step

@@ -116,6 +116,7 @@ Runs on_disk options old new (ends.Answers written) =
     ((fault : LoadFault) × RefusesLoad options old new fault × TakesPart old.answers new.answers (load_refusal_line fault) written)
     ⊎ ((fault : ScriptFault) × RefusesScript on_disk options old new fault × TakesPart old.answers new.answers (script_refusal_line fault) written)
     ⊎ ((taken : ℕ) × (written ≡ count_in_64_bits taken) × LosesAnswer on_disk options old new taken)
+Runs on_disk options old new (ends.SaveAtEnd refused) = ⊥
 Runs on_disk options old new (ends.Save fault) =
     (refused : ℕ) × (end : State) × RunsThrough on_disk options old new refused end × IsTrue options.save
     × SavesPart on_disk old.out new.out (bytes_of end.volume) fault

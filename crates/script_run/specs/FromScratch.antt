@@ -22,9 +22,9 @@ saved s = record { file = bytes_of s.volume; fields = s.fields }
 abbrev pub loaded_again : Reading → Limits → Bool → Saved → Volume → State
 loaded_again reading limits on_disk s volume = record { volume = volume; fields = s.fields; reading = reading; limits = limits; on_disk = on_disk }
 
-module _ (Step : State → List ℕ → Printed → State → Type 0) (reading : Reading) (limits : Limits) (on_disk : Bool) where
+module _ {L : Type 0} (Step : State → L → Printed → State → Type 0) (reading : Reading) (limits : Limits) (on_disk : Bool) where
   -- a line, answered by what a load of the file that is saved before it holds, and what is saved behind it
-  pub record ScratchStep (old : Saved) (line : List ℕ) (printed : Printed) (new : Saved) : Type 0 where
+  pub record ScratchStep (old : Saved) (line : L) (printed : Printed) (new : Saved) : Type 0 where
     pub volume : Volume
     pub cut : IsCut old.file reading limits volume
     pub end : State
@@ -32,5 +32,5 @@ module _ (Step : State → List ℕ → Printed → State → Type 0) (reading :
     pub new_is : new ≡ saved end
 
   -- the lines one after another, each answered so
-  abbrev pub ScratchSteps : Saved → List (List ℕ) → List Printed → Saved → Type 0
+  abbrev pub ScratchSteps : Saved → List L → List Printed → Saved → Type 0
   ScratchSteps old lines printed new = StepsBy ScratchStep old lines printed new

@@ -1,9 +1,9 @@
 -- How lines are taken from a reader, of which some bytes are read ahead.
-use Rattle.std.specs.Prelude.{◌≡◌, ◌⊎◌, ℕ, ◌<◌, ◌≤◌, ◌-◌, ◌^◌, IfSome, Bool, true, false, ⊤, List, [], ◌∷◌, ◌++◌, length, Option, Some, None}
+use Rattle.std.specs.Prelude.{◌≡◌, ◌⊎◌, ℕ, ◌<◌, ◌≤◌, ◌-◌, ◌^◌, IfSome, Bool, true, false, not, if◌then◌else◌, ⊤, List, [], ◌∷◌, ◌++◌, length, Option, Some, None}
 use Rattle.std.specs.List.{list_any, before_first, after_first}
 use Rattle.std.specs.Io.KnownBytes.{prepend_known, Consumes, IsAtEnd}
 use Rattle.script_text.specs.Devices.{count_in_64_bits}
-use Rattle.script_words.specs.Words.{is_line_feed, parts_by_line_feed}
+use Rattle.script_words.specs.Words.{is_line_feed}
 use Rattle.script_run.specs.declared.line_read.LineRead.{LineRead}
 use Rattle.script_run.specs.declared.line_read.LineRead.TheVariants.{Text, TooLarge, Lost}
 
@@ -11,17 +11,48 @@ use Rattle.script_run.specs.declared.line_read.LineRead.TheVariants.{Text, TooLa
 abbrev pub left_of : List ℕ → Option (List ℕ) → Option (List ℕ)
 left_of ahead bytes = prepend_known ahead bytes
 
+-- a line as it comes from a reader: what stands in front of its line feed, and whether it has one
+pub record SessionLine : Type 0 where
+  pub text : List ℕ
+  pub has_end : Bool
+
+-- a line that its line feed ends
+abbrev pub ended : List ℕ → SessionLine
+ended text = record { text = text; has_end = true }
+
+-- the last line, where it lacks a line feed
+abbrev pub cut_off : List ℕ → SessionLine
+cut_off text = record { text = text; has_end = false }
+
+-- a line with its line feed, or without
+abbrev pub line_of : List ℕ → Bool → SessionLine
+line_of text has_end = record { text = text; has_end = has_end }
+
+-- a byte in front of the first line; where there is none, it begins the last
+abbrev pub onto_first_line : ℕ → List SessionLine → List SessionLine
+onto_first_line b [] = cut_off (b ∷ []) ∷ []
+onto_first_line b (line ∷ lines) = record { text = b ∷ line.text; has_end = line.has_end } ∷ lines
+
+-- the lines of these bytes
+abbrev pub session_lines : List ℕ → List SessionLine
+session_lines [] = []
+session_lines (b ∷ bs) = if is_line_feed b then ended [] ∷ session_lines bs else onto_first_line b (session_lines bs)
+
+-- one of these lines lacks its line feed
+abbrev pub any_cut_off : List SessionLine → Bool
+any_cut_off lines = list_any (λ line. not line.has_end) lines
+
 -- the first line is taken from known bytes
-abbrev pub TakesLine : Option (List ℕ) → Option (List ℕ) → List ℕ → Type 0
+abbrev pub TakesLine : Option (List ℕ) → Option (List ℕ) → SessionLine → Type 0
 TakesLine None new line = ⊤
 TakesLine (Some xs) None line = ⊥
-TakesLine (Some xs) (Some ys) line = parts_by_line_feed xs ≡ line ∷ parts_by_line_feed ys
+TakesLine (Some xs) (Some ys) line = session_lines xs ≡ line ∷ session_lines ys
 
 -- the first lines are taken from known bytes
-abbrev pub TakesLines : Option (List ℕ) → Option (List ℕ) → List (List ℕ) → Type 0
+abbrev pub TakesLines : Option (List ℕ) → Option (List ℕ) → List SessionLine → Type 0
 TakesLines None new lines = ⊤
 TakesLines (Some xs) None lines = ⊥
-TakesLines (Some xs) (Some ys) lines = parts_by_line_feed xs ≡ lines ++ parts_by_line_feed ys
+TakesLines (Some xs) (Some ys) lines = session_lines xs ≡ lines ++ session_lines ys
 
 -- what is held of a line: how many bytes were read of it, and these, unless they were too many or no memory held them
 pub record Held : Type 0 where
@@ -75,5 +106,5 @@ abbrev pub IsEndless : Option (List ℕ) → Type 0
 IsEndless known = IfSome known (λ bytes. 2 ^ 64 - 1 ≤ length bytes)
 
 -- so many lines were taken, or behind the lines that were taken so many bytes are left
-abbrev pub HasTooMany : Option (List ℕ) → List (List ℕ) → Type 0
+abbrev pub HasTooMany : Option (List ℕ) → List SessionLine → Type 0
 HasTooMany known lines = (2 ^ 64 - 1 ≤ length lines) ⊎ ((rest : Option (List ℕ)) × TakesLines known rest lines × IsEndless rest)

@@ -1,5 +1,5 @@
 -- What holds of lines whatever they are.
-use Rattle.std.specs.Prelude.{◌≡◌, ◌≢◌, ℕ, ◌≤◌, ⊤, List, [], ◌∷◌, ◌++◌, length, map, Option, Some, None, Result, Ok, Err}
+use Rattle.std.specs.Prelude.{◌≡◌, ◌≢◌, ℕ, ◌≤◌, ⊤, true, List, [], ◌∷◌, ◌++◌, length, map, Option, Some, None, Result, Ok, Err}
 use Rattle.frame_cut.specs.Cuts.{IsCut}
 use Rattle.frame_cut.specs.Volume.{bytes_of}
 use Rattle.bench_rules.specs.declared.edit.Edit.{Edit}
@@ -12,12 +12,16 @@ use Rattle.script_words.specs.declared.command.Command.{Command}
 use Rattle.script_words.specs.declared.command.Command.TheVariants.{Apply, Ask}
 use Rattle.script_words.specs.declared.line_fault.LineFault.{LineFault}
 use Rattle.script_words.specs.declared.line_fault.LineFault.TheVariants.{OutOfMemory}
-use Rattle.script_text.specs.Replies.{Printed, edit_reply, fault_reply}
+use Rattle.script_text.specs.declared.session_fault.SessionFault.TheVariants.{SaveFailed}
+use Rattle.script_text.specs.Replies.{Printed, edit_reply, fault_reply, session_reply}
 use Rattle.script_words.specs.Commands.{IsParsed}
 use Rattle.script_words.specs.Words.{without_return}
 use Rattle.script_run.specs.FromScratch.{ScratchSteps, saved}
 use Rattle.script_run.specs.Runs.{LineStep, LineSteps, StepsBy}
-use Rattle.script_run.specs.Sessions.{SessionSteps, with_empty_line}
+use Rattle.script_words.specs.declared.session_words.SessionWord.TheVariants.{Other}
+use Rattle.script_words.specs.SessionWords.{session_word_of}
+use Rattle.script_run.specs.Input.{SessionLine}
+use Rattle.script_run.specs.Sessions.{Standing, SessionSteps, with_empty_line}
 
 -- the parts that are held are the cut of their own bytes
 abbrev pub IsRead : State → Type 0
@@ -75,13 +79,30 @@ abbrev pub NoneIs : Printed → List Printed → Type 0
 NoneIs p [] = ⊤
 NoneIs p (q ∷ qs) = (q ≢ p) × NoneIs p qs
 
--- no line is longer than a script's may be
-abbrev pub AllWithin : List (List ℕ) → Type 0
-AllWithin [] = ⊤
-AllWithin (line ∷ lines) = (length line ≤ 16777216) × AllWithin lines
+-- each line is one of a script: it is no longer than a script's may be, has its line feed, and does not say `save`
+abbrev pub AreOfScript : List SessionLine → Type 0
+AreOfScript [] = ⊤
+AreOfScript (line ∷ lines) =
+    (length line.text ≤ 16777216) × (line.has_end ≡ true) × (session_word_of (without_return line.text) ≡ Other) × AreOfScript lines
 
--- a session of lines of which none is too long, and none answered E11, is the run of the same lines, with an empty line behind each answer
+-- a session of lines of a script, none of them answered E11, is the run of the same lines, with an empty line behind each answer, and
+-- saves nothing
 abbrev pub SessionIsRun : Type 0
-SessionIsRun = (old new : State) (lines : List (List ℕ)) (printed : List Printed) → SessionSteps old lines printed new
-    → AllWithin lines → NoneIs (with_empty_line (fault_reply OutOfMemory)) printed
-    → (answers : List Printed) × LineSteps old (map without_return lines) answers new × (printed ≡ map with_empty_line answers)
+SessionIsRun = (old new : Standing) (lines : List SessionLine) (printed : List Printed) → SessionSteps old lines printed new
+    → AreOfScript lines → NoneIs (with_empty_line (fault_reply OutOfMemory)) printed
+    → (answers : List Printed) × LineSteps old.state (map (λ line. without_return line.text) lines) answers new.state × (printed ≡ map with_empty_line answers)
+    × (new.out ≡ old.out)
+
+-- what is printed tells of no save, that was done or that failed at S08
+abbrev pub IsNoSave : Printed → Type 0
+IsNoSave p =
+    ((bytes : ℕ) → p ≢ with_empty_line (session_reply (Ok bytes))) × ((taken : ℕ) → p ≢ with_empty_line (session_reply (Err (SaveFailed taken))))
+
+-- none of these answers does
+abbrev pub NoneSaves : List Printed → Type 0
+NoneSaves [] = ⊤
+NoneSaves (p ∷ ps) = IsNoSave p × NoneSaves ps
+
+-- what stands under OUT behind lines none of which is answered as a save stood there before them
+abbrev pub OutIsLastSave : Type 0
+OutIsLastSave = (old new : Standing) (lines : List SessionLine) (printed : List Printed) → SessionSteps old lines printed new → NoneSaves printed → new.out ≡ old.out

@@ -7,7 +7,7 @@ use Rattle.script_text.specs.RefusalTexts.{load_refusal_line}
 use Rattle.script_run.specs.declared.options.Options.{Options}
 use Rattle.script_text.specs.declared.run_end.RunEnd.{RunEnd}
 use Rattle.script_text.specs.declared.run_end.RunEnd.TheVariants as ends
-use Rattle.script_run.specs.Ends.{Devices, IsTold}
+use Rattle.script_run.specs.Ends.{IsTold}
 
 -- a reader that has all bytes of a file still to give
 abbrev pub unread : List ℕ → Device
@@ -18,9 +18,8 @@ abbrev pub read_whole : Device
 read_whole = record { bytes = Some []; failures = 0 }
 
 -- the pass over a file of so many bytes was refused, by what it read, or for want of a read or of memory: the line of the refusal is written,
--- or a part of it, no line of the script is read, and nothing is saved
-pub record RefusesPass (size : ℕ) (options : Options) (old new : Devices) (end : RunEnd) (refused : RefusedPass) : Type 0 where
+-- or a part of it, and no line of the script is read
+pub record RefusesPass (size : ℕ) (options : Options) (script script_now answers answers_now : Device) (end : RunEnd) (refused : RefusedPass) : Type 0 where
   pub reason : IsPassFault size options.reading options.limits refused.read refused.fault
-  pub told : IsTold old.answers new.answers (load_refusal_line refused.fault) (ends.Load refused.fault) end
-  pub unread_is : new.script ≡ old.script
-  pub unsaved : new.out ≡ old.out
+  pub told : IsTold answers answers_now (load_refusal_line refused.fault) (ends.Load refused.fault) end
+  pub unread_is : script_now ≡ script

@@ -29,9 +29,9 @@ abbrev pub LineStep : State → List ℕ → Printed → State → Type 0
 LineStep old line printed new =
     (read : Result (Option Command) LineFault) × IsParsed line read × ReadStep old read printed new
 
-module _ {S : Type 0} where
+module _ {S L : Type 0} where
   -- lines one after another, each by such a step, with what each prints
-  abbrev pub StepsBy : (S → List ℕ → Printed → S → Type 0) → S → List (List ℕ) → List Printed → S → Type 0
+  abbrev pub StepsBy : (S → L → Printed → S → Type 0) → S → List L → List Printed → S → Type 0
   StepsBy step old [] [] new = new ≡ old
   StepsBy step old [] (p ∷ ps) new = ⊥
   StepsBy step old (line ∷ lines) [] new = ⊥

@@ -1,23 +1,23 @@
 -- How the lines of a session end.
 use Rattle.std.specs.Prelude.{◌≡◌, ℕ, ◌+◌, ◌≤◌, Bool, IsTrue, List, [], ◌∷◌, ◌++◌, length}
-use Rattle.bench_rules.specs.State.{State}
 use Rattle.script_text.specs.Devices.{Device, Takes, TakesPart, count_in_64_bits}
 use Rattle.script_text.specs.Replies.{Printed}
 use Rattle.script_run.specs.declared.session_lines.SessionLines.{SessionLines}
 use Rattle.script_run.specs.declared.session_lines.SessionLines.TheVariants.{Whole, Stopped, Answers, Script}
 use Rattle.script_run.specs.Runs.{printed_text, refusals}
-use Rattle.script_run.specs.Sessions.{SessionSteps, FirstLines, AllLines, IsBroken}
+use Rattle.script_run.specs.Input.{SessionLine, any_cut_off}
+use Rattle.script_run.specs.Sessions.{Standing, SessionSteps, FirstLines, AllLines, IsBroken}
 
 -- the first lines of a reader are answered, from one state to another
-pub record Answered (start end : State) (before : Device) (printed : List Printed) : Type 0 where
-  pub lines : List (List ℕ)
+pub record Answered (start end : Standing) (before : Device) (printed : List Printed) : Type 0 where
+  pub lines : List SessionLine
   pub given : FirstLines before.bytes lines
   pub steps : SessionSteps start lines printed end
 
 -- the lines of a reader are answered, and the writer of the answers takes what is printed
-abbrev pub AnswersTo : State → State → Bool → Device → Device → Device → Device → SessionLines → Type 0
-AnswersTo start end stop script script_now answers answers_now (Whole refused) =
-    (printed : List Printed) × (done : Answered start end script printed) × AllLines script.bytes done.lines
+abbrev pub AnswersTo : Standing → Standing → Bool → Device → Device → Device → Device → SessionLines → Type 0
+AnswersTo start end stop script script_now answers answers_now (Whole refused is_cut_off) =
+    (printed : List Printed) × (done : Answered start end script printed) × AllLines script.bytes done.lines × (is_cut_off ≡ any_cut_off done.lines)
     × (script_now.failures ≡ script.failures) × (refused ≡ refusals printed) × (IsTrue stop → refused ≡ 0)
     × Takes answers answers_now (printed_text printed)
 AnswersTo start end stop script script_now answers answers_now (Stopped line) =

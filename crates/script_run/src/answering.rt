@@ -1,12 +1,13 @@
 // Answers the lines of a session.
-ghost use Rattle.std.specs.Prelude.{◌≡◌, ℕ, List, IsTrue};
+ghost use Rattle.std.specs.Prelude.{◌≡◌, ℕ, List, IsTrue, true, false};
 ghost use Rattle.live_volume.specs.Held.{IsReadAs};
 ghost use Rattle.script_text.specs.Devices.{device_of};
 ghost use Rattle.script_text.specs.Held.{printed_of};
 ghost use Rattle.script_text.specs.Replies.{Printed};
-ghost use Rattle.script_run.specs.Input.{Holds, Held};
-ghost use Rattle.script_run.specs.Sessions.{AnswerStep, SessionStep};
-ghost use Rattle.script_run.specs.declared.session_lines.SessionLines.TheVariants.{Script};
+ghost use Rattle.script_words.specs.SessionWords.{session_word_of};
+ghost use Rattle.script_run.specs.Input.{Holds, Held, line_of};
+ghost use Rattle.script_run.specs.Sessions.{standing, AnswerStep, SessionStep, WordStep};
+ghost use Rattle.script_run.specs.declared.session_lines.SessionLines.TheVariants.{Script, Whole};
 ghost use Rattle.script_run.specs.SessionLineRuns.{AnswersTo};
 ghost use Rattle.script_run.specs.Telling.{IsWritten};
 
@@ -16,25 +17,30 @@ use crate::line_read::LineRead;
 use crate::next::Next;
 use crate::read_ahead::ReadAhead;
 use crate::running::run_line;
+use crate::saving::save_now;
 use crate::session_lines::SessionLines;
 use crate::told::{Told, write_reply};
 use bench_core::Bench;
 use device_io::{Sink, Source, WriteFault};
-use script_text::{OutBuffer, Reply, ScriptFault};
-use script_words::{LineFault, strip_return};
+use safe_save::SavePlace;
+use script_text::{OutBuffer, Reply, ScriptFault, SessionFault};
+use script_words::{LineFault, SessionWord, session_word, strip_return};
 use std::alloc::Global;
 use std::io::{Read, Write};
 
 /// Answers the lines of the reader in order, and writes the whole answer to each, with an empty
 /// line behind it, before the next is read.
-pub(crate) fn answer_lines<S: Read, A: Write>(
+pub(crate) fn answer_lines<S: Read, A: Write, P: SavePlace>(
     alloc: Global,
     bench: &mut Bench,
     script: &mut Source<S>,
     answers: &mut Sink<A>,
+    place: &mut P,
     stop: bool,
 ) -> SessionLines
-    ensures lines { IsTrue bench.new.agreed → AnswersTo bench.old.state bench.new.state stop
+    ensures lines { IsTrue bench.new.agreed →
+        AnswersTo (standing bench.old.state (P.stands place.old))
+        (standing bench.new.state (P.stands place.new)) stop
         (device_of S.remaining script.old) (device_of S.remaining script.new)
         (device_of A.contents answers.old) (device_of A.contents answers.new) result }
     ensures same { IsReadAs bench.old.state bench.new.state }
@@ -47,13 +53,13 @@ pub(crate) fn answer_lines<S: Read, A: Write>(
     let mut refused = 0u64;
     let mut written = 0u64;
     'lines: for number in 0..u64::MAX {
-        match next_line(&mut ahead, script, &mut line) {
-            Next::Line => {}
-            Next::End => return SessionLines::Whole { refused },
+        let has_end = match next_line(&mut ahead, script, &mut line) {
+            Next::Line { has_end } => has_end,
+            Next::End => return whole(refused),
             Next::Failed => return broken(ScriptFault::ReadFailed, written),
             Next::Endless => return broken(ScriptFault::TooLarge, written),
-        }
-        match answer(alloc, bench, &line, &mut out, answers) {
+        };
+        match answer(alloc, bench, place, &line, has_end, &mut out, answers) {
             Ok(told) => {
                 written = written.saturating_add(told.length);
                 if told.is_refusal {
@@ -61,6 +67,9 @@ pub(crate) fn answer_lines<S: Read, A: Write>(
                         return SessionLines::Stopped { line: number + 1 };
                     }
                     refused += 1;
+                }
+                if !has_end {
+                    return cut_short(refused);
                 }
             }
             Err(fault) => {
@@ -73,6 +82,24 @@ pub(crate) fn answer_lines<S: Read, A: Write>(
     broken(ScriptFault::TooLarge, written)
 }
 
+fn whole(refused: u64) -> SessionLines
+    ensures { result ≡ Whole refused false }
+{
+    SessionLines::Whole {
+        refused,
+        is_cut_off: false,
+    }
+}
+
+fn cut_short(refused: u64) -> SessionLines
+    ensures { result ≡ Whole refused true }
+{
+    SessionLines::Whole {
+        refused,
+        is_cut_off: true,
+    }
+}
+
 fn broken(fault: ScriptFault, written: u64) -> SessionLines
     ensures { result ≡ Script fault written }
 {
@@ -80,37 +107,71 @@ fn broken(fault: ScriptFault, written: u64) -> SessionLines
 }
 
 // Answers one line, and writes the answer with an empty line behind it.
-fn answer<A: Write>(
+fn answer<A: Write, P: SavePlace>(
     alloc: Global,
     bench: &mut Bench,
+    place: &mut P,
     line: &HeldLine,
+    has_end: bool,
     out: &mut OutBuffer,
     answers: &mut Sink<A>,
 ) -> Result<Told, WriteFault>
     ensures line { IsTrue bench.new.agreed → (printed : Printed)
         × ((text : List ℕ) → Holds line.now text →
-        SessionStep bench.old.state text printed bench.new.state)
+        SessionStep (standing bench.old.state (P.stands place.old))
+        (line_of text has_end) printed
+        (standing bench.new.state (P.stands place.new)))
         × IsWritten (device_of A.contents answers.old) (device_of A.contents answers.new)
         printed result }
     ensures same { IsReadAs bench.old.state bench.new.state }
     ensures agreed { IsTrue bench.new.agreed → IsTrue bench.old.agreed }
     ensures loaded { bench.new.loaded ≡ bench.old.loaded }
 {
-    let reply = reply_to(alloc, bench, line);
+    let reply = reply_to(alloc, bench, place, line, has_end);
     write_reply(out, answers, &reply, b"\n")
 }
 
-// The reply to one line.
-fn reply_to(alloc: Global, bench: &mut Bench, line: &HeldLine) -> Reply
+// The reply to one line. The last one, where it lacks its line feed, is not run.
+fn reply_to<P: SavePlace>(
+    alloc: Global,
+    bench: &mut Bench,
+    place: &mut P,
+    line: &HeldLine,
+    has_end: bool,
+) -> Reply
     ensures step { IsTrue bench.new.agreed → (text : List ℕ) → Holds line.now text →
-        AnswerStep bench.old.state text (printed_of result) bench.new.state }
+        AnswerStep (standing bench.old.state (P.stands place.old)) (line_of text has_end)
+        (printed_of result) (standing bench.new.state (P.stands place.new)) }
     ensures same { IsReadAs bench.old.state bench.new.state }
     ensures agreed { IsTrue bench.new.agreed → IsTrue bench.old.agreed }
     ensures loaded { bench.new.loaded ≡ bench.old.loaded }
 {
     match line.read() {
-        LineRead::Text => run_line(alloc, bench, strip_return(line.bytes())),
         LineRead::TooLarge => Reply::Fault(LineFault::TooLarge),
+        LineRead::Text if !has_end => Reply::Session(Err(SessionFault::CutOff)),
+        LineRead::Lost if !has_end => Reply::Session(Err(SessionFault::CutOff)),
+        LineRead::Text => reply_to_text(alloc, bench, place, strip_return(line.bytes())),
         LineRead::Lost => Reply::Fault(LineFault::OutOfMemory),
+    }
+}
+
+// The reply to a line that was read whole.
+fn reply_to_text<P: SavePlace>(
+    alloc: Global,
+    bench: &mut Bench,
+    place: &mut P,
+    line: &[u8],
+) -> Reply
+    ensures step { IsTrue bench.new.agreed → WordStep (session_word_of line.now)
+        (standing bench.old.state (P.stands place.old)) line.now
+        (printed_of result) (standing bench.new.state (P.stands place.new)) }
+    ensures same { IsReadAs bench.old.state bench.new.state }
+    ensures agreed { IsTrue bench.new.agreed → IsTrue bench.old.agreed }
+    ensures loaded { bench.new.loaded ≡ bench.old.loaded }
+{
+    match session_word(line) {
+        SessionWord::Save => Reply::Session(save_now(alloc, bench, place)),
+        SessionWord::SaveWithMore => Reply::Fault(LineFault::Words),
+        SessionWord::Other => run_line(alloc, bench, line),
     }
 }

@@ -1,5 +1,5 @@
 // What holds of lines, as contracts of calls that do nothing.
-ghost use Rattle.script_run.specs.Laws.{LinesAreEdits, LinesFromScratch, ReloadsAsSaved, SessionIsRun};
+ghost use Rattle.script_run.specs.Laws.{LinesAreEdits, LinesFromScratch, OutIsLastSave, ReloadsAsSaved, SessionIsRun};
 
 use bench_laws::{answers_from_scratch, steps_stay_cut};
 
@@ -28,8 +28,13 @@ pub fn reloads_as_saved()
     answers_from_scratch();
 }
 
-/// A session answers as a run of the same lines does, with an empty line behind each answer, where
-/// no line is longer than a script's may be and memory was never refused.
+/// A session of lines of a script answers as a run of the same lines does, with an empty line
+/// behind each answer, where memory was never refused, and saves nothing.
 pub fn session_is_run()
     ensures { SessionIsRun }
+{}
+
+/// Behind lines none of which was answered as a save, OUT is what it was.
+pub fn out_is_last_save()
+    ensures { OutIsLastSave }
 {}

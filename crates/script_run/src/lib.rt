@@ -1,7 +1,8 @@
 //! A script run over a volume, and a session over one.
 //!
 //! [`run`] loads a volume, reads a script whole and runs its lines; [`session`] loads a volume and
-//! answers the lines of a reader one by one, with an empty line behind each answer. Both answer by
+//! answers the lines of a reader one by one, with an empty line behind each answer, and saves at a
+//! line `save`. Both answer by
 //! [`RunEnd`], which is the whole report of a run. [`run_on_disk`] and [`session_on_disk`] do the
 //! same over a file whose bytes stay on disk, and give the volume back beside the end. They take
 //! memory for the volume and for lines, and tell want of it as L16, P03 or E11; to print a reply
@@ -20,6 +21,7 @@ mod on_disk;
 mod options;
 mod read_ahead;
 mod running;
+mod saving;
 mod script;
 mod session_lines;
 mod told;
@@ -27,10 +29,12 @@ mod whole_run;
 mod whole_session;
 
 pub use crate::disk_run::DiskRun;
-pub use crate::laws::{lines_are_edits, lines_from_scratch, reloads_as_saved, session_is_run};
+pub use crate::laws::{
+    lines_are_edits, lines_from_scratch, out_is_last_save, reloads_as_saved, session_is_run,
+};
 pub use crate::on_disk::{load_on_disk, run_on_disk, session_on_disk};
 pub use crate::options::Options;
-pub use crate::whole_run::{run, run_loaded};
+pub use crate::whole_run::{refuse_load, run, run_loaded};
 pub use crate::whole_session::{session, session_loaded};
 pub use bench_core::Bench;
 pub use script_text::RunEnd;

@@ -10,8 +10,8 @@ use crate::read_ahead::ReadAhead;
 use device_io::{Failed, Source};
 use std::io::Read;
 
-/// Reads the next line, without its line feed, as far as memory holds it. Reads only where nothing
-/// is read ahead.
+/// Reads the next line, without its line feed, as far as memory holds it, and tells whether it has
+/// one. Reads only where nothing is read ahead.
 pub(crate) fn next_line<S: Read>(
     ahead: &mut ReadAhead,
     source: &mut Source<S>,
@@ -26,11 +26,11 @@ pub(crate) fn next_line<S: Read>(
         match has_more(ahead, source) {
             Ok(true) => {}
             Ok(false) if line.is_empty() => return Next::End,
-            Ok(false) => return Next::Line,
+            Ok(false) => return Next::Line { has_end: false },
             Err(_) => return Next::Failed,
         }
         if ahead.take_part(line) {
-            return Next::Line;
+            return Next::Line { has_end: true };
         }
     }
     Next::Endless

@@ -1,5 +1,5 @@
 // Runs and sessions over a file that stays on disk.
-ghost use Rattle.std.specs.Prelude.{◌≡◌, length, true, Err, IsTrue, IfOk, IfErr};
+ghost use Rattle.std.specs.Prelude.{◌≡◌, length, true, Err, IsTrue, IfOk, IfErr, OnErr};
 ghost use Rattle.field_map.specs.Binding.{geometry_at_load};
 ghost use Rattle.frame_cut.specs.Cuts.{IsCut};
 ghost use Rattle.frame_cut.specs.Volume.{bytes_of};
@@ -8,7 +8,7 @@ ghost use Rattle.script_text.specs.Devices.{device_of};
 ghost use Rattle.script_text.specs.RefusalTexts.{load_refusal_line};
 ghost use Rattle.script_text.specs.declared.run_end.RunEnd.TheVariants as ends;
 ghost use Rattle.script_run.specs.Ends.{devices, IsTold, Runs};
-ghost use Rattle.script_run.specs.Sessions.{Session};
+ghost use Rattle.script_run.specs.Sessions.{session_devices, Session};
 ghost use Rattle.script_run.specs.OnDisk.{unread, read_whole, RefusesPass};
 
 use crate::disk_run::DiskRun;
@@ -18,6 +18,7 @@ use crate::whole_session::session_loaded;
 use bench_core::Bench;
 use device_io::{Sink, Source};
 use edit_overlay::PassFault;
+use safe_save::SavePlace;
 use script_hints::Notes;
 use script_text::{RunEnd, load_fault_line};
 use std::alloc::Global;
@@ -50,11 +51,10 @@ pub fn run_on_disk<S: Read, A: Write, O: Write>(
         result.end) }
     ensures size { IfOk result.volume (λ volume. length volume.loaded ≡ size) }
     ensures refused { IfErr result.volume (RefusesPass size options
-        (devices read_whole (device_of S.remaining script.old)
-        (device_of A.contents answers.old) (device_of O.contents out.old))
-        (devices read_whole (device_of S.remaining script.new)
-        (device_of A.contents answers.new) (device_of O.contents out.new))
-        result.end) }
+        (device_of S.remaining script.old) (device_of S.remaining script.new)
+        (device_of A.contents answers.old) (device_of A.contents answers.new) result.end) }
+    ensures unsaved { OnErr result.volume
+        (device_of O.contents out.new ≡ device_of O.contents out.old) }
 {
     match load_on_disk(alloc, file, size, options) {
         Ok(mut bench) => {
@@ -70,32 +70,30 @@ pub fn run_on_disk<S: Read, A: Write, O: Write>(
 
 /// Answers the lines of a reader over a file that stays on disk, as
 /// [`session`](crate::session) does, and with what is said of [`run_on_disk`].
-pub fn session_on_disk<S: Read, A: Write, O: Write>(
+pub fn session_on_disk<S: Read, A: Write, P: SavePlace>(
     alloc: Global,
     file: File,
     size: u64,
     script: &mut Source<S>,
     answers: &mut Sink<A>,
-    out: &mut Sink<O>,
+    place: &mut P,
     options: Options,
 ) -> DiskRun
     ensures session { IfOk result.volume (λ volume. IsTrue volume.agreed → Session true options
-        (devices (unread volume.loaded) (device_of S.remaining script.old)
-        (device_of A.contents answers.old) (device_of O.contents out.old))
-        (devices read_whole (device_of S.remaining script.new)
-        (device_of A.contents answers.new) (device_of O.contents out.new))
+        (session_devices (unread volume.loaded) (device_of S.remaining script.old)
+        (device_of A.contents answers.old) (P.stands place.old))
+        (session_devices read_whole (device_of S.remaining script.new)
+        (device_of A.contents answers.new) (P.stands place.new))
         result.end) }
     ensures size { IfOk result.volume (λ volume. length volume.loaded ≡ size) }
     ensures refused { IfErr result.volume (RefusesPass size options
-        (devices read_whole (device_of S.remaining script.old)
-        (device_of A.contents answers.old) (device_of O.contents out.old))
-        (devices read_whole (device_of S.remaining script.new)
-        (device_of A.contents answers.new) (device_of O.contents out.new))
-        result.end) }
+        (device_of S.remaining script.old) (device_of S.remaining script.new)
+        (device_of A.contents answers.old) (device_of A.contents answers.new) result.end) }
+    ensures unsaved { OnErr result.volume (P.stands place.new ≡ P.stands place.old) }
 {
     match load_on_disk(alloc, file, size, options) {
         Ok(mut bench) => {
-            let end = session_loaded(alloc, &mut bench, script, answers, out, options);
+            let end = session_loaded(alloc, &mut bench, script, answers, place, options);
             DiskRun {
                 end,
                 volume: Ok(bench),

@@ -9,6 +9,7 @@ pub struct Options {
     pub limits: Limits,
     /// Whether the first refused line is the last that is run.
     pub stop: bool,
-    /// Whether the volume is saved behind the last line.
+    /// Whether the volume is saved behind the last line. A session, which saves by a word of its
+    /// own too, saves nothing there where its last line is cut off.
     pub save: bool,
 }

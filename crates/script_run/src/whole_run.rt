@@ -118,7 +118,7 @@ pub(crate) fn load<R: Read>(
     Bench::load(alloc, reader, options.reading, options.limits)
 }
 
-pub(crate) fn save<O: Write>(bench: &mut Bench, out: &mut Sink<O>) -> Result<(), SaveFault>
+fn save<O: Write>(bench: &mut Bench, out: &mut Sink<O>) -> Result<(), SaveFault>
     ensures saved { let old = device_of O.contents out.old in
         let new = device_of O.contents out.new in
         IsTrue bench.new.agreed →
@@ -130,6 +130,14 @@ pub(crate) fn save<O: Write>(bench: &mut Bench, out: &mut Sink<O>) -> Result<(),
     ensures loaded { bench.new.loaded ≡ bench.old.loaded }
 {
     bench.save(out)
+}
+
+/// Refuses a volume before it is loaded, as a load does: writes the one line of that.
+pub fn refuse_load<A: Write>(answers: &mut Sink<A>, fault: LoadFault) -> RunEnd
+    ensures { IsTold (device_of A.contents answers.old) (device_of A.contents answers.new)
+        (load_refusal_line fault) (ends.Load fault) result }
+{
+    tell(answers, &load_fault_line(fault), RunEnd::Load(fault))
 }
 
 // Writes the line of a refusal that ends the run.

@@ -3,6 +3,7 @@ use crate::tests::{Told, is_told, options, put, sample_file};
 use device_io::{Sink, Source, StepReader};
 use edit_overlay::ReadFault;
 use frame_cut::LoadFault;
+use safe_save::MemoryPlace;
 use script_hints::Notes;
 use script_run::{Bench, RunEnd, load_on_disk, run_loaded, run_on_disk, session_on_disk};
 use std::alloc::Global;
@@ -148,8 +149,8 @@ fn session_end(
 ) -> Result<RunEnd, Fail> {
     let options = options(false, false)?;
     let lines = &mut Source::new(StepReader::new(b"count\n", 4096, u64::MAX));
-    let out = &mut Sink::new(Vec::new(alloc));
-    Ok(session_on_disk(alloc, file, size, lines, answers, out, options).close())
+    let place = &mut MemoryPlace::new(alloc);
+    Ok(session_on_disk(alloc, file, size, lines, answers, place, options).close())
 }
 
 // Whether a session over the file, which is told to have so many bytes, ends so and answers so.

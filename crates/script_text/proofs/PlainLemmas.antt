@@ -48,11 +48,13 @@ use Rattle.bench_rules.specs.Tables.{table_of, found_of}
 use Rattle.bench_rules.specs.Answer.{Reply, IsReply, or_fault, of_trace, of_values, of_traces, trace_value, trace_sample, binary_value, line_answer, lines_answer, table_answer, found_answer, text_blocks, numbered_stanzas, stanzas_from, answer}
 use Rattle.script_words.specs.declared.line_fault.LineFault.{LineFault}
 use Rattle.script_words.specs.declared.line_fault.LineFault.TheVariants as line_faults
+use Rattle.script_text.specs.declared.session_fault.SessionFault.{SessionFault}
+use Rattle.script_text.specs.declared.session_fault.SessionFault.TheVariants as session_faults
 use Rattle.script_words.specs.Words.{is_line_feed}
 use Rattle.script_text.specs.Texts.{is_plain, IsFullLines}
 use Rattle.script_text.specs.FullLines.{HasPlainTexts}
-use Rattle.script_text.specs.RefusalTexts.{line_fault_text, no_trace, no_sample, text_fault_text, map_fault_text, refusal_text, ask_fault_text, refused_line}
-use Rattle.script_text.specs.Replies.{nothing, fault_reply, edit_reply, query_reply}
+use Rattle.script_text.specs.RefusalTexts.{line_fault_text, session_fault_text, no_trace, no_sample, text_fault_text, map_fault_text, refusal_text, ask_fault_text, refused_line}
+use Rattle.script_text.specs.Replies.{nothing, fault_reply, session_reply, edit_reply, query_reply}
 use Rattle.script_text.proofs.AnswerLineLemmas.{answers_are_full_lines}
 use Rattle.script_text.proofs.FullLineLemmas.{plain_both, plain_decimal, plain_first, no_word, word, plain_words, full_joined, one_line}
 
@@ -303,6 +305,11 @@ plain_line_fault line_faults.TooLarge = refl
 plain_line_fault line_faults.NotText = refl
 plain_line_fault line_faults.OutOfMemory = refl
 
+plain_session_fault : (fault : SessionFault) → is_plain (session_fault_text fault) ≡ true
+plain_session_fault session_faults.CutOff = refl
+plain_session_fault session_faults.NoOut = refl
+plain_session_fault (session_faults.SaveFailed written) = plain_words (word (codes "S08 save failed after") refl (word (decimal written) (plain_decimal written) (word (codes "bytes") refl no_word)))
+
 plain_no_trace : (p count : ℕ) → is_plain (no_trace p count) ≡ true
 plain_no_trace p count = plain_words (word (codes "E01 no trace") refl (word (decimal p) (plain_decimal p) (word (codes "of") refl (word (decimal count) (plain_decimal count) no_word))))
 
@@ -355,6 +362,10 @@ nothing_full = record { lines = []; text_is = refl; full = refl }
 
 pub fault_full : (fault : LineFault) → IsFullLines (fault_reply fault).text
 fault_full fault = refused_full (line_fault_text fault) (plain_line_fault fault)
+
+pub session_full : (reply : Result ℕ SessionFault) → IsFullLines (session_reply reply).text
+session_full (Ok bytes) = one_line (codes "saved " ++ decimal bytes) (full_joined (codes "saved ") refl (word (decimal bytes) (plain_decimal bytes) no_word))
+session_full (Err fault) = refused_full (session_fault_text fault) (plain_session_fault fault)
 
 pub edit_full : {T : Type 0} (reply : Result T Refusal) → IsFullLines (edit_reply reply).text
 edit_full (Ok done) = one_line (codes "ok") refl

@@ -1,11 +1,12 @@
 -- What is printed for a reply that is held.
-use Rattle.script_text.specs.Replies.{Printed, nothing, fault_reply, edit_reply, query_reply}
+use Rattle.script_text.specs.Replies.{Printed, nothing, fault_reply, session_reply, edit_reply, query_reply}
 use Rattle.script_text.specs.declared.reply.Reply.{Reply}
-use Rattle.script_text.specs.declared.reply.Reply.TheVariants.{Silent, Fault, Edited, Asked}
+use Rattle.script_text.specs.declared.reply.Reply.TheVariants.{Silent, Fault, Session, Edited, Asked}
 
 -- what a reply prints
 abbrev pub printed_of : Reply → Printed
 printed_of Silent = nothing
 printed_of (Fault fault) = fault_reply fault
+printed_of (Session reply) = session_reply reply
 printed_of (Edited reply) = edit_reply reply
 printed_of (Asked reply) = query_reply reply

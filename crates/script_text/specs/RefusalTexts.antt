@@ -15,6 +15,8 @@ use Rattle.script_text.specs.declared.script_fault.ScriptFault.{ScriptFault}
 use Rattle.script_text.specs.declared.script_fault.ScriptFault.TheVariants as script_faults
 use Rattle.script_words.specs.declared.line_fault.LineFault.{LineFault}
 use Rattle.script_words.specs.declared.line_fault.LineFault.TheVariants as line_faults
+use Rattle.script_text.specs.declared.session_fault.SessionFault.{SessionFault}
+use Rattle.script_text.specs.declared.session_fault.SessionFault.TheVariants as session_faults
 use Rattle.script_text.specs.Texts.{with_line_end, with_blanks}
 
 -- what is printed for a refused file, behind `load refused`
@@ -51,6 +53,12 @@ line_fault_text line_faults.Number = codes "S03 number"
 line_fault_text line_faults.NotText = codes "S04 not text"
 line_fault_text line_faults.TooLarge = codes "S05 too large"
 line_fault_text line_faults.OutOfMemory = codes "E11 out of memory"
+
+-- what is printed for what a session does not do, behind `refused`
+abbrev pub session_fault_text : SessionFault → List ℕ
+session_fault_text session_faults.CutOff = codes "S06 cut off"
+session_fault_text session_faults.NoOut = codes "S07 no out"
+session_fault_text (session_faults.SaveFailed written) = with_blanks (codes "S08 save failed after" ∷ decimal written ∷ codes "bytes" ∷ [])
 
 -- p is no trace of so many
 abbrev pub no_trace : ℕ → ℕ → List ℕ

@@ -1,11 +1,13 @@
 -- What a line of a script prints.
-use Rattle.std.specs.Prelude.{ℕ, Bool, true, false, List, [], Result, Ok, Err}
+use Rattle.std.specs.Prelude.{ℕ, Bool, true, false, List, [], ◌∷◌, codes, decimal, Result, Ok, Err}
 use Rattle.bench_rules.specs.declared.refusal.Refusal.{Refusal}
 use Rattle.bench_rules.specs.declared.answer.Answer.{Answer}
 use Rattle.bench_rules.specs.declared.ask_fault.AskFault.{AskFault}
 use Rattle.script_words.specs.declared.line_fault.LineFault.{LineFault}
+use Rattle.script_text.specs.declared.session_fault.SessionFault.{SessionFault}
 use Rattle.script_text.specs.AnswerTexts.{answer_text}
-use Rattle.script_text.specs.RefusalTexts.{accepted_line, refused_line, refusal_text, ask_fault_text, line_fault_text}
+use Rattle.script_text.specs.Texts.{with_blanks, with_line_end}
+use Rattle.script_text.specs.RefusalTexts.{accepted_line, refused_line, refusal_text, ask_fault_text, line_fault_text, session_fault_text}
 
 -- what a line prints, and whether that is a refusal
 pub record Printed : Type 0 where
@@ -23,6 +25,15 @@ refusal text = record { text = refused_line text; is_refusal = true }
 -- the reply to a line that is no command
 abbrev pub fault_reply : LineFault → Printed
 fault_reply fault = refusal (line_fault_text fault)
+
+-- the line printed for a save of so many bytes
+abbrev pub saved_line : ℕ → List ℕ
+saved_line bytes = with_line_end (with_blanks (codes "saved" ∷ decimal bytes ∷ []))
+
+-- the reply of a session itself: so many bytes were saved, or why none were, or why a line is not run
+abbrev pub session_reply : Result ℕ SessionFault → Printed
+session_reply (Ok bytes) = record { text = saved_line bytes; is_refusal = false }
+session_reply (Err fault) = refusal (session_fault_text fault)
 
 -- the reply to an edit
 abbrev pub edit_reply : {T : Type 0} → Result T Refusal → Printed

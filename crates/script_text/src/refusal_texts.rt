@@ -1,8 +1,11 @@
 // The lines that are printed for refusals.
 ghost use Rattle.std.specs.Prelude.{◌≡◌, ◌≤◌, ◌+◌, ◌++◌, length};
-ghost use Rattle.script_text.specs.RefusalTexts.{load_fault_text, load_refusal_line, script_fault_text, script_refusal_line, line_fault_text, refusal_text, ask_fault_text, no_trace, no_sample, text_fault_text, map_fault_text, refused_line};
+ghost use Rattle.script_text.specs.RefusalTexts.{load_fault_text, load_refusal_line, script_fault_text, script_refusal_line, line_fault_text, session_fault_text, refusal_text, ask_fault_text, no_trace, no_sample, text_fault_text, map_fault_text, refused_line};
+ghost use Rattle.script_text.specs.Replies.{saved_line as line_of_save};
+ghost use Rattle.script_text.specs.declared.session_fault.SessionFault.TheVariants.{SaveFailed};
 
 use crate::script_fault::ScriptFault;
+use crate::session_fault::SessionFault;
 use crate::text_buffer::TextBuffer;
 use bench_rules::{AskFault, Refusal};
 use field_map::MapFault;
@@ -50,6 +53,41 @@ pub(crate) fn line_fault_line(fault: LineFault) -> TextBuffer
         LineFault::TooLarge => b"S05 too large",
         LineFault::OutOfMemory => b"E11 out of memory",
     });
+    line.push(b"\n");
+    line
+}
+
+/// The line for what a session does not do.
+pub(crate) fn session_fault_line(fault: SessionFault) -> TextBuffer
+    ensures { result ≡ refused_line (session_fault_text fault) }
+{
+    let mut line = TextBuffer::new();
+    line.push(b"refused ");
+    match fault {
+        SessionFault::CutOff => line.push(b"S06 cut off"),
+        SessionFault::NoOut => line.push(b"S07 no out"),
+        SessionFault::SaveFailed(written) => push_save_failed(&mut line, written),
+    }
+    line.push(b"\n");
+    line
+}
+
+// The text of a save that failed when so many bytes were written.
+fn push_save_failed(line: &mut TextBuffer, written: u64)
+    requires { length line.old ≤ 8 }
+    ensures text { line.new ≡ line.old ++ session_fault_text (SaveFailed written) }
+    ensures short { length line.new ≤ 127 }
+{
+    line.push_numbered(b"S08 save failed after ", written);
+    line.push(b" bytes");
+}
+
+/// The line for a save of so many bytes.
+pub(crate) fn saved_line(bytes: u64) -> TextBuffer
+    ensures { result ≡ line_of_save bytes }
+{
+    let mut line = TextBuffer::new();
+    line.push_numbered(b"saved ", bytes);
     line.push(b"\n");
     line
 }

@@ -6,7 +6,10 @@ ghost use Rattle.script_text.specs.Held.{printed_of};
 
 use crate::answer_texts::push_answer;
 use crate::out_buffer::OutBuffer;
-use crate::refusal_texts::{ask_fault_line, line_fault_line, refusal_line};
+use crate::refusal_texts::{
+    ask_fault_line, line_fault_line, refusal_line, saved_line, session_fault_line,
+};
+use crate::session_fault::SessionFault;
 use bench_rules::{Answer, AskFault, Refusal};
 use device_io::{Sink, WriteFault};
 use script_words::LineFault;
@@ -19,6 +22,9 @@ pub enum Reply {
     Silent,
     /// The line is no command.
     Fault(LineFault),
+    /// The line is for the session itself, which saved so many bytes, or why it did not; or the
+    /// session does not run it.
+    Session(Result<u64, SessionFault>),
     /// The line is an edit.
     Edited(Result<(), Refusal>),
     /// The line is a query.
@@ -30,8 +36,10 @@ pub fn is_refusal(reply: &Reply) -> bool
     ensures { result ≡ (printed_of reply.now).is_refusal }
 {
     match reply {
-        Reply::Silent | Reply::Edited(Ok(())) | Reply::Asked(Ok(_)) => false,
-        Reply::Fault(_) | Reply::Edited(Err(_)) | Reply::Asked(Err(_)) => true,
+        Reply::Silent | Reply::Session(Ok(_)) | Reply::Edited(Ok(())) | Reply::Asked(Ok(_)) =>
+            false,
+        Reply::Fault(_) | Reply::Session(Err(_)) | Reply::Edited(Err(_)) | Reply::Asked(Err(_)) =>
+            true,
     }
 }
 
@@ -48,6 +56,8 @@ pub fn push_reply<W: Write>(
     match reply {
         Reply::Silent => Ok(()),
         Reply::Fault(fault) => out.push(writer, line_fault_line(*fault).as_slice()),
+        Reply::Session(Ok(bytes)) => out.push(writer, saved_line(*bytes).as_slice()),
+        Reply::Session(Err(fault)) => out.push(writer, session_fault_line(*fault).as_slice()),
         Reply::Edited(Ok(())) => out.push(writer, b"ok\n"),
         Reply::Edited(Err(refusal)) => out.push(writer, refusal_line(*refusal).as_slice()),
         Reply::Asked(Ok(answer)) => push_answer(out, writer, answer),

@@ -17,6 +17,9 @@ pub enum RunEnd {
     /// The writer of the answers failed when it had taken the first `written` bytes of what is
     /// printed, or `u64::MAX` and more. Nothing was saved.
     Answers { written: u64 },
-    /// All lines were run, and the save failed.
+    /// All lines of a script were run, and the save failed.
     Save(SaveFault),
+    /// All lines of a session were answered, so many of them refused, and the save behind the last
+    /// failed.
+    SaveAtEnd { refused: u64 },
 }

@@ -6,8 +6,21 @@ use Rattle.std.proofs.lemmas.Str.{IsUtf8-from_is_utf8, is_utf8-from_IsUtf8}
 use Rattle.script_words.specs.declared.command.Command.{Command}
 use Rattle.script_words.specs.declared.line_fault.LineFault.{LineFault}
 use Rattle.script_words.specs.declared.line_fault.LineFault.TheVariants.{NotText, OutOfMemory}
+use Rattle.script_words.specs.declared.session_words.SessionWord.TheVariants.{Other}
+use Rattle.script_words.specs.SessionWords.{session_word_of, word_to_session}
 use Rattle.script_words.specs.Words.{words_of, behind_word, is_note}
 use Rattle.script_words.specs.Commands.{command_of, some_command, words_result, line_result, CommandTakesMemory, LineTakesMemory, IsRead, IsParsed}
+
+-- ---- what a line says to a session
+
+pub says_nothing : (line : List ℕ) → (IsUtf8 line → ⊥) → session_word_of line ≡ Other
+says_nothing line h = elim (is_utf8 line) as (λ b. is_utf8 line ≡ b → session_word_of line ≡ Other) [
+  | true ↦ λ t. absurd (h (IsUtf8-from_is_utf8 line t))
+  | false ↦ λ f. rw f refl
+] refl
+
+pub says_by_words : (line : List ℕ) → IsUtf8 line → session_word_of line ≡ word_to_session (words_of line)
+says_by_words line u = rw (is_utf8-from_IsUtf8 line u) refl
 
 -- ---- what a line gives, by its words
 

@@ -8,8 +8,8 @@ use Rattle.script_words.specs.declared.command.Command.{Command}
 use Rattle.script_words.specs.declared.command.Command.TheVariants.{Apply, Ask}
 use Rattle.script_words.specs.declared.line_fault.LineFault.{LineFault}
 use Rattle.script_words.specs.declared.line_fault.LineFault.TheVariants.{Number, OutOfMemory}
-use Rattle.script_words.specs.Readers.{field_of, five}
-use Rattle.script_words.specs.Commands.{read_set, read_get, read_bin, read_getbin, IsFieldRead, IsName, HoldsMemory, CommandTakesMemory, IsRead}
+use Rattle.script_words.specs.Readers.{field_of, target_of, five}
+use Rattle.script_words.specs.Commands.{read_set, read_get, read_map, read_bin, read_getbin, IsFieldRead, IsName, HoldsMemory, CommandTakesMemory, IsRead}
 use Rattle.script_words.specs.Numbers.{position_of, number_of}
 
 -- a command of a field: S03 where the word is none
@@ -34,6 +34,26 @@ module _ (expected : Option Field → Result Command LineFault) (make : Field �
 -- what is read as a command
 abbrev pub Read : Type 0
 Read = Result Command LineFault
+
+-- a command that holds a text or a list, and was to be read, where no memory held it
+lost : (expected : Read) (command : Command) (r : Read) → IsErrAnd r (λ e. e ≡ OutOfMemory) → HoldsMemory command → IsRead expected (Ok command) → IsRead expected r
+lost expected command (Ok c) is holds h = absurd is
+lost expected command (Err e) is holds (inl same) = inr (ap (λ (k : LineFault). let r : Read = Err k in r) is, subst CommandTakesMemory same holds)
+lost expected command (Err e) is holds (inr h) = absurd cc
+
+module _ (ws : List (List ℕ)) (v at : List ℕ) (words : ws ≡ v ∷ at ∷ []) where
+  abbrev map_expected : Option Field → Read
+  map_expected o = ok_or (option_map (λ f. Apply (edits.Map v f)) o) Number
+
+  pub map_ok : (f : Field) → IsFieldRead (target_of at) (Ok f) → IsRead (read_map ws) (Ok (Apply (edits.Map v f)))
+  map_ok f h = rw words (field_ok map_expected (λ f. Apply (edits.Map v f)) refl (λ f. refl) (target_of at) f h)
+
+  pub map_err : (fault : LineFault) (r : Read) → IsErrAnd r (λ e. e ≡ fault) → IsFieldRead (target_of at) (Err fault) → IsRead (read_map ws) r
+  map_err fault r is h = rw words (field_err map_expected (λ f. Apply (edits.Map v f)) refl (λ f. refl) (λ f n. record {}) (target_of at) fault r is h)
+
+  -- the name found no memory
+  pub map_lost : (f : Field) (r : Read) → IsErrAnd r (λ e. e ≡ OutOfMemory) → IsFieldRead (target_of at) (Ok f) → IsRead (read_map ws) r
+  map_lost f r is h = lost (read_map ws) (Apply (edits.Map v f)) r is (record {}) (map_ok f h)
 
 module _ (ws : List (List ℕ)) (v at : List ℕ) (p : ℕ) (words : ws ≡ v ∷ at ∷ []) (position : position_of v ≡ Some p) where
   pub get_ok : (f : Field) → IsFieldRead (field_of at) (Ok f) → IsRead (read_get ws) (Ok (Ask (queries.Get p f)))

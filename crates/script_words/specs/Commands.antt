@@ -15,8 +15,8 @@ use Rattle.script_words.specs.declared.command.Command.TheVariants.{Apply, Ask}
 use Rattle.script_words.specs.declared.line_fault.LineFault.{LineFault}
 use Rattle.script_words.specs.declared.line_fault.LineFault.TheVariants.{Unknown, Number, NotText, OutOfMemory}
 use Rattle.script_words.specs.Words.{words_of, behind_word, text_behind_word, is_note}
-use Rattle.script_words.specs.Numbers.{number_of, position_of, place_of_word}
-use Rattle.script_words.specs.Readers.{Reader, name_of, field_of, alone, one, two, three, five, one_and_text, two_and_numbers}
+use Rattle.script_words.specs.Numbers.{number_of, position_of}
+use Rattle.script_words.specs.Readers.{Reader, name_of, field_of, target_of, alone, one, two, three, five, one_and_text, two_and_numbers}
 use Rattle.script_words.specs.HeaderCommands.{header_commands}
 
 -- ---- the commands
@@ -57,9 +57,9 @@ read_code = one position_of (λ block. Ask (queries.Code block))
 abbrev pub read_stanzas : Reader Command
 read_stanzas = alone (Ask queries.Stanzas)
 
--- `map NAME PLACE`
+-- `map NAME FIELD`
 abbrev pub read_map : Reader Command
-read_map = two name_of place_of_word (λ name place. Apply (edits.Map name place))
+read_map = two name_of target_of (λ name field. Apply (edits.Map name field))
 
 -- `unmap NAME`
 abbrev pub read_unmap : Reader Command
@@ -196,7 +196,7 @@ abbrev pub EditHoldsMemory : Edit → Type 0
 EditHoldsMemory (edits.Set p field x) = IsName field
 EditHoldsMemory (edits.SetBin field x) = IsName field
 EditHoldsMemory (edits.SetText q text) = Unit {0}
-EditHoldsMemory (edits.Map name place) = Unit {0}
+EditHoldsMemory (edits.Map name field) = Unit {0}
 EditHoldsMemory (edits.Unmap name) = Unit {0}
 EditHoldsMemory (edits.Patch p k values) = Unit {0}
 EditHoldsMemory (edits.Blank p) = ⊥

@@ -4,6 +4,7 @@ pub mod Readers
 pub mod ReportCommands
 pub mod HeaderCommands
 pub mod Commands
+pub mod SessionWords
 pub mod Examples
 pub mod LineExamples
 pub mod HeaderExamples

@@ -2,13 +2,16 @@
 use Rattle.std.specs.Prelude.{◌≡◌, pos, negsuc, codes, Some, Ok, Err, refl}
 use Rattle.std.specs.Str.{is_utf8, chars}
 use Rattle.std.specs.Char.{encode_utf8}
+use Rattle.field_map.specs.Pairs.{signed_at}
 use Rattle.range_stats.specs.declared.quantity.Quantity.TheVariants.{X}
 use Rattle.bench_rules.specs.declared.field.Field.TheVariants as fields
 use Rattle.bench_rules.specs.declared.edit.Edit.TheVariants as edits
 use Rattle.bench_rules.specs.declared.query.Query.TheVariants as queries
 use Rattle.script_words.specs.declared.command.Command.TheVariants.{Apply, Ask}
 use Rattle.script_words.specs.declared.line_fault.LineFault.TheVariants.{Unknown, Words, Number}
+use Rattle.script_words.specs.declared.session_words.SessionWord.TheVariants.{Save, SaveWithMore, Other}
 use Rattle.script_words.specs.Commands.{line_result}
+use Rattle.script_words.specs.SessionWords.{session_word_of}
 
 -- ---- reports
 
@@ -62,3 +65,38 @@ line-renumber_few = refl
 pub line-renumber_step : line_result (codes "renumber 1 3 crossline 1 170141183460469231731687303715884105728") ≡ Err Number
 unfolding is_utf8 chars encode_utf8
 line-renumber_step = refl
+
+-- ---- names bound to places
+
+-- a name may be bound to the place of another
+pub line-map : line_result (codes "map x source_x") ≡ Ok (Some (Apply (edits.Map (codes "x") (fields.Name (codes "source_x")))))
+unfolding is_utf8 chars encode_utf8
+line-map = refl
+
+pub line-map-place : line_result (codes "map shot @9:4") ≡ Ok (Some (Apply (edits.Map (codes "shot") (fields.Place (signed_at 9 4)))))
+unfolding is_utf8 chars encode_utf8
+line-map-place = refl
+
+-- but none that begins as a number does
+pub line-map-number : line_result (codes "map x 189") ≡ Err Number
+unfolding is_utf8 chars encode_utf8
+line-map-number = refl
+
+-- ---- a session's own word
+
+pub word-save : session_word_of (codes " save\t") ≡ Save
+unfolding is_utf8 chars encode_utf8
+word-save = refl
+
+pub word-save-more : session_word_of (codes "save it now") ≡ SaveWithMore
+unfolding is_utf8 chars encode_utf8
+word-save-more = refl
+
+pub word-other : session_word_of (codes "count save") ≡ Other
+unfolding is_utf8 chars encode_utf8
+word-other = refl
+
+-- it is no command of a script
+pub line-save : line_result (codes "save") ≡ Err Unknown
+unfolding is_utf8 chars encode_utf8
+line-save = refl

@@ -24,6 +24,10 @@ name_of word = Some word
 abbrev pub field_of : List ℕ → Option Field
 field_of word = if begins_with_at word then option_map fields.Place (place_of_word word) else Some (fields.Name word)
 
+-- what a name is bound to: any field, but no name that begins as a number does
+abbrev pub target_of : List ℕ → Option Field
+target_of word = if is_to_be_number word then None else field_of word
+
 -- WHICH: a kind of value that has a range
 abbrev pub quantity_of : List ℕ → Option Quantity
 quantity_of word = lookup (bytes_eq word)

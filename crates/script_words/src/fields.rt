@@ -1,12 +1,12 @@
 // Words that are places, and fields of a header.
 ghost use Rattle.std.specs.Prelude.{◌≡◌, is_some, IfOk, IfErr};
 ghost use Rattle.script_words.specs.Numbers.{place_of_word, place_in};
-ghost use Rattle.script_words.specs.Readers.{field_of};
+ghost use Rattle.script_words.specs.Readers.{field_of, target_of};
 ghost use Rattle.script_words.specs.Commands.{IsFieldRead};
 ghost use Rattle.script_words.specs.declared.line_fault.LineFault.TheVariants.{OutOfMemory as no_memory};
 
 use crate::line_fault::LineFault;
-use crate::numbers::natural;
+use crate::numbers::{is_number_like, natural};
 use crate::split::split_once;
 use bench_rules::{Field, Text};
 use field_map::Place;
@@ -67,6 +67,17 @@ pub(crate) fn field(alloc: Global, word: &str) -> Result<Field, LineFault>
     } else {
         Ok(Field::Name(text_of(alloc, word)?))
     }
+}
+
+/// The field that a name is bound to: any field, but no name that begins as a number does. Refused:
+/// S03, or E11 for a name.
+pub(crate) fn target(alloc: Global, word: &str) -> Result<Field, LineFault>
+    ensures { IsFieldRead (target_of word.now) result }
+{
+    if is_number_like(word) {
+        return Err(LineFault::Number);
+    }
+    field(alloc, word)
 }
 
 /// Whether the word is a field.

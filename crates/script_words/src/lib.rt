@@ -6,6 +6,7 @@
 //! list of lines.
 //!
 //! [`parse_line`] reads one line, and takes memory only where its command holds a text or a list.
+//! [`session_word`] tells what a line says to a session itself: `save` is no command of a script.
 #![tactic(auto)]
 
 mod command;
@@ -17,6 +18,7 @@ mod lines;
 mod numbers;
 mod parse;
 mod report_commands;
+mod session_words;
 mod sort_command;
 mod split;
 mod trace_commands;
@@ -26,4 +28,5 @@ pub use crate::command::Command;
 pub use crate::line_fault::LineFault;
 pub use crate::lines::{Lines, strip_return};
 pub use crate::parse::parse_line;
+pub use crate::session_words::{SessionWord, session_word};
 pub use crate::split::split_once;

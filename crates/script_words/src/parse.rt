@@ -6,7 +6,7 @@ ghost use Rattle.script_words.specs.Readers.{alone};
 ghost use Rattle.script_words.specs.Commands.{command_of, read_set, read_get, read_bin, read_getbin, read_text, read_line, read_lines, read_code, read_map, read_unmap, read_sample, IsRead, IsParsed};
 
 use crate::command::Command;
-use crate::fields::{field, place, text_of};
+use crate::fields::{field, target, text_of};
 use crate::header_commands::of_headers;
 use crate::line_fault::LineFault;
 use crate::numbers::{number, position};
@@ -142,7 +142,8 @@ fn map(alloc: Global, words: Words) -> Result<Command, LineFault>
     ensures { IsRead (read_map (words_of words.entry)) result }
 {
     let (name, at) = two(words).ok_or(LineFault::Words)?;
-    let at = place(at).ok_or(LineFault::Number)?;
+    // S03 of any word comes before E11.
+    let at = target(alloc, at)?;
     let name = text_of(alloc, name)?;
     Ok(Command::Apply(Edit::Map(name, at)))
 }

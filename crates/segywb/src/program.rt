@@ -1,18 +1,22 @@
 // From the command line to the exit status.
-ghost use Rattle.std.specs.Prelude.{◌≡◌, ◌≤◌, IfSome, is_some, unwrap_or};
+ghost use Rattle.std.specs.Prelude.{◌≡◌, ◌≤◌, ◌&&◌, ◌||◌, not, IfSome, is_some, unwrap_or};
 ghost use Rattle.command_line.specs.CommandLine.{usual_limit};
 
 use command_line::{Arguments, arguments};
 use device_io::{Sink, Source};
-use frame_cut::{Limits, Reading};
-use run_ending::{Target, finish, misuse, refused_out, target_of, tell_how_to_begin};
-use safe_save::{Original, Save};
+use frame_cut::{Limits, LoadFault};
+use run_ending::{
+    OutPlace, Target, finish, finish_told, misuse, reading_of, refused_out, target_of,
+    tell_how_to_begin,
+};
+use safe_save::{
+    BoundedFile, Original, Save, answers_limit, hold_standard_streams, keep_from_clearing,
+};
 use script_hints::Notes;
-use script_run::{Options, RunEnd, run, run_on_disk, session, session_on_disk};
-use std::fs::{File, OpenFile};
+use script_run::{Options, RunEnd, refuse_load, run, run_on_disk, session, session_on_disk};
+use std::fs::{File, Metadata, OpenFile};
 use std::io::{BufWriter, Read, Write};
-use std::os::fd::AsFd;
-use std::rt::{Env, Files};
+use std::rt::{Clock, Env, Files};
 use std::{env, fs, io};
 
 // The most bytes of a file, where the command line names no other number.
@@ -24,15 +28,13 @@ const DEFAULT_LIMIT_ON_DISK: u64 = 1099511627776;
 // goes by itself.
 const ROOM: usize = 65536;
 
-// Where the lines come from.
+// Where the lines of a script come from.
 #[derive(Drop)]
 enum Lines<F> {
-    // A script, from a file.
+    // From a file.
     File(F),
-    // A script, from standard input.
+    // From standard input.
     Standard,
-    // A session on standard input.
-    Session,
 }
 
 // The file that is loaded.
@@ -46,13 +48,18 @@ enum Volume<F> {
 
 // Reads the command line and runs the script. Whether standard input is a terminal decides what is
 // told where the command line asks for neither a script nor a session.
-pub fn status_of<R: Files<File = File> + Env + AllocGlobal + Print + Eprint + Input>(
+pub fn status_of<R: Files<File = File> + Env + Clock + AllocGlobal + Print + Eprint + Input>(
     rt: &R,
     is_typed: bool,
-) -> u8
-where
-    R::File: AsFd,
-{
+) -> u8 {
+    // Before anything is opened: a file would get the number of a standard stream that is closed.
+    let _streams = match hold_standard_streams(rt) {
+        Ok(held) => held,
+        Err(error) => {
+            let _ = eprintln!(rt; "segywb: a standard stream may be closed ({error})");
+            return 4;
+        }
+    };
     let Ok(words) = words(rt) else {
         let _ = eprintln!(rt; "segywb: cannot read the command line");
         return 2;
@@ -81,61 +88,126 @@ fn words<R: Env + AllocGlobal>(rt: &R) -> io::Result<Vec<String>> {
 }
 
 // Opens the file, then the script, then the folder of the save, and runs the script or the session.
-fn open_and_run<R: Files<File = File> + AllocGlobal + Print + Eprint + Input>(
-    rt: &R,
-    arguments: &Arguments,
+fn open_and_run<'a, R: Files<File = File> + Clock + AllocGlobal + Print + Eprint + Input>(
+    rt: &'a R,
+    arguments: &Arguments<'a>,
 ) -> u8
-where
-    R::File: AsFd,
     requires { IfSome arguments.now.max_bytes (λ n. n ≤ 1099511627776) }
 {
-    let file = arguments.file;
     if let Some(text) = misuse(rt, arguments) {
         let _ = eprintln!(rt; "segywb: {text}");
         return 2;
     }
-    let Ok(volume) = fs::open(rt, file) else {
-        let _ = eprintln!(rt; "segywb: cannot open {file}");
-        return 3;
+    let _kept = kept_files(rt, arguments);
+    let (file, about) = match opened(rt, arguments.file) {
+        Ok(opened) => opened,
+        Err(status) => return status,
     };
-    let (original, bytes) = match volume.metadata() {
-        Ok(about) => (Original::new(file, &about), about.len()),
-        Err(_) => (None, 0),
-    };
+    let original = original_of(rt, arguments, &about);
     // What is no regular file, as a pipe, gives its bytes but once.
     if arguments.on_disk && original.is_none() {
-        let _ = eprintln!(rt; "segywb: --on-disk needs a file on disk, and {file} is none");
+        let name = arguments.file;
+        let _ = eprintln!(rt; "segywb: --on-disk needs a file on disk, and {name} is none");
         return 3;
     }
     let lines = match lines_of(rt, arguments) {
         Ok(lines) => lines,
         Err(status) => return status,
     };
-    match target_of(rt, arguments, original) {
-        Ok(target) => {
-            let volume = if arguments.on_disk {
-                Volume::Disk(volume, bytes)
-            } else {
-                Volume::Memory(Source::expecting(volume, bytes))
-            };
-            run_to(rt, arguments, original, volume, lines, target)
-        }
-        Err(refusal) => refused_out(rt, arguments.out.unwrap_or(""), &refusal),
+    let bytes = about.len();
+    let target = match target_of(rt, arguments, original) {
+        Ok(target) => target,
+        Err(refusal) => return refused_out(rt, arguments.out.unwrap_or(""), &refusal),
+    };
+    if original.is_some() && bytes > limit_of(arguments, false) {
+        return too_large(rt, arguments);
+    }
+    let volume = volume_of(arguments, file, bytes);
+    match lines {
+        Some(lines) => run_to(rt, arguments, original, volume, lines, target),
+        None => session_over(rt, arguments, original, volume),
     }
 }
 
-// Where the lines come from, with the script open; where it cannot be opened, the exit status.
+// FILE, open, and what is known of it; where it cannot be opened or looked at, the exit status.
+fn opened<R: Files<File = File> + Eprint>(
+    rt: &R,
+    name: &str,
+) -> std::result::Result<(File, Metadata), u8> {
+    let Ok(file) = fs::open(rt, name) else {
+        let _ = eprintln!(rt; "segywb: cannot open {name}");
+        return Err(3);
+    };
+    match file.metadata() {
+        Ok(about) => Ok((file, about)),
+        Err(error) => {
+            let _ = eprintln!(rt; "segywb: cannot look at {name} ({error})");
+            Err(3)
+        }
+    }
+}
+
+// The file of this many bytes as the run loads it.
+fn volume_of(arguments: &Arguments, file: File, bytes: u64) -> Volume<File> {
+    if arguments.on_disk {
+        Volume::Disk(file, bytes)
+    } else {
+        Volume::Memory(Source::expecting(file, bytes))
+    }
+}
+
+// What a save of this run is not to take for a file that an earlier one left: FILE and SCRIPT, and
+// what the standard streams are.
+fn kept_files<R: Files<File = File>>(rt: &R, arguments: &Arguments) -> [Option<File>; 5] {
+    if arguments.out.is_none() {
+        return [None, None, None, None, None];
+    }
+    [
+        keep_from_clearing(rt, arguments.file),
+        keep_from_clearing(rt, arguments.script.unwrap_or("/dev/stdin")),
+        keep_from_clearing(rt, "/dev/stdin"),
+        keep_from_clearing(rt, "/dev/stdout"),
+        keep_from_clearing(rt, "/dev/stderr"),
+    ]
+}
+
+// FILE as it was opened. Where it is to be saved, each change of it from now on is to be seen.
+fn original_of<'a, R: Files + Clock>(
+    rt: &R,
+    arguments: &Arguments<'a>,
+    about: &Metadata,
+) -> Option<Original<'a>> {
+    let original = Original::new(arguments.file, about)?;
+    if arguments.out.is_some() {
+        Some(original.watched(rt))
+    } else {
+        Some(original)
+    }
+}
+
+// Refuses a file on disk that has more bytes than the limit, before it is read.
+fn too_large<R: Files<File = File> + AllocGlobal + Print + Eprint>(
+    rt: &R,
+    arguments: &Arguments,
+) -> u8 {
+    let answers = &mut Sink::new(BoundedFile::new(io::writer(rt), answers_limit(rt)));
+    let end = refuse_load(answers, LoadFault::TooLarge);
+    finish_told(rt, arguments, None, end)
+}
+
+// Where the lines of the script come from, with it open, if there is one; where it cannot be
+// opened, the exit status.
 fn lines_of<R: Files + Eprint>(
     rt: &R,
     arguments: &Arguments,
-) -> std::result::Result<Lines<R::File>, u8> {
+) -> std::result::Result<Option<Lines<R::File>>, u8> {
     let script = match arguments.script {
-        None => return Ok(Lines::Session),
-        Some("-") => return Ok(Lines::Standard),
+        None => return Ok(None),
+        Some("-") => return Ok(Some(Lines::Standard)),
         Some(script) => script,
     };
     match fs::open(rt, script) {
-        Ok(file) => Ok(Lines::File(file)),
+        Ok(file) => Ok(Some(Lines::File(file))),
         Err(_) => {
             let _ = eprintln!(rt; "segywb: cannot open {script}");
             Err(4)
@@ -143,7 +215,32 @@ fn lines_of<R: Files + Eprint>(
     }
 }
 
-// Runs the script over the file, or a session where there is none, and saves to the target.
+// Answers a session on standard input over the file, whose saves go to OUT.
+fn session_over<'a, R: Files<File = File> + Clock + AllocGlobal + Print + Eprint + Input>(
+    rt: &'a R,
+    arguments: &Arguments<'a>,
+    original: Option<Original<'a>>,
+    volume: Volume<R::File>,
+) -> u8
+    requires { IfSome arguments.now.max_bytes (λ n. n ≤ 1099511627776) }
+{
+    let mut place = OutPlace::new(rt, *arguments, original);
+    let options = options(arguments, original.is_some());
+    let script = &mut Source::new(rt.reader());
+    let answers = &mut Sink::new(BoundedFile::new(io::writer(rt), answers_limit(rt)));
+    let alloc = rt.alloc();
+    let end = match volume {
+        Volume::Memory(mut volume) => {
+            session(alloc, &mut volume, script, answers, &mut place, options)
+        }
+        Volume::Disk(volume, bytes) => {
+            session_on_disk(alloc, volume, bytes, script, answers, &mut place, options).close()
+        }
+    };
+    finish_told(rt, arguments, place.original(), end)
+}
+
+// Runs the script over the file, and saves to the target.
 fn run_to<'a, R: Files<File = File> + AllocGlobal + Print + Eprint + Input>(
     rt: &'a R,
     arguments: &Arguments<'a>,
@@ -152,8 +249,6 @@ fn run_to<'a, R: Files<File = File> + AllocGlobal + Print + Eprint + Input>(
     lines: Lines<R::File>,
     target: Target<'a, R>,
 ) -> u8
-where
-    R::File: AsFd,
     requires { IfSome arguments.now.max_bytes (λ n. n ≤ 1099511627776) }
 {
     let mode = target.mode();
@@ -164,7 +259,7 @@ where
     };
     let mut out = Sink::new(out);
     let mut notes = Notes::new();
-    let options = options(arguments);
+    let options = options(arguments, false);
     let end = match volume {
         Volume::Memory(mut volume) => answer(rt, &mut volume, lines, &mut out, options, &mut notes),
         Volume::Disk(volume, bytes) => {
@@ -174,8 +269,7 @@ where
     finish(rt, arguments, original, end, out.into_inner(), mode, &notes)
 }
 
-// Answers the lines on standard output. The refused ones of a script are noted; of a session each
-// answer follows its line.
+// Answers the lines of a script on standard output. The refused ones are noted.
 fn answer<R: Files + AllocGlobal + Print + Input, O: Write>(
     rt: &R,
     volume: &mut Source<R::File>,
@@ -184,7 +278,7 @@ fn answer<R: Files + AllocGlobal + Print + Input, O: Write>(
     options: Options,
     notes: &mut Notes,
 ) -> RunEnd {
-    let answers = &mut Sink::new(io::writer(rt));
+    let answers = &mut Sink::new(BoundedFile::new(io::writer(rt), answers_limit(rt)));
     match lines {
         Lines::File(file) => run(
             rt.alloc(),
@@ -203,14 +297,6 @@ fn answer<R: Files + AllocGlobal + Print + Input, O: Write>(
             out,
             options,
             notes,
-        ),
-        Lines::Session => session(
-            rt.alloc(),
-            volume,
-            &mut Source::new(rt.reader()),
-            answers,
-            out,
-            options,
         ),
     }
 }
@@ -234,12 +320,11 @@ fn answer_on_disk<R: Files<File = File> + AllocGlobal + Print + Input, O: Write>
             let script = &mut Source::new(rt.reader());
             script_on_disk(rt, volume, bytes, script, out, options, notes)
         }
-        Lines::Session => session_lines_on_disk(rt, volume, bytes, out, options),
     }
 }
 
 // The lines of a script. The volume that the run gives back is closed here.
-fn script_on_disk<R: AllocGlobal + Print, S: Read, O: Write>(
+fn script_on_disk<R: Files + AllocGlobal + Print, S: Read, O: Write>(
     rt: &R,
     volume: File,
     bytes: u64,
@@ -248,7 +333,7 @@ fn script_on_disk<R: AllocGlobal + Print, S: Read, O: Write>(
     options: Options,
     notes: &mut Notes,
 ) -> RunEnd {
-    let answers = &mut Sink::new(io::writer(rt));
+    let answers = &mut Sink::new(BoundedFile::new(io::writer(rt), answers_limit(rt)));
     run_on_disk(
         rt.alloc(),
         volume,
@@ -262,51 +347,43 @@ fn script_on_disk<R: AllocGlobal + Print, S: Read, O: Write>(
     .close()
 }
 
-// The lines of a session on standard input, likewise.
-fn session_lines_on_disk<R: AllocGlobal + Print + Input, O: Write>(
-    rt: &R,
-    volume: File,
-    bytes: u64,
-    out: &mut Sink<O>,
-    options: Options,
-) -> RunEnd {
-    let script = &mut Source::new(rt.reader());
-    let answers = &mut Sink::new(io::writer(rt));
-    session_on_disk(rt.alloc(), volume, bytes, script, answers, out, options).close()
+// The most bytes that FILE may have. A session over a file on disk has one limit, whether its bytes
+// stay there or not, so that an edit is refused in both or in none.
+fn limit_of(arguments: &Arguments, is_one_limit: bool) -> u64
+    ensures { result ≡ unwrap_or arguments.now.max_bytes
+        (usual_limit (arguments.now.on_disk || is_one_limit)) }
+{
+    let usual = if arguments.on_disk || is_one_limit {
+        DEFAULT_LIMIT_ON_DISK
+    } else {
+        DEFAULT_LIMIT
+    };
+    arguments.max_bytes.unwrap_or(usual)
 }
 
 // How the command line asks for the run.
-fn options(arguments: &Arguments) -> Options
+fn options(arguments: &Arguments, is_one_limit: bool) -> Options
     requires { IfSome arguments.now.max_bytes (λ n. n ≤ 1099511627776) }
     ensures reading { result.reading ≡ record {
       fixed = arguments.now.fixed;
       opaque = arguments.now.opaque;
       order = arguments.now.order;
     } }
-    ensures bytes { result.limits.bytes
-        ≡ unwrap_or arguments.now.max_bytes (usual_limit arguments.now.on_disk) }
+    ensures bytes { result.limits.bytes ≡ unwrap_or arguments.now.max_bytes
+        (usual_limit (arguments.now.on_disk || is_one_limit)) }
     ensures traces { result.limits.traces ≡ 4294967295 }
     ensures stop { result.stop ≡ arguments.now.stop }
-    ensures save { result.save ≡ is_some arguments.now.out }
+    ensures save { result.save ≡ (is_some arguments.now.out
+        && (not arguments.now.session || arguments.now.save_at_end)) }
 {
-    let reading = Reading {
-        fixed: arguments.fixed,
-        opaque: arguments.opaque,
-        order: arguments.order,
-    };
-    let usual = if arguments.on_disk {
-        DEFAULT_LIMIT_ON_DISK
-    } else {
-        DEFAULT_LIMIT
-    };
-    let limits = match Limits::new(arguments.max_bytes.unwrap_or(usual), u32::MAX) {
+    let limits = match Limits::new(limit_of(arguments, is_one_limit), u32::MAX) {
         Some(limits) => limits,
         None => unreachable!(),
     };
     Options {
-        reading,
+        reading: reading_of(arguments),
         limits,
         stop: arguments.stop,
-        save: arguments.out.is_some(),
+        save: arguments.out.is_some() && (!arguments.session || arguments.save_at_end),
     }
 }

@@ -1,7 +1,7 @@
 // The arguments of the command line, one by one.
 ghost use Rattle.std.specs.Prelude.{◌≡◌, false};
 ghost use Rattle.clap.specs.Words.{rule_of};
-ghost use Rattle.command_line.specs.CommandLine.{file_rule, script_rule, out_rule, in_place_rule, on_disk_rule, fixed_rule, opaque_rule, order_rule, limit_rule, stop_rule, session_rule, quiet_rule};
+ghost use Rattle.command_line.specs.CommandLine.{file_rule, script_rule, out_rule, in_place_rule, on_disk_rule, fixed_rule, opaque_rule, order_rule, limit_rule, stop_rule, session_rule, save_at_end_rule, quiet_rule};
 
 use clap::builder::ValueParser;
 use clap::{Arg, ArgAction};
@@ -130,6 +130,17 @@ pub fn session<'a>(alloc: Global) -> Arg<'a>
         .long("session")
         .action(ArgAction::SetTrue)
         .help("in place of a script, answer the lines of standard input one by one")
+}
+
+// `--save-at-end`: a session saves behind its last line too.
+pub fn save_at_end<'a>(alloc: Global) -> Arg<'a>
+    ensures rule { rule_of result ≡ save_at_end_rule }
+    ensures local { result.global ≡ false }
+{
+    Arg::new(alloc, "save-at-end")
+        .long("save-at-end")
+        .action(ArgAction::SetTrue)
+        .help("in a session, save to --out at the end of its lines too, not only at the line save")
 }
 
 // `--quiet`: standard error is not told of refused lines and refused files.

@@ -1,7 +1,7 @@
 use num_order::Order;
 
 /// What the command line says.
-#[derive(Drop)]
+#[derive(Clone, Copy)]
 pub struct Arguments<'a> {
     /// The path of the file to load.
     pub file: &'a str,
@@ -25,6 +25,8 @@ pub struct Arguments<'a> {
     pub stop: bool,
     /// Whether the lines of standard input are answered one by one, in place of a script.
     pub session: bool,
+    /// Whether a session saves behind its last line too.
+    pub save_at_end: bool,
     /// Whether standard error is not told of refused lines.
     pub quiet: bool,
 }

@@ -61,6 +61,12 @@ returns-in-Some-read_matches-clause-session c =
     let same = sym (ap (first_of (codes "session")) (sym rows) ∙ first_of-rows_of (found_of c.in_ok-matches.matches) (codes "session")) in
     c.in-Some-read_matches.ensures.session ∙ ap is_set same
 
+pub returns-in-Some-read_matches-clause-save_at_end : goal.returns-in-Some-read_matches-clause-save_at_end
+returns-in-Some-read_matches-clause-save_at_end c =
+    let rows = rows_are _ _ c.in_ok-matches.matches c.in_ok-command.ensures c.in_ok-matches.ensures.ok.2 in
+    let same = sym (ap (first_of (codes "save-at-end")) (sym rows) ∙ first_of-rows_of (found_of c.in_ok-matches.matches) (codes "save-at-end")) in
+    c.in-Some-read_matches.ensures.save_at_end ∙ ap is_set same
+
 pub returns-in-Some-read_matches-clause-quiet : goal.returns-in-Some-read_matches-clause-quiet
 returns-in-Some-read_matches-clause-quiet c =
     let rows = rows_are _ _ c.in_ok-matches.matches c.in_ok-command.ensures c.in_ok-matches.ensures.ok.2 in

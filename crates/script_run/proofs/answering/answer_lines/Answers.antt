@@ -5,14 +5,15 @@ use Rattle.script_text.specs.Devices.{device_of}
 use Rattle.script_text.proofs.OutLemmas.{stays}
 use Rattle.script_run.proofs.InputLemmas.{none_taken}
 use Rattle.script_run.proofs.ReadAsLemmas.{read_as_itself, read_as_then}
-use Rattle.script_run.proofs.SessionLemmas.{none_yet, whole, broken, endless, too_many, stops, breaks_off, one_more, one_refused, none_refused, not_both}
+use Rattle.script_run.proofs.SessionLemmas.{none_yet, whole, broken, endless, too_many, stops, breaks_off, one_more, cut_short, one_refused, none_refused, not_both}
+use Rattle.script_run.specs.Sessions.{standing}
 use Rattle.script_run.proofs.answering.answer_lines.Goals as goal
 use Rattle.script_run.proofs.answering.answer_lines.Goals.{then-told+else-stop, else-told}
 
 pub lines-init : goal.lines-init
 lines-init g c =
     rw c.new-ahead.ensures (
-      λ sure. none_yet c.args.bench.now.state _ _ c.args.stop (device_of g.A.Write.contents c.args.answers.now) (none_taken (g.S.Read.remaining c.args.script.now.inner))
+      λ sure. none_yet (standing c.args.bench.now.state (g.P.SavePlace.stands c.args.place.now)) _ _ c.args.stop (device_of g.A.Write.contents c.args.answers.now) (none_taken (g.S.Read.remaining c.args.script.now.inner))
           (stays (g.A.Write.contents c.args.answers.now.inner)),
       refl,
       omega arith,
@@ -23,27 +24,27 @@ lines-init g c =
 
 pub returns-in-End-clause-lines : goal.returns-in-End-clause-lines
 returns-in-End-clause-lines g c = λ sure.
-    whole _ (device_of g.S.Read.remaining c.args.script.now) _ _ _ _ _ _ _ _ (c.lines.invariant.0 sure) (device_of g.S.Read.remaining c.next_line.new.source)
-    c.in-End.ensures.next.0 (c.in-End.ensures.failures ∙ c.lines.invariant.1)
+    rw c.whole.ensures (whole _ (device_of g.S.Read.remaining c.args.script.now) _ _ _ _ _ _ _ _ (c.lines.invariant.0 sure) (device_of g.S.Read.remaining c.next_line.new.source)
+    c.in-End.ensures.next.0 (c.in-End.ensures.failures ∙ c.lines.invariant.1))
 
 pub returns-then-stop-clause-lines : goal.returns-then-stop-clause-lines
 returns-then-stop-clause-lines g c = λ sure.
-    stops _ (device_of g.S.Read.remaining c.args.script.now) _ _ c.in-Line.ensures.next.0 _ _ _ _ _ _ _ c.answer.new.bench.state (c.in-Ok.ensures.line sure).0 (c.lines.invariant.0 (c.in-Ok.ensures.agreed sure)) c.in-Line.ensures.next.1
+    stops _ (device_of g.S.Read.remaining c.args.script.now) _ _ c.in-Line.ensures.next.0 c.in-Line.has_end _ _ _ _ _ _ _ (standing c.answer.new.bench.state (g.P.SavePlace.stands c.answer.new.place)) (c.in-Ok.ensures.line sure).0 (c.lines.invariant.0 (c.in-Ok.ensures.agreed sure)) c.in-Line.ensures.next.1
     ((c.in-Ok.ensures.line sure).1 c.in-Line.ensures.next.0 c.in-Line.ensures.next.2) _ (c.in-Ok.ensures.line sure).2.0 (sym (c.in-Ok.ensures.line sure).2.2 ∙ c.if-told.true) c.if-stop.true
 
 pub returns-in-Err-clause-lines : goal.returns-in-Err-clause-lines
 returns-in-Err-clause-lines g c = λ sure.
-    breaks_off _ (device_of g.S.Read.remaining c.args.script.now) _ _ c.in-Line.ensures.next.0 _ _ _ _ _ _ _ c.answer.new.bench.state (c.in-Err.ensures.line sure).0 (c.lines.invariant.0 (c.in-Err.ensures.agreed sure)) c.in-Line.ensures.next.1
+    breaks_off _ (device_of g.S.Read.remaining c.args.script.now) _ _ c.in-Line.ensures.next.0 c.in-Line.has_end _ _ _ _ _ _ _ (standing c.answer.new.bench.state (g.P.SavePlace.stands c.answer.new.place)) (c.in-Err.ensures.line sure).0 (c.lines.invariant.0 (c.in-Err.ensures.agreed sure)) c.in-Line.ensures.next.1
     ((c.in-Err.ensures.line sure).1 c.in-Line.ensures.next.0 c.in-Line.ensures.next.2) _ (c.in-Err.ensures.line sure).2.0 c.saturating_add.result (c.in-Err.ensures.line sure).2.2
     (omega (arith, c.saturating_add.ensures, (c.in-Err.ensures.line sure).2.1))
 
 pub lines-preserved : goal.lines-preserved
 lines-preserved g c = elim c.if-told.branch [
   | then-told+else-stop w ↦ (
-    λ sure. one_more _ (device_of g.S.Read.remaining c.args.script.now) _ _ c.in-Line.ensures.next.0 _ _ _ _ _ _ _ c.answer.new.bench.state (c.in-Ok.ensures.line sure).0 (c.lines.invariant.0 (c.in-Ok.ensures.agreed sure)) c.in-Line.ensures.next.1
+    λ sure. one_more _ (device_of g.S.Read.remaining c.args.script.now) _ _ c.in-Line.ensures.next.0 c.in-Line.has_end _ _ _ _ _ _ _ (standing c.answer.new.bench.state (g.P.SavePlace.stands c.answer.new.place)) (c.in-Ok.ensures.line sure).0 (c.lines.invariant.0 (c.in-Ok.ensures.agreed sure)) c.in-Line.ensures.next.1
         ((c.in-Ok.ensures.line sure).1 c.in-Line.ensures.next.0 c.in-Line.ensures.next.2) _ c.if-told.refused c.saturating_add-written.result (c.in-Ok.ensures.line sure).2.0
         (one_refused _ _ _ (sym (c.in-Ok.ensures.line sure).2.2 ∙ w.if-told.true) w.refused-is)
-        (omega (arith, c.saturating_add-written.ensures, (c.in-Ok.ensures.line sure).2.1)) (λ s. absurd (not_both c.args.stop s w.if-stop.false)),
+        (omega (arith, c.saturating_add-written.ensures, (c.in-Ok.ensures.line sure).2.1)) (λ s. absurd (not_both c.args.stop s w.if-stop.false)) c.if-not-has_end.false,
     c.in-Line.ensures.failures ∙ c.lines.invariant.1,
     omega (arith, c.lines.invariant.2, w.refused-is),
     read_as_then _ _ _ c.lines.invariant.3 c.in-Ok.ensures.same,
@@ -51,10 +52,10 @@ lines-preserved g c = elim c.if-told.branch [
     c.in-Ok.ensures.loaded ∙ c.lines.invariant.5,
   )
   | else-told w ↦ (
-    λ sure. one_more _ (device_of g.S.Read.remaining c.args.script.now) _ _ c.in-Line.ensures.next.0 _ _ _ _ _ _ _ c.answer.new.bench.state (c.in-Ok.ensures.line sure).0 (c.lines.invariant.0 (c.in-Ok.ensures.agreed sure)) c.in-Line.ensures.next.1
+    λ sure. one_more _ (device_of g.S.Read.remaining c.args.script.now) _ _ c.in-Line.ensures.next.0 c.in-Line.has_end _ _ _ _ _ _ _ (standing c.answer.new.bench.state (g.P.SavePlace.stands c.answer.new.place)) (c.in-Ok.ensures.line sure).0 (c.lines.invariant.0 (c.in-Ok.ensures.agreed sure)) c.in-Line.ensures.next.1
         ((c.in-Ok.ensures.line sure).1 c.in-Line.ensures.next.0 c.in-Line.ensures.next.2) _ c.if-told.refused c.saturating_add-written.result (c.in-Ok.ensures.line sure).2.0
         (none_refused _ _ _ (sym (c.in-Ok.ensures.line sure).2.2 ∙ w.if-told.false) w.refused-is)
-        (omega (arith, c.saturating_add-written.ensures, (c.in-Ok.ensures.line sure).2.1)) (λ s. sym (c.in-Ok.ensures.line sure).2.2 ∙ w.if-told.false),
+        (omega (arith, c.saturating_add-written.ensures, (c.in-Ok.ensures.line sure).2.1)) (λ s. sym (c.in-Ok.ensures.line sure).2.2 ∙ w.if-told.false) c.if-not-has_end.false,
     c.in-Line.ensures.failures ∙ c.lines.invariant.1,
     omega (arith, c.lines.invariant.2, w.refused-is),
     read_as_then _ _ _ c.lines.invariant.3 c.in-Ok.ensures.same,
@@ -77,3 +78,15 @@ pub returns-clause-lines : goal.returns-clause-lines
 returns-clause-lines g c = λ sure.
     rw c.broken-2.ensures (broken _ (device_of g.S.Read.remaining c.args.script.now) _ _ _ _ _ _ _ _ (c.lines.invariant.0 sure) TooLarge (device_of g.S.Read.remaining c.lines.script)
     (inr (refl, too_many _ (device_of g.S.Read.remaining c.args.script.now) _ _ _ _ _ _ _ _ (c.lines.invariant.0 sure) (omega (arith, c.lines.auto.number-end)), c.lines.invariant.1)))
+
+pub returns-then-not-has_end-clause-lines : goal.returns-then-not-has_end-clause-lines
+returns-then-not-has_end-clause-lines g c = λ sure. rw c.cut_short.ensures (elim c.if-told.branch [
+  | then-told+else-stop w ↦
+      cut_short _ (device_of g.S.Read.remaining c.args.script.now) _ _ c.in-Line.ensures.next.0 c.in-Line.has_end _ _ _ _ _ _ _ (standing c.answer.new.bench.state (g.P.SavePlace.stands c.answer.new.place)) (c.in-Ok.ensures.line sure).0 (c.lines.invariant.0 (c.in-Ok.ensures.agreed sure)) c.in-Line.ensures.next.1
+      ((c.in-Ok.ensures.line sure).1 c.in-Line.ensures.next.0 c.in-Line.ensures.next.2) (device_of g.S.Read.remaining c.next_line.new.source) _ c.if-told.refused (c.in-Ok.ensures.line sure).2.0
+      (one_refused _ _ _ (sym (c.in-Ok.ensures.line sure).2.2 ∙ w.if-told.true) w.refused-is) (λ s. absurd (not_both c.args.stop s w.if-stop.false)) c.if-not-has_end.true (c.in-Line.ensures.next.3 c.if-not-has_end.true) (c.in-Line.ensures.failures ∙ c.lines.invariant.1)
+  | else-told w ↦
+      cut_short _ (device_of g.S.Read.remaining c.args.script.now) _ _ c.in-Line.ensures.next.0 c.in-Line.has_end _ _ _ _ _ _ _ (standing c.answer.new.bench.state (g.P.SavePlace.stands c.answer.new.place)) (c.in-Ok.ensures.line sure).0 (c.lines.invariant.0 (c.in-Ok.ensures.agreed sure)) c.in-Line.ensures.next.1
+      ((c.in-Ok.ensures.line sure).1 c.in-Line.ensures.next.0 c.in-Line.ensures.next.2) (device_of g.S.Read.remaining c.next_line.new.source) _ c.if-told.refused (c.in-Ok.ensures.line sure).2.0
+      (none_refused _ _ _ (sym (c.in-Ok.ensures.line sure).2.2 ∙ w.if-told.false) w.refused-is) (λ s. sym (c.in-Ok.ensures.line sure).2.2 ∙ w.if-told.false) c.if-not-has_end.true (c.in-Line.ensures.next.3 c.if-not-has_end.true) (c.in-Line.ensures.failures ∙ c.lines.invariant.1)
+])

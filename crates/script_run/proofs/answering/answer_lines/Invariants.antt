@@ -3,13 +3,14 @@ use Rattle.std.specs.Prelude.{IsTrue}
 use Rattle.live_volume.specs.Held.{IsReadAs}
 use Rattle.script_text.specs.Devices.{device_of}
 use Rattle.script_run.specs.Input.{left_of}
+use Rattle.script_run.specs.Sessions.{standing}
 use Rattle.script_run.proofs.SessionLemmas.{SessionSoFar}
 use Rattle.script_run.proofs.answering.answer_lines.Given as goal
 
 abbrev pub invariant-lines : goal.invariant-lines
 invariant-lines g l =
-    (IsTrue l.bench.agreed → SessionSoFar l.initial.bench.state (g.S.Read.remaining l.initial.script.inner) (left_of l.ahead (g.S.Read.remaining l.script.inner)) l.stop l.number l.refused l.written
-    (device_of g.A.Write.contents l.initial.answers) (device_of g.A.Write.contents l.answers) l.bench.state)
+    (IsTrue l.bench.agreed → SessionSoFar (standing l.initial.bench.state (g.P.SavePlace.stands l.initial.place)) (g.S.Read.remaining l.initial.script.inner) (left_of l.ahead (g.S.Read.remaining l.script.inner)) l.stop l.number l.refused l.written
+    (device_of g.A.Write.contents l.initial.answers) (device_of g.A.Write.contents l.answers) (standing l.bench.state (g.P.SavePlace.stands l.place)))
     × (l.script.failures ≡ l.initial.script.failures)
     × (l.refused ≤ l.number)
     × IsReadAs l.initial.bench.state l.bench.state

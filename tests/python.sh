@@ -8,7 +8,7 @@ SEGYWB=$(realpath "${1:-$here/../dist/segywb-x86_64-linux}") || exit 1
 export SEGYWB PYTHONDONTWRITEBYTECODE=1
 [ $# = 0 ] || shift
 python=${PYTHON:-/usr/bin/python3}
-needed='python3-pytest python3-hypothesis python3-numpy python3-pandas python3-matplotlib python3-segyio python3-pip mypy'
+needed='python3-pytest python3-hypothesis python3-numpy python3-pandas python3-matplotlib python3-segyio python3-pip mypy python3-distributed python3-dask'
 
 missing() { for package in $needed; do dpkg-query -W -f '${Status}' "$package" 2> /dev/null | grep -q '^install ok installed' || printf '%s ' "$package"; done; }
 

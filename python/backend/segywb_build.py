@@ -1,6 +1,7 @@
 """Builds the wheel, by the standard library alone, so that `pip install` loads nothing from elsewhere.
 
-The shipped program stands in ``dist/`` of the repository, beside this folder, and is put into the wheel.
+The shipped program stands in ``dist/`` of the repository, beside this folder, and is put into the wheel, with the man page of
+the desk from ``man/``.
 """
 
 import base64
@@ -56,6 +57,13 @@ def modules():
     yield f"segywb/{NAME}", program.read_bytes(), 0o755
 
 
+def pages():
+    """The man pages of the commands that an installation makes: in a venv `man` finds them beside the folder of its commands."""
+    names = [line.split(" = ")[0] for line in commands()[1:]]
+    paths = [TOP / "man" / f"{name}.1" for name in names]
+    return [(f"segywb-{told('version')}.data/data/share/man/man1/{path.name}", path.read_bytes(), 0o644) for path in paths if path.is_file()]
+
+
 def wheel(folder, files):
     """Writes a wheel of these files."""
     info = f"segywb-{told('version')}.dist-info"
@@ -65,6 +73,7 @@ def wheel(folder, files):
     if commands():
         files.append((f"{info}/entry_points.txt", ("\n".join(commands()) + "\n").encode(), 0o644))
     files += [(f"{info}/{path.name}", path.read_bytes(), 0o644) for path in sorted(TOP.glob("LICENSE*"))]
+    files += pages()
     record = [f"{name},sha256={digest(data)},{len(data)}" for name, data, _ in files]
     files.append((f"{info}/RECORD", "\n".join([*record, f"{info}/RECORD,,", ""]).encode(), 0o644))
     name = f"segywb-{told('version')}-{TAG}.whl"

@@ -1,6 +1,7 @@
 """Edits, taken back and done again, and saved: compared with a run of the program."""
 
 import os
+import warnings
 from pathlib import Path
 
 import files
@@ -23,6 +24,11 @@ EDITS = [
     (lambda v: v.compute(1, 2, "offset", -5), "compute 1 2 offset -5"),
     (lambda v: v.map("shot", "@17:4"), "map shot @17:4"),
     (lambda v: v.map("inline", TraceField.CDP), "map inline @21:4"),
+    (lambda v: v.map("x", "source_x"), "map x source_x"),
+    (lambda v: v.map("x", "SourceX"), "map x SourceX"),
+    (lambda v: v.map("x", TraceField.SourceX), "map x @73:4"),
+    (lambda v: v.map("shot", "ep"), "map shot ep"),
+    (lambda v: v.map("offset", "name"), "map offset name"),
     (lambda v: v.unmap("name"), "unmap name"),
     (lambda v: v.set_bin("interval", 2000), "bin interval 2000"),
     (lambda v: v.set_bin(BinField.JobID, 5), "bin @3201:4 5"),
@@ -78,6 +84,20 @@ def test_compute(opened):
     with pytest.raises(TypeError):
         volume.compute(1, 4, "crossline", "inline", "/", 7.0)
     assert volume.edits == ["compute 1 4 crossline inline - 200 / 7"]
+
+
+@pytest.mark.parametrize("limit", [50_000, 30_000])
+@pytest.mark.parametrize("named", [True, False])
+def test_a_large_edit_in_memory_and_on_disk(opened, tmp_path, monkeypatch, named, limit):
+    """A header that tells of 20,000 samples, where a blank trace has 40,240 bytes: one answer in memory and on disk, whether a limit is named or not."""
+    monkeypatch.setattr("segywb.volume.MOST_BYTES", None if named else limit)
+    path = tmp_path / "hostile.sgy"
+    files.write(path, files.header(), files.binary(fixed=0, samples=20_000), files.trace(1, 1, 1, [1, 2]))
+    told = []
+    for on_disk in (False, True):
+        volume = opened(str(path), on_disk=on_disk, max_bytes=limit if named else None)
+        told.append((volume.run("blank 2")[0].text, len(volume)))
+    assert told == [("ok", 2) if limit == 50_000 else ("refused E09 too large", 1)] * 2
 
 
 @pytest.mark.parametrize("values", [
@@ -224,6 +244,21 @@ def test_save_over_the_file_itself(opened):
         assert again.get(1, "@9:4") == 7 and again.get(2, "@17:4") == 70
 
 
+def test_names_that_were_bound_by_a_field_stay(opened):
+    """They are bound again in the same order, so a name means the same place as before."""
+    volume = opened("cube")
+    volume.map("cdp", "@9:4")
+    volume.map("inline", "cdp")
+    volume.map("cdp", "source_point")
+    volume.set(2, "inline", 7)
+    places = volume.fields()
+    assert (places["inline"], places["cdp"]) == ("@9:4", "@17:4")
+    volume.save(volume.path, replace=True)
+    volume.restart()
+    assert volume.edits == ["map cdp @9:4", "map inline cdp", "map cdp source_point"]
+    assert volume.fields() == places and volume.get(2, "inline") == 7 == volume.get(2, "@9:4")
+
+
 def test_save_with_options(opened, tmp_path):
     path = tmp_path / "told.sgy"
     files.write(path, files.header(), files.binary(samples=2, fixed=0), *(files.trace(p, 1, p, [1, 2], told=9) for p in (1, 2)))
@@ -235,35 +270,38 @@ def test_save_with_options(opened, tmp_path):
     assert segywb.open(tmp_path / "o.sgy", fixed=True).get(2, "samples") == 2
 
 
-@pytest.mark.parametrize("out", ["none/o.sgy", "/dev/full", "."])
-def test_save_that_fails(opened, tmp_path, out):
+@pytest.mark.parametrize("out, status", [("none/o.sgy", 4), ("/dev/full", 1), (".", 4)])
+def test_save_that_fails(opened, tmp_path, out, status):
+    """A path where nothing can be saved ends the program at its start; elsewhere the word `save` is refused."""
     volume = opened("cube")
     volume.set(1, "inline", 7)
     with pytest.raises(segywb.SaveFailed) as failure:
         volume.save(tmp_path / out)
-    assert failure.value.status == 4
+    assert failure.value.status == status and ("refused S08 save failed after " in str(failure.value)) == (status == 1)
     assert "segywb: save failed" in failure.value.stderr and "segywb: save failed" in str(failure.value)
     assert volume.edits == ["set 1 inline 7"] and volume.get(1, "inline") == 7
 
 
 SAVES = """
-if "--out" in sys.argv:
-    open(sys.argv[sys.argv.index("--out") + 1], "w").write(" ".join(sys.argv[3:]))
-    sys.stderr.write(TOLD)
 for line in sys.stdin:
-    print("traces 12" if line == "count\\n" else "ok", end="\\n\\n", flush=True)
+    if line == "save\\n":
+        open(sys.argv[sys.argv.index("--out") + 1], "w").write(" ".join(sys.argv[3:]))
+        sys.stderr.write(TOLD)
+        sys.stderr.flush()
+    print({"count\\n": "traces 12", "save\\n": ANSWER}.get(line, "ok"), end="\\n\\n", flush=True)
 sys.exit(STATUS if "--out" in sys.argv else 0)
 """
 
 
-def saves(told, status):
+def saves(told, answer, status):
     """A program that tells of its save so."""
-    return f"TOLD, STATUS = {told!r}, {status}\n" + SAVES
+    return f"TOLD, ANSWER, STATUS = {told!r}, {answer!r}, {status}\n" + SAVES
 
 
-def test_save_that_is_not_settled(fake, opened):
+@pytest.mark.parametrize("answer", ["saved 6600", "refused S08 save failed after 6600 bytes"])
+def test_save_that_is_not_settled(fake, opened, answer):
     """The file is saved, and only a power cut may undo it: a warning, and the file is the one of the volume."""
-    fake(saves("segywb: saved, but a power cut may undo it\nsegywb: o.sgy: run sync\n", 4))
+    fake(saves("segywb: saved, but a power cut may undo it\nsegywb: o.sgy: run sync\n", answer, 4))
     volume = opened("cube")
     volume.set(1, "inline", 7)
     with pytest.warns(UserWarning, match="run sync"):
@@ -273,8 +311,25 @@ def test_save_that_is_not_settled(fake, opened):
     assert volume.undo() == ["set 1 inline 8"]
 
 
+def test_a_warning_that_is_an_error_comes_behind_the_save(fake, opened):
+    fake(saves("segywb: saved, but a power cut may undo it\n", "saved 6600", 0))
+    volume = opened("cube")
+    volume.set(1, "inline", 7)
+    with warnings.catch_warnings():
+        warnings.simplefilter("error")
+        with pytest.raises(UserWarning):
+            volume.save(volume.path, replace=True)
+    assert volume.edits == [] and volume.undoable == 0
+
+
+def test_a_program_that_does_not_know_the_word_save(fake, opened, tmp_path):
+    fake(saves("", "refused S01 unknown word", 1))
+    with pytest.raises(segywb.SaveFailed, match="S01 unknown word; the program is older than the word save"):
+        opened("cube").save(tmp_path / "o.sgy")
+
+
 def test_save_that_finds_another_file(fake, opened, tmp_path):
-    fake(saves("segywb: FILE was changed by another program\nsegywb: cube.sgy: nothing was saved\n", 4))
+    fake(saves("segywb: FILE was changed by another program\nsegywb: cube.sgy: nothing was saved\n", "refused S08 save failed after 0 bytes", 1))
     volume = opened("cube")
     volume.set(1, "inline", 7)
     with pytest.raises(segywb.FileChanged, match="nothing was saved"):
@@ -283,9 +338,9 @@ def test_save_that_finds_another_file(fake, opened, tmp_path):
 
 
 def test_save_in_place(fake, opened, tmp_path):
-    fake(saves("", 0))
-    opened("cube", fixed=True).save(tmp_path / "o.sgy", in_place=True)
-    assert (tmp_path / "o.sgy").read_text() == f"--fixed --out {tmp_path / 'o.sgy'} --in-place --stop"
+    fake(saves("", "saved 6600", 0))
+    opened("cube", fixed=True, max_bytes=9000).save(tmp_path / "o.sgy", in_place=True)
+    assert (tmp_path / "o.sgy").read_text() == f"--fixed --max-bytes 9000 --out {tmp_path / 'o.sgy'} --in-place --stop"
 
 
 def test_save_of_a_file_that_was_changed(opened, tmp_path):

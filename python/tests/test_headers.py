@@ -1,5 +1,6 @@
 """Headers of many traces, as arrays, as tables and without numpy; by `get` and by `table`."""
 
+import re
 import subprocess
 import sys
 
@@ -7,7 +8,7 @@ import files
 import numpy as np
 import pandas as pd
 import pytest
-from conftest import HERE
+from conftest import HERE, TOP
 
 import segywb
 from segywb import TraceField
@@ -72,6 +73,35 @@ def test_positions_in_an_extension(opened, tmp_path):
     volume.map("x", "@1.9:4")
     assert volume.positions().tolist() == [tuple(map(float, volume.geometry(p))) for p in (1, 2)]
     assert volume.positions()["x"].tolist() == [0.0, -77.0]
+
+
+def known():
+    """The names that the manual's tables have, with their places: the program's own, those of Seismic Unix and those of segyio."""
+    manual = (TOP / "docs" / "MANUAL.md").read_text()
+    tables = manual[manual.index("<!-- names, made by"):manual.index("<!-- end of the names")]
+    for row in tables.splitlines():
+        cells = [cell.strip() for cell in row.strip("|").split(" | ")]
+        if len(cells) > 3 and cells[1].startswith("`@"):
+            for cell in (cells[0], *cells[4:]):
+                yield from ((name, cells[1].strip("`")) for name in re.findall(r"`(\w+)`", cell))
+
+
+def test_each_name_that_the_program_knows(opened, tmp_path):
+    """Each is read, written and found, and another name is bound to its place; those of segyio are found in any case."""
+    names = dict(known())
+    assert len(names) > 250 and {"source_x": "@73:4", "cdp": "@21:4", "SourceX": "@73:4", "ext_count": "@1.157:2u"}.items() <= names.items()
+    assert {one.name for one in TraceField} - {"offset"} <= set(names)
+    volume = opened(files.extended(tmp_path / "made.sgy"))
+    for name, place in {**names, "sourcex": "@73:4", "SOURCEX": "@73:4", "inline": "@189:4", "x": "@181:4"}.items():
+        if name == "offset":  # it is bound: where, `fields` tells
+            place = volume.fields()[name]
+        volume.map("mine", name)
+        assert volume.fields()["mine"] == place, name
+        assert volume.headers(name).tolist() == volume.headers(place).tolist() == volume.headers("mine").tolist(), name
+        number = volume.get(2, place)
+        volume.set_many(name, [2], number)
+        assert volume.find(name, number, number)["trace"].tolist() == volume.find(place, number, number)["trace"].tolist(), name
+    assert len(volume.edits) == 2 * (len(names) + 4)
 
 
 def test_pieces(opened, monkeypatch):

@@ -168,6 +168,17 @@ def test_run_whole(opened):
     assert volume.undo() == ["set 1 inline 7", "set 2 inline 7"]
 
 
+def test_the_word_save_in_a_run(opened):
+    """It is a word of sessions that have an OUT; `Volume.save` sends it."""
+    volume = opened("survey")
+    told = volume.run("set 1 inline 7\nsave\nsave x\nget 1 inline\n")
+    assert [answer.text for answer in told] == ["ok", "refused S07 no out", "refused S02 words", "value 7"]
+    with pytest.raises(segywb.Refused) as refusal:
+        volume.run("set 1 inline 8\nsave\n", stop=True)
+    assert (refusal.value.code, refusal.value.text, refusal.value.line) == ("S07", "no out", "save")
+    assert volume.edits == ["set 1 inline 7"] and volume.get(1, "inline") == 7
+
+
 @pytest.mark.parametrize("script", [b"line 0 1\x00\n", b"text 1 \xff\xfe\n# \xff\ncount", b"get 1 inline", b"\x00\ncount\n", b"text 1 \xc3\xa9\n", b"\xef\xbb\xbfcount\n"])
 def test_odd_bytes(opened, script):
     volume = opened("survey")

@@ -1,6 +1,10 @@
 """Each refusal of the manual is an exception, and nothing has changed."""
 
+import os
+import pickle
 import re
+import shutil
+import subprocess
 
 import files
 import pytest
@@ -8,7 +12,7 @@ import retell
 from conftest import TOP, run
 
 import segywb
-from segywb import Refused
+from segywb import Refused, program
 
 SURVEY = "survey"
 
@@ -42,6 +46,7 @@ TABLE = [
     ("E02", None, SURVEY, {}, lambda v: v.find("colour", 0, 1), "no field"),
     ("E02", None, SURVEY, {}, lambda v: v.headers("colour"), "no field"),
     ("E02", None, SURVEY, {}, lambda v: v.getbin("inline"), "no field"),
+    ("E02", None, SURVEY, {}, lambda v: v.map("x", "colour"), "no field"),
     ("E03", None, SURVEY, {}, lambda v: v.set(1, "@1.1:4", 7), "no place"),
     ("E03", None, SURVEY, {}, lambda v: v.text_block(1), "no place"),
     ("E03", None, SURVEY, {}, lambda v: v.lines(1), "no place"),
@@ -108,7 +113,7 @@ def test_every_refusal_of_the_manual_is_tried():
     codes = {(code, second or None) for code, second in re.findall(r"^\| ([SE]\d\d) \| `(?:([TM]\d\d) )?", part, re.M)}
     tried = {(code, second) for code, second, *_ in TABLE} | {(code, None) for code in FAKED}
     # words that the program gains later are tried where they are made
-    later = {("S05", None), ("E14", None), ("E15", None)}
+    later = {("S05", None), ("S06", None), ("S07", None), ("S08", None), ("E14", None), ("E15", None)}
     assert codes - later == tried | {("E12", None)}
 
 
@@ -171,6 +176,61 @@ def test_load_refused(tmp_path, code):
     assert run(path, ["count"], *words) == (f"{refusal.value.answer}\n", 3)
 
 
+@pytest.mark.parametrize("code", LOADS)
+def test_the_hint_of_a_refused_file(tmp_path, code):
+    """What the program tells on standard error, behind its refusal."""
+    make, options, _ = LOADS[code]
+    path = make(tmp_path / "bad: (a) file.sgy")
+    with pytest.raises(segywb.LoadRefused) as refusal:
+        segywb.open(path, **options)
+    words = [f"--{name.replace('_', '-')}={value}" for name, value in options.items()]
+    told = subprocess.run([program.find(), str(path), "--session", *words], input=b"", capture_output=True, check=False).stderr.decode()
+    got = refusal.value
+    assert got.hint and got.hint in str(got) and f"{code} " in str(got) and str(path) in str(got)
+    assert f"segywb: {path}: {code} {got.text} ({got.hint}" == told.replace(")\nsegywb: ", "; ").rstrip(")\n")
+    # each option in it is named as the argument that it is
+    named = set(re.findall(r"--([a-z-]+)", got.hint))
+    assert {argument.partition("=")[0] for argument in got.arguments} == {name.replace("-", "_") for name in named}
+    assert all(argument in str(got) for argument in got.arguments)
+    again = pickle.loads(pickle.dumps(got))
+    assert (str(again), again.hint, again.arguments, again.status) == (str(got), got.hint, got.arguments, 3)
+
+
+def other_order(path):
+    """A file whose numbers are in the other order, which it does not tell."""
+    header = files.binary(samples=0x0200, form=0x0300, fixed=0x0100, interval=0xA00F)
+    return files.write(path, files.header(), header, files.trace(1, 1, 1, [1, 2], told=0x0200))
+
+
+HELPS = {
+    "L02": (lambda p: files.cube(p), {"max_bytes": 4000}, ["max_bytes=N", "on_disk=True"], {"max_bytes": 10_000}),
+    "L06": (lambda p: files.floats(p), {}, ["opaque_samples=True"], {"opaque_samples": True}),
+    "L07": (lambda p: files.write(p, files.header(), files.binary(form=4)), {}, ["opaque_samples=True"], {"opaque_samples": True}),
+    "L08": (other_order, {}, ['order="big"', 'order="little"'], {"order": "little"}),
+    "L14": (lambda p: files.write(p, files.header(), files.binary(fixed=0), files.trace(1, 1, 1, [1, 2], told=9)), {}, ["fixed=True"], {"fixed": True}),
+    "L17": (lambda p: files.write(p, files.header(), files.binary(at3297=(4, 0x01020304))), {"order": "little"}, ["order"], {}),
+}
+
+
+@pytest.mark.parametrize("code", HELPS)
+def test_the_argument_that_helps(tmp_path, code):
+    """With the argument that is named (in L17: without it) the file is read."""
+    make, options, arguments, better = HELPS[code]
+    path = make(tmp_path / "bad.sgy")
+    with pytest.raises(segywb.LoadRefused) as refusal:
+        segywb.open(path, **options)
+    assert refusal.value.code == code and list(refusal.value.arguments) == arguments
+    with segywb.open(path, **better) as volume:
+        assert len(volume) == volume.info.traces
+
+
+def test_a_refusal_without_a_hint(fake, example):
+    fake("print('load refused L16 out of memory', flush=True)\nsys.exit(3)\n")
+    with pytest.raises(segywb.LoadRefused) as refusal:
+        segywb.open(example("survey"))
+    assert (refusal.value.hint, refusal.value.arguments) == ("", ()) and str(refusal.value).endswith("survey.sgy")
+
+
 @pytest.mark.parametrize("code", FAKED_LOADS)
 def test_load_refused_by_a_fake(fake, example, code):
     fake(f"print('load refused {code} {FAKED_LOADS[code]}', flush=True)\nsys.exit(3)\n")
@@ -193,6 +253,28 @@ def test_every_refusal_of_a_file_is_tried():
 def test_no_file(tmp_path):
     with pytest.raises(FileNotFoundError):
         segywb.open(tmp_path / "absent.sgy")
+
+
+@pytest.mark.parametrize("which", ["name", "folder", "bytes"])
+def test_a_path_that_is_not_utf_8(example, tmp_path, monkeypatch, which):
+    """The error names the path, where it is opened and where it is saved; text that is UTF-8 is no matter."""
+    folder = os.fsencode(tmp_path / "f") + (b"\xff" if which == "folder" else b"")
+    os.mkdir(folder)
+    name = b"cube.sgy" if which == "folder" else b"cube \xfe.sgy"
+    shutil.copy(example("cube"), os.path.join(folder, name))
+    monkeypatch.chdir(folder)
+    with pytest.raises(segywb.PathRefused) as refusal:
+        segywb.open(name if which == "bytes" else os.fsdecode(name))
+    assert "UTF-8" in str(refusal.value) and repr(os.path.join(folder, name)) in str(refusal.value)
+    assert isinstance(refusal.value, ValueError) and isinstance(refusal.value, segywb.Error)
+    with pytest.raises(FileNotFoundError):
+        segywb.open(os.fsdecode(b"absent \xfe.sgy"))
+    with segywb.open(shutil.copy(tmp_path / "cube.sgy", tmp_path / "w\u00fcrfel.sgy")) as volume:
+        volume.set(1, "inline", 7)
+        with pytest.raises(segywb.PathRefused):
+            volume.save(os.path.join(folder, b"o \xfe.sgy") if which == "bytes" else os.fsdecode(os.path.join(folder, b"o \xfe.sgy")))
+        assert os.listdir(folder) == [name] and volume.edits == ["set 1 inline 7"]
+        volume.save(tmp_path / "\u0437\u0430.sgy")
 
 
 @pytest.mark.parametrize("call", [

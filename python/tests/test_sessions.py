@@ -97,6 +97,18 @@ def test_options_that_are_asked_for(fake, opened, tmp_path):
     assert (tmp_path / "words").read_text() == "--session --fixed --opaque-samples --order big --max-bytes 1000000 --on-disk"
 
 
+@pytest.mark.parametrize("size", [2**32, 2**32 + 1])
+@pytest.mark.parametrize("on_disk", [False, True])
+def test_the_limit_that_is_told_where_none_is_named(fake, opened, tmp_path, on_disk, size):
+    """One limit in memory and on disk; but a file above the program's limit in memory is not read into memory unasked."""
+    fake(f"open({str(tmp_path / 'words')!r}, 'w').write(' '.join(sys.argv[2:]))\n" + ECHO)
+    with open(tmp_path / "large.sgy", "wb") as file:
+        file.truncate(size)
+    opened(str(tmp_path / "large.sgy"), on_disk=on_disk)
+    limit = 4294967296 if size > 2**32 and not on_disk else 1099511627776
+    assert (tmp_path / "words").read_text() == f"--session --max-bytes {limit}" + (" --on-disk" if on_disk else "")
+
+
 @pytest.mark.parametrize("odd", [
     "traces 3\\n\\nmore\\n\\n", "traces 3\\n\\n\\n", "traces three and a half", "traces 3\\n", "traces 3",
 ], ids=["two answers", "an empty line more", "no end", "no empty line", "no line feed"])

@@ -12,6 +12,7 @@ from .errors import (
     FileChanged,
     LoadRefused,
     OptionRefused,
+    PathRefused,
     ProgramEnded,
     ProgramNotFound,
     Refused,
@@ -25,8 +26,8 @@ __version__ = "0.1.0"
 
 __all__ = [
     "Answer", "BinField", "Closed", "Error", "Extremes", "Fault", "FileChanged", "Geometry", "Grid", "Info", "LoadRefused",
-    "OptionRefused", "ProgramEnded", "ProgramNotFound", "Refused", "SaveFailed", "Slice", "Stanza", "Statistics", "TraceField",
-    "Volume", "open", "tools",
+    "OptionRefused", "PathRefused", "ProgramEnded", "ProgramNotFound", "Refused", "SaveFailed", "Slice", "Stanza", "Statistics",
+    "TraceField", "Volume", "open", "tools",
 ]
 
 
@@ -34,11 +35,11 @@ def open(
     path: Path, fixed: bool = False, opaque_samples: bool = False, max_bytes: Optional[int] = None, order: Optional[str] = None,
     on_disk: bool = False
 ) -> Volume:
-    """Opens a SEG-Y file.
+    """Opens a SEG-Y file: ``with segywb.open("cube.sgy") as volume: ..``.
 
     ``fixed``: each trace has the binary header's number of samples. ``opaque_samples``: read files whose samples have no values here
-    (floats). ``max_bytes``: the largest file that is read, and the largest that edits may make. ``order``: ``"big"`` or ``"little"``,
-    the order of bytes of a file that does not tell it. ``on_disk``: leave the bytes of the file on disk, for a file larger than memory;
-    nothing may change it until it is closed.
+    (floats). ``max_bytes``: the largest file that is read, and the largest that edits may make; where it is left out, edits may make one of
+    1099511627776 bytes (1 TiB), in memory and on disk, and one above 4294967296 (4 GiB) is read with ``on_disk`` alone. ``order``: ``"big"`` or ``"little"``, the order of bytes of a file that
+    does not tell it. ``on_disk``: leave the bytes of the file on disk, for a file larger than memory; nothing may change it until it is closed.
     """
     return Volume(path, fixed=fixed, opaque_samples=opaque_samples, max_bytes=max_bytes, order=order, on_disk=on_disk)

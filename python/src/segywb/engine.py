@@ -7,10 +7,10 @@ import stat
 import threading
 import warnings
 from contextlib import closing, contextmanager
-from typing import Iterable, Iterator, List, Optional, Sequence, Tuple
+from typing import Iterable, Iterator, List, NamedTuple, Optional, Sequence
 
 from .answers import Answer, unexpected
-from .errors import Closed, FileChanged, LoadRefused, OptionRefused, ProgramEnded, Refused, SaveFailed
+from .errors import Closed, FileChanged, LoadRefused, OptionRefused, PathRefused, ProgramEnded, Refused, SaveFailed
 from .history import History, Step
 from .lines import decode, payload, silent
 from .session import Answers, Batch, Session
@@ -35,6 +35,16 @@ def _refusal(answers: bytes, sent: bytes) -> Exception:
     return Refused(text, decode(sent.split(b"\n")[at])) if text.startswith("refused ") else unexpected(text)
 
 
+class Stamp(NamedTuple):
+    """Which file it is, its bytes, when they were written, and when anything of the file was changed: the last one no program sets back."""
+
+    device: int
+    inode: int
+    size: int
+    written: int
+    changed: int
+
+
 class Engine:
     """A file under edits. After a failure the next call starts a new session and gives it the accepted edits."""
 
@@ -45,13 +55,13 @@ class Engine:
         self._lock = threading.RLock()
         self._closed = False
         self._stamp = self._look()
+        _speakable(self.path)
         self._session: Optional[Session] = self._start(self.history)
 
     # ---- sessions
 
-    def _look(self) -> Tuple[int, ...]:
-        found = os.stat(self.path)
-        return found.st_dev, found.st_ino, found.st_size, found.st_mtime_ns
+    def _look(self) -> Stamp:
+        return stamp(os.stat(self.path))
 
     def _unchanged(self) -> None:
         try:
@@ -61,10 +71,10 @@ class Engine:
         if not same:
             raise FileChanged(f"{self.path} is no longer the file that was opened; Volume.edits has the accepted edits")
 
-    def _start(self, history: History) -> Session:
-        """A new session over the file, with these edits."""
+    def _start(self, history: History, words: Sequence[str] = ()) -> Session:
+        """A new session over the file, with these edits. Behind the first answer the file is loaded, so it is looked at once more there."""
         self._unchanged()
-        session = Session(self.path, self.options)
+        session = Session(self.path, [*self.options, *words])
         try:
             session.exchange(b"count\n", 1)
             self._unchanged()
@@ -239,35 +249,47 @@ class Engine:
         out = os.path.abspath(path)
         with self._lock:
             self._open()
+            _speakable(out)
             if _is_file(out) and not replace:
                 raise FileExistsError(f"{out} is there: save(.., replace=True) writes over it")
-            own = _same(out, self.path)
-            self._unchanged()
-            status, told = self._write(["--out", out, *(["--in-place"] if in_place else [])])
-            if CHANGED in told:
-                raise FileChanged(told.strip())
-            if status != 0 and UNSETTLED not in told:
-                raise SaveFailed(f"the save of {out} failed", status, told)
+            linked = _same(out, self.path)
+            told = self._write(out, ["--in-place"] if in_place else [])
+            self._settle(out, linked)
             if told:
-                warnings.warn(told.strip(), stacklevel=3)
-            if own:
-                self._stamp = self._look()
-                self.history = self.history.names()
+                warnings.warn(told, stacklevel=3)
 
-    def _write(self, words: List[str]) -> Tuple[int, str]:
-        session = Session(self.path, [*self.options, *words, "--stop"])
+    def _write(self, out: str, words: Sequence[str]) -> str:
+        """Saves by the word ``save``: where this process dies before the whole of it was sent, nothing is saved. What the program told."""
+        failed = f"the save of {out} failed"
+        session: Optional[Session] = None
         try:
-            _give(session, self.history)
+            session = self._start(self.history, ["--out", out, *words, "--stop"])
+            answer = decode(session.exchange(b"save\n", 1)[0])
             status, left, told = session.finish()
         except (LoadRefused, OptionRefused):
             raise
         except (ProgramEnded, Refused) as error:
-            raise SaveFailed(str(error), getattr(error, "status", None), getattr(error, "stderr", "")) from error
+            raise SaveFailed(f"{failed}: {error}", getattr(error, "status", None), getattr(error, "stderr", "")) from error
         finally:
-            session.kill()
-        if left.strip():
-            told = (decode(left) + told).strip()
-        return status, told
+            if session is not None:
+                session.kill()
+        told = (decode(left) + told).strip()
+        if answer.startswith("saved ") or UNSETTLED in told:
+            return told
+        if CHANGED in told:
+            raise FileChanged(told)
+        older = "; the program is older than the word save" if answer.startswith("refused S01 ") else ""
+        raise SaveFailed(f"{failed}: {answer}{older}", status, told)
+
+    def _settle(self, out: str, linked: bool) -> None:
+        """Behind a save: where OUT is FILE, it is the original from now on. A FILE that was another link of OUT has lost that link alone."""
+        if _same(out, self.path):
+            self._stamp = self._look()
+            self.history = self.history.names()
+        elif linked:
+            now = self._look()
+            if now._replace(changed=0) == self._stamp._replace(changed=0):
+                self._stamp = now
 
 
 def _give(session: Session, history: History) -> None:
@@ -276,6 +298,19 @@ def _give(session: Session, history: History) -> None:
     answers = b"".join(session.stream([(step.sent, step.size)]))
     if answers != b"ok\n\n" * step.size:
         raise _refusal(answers, step.sent)
+
+
+def stamp(found: os.stat_result) -> Stamp:
+    """What tells one state of a file from another, of what the system knows of it."""
+    return Stamp(found.st_dev, found.st_ino, found.st_size, found.st_mtime_ns, found.st_ctime_ns)
+
+
+def _speakable(path: str) -> None:
+    """Refuses a path that the program does not take."""
+    try:
+        os.fsencode(path).decode("utf-8")
+    except UnicodeDecodeError:
+        raise PathRefused(path) from None
 
 
 def _is_file(path: str) -> bool:

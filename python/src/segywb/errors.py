@@ -2,10 +2,14 @@
 
 from __future__ import annotations
 
+import os
 import re
-from typing import Optional, Tuple
+from typing import Dict, Optional, Tuple
 
 _PARTS = {"E07": "T", "E08": "M"}
+# what arguments of `segywb.open` the program's options are; those of the first list have a value
+_VALUED = ("max-bytes", "order")
+_TRUE = ("fixed", "on-disk", "opaque-samples")
 
 
 class Error(Exception):
@@ -32,12 +36,66 @@ class Refused(Error):
 
 
 class LoadRefused(Refused):
-    """The file is refused (the codes ``L01`` to ``L17``). ``status`` is the program's exit status."""
+    """The file is refused (the codes ``L01`` to ``L17``). ``status`` is the program's exit status.
 
-    def __init__(self, answer: str, path: str = "", status: Optional[int] = None) -> None:
+    ``hint`` is what the program says to do, and ``arguments`` names the arguments of ``segywb.open`` for the options in it:
+
+    >>> refusal = LoadRefused("load refused L06 float format 5", "line.sgy", 3, "with --opaque-samples the file is read all the same")
+    >>> refusal.arguments
+    ('opaque_samples=True',)
+    >>> print(refusal)
+    L06 float format 5: line.sgy (with --opaque-samples the file is read all the same; in Python --opaque-samples is opaque_samples=True)
+    """
+
+    def __init__(self, answer: str, path: str = "", status: Optional[int] = None, hint: str = "") -> None:
         super().__init__(answer, path)
         self.path = path
         self.status = status
+        self.hint = hint
+        self._options = options(hint)
+
+    @property
+    def arguments(self) -> Tuple[str, ...]:
+        """The arguments of ``segywb.open`` for the options that the hint names, in its order."""
+        return tuple(argument for _, argument in self._options)
+
+    def __str__(self) -> str:
+        inside = [self.hint] if self.hint else []
+        if self._options:
+            inside.append("in Python " + ", ".join(f"{option} is {argument}" for option, argument in self._options))
+        return super().__str__() + (f" ({'; '.join(inside)})" if inside else "")
+
+
+def hint_of(refusal: str, told: str) -> str:
+    """What the program tells on standard error of a file that is refused so, without the refusal.
+
+    >>> hint_of("L03 short 1", "segywb: a.sgy: L03 short 1 (the two file headers have 3600 bytes)\\n")
+    'the two file headers have 3600 bytes'
+    """
+    _, found, rest = told.rpartition(f": {refusal} (")
+    first, *more = rest.splitlines() if found else [""]
+    said = [first[:-1] if first.endswith(")") else first, *(line[len("segywb: "):] for line in more if line.startswith("segywb: "))]
+    return "; ".join(text for text in said if text)
+
+
+def options(hint: str) -> Tuple[Tuple[str, str], ...]:
+    """The options of the command line that a hint names, with what they are as arguments of ``segywb.open``.
+
+    >>> options("--max-bytes N raises the limit; --order big or --order little; --fixed, or leave out --order")
+    (('--max-bytes N', 'max_bytes=N'), ('--order big', 'order="big"'), ('--order little', 'order="little"'), ('--fixed', 'fixed=True'), ('--order', 'order'))
+    """
+    found: Dict[str, str] = {}
+    for option, name, value in re.findall(r"(--([a-z]+(?:-[a-z]+)*)(?: (big\b|little\b|[A-Z0-9]+\b))?)", hint):
+        argument = name.replace("-", "_")
+        if name in _VALUED:
+            found[option] = f"{argument}={_quoted(value)}" if value else argument
+        elif name in _TRUE:
+            found[f"--{name}"] = f"{argument}=True"
+    return tuple(found.items())
+
+
+def _quoted(value: str) -> str:
+    return f'"{value}"' if value.islower() else value
 
 
 class ProgramNotFound(Error):
@@ -76,6 +134,17 @@ class SaveFailed(ProgramEnded):
 
 class FileChanged(Error):
     """The file is no longer the one that was opened, so the edits cannot be applied to it."""
+
+
+class PathRefused(Error, ValueError):
+    """A path that is not UTF-8: the program takes none of these. ``path`` is the path."""
+
+    def __init__(self, path: str) -> None:
+        super().__init__(path)
+        self.path = path
+
+    def __str__(self) -> str:
+        return f"the path {os.fsencode(self.path)!r} is not UTF-8, and the program takes no other: give the file or its folder another name"
 
 
 class Closed(Error):

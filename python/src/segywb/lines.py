@@ -19,6 +19,18 @@ def number(value: Any) -> str:
         raise TypeError(f"a whole number is wanted, not {value!r}") from None
 
 
+def position(trace: Any) -> str:
+    """The position of a trace as a word. A truth value is no position, though Python takes it for a number."""
+    if truth(type(trace)):
+        raise TypeError(f"the position of a trace is wanted, not {trace!r}")
+    return number(trace)
+
+
+def truth(kind: type) -> bool:
+    """Whether the values of a type are truth values: those of Python, and those of numpy."""
+    return issubclass(kind, bool) or (kind.__module__ == "numpy" and kind.__name__ in ("bool", "bool_"))
+
+
 def word(text: str) -> str:
     """A text that becomes a part of a line: it must not end the line."""
     if "\n" in text:
@@ -58,14 +70,17 @@ def single(value: Any) -> bool:
     return isinstance(value, int) or getattr(value, "ndim", None) == 0
 
 
-def numbers(values: Any) -> List[int]:
-    """Whole numbers from a list, an array or a column of a table."""
+def listed(values: Any) -> List[Any]:
+    """The items of a list, an array or a column of a table. Whole numbers of an array are Python's then."""
     array = getattr(values, "to_numpy", None)
     values = array() if callable(array) else values
-    kind = getattr(getattr(values, "dtype", None), "kind", None)
-    if kind is not None and kind in "iu":
-        return list(values.tolist())
-    values = list(values)
+    plain = getattr(getattr(values, "dtype", None), "kind", "") in tuple("iu") and not hasattr(values, "mask")
+    return list(values.tolist() if plain else values)
+
+
+def numbers(values: Any) -> List[int]:
+    """Whole numbers from a list, an array or a column of a table."""
+    values = listed(values)
     try:
         return list(map(operator.index, values))
     except TypeError:

@@ -11,7 +11,7 @@ import time
 from typing import IO, Generator, Iterable, Iterator, List, Optional, Sequence, Tuple
 
 from . import program
-from .errors import LoadRefused, OptionRefused, ProgramEnded, ProgramNotFound
+from .errors import LoadRefused, OptionRefused, ProgramEnded, ProgramNotFound, hint_of
 from .stream import Splitter, split
 
 PIPE_BYTES = 1 << 20
@@ -202,7 +202,7 @@ class Session:
         told = self._told()
         self.kill()
         if text.startswith("load refused "):
-            return LoadRefused(text, self.path, status)
+            return LoadRefused(text, self.path, status, hint_of(text[len("load refused "):], told))
         if status == 2:
             return OptionRefused("the program does not accept " + " ".join(self.words[2:]), status, told)
         if text:

@@ -13,10 +13,14 @@ from .engine import BATCH_LINES, Engine
 from .errors import ProgramEnded, Refused
 from .fields import TRACE_NAMES, kind
 from .grids import Grid, Slice
-from .lines import Field, encode, field, number
+from .lines import Field, encode, field, number, position
 from .selection import positions, runs
 from .session import Batch
 
+# The program's own limits on a file, on disk and in memory. The first one is told in both, so that no edit is refused in memory alone; a file
+# above the second one is not read into memory unless it is asked for.
+MOST_BYTES = 1 << 40
+MOST_IN_MEMORY = 1 << 32
 GET_LINES = 1 << 16
 # So many traces in a line of `table` or `find`, and so many lines and traces of such lines sent at once: this bounds the memory.
 WINDOW_TRACES = 1 << 15
@@ -39,7 +43,7 @@ class Volume:
         options = ["--fixed"] if fixed else []
         options += ["--opaque-samples"] if opaque_samples else []
         options += ["--order", order] if order is not None else []
-        options += ["--max-bytes", number(max_bytes)] if max_bytes is not None else []
+        options += ["--max-bytes", number(_limit(path, on_disk) if max_bytes is None else max_bytes)]
         options += ["--on-disk"] if on_disk else []
         self.path = os.fspath(path)
         self._engine = Engine(self.path, options)
@@ -125,16 +129,17 @@ class Volume:
 
     def get(self, trace: int, name: Field) -> int:
         """The number in a header of a trace, as it stands."""
-        return self._value("get", number(trace), field(name))
+        return self._value("get", position(trace), field(name))
 
     def set(self, trace: int, name: Field, value: int) -> None:
         """Writes a number into a header of a trace."""
-        self._edit("set", number(trace), field(name), number(value))
+        self._edit("set", position(trace), field(name), number(value))
 
     def set_many(self, name: Field, traces: Any, values: Any) -> None:
         """Writes the values into a field of the traces: all of them, or none where one is refused.
 
-        ``traces`` is a slice, a range, or positions; ``values`` has a number for each of them, or is one number for all.
+        ``traces`` is a selection (see ``headers``); ``values`` has a number for each of its traces, or is one number for all:
+        ``v.set_many("delay", v.dataframe("inline")["inline"] == 102, 0)``.
         """
         where = self._where(traces)
         what = [int(number(values))] * len(where) if lines.single(values) else lines.numbers(values)
@@ -151,7 +156,7 @@ class Volume:
 
     def renumber(self, first_trace: int, last_trace: int, name: Field, first: int, step: int = 0) -> None:
         """Writes ``first``, ``first + step``, .. into the traces from ``first_trace`` to ``last_trace``, all or none."""
-        self._edit("renumber", number(first_trace), number(last_trace), field(name), number(first), number(step))
+        self._edit("renumber", position(first_trace), position(last_trace), field(name), number(first), number(step))
 
     def compute(self, first_trace: int, last_trace: int, name: Field, *formula: Field) -> None:
         """Computes a field of the traces from ``first_trace`` to ``last_trace``, all or none.
@@ -161,7 +166,7 @@ class Volume:
         """
         if not formula:
             raise TypeError("a computation wants a field or a number to begin with")
-        self._edit("compute", number(first_trace), number(last_trace), field(name), *map(lines.term, formula))
+        self._edit("compute", position(first_trace), position(last_trace), field(name), *map(lines.term, formula))
 
     def sort(self, first_trace: int, last_trace: int, *keys: Field) -> None:
         """Puts the traces from ``first_trace`` to ``last_trace`` in the order of one to eight fields; equal ones stay as they stood.
@@ -170,10 +175,14 @@ class Volume:
         """
         if not keys:
             raise TypeError("a sort wants a field")
-        self._edit("sort", number(first_trace), number(last_trace), *map(lines.key, keys))
+        self._edit("sort", position(first_trace), position(last_trace), *map(lines.key, keys))
 
     def map(self, name: str, place: Field) -> None:
-        """Binds a name to a place of trace headers. The file is not changed."""
+        """Binds a name to a place of trace headers: ``v.map("shot", "@17:4")``. The file is not changed.
+
+        Where the place is named by a field, as in ``v.map("x", "source_x")`` or ``v.map("x", "SourceX")``, it is that field's: any name that the
+        program knows, of its own, of Seismic Unix or of segyio, or one that is bound.
+        """
         self._edit("map", lines.word(name), field(place))
 
     def unmap(self, name: str) -> None:
@@ -187,8 +196,9 @@ class Volume:
     def headers(self, *names: Field, traces: Any = None, frame: bool = False) -> Any:
         """The numbers of these fields of many traces as a structured array (without numpy: a list of tuples).
 
-        Without names: the six that are always bound. ``traces`` is a slice of positions from 1 (its end left out, as ever in Python),
-        a range, or positions. With ``frame`` the answer is a pandas DataFrame, whose index is the position.
+        Without names: the six that are always bound. ``traces`` selects: a slice of positions from 1 (its end left out, as ever in Python),
+        a range, a position, a list of them, or a mask with a truth value for each trace: ``v.headers("x", "y", traces=slice(1, 5))``.
+        With ``frame`` the answer is a pandas DataFrame, whose index is the position.
         """
         words = [field(name) for name in names] or ["inline", "crossline", "offset", "x", "y", "scalar"]
         if len(set(words)) < len(words):
@@ -204,7 +214,7 @@ class Volume:
 
     def header(self, trace: int) -> Dict[str, int]:
         """All named numbers of a trace's headers: those of the standard in the order of their bytes, then the bound names."""
-        return answers.header(self._ask("header", number(trace)))
+        return answers.header(self._ask("header", position(trace)))
 
     def find(self, name: Field, low: int, high: int, traces: Any = None) -> Any:
         """The traces whose number in this field is from ``low`` to ``high``: an array of ``trace`` and ``value``, in order of ``traces``.
@@ -241,7 +251,7 @@ class Volume:
 
     def _where(self, traces: Any) -> Sequence[int]:
         """The positions that are meant. How many traces there are is asked where it matters."""
-        return positions(traces, len(self) if isinstance(traces, slice) or traces is None else 0)
+        return positions(traces, self.count)
 
     def _kinds(self, words: Sequence[str]) -> List[Optional[Tuple[int, bool]]]:
         places = {**TRACE_NAMES, **self.fields()}
@@ -360,14 +370,14 @@ class Volume:
 
     def sample(self, trace: int, sample: int) -> int:
         """A sample of a trace."""
-        return self._value("sample", number(trace), number(sample))
+        return self._value("sample", position(trace), number(sample))
 
     def samples(self, trace: int) -> Any:
         """All samples of a trace, as an array."""
         told = self.stat(trace)
         count = told.samples if told else 0
         unsigned = self.info.format == 12
-        first = f"sample {number(trace)} "
+        first = f"sample {position(trace)} "
         sent = ((encode("".join(f"{first}{k}\n" for k in range(at, min(at + BATCH_LINES, count)))), min(BATCH_LINES, count - at))
                 for at in range(0, count, BATCH_LINES))
         with closing(self._engine.stream(sent)) as stream:
@@ -375,35 +385,35 @@ class Volume:
 
     def patch(self, trace: int, sample: int, values: Any) -> None:
         """Writes the numbers over the samples from ``sample`` on, all or none."""
-        self._edit("patch", number(trace), number(sample), *map(str, lines.numbers([values] if lines.single(values) else values)))
+        self._edit("patch", position(trace), number(sample), *map(str, lines.numbers([values] if lines.single(values) else values)))
 
     def resize(self, trace: int, samples: int) -> None:
         """Gives a trace that number of samples."""
-        self._edit("resize", number(trace), number(samples))
+        self._edit("resize", position(trace), number(samples))
 
     # ---- whole traces
 
     def blank(self, before: int) -> None:
         """Puts a trace of zeros in front of a trace, or behind the last."""
-        self._edit("blank", number(before))
+        self._edit("blank", position(before))
 
     def copy(self, trace: int, before: int) -> None:
         """Puts a copy of a trace in front of another, or behind the last."""
-        self._edit("copy", number(trace), number(before))
+        self._edit("copy", position(trace), position(before))
 
     def delete(self, trace: int) -> None:
         """Takes a trace out."""
-        self._edit("delete", number(trace))
+        self._edit("delete", position(trace))
 
     def move(self, trace: int, to: int) -> None:
         """Takes a trace out and puts it in again, so that its position is ``to``."""
-        self._edit("move", number(trace), number(to))
+        self._edit("move", position(trace), position(to))
 
     # ---- reports
 
     def geometry(self, trace: int) -> Geometry:
         """Where a trace lies."""
-        return answers.geometry(self._one("geometry", number(trace)))
+        return answers.geometry(self._one("geometry", position(trace)))
 
     def positions(self, traces: Any = None, frame: bool = False) -> Any:
         """Where many traces lie: inline, crossline, offset, and x and y under the scalar as floats; ``traces`` as for ``headers``."""
@@ -418,7 +428,7 @@ class Volume:
 
     def stat(self, trace: int) -> Optional[Statistics]:
         """The samples of a trace; ``None`` where it has none."""
-        return answers.statistics(self._one("stat", number(trace)), "stat")
+        return answers.statistics(self._one("stat", position(trace)), "stat")
 
     @property
     def totals(self) -> Optional[Statistics]:
@@ -532,6 +542,11 @@ class Volume:
         from .html import page
 
         return page(self)
+
+
+def _limit(path: Path, on_disk: bool) -> int:
+    """The limit on the bytes of a file where none is named."""
+    return MOST_IN_MEMORY if not on_disk and os.stat(path).st_size > MOST_IN_MEMORY else MOST_BYTES
 
 
 def _join(parts: List[Any]) -> Any:

@@ -67,6 +67,46 @@ def test_the_host_and_the_origin(started):
         assert asked(desk, Sec_Fetch_Site=site)[0] == 403
 
 
+def raw(desk, *lines, body=b""):
+    """The status of a request that is written line by line."""
+    sent = "\r\n".join([*lines, "Connection: close", "", ""]).encode() + body
+    with socket.create_connection(("127.0.0.1", desk.port), timeout=20) as link:
+        link.sendall(sent)
+        told = b"".join(iter(lambda: link.recv(65536), b""))
+    return int(told.split()[1])
+
+
+def test_a_header_that_stands_twice(started):
+    desk = ready(started("cube"))
+    host, own, evil = f"Host: 127.0.0.1:{desk.port}", f"Origin: http://127.0.0.1:{desk.port}", "Origin: http://evil.example"
+    get = f"GET /{desk.token}/ask/state HTTP/1.1"
+    assert raw(desk, get, host) == raw(desk, get, host, own) == 200
+    for more in ([own, evil], [evil, own], [own, own], [own, "origin: null"], [host], ["Host: evil.example"], ["Sec-Fetch-Site: none", "Sec-Fetch-Site: cross-site"]):
+        assert raw(desk, get, host, *more) in (400, 403), more
+    body = json.dumps({"line": "delete 1"}).encode()
+    post = [f"POST /{desk.token}/do/run HTTP/1.1", host, f"Content-Length: {len(body)}"]
+    kind = "Content-Type: application/json"
+    for more in ([own, evil, kind], [own, own, kind], [own, kind, "Content-Type: text/plain"], [own, kind, host]):
+        assert raw(desk, *post, *more, body=body) in (400, 403), more
+    assert json.loads(asked(desk)[1])["edits"] == 0
+    assert raw(desk, *post, own, kind, body=body) == 200
+    assert json.loads(asked(desk)[1])["edits"] == 1
+
+
+def test_a_body_that_is_no_plain_json(started):
+    desk = ready(started("cube"))
+    head = [f"POST /{desk.token}/do/run HTTP/1.1", f"Host: 127.0.0.1:{desk.port}", f"Origin: http://127.0.0.1:{desk.port}"]
+    deep = b'{"line": ' + b"[" * 100000 + b"]" * 100000 + b"}"
+    known = "Content-Type: application/json"
+    for body, kind in ((deep, known), (b"[" * 100000, known), (b'{"line": ' + b"[" * 990 + b"]" * 990 + b"}", known), (b"\xff", known),
+                       (b"", known), (b"{}", f"{known}; charset=nobody"), (b'{"line": "\\ud800"}', known), (b'{"line": 1' + b"0" * 5000 + b"}", known)):
+        assert raw(desk, *head, kind, f"Content-Length: {len(body)}", body=body) == 400, body[:20]
+    assert json.loads(asked(desk)[1])["edits"] == 0
+    far = f"i0={10**30}&i1={-10**30}&x0=0&x1={2**63}"
+    for name in ("cell", "select"):
+        assert asked(desk, f"/{desk.token}/ask/{name}?{far}")[0] in (200, 400), name
+
+
 def test_edits_come_from_the_page_alone(started):
     desk = ready(started("cube"))
     own, kind = f"http://127.0.0.1:{desk.port}", "application/json"
@@ -184,15 +224,6 @@ def test_a_port(example):
     status, told = desk.end()
     assert done.returncode == 4 and f"cannot listen on port {taken}" in done.stderr
     assert status == 0 and told == ""
-
-
-def test_a_refused_file(opened, started, browser, tmp_path):
-    path = tmp_path / "float.sgy"
-    files.write(path, files.header(), files.binary(form=8), files.trace(1, 1, 1, [1, 2])[:-3])
-    desk = started(path, show=True, env={"BROWSER": "true"})
-    browser.get(desk.url)
-    assert wait_for(lambda: "load refused L14 truncated trace 1" in browser.find_element("id", "banner").text)
-    assert desk.process.wait(timeout=20) == 3
 
 
 def test_floats(opened, tmp_path):

@@ -13,10 +13,10 @@ import numpy as np
 import pytest
 from conftest import HERE, SOURCES, TOP
 
-from segywb.desk import faults, maps, mirror, views
+from segywb.desk import bundles, faults, maps, mirror, places, views
 from segywb.desk.desk import Desk
 
-MODULES = ("cli", "desk", "faults", "guard", "maps", "mirror", "saving", "server", "views", "words")
+MODULES = ("bundles", "cli", "desk", "faults", "guard", "maps", "marks", "mirror", "places", "refusals", "saving", "server", "views", "words")
 NAMES = ["inline", "crossline", "x", "y", "scalar"]
 
 
@@ -129,7 +129,7 @@ def test_no_traces(tmp_path):
     made = Desk(str(files.empty(tmp_path / "empty.sgy")))
     made.load()
     window = views.Window((500, 400), True)
-    assert views.fold(made, window)["now"] == [] and views.positions(made, window, False)["traces"] == 0
+    assert views.fold(made, window)["now"] == [] and places.positions(made, *window, False)["traces"] == 0
     assert views.Slices().view(made, 0, window, False)["rows"] == 0
     assert views.state(made)["traces"] == 0 and views.table(made, 1, 25, NAMES, True)["rows"] == [] and views.extremes(made)["rows"] == []
     made.run("blank 1")
@@ -166,9 +166,9 @@ def test_thinned_maps():
     folds[100, 10] = 3
     rows, columns = np.nonzero(folds)
     cells = maps.Cells(rows, columns, folds[rows, columns])
-    bundle = maps.bundle_for(900, 700, (200, 200))
+    bundle = bundles.bundle_for(maps.axis_of(np.arange(900)), maps.axis_of(np.arange(700)), (200, 200), [cells])
     assert (bundle.tall, bundle.wide, bundle.rows, bundle.columns) == (5, 4, 180, 175)
-    shown = maps.farthest(cells, bundle, maps.usual_of(cells, 900 * 700), (900, 700), True)
+    shown = bundles.farthest(cells, bundle, maps.usual_of(cells), True)
     assert np.isnan(shown[90, 83]) and shown[20, 2] == 3
     assert np.count_nonzero(shown != 1) == 2
 
@@ -176,15 +176,18 @@ def test_thinned_maps():
 def test_a_sparse_map_shows_its_traces():
     at = np.arange(1000)
     cells = maps.Cells(at, at, np.ones(1000, dtype=int))
-    bundle = maps.bundle_for(1000, 1000, (100, 100))
-    shown = maps.farthest(cells, bundle, maps.usual_of(cells, 10**6), (1000, 1000), True)
+    axis = maps.axis_of(at)
+    bundle = bundles.bundle_for(axis, axis, (100, 100), [cells])
+    shown = bundles.farthest(cells, bundle, maps.usual_of(cells), True)
     assert np.diagonal(shown).tolist() == [1] * 100 and np.isnan(shown[0, 1])
 
 
 def test_wild_numbers_leave_the_map_legible():
     axis = maps.axis_of(np.array([1, 2, 3, 5, 2**31 - 1]))
     assert axis.labels == [1, 2, 3, 4, 5, None, 2**31 - 1]
-    assert views.held(np.array([0.0] + [450000.0 + at for at in range(99)]), False) == [450000.0, 450098.0]
+    line = np.array([0.0] + [450000.0 + at for at in range(99)])
+    near = places.survey(line, np.zeros(100))
+    assert places.ends(line[near]) == [450000.0, 450098.0]
     assert views.amplitude(np.array([1.0] * 99 + [1e6]), False) == {"most": 1e6, "end": 1.0, "beyond": 1}
     assert maps.colour_end([np.array([1] * 99 + [500])], 1) == {"most": 500, "end": 2, "beyond": 1}
 
@@ -211,13 +214,16 @@ def test_words_are_those_of_the_manual():
 
 def test_what_is_packed(tmp_path):
     room = tmp_path / "room"
-    for name in ("python", "dist"):
+    for name in ("python", "dist", "man"):
         shutil.copytree(TOP / name, room / name, ignore=shutil.ignore_patterns("__pycache__", "tests*"))
     script = "import sys; sys.path.insert(0, 'backend'); import segywb_build; print(segywb_build.build_wheel('.'))"
     name = subprocess.run([sys.executable, "-c", script], cwd=room / "python", capture_output=True, text=True, check=True).stdout.strip()
     with zipfile.ZipFile(room / "python" / name) as wheel:
         packed = set(wheel.namelist())
         assert "segywb-desk = segywb.desk.cli:main" in wheel.read(next(one for one in packed if one.endswith("entry_points.txt"))).decode()
+        page = next(one for one in packed if one.endswith(".data/data/share/man/man1/segywb-desk.1"))
+        assert wheel.read(page) == (TOP / "man" / "segywb-desk.1").read_bytes()
+        assert page in wheel.read(next(one for one in packed if one.endswith("RECORD"))).decode()
     for path in (SOURCES / "segywb" / "desk").rglob("*"):
         if path.is_file() and "__pycache__" not in path.parts:
             assert path.relative_to(SOURCES).as_posix() in packed

@@ -57,13 +57,13 @@ def test_a_command_changes_the_map(opened):
     page = opened("wrong_line")
     assert page.run("renumber 5 8 inline 102 0") == "ok"
     assert page.map() == SOUND
-    assert page.marks() == 2 and "8 cells changed by the last step" in page.text("caption")
+    assert page.marks() == 1 and "8 cells changed by the last step" in page.text("caption")
     page.wait(lambda: "No faults" in page.text("panel"))
     assert page.one("#panel tr.mark").text.startswith("F6 0\nwas 4")
     marked = page.wait(lambda: [one.get_attribute("data-at") for one in page.all("#table-room td.mark")])
     assert marked == ["4 0", "5 0", "6 0", "7 0"]
     assert page.run("inlines") == "inlines 3\ninline 101 4\ninline 102 4\ninline 103 4"
-    assert page.marks() == 2
+    assert page.marks() == 1
 
 
 def test_undo_and_redo(opened):
@@ -306,7 +306,7 @@ def test_width_and_pictures(opened, scheme, tmp_path):
     page.wait(lambda: page.js("return Boolean(document.getElementById('plot-was').data)") and page.data("whole"))
     page.find("first").send_keys(Keys.CONTROL + "a", Keys.NULL, "438", Keys.TAB)
     page.wait(lambda: "was 111" in page.find("table-room").text)
-    assert page.marks() == 2
+    assert page.marks() == 1
     picture("compare")
     page.map_tab("slice")
     page.js("const one = document.getElementById('sample-number'); one.value = 12; one.dispatchEvent(new Event('change'))")

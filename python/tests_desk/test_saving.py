@@ -13,7 +13,10 @@ import pytest
 from conftest import TOP, run, wait_for
 from page import Page
 from selenium.webdriver.common.by import By
+from segywb.desk import saving
+from segywb.desk.desk import Desk
 from segywb.desk.server import Server
+from segywb.errors import FileChanged
 from selenium.webdriver.common.keys import Keys
 from test_guard import asked
 from test_page import BROKEN, SOUND
@@ -207,6 +210,57 @@ def test_the_file_is_changed_under_the_desk(opened):
     assert asked(page.desk, f"/{page.desk.token}/edits.txt")[1] == f"{MEND}\ndelete 1\n"
 
 
+@pytest.mark.parametrize("replaced", [False, True])
+def test_what_was_loaded_is_not_another_file(example, tmp_path, replaced):
+    """A file of the same size whose time is put back: it is not shown as the one that was loaded."""
+    path = example("wrong_line")
+    made = Desk(str(path))
+    made.load()
+    made.run(MEND)
+    old, before = path.read_bytes(), os.stat(path)
+    new = tmp_path / "new.sgy" if replaced else path
+    new.write_bytes(old[:-1] + b"\x77")
+    os.utime(new, ns=(before.st_atime_ns, before.st_mtime_ns))
+    os.replace(new, path)
+    assert (os.stat(path).st_size, os.stat(path).st_mtime_ns) == (before.st_size, before.st_mtime_ns)
+    with pytest.raises(FileChanged):
+        made.bring_original(0)
+    made.close()
+
+
+def test_what_was_loaded_is_shown_anew_after_a_save_over_it(example):
+    path = example("wrong_line")
+    made = Desk(str(path))
+    made.load()
+    made.run("patch 1 0 77")
+    assert made.bring_original(0)["value"][0] == 11
+    assert "error" not in saving.save(made, str(path), True)
+    assert made.bring_original(0)["value"][0] == 77
+    made.close()
+
+
+def test_a_save_over_another_link_of_the_file(example, tmp_path):
+    """The link is replaced, and the file that is open is as it was."""
+    path, link = example("wrong_line"), tmp_path / "link.sgy"
+    os.link(path, link)
+    made = Desk(str(path))
+    made.load()
+    made.run("patch 1 0 77")
+    assert saving.save(made, str(link), False) == {"ask": str(link), "own": False}
+    assert saving.save(made, str(path), False) == {"ask": str(path), "own": True}
+    answer = saving.save(made, str(link), True)
+    assert answer["own"] is False and made.bring_original(0)["value"][0] == 11 and made.loaded is not made.now()
+    made.close()
+
+
+def test_the_word_save_opens_the_box(opened, tmp_path):
+    page = opened("wrong_line")
+    page.run(MEND)
+    page.find("line").send_keys(" save ", Keys.ENTER)
+    page.wait(lambda: page.find("save-path").is_displayed())
+    assert "1 edit" in page.text("save-box") and page.text("log").count("refused") == 0
+
+
 def test_the_desk_is_ended(opened):
     page = opened("cube")
     page.may_complain = True
@@ -216,17 +270,22 @@ def test_the_desk_is_ended(opened):
 
 
 def test_loading_is_shown(started, browser, tmp_path, example):
-    """A program that takes its time: the page is there before the file is."""
+    """A program that takes its time behind its first answers: the page is there once the file is accepted, and before it is read."""
     slow = tmp_path / "slow"
     from segywb import program
 
-    slow.write_text(f"#!/bin/sh\nwhile [ ! -e {tmp_path}/go ]; do sleep 0.1; done\nexec {program.find()} \"$@\"\n")
+    wait = f"while [ ! -e {tmp_path}/go ]; do sleep 0.1; done"
+    slow.write_text(f"#!/bin/sh\n{{ for n in 1 2; do IFS= read -r one; printf '%s\\n' \"$one\"; done; {wait}; exec cat; }} | {program.find()} \"$@\"\n")
     slow.chmod(slow.stat().st_mode | stat.S_IXUSR)
     desk = started("wrong_line", env={"SEGYWB": str(slow)})
     page = Page(browser, desk)
     browser.get(desk.url)
-    page.wait(lambda: page.text("loading-text").startswith("Reading the file"))
+    page.wait(lambda: page.text("loading-text").startswith("Reading inlines and crosslines"))
     assert page.find("progress").is_displayed() and not page.find("main").is_displayed()
     (tmp_path / "go").touch()
     page.wait(lambda: page.data("whole"))
     assert page.map() == BROKEN and not page.find("loading").is_displayed()
+    (tmp_path / "go").unlink()
+    again = started("wrong_line", env={"SEGYWB": str(slow)})
+    assert again.end() == (0, "")
+    (tmp_path / "go").touch()  # what waits in the program goes too

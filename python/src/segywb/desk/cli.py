@@ -11,6 +11,7 @@ import webbrowser
 from typing import Any, List, Optional
 
 GOODBYE_SECONDS = 10.0
+SLOW_SECONDS = 1.0
 
 
 def words(arguments: Optional[List[str]]) -> Any:
@@ -50,6 +51,7 @@ def main(arguments: Optional[List[str]] = None) -> int:
     except OSError as error:
         print(f"segywb-desk: cannot open {told.file}: {error.strerror}", file=sys.stderr)
         return 3
+    signal.signal(signal.SIGINT, signal.SIG_DFL)  # while the file is opened there is nothing to tidy up
     try:
         return asyncio.run(serve(told))
     except OSError as error:
@@ -58,27 +60,59 @@ def main(arguments: Optional[List[str]] = None) -> int:
 
 
 async def serve(told: Any) -> int:
-    """Listens, opens the page, loads the file, and waits for the end."""
+    """Opens the file, then the page, and waits for the end."""
     from .desk import Desk
     from .server import Server
 
     server = Server(Desk(told.file, told.out, told.fixed, told.max_bytes, told.order, told.on_disk), secrets.token_urlsafe(24))
     port = await server.start(told.port)
+    try:
+        await opened(server, told.file)
+        return await shown(told, server, f"http://127.0.0.1:{port}/{server.guard.token}/")
+    finally:
+        await server.stop()
+
+
+async def opened(server: Any, path: str) -> None:
+    """Opens the file. Where that takes a while the terminal says so: there is no page yet."""
+    task = asyncio.ensure_future(server.open())
+    if not (await asyncio.wait({task}, timeout=SLOW_SECONDS))[0] and sys.stderr.isatty():
+        print(f"segywb-desk: reading {sendable(path)} ..", file=sys.stderr, flush=True)
+    await task
+
+
+def sendable(text: str) -> str:
+    """A text that a terminal takes, also where a path in it is no UTF-8."""
+    return text.encode("utf-8", "replace").decode()
+
+
+async def shown(told: Any, server: Any, address: str) -> int:
+    """Shows the page of a file that is open, or of one that is refused: there the readings that take it are offered."""
     ended = asyncio.Event()
     for one in (signal.SIGINT, signal.SIGTERM):
         asyncio.get_running_loop().add_signal_handler(one, ended.set)
-    address = f"http://127.0.0.1:{port}/{server.guard.token}/"
+    status = say_why(server)
+    if status != 0 and (not server.refused or told.no_browser):
+        return status
     print(f"{address}\nThe address holds a key: whoever has it on this machine can use the desk. End it with Ctrl-C.", flush=True)
     if not told.no_browser:
         webbrowser.open(address)
-    await server.load()
-    try:
-        if server.failed is not None:
-            print(f"segywb-desk: {server.failed.answer}", file=sys.stderr)
-            if not told.no_browser:
-                await server.goodbye(GOODBYE_SECONDS)
-            return 3
-        await ended.wait()
+    if status == 0:
+        loading = asyncio.ensure_future(server.load())  # it is ended with the desk, also in the middle
+    elif len(server.refused) == 1:  # no reading takes it: there is nothing to choose on the page
+        await server.goodbye(GOODBYE_SECONDS)
+        return status
+    await ended.wait()
+    return 3 if server.refused else 0
+
+
+def say_why(server: Any) -> int:
+    """Says on standard error why a file is not open, and gives the exit status; 0 where it is."""
+    from ..errors import OptionRefused, ProgramNotFound
+
+    error = server.broken
+    if error is None:
         return 0
-    finally:
-        await server.stop()
+    for line in server.refused or [getattr(error, "stderr", "").strip() or str(error)]:
+        print(f"segywb-desk: {sendable(line)}", file=sys.stderr, flush=True)
+    return 2 if isinstance(error, OptionRefused) else 5 if isinstance(error, ProgramNotFound) else 3

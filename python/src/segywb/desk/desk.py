@@ -10,10 +10,10 @@ import numpy as np
 import segywb
 
 from .. import answers, arrays
-from ..errors import LoadRefused, OptionRefused
+from ..errors import FileChanged, LoadRefused, OptionRefused
 from ..lines import of_script
 from ..volume import Volume
-from . import mirror
+from . import mirror, refusals
 from .maps import Axis, Cells
 from .mirror import Mirror, silent
 
@@ -62,6 +62,7 @@ class Desk:
         self._options: Dict[str, Any] = {"fixed": fixed, "max_bytes": max_bytes, "order": order, "on_disk": on_disk}
         self.opaque = False
         self.version = 0
+        self.edited: Optional[int] = None  # the version before the last edit, where that edit is the last step
         self.kept_cells: List[Tuple[Mirror, Axis, Axis, Cells]] = []
         self._pending: List[str] = []
         self._shots: List[Shot] = []
@@ -70,24 +71,47 @@ class Desk:
         self._before: Optional[Shot] = None
         self._volume: Optional[Volume] = None
         self._original: Optional[Volume] = None
+        self._stamp: Tuple[int, ...] = ()
 
     # ---- opening
 
     def load(self, told: Callable[[str, int, int], None] = lambda phase, done, of: None) -> None:
-        """Opens the file and reads the lines of all traces."""
+        """Opens the file, where it is not open, and reads the lines of all traces."""
         told("the file", 0, 0)
-        self._volume = self._opened()
+        self.open()
+        assert self._volume is not None
         told("inlines and crosslines", 0, len(self._volume))
         read = mirror.read(self._volume, mirror.LINES, lambda done, of: told("inlines and crosslines", done, of))
         self._now = self._loaded = self._shot(read)
         self._shots = [self._now]
         self.version += 1
 
+    def open(self) -> None:
+        """Opens the file: a refused one is an exception."""
+        if self._volume is None:
+            self._stamp = look(self.path)
+            self._volume = self._opened()
+
+    def refused(self, refusal: LoadRefused) -> Tuple[str, List[refusals.Reading]]:
+        """What the program says of the file that it refuses, and the readings that would take it."""
+        told = f"{refusal.answer} ({refusal.hint})" if refusal.hint else refusal.answer
+        return told, refusals.readings(self.path, self._options)
+
+    def read_as(self, reading: refusals.Reading) -> None:
+        """The file is opened by this reading from now on."""
+        self._options.update(reading.options)
+        self.opaque = False
+
+    @property
+    def words(self) -> List[str]:
+        """The options with which the program reads the file as it is read here."""
+        return refusals.words_of({**self._options, "opaque_samples": self.opaque})
+
     def _opened(self) -> Volume:
         try:
             return segywb.open(self.path, opaque_samples=self.opaque, **self._options)
         except LoadRefused as refusal:
-            if self.opaque or refusal.code not in ("L06", "L07"):
+            if self.opaque or refusal.code not in refusals.FLOATS:
                 raise
             self.opaque = True
             try:
@@ -106,8 +130,19 @@ class Desk:
     def original(self) -> Volume:
         """A second session, over the file as it was loaded: for what is shown of it beside the edited one."""
         if self._original is None:
+            self._same_file()
             self._original = self._opened()
+            try:
+                self._same_file()
+            except FileChanged:
+                self.forget_original()
+                raise
         return self._original
+
+    def _same_file(self) -> None:
+        """The file must be the one that was loaded: what another program made of it is not shown as that."""
+        if look(self.path) != self._stamp:
+            raise FileChanged(f"{self.path} is no longer the file that was opened")
 
     def forget_original(self) -> None:
         """Ends the second session."""
@@ -147,7 +182,8 @@ class Desk:
         return True
 
     def now(self) -> Shot:
-        """The survey as it is, brought up to date where lines were accepted since."""
+        """The survey as it is, brought up to date where lines were accepted since. Each edit asks it first, so that what is marked is what
+        that edit changed."""
         assert self._now is not None
         if self._pending:
             lines, self._pending = self._pending, []
@@ -175,7 +211,7 @@ class Desk:
 
     @property
     def before(self) -> Optional[Shot]:
-        """The survey before the last step."""
+        """The survey before the last edit; nothing where the last step took one back."""
         self.now()
         return self._before
 
@@ -200,12 +236,14 @@ class Desk:
 
     def run(self, line: str) -> Dict[str, Any]:
         """Runs one line, and tells its answer; a long one in part."""
+        self.now()
         got = self.volume.run(of_script(line))
         self._accepted([one.line for one in got if one.accepted])
         return {"answers": [shown(one.line, one.text) for one in got], "version": self.version}
 
     def run_script(self, script: str) -> Dict[str, Any]:
         """Runs a script as one step: whole, or where a line of it is refused not at all."""
+        self.now()
         try:
             got = self.volume.run(of_script(script), stop=True)
         except segywb.Refused as refusal:
@@ -218,17 +256,17 @@ class Desk:
     def _accepted(self, lines: List[str]) -> None:
         if lines:
             self._pending += lines
+            self.edited = self.version
             self.version += 1
 
     def undo(self) -> Dict[str, Any]:
         """Takes the last step back."""
         self.now()
         lines = self.volume.undo(1)
-        last = self._now
         earlier = [one for one in self._shots if one.steps == self.volume.undoable]
         self._pending = []
         self._keep(earlier[-1] if earlier else self._anew())
-        self._before = last
+        self._before = self.edited = None
         self.version += 1
         return {"lines": shortened(lines), "version": self.version}
 
@@ -253,13 +291,30 @@ class Desk:
     def settled(self) -> None:
         """After a save over the file itself: what is now is what was loaded."""
         self.forget_original()
+        self._stamp = look(self.path)
         self._loaded = self._now = self._anew()
-        self._shots, self._before = [self._now], None
+        self._shots, self._before, self.edited = [self._now], None, None
         self.version += 1
+
+    def unlinked(self) -> None:
+        """After a save that replaced another link of the file: it is the same file, whose number of links has changed, and a time with it."""
+        now = look(self.path)
+        if now[:-1] == self._stamp[:-1]:
+            self._stamp = now
 
     def bring_original(self, sample: int) -> Any:
         """A slice of the survey as it was loaded."""
         return self.original.slice(sample).rows
+
+
+def look(path: str) -> Tuple[int, ...]:
+    """What tells a file from another, and from itself with other bytes: also where its size and the time of its bytes are put back. Empty
+    where there is none."""
+    try:
+        found = os.stat(path)
+    except OSError:
+        return ()
+    return found.st_dev, found.st_ino, found.st_size, found.st_mtime_ns, found.st_ctime_ns
 
 
 def shown(line: str, text: str) -> Dict[str, Any]:

@@ -24,6 +24,10 @@ HEADERS = {
 }
 
 
+# A header that says who asks. Where it stands twice, two readers may each believe another one.
+ONCE = ("Host", "Origin", "Sec-Fetch-Site", "Content-Type", "Content-Length")
+
+
 class Guard:
     """Refuses what does not come from the page that was opened by its whole address."""
 
@@ -34,6 +38,8 @@ class Guard:
     def why_not(self, request: web.Request) -> Optional[str]:
         """Why a request is not answered, or nothing."""
         hosts = (f"127.0.0.1:{self.port}", f"localhost:{self.port}")
+        if any(len(request.headers.getall(name, [])) > 1 for name in ONCE):
+            return "header"
         if request.headers.getall("Host", []) not in ([hosts[0]], [hosts[1]]):
             return "host"
         origin = request.headers.get("Origin")

@@ -1,4 +1,4 @@
-"""Maps of cells for the page: axes with their gaps, and cells bundled where there are more of them than pixels."""
+"""Maps of cells for the page: axes with their gaps, and the cells on them."""
 
 from __future__ import annotations
 
@@ -6,8 +6,8 @@ from typing import Any, Dict, List, NamedTuple, Optional, Sequence, Tuple
 
 import numpy as np
 
-MOST_MARKS = 2000
 MOST_FILLED = 20
+MOST_NAMED = 3
 MOST_DIRECT = 1 << 22
 MOST_DENSE = 1 << 24
 
@@ -90,69 +90,29 @@ def folds(inlines: Any, crosslines: Any, down: Axis, right: Axis) -> Cells:
     return Cells(found // wide, found % wide, counts)
 
 
-def usual_of(cells: Cells, slots: int) -> int:
-    """The most frequent fold; 0 where most cells have no traces.
+def usual_of(cells: Cells) -> int:
+    """The most frequent fold of the cells that have traces; 0 where none has.
 
-    >>> usual_of(Cells(np.array([0, 0]), np.array([0, 1]), np.array([3, 3])), 3)
+    >>> usual_of(Cells(np.array([0, 0]), np.array([0, 1]), np.array([3, 3])))
     3
     """
-    if not len(cells.values):
-        return 0
-    counts = np.bincount(cells.values)
-    most = int(np.argmax(counts))
-    return 0 if slots - len(cells.values) > int(counts[most]) else most
+    return int(np.argmax(np.bincount(cells.values))) if len(cells.values) else 0
 
 
-class Bundle(NamedTuple):
-    """How cells are bundled: so many rows and columns become one pixel."""
+def missing(numbers: Any) -> Dict[str, Any]:
+    """How many numbers lack between the least and the greatest of these rising ones, by their usual step, and the first of them. A gap
+    that is wider than the axis has numbers belongs to a wild number, and is not counted.
 
-    tall: int
-    wide: int
-    rows: int
-    columns: int
-
-    def of(self, rows: Any, columns: Any) -> Any:
-        """The pixel of each cell."""
-        return (rows // self.tall) * self.columns + columns // self.wide
-
-
-def bundle_for(rows: int, columns: int, pixels: Tuple[int, int]) -> Bundle:
-    """The bundles that fit into so many pixels, width and height.
-
-    >>> bundle_for(1000, 30, (500, 400))
-    Bundle(tall=3, wide=1, rows=334, columns=30)
+    >>> missing(np.array([10, 12, 16, 18, 90000]))
+    {'count': 1, 'step': 2, 'first': [14]}
     """
-    tall, wide = max(1, -(-rows // max(pixels[1], 1))), max(1, -(-columns // max(pixels[0], 1)))
-    return Bundle(tall, wide, -(-rows // tall), -(-columns // wide))
-
-
-def farthest(cells: Cells, bundle: Bundle, usual: int, slots: Tuple[int, int], missing_is_zero: bool) -> Any:
-    """For each pixel the value that is farthest from the usual one; not a number where there is none.
-
-    >>> cells = Cells(np.array([0, 0, 1]), np.array([0, 1, 0]), np.array([1, 1, 5]))
-    >>> farthest(cells, bundle_for(2, 2, (1, 2)), 1, (2, 2), True).tolist()
-    [[1.0], [5.0]]
-    """
-    count = bundle.rows * bundle.columns
-    at = bundle.of(cells.rows, cells.columns)
-    made = np.full(count, np.nan)
-    if bundle.tall == bundle.wide == 1:
-        made[at[::-1]] = cells.values[::-1]
-        return made.reshape(bundle.rows, bundle.columns)
-    order = np.argsort(np.abs(cells.values - usual), kind="stable")
-    made[at[order]] = cells.values[order]
-    if missing_is_zero and usual > 0:
-        present = np.bincount(at, minlength=count)
-        lacks = present < sizes(bundle, slots)
-        made[lacks & (np.abs(np.nan_to_num(made) - usual) < usual)] = np.nan
-    return made.reshape(bundle.rows, bundle.columns)
-
-
-def sizes(bundle: Bundle, slots: Tuple[int, int]) -> Any:
-    """The number of cells of each pixel."""
-    tall = np.minimum(bundle.tall, slots[0] - np.arange(bundle.rows) * bundle.tall)
-    wide = np.minimum(bundle.wide, slots[1] - np.arange(bundle.columns) * bundle.wide)
-    return (tall[:, None] * wide[None, :]).ravel()
+    numbers = np.asarray(numbers, dtype=np.int64)
+    around = np.diff(numbers)
+    step = step_of(around)
+    lacking = around // step - 1
+    at = np.flatnonzero((lacking > 0) & (lacking <= max(len(numbers), MOST_FILLED)))
+    first = [int(numbers[one]) + step * (more + 1) for one in at[:MOST_NAMED].tolist() for more in range(min(int(lacking[one]), MOST_NAMED))]
+    return {"count": int(lacking[at].sum()), "step": step, "first": first[:MOST_NAMED]}
 
 
 def differing(one: Cells, other: Cells, wide: int) -> Tuple[Any, Any]:
@@ -175,19 +135,6 @@ def differing(one: Cells, other: Cells, wide: int) -> Tuple[Any, Any]:
     return found // wide, found % wide
 
 
-def marks(rows: Any, columns: Any, bundle: Bundle) -> List[List[int]]:
-    """Runs of pixels with a changed cell: the row, the first and the last column. The first ones alone where there are many."""
-    pixels = np.unique(bundle.of(rows, columns))
-    if not len(pixels):
-        return []
-    breaks = np.flatnonzero((np.diff(pixels) != 1) | (pixels[1:] % bundle.columns == 0)) + 1
-    firsts, lasts = pixels[np.concatenate([[0], breaks])], pixels[np.concatenate([breaks - 1, [len(pixels) - 1]])]
-    return [
-        [int(first) // bundle.columns, int(first) % bundle.columns, int(last) % bundle.columns]
-        for first, last in zip(firsts[:MOST_MARKS], lasts[:MOST_MARKS])
-    ]
-
-
 def plain(array: Any) -> List[List[Optional[float]]]:
     """An array of whole numbers as lists, with nothing where it is not a number; above 2**53 they are rounded."""
     missing = np.isnan(array)
@@ -197,15 +144,16 @@ def plain(array: Any) -> List[List[Optional[float]]]:
     return list(boxed.tolist())
 
 
-def shown_axis(axis: Axis, size: int) -> Dict[str, Any]:
+def shown_axis(axis: Axis, pixels: Any) -> Dict[str, Any]:
     """An axis as the page gets it: for each pixel the first and the last number in it."""
     firsts: List[Optional[int]] = []
     lasts: List[Optional[int]] = []
-    for at in range(0, len(axis), size):
-        some = [label for label in axis.labels[at:at + size] if label is not None]
+    ends = np.concatenate([np.flatnonzero(np.diff(pixels)) + 1, [len(axis)]]).tolist() if len(axis) else []
+    for start, end in zip([0, *ends], ends):
+        some = [label for label in axis.labels[start:end] if label is not None]
         firsts.append(some[0] if some else None)
         lasts.append(some[-1] if some else None)
-    return {"first": firsts, "last": lasts, "size": size, "numbers": len(axis.numbers), "gaps": sum(label is None for label in axis.labels)}
+    return {"first": firsts, "last": lasts, "numbers": len(axis.numbers), "gaps": sum(label is None for label in axis.labels)}
 
 
 def colour_end(values: Sequence[Any], usual: int) -> Dict[str, Any]:

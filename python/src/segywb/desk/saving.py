@@ -20,9 +20,9 @@ def save(desk: Desk, path: str, replace: bool) -> Dict[str, Any]:
     if not path.strip():
         return {"error": "no path is given"}
     out = os.path.abspath(os.path.expanduser(path))
-    own = same(out, desk.path)
     if os.path.lexists(out) and not replace:
-        return {"ask": clean(out), "own": own}
+        return {"ask": clean(out), "own": os.path.realpath(out) == os.path.realpath(desk.path)}
+    linked = same(out, desk.path)
     with ExitStack() as opened:
         before = opened.enter_context(open(desk.path, "rb"))
         try:
@@ -34,11 +34,14 @@ def save(desk: Desk, path: str, replace: bool) -> Dict[str, Any]:
         except (FileChanged, FileExistsError, OSError, ValueError) as error:
             return {"error": clean(str(error))}
         after = opened.enter_context(open(out, "rb"))
+        own = same(out, desk.path)  # now: a second link of the file is replaced without it
         changed = differing(before, after)
         told = {"path": clean(out), "own": own, "said": [clean(str(one.message)) for one in said], "before": size(before), "bytes": size(after),
                 "changed": changed, "at": stamp(after)}
     if own:
         desk.settled()
+    elif linked:
+        desk.unlinked()
     return {**told, "version": desk.version}
 
 

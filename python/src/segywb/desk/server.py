@@ -7,15 +7,16 @@ import importlib.util
 import json
 from concurrent.futures import ThreadPoolExecutor
 from pathlib import Path
-from typing import Any, Callable, Dict, Optional, Tuple
+from typing import Any, Callable, Dict, List, Optional, Tuple
 
 from aiohttp import web
 
 from ..errors import Error, FileChanged, LoadRefused, ProgramEnded, Refused
-from . import saving, views
+from . import places, saving, views
 from .desk import Desk, clean
 from .faults import Kept
 from .guard import HEADERS, Guard, Handler
+from .refusals import Reading
 from .words import words
 
 STATIC = Path(__file__).resolve().parent / "static"
@@ -24,6 +25,8 @@ PLOTLY = "/usr/share/python3-plotly/plotly.js"
 LONGEST_BODY = 40 << 20
 LOOK_SECONDS = 0.1
 ALIVE_SECONDS = 10.0
+# What reading a body raises: it is no JSON, is nested more deeply than Python reads, or names letters that nobody knows.
+NOT_JSON = (ValueError, RecursionError, LookupError)
 
 Query = Any
 Answer = Dict[str, Any]
@@ -76,7 +79,9 @@ class Server:
         self.desk = desk
         self.guard = Guard(token)
         self.status: Answer = {"phase": "loading", "what": "the file", "done": 0, "of": 0}
-        self.failed: Optional[LoadRefused] = None
+        self.broken: Optional[Exception] = None
+        self._readings: List[Reading] = []
+        self._loading: Optional[asyncio.Task[None]] = None
         self._worker = ThreadPoolExecutor(max_workers=1, thread_name_prefix="desk")
         self._at_work = 0
         self._faults = Kept()
@@ -94,7 +99,7 @@ class Server:
             "state": lambda q: views.state(desk),
             "fold": lambda q: views.fold(desk, window(q)),
             "slice": lambda q: self._slices.view(desk, number(q, "sample"), window(q), q.get("all") == "1"),
-            "positions": lambda q: views.positions(desk, window(q), q.get("all") == "1"),
+            "positions": lambda q: places.positions(desk, *window(q), q.get("all") == "1"),
             "histogram": lambda q: views.histogram(desk, window(q).compare),
             "faults": lambda q: views.faults(desk, self._answer()),
             "fault": lambda q: views.fault_window(desk, self._answer(), q["code"], number(q, "skip", 0)),
@@ -135,6 +140,7 @@ class Server:
         app.router.add_get(f"{at}/events", self._events)
         app.router.add_get(f"{at}/edits.txt", self._script)
         app.router.add_post(f"{at}/restart", self._restart)
+        app.router.add_post(f"{at}/read", self._read)
         for name, asked in self._asked().items():
             app.router.add_get(f"{at}/ask/{name}", self._asking(asked))
         for name, told in self._told().items():
@@ -188,7 +194,7 @@ class Server:
         except FileChanged as error:
             self.status = {"phase": "changed", "why": clean(str(error))}
             return web.json_response(self.status, status=503)
-        except (ValueError, KeyError, TypeError, IndexError, Error) as error:
+        except (ValueError, KeyError, TypeError, IndexError, OverflowError, RecursionError, Error) as error:
             return web.json_response({"error": clean(str(error))}, status=400)
 
     def _asking(self, call: Callable[[Query], Answer]) -> Handler:
@@ -201,7 +207,7 @@ class Server:
         async def handler(request: web.Request) -> web.StreamResponse:
             try:
                 body = await request.json()
-            except ValueError:
+            except NOT_JSON:
                 raise web.HTTPBadRequest from None
             return await self._answered(lambda: call(body))
 
@@ -261,23 +267,56 @@ class Server:
         self.guard.port = int(self._runner.addresses[0][1])
         return self.guard.port
 
+    async def open(self) -> None:
+        """Opens the file. A refusal is told by the status."""
+        await self._tried(self.desk.open)
+
     async def load(self) -> None:
-        """Opens the file; the page shows how far it is."""
+        """Opens the file, where it is not open, and reads what the page shows first; the page shows how far it is."""
 
         def told(what: str, done: int, of: int) -> None:
             self.status = {"phase": "loading", "what": what, "done": done, "of": of}
 
-        try:
-            await asyncio.get_running_loop().run_in_executor(self._worker, self.desk.load, told)
+        if await self._tried(lambda: self.desk.load(told)):
             self.status = {"phase": "ready", "version": self.desk.version}
+
+    async def _tried(self, call: Callable[[], None]) -> bool:
+        """Whether the file is accepted."""
+        run = asyncio.get_running_loop().run_in_executor
+        try:
+            await run(self._worker, call)
+            self.broken = None
+            return True
         except LoadRefused as refusal:
-            self.failed = refusal
-            self.status = {"phase": "refused", "why": clean(refusal.answer)}
+            self.broken = refusal
+            why, self._readings = await run(self._worker, self.desk.refused, refusal)
+            offered = [{"words": one.words, "traces": one.traces, "samples": one.samples} for one in self._readings]
+            self.status = {"phase": "refused", "why": clean(why), "file": clean(self.desk.path), "readings": offered}
         except (Error, OSError) as error:
+            self.broken = error
             self._end(str(error))
+        return False
+
+    @property
+    def refused(self) -> List[str]:
+        """What is said of a refused file: the refusal with its hint, and the readings that would take it."""
+        return [str(self.status["why"]), *(one.told for one in self._readings)] if self.status["phase"] == "refused" else []
+
+    async def _read(self, request: web.Request) -> web.StreamResponse:
+        """Reads a refused file by one of the readings that would take it."""
+        try:
+            words = str((await request.json())["words"])
+            reading = next(one for one in self._readings if one.words == words)
+        except (*NOT_JSON, TypeError, StopIteration):
+            raise web.HTTPBadRequest from None
+        if self.status["phase"] == "refused":
+            self.desk.read_as(reading)
+            self.status = {"phase": "loading", "what": "the file", "done": 0, "of": 0}
+            self._loading = asyncio.create_task(self.load())
+        return web.json_response(self.status)
 
     async def goodbye(self, seconds: float) -> None:
-        """Waits until a page was told that the file is refused, or so long."""
+        """Waits until a page was told that the file is refused, or for so long."""
         for _ in range(int(seconds / LOOK_SECONDS)):
             if self._heard:
                 await asyncio.sleep(1.0)

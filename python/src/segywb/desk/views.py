@@ -11,9 +11,11 @@ from ..answers import MEANINGS
 from ..errors import Refused
 from ..volume import Volume
 from . import maps
+from .bundles import Bundle, bundle_for, farthest
 from .desk import RANGES, Desk, Shot, clean, span
 from .faults import counts as fault_counts
 from .faults import window
+from .marks import marked
 
 UNITS = {2: "seconds of arc", 3: "degrees", 4: "degrees, minutes, seconds"}
 LENGTHS = {1: "m", 2: "ft"}
@@ -129,22 +131,35 @@ def fold(desk: Desk, window: Window) -> Dict[str, Any]:
     """The fold map."""
     now, other = desk.now(), desk.loaded if window.compare else desk.before
     ends = [now.inlines[0], now.crosslines[0]]
+    lacking = [maps.missing(one) for one in ends]
     if window.compare:
         ends = [joined(ends[0], desk.loaded.inlines[0]), joined(ends[1], desk.loaded.crosslines[0])]
     down, right = maps.axis_of(ends[0]), maps.axis_of(ends[1])
-    bundle = maps.bundle_for(len(down), len(right), window.pixels)
-    slots = (len(down), len(right))
     cells = cells_of(desk, now, down, right)
     others = cells_of(desk, other, down, right) if other is not None and moved(other, now) else None
-    usual = maps.usual_of(cells, slots[0] * slots[1])
-    rows, columns = maps.differing(others, cells, max(slots[1], 1)) if others is not None else (np.empty(0, int), np.empty(0, int))
     shown = [cells, others if others is not None else cells] if window.compare else [cells]
-    pictures = [maps.plain(maps.farthest(one, bundle, usual, slots, True)) for one in shown]
+    bundle = bundle_for(down, right, window.pixels, shown)
+    usual = maps.usual_of(cells)
+    pictures = [maps.plain(farthest(one, bundle, usual, True)) for one in shown]
     return {
-        "version": desk.version, "usual": usual, "down": maps.shown_axis(down, bundle.tall), "right": maps.shown_axis(right, bundle.wide),
-        "now": pictures[0], "was": pictures[1] if window.compare else None, "changed": len(rows),
-        "marks": maps.marks(rows, columns, bundle), "bundle": [bundle.tall, bundle.wide], **maps.colour_end([one.values for one in shown], usual),
+        "version": desk.version, "usual": usual, "missing": lacking, **framed(down, right, bundle, pictures), **changes(others, cells, bundle),
+        **maps.colour_end([one.values for one in shown], usual),
     }
+
+
+def framed(down: maps.Axis, right: maps.Axis, bundle: Bundle, pictures: List[Any]) -> Dict[str, Any]:
+    """The pictures of a map on their axes: what is now, and where it is asked what was."""
+    return {
+        "down": maps.shown_axis(down, bundle.down), "right": maps.shown_axis(right, bundle.right), "bundle": [bundle.tall, bundle.wide],
+        "now": pictures[0], "was": pictures[1] if len(pictures) > 1 else None,
+    }
+
+
+def changes(was: Optional[maps.Cells], now: maps.Cells, bundle: Bundle) -> Dict[str, Any]:
+    """The marks of the cells that changed, where it is known what was."""
+    none = np.empty(0, dtype=np.int64)
+    rows, columns = maps.differing(was, now, max(len(bundle.right), 1)) if was is not None else (none, none)
+    return marked(rows, columns, bundle, max(len(now.rows), len(was.rows) if was is not None else 0))
 
 
 class Slices:
@@ -155,10 +170,10 @@ class Slices:
         self._earlier: Optional[Any] = None
 
     def rows(self, desk: Desk, sample: int) -> Tuple[Any, Optional[Any]]:
-        """The rows of a slice, and those that were shown before the last step where they are known."""
+        """The rows of a slice, and those that were shown before the last edit where they are known."""
         if self._last is None or self._last[:2] != (sample, desk.version):
             found = desk.volume.slice(sample).rows
-            self._earlier = self._last[2] if self._last is not None and self._last[0] == sample else None
+            self._earlier = self._last[2] if self._last is not None and self._last[:2] == (sample, desk.edited) else None
             self._last = (sample, desk.version, found)
         return self._last[2], self._earlier
 
@@ -173,17 +188,13 @@ class Slices:
         if window.compare:
             ends = [joined(end, np.unique(other[name])) for end, name in zip(ends, ("inline", "crossline"))]
         down, right = maps.axis_of(ends[0]), maps.axis_of(ends[1])
-        bundle = maps.bundle_for(len(down), len(right), window.pixels)
         cells = sliced(rows, down, right, True)
         others = sliced(other, down, right, window.compare) if other is not None else None
-        changed = maps.differing(others, cells, max(len(right), 1)) if others is not None else (np.empty(0, int), np.empty(0, int))
         shown = [cells, others] if window.compare and others is not None else [cells]
-        slots = (len(down), len(right))
-        pictures = [maps.plain(maps.farthest(one, bundle, 0, slots, False)) for one in shown]
+        bundle = bundle_for(down, right, window.pixels, shown)
+        pictures = [maps.plain(farthest(one, bundle, 0, False)) for one in shown]
         return {
-            "version": desk.version, "sample": sample, "rows": len(rows), "down": maps.shown_axis(down, bundle.tall),
-            "right": maps.shown_axis(right, bundle.wide), "now": pictures[0], "was": pictures[1] if len(pictures) > 1 else None,
-            "changed": len(changed[0]), "marks": maps.marks(*changed, bundle), "bundle": [bundle.tall, bundle.wide],
+            "version": desk.version, "sample": sample, "rows": len(rows), **framed(down, right, bundle, pictures), **changes(others, cells, bundle),
             **amplitude(np.concatenate([one.values for one in shown]), whole),
         }
 
@@ -212,68 +223,6 @@ def amplitude(values: Any, whole: bool) -> Dict[str, Any]:
     most = float(sizes.max()) if len(sizes) else 0.0
     end = most if whole or not len(sizes) else float(np.percentile(sizes, 98)) or most
     return {"most": most, "end": end or 1.0, "beyond": int((sizes > end).sum())}
-
-
-def positions(desk: Desk, window: Window, whole: bool) -> Dict[str, Any]:
-    """Where the traces lie: points, or pixels where there are many. The axes hold the survey; what lies far outside is counted."""
-    now = desk.widen(("x", "y", "scalar"))[1]
-    shown = [scaled(now)]
-    if window.compare:
-        shown.append(scaled(desk.wide_loaded(("x", "y", "scalar"))))
-    every = [np.concatenate([one[at] for one in shown]) for at in (0, 1)]
-    axes = [held(one, whole) for one in every]
-    outside = int(np.count_nonzero((shown[0][0] < axes[0][0]) | (shown[0][0] > axes[0][1]) | (shown[0][1] < axes[1][0]) | (shown[0][1] > axes[1][1])))
-    drawn = [points(one, axes, window.pixels) for one in shown]
-    rows = shifted(desk.before, now)
-    marks = {"x": shown[0][0][rows[:maps.MOST_MARKS]].tolist(), "y": shown[0][1][rows[:maps.MOST_MARKS]].tolist()}
-    return {"version": desk.version, "x": axes[0], "y": axes[1], "outside": outside, "traces": len(now.mirror), "changed": len(rows), "marks": marks,
-            "now": drawn[0], "was": drawn[1] if window.compare else None}
-
-
-def shifted(before: Optional[Shot], now: Shot) -> Any:
-    """The rows of the traces that lie elsewhere than before the last step, where the order of the traces is the same."""
-    known = before is not None and "x" in before.mirror.columns and np.array_equal(before.mirror.origin, now.mirror.origin)
-    if before is None or not known:
-        return np.empty(0, dtype=np.int64)
-    return np.flatnonzero(np.logical_or(*(one != other for one, other in zip(scaled(before), scaled(now)))))
-
-
-def scaled(shot: Shot) -> Tuple[Any, Any]:
-    """x and y under the scalar."""
-    by = shot.mirror.columns["scalar"].astype(np.float64)
-    times, over = np.where(by > 0, by, 1.0), np.where(by < 0, -by, 1.0)
-    return shot.mirror.columns["x"] * times / over, shot.mirror.columns["y"] * times / over
-
-
-def held(values: Any, whole: bool) -> List[float]:
-    """The ends of an axis that holds the survey: not what lies far outside of it.
-
-    >>> held(np.array([1.0, 2.0, 3.0]), False)
-    [1.0, 3.0]
-    """
-    if not len(values):
-        return [0.0, 1.0]
-    least, greatest = float(values.min()), float(values.max())
-    low, high = (float(one) for one in np.percentile(values, [2, 98]))
-    room = (high - low) * 0.5
-    if whole or not room or (low - room <= least and greatest <= high + room):
-        return [least, greatest]
-    inside = values[(values >= low - room) & (values <= high + room)]
-    return [float(inside.min()), float(inside.max())]
-
-
-def points(places: Tuple[Any, Any], axes: List[List[float]], pixels: Tuple[int, int], most: int = 4000) -> Dict[str, Any]:
-    """Up to so many points with their positions in the file; more of them as pixels, each with the first trace in it."""
-    x, y = places
-    inside = np.flatnonzero((x >= axes[0][0]) & (x <= axes[0][1]) & (y >= axes[1][0]) & (y <= axes[1][1]))
-    if len(inside) <= most:
-        return {"kind": "points", "x": x[inside].tolist(), "y": y[inside].tolist(), "trace": (inside + 1).tolist()}
-    wide, tall = min(pixels[0], 300), min(pixels[1], 240)
-    steps = [(axes[at][1] - axes[at][0]) / (size - 1) or 1.0 for at, size in ((0, wide), (1, tall))]
-    at = np.rint((y[inside] - axes[1][0]) / steps[1]).astype(np.int64) * wide + np.rint((x[inside] - axes[0][0]) / steps[0]).astype(np.int64)
-    made = np.full(wide * tall, np.nan)
-    made[at[::-1]] = inside[::-1] + 1
-    return {"kind": "pixels", "x0": axes[0][0], "y0": axes[1][0], "dx": steps[0], "dy": steps[1], "z": maps.plain(made.reshape(tall, wide))}
 
 
 # ---- traces
@@ -369,6 +318,7 @@ def edits(desk: Desk) -> Dict[str, Any]:
     return {
         "version": desk.version, "steps": [brief(step) for step in steps], "before": len(history.done) - len(steps),
         "undone": [brief(step) for step in history.undone[::-1][:20]], "lines": sum(step.size for step in history.done),
+        "words": " ".join(["segywb FILE", *desk.words, "--script"]),
     }
 
 

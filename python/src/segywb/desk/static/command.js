@@ -194,13 +194,14 @@ async function submit(event) {
   event.preventDefault();
   const text = line.value.replace(/\s*[\r\n]\s*/g, " ");
   close();
-  if (!text.trim()) return;
+  if (!text.trim()) return undefined;
   if (history[history.length - 1] !== text) history.push(text);
   back = 0;
   line.value = "";
+  if (text.trim() === "save") return at("save").click(); // the program has no path here: the box asks for one
   const answer = await runLine(text);
   if (answer.kind === "refused" && !line.value) line.value = text;
-  line.focus();
+  return line.focus();
 }
 
 export function start() {

@@ -12,12 +12,28 @@ import * as table from "./table.js";
 
 // ---- what the server tells of itself
 
+let refusal = [];
+
+// A refused file: what the program says of it, and a button for each reading that takes it.
+function refused(status) {
+  const offer = ({ words, traces, samples }) => make("button", { class: "reading", on: { click: () => read(words) } },
+    `Read it ${words}`, make("span", { class: "hint" }, ` ${many(traces, "trace")} of ${many(samples, "sample")}`));
+  refusal = [make("strong", {}, "The file is refused: "), make("code", {}, status.why)];
+  return [...refusal, make("p", {}, ...status.readings.map(offer), status.readings.length ? null : "No reading of the desk takes it.")];
+}
+
+async function read(words) {
+  for (const one of document.querySelectorAll("#banner button")) one.disabled = true;
+  const answer = await tell("read", { words }, "read").catch(() => null);
+  if (answer) phase(answer);
+}
+
 const texts = {
   ended: (status) => [make("strong", {}, `The program ended: ${status.why}. `), "The accepted edits are kept. ",
     make("button", { id: "restart", on: { click: restart } }, "Start a new session with them"), make("a", { href: "edits.txt", download: "edits.txt" }, "Download the script")],
   changed: (status) => [make("strong", {}, `${status.why}. `), make("a", { href: "edits.txt", download: "edits.txt" }, "Download the script")],
-  refused: (status) => [make("strong", {}, "The file is refused: "), make("code", {}, status.why)],
-  gone: () => [make("strong", {}, "The desk has ended, or does not answer. "), "Start it again with the command segywb-desk."],
+  refused,
+  gone: () => [...refusal, make("p", {}, make("strong", {}, "The desk has ended, or does not answer. "), "Start it again with the command segywb-desk.")],
 };
 
 function phase(status) {
@@ -32,6 +48,7 @@ function phase(status) {
     return;
   }
   banner.hidden = true;
+  refusal = [];
   document.body.dataset.phase = status.phase;
   if (store.ready) ready(status);
 }

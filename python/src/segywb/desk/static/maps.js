@@ -45,33 +45,62 @@ async function drawAll(got) {
     fill(at("caption"), `The program answers: ${got.refused}`);
     return;
   }
-  await plots.draw(now, picture(got, got.now, got.marks || []), store.compare);
-  if (store.compare && got.was) await plots.draw(was, picture(got, got.was, got.marks || []), true);
+  await plots.draw(now, picture(got, got.now), store.compare);
+  if (store.compare && got.was) await plots.draw(was, picture(got, got.was), true);
   fill(at("caption"), caption(got));
   document.body.dataset.mapVersion = String(got.version);
   document.body.dataset.mapKind = kind;
   if (!bound) listen();
 }
 
-function picture(got, drawn, marks) {
-  if (isMap()) return plots.map(kind, drawn, got, marks);
-  if (kind === "positions") return plots.places(drawn, got, store.state ? store.state.unit : "unit not told");
+function picture(got, drawn) {
+  if (isMap()) return plots.map(kind, drawn, got, marking() ? plots.boxes(got) : []);
+  if (kind === "positions") return plots.places(drawn, got, store.state ? store.state.unit : "unit not told", marking());
   const every = [...got.now, ...(got.was || [])];
   return plots.bars(drawn, { fold: Math.max(1, ...every.map(([fold]) => fold)), cells: Math.max(1, ...every.map(([, count]) => count)) });
 }
 
+const marking = () => at("marks").checked;
+
+// What the marks show, in words: also where they are switched off.
+function changed(got, one, does) {
+  if (!got.changed) return [];
+  const how = !marking() ? "" : got.region ? ", within the outline" : does;
+  return [`${many(got.changed, one)} changed ${store.compare ? "since the file was loaded" : "by the last step"}${how}.`];
+}
+
+// The lines of both axes that no trace has, between the first and the last.
+function missing(both) {
+  const some = both.map(({ count, first }, axis) => [count, `${many(count, axis ? "crossline" : "inline")} (${first.join(", ")}${count > first.length ? " .." : ""})`]);
+  const told = some.filter(([count]) => count).map(([, text]) => text);
+  return told.length ? `Missing: ${told.join(" and ")}.` : "No line is missing.";
+}
+
+// What a pixel shows that stands for several cells.
+function bundled([tall, wide]) {
+  if (tall * wide === 1) return [];
+  const shows = kind === "fold" ? "is grey where one of them lacks between others, else shows the fold farthest from the usual" : "shows the sample farthest from zero";
+  return [`A pixel stands for up to ${tall} by ${wide} cells and ${shows}.`];
+}
+
+function positions(got) {
+  const said = [];
+  const out = [[got.zero, "at (0, 0)"], [got.far, "far from the rest"]].filter(([count]) => count).map(([count, where]) => `${many(count, "trace")} ${where}`);
+  if (out.length) said.push(`Not drawn, of ${many(got.traces, "trace")}: ${out.join(", ")}.`);
+  if (got.now.kind === "pixels") said.push("Many traces: a pixel shows the first one in it.");
+  if (got.changed) said.push(`${many(got.changed, "trace")} moved by the last step${!marking() ? "" : got.region ? ", within the outline" : ", ringed"}.`);
+  said.push("x and y are under the scalar of each trace, and have one scale.");
+  return said;
+}
+
 function caption(got) {
   if (kind === "histogram") return "How many cells have each fold.";
-  if (kind === "positions") {
-    const said = got.outside ? `${many(got.outside, "trace")} of ${got.traces.toLocaleString("en")} outside of these axes. ` : "";
-    return `${said}${got.now.kind === "pixels" ? "Many traces: a pixel shows the first one in it. " : ""}${got.changed ? `${many(got.changed, "trace")} moved by the last step, ringed. ` : ""}x and y are under the scalar of each trace.`;
-  }
+  if (kind === "positions") return positions(got).join(" ");
   const said = [];
   if (store.compare) said.push(kind === "fold" ? "Colours: fold." : "Colours: samples.");
-  if (kind === "fold") said.push(`Usual fold ${got.usual}; grey: no traces.`);
+  if (kind === "fold") said.push(`Usual fold ${got.usual}; grey: no traces.`, missing(got.missing));
   if (kind === "slice") said.push(`${many(got.rows, "trace")} with this sample; grey: none.`);
-  if (got.changed) said.push(`${many(got.changed, "cell")} changed ${store.compare ? "since the file was loaded" : "by the last step"}, outlined.`);
-  if (got.bundle[0] * got.bundle[1] > 1) said.push(`A pixel stands for ${got.bundle[0]} by ${got.bundle[1]} cells and shows the ${kind === "fold" ? "fold farthest from the usual" : "sample farthest from zero"}.`);
+  said.push(...changed(got, "cell", ", outlined"), ...bundled(got.bundle));
   if (got.beyond) said.push(`${many(got.beyond, "value")} beyond the colours, up to ${got.most}.`);
   if (got.down.gaps || got.right.gaps) said.push("An empty line without a number: many numbers lack there.");
   return said.join(" ");
@@ -243,6 +272,7 @@ export function start() {
     select(box).catch((error) => { at("told").textContent = error.message; });
   });
   at("whole").addEventListener("change", show);
+  at("marks").addEventListener("change", () => { if (view) drawAll(view); });
   const sample = (value) => {
     at("sample").value = value;
     at("sample-number").value = value;

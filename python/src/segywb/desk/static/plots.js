@@ -66,13 +66,15 @@ const bar = (title, ticks) => ({
   ...(ticks ? { tickvals: ticks, ticktext: ticks.map(String) } : {}),
 });
 
-// Outlines around what changed: rows of cells, each from a first to a last column.
-export function outlines(marks) {
+// The outlines around what changed in a map, in slots: boxes of cells, or the region that holds all of them.
+export const boxes = (view) => (view.region ? [view.region] : view.marks).map(([low, high, first, last]) => [first - 0.5, last + 0.5, low - 0.5, high + 0.5]);
+
+function outlines(found) {
   const x = [];
   const y = [];
-  for (const [row, first, last] of marks) {
-    x.push(first - 0.5, last + 0.5, last + 0.5, first - 0.5, first - 0.5, null);
-    y.push(row - 0.5, row - 0.5, row + 0.5, row + 0.5, row - 0.5, null);
+  for (const [left, right, low, high] of found) {
+    x.push(left, right, right, left, left, null);
+    y.push(low, low, high, high, low, null);
   }
   return [[css("--halo"), 4], [css("--mark"), 2]].map(([color, width]) => ({ type: "scatter", mode: "lines", x, y, line: { color, width }, hoverinfo: "skip" }));
 }
@@ -88,21 +90,24 @@ const foldLook = (view) => ({
 });
 const sliceLook = (view) => ({ zmin: -view.end, zmax: view.end, colorscale: SLICES, colorbar: bar("sample (as in the file, no unit)") });
 
-export const map = (kind, z, view, marks) => ({
-  data: [cells(z, view, kind === "fold" ? foldLook(view) : sliceLook(view)), ...outlines(marks)],
+export const map = (kind, z, view, found) => ({
+  data: [cells(z, view, kind === "fold" ? foldLook(view) : sliceLook(view)), ...outlines(found)],
   layout: layout(slots("crossline (number)", view.right), slots("inline (number)", view.down), { uirevision: `${kind} ${view.right.first.length} ${view.down.first.length}` }),
 });
 
-export function places(drawn, view, unit) {
+// x and y have one scale: a survey has the shape that it has on the ground.
+export function places(drawn, view, unit, marking) {
   const look = { colorscale: "Viridis", colorbar: bar("trace (position in the file)") };
   const data = drawn.kind === "points"
     ? { type: "scatter", mode: "markers", x: drawn.x, y: drawn.y, customdata: drawn.trace, hovertemplate: "trace %{customdata}<br>x %{x}<br>y %{y}<extra></extra>",
         marker: { size: 7, color: drawn.trace, line: { width: 0.8, color: css("--quiet") }, ...look } }
     : { type: "heatmap", z: drawn.z, x0: drawn.x0, y0: drawn.y0, dx: drawn.dx, dy: drawn.dy, hovertemplate: "first trace %{z}<br>x %{x}<br>y %{y}<extra></extra>", ...look };
-  const marks = { type: "scatter", mode: "markers", x: view.marks.x, y: view.marks.y, hoverinfo: "skip", marker: { size: 11, symbol: "circle-open", color: css("--mark"), line: { width: 2 } } };
+  const { x, y } = marking ? view.marks : { x: [], y: [] };
+  const marks = { type: "scatter", mode: "markers", x, y, hoverinfo: "skip", marker: { size: 11, symbol: "circle-open", color: css("--mark"), line: { width: 2 } } };
+  const format = { tickformat: "~f" };
   return {
-    data: [data, marks],
-    layout: layout(axis(`x (${unit})`, { range: wide(view.x), tickformat: "~f", nticks: 6 }), axis(`y (${unit})`, { range: wide(view.y), tickformat: "~f", nticks: 8 }),
+    data: [data, marks, ...outlines(marking && view.region ? [view.region] : [])],
+    layout: layout(axis(`x (${unit})`, { range: wide(view.x), nticks: 6, ...format }), axis(`y (${unit})`, { range: wide(view.y), nticks: 8, scaleanchor: "x", ...format }),
       { plot_bgcolor: css("--plot"), dragmode: "zoom", uirevision: "places" }),
   };
 }

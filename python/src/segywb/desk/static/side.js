@@ -90,7 +90,7 @@ async function edits() {
   const got = await ask("edits");
   const item = (step, undone) => make("li", { class: undone ? "was" : "" }, step.count === 1 ? step.first : `${step.first}\n.. ${step.last}  (${many(step.count, "line")}, one step)`);
   fill(at("panel"),
-    make("p", {}, got.lines ? `${many(got.lines, "accepted edit")}: with them as a script, segywb FILE --script gives the same file.` : "No edits yet. Here they will stand, as a script."),
+    make("p", {}, got.lines ? `${many(got.lines, "accepted edit")}: with them as a script, ${got.words} gives the same file.` : "No edits yet. Here they will stand, as a script."),
     make("div", { class: "bar" }, make("button", { type: "button", id: "copy", disabled: !got.lines, on: { click: copy } }, "Copy"),
       make("a", { href: "edits.txt", download: "edits.txt", id: "download" }, "Download"),
       make("label", {}, "Load a script ", make("input", { type: "file", id: "load", on: { change: load } }))),

@@ -1,0 +1,93 @@
+"""A file that is refused: what the program says of it, and the readings that would take it."""
+
+from __future__ import annotations
+
+import os
+from typing import Any, Dict, Iterator, List, NamedTuple, Optional, Tuple
+
+import segywb
+
+from ..errors import Error, LoadRefused
+
+FLOATS = ("L06", "L07")  # refused for their samples alone: the desk reads them without the values of these
+Options = Dict[str, Any]
+
+
+class Reading(NamedTuple):
+    """A reading that takes the file: what differs from the one that was asked for, in words of the command line, and what it finds."""
+
+    options: Options
+    words: str
+    traces: int
+    samples: int
+
+    @property
+    def told(self) -> str:
+        """In one line.
+
+        >>> Reading({"fixed": True}, "with --fixed", 1, 5).told
+        'with --fixed it is read: 1 trace, 5 samples each'
+        """
+        return f"{self.words} it is read: {self.traces} trace{'' if self.traces == 1 else 's'}, {self.samples} samples each"
+
+
+def words_of(options: Options) -> List[str]:
+    """The words of a command line for these options.
+
+    >>> words_of({"fixed": True, "order": "big", "opaque_samples": False, "max_bytes": None})
+    ['--fixed', '--order', 'big']
+    """
+    made: List[str] = []
+    for name, value in options.items():
+        if value is not None and value is not False:
+            made += [f"--{name.replace('_', '-')}", *([] if value is True else [str(value)])]
+    return made
+
+
+def readings(path: str, options: Options) -> List[Reading]:
+    """The readings that take the file, those with the fewest other options first: each of them is tried, with the bytes left on disk."""
+    found: List[Reading] = []
+    if not os.path.isfile(path):
+        return found
+    for other in candidates(options):
+        if not any(set(one.options) <= set(other) for one in found):
+            size = taken(path, {**options, **other})
+            if size is not None:
+                found.append(Reading(other, told(other), *size))
+    return found
+
+
+def candidates(options: Options) -> Iterator[Options]:
+    """What may be asked for in place of these options.
+
+    >>> [told(one) for one in candidates({"fixed": False, "order": "big"})]
+    ['with --fixed', 'without --order', 'with --order little', 'with --fixed, without --order', 'with --fixed, with --order little']
+    """
+    fixed: List[Options] = [{}, {"fixed": not options.get("fixed")}]
+    orders: List[Options] = [{}, *({"order": one} for one in (None, "big", "little") if one != options.get("order"))]
+    both = [{**one, **other} for one in fixed for other in orders]
+    yield from sorted(both[1:], key=lambda one: (len(one), "order" in one))
+
+
+def told(other: Options) -> str:
+    """In words of the command line.
+
+    >>> told({"fixed": True, "order": None})
+    'with --fixed, without --order'
+    """
+    return ", ".join(f"with {' '.join(words_of({name: value}))}" if value else f"without --{name}" for name, value in other.items())
+
+
+def taken(path: str, options: Options) -> Optional[Tuple[int, int]]:
+    """The traces and the samples of a trace that a reading finds, or nothing where the file is refused again."""
+    for opaque in (False, True):
+        asked: Options = {**options, "opaque_samples": opaque, "on_disk": True}
+        try:
+            with segywb.open(path, **asked) as volume:
+                return len(volume), volume.info.samples
+        except LoadRefused as refusal:
+            if refusal.code not in FLOATS:
+                return None
+        except (Error, OSError):
+            return None
+    return None

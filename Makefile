@@ -4,12 +4,13 @@
 #   make quick      the end-to-end tests, in about ten minutes
 #   make python     the tests of the Python package
 #   make desk       the tests of the desk, in a browser
+#   make library    the tests of segywb-library
 # With the Rattle kit (the command rt on the PATH):
 #   make build      proves and builds the program from the sources
 #   make test       the whole gate: every proof from nothing, the must-fail edits, then the end-to-end runs
 #   make speed      the speed, as ratios to cp and md5sum
 #   make dist       the program that was built becomes the shipped one
-# demo, install, quick, python and desk take the shipped program, or the one that PROGRAM=.. names.
+# demo, install, quick, python, desk and library take the shipped program, or the one that PROGRAM=.. names.
 SHIPPED = dist/segywb-x86_64-linux
 BUILT = crates/segywb/out/segywb
 TIMINGS = crates/timings/out/timings
@@ -19,7 +20,7 @@ DESTDIR ?=
 INTO = $(DESTDIR)$(PREFIX)
 TOOLS = segywb-plot segywb-report segywb-desk
 
-.PHONY: help demo quick python desk install uninstall build test dist speed pages program
+.PHONY: help demo quick python desk library install uninstall build test dist speed pages program
 
 help:
 	@sed -n '/^#/s/^# *//p; /^SHIPPED/q' Makefile
@@ -38,6 +39,9 @@ python: program
 
 desk: program
 	bash tests/desk.sh $(PROGRAM)
+
+library: program
+	bash tests/library.sh $(PROGRAM)
 
 build:
 	tools/build

@@ -1,0 +1,72 @@
+"""The command ``segywb-library``."""
+
+from __future__ import annotations
+
+import argparse
+import sys
+from typing import Any, Callable, List, Optional
+
+from ..errors import ProgramNotFound
+from . import commands
+from .schema import NoLibrary
+
+INTERRUPTED = 130
+
+
+def main(arguments: Optional[List[str]] = None) -> int:
+    """Runs a command, and gives its exit status."""
+    getattr(sys.stdout, "reconfigure", lambda **_: None)(errors="backslashreplace")
+    told = words(arguments)
+    run: Callable[[Any], int] = told.run
+    try:
+        return run(told)
+    except commands.Unwanted as error:
+        print(f"segywb-library: {error}", file=sys.stderr)
+        return 2
+    except (NoLibrary, OSError) as error:
+        print(f"segywb-library: {error}", file=sys.stderr)
+        return 4
+    except ProgramNotFound as error:
+        print(f"segywb-library: {error}", file=sys.stderr)
+        return 5
+    except KeyboardInterrupt:
+        print(f"\nsegywb-library: interrupted{told.behind}", file=sys.stderr)
+        return INTERRUPTED
+
+
+def words(arguments: Optional[List[str]]) -> Any:
+    """The command line."""
+    parser = argparse.ArgumentParser(
+        prog="segywb-library", description="An inventory of many SEG-Y files in a database, with reports, repairs of many files at once, and their trail."
+    )
+    some = parser.add_subparsers(metavar="COMMAND", required=True)
+    _scan(some)
+    _report(some)
+    return parser.parse_args(arguments)
+
+
+def _command(some: Any, name: str, run: Callable[[Any], int], text: str, behind: str = "") -> Any:
+    parser = some.add_parser(name, help=text, description=text[0].upper() + text[1:] + ".")
+    parser.add_argument("--db", metavar="FILE", required=True, help="the database")
+    parser.set_defaults(run=run, behind=behind)
+    return parser
+
+
+def _scan(some: Any) -> None:
+    parser = _command(some, "scan", commands.scan, "reads what is new or changed below the folders into the database", "; the same command goes on where it was")
+    parser.add_argument("folders", metavar="FOLDER", nargs="*", help="folders, or files")
+    parser.add_argument("--list", metavar="FILE", help="in place of folders, a list of files, each ended by NUL or a line feed; - is standard input")
+    parser.add_argument("--part", metavar="K/N", help="of the list only the files K, K + N, K + 2 N, ..")
+    parser.add_argument("--again", action="store_true", help="read the files that have not changed too")
+    parser.add_argument("--follow", action="store_true", help="follow symbolic links")
+    parser.add_argument("--jobs", metavar="N", type=int, help="processes on this machine; without it one for each core")
+    parser.add_argument("--workers", metavar="N", type=int, help="processes of a Dask cluster on this machine in their place")
+    parser.add_argument("--dask", metavar="ADDRESS", help="the scheduler of a Dask cluster that runs, as tcp://HOST:8786")
+    parser.add_argument("--limit", metavar="SECONDS", type=float, default=300.0, help="the time for a file, and one second more for each 10 MB (300)")
+    parser.add_argument("--quiet", action="store_true", help="tell neither how far it is nor what was done")
+
+
+def _report(some: Any) -> None:
+    parser = _command(some, "report", commands.report, "writes a page and a table of what the database has")
+    parser.add_argument("--out", metavar="FILE", help="the page, one file of HTML")
+    parser.add_argument("--csv", metavar="FILE", help="the table, a row for each file")

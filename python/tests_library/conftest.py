@@ -1,5 +1,7 @@
 """What the tests of the library share: its command, a library of many files, and what a database has."""
 
+import contextlib
+import io
 import os
 import random
 import sqlite3
@@ -17,6 +19,8 @@ sys.path.insert(0, str(SOURCE))
 sys.path.insert(0, str(HERE.parent / "tests"))
 
 import files  # noqa: E402
+
+from segywb.library import cli  # noqa: E402
 
 ENVIRONMENT = {**os.environ, "PYTHONPATH": str(SOURCE)}
 UNSETTLED_SECONDS = 0.05
@@ -36,11 +40,32 @@ def command(*words):
 
 
 def library(*words, status=0, **more):
-    """Runs a command to its end; what it told on standard output."""
-    environment = {**ENVIRONMENT, **more}
-    done = subprocess.run(command(*words), env=environment, capture_output=True, text=True, timeout=300, check=False)
-    assert done.returncode == status, f"{done.returncode}: {done.stdout}{done.stderr}"
-    return done.stdout + (done.stderr if status else "")
+    """Runs a command to its end; what it told on standard output, and on standard error where it is to fail.
+
+    It is run in this process, which saves the start of another one; but not where the environment of Python or a cluster is tried.
+    """
+    words = list(map(os.fspath, words))
+    apart = "PYTHONPATH" in more or "--workers" in words or "--dask" in words
+    got, told, errors = (_apart if apart else _here)(words, more)
+    assert got == status, f"{got}: {told}{errors}"
+    return told + (errors if status else "")
+
+
+def _apart(words, more):
+    done = subprocess.run(command(*words), env={**ENVIRONMENT, **more}, capture_output=True, text=True, timeout=300, check=False)
+    return done.returncode, done.stdout, done.stderr
+
+
+def _here(words, more):
+    told, errors = io.StringIO(), io.StringIO()
+    with pytest.MonkeyPatch.context() as patch, contextlib.redirect_stdout(told), contextlib.redirect_stderr(errors):
+        for name, value in more.items():
+            patch.setenv(name, value)
+        try:
+            status = cli.main(words)
+        except SystemExit as error:
+            status = error.code
+    return status, told.getvalue(), errors.getvalue()
 
 
 def started(*words, **more):

@@ -7,10 +7,13 @@ import sys
 from typing import Any, Callable, List, Optional
 
 from ..errors import ProgramNotFound
-from . import commands
+from . import commands, mending
 from .schema import NoLibrary
+from .words import Unwanted
 
 INTERRUPTED = 130
+JOBS = ("--jobs",)
+MANY: Any = {"metavar": "N", "type": int, "help": "files side by side; without it one for each core"}
 
 
 def main(arguments: Optional[List[str]] = None) -> int:
@@ -20,7 +23,7 @@ def main(arguments: Optional[List[str]] = None) -> int:
     run: Callable[[Any], int] = told.run
     try:
         return run(told)
-    except commands.Unwanted as error:
+    except Unwanted as error:
         print(f"segywb-library: {error}", file=sys.stderr)
         return 2
     except (NoLibrary, OSError) as error:
@@ -41,7 +44,11 @@ def words(arguments: Optional[List[str]]) -> Any:
     )
     some = parser.add_subparsers(metavar="COMMAND", required=True)
     _scan(some)
+    _merge(some)
     _report(some)
+    _mend(some)
+    _command(some, "verify", mending.verified, "compares the files with what the trail says of them").add_argument(*JOBS, **MANY)
+    _undo(some)
     return parser.parse_args(arguments)
 
 
@@ -62,11 +69,46 @@ def _scan(some: Any) -> None:
     parser.add_argument("--jobs", metavar="N", type=int, help="processes on this machine; without it one for each core")
     parser.add_argument("--workers", metavar="N", type=int, help="processes of a Dask cluster on this machine in their place")
     parser.add_argument("--dask", metavar="ADDRESS", help="the scheduler of a Dask cluster that runs, as tcp://HOST:8786")
-    parser.add_argument("--limit", metavar="SECONDS", type=float, default=300.0, help="the time for a file, and one second more for each 10 MB (300)")
+    _seconds(parser)
     parser.add_argument("--quiet", action="store_true", help="tell neither how far it is nor what was done")
+
+
+def _merge(some: Any) -> None:
+    parser = _command(some, "merge", commands.merge, "joins the databases of parts: of each file the row that was read last")
+    parser.add_argument("parts", metavar="PART", nargs="+", help="databases of parts")
+    parser.add_argument("--quiet", action="store_true", help="tell nothing")
 
 
 def _report(some: Any) -> None:
     parser = _command(some, "report", commands.report, "writes a page and a table of what the database has")
     parser.add_argument("--out", metavar="FILE", help="the page, one file of HTML")
     parser.add_argument("--csv", metavar="FILE", help="the table, a row for each file")
+
+
+def _mend(some: Any) -> None:
+    parser = _command(some, "mend", mending.mend, "runs a script on each chosen file, each whole or not; without --apply nothing is written")
+    parser.add_argument("--script", metavar="SCRIPT", required=True, help="the script, as for segywb; - is standard input")
+    parser.add_argument("--where", metavar="SQL", required=True, help="which files: a condition on the table file")
+    parser.add_argument("--out", metavar="FOLDER", help="save below this folder")
+    parser.add_argument("--over", action="store_true", help="save over the files themselves")
+    parser.add_argument("--keep", metavar="FOLDER", help="with --over: keep the old bytes there, so that undo can take it back")
+    parser.add_argument("--apply", action="store_true", help="do it; without it, or with --dry-run, what would be done is told")
+    parser.add_argument("--dry-run", dest="apply", action="store_false", help="write nothing")
+    parser.add_argument("--go-on", action="store_true", help="save a file without its refused lines; else a refused line leaves it as it is")
+    parser.add_argument("--fixed", action="store_true", help="each trace has the binary header's number of samples, as for segywb")
+    parser.add_argument("--order", choices=("big", "little"), help="the order of bytes of a file that does not tell it, as for segywb")
+    _seconds(parser)
+    parser.add_argument(*JOBS, **MANY)
+    parser.add_argument("--quiet", action="store_true", help="tell the summary alone")
+
+
+def _seconds(parser: Any) -> None:
+    parser.add_argument("--limit", metavar="SECONDS", type=float, default=300.0, help="the time for a file, and one second more for each 10 MB (300)")
+
+
+def _undo(some: Any) -> None:
+    parser = _command(some, "undo", mending.undo, "takes a mend back where the old bytes are known; without --apply nothing is written")
+    parser.add_argument("--run", metavar="N", type=int, required=True, dest="run_number", help="the number of the mend")
+    parser.add_argument("--apply", action="store_true", help="do it; without it what can be done is told")
+    _seconds(parser)
+    parser.add_argument(*JOBS, **MANY)

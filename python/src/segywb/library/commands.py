@@ -1,4 +1,4 @@
-"""What each command does, from its words on the command line to its exit status."""
+"""The commands that read files and databases: scan, merge, report."""
 
 from __future__ import annotations
 
@@ -9,15 +9,13 @@ from typing import Any, List, Tuple
 
 from . import schema, talk
 from .crew import Crew
+from .merge import merged
 from .names import absolute
 from .progress import Progress
 from .report import Report, write_page, write_table
 from .scan import Scan, summary, troubled
 from .walk import Walk, listed
-
-
-class Unwanted(Exception):
-    """The words of the command line do not fit together."""
+from .words import Unwanted, source
 
 
 # ---- scan
@@ -28,13 +26,13 @@ def scan(told: Any) -> int:
     _check(told)
     part, parts = _part(told)
     program = talk.found()
-    with closing(schema.create(told.db)) as database:
+    with schema.opened(schema.create, told.db) as database:
         one = Scan(database, _crew(told), Progress(None if told.quiet else sys.stderr), told.again)
         try:
             if told.list is not None:
                 one.begin([absolute(told.list)], program)
-                with _source(told.list) as source:
-                    counts = one.run(iter(listed(source, part, parts)))
+                with source(told.list) as names:
+                    counts = one.run(iter(listed(names, part, parts)))
             else:
                 walk = Walk(_folders(told.folders), told.follow, one.unlisted)
                 one.begin(walk.folders, program)
@@ -76,10 +74,6 @@ def _folders(named: List[str]) -> List[bytes]:
     return folders
 
 
-def _source(named: str) -> Any:
-    return os.fdopen(os.dup(0), "rb") if named == "-" else open(named, "rb")
-
-
 def _crew(told: Any) -> Any:
     if told.workers is None and told.dask is None:
         return Crew(told.jobs or len(os.sched_getaffinity(0)), told.limit)
@@ -88,6 +82,19 @@ def _crew(told: Any) -> Any:
     except ImportError as error:
         raise Unwanted(f"there is no {error.name} (Debian: python3-distributed)") from error
     return Cluster(told.dask, told.workers, told.limit)
+
+
+# ---- merge
+
+
+def merge(told: Any) -> int:
+    """Joins databases of parts."""
+    with schema.opened(schema.create, told.db) as database:
+        for part in told.parts:
+            files, others, trail = merged(database, part)
+            if not told.quiet:
+                print(f"{part}: {files:,} files of SEG-Y and {others:,} others" + (f"; its trail of {trail:,} rows stays there" if trail else ""))
+    return 0
 
 
 # ---- report

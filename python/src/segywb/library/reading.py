@@ -2,6 +2,7 @@
 
 from __future__ import annotations
 
+import hashlib
 import os
 import stat
 import time
@@ -105,3 +106,18 @@ def _fill(facts: Facts, descriptor: int, deadline: float) -> None:
         if refusal.code == "L14":
             facts.columns.update(asking.trailing(descriptor, size, refusal.hint))
     facts.columns.update(digests.of(descriptor, size, span, deadline)._asdict())
+
+
+def digest(path: bytes) -> Optional[str]:
+    """The digest of a file as it is now; of one that is not there none."""
+    try:
+        descriptor = os.open(path, os.O_RDONLY | os.O_NONBLOCK | os.O_CLOEXEC)
+    except (FileNotFoundError, NotADirectoryError):
+        return None
+    try:
+        whole = hashlib.sha256()
+        for _, block in digests.blocks(descriptor, float("inf")):
+            whole.update(block)
+        return whole.hexdigest()
+    finally:
+        os.close(descriptor)

@@ -5,7 +5,7 @@ from __future__ import annotations
 import os
 import sqlite3
 from contextlib import contextmanager
-from typing import Iterator
+from typing import Callable, Iterator
 from urllib.parse import quote
 
 from ..answers import MEANINGS
@@ -17,6 +17,7 @@ WAIT_SECONDS = 120.0
 TABLES = """
 CREATE TABLE scan (
     id INTEGER PRIMARY KEY,
+    mark TEXT NOT NULL UNIQUE,
     begun TEXT NOT NULL,
     ended TEXT,
     folders TEXT NOT NULL,
@@ -176,7 +177,8 @@ class NoLibrary(Exception):
 def create(path: str) -> sqlite3.Connection:
     """Opens the database for writing, and makes it where it is not there."""
     try:
-        database = sqlite3.connect(path, timeout=WAIT_SECONDS, isolation_level=None, check_same_thread=False)
+        place = f"file:{quote(os.fsencode(os.path.abspath(path)))}?mode=rwc"
+        database = sqlite3.connect(place, uri=True, timeout=WAIT_SECONDS, isolation_level=None, check_same_thread=False)
         database.execute("PRAGMA journal_mode = WAL")  # readers go on while a scan writes
         database.execute("PRAGMA synchronous = NORMAL")
         database.execute("PRAGMA cache_size = -32768")
@@ -212,7 +214,7 @@ def read_only(path: str) -> sqlite3.Connection:
     if not os.path.exists(path):
         raise NoLibrary(f"there is no {path}: segywb-library scan makes it")
     try:
-        database = sqlite3.connect(f"file:{quote(os.path.abspath(path))}?mode=ro", uri=True, timeout=WAIT_SECONDS, isolation_level=None)
+        database = sqlite3.connect(f"file:{quote(os.fsencode(os.path.abspath(path)))}?mode=ro", uri=True, timeout=WAIT_SECONDS, isolation_level=None)
         database.execute("PRAGMA query_only = 1")
         database.execute("SELECT 1 FROM sqlite_master").fetchone()
     except sqlite3.Error as error:
@@ -227,6 +229,16 @@ def existing(path: str) -> sqlite3.Connection:
     return create(path)
 
 
+def close(database: sqlite3.Connection) -> None:
+    """Closes it as one plain file, which can be read from a folder without the right to write; not where another process has it open."""
+    try:
+        database.execute("PRAGMA busy_timeout = 0")
+        database.execute("PRAGMA journal_mode = DELETE")
+    except sqlite3.Error:
+        pass
+    database.close()
+
+
 def _ours(database: sqlite3.Connection, path: str) -> None:
     application = database.execute("PRAGMA application_id").fetchone()[0]
     version = database.execute("PRAGMA user_version").fetchone()[0]
@@ -235,6 +247,16 @@ def _ours(database: sqlite3.Connection, path: str) -> None:
     database.close()
     newer = f"its schema is {version}, and this segywb-library knows {VERSION}"
     raise NoLibrary(f"{path}: {newer if application == APPLICATION else 'it is no database of segywb-library'}")
+
+
+@contextmanager
+def opened(how: Callable[[str], sqlite3.Connection], path: str) -> Iterator[sqlite3.Connection]:
+    """A database that is closed at the end: ``how`` is ``create`` or ``existing``."""
+    database = how(path)
+    try:
+        yield database
+    finally:
+        close(database)
 
 
 @contextmanager

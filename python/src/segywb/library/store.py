@@ -8,6 +8,7 @@ import os
 import socket
 import sqlite3
 import time
+import uuid
 from typing import Any, List, NamedTuple, Optional, Tuple
 
 from .. import __version__
@@ -23,8 +24,8 @@ FILLED = (
     "greatest_length", "least_inline", "greatest_inline", "least_crossline", "greatest_crossline", "least_offset", "greatest_offset", "least_x",
     "greatest_x", "least_y", "greatest_y", "least_scalar", "greatest_scalar", "outline", "alphabet", "trailing_bytes", "trailing_zeros", "program",
 )
-_FILE = ("path", "name", "root", "gone", "scan", "read_at", *FILLED)
-_OTHER = ("path", "name", "why", "size", "modified", "changed", "inode", "settled", "scan", "read_at")
+FILE_COLUMNS = ("path", "name", "root", "gone", "scan", "read_at", *FILLED)
+OTHER_COLUMNS = ("path", "name", "why", "size", "modified", "changed", "inode", "settled", "scan", "read_at")
 
 
 def _upsert(table: str, columns: Tuple[str, ...]) -> str:
@@ -34,7 +35,7 @@ def _upsert(table: str, columns: Tuple[str, ...]) -> str:
     return f"INSERT INTO {table} ({', '.join(columns)}) VALUES ({marks}) ON CONFLICT (path) DO UPDATE SET {changed}"
 
 
-_PUT_FILE, _PUT_OTHER = _upsert("file", _FILE), _upsert("other", _OTHER)
+_PUT_FILE, _PUT_OTHER = _upsert("file", FILE_COLUMNS), _upsert("other", OTHER_COLUMNS)
 _KNOWN = (
     "SELECT 1, id, size, modified, changed, inode, settled, state, gone FROM file WHERE path = ?1 "
     "UNION ALL SELECT 0, id, size, modified, changed, inode, settled, '', NULL FROM other WHERE path = ?1"
@@ -88,9 +89,9 @@ def known(database: sqlite3.Connection, path: str) -> Optional[Known]:
 
 def begin(database: sqlite3.Connection, folders: str, program: Program) -> int:
     """The row of a scan that begins."""
-    row = (now(), folders, program.version, digest_of(program.path), __version__, user(), host())
+    row = (uuid.uuid4().hex, now(), folders, program.version, digest_of(program.path), __version__, user(), host())
     with transaction(database):
-        made = database.execute("INSERT INTO scan (begun, folders, program, program_sha256, package, user, host) VALUES (?, ?, ?, ?, ?, ?, ?)", row)
+        made = database.execute("INSERT INTO scan (mark, begun, folders, program, program_sha256, package, user, host) VALUES (?, ?, ?, ?, ?, ?, ?, ?)", row)
     return int(made.lastrowid or 0)
 
 
@@ -115,7 +116,7 @@ def _name(path: str) -> str:
 
 def _put_other(database: sqlite3.Connection, path: str, facts: Facts, scan: int) -> int:
     columns = facts.columns
-    row: List[Any] = [path, _name(path), facts.other, *(columns[name] for name in _OTHER[3:8]), scan, now()]
+    row: List[Any] = [path, _name(path), facts.other, *(columns[name] for name in OTHER_COLUMNS[3:8]), scan, now()]
     database.execute(_PUT_OTHER, row)
     old = database.execute("SELECT id FROM file WHERE path = ?", (path,)).fetchone()
     if old is not None:

@@ -22,4 +22,5 @@ if [ -n "$lacking" ]; then
     [ -z "${CI:-}" ] || exit 1
     exit 0
 fi
-exec $python -X dev -m pytest -q -p no:cacheprovider "$here/../python/tests_library" "$@"
+# Without -X dev, under which a process is started so slowly that the tests would take twice as long.
+exec $python -m pytest -q -p no:cacheprovider -W error::ResourceWarning -W error::pytest.PytestUnraisableExceptionWarning "$here/../python/tests_library" "$@"

@@ -78,7 +78,7 @@ def test_a_worker_that_dies(few, tmp_path, wrapped):
     database = tmp_path / "lib.db"
     program = wrapped('case $name in */cube.sgy) kill -9 $PPID ;; esac')
     told = library("scan", "--db", database, few, SEGYWB=program, status=1)
-    assert "12 files of SEG-Y were read: 11 the program takes, 0 it refuses, 1 could not be read" in told
+    assert "12 files read: 11 loaded, 0 refused, 1 failed" in told
     assert rows(database, "SELECT name, trouble FROM file WHERE state = 'failed'") == [("cube.sgy", "the process that read it died (signal 9)")]
     library("scan", "--db", database, few)
     assert rows(database, "SELECT count(*) FROM file WHERE state = 'read'") == [(12,)]

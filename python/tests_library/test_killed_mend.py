@@ -54,7 +54,7 @@ def test_killed_at_many_moments(wrong, tmp_path):
         mend = started(*words)
         until = time.monotonic() + 60
         while rows(database, "SELECT count(*) FROM trail")[0][0] <= done + dice.randint(0, 30) and mend.poll() is None and time.monotonic() < until:
-            time.sleep(0.001)
+            time.sleep(0.01)
         os.kill(mend.pid, signal.SIGKILL)
         killed += mend.wait() == -signal.SIGKILL
         told = library("verify", "--db", database)

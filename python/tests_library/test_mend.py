@@ -70,7 +70,9 @@ def test_over_with_kept_bytes(room):
     run = rows(room.db, "SELECT kind, script, script_sha256, condition, keep FROM mend")[0]
     assert run == ("mend", FIX.encode(), hashlib.sha256(FIX.encode()).hexdigest(), WRONG, str(room.keep))
     assert rows(room.db, f"SELECT count(*) FROM problem JOIN file ON file.id = file WHERE {WRONG}") == [(0,)]
-    assert "0 files of SEG-Y were read" in library("scan", "--db", room.db, room.folder) or True
+    settle()
+    library("scan", "--db", room.db, room.folder)
+    assert library("scan", "--db", room.db, room.folder).startswith("0 files read")
     assert library("verify", "--db", room.db) == "2 files are what the trail says, 0 are not\n"
     told = library("undo", "--db", room.db, "--run", "1")
     assert "2 from the bytes that were kept" in told and "Nothing was written" in told and contents(room.folder) != before
@@ -87,9 +89,31 @@ def test_kept_bytes_are_bytes_of_the_old_file(room):
     kept = room.keep / old[:2] / f"{old}.sgy"
     kept.parent.mkdir(parents=True)
     kept.write_bytes(b"damaged")
-    assert "failed" in room.mend(FIX, "name = 'wrong_line.sgy'", "--over", "--keep", room.keep, "--apply", status=0) or True
-    assert digest(room.folder / "wrong_line.sgy") in (old, digest(TOP / "examples" / "cube.sgy"))
-    assert digest(kept) == old or digest(room.folder / "wrong_line.sgy") == old
+    room.mend(FIX, "name = 'wrong_line.sgy'", "--over", "--keep", room.keep, "--apply")
+    assert digest(room.folder / "wrong_line.sgy") == digest(TOP / "examples" / "cube.sgy") and digest(kept) == old
+    assert "1 from the bytes that were kept" in library("undo", "--db", room.db, "--run", "1")
+    kept.write_bytes(b"damaged once more")
+    assert "not kept any more" in library("undo", "--db", room.db, "--run", "1", "--apply", status=1)
+
+
+def test_kept_bytes_that_cannot_be_linked(room, monkeypatch):
+    """As on another disk: they are copied by the program."""
+    def refused(*words, **more):
+        raise OSError(18, "Invalid cross-device link")
+
+    monkeypatch.setattr(os, "link", refused)
+    before = contents(room.folder)
+    room.mend(FIX, WRONG, "--over", "--keep", room.keep, "--apply")
+    assert contents(room.folder) != before and len(contents(room.keep)) == 2
+    library("undo", "--db", room.db, "--run", "1", "--apply")
+    assert contents(room.folder) == before
+    (room.folder / "wrong_line.sgy").touch()
+    settle()
+    library("scan", "--db", room.db, room.folder)
+    monkeypatch.setattr(os, "makedirs", refused)
+    (room.keep / "gone").mkdir()
+    assert "failed: Invalid cross-device link" in room.mend(FIX, "name = 'wrong_line.sgy'", "--over", "--keep", room.keep / "new", "--apply", status=1)
+    assert contents(room.folder) == before
 
 
 def test_sets_are_taken_back_by_their_numbers(room):

@@ -2,6 +2,7 @@
 
 import hashlib
 import os
+import sqlite3
 import subprocess
 import sys
 
@@ -21,15 +22,15 @@ def test_rows(few, tmp_path):
     """Each column of a file, beside what the program and the bytes say."""
     database = tmp_path / "lib.db"
     told = scan(database, few)
-    assert told.startswith("12 files of SEG-Y were read: 12 the program takes, 0 it refuses, 0 could not be read\n")
+    assert told.startswith("12 files read: 12 loaded, 0 refused, 0 failed\n")
     path = few / "wrong_line.sgy"
     data = path.read_bytes()
     row = rows(
-        database, "SELECT name, state, size, modified, sha256, md5, trace_sha256, byte_order, revision, format, fixed, traces, samples, interval, "
+        database, "SELECT name, state, size, modified, sha256, md5, trace_md5, byte_order, revision, format, fixed, traces, samples, interval, "
         "least_length, greatest_length, least_inline, greatest_inline, least_x, greatest_x, greatest_y, least_scalar, outline, alphabet, program "
         "FROM file WHERE path = ?", str(path)
     )[0]
-    digests = hashlib.sha256(data).hexdigest(), hashlib.md5(data).hexdigest(), hashlib.sha256(data[3600:]).hexdigest()
+    digests = hashlib.sha256(data).hexdigest(), hashlib.md5(data).hexdigest(), hashlib.md5(data[3600:]).hexdigest()
     outline = "[[450000.0, 6800000.0], [450075.0, 6800000.0], [450075.0, 6800050.0], [450000.0, 6800050.0]]"
     assert row == (
         "wrong_line.sgy", "read", 6600, path.stat().st_mtime_ns, *digests, "big", "1.0", 3, 1, 12, 5, 4000, 5, 5, 101, 103, 450000.0, 450075.0,
@@ -63,9 +64,9 @@ def test_kinds(tmp_path):
     assert tails == [("junk.sgy", "L14", 1, 0), ("zeros.sgy", "L14", 100, 1)]
     assert rows(database, "SELECT block, substr(text, 1, 13) FROM text JOIN file ON file.id = file WHERE name = 'stanzas.sgy' AND block > 0") == [(1, "((OGP:P1/90))"), (2, "((SEG: EndTex")]
     assert rows(database, "SELECT files, versions FROM trace_duplicate") == [(2, 2)]
-    assert rows(database, "SELECT trace_sha256 FROM file WHERE name = 'empty.sgy'") == [(None,)]
+    assert rows(database, "SELECT trace_md5 FROM file WHERE name = 'empty.sgy'") == [(None,)]
     stanzas = (folder / "stanzas.sgy").read_bytes()
-    assert rows(database, "SELECT trace_sha256 FROM file WHERE name = 'stanzas.sgy'") == [(hashlib.sha256(stanzas[10000:]).hexdigest(),)]
+    assert rows(database, "SELECT trace_md5 FROM file WHERE name = 'stanzas.sgy'") == [(hashlib.md5(stanzas[10000:]).hexdigest(),)]
 
 
 def test_duplicates(few, tmp_path):
@@ -113,7 +114,7 @@ def test_what_has_not_changed_is_not_read(few, tmp_path, wrapped):
     scan(database, few, SEGYWB=program)
     assert len(log.read_text().splitlines()) == 12
     log.write_text("")
-    assert "12 had not changed" in scan(database, few, SEGYWB=program) and log.read_text() == ""
+    assert "12 unchanged" in scan(database, few, SEGYWB=program) and log.read_text() == ""
     os.utime(few / "cube.sgy")
     (few / "twice.sgy").write_bytes((few / "survey.sgy").read_bytes())
     (few / "swapped.sgy").replace(few / "moved.sgy")
@@ -122,7 +123,7 @@ def test_what_has_not_changed_is_not_read(few, tmp_path, wrapped):
     settle()
     told = scan(database, few, SEGYWB=program)
     assert sorted(log.read_text().split()) == [str(few / name) for name in ("cube.sgy", "moved.sgy", "survey.sgy", "twice.sgy")]
-    assert "1 are gone" in told and rows(database, "SELECT name FROM file WHERE gone IS NOT NULL") == [("swapped.sgy",)]
+    assert "1 gone" in told and rows(database, "SELECT name FROM file WHERE gone IS NOT NULL") == [("swapped.sgy",)]
     log.write_text("")
     scan(database, few, "--again", SEGYWB=program)
     assert len(log.read_text().splitlines()) == 12
@@ -145,11 +146,11 @@ def test_a_file_that_was_just_written(few, tmp_path):
     assert not settled(Stamp(1, 7 * second, 7 * second, 1), 8 * second) and settled(Stamp(1, 7 * second, 7 * second, 1), 10 * second)
     database = tmp_path / "lib.db"
     scan(database, few)
-    connection = __import__("sqlite3").connect(database)
+    connection = sqlite3.connect(database)
     connection.execute("UPDATE file SET settled = 0 WHERE name = 'cube.sgy'")
     connection.commit()
     connection.close()
-    assert "1 files of SEG-Y were read" in scan(database, few) and "0 files" in scan(database, few)
+    assert "1 files read" in scan(database, few) and "0 files read" in scan(database, few)
 
 
 def test_a_file_becomes_another(few, tmp_path):
@@ -184,6 +185,7 @@ def test_names(tmp_path):
         os.makedirs(os.path.dirname(path), exist_ok=True)
         with open(path, "wb") as file:
             file.write((TOP / "examples" / "cube.sgy").read_bytes())
+    settle()
     database = tmp_path / "lib.db"
     scan(database, os.fsdecode(folder))
     told = rows(database, "SELECT path, state, traces FROM file")
@@ -191,7 +193,7 @@ def test_names(tmp_path):
     assert {(state, traces) for _, state, traces in told} == {("read", 12)}
     assert f"{tmp_path}/files/not \\xff utf8.sgy" in {path for path, _, _ in told}
     library("report", "--db", database, "--out", tmp_path / "page.html", "--csv", tmp_path / "table.csv")
-    assert "0 files" in scan(database, os.fsdecode(folder)) or True
+    assert scan(database, os.fsdecode(folder)).startswith("0 files read")
 
 
 @pytest.mark.parametrize("words", [(), ("--follow",)])
@@ -224,12 +226,12 @@ def test_the_command_line(few, tmp_path):
     assert "No such file" in library("scan", "--db", database, few, tmp_path / "absent", status=4)
     (tmp_path / "text.db").write_text("no database, but a text that is long enough for one" * 9)
     assert "text.db" in library("scan", "--db", tmp_path / "text.db", few, status=4)
-    connection = __import__("sqlite3").connect(tmp_path / "other.db")
+    connection = sqlite3.connect(tmp_path / "other.db")
     connection.execute("CREATE TABLE mine (a)")
     connection.close()
     assert "no database of segywb-library" in library("scan", "--db", tmp_path / "other.db", few, status=4)
     assert rows(tmp_path / "other.db", "SELECT name FROM sqlite_master") == [("mine",)]
-    assert "there is no program" in library("scan", "--db", database, few, SEGYWB="/nowhere/segywb", status=5) or True
+    assert "cannot run /nowhere/segywb" in library("scan", "--db", database, few, SEGYWB="/nowhere/segywb", status=5)
 
 
 def as_nobody(*words):
@@ -264,7 +266,7 @@ def test_what_may_not_be_read(few, tmp_path):
     (few / "inner").chmod(0o700)
     (few / "cube.sgy").chmod(0o400)
     done = as_nobody("scan", "--db", out / "lib.db", few)
-    assert done.returncode == 1 and "1 folders could not be listed" in done.stdout and "0 are gone" in done.stdout
+    assert done.returncode == 1 and "1 folders could not be listed" in done.stdout and "0 gone" in done.stdout
     assert rows(out / "lib.db", "SELECT name, trouble FROM file WHERE state = 'failed'") == [("cube.sgy", "Permission denied")]
     assert rows(out / "lib.db", "SELECT path, trouble FROM unlisted") == [(str(few / "inner"), "Permission denied")]
     assert rows(out / "lib.db", "SELECT count(*) FROM file WHERE gone IS NULL AND name = 'line.sgy'") == [(1,)]

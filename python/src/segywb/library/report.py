@@ -113,7 +113,7 @@ class Report:
 
     def _duplicates(self) -> str:
         parts = []
-        for title, view, digest in (("The same bytes", "duplicate", "sha256"), ("The same traces below other headers", "trace_duplicate", "trace_sha256")):
+        for title, view, digest in (("The same bytes", "duplicate", "sha256"), ("The same traces below other headers", "trace_duplicate", "trace_md5")):
             count = self._one(f"SELECT count(*) FROM {view}")
             groups = self._rows(f"SELECT {digest}, files FROM {view} ORDER BY files DESC, first_path LIMIT {GROUPS}")
             inside = []

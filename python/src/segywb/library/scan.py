@@ -193,14 +193,13 @@ def troubled(counts: Counts) -> bool:
     return bool(counts.states[FAILED] or counts.unlisted)
 
 
-def summary(counts: Counts, looked: Optional[str] = None) -> str:
+def summary(counts: Counts) -> str:
     """What a scan did, in a few lines."""
     states = counts.states
     lines = [
-        f"{sum(states.values()):,} files of SEG-Y were read: {states['read']:,} the program takes, {states['refused']:,} it refuses, "
-        f"{states['failed']:,} could not be read",
-        f"{counts.unchanged:,} had not changed and were not read again; {counts.others:,} are not of SEG-Y; {counts.gone:,} are gone",
+        f"{sum(states.values()):,} files read: {states['read']:,} loaded, {states['refused']:,} refused, {states['failed']:,} failed",
+        f"{counts.unchanged:,} unchanged and not read again, {counts.others:,} no SEG-Y, {counts.gone:,} gone",
     ]
     if counts.unlisted:
         lines.append(f"{counts.unlisted:,} folders could not be listed: the table unlisted has them")
-    return "\n".join(lines) + (f"\n{looked}" if looked else "")
+    return "\n".join(lines)

@@ -45,7 +45,7 @@ CREATE TABLE file (
     gone TEXT,
     sha256 TEXT,
     md5 TEXT,
-    trace_sha256 TEXT,
+    trace_md5 TEXT,
     byte_order TEXT,
     revision TEXT,
     format INTEGER,
@@ -159,8 +159,8 @@ CREATE VIEW duplicate AS
     SELECT sha256, count(*) AS files, size, min(path) AS first_path FROM file
     WHERE gone IS NULL AND sha256 IS NOT NULL GROUP BY sha256, size HAVING count(*) > 1;
 CREATE VIEW trace_duplicate AS
-    SELECT trace_sha256, count(*) AS files, count(DISTINCT sha256) AS versions, min(path) AS first_path FROM file
-    WHERE gone IS NULL AND trace_sha256 IS NOT NULL GROUP BY trace_sha256 HAVING count(DISTINCT sha256) > 1;
+    SELECT trace_md5, count(*) AS files, count(DISTINCT sha256) AS versions, min(path) AS first_path FROM file
+    WHERE gone IS NULL AND trace_md5 IS NOT NULL GROUP BY trace_md5 HAVING count(DISTINCT sha256) > 1;
 CREATE VIEW now AS
     SELECT * FROM trail AS one WHERE id = (SELECT max(id) FROM trail WHERE target = one.target);
 """

@@ -73,6 +73,22 @@ def started(*words, **more):
     return subprocess.Popen(command(*words), env={**ENVIRONMENT, **more}, stdout=subprocess.DEVNULL, stderr=subprocess.DEVNULL)
 
 
+def as_nobody(*words):
+    """Runs a command as a user who may write nowhere."""
+    return subprocess.run(command(*words), env=ENVIRONMENT, user=65534, group=65534, extra_groups=[], capture_output=True, text=True, timeout=120, check=False)
+
+
+def reachable(folder):
+    """Whether that user can read the package and the program, and gets to the folder."""
+    if os.getuid() != 0:
+        return False
+    for path in [folder, *folder.parents]:
+        if path.stat().st_uid == 0 and not path.stat().st_mode & 1:
+            path.chmod(path.stat().st_mode | 0o5)
+    words = [sys.executable, "-c", f"import segywb.library.cli, segywb.program, os; os.stat({str(HERE)!r}); assert os.access(segywb.program.find(), os.X_OK)"]
+    return subprocess.run(words, env=ENVIRONMENT, user=65534, group=65534, extra_groups=[], capture_output=True, check=False).returncode == 0
+
+
 def rows(database, query, *values):
     """The rows of a query."""
     connection = sqlite3.connect(database)

@@ -7,7 +7,7 @@ import sqlite3
 
 import files
 import pytest
-from conftest import TOP, library, rows, settle
+from conftest import TOP, as_nobody, library, reachable, rows, settle
 
 FIX = "renumber 5 8 inline 102 0\nfaults\n"
 SETS = "set 5 inline 102\n# why\nset 6 inline 103\nset 6 inline 102\nbin job 77\n"
@@ -80,7 +80,7 @@ def test_over_with_kept_bytes(room):
     assert contents(room.folder) == before
     assert rows(room.db, f"SELECT sum(count) FROM problem JOIN file ON file.id = file WHERE {WRONG}") == [(8,)]
     assert library("verify", "--db", room.db) == "2 files are what the trail says, 0 are not\n"
-    assert "changed it later" in library("undo", "--db", room.db, "--run", "1", status=1)
+    assert "run 2 took it back" in library("undo", "--db", room.db, "--run", "1", status=1)
 
 
 def test_kept_bytes_are_bytes_of_the_old_file(room):
@@ -123,6 +123,19 @@ def test_sets_are_taken_back_by_their_numbers(room):
     assert reverse == [("bin job 0\nset 6 inline 103\nset 6 inline 101\nset 5 inline 101\n",)]
     assert contents(room.folder) != before
     assert "2 by the script of their old numbers" in library("undo", "--db", room.db, "--run", "1")
+    library("undo", "--db", room.db, "--run", "1", "--apply")
+    assert contents(room.folder) == before
+
+
+def test_one_mend_above_another(room):
+    """They are taken back in turn, the last first."""
+    before = contents(room.folder)
+    room.mend("set 5 inline 102\n", WRONG, "--over", "--apply")
+    between = contents(room.folder)
+    room.mend("renumber 5 8 inline 102 0\n", WRONG, "--over", "--apply", "--keep", room.keep)
+    assert "run 2 changed it later: take that back first" in library("undo", "--db", room.db, "--run", "1", "--apply", status=1)
+    library("undo", "--db", room.db, "--run", "2", "--apply")
+    assert contents(room.folder) == between
     library("undo", "--db", room.db, "--run", "1", "--apply")
     assert contents(room.folder) == before
 
@@ -261,6 +274,25 @@ def test_traces_in_and_out(room):
     assert "and the file is 250 bytes shorter" in told and digest(room.folder / "twice.sgy") == digest(room.folder / "cube.sgy")
     library("undo", "--db", room.db, "--run", "1", "--apply")
     assert contents(room.folder) == before
+
+
+def test_a_folder_that_may_only_be_read(room, tmp_path):
+    """The program says why it saves nothing there; the file is as it was, and the trail says so."""
+    if not reachable(tmp_path):
+        pytest.skip("this is not root, or another user cannot read the package")
+    (tmp_path / "fix.txt").write_text(FIX)
+    for path in (tmp_path, room.db):
+        path.chmod(0o777)
+    room.folder.chmod(0o555)
+    before = contents(room.folder)
+    words = ["mend", "--db", room.db, "--script", tmp_path / "fix.txt", "--where", WRONG, "--over", "--apply", "--quiet"]
+    done = as_nobody(*words)
+    assert done.returncode == 1 and "2 failed" in done.stdout, done
+    assert contents(room.folder) == before and room.events(1) == [("failed",), ("failed",)]
+    assert "Permission denied" in rows(room.db, "SELECT told FROM trail WHERE event = 'failed'")[0][0]
+    assert library("verify", "--db", room.db) == "2 files are what the trail says, 0 are not\n"
+    done = as_nobody(*words, "--keep", tmp_path / "keep")
+    assert done.returncode == 1 and contents(room.folder) == before
 
 
 def test_the_trail_is_only_added_to(room):

@@ -3,12 +3,10 @@
 import hashlib
 import os
 import sqlite3
-import subprocess
-import sys
 
 import files
 import pytest
-from conftest import ENVIRONMENT, HERE, TOP, command, held, library, rows, settle
+from conftest import TOP, as_nobody, held, library, reachable, rows, settle
 
 from segywb.library import names
 
@@ -234,26 +232,10 @@ def test_the_command_line(few, tmp_path):
     assert "cannot run /nowhere/segywb" in library("scan", "--db", database, few, SEGYWB="/nowhere/segywb", status=5)
 
 
-def as_nobody(*words):
-    """Runs a command as a user who may write nowhere."""
-    return subprocess.run(command(*words), env=ENVIRONMENT, user=65534, group=65534, extra_groups=[], capture_output=True, text=True, timeout=120, check=False)
-
-
-def reachable():
-    """Whether that user can read the package and the program."""
-    if os.getuid() != 0:
-        return False
-    words = [sys.executable, "-c", f"import segywb.library.cli, os; os.stat({str(HERE)!r})"]
-    return subprocess.run(words, env=ENVIRONMENT, user=65534, group=65534, extra_groups=[], capture_output=True, check=False).returncode == 0
-
-
 def test_what_may_not_be_read(few, tmp_path):
     """A folder that may only be read is scanned; what may not be read is told, and counts neither as gone nor as unchanged."""
-    if not reachable():
+    if not reachable(tmp_path):
         pytest.skip("this is not root, or another user cannot read the package")
-    for path in [tmp_path, *tmp_path.parents]:
-        if path.owner() == "root" and not path.stat().st_mode & 1:
-            path.chmod(path.stat().st_mode | 0o5)
     (few / "inner").mkdir()
     (few / "inner" / "line.sgy").write_bytes((few / "cube.sgy").read_bytes())
     for path in [few / "inner" / "line.sgy", few / "inner", *few.glob("*.sgy"), few]:

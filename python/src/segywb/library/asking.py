@@ -11,7 +11,7 @@ from typing import Any, Dict, Iterator, List, Optional, Sequence, Tuple
 
 from .. import answers
 from .facts import Facts
-from .outlines import hull
+from .outlines import Point, hull
 from .sieve import HEAD_BYTES
 from .talk import Talk, accepted, rows
 
@@ -98,8 +98,7 @@ def _more(talk: Talk, facts: Facts, info: answers.Info) -> None:
     talk.send([*(f"extremes 1 {info.traces}" for _ in range(1) if info.traces), *(f"geometry {at}" for at in points)])
     if info.traces:
         facts.headers = [(name, *_four(words)) for _, name, *words in rows(talk.answer(), "extremes")]
-        places = [answers.geometry(talk.one()) for _ in points]
-        facts.columns["outline"] = json.dumps(hull([(float(one.x), float(one.y)) for one in places]))
+        facts.columns["outline"] = json.dumps(hull([_place(talk.one()) for _ in points]))
     for block in blocks:
         talk.send([f"lines {block}"])
         facts.texts.append((block, _block(talk.answer())))
@@ -107,6 +106,23 @@ def _more(talk: Talk, facts: Facts, info: answers.Info) -> None:
     scalars = spans.get("scalar", (0, 0) if info.traces else (None, None))
     facts.columns["least_scalar"], facts.columns["greatest_scalar"] = scalars
     facts.columns["least_length"], facts.columns["greatest_length"] = lengths(info, spans.get("samples"), facts.problems.get("F2", 0))
+
+
+def _place(line: str) -> Point:
+    """Where a trace lies, of the answer of `geometry`: floats are enough for an outline, and fractions take long.
+
+    >>> _place("geometry inline 1 crossline 2 offset 0 x 90005/2 y 680000")
+    (45002.5, 680000.0)
+    """
+    words = line.split(" ")
+    if len(words) != 11 or words[7] != "x" or words[9] != "y":
+        raise answers.unexpected(line)
+    return _ratio(words[8]), _ratio(words[10])
+
+
+def _ratio(word: str) -> float:
+    above, _, below = word.partition("/")
+    return int(above) / int(below or 1)
 
 
 def _four(words: Sequence[str]) -> Tuple[int, int, int, int]:

@@ -161,7 +161,7 @@ CREATE VIEW duplicate AS
 CREATE VIEW trace_duplicate AS
     SELECT trace_md5, count(*) AS files, count(DISTINCT sha256) AS versions, min(path) AS first_path FROM file
     WHERE gone IS NULL AND trace_md5 IS NOT NULL GROUP BY trace_md5 HAVING count(DISTINCT sha256) > 1;
-CREATE VIEW now AS
+CREATE VIEW latest AS
     SELECT * FROM trail AS one WHERE id = (SELECT max(id) FROM trail WHERE target = one.target);
 """
 APPEND_ONLY = "".join(
@@ -185,6 +185,8 @@ def create(path: str) -> sqlite3.Connection:
         with transaction(database):
             if database.execute("SELECT count(*) FROM sqlite_master").fetchone()[0] == 0:
                 _make(database)
+            if database.execute("PRAGMA application_id").fetchone()[0] == APPLICATION:  # a later package may know more codes
+                database.executemany("INSERT OR IGNORE INTO meaning VALUES (?, ?)", MEANINGS.items())
     except sqlite3.Error as error:
         raise NoLibrary(f"{path}: {error}") from error
     _ours(database, path)
@@ -194,7 +196,6 @@ def create(path: str) -> sqlite3.Connection:
 def _make(database: sqlite3.Connection) -> None:
     for statement in _statements(TABLES + APPEND_ONLY):
         database.execute(statement)
-    database.executemany("INSERT INTO meaning VALUES (?, ?)", MEANINGS.items())
     database.execute(f"PRAGMA user_version = {VERSION}")
     database.execute(f"PRAGMA application_id = {APPLICATION}")
 

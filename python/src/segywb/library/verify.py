@@ -22,7 +22,9 @@ _LAST = (
 _SAVED = (
     "SELECT path, target, before_sha256, after_sha256, kept, reverse FROM trail WHERE mend = ? AND event = 'saved' ORDER BY target"
 )
-_LATER = "SELECT min(mend) AS mend FROM trail WHERE target = ? AND event = 'saved' AND mend > ?"
+_LATER = (
+    "SELECT mend.id, undoes FROM trail JOIN mend ON mend.id = trail.mend WHERE target = ? AND event = 'saved' AND mend.id > ? ORDER BY trail.id DESC LIMIT 1"
+)
 
 
 class Found(NamedTuple):
@@ -84,9 +86,6 @@ class Undo:
     def _step(self, row: Dict[str, Any]) -> Step:
         reverse = script.of(row["reverse"].encode()) if row["reverse"] is not None else None
         step = Step(row["target"], row["before_sha256"], row["after_sha256"], row["kept"], reverse)
-        later = self._trail.rows(_LATER, row["target"], self._number)[0]["mend"]
-        if later is not None:
-            return step._replace(why=f"run {later} changed it later: take that back first")
         try:
             return self._possible(step)
         except (Moved, Slow, Error) as error:
@@ -97,12 +96,20 @@ class Undo:
     def _possible(self, step: Step) -> Step:
         there = reading.digest(path_of(step.path))
         if there != step.after:
-            return step._replace(why="is gone" if there is None else "it is not what the run made of it")
+            return step._replace(why="it is gone" if there is None else self._since(step.path))
         if step.kept is not None and reading.digest(path_of(step.kept)) == step.before:
             return step._replace(reverse=None)
         if step.reverse is not None and self._maker.trial(_name(step.path), step.reverse, False).after == step.before:
             return step._replace(kept=None)
         return step._replace(why="the old bytes are not kept any more" if step.kept else "its old bytes were not kept: the mend had no --keep")
+
+    def _since(self, path: str) -> str:
+        """Why a file is not what the run made of it."""
+        later = self._trail.rows(_LATER, path, self._number)
+        if not later:
+            return "it is not what the run made of it"
+        run = later[0]["id"]
+        return f"run {run} took it back" if later[0]["undoes"] == self._number else f"run {run} changed it later: take that back first"
 
     def take_back(self, step: Step, run: int) -> Tuple[bool, str]:
         """Does it, by the program's own save; whether it was done, and why not."""

@@ -45,7 +45,7 @@ def test_the_later_row_stays(few, tmp_path):
     shutil.copy(few / "survey.sgy", few / "cube.sgy")
     (few / "twice.sgy").write_bytes(b"a note")
     settle()
-    time.sleep(1.1)  # the times of rows are whole seconds
+    time.sleep(0.01)
     library("scan", "--db", second, few)
     for order in ((first, second), (second, first)):
         joined.unlink(missing_ok=True)

@@ -39,9 +39,8 @@ def main(arguments: Optional[List[str]] = None) -> int:
 
 def words(arguments: Optional[List[str]]) -> Any:
     """The command line."""
-    parser = argparse.ArgumentParser(
-        prog="segywb-library", description="An inventory of many SEG-Y files in a database, with reports, repairs of many files at once, and their trail."
-    )
+    what = "An inventory of many SEG-Y files in a database, with reports, repairs of many files at once, and their trail."
+    parser = argparse.ArgumentParser(prog="segywb-library", description=what)
     some = parser.add_subparsers(metavar="COMMAND", required=True)
     _scan(some)
     _merge(some)

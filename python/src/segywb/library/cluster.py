@@ -59,6 +59,8 @@ class Cluster:
     def gather(self, timeout: float) -> List[Facts]:
         """What was found meanwhile."""
         found: List[Facts] = []
+        if self._client.status not in ("running", "connecting"):
+            raise OSError("the cluster is gone; the same command goes on where this one was")
         if self._given:
             try:
                 dask.wait(list(self._given), timeout=max(timeout, 0.01), return_when="FIRST_COMPLETED")

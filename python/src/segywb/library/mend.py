@@ -57,7 +57,10 @@ class Outcome(NamedTuple):
 
 
 class Plan(NamedTuple):
-    """How a mend is done: its script, where it saves (``None``: over the files), where it keeps the old bytes, and whether sets are taken back by their numbers."""
+    """How a mend is done: its script, where it saves (``None``: over the files), where it keeps the old bytes.
+
+    With ``back`` the numbers that the script sets over are asked for, and kept.
+    """
 
     script: Script
     folder: Optional[str]

@@ -8,7 +8,7 @@ import sqlite3
 from contextlib import closing
 from typing import Any, Dict, Iterator, List
 
-from . import asking, schema, script, store, talk, verify
+from . import asking, schema, script, talk, verify
 from .change import Maker
 from .choose import Chosen, WrongCondition, chosen, one
 from .mend import Again, Mend, Outcome, Plan, clashing, counted, side_by_side, summary

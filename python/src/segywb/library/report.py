@@ -39,7 +39,10 @@ class Report:
 
     def page(self) -> Iterable[str]:
         """The page, piece by piece."""
-        parts = (self._totals, self._refusals, self._troubles, self._problems, self._tails, self._histograms, self._map, self._duplicates, self._named, self._mends)
+        parts = (
+            self._totals, self._refusals, self._troubles, self._problems, self._tails, self._histograms, self._map, self._duplicates, self._named,
+            self._mends,
+        )
         return page(f"Library {self._name}", (part() for part in parts))
 
     def _totals(self) -> str:
@@ -48,14 +51,16 @@ class Report:
         scans = self._rows("SELECT begun, coalesce(ended, 'not to its end'), folders, program, user, host FROM scan ORDER BY id DESC LIMIT 10")
         rows = [
             ("files of SEG-Y", files), ("their bytes", bytes_told(size)), ("their traces", traces),
-            ("the program takes", states.get("read", 0)), ("the program refuses", states.get("refused", 0)), ("could not be read", states.get("failed", 0)),
+            ("the program takes", states.get("read", 0)), ("the program refuses", states.get("refused", 0)),
+            ("could not be read", states.get("failed", 0)),
             ("gone since an earlier scan", self._one("SELECT count(*) FROM file WHERE gone IS NOT NULL")),
             ("other files", self._one("SELECT count(*) FROM other")), ("folders that could not be listed", self._one("SELECT count(*) FROM unlisted")),
         ]
         return section("Totals", table(("", ""), rows), folded("the last scans", table(("begun", "ended", "folders", "program", "user", "host"), scans)))
 
     def _refusals(self) -> str:
-        groups = self._rows(f"SELECT refusal, count(*), min(refusal_text), min(hint) FROM file WHERE {HERE} AND state = 'refused' GROUP BY refusal ORDER BY 2 DESC")
+        query = "SELECT refusal, count(*), min(refusal_text), min(hint) FROM file WHERE {} AND state = 'refused' GROUP BY refusal ORDER BY 2 DESC"
+        groups = self._rows(query.format(HERE))
         parts = [table(("code", "files", "the first text", "its hint"), groups)]
         for code, count, _, _ in groups:
             rows = self._rows(f"SELECT path, refusal_text FROM file WHERE {HERE} AND refusal = ? AND state = 'refused' ORDER BY path LIMIT {FILES}", code)
@@ -113,7 +118,8 @@ class Report:
 
     def _duplicates(self) -> str:
         parts = []
-        for title, view, digest in (("The same bytes", "duplicate", "sha256"), ("The same traces below other headers", "trace_duplicate", "trace_md5")):
+        kinds = (("The same bytes", "duplicate", "sha256"), ("The same traces below other headers", "trace_duplicate", "trace_md5"))
+        for title, view, digest in kinds:
             count = self._one(f"SELECT count(*) FROM {view}")
             groups = self._rows(f"SELECT {digest}, files FROM {view} ORDER BY files DESC, first_path LIMIT {GROUPS}")
             inside = []
@@ -124,9 +130,8 @@ class Report:
         return section("Duplicates", *parts)
 
     def _named(self) -> str:
-        rows = self._rows(
-            f"SELECT path, size, why FROM other WHERE lower(name) LIKE '%.sgy' OR lower(name) LIKE '%.segy' OR lower(name) LIKE '%.seg' ORDER BY path LIMIT {GROUPS}"
-        )
+        named = " OR ".join(f"lower(name) LIKE '%.{ending}'" for ending in ("sgy", "segy", "seg"))
+        rows = self._rows(f"SELECT path, size, why FROM other WHERE {named} ORDER BY path LIMIT {GROUPS}")
         return section("Named as SEG-Y, and none by their content", table(("file", "bytes", "why"), rows))
 
     def _mends(self) -> str:
@@ -143,8 +148,8 @@ class Report:
         codes = [code for code, in self._rows("SELECT DISTINCT code FROM problem ORDER BY length(code), code")]
         columns = [row[1] for row in self._rows("PRAGMA table_info (file)") if row[1] not in ("id", "root", "settled", "outline")]
         yield [*columns, *codes]
-        counts = "".join(", (SELECT count FROM problem WHERE file = file.id AND code = ?)" for _ in codes)
-        yield from self._database.execute(f"SELECT {', '.join(columns)}{counts.replace('file = file.id', 'problem.file = file.id')} FROM file ORDER BY path", codes)
+        counts = "".join(", (SELECT count FROM problem WHERE problem.file = file.id AND code = ?)" for _ in codes)
+        yield from self._database.execute(f"SELECT {', '.join(columns)}{counts} FROM file ORDER BY path", codes)
 
 
 def _most(count: int) -> str:

@@ -25,6 +25,7 @@ FILLED = (
     "greatest_x", "least_y", "greatest_y", "least_scalar", "greatest_scalar", "outline", "alphabet", "trailing_bytes", "trailing_zeros", "program",
 )
 FILE_COLUMNS = ("path", "name", "root", "gone", "scan", "read_at", *FILLED)
+_SCAN = "mark, begun, folders, program, program_sha256, package, user, host"
 OTHER_COLUMNS = ("path", "name", "why", "size", "modified", "changed", "inode", "settled", "scan", "read_at")
 
 
@@ -53,8 +54,9 @@ class Known(NamedTuple):
 
 
 def now() -> str:
-    """The time, as the database has it: in UTC."""
-    return time.strftime("%Y-%m-%dT%H:%M:%SZ", time.gmtime())
+    """The time, as the database has it: in UTC, to the millisecond."""
+    moment = time.time()
+    return time.strftime("%Y-%m-%dT%H:%M:%S", time.gmtime(moment)) + f".{int(moment * 1000) % 1000:03}Z"
 
 
 def user() -> str:
@@ -91,7 +93,7 @@ def begin(database: sqlite3.Connection, folders: str, program: Program) -> int:
     """The row of a scan that begins."""
     row = (uuid.uuid4().hex, now(), folders, program.version, digest_of(program.path), __version__, user(), host())
     with transaction(database):
-        made = database.execute("INSERT INTO scan (mark, begun, folders, program, program_sha256, package, user, host) VALUES (?, ?, ?, ?, ?, ?, ?, ?)", row)
+        made = database.execute(f"INSERT INTO scan ({_SCAN}) VALUES (?, ?, ?, ?, ?, ?, ?, ?)", row)
     return int(made.lastrowid or 0)
 
 

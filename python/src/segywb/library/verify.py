@@ -16,14 +16,15 @@ from .trail import Trail
 
 # The last thing that was done to each file. A file that was left, or whose mend failed before it was read, is what it was before that.
 _LAST = (
-    "SELECT target, event, before_sha256, after_sha256, mend FROM trail AS one WHERE id = (SELECT max(id) FROM trail WHERE target = one.target "
-    "AND (event = 'saved' OR before_sha256 IS NOT NULL AND target = path)) ORDER BY target"
+    "SELECT target, event, before_sha256, after_sha256, mend FROM trail AS one WHERE target > ? AND id = (SELECT max(id) FROM trail "
+    "WHERE target = one.target AND (event = 'saved' OR before_sha256 IS NOT NULL AND target = path)) ORDER BY target LIMIT 10000"
 )
 _SAVED = (
     "SELECT path, target, before_sha256, after_sha256, kept, reverse FROM trail WHERE mend = ? AND event = 'saved' ORDER BY target"
 )
 _LATER = (
-    "SELECT mend.id, undoes FROM trail JOIN mend ON mend.id = trail.mend WHERE target = ? AND event = 'saved' AND mend.id > ? ORDER BY trail.id DESC LIMIT 1"
+    "SELECT mend.id, undoes FROM trail JOIN mend ON mend.id = trail.mend WHERE target = ? AND event = 'saved' AND mend.id > ? "
+    "ORDER BY trail.id DESC LIMIT 1"
 )
 
 
@@ -48,7 +49,18 @@ class Found(NamedTuple):
 
 def verified(trail: Trail, jobs: int) -> Iterator[Found]:
     """Each file of the trail, in the order of their paths."""
-    return side_by_side(_found, trail.rows(_LAST), jobs)
+    return side_by_side(_found, _last(trail), jobs)
+
+
+def _last(trail: Trail) -> Iterator[Dict[str, Any]]:
+    """The rows of the trail that count, some thousands at a time."""
+    target = ""
+    while True:
+        some = trail.rows(_LAST, target)
+        if not some:
+            return
+        yield from some
+        target = some[-1]["target"]
 
 
 def _found(row: Dict[str, Any]) -> Found:

@@ -61,8 +61,11 @@ def _number(value: Optional[Fraction]) -> Any:
 
 def _block(lines: Iterator[str]) -> str:
     """The lines of a block of text, without the blank ones at its end."""
-    accepted(next(lines, ""))
-    return "\n".join(answers.text(line) for line in lines).rstrip("\n")
+    told = list(lines)
+    accepted(told[0] if told else "")
+    if not all(line.startswith("line |") and line.endswith("|") for line in told[1:]):
+        raise answers.unexpected(told[0])
+    return "\n".join([line[6:-1] for line in told[1:]]).rstrip("\n")
 
 
 def _problems(talk: Talk, report: str, path: str) -> Dict[str, int]:

@@ -7,7 +7,7 @@ import os
 import select
 import subprocess
 import time
-from typing import Iterator, List, NamedTuple, Optional, Sequence
+from typing import Any, Dict, Iterator, List, NamedTuple, Optional, Sequence
 
 from .. import program
 from ..errors import ProgramNotFound, hint_of
@@ -64,6 +64,12 @@ def found() -> Program:
     return _known(os.environ.get("SEGYWB"))
 
 
+@functools.lru_cache(maxsize=1)
+def _environment() -> Dict[Any, Any]:
+    """The environment as bytes: made anew for each run of the program it would take a tenth of the time."""
+    return dict(os.environb)
+
+
 class Talk:
     """``segywb FILE --session``, over a file that is open here: the same file whatever becomes of its name, and whatever its name is."""
 
@@ -74,14 +80,16 @@ class Talk:
         words = [found().path, self._name, "--session", *options]
         try:
             # Descriptors of Python are closed in the program by themselves, so that only this one is left to it.
-            self._process = subprocess.Popen(words, stdin=subprocess.PIPE, stdout=subprocess.PIPE, stderr=subprocess.PIPE, close_fds=False)
+            self._process = subprocess.Popen(
+                words, stdin=subprocess.PIPE, stdout=subprocess.PIPE, stderr=subprocess.PIPE, close_fds=False, env=_environment()
+            )
         except OSError as error:
             raise ProgramNotFound(f"cannot run {words[0]}: {error}") from error
         assert self._process.stdin is not None and self._process.stdout is not None and self._process.stderr is not None
         self._lines, self._answers, self._errors = self._process.stdin, self._process.stdout, self._process.stderr
         self._poll = select.poll()
         self._poll.register(self._answers, select.POLLIN)
-        self._source = self._stream()
+        self._buffer, self._at = b"", 0
 
     def __enter__(self) -> "Talk":
         return self
@@ -104,33 +112,37 @@ class Talk:
         except OSError:
             pass  # it has ended, and its answers tell why
 
-    def _stream(self) -> Iterator[bytes]:
-        """The lines of all answers. A program that says nothing until the time is over is given up."""
-        rest = b""
-        while True:
-            if not self._poll.poll(max(0.0, 1000 * (self._deadline - time.monotonic()))):
-                raise Slow
-            data = os.read(self._answers.fileno(), READ_BYTES)
-            if not data:
-                return
-            *lines, rest = (rest + data).split(b"\n")
-            yield from lines
+    def _more(self) -> None:
+        """Reads what has come meanwhile. A program that says nothing until the time is over is given up."""
+        if not self._poll.poll(max(0.0, 1000 * (self._deadline - time.monotonic()))):
+            raise Slow
+        data = os.read(self._answers.fileno(), READ_BYTES)
+        if not data:
+            raise self._ended()
+        self._buffer = self._buffer[self._at:] + data
+        self._at = 0
 
     def answer(self) -> Iterator[str]:
-        """The lines of the next answer, which must be read to its end."""
-        for line in self._source:
-            if not line:
+        """The lines of the next answer, which must be read to its end: all that has come of it at once, since a list may have millions."""
+        while True:
+            if self._buffer[self._at:self._at + 1] == b"\n":
+                self._at += 1
                 return
-            text = line.decode("utf-8", "surrogateescape")
-            if text.startswith("load refused "):
-                raise self._refusal(text[len("load refused "):])
-            yield text
-        raise self._ended()
+            end = self._buffer.find(b"\n\n", self._at)
+            stop = end if end >= 0 else self._buffer.rfind(b"\n", self._at)
+            if stop > self._at:
+                lines = self._buffer[self._at:stop].decode("utf-8", "surrogateescape").split("\n")
+                self._at = stop + (2 if end >= 0 else 1)
+                if lines[0].startswith("load refused "):
+                    raise self._refusal(lines[0][len("load refused "):])
+                yield from lines
+            if end >= 0:
+                return
+            self._more()
 
     def first(self) -> str:
         """The first line of the next answer, and the only one that is wanted."""
-        lines = list(self.answer())
-        return lines[0] if lines else ""
+        return next(iter(list(self.answer())), "")
 
     def one(self) -> str:
         """The same, where a refusal is no answer."""

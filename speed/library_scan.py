@@ -155,7 +155,7 @@ def master(room, folder, count, what):
     first = next(iter(walk.Walk([os.fsencode(folder)], False, print)))
     facts = reading.read(first.task, 60)
     with contextlib.closing(schema.create(str(room / "many.db"))) as database:
-        one = scan.Scan(database, AtOnce(facts), progress.Progress(None), False)
+        one = scan.Scan(database, AtOnce(facts), progress.Progress(None), False, set())
         found = walk.Walk([os.fsencode(folder)], False, one.unlisted)
         one.begin(found.folders, talk.found())
 

@@ -9,6 +9,8 @@ import files
 import pytest
 from conftest import TOP, as_nobody, library, reachable, rows, settle
 
+from segywb.library import trail
+
 FIX = "renumber 5 8 inline 102 0\nfaults\n"
 SETS = "set 5 inline 102\n# why\nset 6 inline 103\nset 6 inline 102\nbin job 77\n"
 WRONG = "name IN ('wrong_line.sgy', 'float_line.sgy')"
@@ -325,3 +327,37 @@ def test_the_report_has_the_mends(room, tmp_path):
     room.mend(SETS, WRONG, "--over", "--apply")
     library("report", "--db", room.db, "--out", tmp_path / "page.html")
     assert "float_line.sgy" in (tmp_path / "page.html").read_text() and "<td>mend</td>" in (tmp_path / "page.html").read_text()
+
+
+def test_a_disk_that_does_not_tell_what_was_saved(room, monkeypatch):
+    """The trail stays open there, and verify closes it."""
+    from segywb.library import mend
+
+    whole = mend.reading.digest
+
+    def broken(path):
+        if path.endswith(b"wrong_line.sgy"):
+            raise OSError(5, "Input/output error")
+        return whole(path)
+
+    with monkeypatch.context() as patch:
+        patch.setattr(mend.reading, "digest", broken)
+        told = room.mend(FIX, WRONG, "--over", "--apply", status=1)
+    assert "wrong_line.sgy: failed: whether it was saved is to be told by verify (Input/output error)" in told
+    told = library("verify", "--db", room.db)
+    assert "wrong_line.sgy: a run was killed here; it was saved" in told and "2 files are what the trail says, 0 are not" in told
+
+
+def test_a_database_that_is_full(room, monkeypatch):
+    """Nothing is saved of which the trail could not say so before."""
+    before = contents(room.folder)
+    whole = trail.Trail.add
+
+    def full(self, mend, path, target, event, **more):
+        if event == "begun":
+            raise sqlite3.OperationalError("database or disk is full")
+        whole(self, mend, path, target, event, **more)
+
+    monkeypatch.setattr(trail.Trail, "add", full)
+    assert "database or disk is full" in room.mend(FIX, WRONG, "--over", "--apply", status=4)
+    assert contents(room.folder) == before

@@ -256,3 +256,14 @@ def test_what_may_not_be_read(few, tmp_path):
     (few / "cube.sgy").chmod(0o444)
     assert as_nobody("scan", "--db", out / "lib.db", few).returncode == 0
     assert rows(out / "lib.db", "SELECT count(*) FROM unlisted") == [(0,)]
+
+
+def test_a_database_in_the_folder(few):
+    """Its files are passed over; its own name may be any."""
+    for name in ("lib.db", os.fsdecode(b"odd \xff ?#%.db")):
+        scan(few / name, few, "--quiet")
+        library("verify", "--db", few / name)
+        assert "12 unchanged and not read again, 0 no SEG-Y" in scan(few / name, few)
+        assert rows(few / name, "SELECT count(*) FROM other") == [(0,)]
+        for path in few.glob("*.db*"):
+            path.unlink()

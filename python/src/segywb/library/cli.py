@@ -3,6 +3,7 @@
 from __future__ import annotations
 
 import argparse
+import sqlite3
 import sys
 from typing import Any, Callable, List, Optional
 
@@ -26,7 +27,7 @@ def main(arguments: Optional[List[str]] = None) -> int:
     except Unwanted as error:
         print(f"segywb-library: {error}", file=sys.stderr)
         return 2
-    except (NoLibrary, OSError) as error:
+    except (NoLibrary, OSError, sqlite3.Error) as error:
         print(f"segywb-library: {error}", file=sys.stderr)
         return 4
     except ProgramNotFound as error:

@@ -13,7 +13,7 @@ from .merge import merged
 from .names import absolute
 from .progress import Progress
 from .report import Report, write_page, write_table
-from .scan import Scan, summary, troubled
+from .scan import Scan, own_files, summary, troubled
 from .walk import Walk, listed
 from .words import Unwanted, source
 
@@ -27,7 +27,7 @@ def scan(told: Any) -> int:
     part, parts = _part(told)
     program = talk.found()
     with schema.opened(schema.create, told.db) as database:
-        one = Scan(database, _crew(told), Progress(None if told.quiet else sys.stderr), told.again)
+        one = Scan(database, _crew(told), Progress(None if told.quiet else sys.stderr), told.again, own_files(told.db))
         try:
             if told.list is not None:
                 one.begin([absolute(told.list)], program)

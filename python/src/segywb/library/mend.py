@@ -134,8 +134,11 @@ class Mend:
         }
         name = text_of(os.fsencode(target))
         trail.add(self._number, chosen.path, name, "begun", **known)
-        status, told = self._maker.save(path, self._plan.script, target)
-        made = reading.digest(os.fsencode(target))
+        try:
+            status, told = self._maker.save(path, self._plan.script, target)
+            made = reading.digest(os.fsencode(target))
+        except OSError as error:  # the row `begun` stays the last one, and is settled once the file can be read again
+            return Outcome(chosen.path, "failed", f"whether it was saved is to be told by verify ({error.strerror or error})", change)
         event = "saved" if made == change.after else "failed"
         trail.add(self._number, chosen.path, name, event, status=status, told=told or None, **known)
         if event == "saved" and self._again is not None:

@@ -54,10 +54,9 @@ class Counts:
 class Scan:
     """A scan of what ``found`` gives, by the workers of a ``crew``."""
 
-    def __init__(self, database: sqlite3.Connection, crew: Any, progress: Progress, again: bool) -> None:
+    def __init__(self, database: sqlite3.Connection, crew: Any, progress: Progress, again: bool, own: Set[bytes]) -> None:
         self._database = database
-        # The database may stand in one of the folders: its own files are passed over.
-        self._own = own_files(database)
+        self._own = own  # the database may stand in one of the folders: its files are passed over
         self._crew = crew
         self._progress = progress
         self._again = again
@@ -163,9 +162,9 @@ class Scan:
         self._progress.close()
 
 
-def own_files(database: sqlite3.Connection) -> Set[bytes]:
+def own_files(database: str) -> Set[bytes]:
     """The files of a database."""
-    path = os.path.abspath(os.fsencode(database.execute("PRAGMA database_list").fetchone()[2]))
+    path = os.path.abspath(os.fsencode(database))
     return {path, *(path + ending for ending in OWN)}
 
 

@@ -131,7 +131,7 @@ class Talk:
             end = self._buffer.find(b"\n\n", self._at)
             stop = end if end >= 0 else self._buffer.rfind(b"\n", self._at)
             if stop > self._at:
-                lines = self._buffer[self._at:stop].decode("utf-8", "surrogateescape").split("\n")
+                lines = self._buffer[self._at:stop].decode("utf-8", "replace").split("\n")
                 self._at = stop + (2 if end >= 0 else 1)
                 if lines[0].startswith("load refused "):
                     raise self._refusal(lines[0][len("load refused "):])

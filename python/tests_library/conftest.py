@@ -27,7 +27,7 @@ UNSETTLED_SECONDS = 0.05
 # What two scans of the same files tell alike: not the numbers of rows, and not when it was.
 SAME = """
 SELECT path, name, root, state, refusal, refusal_text, hint, trouble, size, modified, changed, inode, settled, gone IS NULL, sha256, md5, trace_md5,
-    byte_order, revision, format, fixed, extensions, blocks, trailer, traces, samples, interval, least_length, greatest_length, least_inline,
+    byte_order, revision, format, fixed, extensions, blocks, trailer, traces, samples, interval, inlines, crosslines, least_length, greatest_length, least_inline,
     greatest_inline, least_crossline, greatest_crossline, least_offset, greatest_offset, least_x, greatest_x, least_y, greatest_y, least_scalar,
     greatest_scalar, outline, alphabet, trailing_bytes, trailing_zeros, program FROM file
 """

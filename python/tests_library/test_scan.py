@@ -25,13 +25,13 @@ def test_rows(few, tmp_path):
     data = path.read_bytes()
     row = rows(
         database, "SELECT name, state, size, modified, sha256, md5, trace_md5, byte_order, revision, format, fixed, traces, samples, interval, "
-        "least_length, greatest_length, least_inline, greatest_inline, least_x, greatest_x, greatest_y, least_scalar, outline, alphabet, program "
+        "inlines, crosslines, least_length, greatest_length, least_inline, greatest_inline, least_x, greatest_x, greatest_y, least_scalar, outline, alphabet, program "
         "FROM file WHERE path = ?", str(path)
     )[0]
     digests = hashlib.sha256(data).hexdigest(), hashlib.md5(data).hexdigest(), hashlib.md5(data[3600:]).hexdigest()
     outline = "[[450000.0, 6800000.0], [450075.0, 6800000.0], [450075.0, 6800050.0], [450000.0, 6800050.0]]"
     assert row == (
-        "wrong_line.sgy", "read", 6600, path.stat().st_mtime_ns, *digests, "big", "1.0", 3, 1, 12, 5, 4000, 5, 5, 101, 103, 450000.0, 450075.0,
+        "wrong_line.sgy", "read", 6600, path.stat().st_mtime_ns, *digests, "big", "1.0", 3, 1, 12, 5, 4000, 2, 4, 5, 5, 101, 103, 450000.0, 450075.0,
         6800050.0, -100, outline, "ebcdic", f"segywb {(TOP / 'VERSION').read_text().strip()}"
     )
     problems = rows(database, "SELECT name, code, count FROM problem JOIN file ON file.id = file ORDER BY name, code")

@@ -36,7 +36,7 @@ def options(size: int, option: str) -> List[str]:
 def ask(talk: Talk, facts: Facts, path: str) -> Tuple[int, int]:
     """Fills the columns; how many bytes stand in front of the traces, and how many behind them."""
     report = "faults" if _older.get(path) else "problems"
-    talk.send(["info", "getbin interval", *(f"range {which}" for which in WHICH), "code 0", "lines 0", report])
+    talk.send(["info", "getbin interval", *(f"range {which}" for which in WHICH), "inlines", "crosslines", "code 0", "lines 0", report])
     info = answers.info(talk.one())
     columns = facts.columns
     columns.update(
@@ -47,12 +47,26 @@ def ask(talk: Talk, facts: Facts, path: str) -> Tuple[int, int]:
         span = answers.span(talk.one())
         least, greatest = span if span is not None else (None, None)
         columns[f"least_{which}"], columns[f"greatest_{which}"] = _number(least), _number(greatest)
+    ends = []
+    for which in ("inline", "crossline"):
+        columns[f"{which}s"], first, last = _lines(talk, which)
+        ends += [first, info.traces - last + 1]
     columns["alphabet"] = answers.name(talk.one(), "code")
     facts.texts.append((0, _block(talk.answer())))
     facts.problems = _problems(talk, report, path)
-    _more(talk, facts, info)
+    _more(talk, facts, info, positions(info.traces, ends))
     # The manual's cut of a file: texts of 3200 bytes behind the two headers, then the traces, then trailer records of 3200 bytes.
     return HEAD_BYTES + BLOCK_BYTES * info.blocks, BLOCK_BYTES * info.trailer
+
+
+def _lines(talk: Talk, which: str) -> Tuple[int, int, int]:
+    """How many inlines (or crosslines) there are, and how many traces the first and the last one have."""
+    count = first = last = 0
+    for words in rows(talk.answer(), f"{which}s"):
+        last = int(words[2])
+        first = first or last
+        count += 1
+    return count, first, last
 
 
 def _number(value: Optional[Fraction]) -> Any:
@@ -94,10 +108,9 @@ def counted(lines: Iterator[str]) -> Dict[str, int]:
     return dict(sorted(found.items()))
 
 
-def _more(talk: Talk, facts: Facts, info: answers.Info) -> None:
+def _more(talk: Talk, facts: Facts, info: answers.Info, points: List[int]) -> None:
     """The questions that need the number of traces or of blocks."""
     blocks = range(1, min(info.blocks, MOST_BLOCKS) + 1)
-    points = positions(info.traces)
     talk.send([*(f"extremes 1 {info.traces}" for _ in range(1) if info.traces), *(f"geometry {at}" for at in points)])
     if info.traces:
         facts.headers = [(name, *_four(words)) for _, name, *words in rows(talk.answer(), "extremes")]
@@ -138,16 +151,18 @@ def _whole(word: str) -> int:
     return min(int(word), (1 << 63) - 1)
 
 
-def positions(traces: int) -> List[int]:
-    """Some traces all over the file, without a step that lines of one length could fall in with.
+def positions(traces: int, ends: Sequence[int]) -> List[int]:
+    """Some traces all over the file, without a step that lines of one length could fall in with, and those at the ends of lines.
 
-    >>> positions(3), len(positions(1000)), positions(1000)[-1]
-    ([1, 2, 3], 50, 1000)
+    Where the traces stand in the order of their lines, these are the corners of the survey.
+
+    >>> positions(3, [1, 3]), len(positions(1000, [10, 991])), positions(1000, [])[-1]
+    ([1, 2, 3], 52, 1000)
     """
     if traces <= POINTS:
         return list(range(1, traces + 1))
     middle = {1 + int(traces * (_GOLDEN * step % 1.0)) for step in range(1, POINTS - 1)} | {1, traces}
-    return sorted(middle)
+    return sorted(middle | {at for at in ends if 1 <= at <= traces})
 
 
 def lengths(info: answers.Info, told: Optional[Tuple[int, int]], wrong: int) -> Tuple[Optional[int], Optional[int]]:

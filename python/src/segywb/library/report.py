@@ -59,9 +59,10 @@ class Report:
         return section("Totals", table(("", ""), rows), folded("the last scans", table(("begun", "ended", "folders", "program", "user", "host"), scans)))
 
     def _refusals(self) -> str:
-        query = "SELECT refusal, count(*), min(refusal_text), min(hint) FROM file WHERE {} AND state = 'refused' GROUP BY refusal ORDER BY 2 DESC"
-        groups = self._rows(query.format(HERE))
-        parts = [table(("code", "files", "the first text", "its hint"), groups)]
+        # With min() the other columns are those of the row that has it.
+        query = "SELECT refusal, count(*), refusal_text, hint, min(path) FROM file WHERE {} AND state = 'refused' GROUP BY refusal ORDER BY 2 DESC"
+        groups = [row[:4] for row in self._rows(query.format(HERE))]
+        parts = [table(("code", "files", "text of the first", "its hint"), groups)]
         for code, count, _, _ in groups:
             rows = self._rows(f"SELECT path, refusal_text FROM file WHERE {HERE} AND refusal = ? AND state = 'refused' ORDER BY path LIMIT {FILES}", code)
             parts.append(folded(f"{code}: {_most(count)}", table(("file", "text"), rows)))

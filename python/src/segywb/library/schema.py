@@ -56,6 +56,8 @@ CREATE TABLE file (
     traces INTEGER,
     samples INTEGER,
     interval INTEGER,
+    inlines INTEGER,
+    crosslines INTEGER,
     least_length INTEGER,
     greatest_length INTEGER,
     least_inline INTEGER,

@@ -20,7 +20,7 @@ from .talk import Program
 # The columns of `file` that a reading fills; those that it leaves out are NULL then, so that no row is of two readings.
 FILLED = (
     "state", "refusal", "refusal_text", "hint", "trouble", "size", "modified", "changed", "inode", "settled", "sha256", "md5", "trace_md5",
-    "byte_order", "revision", "format", "fixed", "extensions", "blocks", "trailer", "traces", "samples", "interval", "least_length",
+    "byte_order", "revision", "format", "fixed", "extensions", "blocks", "trailer", "traces", "samples", "interval", "inlines", "crosslines", "least_length",
     "greatest_length", "least_inline", "greatest_inline", "least_crossline", "greatest_crossline", "least_offset", "greatest_offset", "least_x",
     "greatest_x", "least_y", "greatest_y", "least_scalar", "greatest_scalar", "outline", "alphabet", "trailing_bytes", "trailing_zeros", "program",
 )

@@ -87,19 +87,19 @@ def test_a_worker_that_dies(few, tmp_path, wrapped):
 def test_a_program_that_dies_or_hangs(few, tmp_path, wrapped):
     database = tmp_path / "lib.db"
     program = wrapped('case $name in */cube.sgy) kill -11 $$ ;; */twice.sgy) [ "$2" = --session ] && exec sleep 60 ;; esac')
-    library("scan", "--db", database, "--limit", "1", few, SEGYWB=program, status=1)
+    library("scan", "--db", database, "--limit", "4", few, SEGYWB=program, status=1)
     told = rows(database, "SELECT name, trouble FROM file WHERE state = 'failed' ORDER BY name")
-    assert told == [("cube.sgy", "the program ended by signal 11"), ("twice.sgy", "no answer within 1 s")]
+    assert told == [("cube.sgy", "the program ended by signal 11"), ("twice.sgy", "no answer within 4 s")]
     assert rows(database, "SELECT count(*) FROM file WHERE state = 'read'") == [(10,)]
 
 
 def test_a_worker_that_hangs(few, monkeypatch, wrapped):
     """One that does not even see that the time is over, as where a disk does not answer."""
-    monkeypatch.setattr(crew, "GRACE_SECONDS", 0.3)
+    monkeypatch.setattr(crew, "GRACE_SECONDS", 1.0)
     monkeypatch.setenv("SEGYWB", wrapped('case $name in */cube.sgy) kill -STOP $PPID ;; esac'))
     monkeypatch.setenv("PYTHONPATH", str(HERE.parent / "src"))
     tasks = [facts.Task(os.fsencode(few / name), 0, 6600) for name in ("cube.sgy", "twice.sgy", "survey.sgy")]
-    one = crew.Crew(1, 0.7)
+    one = crew.Crew(1, 3.0)
     found, until = {}, time.monotonic() + 60
     try:
         one.give(tasks)
@@ -112,7 +112,7 @@ def test_a_worker_that_hangs(few, monkeypatch, wrapped):
     finally:
         one.close()
     assert [found[task.path]["state"] for task in tasks] == ["failed", "read", "read"]
-    assert found[tasks[0].path]["trouble"] == "no answer within 1 s"
+    assert found[tasks[0].path]["trouble"] == "no answer within 3 s"
 
 
 @pytest.mark.parametrize("number", [errno.EIO, errno.ESTALE, errno.ETIMEDOUT])

@@ -3,6 +3,9 @@
 from __future__ import annotations
 
 import importlib
+import os
+import signal
+import threading
 import time
 from typing import Any, Dict, List, NamedTuple, Optional
 
@@ -14,6 +17,8 @@ dask: Any = importlib.import_module("distributed")  # has no types
 AHEAD = 2
 LOOK_SECONDS = 5.0
 GRACE_SECONDS = 60.0
+RESULT_SECONDS = 60.0
+CLOSE_SECONDS = 30.0
 
 
 class Given(NamedTuple):
@@ -24,7 +29,11 @@ class Given(NamedTuple):
 
 
 class Cluster:
-    """Workers of a cluster, as those of a ``Crew``. A worker that dies is restarted or replaced by Dask, and its files are read by another."""
+    """Workers of a cluster, as those of a ``Crew``. A worker that dies is restarted or replaced by Dask, and its files are read by another.
+
+    Dask gives an order up once several workers have died over it. Its files are then read one by one, with nothing beside them, so that
+    the one that kills workers is told and no other.
+    """
 
     def __init__(self, address: Optional[str], workers: Optional[int], seconds: float) -> None:
         self._seconds = seconds
@@ -33,34 +42,47 @@ class Cluster:
             self._own = dask.LocalCluster(n_workers=workers, threads_per_worker=1, dashboard_address=None)
         self._client: Any = dask.Client(self._own if address is None else address)
         self._given: Dict[Any, Given] = {}
-        self._room = 0
+        self._suspects: List[Task] = []
+        self._alone: Any = None
+        self._room = AHEAD
         self._looked = 0.0
+        self._alive = time.monotonic()
         self.back: List[Task] = []
 
     @property
     def busy(self) -> bool:
         """Whether some file is being read."""
-        return bool(self._given)
+        return bool(self._given or self._suspects)
 
     def idle(self) -> bool:
         """Whether files can be given: each thread of the cluster has some ahead."""
-        moment = time.monotonic()
-        if moment - self._looked > LOOK_SECONDS:
-            self._room = AHEAD * max(1, sum(self._client.ncores().values()))
-            self._looked = moment
-        return len(self._given) < self._room
+        self._look()
+        return not self._suspects and self._alone not in self._given and len(self._given) < self._room
 
-    def give(self, tasks: List[Task]) -> None:
-        """Files to read. Each order is one of its own, also where the same files are read again."""
+    def _look(self) -> None:
+        """How many threads there are, now and then. A cluster without any for a while is given up."""
+        moment = time.monotonic()
+        if moment - self._looked < LOOK_SECONDS:
+            return
+        self._looked = moment
+        threads = sum(self._client.ncores().values()) if self._client.status in ("running", "connecting") else 0
+        self._room = AHEAD * max(1, threads)
+        if threads:
+            self._alive = moment
+        elif moment - self._alive > GRACE_SECONDS:
+            raise OSError("the cluster has no workers any more; the same command goes on where this one was")
+
+    def give(self, tasks: List[Task]) -> Any:
+        """Files to read; the order that they are. It is one of its own, also where the same files are read again."""
         seconds = sum(limit_of(task.size, self._seconds) for task in tasks) * (AHEAD + 1) + GRACE_SECONDS
         future = self._client.submit(read_many, tasks, self._seconds, pure=False)
         self._given[future] = Given(tasks, time.monotonic() + seconds)
+        return future
 
     def gather(self, timeout: float) -> List[Facts]:
         """What was found meanwhile."""
+        self._look()
         found: List[Facts] = []
-        if self._client.status not in ("running", "connecting"):
-            raise OSError("the cluster is gone; the same command goes on where this one was")
         if self._given:
             try:
                 dask.wait(list(self._given), timeout=max(timeout, 0.01), return_when="FIRST_COMPLETED")
@@ -70,18 +92,23 @@ class Cluster:
         for future in [one for one in self._given if one.done()]:
             self._take(future, self._given.pop(future), found)
         self._late(found)
+        if self._suspects and not self._given:
+            self._alone = self.give([self._suspects.pop()])
         return found
 
     def _take(self, future: Any, given: Given, found: List[Facts]) -> None:
+        error = future.exception() if future.status == "error" else None
         if future.status == "finished":
-            found += future.result()
-        elif len(given.tasks) > 1 or future.status != "error":
-            self.back += given.tasks  # one by one, so that the row of the file itself tells it
-        else:
-            error = future.exception()
+            try:
+                found += future.result(timeout=RESULT_SECONDS)
+                return
+            except Exception as lost:  # the worker that has it may have died meanwhile
+                error = lost
+        if error is not None and len(given.tasks) == 1 and "Timeout" not in type(error).__name__:
             name = type(error).__name__
-            why = "the worker that read it died" if name == "KilledWorker" else f"{name}: {error}"
-            found.append(failed(given.tasks[0], why))
+            found.append(failed(given.tasks[0], "the worker that read it died" if name == "KilledWorker" else f"{name}: {error}"))
+        else:
+            self._suspects += given.tasks
 
     def _late(self, found: List[Facts]) -> None:
         """A worker whose disk does not answer cannot be ended from here: its files are told, and it is left alone."""
@@ -91,7 +118,16 @@ class Cluster:
             found += [failed(task, "no answer from the cluster") for task in given.tasks]
 
     def close(self) -> None:
-        """Lets go of the cluster; one of this machine ends."""
+        """Lets go of the cluster; one of this machine ends. Where Dask does not come to an end with that, its processes are ended."""
+        closing = threading.Thread(target=self._close, daemon=True)
+        closing.start()
+        closing.join(CLOSE_SECONDS)
+        if closing.is_alive() and self._own is not None:
+            for worker in list(self._own.workers.values()):
+                if getattr(worker, "pid", None):
+                    os.kill(worker.pid, signal.SIGKILL)
+
+    def _close(self) -> None:
         for future in self._given:
             future.cancel()
         self._client.close()

@@ -19,6 +19,8 @@ LOOK_SECONDS = 5.0
 GRACE_SECONDS = 60.0
 RESULT_SECONDS = 60.0
 CLOSE_SECONDS = 30.0
+REVIVE_SECONDS = 15.0
+DIED = "the worker that read it died"
 
 
 class Given(NamedTuple):
@@ -37,17 +39,23 @@ class Cluster:
 
     def __init__(self, address: Optional[str], workers: Optional[int], seconds: float) -> None:
         self._seconds = seconds
+        self._address = address
+        self._workers = workers
         self._own: Any = None
-        if address is None:
-            self._own = dask.LocalCluster(n_workers=workers, threads_per_worker=1, dashboard_address=None)
-        self._client: Any = dask.Client(self._own if address is None else address)
+        self._client: Any = None
+        self._start()
         self._given: Dict[Any, Given] = {}
         self._suspects: List[Task] = []
         self._alone: Any = None
         self._room = AHEAD
         self._looked = 0.0
-        self._alive = time.monotonic()
         self.back: List[Task] = []
+
+    def _start(self) -> None:
+        if self._address is None:
+            self._own = dask.LocalCluster(n_workers=self._workers, threads_per_worker=1, dashboard_address=None)
+        self._client = dask.Client(self._own if self._address is None else self._address)
+        self._alive = time.monotonic()
 
     @property
     def busy(self) -> bool:
@@ -60,7 +68,7 @@ class Cluster:
         return not self._suspects and self._alone not in self._given and len(self._given) < self._room
 
     def _look(self) -> None:
-        """How many threads there are, now and then. A cluster without any for a while is given up."""
+        """How many threads there are, now and then."""
         moment = time.monotonic()
         if moment - self._looked < LOOK_SECONDS:
             return
@@ -69,8 +77,20 @@ class Cluster:
         self._room = AHEAD * max(1, threads)
         if threads:
             self._alive = moment
-        elif moment - self._alive > GRACE_SECONDS:
+
+    def _revive(self, found: List[Facts]) -> None:
+        """Where all workers have died and none came back: a cluster of this machine is made anew, another one is given up."""
+        silent = time.monotonic() - self._alive
+        if self._address is not None and silent > GRACE_SECONDS:
             raise OSError("the cluster has no workers any more; the same command goes on where this one was")
+        if self._address is not None or silent < REVIVE_SECONDS:
+            return
+        if self._alone in self._given:
+            found += [failed(task, DIED) for task in self._given.pop(self._alone).tasks]
+        self._suspects += [task for given in self._given.values() for task in given.tasks]
+        self._given = {}
+        self.close()
+        self._start()
 
     def give(self, tasks: List[Task]) -> Any:
         """Files to read; the order that they are. It is one of its own, also where the same files are read again."""
@@ -81,8 +101,9 @@ class Cluster:
 
     def gather(self, timeout: float) -> List[Facts]:
         """What was found meanwhile."""
-        self._look()
         found: List[Facts] = []
+        self._look()
+        self._revive(found)
         if self._given:
             try:
                 dask.wait(list(self._given), timeout=max(timeout, 0.01), return_when="FIRST_COMPLETED")
@@ -106,7 +127,7 @@ class Cluster:
                 error = lost
         if error is not None and len(given.tasks) == 1 and "Timeout" not in type(error).__name__:
             name = type(error).__name__
-            found.append(failed(given.tasks[0], "the worker that read it died" if name == "KilledWorker" else f"{name}: {error}"))
+            found.append(failed(given.tasks[0], DIED if name == "KilledWorker" else f"{name}: {error}"))
         else:
             self._suspects += given.tasks
 
@@ -119,7 +140,9 @@ class Cluster:
 
     def close(self) -> None:
         """Lets go of the cluster; one of this machine ends. Where Dask does not come to an end with that, its processes are ended."""
-        closing = threading.Thread(target=self._close, daemon=True)
+        for future in self._given:
+            future.cancel()
+        closing = threading.Thread(target=_close, args=(self._client, self._own), daemon=True)
         closing.start()
         closing.join(CLOSE_SECONDS)
         if closing.is_alive() and self._own is not None:
@@ -127,9 +150,8 @@ class Cluster:
                 if getattr(worker, "pid", None):
                     os.kill(worker.pid, signal.SIGKILL)
 
-    def _close(self) -> None:
-        for future in self._given:
-            future.cancel()
-        self._client.close()
-        if self._own is not None:
-            self._own.close()
+
+def _close(client: Any, own: Any) -> None:
+    client.close()
+    if own is not None:
+        own.close()

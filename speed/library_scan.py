@@ -13,7 +13,7 @@ from pathlib import Path
 
 from segywb.library import cli, progress, reading, scan, schema, talk, walk
 
-SEED = 69
+SEED = 1
 LINKS = 20_000
 FOLDER = 1000
 

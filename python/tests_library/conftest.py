@@ -112,7 +112,7 @@ def settle():
 
 def many(folder, count, broken):
     """Small files of many kinds in a few folders, made by a seed; so many of them are broken."""
-    dice = random.Random(69)
+    dice = random.Random(7)
     makers = (lambda path: files.floats(path, 1), files.floats, files.varying, files.stanzas, files.extended)
     for number in range(count):
         below = folder / f"survey {number % 7}"

@@ -27,7 +27,7 @@ def test_killed_at_many_moments(master, undisturbed, tmp_path):
     wanted = [set(part) for part in held(undisturbed)]
     killed = 0
     for moment in range(MOMENTS):
-        scan = started("scan", "--db", database, "--quiet", master)
+        scan = started("scan", "--db", database, "--quiet", "--jobs", "2", master)
         until = time.monotonic() + 60
         while count(database) < moment * 95 and scan.poll() is None and time.monotonic() < until:
             time.sleep(0.002)
@@ -45,7 +45,7 @@ def test_killed_at_many_moments(master, undisturbed, tmp_path):
 def test_interrupted(master, tmp_path):
     """Ctrl-C ends it with a word; no process stays."""
     database = tmp_path / "lib.db"
-    scan = started("scan", "--db", database, "--quiet", master)
+    scan = started("scan", "--db", database, "--quiet", "--jobs", "2", master)
     while count(database) < 10 and scan.poll() is None:
         time.sleep(0.01)
     scan.send_signal(signal.SIGINT)

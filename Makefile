@@ -4,12 +4,13 @@
 #   make quick      the end-to-end tests, in about ten minutes
 #   make python     the tests of the Python package
 #   make desk       the tests of the desk, in a browser
+#   make library    the tests of segywb-library
 # With the Rattle kit (the command rt on the PATH):
 #   make build      proves and builds the program from the sources
 #   make test       the whole gate: every proof from nothing, the must-fail edits, then the end-to-end runs
 #   make speed      the speed, as ratios to cp and md5sum
 #   make dist       the program that was built becomes the shipped one
-# demo, install, quick, python and desk take the shipped program, or the one that PROGRAM=.. names.
+# demo, install, quick, python, desk and library take the shipped program, or the one that PROGRAM=.. names.
 SHIPPED = dist/segywb-x86_64-linux
 BUILT = crates/segywb/out/segywb
 TIMINGS = crates/timings/out/timings
@@ -17,9 +18,9 @@ PROGRAM ?= $(SHIPPED)
 PREFIX ?= /usr/local
 DESTDIR ?=
 INTO = $(DESTDIR)$(PREFIX)
-TOOLS = segywb-plot segywb-report segywb-desk
+TOOLS = segywb-plot segywb-report segywb-desk segywb-library
 
-.PHONY: help demo quick python desk install uninstall build test dist speed pages program
+.PHONY: help demo quick python desk library install uninstall build test dist speed pages program
 
 help:
 	@sed -n '/^#/s/^# *//p; /^SHIPPED/q' Makefile
@@ -38,6 +39,9 @@ python: program
 
 desk: program
 	bash tests/desk.sh $(PROGRAM)
+
+library: program
+	bash tests/library.sh $(PROGRAM)
 
 build:
 	tools/build
@@ -66,7 +70,7 @@ pages:
 install: program
 	install -D -m 755 $(PROGRAM) $(INTO)/bin/segywb
 	install -m 755 -t $(INTO)/bin tools/segywb-plot tools/segywb-report
-	install -D -m 644 -t $(INTO)/share/man/man1 man/segywb.1 man/segywb-plot.1 man/segywb-report.1 man/segywb-desk.1
+	install -D -m 644 -t $(INTO)/share/man/man1 man/segywb.1 man/segywb-plot.1 man/segywb-report.1 man/segywb-desk.1 man/segywb-library.1
 	install -D -m 644 man/segywb-script.5 $(INTO)/share/man/man5/segywb-script.5
 	install -D -m 644 completions/segywb.bash $(INTO)/share/bash-completion/completions/segywb
 	install -D -m 644 completions/_segywb $(INTO)/share/zsh/site-functions/_segywb
@@ -81,7 +85,7 @@ install: program
 
 uninstall:
 	rm -f $(INTO)/bin/segywb $(INTO)/bin/segywb-plot $(INTO)/bin/segywb-report
-	rm -f $(INTO)/share/man/man1/segywb.1 $(INTO)/share/man/man1/segywb-plot.1 $(INTO)/share/man/man1/segywb-report.1 $(INTO)/share/man/man1/segywb-desk.1
+	rm -f $(INTO)/share/man/man1/segywb.1 $(INTO)/share/man/man1/segywb-plot.1 $(INTO)/share/man/man1/segywb-report.1 $(INTO)/share/man/man1/segywb-desk.1 $(INTO)/share/man/man1/segywb-library.1
 	rm -f $(INTO)/share/man/man5/segywb-script.5
 	rm -f $(INTO)/share/bash-completion/completions/segywb
 	rm -f $(INTO)/share/zsh/site-functions/_segywb
@@ -91,7 +95,7 @@ uninstall:
 	rm -rf $(INTO)/share/doc/segywb
 
 # Speed: the program as ratios to cp and md5sum of the same file in the same run: the jobs of a repair, loads and saves, reports,
-# slices, renumberings, headers, a volume on disk, Python, the desk, and the order of traces at three sizes.
+# slices, renumberings, headers, a volume on disk, Python, the desk, a library of files, and the order of traces at three sizes.
 speed: build
 	cd crates/timings && { rt run > out.log 2>&1 || true; }
 	bash speed/jobs $(BUILT)
@@ -104,4 +108,5 @@ speed: build
 	bash speed/disk $(BUILT)
 	bash speed/python $(BUILT)
 	bash speed/desk $(BUILT)
+	bash speed/library $(BUILT)
 	bash speed/orders $(TIMINGS)

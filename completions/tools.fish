@@ -1,4 +1,4 @@
-# Completion of the command lines of segywb-plot, segywb-report and segywb-desk for fish.
+# Completion of the command lines of segywb-plot, segywb-report, segywb-desk and segywb-library for fish.
 complete -c segywb-plot -n '__fish_is_first_arg' -a 'fold slice coordinates histogram'
 complete -c segywb-plot -l script -r -F -d 'draw what is there after these edits'
 complete -c segywb-plot -l clip -x -d 'of a slice: the colours end here'
@@ -12,6 +12,31 @@ complete -c segywb-report -l opaque-samples -d 'read formats without values too,
 complete -c segywb-desk -l out -r -F -d 'the path that the Save box offers'
 complete -c segywb-desk -l port -x -d 'the port of the page'
 complete -c segywb-desk -l no-browser -d 'print the address alone'
+complete -c segywb-library -n '__fish_is_first_arg' -f -a 'scan merge report mend verify undo'
+complete -c segywb-library -l db -r -F -d 'the database'
+complete -c segywb-library -n '__fish_seen_subcommand_from scan' -l list -r -F -d 'a list of files in place of folders'
+complete -c segywb-library -n '__fish_seen_subcommand_from scan' -l part -x -d 'of the list only the part K/N'
+complete -c segywb-library -n '__fish_seen_subcommand_from scan' -l again -d 'read the files that have not changed too'
+complete -c segywb-library -n '__fish_seen_subcommand_from scan' -l follow -d 'follow symbolic links'
+complete -c segywb-library -n '__fish_seen_subcommand_from scan' -l workers -x -d 'processes of a Dask cluster on this machine'
+complete -c segywb-library -n '__fish_seen_subcommand_from scan' -l dask -x -d 'the scheduler of a Dask cluster'
+complete -c segywb-library -n '__fish_seen_subcommand_from scan mend undo' -l limit -x -d 'the time for a file, in seconds'
+complete -c segywb-library -n '__fish_seen_subcommand_from scan mend verify undo' -l jobs -x -d 'processes, or files, side by side'
+complete -c segywb-library -n '__fish_seen_subcommand_from scan merge mend' -l quiet -d 'tell less'
+complete -c segywb-library -n '__fish_seen_subcommand_from report' -l out -r -F -d 'the page'
+complete -c segywb-library -n '__fish_seen_subcommand_from report' -l csv -r -F -d 'the table'
+complete -c segywb-library -n '__fish_seen_subcommand_from mend' -l script -r -F -d 'the script'
+complete -c segywb-library -n '__fish_seen_subcommand_from mend' -l where -x -d 'a condition on the table file'
+complete -c segywb-library -n '__fish_seen_subcommand_from mend' -l out -r -F -d 'save below this folder'
+complete -c segywb-library -n '__fish_seen_subcommand_from mend' -l over -d 'save over the files themselves'
+complete -c segywb-library -n '__fish_seen_subcommand_from mend' -l keep -r -F -d 'keep the old bytes there'
+complete -c segywb-library -n '__fish_seen_subcommand_from mend undo' -l apply -d 'do it'
+complete -c segywb-library -n '__fish_seen_subcommand_from mend' -l dry-run -d 'write nothing'
+complete -c segywb-library -n '__fish_seen_subcommand_from mend' -l go-on -d 'save a file without its refused lines'
+complete -c segywb-library -n '__fish_seen_subcommand_from mend' -l fixed -d "read each trace with the binary header's number of samples"
+complete -c segywb-library -n '__fish_seen_subcommand_from mend' -l order -x -a 'big little' -d 'the order of bytes of a file that does not tell it'
+complete -c segywb-library -n '__fish_seen_subcommand_from undo' -l run -x -d 'the number of the mend'
+complete -c segywb-library -s h -l help -d 'print help'
 for tool in segywb-plot segywb-report segywb-desk
     complete -c $tool -l fixed -d "read each trace with the binary header's number of samples"
     complete -c $tool -l on-disk -d 'leave the bytes of the file on disk, for one larger than memory'

@@ -1,6 +1,6 @@
 #!/usr/bin/env bash
-# The end-to-end tests of a program: those of run.sh, and beside them those of the Python package, those of the desk and then the
-# recipes for many files (one after another, as each installs what it needs). What each prints stands together; the status is 1 where
+# The end-to-end tests of a program: those of run.sh, and beside them those of the Python package, those of the desk and of the
+# library, and then the recipes for many files (one after another, as each installs what it needs). What each prints stands together; the status is 1 where
 # one of them fails.
 # usage: tests/all.sh [PROGRAM]
 set -u
@@ -13,6 +13,7 @@ runs=$!
 status=0
 bash "$here/python.sh" "$program" || status=1
 bash "$here/desk.sh" "$program" || status=1
+bash "$here/library.sh" "$program" || status=1
 bash "$here/recipes.sh" "$program" || status=1
 wait "$runs" || status=1
 cat "$told"

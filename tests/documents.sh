@@ -32,7 +32,7 @@ runs_well 'man pages are made' bash "$top/tools/manpages" made
 runs_well 'the man pages are those of the manual' diff -r made "$top/man"
 runs_well 'the rows of the definitions' bash "$top/tools/definitions" --check
 runs_well 'the tables of the names' bash "$top/tools/names" --check
-for page in segywb.1 segywb-script.5 segywb-plot.1 segywb-report.1 segywb-desk.1; do
+for page in segywb.1 segywb-script.5 segywb-plot.1 segywb-report.1 segywb-desk.1 segywb-library.1; do
     if command -v mandoc > /dev/null; then same "mandoc on $page" "$(mandoc -Tlint "$top/man/$page" 2>&1)" ''; fi
     if command -v man > /dev/null && man --help 2>&1 | grep -q -- --warnings; then
         same "man on $page" "$(LC_ALL=C man --warnings -E UTF-8 -l -Tutf8 -Z "$top/man/$page" 2>&1 > /dev/null)" ''
@@ -110,9 +110,10 @@ if command -v fish > /dev/null; then runs_well 'the completion for fish' fish -n
 completed=$(bash -c '. "$1"; COMP_WORDS=(segywb --m); COMP_CWORD=1; _segywb; echo "${COMPREPLY[@]}"' - "$top/completions/segywb.bash")
 same 'bash completes a word' "$completed" --max-bytes
 
-# the tools' completions know the options of all three, and those of each where bash is asked
+# the tools' completions know the options of all four, and those of each where bash is asked
 desk_help() { PYTHONPATH="$top/python/src" "${PYTHON:-/usr/bin/python3}" -c 'from segywb.desk.cli import main; main(["--help"])'; }
-shown=$({ bash "$top/tools/segywb-plot" --help; bash "$top/tools/segywb-report" --help; desk_help; } 2>&1 | options)
+library_help() { for word in scan merge report mend verify undo; do PYTHONPATH="$top/python/src" "${PYTHON:-/usr/bin/python3}" -B -m segywb.library $word --help; done; }
+shown=$({ bash "$top/tools/segywb-plot" --help; bash "$top/tools/segywb-report" --help; desk_help; library_help; } 2>&1 | options)
 same 'bash completes the tools' "$(options < "$top/completions/tools.bash")" "$shown"
 same 'zsh completes the tools' "$(options < "$top/completions/_segywb_tools")" "$shown"
 same 'fish completes the tools' "$(sed -n 's/.* -l \([a-z-]*\).*/--\1/p' "$top/completions/tools.fish" | sort -u)" "$shown"
@@ -123,6 +124,8 @@ completed() { bash -c '. "$1"; COMP_WORDS=("${@:2}"); COMP_CWORD=$(($# - 2)); _s
 same 'bash completes a picture' "$(completed segywb-plot coord)" coordinates
 same 'bash completes an option of a tool' "$(completed segywb-desk --no)" --no-browser
 same 'and none of another tool' "$(completed segywb-report --cl)" ''
+same 'bash completes a command of a tool' "$(completed segywb-library me)" 'merge mend'
+same 'and its options' "$(completed segywb-library undo --r)" --run
 
 # ---- install and uninstall
 place() { (cd "$top" && env -u MAKEFLAGS -u MAKELEVEL -u MFLAGS make -s "$@" PROGRAM="$program" DESTDIR="$work/root" PREFIX=/opt/segywb); }
@@ -133,6 +136,7 @@ same 'what was installed' "$(cd root && find . -type f | grep -v examples | sort
 ./opt/segywb/bin/segywb-report
 ./opt/segywb/share/bash-completion/completions/segywb
 ./opt/segywb/share/bash-completion/completions/segywb-desk
+./opt/segywb/share/bash-completion/completions/segywb-library
 ./opt/segywb/share/bash-completion/completions/segywb-plot
 ./opt/segywb/share/bash-completion/completions/segywb-report
 ./opt/segywb/share/doc/segywb/COOKBOOK.md
@@ -141,10 +145,12 @@ same 'what was installed' "$(cd root && find . -type f | grep -v examples | sort
 ./opt/segywb/share/doc/segywb/LICENSE-MIT
 ./opt/segywb/share/doc/segywb/MANUAL.md
 ./opt/segywb/share/fish/vendor_completions.d/segywb-desk.fish
+./opt/segywb/share/fish/vendor_completions.d/segywb-library.fish
 ./opt/segywb/share/fish/vendor_completions.d/segywb-plot.fish
 ./opt/segywb/share/fish/vendor_completions.d/segywb-report.fish
 ./opt/segywb/share/fish/vendor_completions.d/segywb.fish
 ./opt/segywb/share/man/man1/segywb-desk.1
+./opt/segywb/share/man/man1/segywb-library.1
 ./opt/segywb/share/man/man1/segywb-plot.1
 ./opt/segywb/share/man/man1/segywb-report.1
 ./opt/segywb/share/man/man1/segywb.1

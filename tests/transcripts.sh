@@ -6,7 +6,7 @@
 #   sh told       with what standard error has for refused lines, which the other blocks leave out (--quiet)
 #   text status=N the last command's exit status, which is else 0
 # The blocks of one document share a folder, and are run one after another. `segywb` is the program that is tried, and the tools
-# for pictures and pages are there, and a stand-in for `sbatch` of Slurm.
+# for pictures and pages are there, `segywb-library`, and a stand-in for `sbatch` of Slurm.
 # usage: tests/transcripts.sh PROGRAM DOCUMENT.md..
 set -u
 here=$(cd "$(dirname "$0")" && pwd)
@@ -19,6 +19,8 @@ mkdir "$room/bin" "$room/told_too" "$room/home"
 printf '#!/bin/sh\nexec "%s" --quiet "$@"\n' "$PROGRAM" > "$room/bin/segywb"
 chmod +x "$room/bin/segywb"
 ln -s "$PROGRAM" "$room/told_too/segywb"
+printf '#!/bin/sh\nSEGYWB="%s" PYTHONPATH="%s" PYTHONDONTWRITEBYTECODE=1 exec "%s" -m segywb.library "$@"\n' "$PROGRAM" "$top/python/src" "${PYTHON:-/usr/bin/python3}" > "$room/bin/segywb-library"
+chmod +x "$room/bin/segywb-library"
 ln -s "$top/tools/segywb-plot" "$top/tools/segywb-report" "$here/sbatch" "$room/bin"
 export PROGRAM PATH="$room/bin:$PATH" HOME="$room/home" LC_ALL=C
 unset MAKEFLAGS MAKELEVEL MFLAGS PREFIX DESTDIR SEGYWB GNUPLOT

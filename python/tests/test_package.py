@@ -52,7 +52,7 @@ def test_install(installed):
     assert told == f"{installed}/segywb/__init__.py\n{program}\n"
     script = "from importlib import metadata as m; print(m.version('segywb'), m.requires('segywb'))"
     told = subprocess.run([sys.executable, "-c", script], env=clean, cwd="/", capture_output=True, text=True, check=True).stdout
-    wanted = ['numpy; extra == "numbers"', 'pandas; extra == "numbers"', 'matplotlib; extra == "pictures"', 'aiohttp; extra == "desk"', 'numpy; extra == "desk"', 'plotly; extra == "desk"']
+    wanted = ['numpy; extra == "numbers"', 'pandas; extra == "numbers"', 'matplotlib; extra == "pictures"', 'aiohttp; extra == "desk"', 'numpy; extra == "desk"', 'plotly; extra == "desk"', 'distributed; extra == "library"']
     assert told == f"{segywb.__version__} {wanted}\n"
 
 

@@ -1,0 +1,189 @@
+"""What the program says of a file: the questions, and the columns that their answers fill."""
+
+from __future__ import annotations
+
+import json
+import os
+import re
+from collections import Counter
+from fractions import Fraction
+from typing import Any, Dict, Iterator, List, Optional, Sequence, Tuple
+
+from .. import answers
+from .facts import Facts
+from .outlines import Point, hull
+from .sieve import HEAD_BYTES
+from .talk import Talk, accepted, rows
+
+BLOCK_BYTES = 3200
+MOST_BLOCKS = 100
+POINTS = 50
+WHICH = ("inline", "crossline", "offset", "x", "y")
+IN_MEMORY_BYTES = 1 << 26
+JUNK_BYTES = 1 << 24
+_INSIDE = re.compile(r"ends (\d+) bytes? inside trace")
+_GOLDEN = 0.6180339887498949
+
+# Programs that answered `problems` by an unknown word, by path: they are asked for `faults`.
+_older: Dict[str, bool] = {}
+
+
+def options(size: int, option: str) -> List[str]:
+    """How a file of so many bytes is read: a large one is left on disk."""
+    return [option, *(["--on-disk"] if size > IN_MEMORY_BYTES else [])]
+
+
+def ask(talk: Talk, facts: Facts, path: str) -> Tuple[int, int]:
+    """Fills the columns; how many bytes stand in front of the traces, and how many behind them."""
+    report = "faults" if _older.get(path) else "problems"
+    talk.send(["info", "getbin interval", *(f"range {which}" for which in WHICH), "inlines", "crosslines", "code 0", "lines 0", report])
+    info = answers.info(talk.one())
+    columns = facts.columns
+    columns.update(
+        byte_order=info.order, revision=info.revision, format=info.format, samples=info.samples, fixed=int(info.fixed), extensions=info.extensions,
+        blocks=info.blocks, trailer=info.trailer, traces=info.traces, interval=answers.number(talk.one(), "value"),
+    )
+    for which in WHICH:
+        span = answers.span(talk.one())
+        least, greatest = span if span is not None else (None, None)
+        columns[f"least_{which}"], columns[f"greatest_{which}"] = _number(least), _number(greatest)
+    ends = []
+    for which in ("inline", "crossline"):
+        columns[f"{which}s"], first, last = _lines(talk, which)
+        ends += [first, info.traces - last + 1]
+    columns["alphabet"] = answers.name(talk.one(), "code")
+    facts.texts.append((0, _block(talk.answer())))
+    facts.problems = _problems(talk, report, path)
+    _more(talk, facts, info, positions(info.traces, ends))
+    # The manual's cut of a file: texts of 3200 bytes behind the two headers, then the traces, then trailer records of 3200 bytes.
+    return HEAD_BYTES + BLOCK_BYTES * info.blocks, BLOCK_BYTES * info.trailer
+
+
+def _lines(talk: Talk, which: str) -> Tuple[int, int, int]:
+    """How many inlines (or crosslines) there are, and how many traces the first and the last one have."""
+    count = first = last = 0
+    for words in rows(talk.answer(), f"{which}s"):
+        last = int(words[2])
+        first = first or last
+        count += 1
+    return count, first, last
+
+
+def _number(value: Optional[Fraction]) -> Any:
+    return None if value is None else value.numerator if value.denominator == 1 and abs(value.numerator) < 1 << 63 else float(value)
+
+
+def _block(lines: Iterator[str]) -> str:
+    """The lines of a block of text, without the blank ones at its end."""
+    told = list(lines)
+    accepted(told[0] if told else "")
+    if not all(line.startswith("line |") and line.endswith("|") for line in told[1:]):
+        raise answers.unexpected(told[0])
+    return "\n".join([line[6:-1] for line in told[1:]]).rstrip("\n")
+
+
+def _problems(talk: Talk, report: str, path: str) -> Dict[str, int]:
+    """How often each code stands in the report, of a program that may not know it."""
+    lines = talk.answer()
+    head = next(lines, "")
+    if report == "problems" and head.startswith("refused S01 "):
+        list(lines)
+        _older[path] = True
+        talk.send(["faults"])
+        return _problems(talk, "faults", path)
+    accepted(head)
+    return counted(lines)
+
+
+def counted(lines: Iterator[str]) -> Dict[str, int]:
+    """How many traces or lines each code is told of: it stands once for each, but for ``CODE lines N``.
+
+    >>> counted(iter(["F8 lines 3", "F6 trace 5 first 1", "F6 trace 6 first 2"]))
+    {'F6': 2, 'F8': 3}
+    """
+    found: Counter[str] = Counter()
+    for line in lines:
+        code, _, rest = line.partition(" ")
+        found[code] += int(rest[6:]) if rest.startswith("lines ") and rest[6:].isdigit() else 1
+    return dict(sorted(found.items()))
+
+
+def _more(talk: Talk, facts: Facts, info: answers.Info, points: List[int]) -> None:
+    """The questions that need the number of traces or of blocks."""
+    blocks = range(1, min(info.blocks, MOST_BLOCKS) + 1)
+    talk.send([*(f"extremes 1 {info.traces}" for _ in range(1) if info.traces), *(f"geometry {at}" for at in points)])
+    if info.traces:
+        facts.headers = [(name, *_four(words)) for _, name, *words in rows(talk.answer(), "extremes")]
+        facts.columns["outline"] = json.dumps(hull([_place(talk.one()) for _ in points]))
+    for block in blocks:
+        talk.send([f"lines {block}"])
+        facts.texts.append((block, _block(talk.answer())))
+    spans = {name: (least, greatest) for name, least, greatest, _, _ in facts.headers}
+    scalars = spans.get("scalar", (0, 0) if info.traces else (None, None))
+    facts.columns["least_scalar"], facts.columns["greatest_scalar"] = scalars
+    facts.columns["least_length"], facts.columns["greatest_length"] = lengths(info, spans.get("samples"), facts.problems.get("F2", 0))
+
+
+def _place(line: str) -> Point:
+    """Where a trace lies, of the answer of `geometry`: floats are enough for an outline, and fractions take long.
+
+    >>> _place("geometry inline 1 crossline 2 offset 0 x 90005/2 y 680000")
+    (45002.5, 680000.0)
+    """
+    words = line.split(" ")
+    if len(words) != 11 or words[7] != "x" or words[9] != "y":
+        raise answers.unexpected(line)
+    return _ratio(words[8]), _ratio(words[10])
+
+
+def _ratio(word: str) -> float:
+    above, _, below = word.partition("/")
+    return int(above) / int(below or 1)
+
+
+def _four(words: Sequence[str]) -> Tuple[int, int, int, int]:
+    least, greatest, first, last = map(_whole, words)
+    return least, greatest, first, last
+
+
+def _whole(word: str) -> int:
+    """SQLite's whole numbers end at 63 bits: the few above them, of unsigned fields of eight bytes, are told as that bound."""
+    return min(int(word), (1 << 63) - 1)
+
+
+def positions(traces: int, ends: Sequence[int]) -> List[int]:
+    """Some traces all over the file, without a step that lines of one length could fall in with, and those at the ends of lines.
+
+    Where the traces stand in the order of their lines, these are the corners of the survey.
+
+    >>> positions(3, [1, 3]), len(positions(1000, [10, 991])), positions(1000, [])[-1]
+    ([1, 2, 3], 52, 1000)
+    """
+    if traces <= POINTS:
+        return list(range(1, traces + 1))
+    middle = {1 + int(traces * (_GOLDEN * step % 1.0)) for step in range(1, POINTS - 1)} | {1, traces}
+    return sorted(middle | {at for at in ends if 1 <= at <= traces})
+
+
+def lengths(info: answers.Info, told: Optional[Tuple[int, int]], wrong: int) -> Tuple[Optional[int], Optional[int]]:
+    """The least and the greatest number of samples of a trace, where what the program says settles them.
+
+    ``told`` are the extremes of bytes 115-116, ``wrong`` the number of traces that are not as long as these bytes tell (F2).
+    """
+    if not info.traces:
+        return None, None
+    if info.fixed:
+        return info.samples, info.samples
+    if told is None and not info.extensions:
+        return info.samples, info.samples
+    return told if told is not None and told[0] > 0 and not wrong else (None, None)
+
+
+def trailing(descriptor: int, size: int, hint: str) -> Dict[str, Any]:
+    """What stands behind the last whole trace of a file that ends inside one (L14). The hint says how many bytes that is."""
+    told = _INSIDE.search(hint)
+    if not told:
+        return {}
+    rest = int(told[1])
+    tail = os.pread(descriptor, rest, size - rest) if rest <= JUNK_BYTES else b"?"
+    return {"trailing_bytes": rest, "trailing_zeros": int(not any(tail))}

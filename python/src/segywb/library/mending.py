@@ -1,0 +1,184 @@
+"""The commands that change files, and keep the trail of it: mend, verify, undo."""
+
+from __future__ import annotations
+
+import json
+import os
+import sqlite3
+from contextlib import closing
+from typing import Any, Dict, Iterator, List
+
+from . import asking, schema, script, talk, verify
+from .change import Maker
+from .choose import Chosen, WrongCondition, chosen, one
+from .mend import Again, Mend, Outcome, Plan, clashing, counted, side_by_side, summary
+from .names import shown
+from .reading import limit_of
+from .trail import Lock, Run, Trail
+from .words import Unwanted, source
+
+
+def mend(told: Any) -> int:
+    """Runs the script on each chosen file: dry, or with --apply. The status is 1 where one was refused, left or failed."""
+    plan = _plan(told)
+    program = talk.found()
+    with closing(schema.read_only(told.db)) as database:
+        try:
+            numbers = chosen(database, told.where)
+        except WrongCondition as error:
+            raise Unwanted(f"{error}: nothing was run") from error
+        clash = clashing(plan, _each(database, numbers))
+        if clash:
+            raise Unwanted(f"{shown(clash[0])} and {shown(clash[1])} would be saved to one path: nothing was run")
+        print(_taken_back(plan))
+        if not told.apply:
+            outcomes = _run(told, Mend(plan, _maker(told, program.option, None), None, 0, None), _each(database, numbers), False)
+            print(f"{summary(outcomes, False)}\nNothing was written: --apply does it.")
+        else:
+            outcomes = _applied(told, plan, program, _each(database, numbers))
+    return 1 if any(outcomes[event][0] for event in ("refused", "left", "failed")) else 0
+
+
+def _plan(told: Any) -> Plan:
+    if told.over == (told.out is not None):
+        raise Unwanted("mend wants --over or --out, one of them")
+    if told.keep is not None and not told.over:
+        raise Unwanted("--keep is for --over: with --out the files stay as they are")
+    with source(told.script) as file:
+        made = script.of(file.read(script.MOST_BYTES + 1))
+    if len(made.data) > script.MOST_BYTES:
+        raise Unwanted(f"the script has more than {script.MOST_BYTES} bytes")
+    folder, kept = (None if one is None else os.path.abspath(one) for one in (told.out, told.keep))
+    return Plan(made, folder, kept, told.over and kept is None and not told.go_on and script.all_sets(made))
+
+
+def _taken_back(plan: Plan) -> str:
+    """What undo can do later: it is said before anything is done."""
+    if plan.folder is not None:
+        return "The files stay as they are; what is saved goes below the folder."
+    if plan.keep is not None:
+        return f"The old bytes are kept in {shown(plan.keep)}: undo can take this back."
+    if plan.back:
+        return "All edits set numbers, and the old ones are kept: undo can take this back."
+    return "The old bytes are not kept: undo CANNOT take this back. --keep FOLDER keeps them."
+
+
+def _maker(told: Any, option: str, held: Any) -> Maker:
+    more = [*(["--fixed"] if told.fixed else []), *(["--order", told.order] if told.order else [])]
+    return Maker(lambda size: [*asking.options(size, option), *more], not told.go_on, lambda size: limit_of(size, told.limit), held)
+
+
+def _each(database: sqlite3.Connection, numbers: List[int]) -> Iterator[Chosen]:
+    for number in numbers:
+        row = one(database, number)
+        if row is not None:
+            yield row
+
+
+def _run(told: Any, run: Mend, some: Iterator[Chosen], done: bool) -> Dict[str, List[int]]:
+    def each() -> Iterator[Outcome]:
+        for outcome in side_by_side(run.one, some, told.jobs or len(os.sched_getaffinity(0))):
+            if not told.quiet:
+                print(outcome.told(done))
+            yield outcome
+
+    return counted(each())
+
+
+def _applied(told: Any, plan: Plan, program: talk.Program, some: Iterator[Chosen]) -> Dict[str, List[int]]:
+    lock = Lock(told.db)
+    try:
+        with schema.opened(schema.existing, told.db) as database:
+            trail = Trail(database)
+            _settled(trail)
+            maker = _maker(told, program.option, lock.descriptor)
+            options = json.dumps({"fixed": told.fixed, "order": told.order, "go_on": told.go_on})
+            number = trail.begin(Run("mend", plan.script, told.where, options, plan.folder, plan.keep), program)
+            again = Again(database, trail, number, program, told.limit) if plan.folder is None else None
+            outcomes = _run(told, Mend(plan, maker, trail, number, again), some, True)
+            if again is not None:
+                again.end()
+            print(f"{summary(outcomes, True)}\nThis was run {number}: the trail has it.")
+            return outcomes
+    finally:
+        lock.close()
+
+
+def _settled(trail: Trail) -> None:
+    for path, event in trail.settle():
+        print(f"{shown(path)}: a run was killed here; {'it was saved' if event == 'saved' else 'it is as it was' if event == 'left' else 'it DIFFERS'}")
+
+
+def verified(told: Any) -> int:
+    """Compares the files with the trail. The status is 1 where one differs."""
+    lock = Lock(told.db)
+    try:
+        with schema.opened(schema.existing, told.db) as database:
+            trail = Trail(database)
+            _settled(trail)
+            same = wrong = 0
+            for found in verify.verified(trail, told.jobs or len(os.sched_getaffinity(0))):
+                if found.told:
+                    wrong += 1
+                    print(f"{shown(found.target)}: {found.told}")
+                else:
+                    same += 1
+    finally:
+        lock.close()
+    print(f"{same:,} files are what the trail says, {wrong:,} are not")
+    return 1 if wrong else 0
+
+
+def undo(told: Any) -> int:
+    """Tells what of a run can be taken back, and does it with --apply. The status is 1 where something cannot."""
+    program = talk.found()
+    lock = Lock(told.db)
+    try:
+        with schema.opened(schema.existing, told.db) as database:
+            trail = Trail(database)
+            _settled(trail)
+            run = _run_of(trail, told.run_number)
+            told.fixed, told.order, told.go_on = run["fixed"], run["order"], False
+            taken = verify.Undo(trail, _maker(told, program.option, lock.descriptor), told.run_number)
+            steps = list(taken.steps(told.jobs or len(os.sched_getaffinity(0))))
+            for step in steps:
+                print(f"{shown(step.path)}: {step.why or ('from the bytes that were kept' if step.kept else 'by the script of its old numbers')}")
+            print(verify.told_of(steps))
+            if not told.apply or all(step.why for step in steps):
+                print("Nothing was written" + ("." if told.apply else ": --apply does it."))
+                return 1 if any(step.why for step in steps) else 0
+            return _take_back(told, database, trail, taken, steps, program)
+    finally:
+        lock.close()
+
+
+def _run_of(trail: Trail, number: int) -> Dict[str, Any]:
+    rows = trail.rows("SELECT kind, folder, options FROM mend WHERE id = ?", number)
+    if not rows:
+        raise Unwanted(f"there is no run {number}")
+    if rows[0]["kind"] != "mend":
+        raise Unwanted(f"run {number} is itself an undo: mend again what it took back")
+    if rows[0]["folder"] is not None:
+        raise Unwanted(f"run {number} changed no file: what it saved is below {rows[0]['folder']}")
+    options: Dict[str, Any] = json.loads(rows[0]["options"])
+    return options
+
+
+def _take_back(
+    told: Any, database: sqlite3.Connection, trail: Trail, taken: verify.Undo, steps: List[verify.Step], program: talk.Program
+) -> int:
+    options = json.dumps({"fixed": told.fixed, "order": told.order, "go_on": False})
+    number = trail.begin(Run("undo", None, None, options, None, None, told.run_number), program)
+    again = Again(database, trail, number, program, told.limit)
+    done = 0
+    for step in steps:
+        if not step.why:
+            saved, why = taken.take_back(step, number)
+            done += saved
+            if saved:
+                again(step.path)
+            else:
+                print(f"{shown(step.path)}: failed: {why}")
+    again.end()
+    print(f"{done:,} files were taken back. This was run {number}: the trail has it.")
+    return 0 if done == len(steps) else 1

@@ -1,0 +1,123 @@
+"""A file is read: what it is taken for, what the program says of it, its digests."""
+
+from __future__ import annotations
+
+import hashlib
+import os
+import stat
+import time
+from typing import List, Optional, Tuple
+
+from ..errors import Error
+from . import asking, digests, sieve, talk
+from .facts import READ, REFUSED, Facts, Stamp, Task, failed, stamp
+
+# A file that was written so short a time ago may change once more without other times: those of most disks step every few milliseconds,
+# those that have whole seconds every one or two.
+STEP = 20_000_000
+LONG_STEP = 2_000_000_000
+SECOND = 1_000_000_000
+BYTES_A_SECOND = 10_000_000
+CHANGED = "it was changed while it was read"
+TWICE = 2
+
+
+class Changed(Exception):
+    """Another program changed the file meanwhile."""
+
+
+def limit_of(size: int, seconds: float) -> float:
+    """How long a file may take: so many seconds, and one more for each 10 MB."""
+    return seconds + size / BYTES_A_SECOND
+
+
+def read(task: Task, seconds: float) -> Facts:
+    """What is found of a file, whatever happens."""
+    deadline = time.monotonic() + limit_of(task.size, seconds)
+    try:
+        for _ in range(TWICE):
+            try:
+                return _read(task, deadline)
+            except Changed:
+                continue
+        return failed(task, CHANGED)
+    except digests.Slow:
+        return failed(task, f"no answer within {limit_of(task.size, seconds):.0f} s")
+    except OSError as error:
+        return failed(task, error.strerror or str(error))
+    except (talk.Trouble, Error) as error:
+        return failed(task, str(error))
+
+
+def read_many(tasks: List[Task], seconds: float) -> List[Facts]:
+    """The same of several files, in a worker of a cluster."""
+    return [read(task, seconds) for task in tasks]
+
+
+def _read(task: Task, deadline: float) -> Facts:
+    # Without O_NONBLOCK a pipe that took the file's name would be waited for.
+    descriptor = os.open(task.path, os.O_RDONLY | os.O_NONBLOCK | os.O_CLOEXEC)
+    try:
+        now = time.time_ns()
+        begun = os.fstat(descriptor)
+        if not stat.S_ISREG(begun.st_mode):
+            return Facts(task, {**stamp(begun)._asdict(), "settled": 0}, other="no file")
+        facts = Facts(task, {**stamp(begun)._asdict(), "settled": int(settled(stamp(begun), now))})
+        facts.other = sieve.passed_over(_head(descriptor)) or ""
+        if not facts.other:
+            _fill(facts, descriptor, deadline)
+        if stamp(os.fstat(descriptor)) != stamp(begun) or stamp(os.stat(task.path)) != stamp(begun):
+            raise Changed
+        return facts
+    finally:
+        os.close(descriptor)
+
+
+def settled(seen: Stamp, now: int) -> bool:
+    """Whether a change from now on is sure to change the times."""
+    last = max(seen.modified, seen.changed)
+    whole = seen.modified % SECOND == 0 and seen.changed % SECOND == 0
+    return now - last > (LONG_STEP if whole else STEP)
+
+
+def _head(descriptor: int) -> bytes:
+    head = b""
+    while len(head) < sieve.HEAD_BYTES:
+        more = os.pread(descriptor, sieve.HEAD_BYTES - len(head), len(head))
+        if not more:
+            break
+        head += more
+    return head
+
+
+def _fill(facts: Facts, descriptor: int, deadline: float) -> None:
+    """The program's answers, and the digests."""
+    size = facts.columns["size"]
+    program = talk.found()
+    facts.columns["program"] = program.version
+    span: Optional[Tuple[int, int]] = None
+    try:
+        with talk.Talk(descriptor, asking.options(size, program.option), deadline) as asked:
+            before, behind = asking.ask(asked, facts, program.path)
+        facts.columns["state"] = READ
+        span = (before, size - behind) if facts.columns["traces"] else None
+    except talk.LoadRefused as refusal:
+        facts.columns.update(state=REFUSED, refusal=refusal.code, refusal_text=refusal.text, hint=refusal.hint)
+        if refusal.code == "L14":
+            facts.columns.update(asking.trailing(descriptor, size, refusal.hint))
+    facts.columns.update(digests.of(descriptor, size, span, deadline)._asdict())
+
+
+def digest(path: bytes) -> Optional[str]:
+    """The digest of a file as it is now; of one that is not there none."""
+    try:
+        descriptor = os.open(path, os.O_RDONLY | os.O_NONBLOCK | os.O_CLOEXEC)
+    except (FileNotFoundError, NotADirectoryError):
+        return None
+    try:
+        whole = hashlib.sha256()
+        for _, block in digests.blocks(descriptor, float("inf")):
+            whole.update(block)
+        return whole.hexdigest()
+    finally:
+        os.close(descriptor)

@@ -1,0 +1,70 @@
+"""The script of a mend: its lines, and what takes them back."""
+
+from __future__ import annotations
+
+import hashlib
+from typing import List, NamedTuple, Optional, Tuple
+
+from ..lines import silent
+
+MOST_BYTES = 16777216
+MOST_REVERSE = 1 << 20
+# Lines that change nothing of a file, and lines that set a number, with the word that asks for it.
+_ASKING = frozenset(
+    "get getbin table find header extremes fields line lines code stanzas sample count info geometry stat totals range fold grid inlines crosslines "
+    "histogram slice faults problems".split()
+)
+_SETTING = {b"set": b"get", b"bin": b"getbin"}
+
+
+class Script(NamedTuple):
+    """A script: its bytes, its lines, and its digest."""
+
+    data: bytes
+    lines: List[bytes]
+    sha256: str
+
+
+def of(data: bytes) -> Script:
+    """A script of these bytes."""
+    lines = data.split(b"\n")
+    if lines[-1] == b"":
+        lines.pop()
+    return Script(data, lines, hashlib.sha256(data).hexdigest())
+
+
+def all_sets(script: Script) -> bool:
+    """Whether each edit of it sets a number, so that the numbers of before take it back."""
+    return len(script.data) <= MOST_REVERSE and all(_word(line) in _SETTING or _asks(line) for line in script.lines if not silent(line))
+
+
+def _word(line: bytes) -> bytes:
+    return (line.split() or [b""])[0]
+
+
+def _asks(line: bytes) -> bool:
+    return _word(line).decode("ascii", "replace") in _ASKING
+
+
+def questions(script: Script) -> List[Optional[bytes]]:
+    """For each line of it that sets a number the line that asks for it, else nothing.
+
+    >>> questions(of(b"set 5 inline 102\\n# why\\nbin job 7\\n"))
+    [b'get 5 inline', None, b'getbin job']
+    """
+    asked: List[Optional[bytes]] = []
+    for line in script.lines:
+        words = line.split()
+        ask = _SETTING.get(words[0]) if words else None
+        asked.append(b" ".join([ask, *words[1:-1]]) if ask else None)
+    return asked
+
+
+def reverse(script: Script, before: List[Tuple[int, bytes]]) -> bytes:
+    """The script that takes the sets back: the last first, each with the number of before, by the number of its line.
+
+    >>> reverse(of(b"set 5 inline 102\\nset 5 inline 103\\n"), [(0, b"101"), (1, b"102")])
+    b'set 5 inline 102\\nset 5 inline 101\\n'
+    """
+    made = [b" ".join([*script.lines[at].split()[:-1], number]) + b"\n" for at, number in before]
+    return b"".join(reversed(made))

@@ -1,0 +1,103 @@
+"""The trail: what was done to which file, in tables that are only added to."""
+
+from __future__ import annotations
+
+import fcntl
+import os
+import sqlite3
+import sys
+import threading
+from typing import Any, Dict, List, NamedTuple, Optional, Tuple
+
+from . import store
+from .names import path_of
+from .reading import digest
+from .schema import transaction
+from .script import Script
+from .talk import Program
+
+_COLUMNS = ("mend", "at", "path", "target", "event", "before_sha256", "after_sha256", "bytes_changed", "status", "answers", "told", "kept", "reverse")
+_PUT = f"INSERT INTO trail ({', '.join(_COLUMNS)}) VALUES ({', '.join('?' * len(_COLUMNS))})"
+_OPEN = "SELECT * FROM trail AS one WHERE event = 'begun' AND id = (SELECT max(id) FROM trail WHERE target = one.target AND mend = one.mend)"
+
+
+class Run(NamedTuple):
+    """What a mend is: its kind, script, condition and reading, and where it saves and keeps."""
+
+    kind: str
+    script: Optional[Script]
+    condition: Optional[str]
+    options: str
+    folder: Optional[str]
+    keep: Optional[str]
+    undoes: Optional[int] = None
+
+
+class Lock:
+    """Held by a mend and by each program that it runs, so that the next one sees when the last of them has ended, however that was."""
+
+    def __init__(self, database: str) -> None:
+        self.descriptor = os.open(f"{database}-lock", os.O_RDWR | os.O_CREAT | os.O_CLOEXEC, 0o666)
+        try:
+            fcntl.flock(self.descriptor, fcntl.LOCK_EX | fcntl.LOCK_NB)
+        except BlockingIOError:
+            print("segywb-library: waiting for another mend, or the last program of one that was killed, to end ..", file=sys.stderr, flush=True)
+            fcntl.flock(self.descriptor, fcntl.LOCK_EX)
+
+    def close(self) -> None:
+        """Lets go of it."""
+        os.close(self.descriptor)
+
+
+class Trail:
+    """The trail of a database. What is added to it is on the disk before anything else is done."""
+
+    def __init__(self, database: sqlite3.Connection) -> None:
+        self._database = database
+        self._guard = threading.Lock()
+        database.execute("PRAGMA synchronous = FULL")
+
+    def begin(self, run: Run, program: Program) -> int:
+        """The row of a run that begins; its number."""
+        script = run.script
+        row = (
+            run.kind, store.now(), store.user(), store.host(), program.version, store.digest_of(program.path), script.data if script else None,
+            script.sha256 if script else None, run.condition, run.options, run.folder, run.keep, run.undoes,
+        )
+        columns = "kind, begun, user, host, program, program_sha256, script, script_sha256, condition, options, folder, keep, undoes"
+        with self._guard, transaction(self._database):
+            made = self._database.execute(f"INSERT INTO mend ({columns}) VALUES ({', '.join('?' * len(row))})", row)
+        return int(made.lastrowid or 0)
+
+    def add(self, mend: int, path: str, target: str, event: str, **more: Any) -> None:
+        """One more row."""
+        row = {"mend": mend, "at": store.now(), "path": path, "target": target, "event": event, **more}
+        with self._guard, transaction(self._database):
+            self._database.execute(_PUT, [row.get(column) for column in _COLUMNS])
+
+    def guarded(self) -> threading.Lock:
+        """Whoever writes other rows over the same connection holds this."""
+        return self._guard
+
+    def rows(self, query: str, *values: Any) -> List[Dict[str, Any]]:
+        """The rows of a query, by the names of their columns."""
+        with self._guard:
+            asked = self._database.execute(query, values)
+            names = [column[0] for column in asked.description]
+            return [dict(zip(names, row)) for row in asked.fetchall()]
+
+    def settle(self) -> List[Tuple[str, str]]:
+        """Saves of runs that were killed: what stands there now tells whether they were made. Each is told in the trail, by its path and event."""
+        settled = []
+        for row in self.rows(_OPEN):
+            there = digest(path_of(row["target"]))
+            same = {name: row[name] for name in ("before_sha256", "after_sha256", "bytes_changed", "kept", "reverse", "answers")}
+            if there == row["after_sha256"]:
+                event, told = "saved", "the run was killed behind this save"
+            elif there is None or there == row["before_sha256"]:
+                event, told = "left", "the run was killed before this save"
+            else:
+                event, told = "failed", "the run was killed, and the file has other bytes than those before and behind the save"
+            self.add(row["mend"], row["path"], row["target"], event, told=told, **same)
+            settled.append((row["target"], event))
+        return settled

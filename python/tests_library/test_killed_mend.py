@@ -1,0 +1,91 @@
+"""Mends that are killed: each file is old or new, and the trail says which."""
+
+import hashlib
+import os
+import random
+import signal
+import time
+
+import pytest
+from conftest import TOP, library, rows, settle, started
+
+COUNT, MOMENTS = 500, 20
+FIX = "renumber 5 8 inline 102 0\n"
+
+
+@pytest.fixture
+def wrong(tmp_path):
+    """Many copies of the wrong line, each a little else, and their database."""
+    folder = tmp_path / "files"
+    folder.mkdir()
+    data = bytearray((TOP / "examples" / "wrong_line.sgy").read_bytes())
+    for number in range(COUNT):
+        data[3212:3214] = number.to_bytes(2, "big")
+        (folder / f"{number}.sgy").write_bytes(data)
+    settle()
+    database = tmp_path / "lib.db"
+    library("scan", "--db", database, "--quiet", folder)
+    (tmp_path / "fix.txt").write_text(FIX)
+    return folder, database
+
+
+def digests(folder):
+    return {str(path): hashlib.sha256(path.read_bytes()).hexdigest() for path in folder.glob("*.sgy")}
+
+
+def states(database):
+    """What the trail says of each file: whether its last save was made. A file that was only left is what it was before."""
+    last = "SELECT max(id) FROM trail WHERE target = one.target AND before_sha256 IS NOT NULL"
+    query = f"SELECT target, event, before_sha256, after_sha256 FROM trail AS one WHERE id = ({last})"
+    return {target: (event, before, after) for target, event, before, after in rows(database, query)}
+
+
+def test_killed_at_many_moments(wrong, tmp_path):
+    folder, database = wrong
+    old = digests(folder)
+    fixed = bytearray((TOP / "examples" / "cube.sgy").read_bytes())
+    new = {}
+    for number in range(COUNT):
+        fixed[3212:3214] = number.to_bytes(2, "big")
+        new[str(folder / f"{number}.sgy")] = hashlib.sha256(fixed).hexdigest()
+    where = "id IN (SELECT file FROM problem WHERE code = 'F6')"
+    words = ["mend", "--db", database, "--script", tmp_path / "fix.txt", "--where", where, "--over", "--apply", "--quiet"]
+    dice, killed = random.Random(5), 0
+    for moment in range(MOMENTS):
+        done = rows(database, "SELECT count(*) FROM trail")[0][0]
+        mend = started(*words)
+        until = time.monotonic() + 60
+        while rows(database, "SELECT count(*) FROM trail")[0][0] <= done + dice.randint(0, 30) and mend.poll() is None and time.monotonic() < until:
+            time.sleep(0.01)
+        os.kill(mend.pid, signal.SIGKILL)
+        killed += mend.wait() == -signal.SIGKILL
+        told = library("verify", "--db", database)
+        assert " 0 are not" in told and "DIFFERS" not in told
+        now, trail = digests(folder), states(database)
+        for path, digest in now.items():
+            assert digest in (old[path], new[path])
+            event, before, after = trail.get(path, ("left", old[path], None))
+            assert digest == (after if event == "saved" else before) and (event == "saved") == (digest == new[path])
+    assert killed >= MOMENTS - 4
+    library("scan", "--db", database, "--quiet", folder)  # of a file between its save and its row the row is still the old one
+    library(*words)
+    assert digests(folder) == new
+    assert rows(database, "SELECT count(*) FROM problem") == [(0,)]
+    assert f"{COUNT} files are what the trail says, 0 are not" in library("verify", "--db", database)
+    assert not [name for name in os.listdir(folder) if ".segywb-" in name]
+
+
+def test_interrupted(wrong, tmp_path):
+    """Ctrl-C lets the files that are at work come to their end."""
+    folder, database = wrong
+    old = digests(folder)
+    mend = started("mend", "--db", database, "--script", tmp_path / "fix.txt", "--where", "1", "--over", "--apply", "--quiet", "--keep", tmp_path / "keep")
+    while rows(database, "SELECT count(*) FROM trail")[0][0] < 20 and mend.poll() is None:
+        time.sleep(0.005)
+    mend.send_signal(signal.SIGINT)
+    assert mend.wait(60) == 130
+    assert " 0 are not" in library("verify", "--db", database)
+    now, trail = digests(folder), states(database)
+    assert {path for path in now if now[path] != old[path]} == {path for path, (event, _, _) in trail.items() if event == "saved"}
+    library("undo", "--db", database, "--run", "1", "--apply")
+    assert digests(folder) == old

@@ -117,8 +117,6 @@ for call in $(seq 1 20); do
     tell "a statistic of floats, read $call fails" "$outcome"
 done
 case $met in *stat*) tell 'some statistic of floats met it' ok ;; *) tell 'some statistic of floats met it' 'none did' ;; esac
-env $library DEVICE=s.sgy FAIL_CALL=1 "$program" s.sgy --on-disk --script script > answers 2> errors
-[ "$(< answers)" = 'load refused L01 read failed' ] && tell 'the first read is of the load' ok || tell 'the first read is of the load' "$(< answers)"
 
 # ---- a set of an inline reads nothing: whichever read fails, it is done where the file was loaded (and below, where the trace is cut off)
 printf 'set 2 @189:4 7\nrenumber 1 3 @193:4 5 1\n' > script

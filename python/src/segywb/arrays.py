@@ -6,7 +6,7 @@ import importlib
 import warnings
 from typing import Any, List, Optional, Sequence, Tuple
 
-from .answers import unexpected
+from .answers import floating, unexpected
 
 
 def numpy() -> Any:
@@ -40,6 +40,34 @@ def parse(data: bytes, count: int, unsigned: bool = False) -> Any:
     if len(found) != count:
         raise unexpected(data[:200].decode("utf-8", "replace"))
     return found if np is None or count else np.empty(0, dtype=np.uint64 if unsigned else np.int64)
+
+
+def floats(data: bytes, count: int, narrow: bool = False) -> Any:
+    """So many decimals between blanks and line feeds, as float64, or ``narrow`` as the float32 that each of them was printed for."""
+    np = numpy()
+    words = data.split()
+    if len(words) != count:
+        raise unexpected(data[:200].decode("utf-8", "replace"))
+    try:
+        if np is None:
+            return [floating(word.decode("ascii"), narrow) for word in words]
+        wide = np.array([float(word) for word in words], dtype=np.float64)
+    except ValueError:
+        raise unexpected(data[:200].decode("utf-8", "replace")) from None
+    if not narrow:
+        return wide
+    made = wide.astype(np.float32)
+    for at in np.flatnonzero(_halfway(np, wide, made)).tolist():
+        made[at] = floating(words[at].decode("ascii"), True)
+    return made
+
+
+def _halfway(np: Any, wide: Any, narrow: Any) -> Any:
+    """Where a value of 8 bytes lies halfway between two of 4 bytes: it may have been rounded to there."""
+    with np.errstate(all="ignore"):
+        exact = narrow.astype(np.float64)
+        beside = [(exact + np.nextafter(narrow, np.float32(to)).astype(np.float64)) / 2 == wide for to in (-np.inf, np.inf)]
+        return (wide != exact) & (beside[0] | beside[1]) & np.isfinite(wide)
 
 
 def _plain(data: bytes) -> List[int]:

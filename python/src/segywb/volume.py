@@ -521,10 +521,11 @@ class Volume:
         first, _, rest = told.partition(b"\n")
         count = answers.number(lines.decode(first), head)
         numbers = rest.replace(encode(row) + b" ", b"")
-        if types[-1] != "i8":
+        if types[-1] in ("f4", "f8"):
+            columns: List[Any] = arrays.floats(numbers, count, types[-1] == "f4", len(names))
+        elif types[-1] == "u8":
             plain = numbers.split()
-            columns: List[Any] = [arrays.parse(b" ".join(plain[at::len(names)]), count) for at in range(len(names) - 1)]
-            columns.append(self._numbers(b" ".join(plain[len(names) - 1::len(names)]), count))
+            columns = [arrays.parse(b" ".join(plain[at::len(names)]), count, at == len(names) - 1) for at in range(len(names))]
         else:
             flat = arrays.parse(numbers, count * len(names))
             columns = [flat[at::len(names)] for at in range(len(names))]

@@ -2,8 +2,8 @@
 _segywb_tool() {
     local tool=${COMP_WORDS[0]##*/} word=${COMP_WORDS[COMP_CWORD]} before=${COMP_WORDS[COMP_CWORD - 1]} words='' pictures=''
     case $tool in
-        segywb-plot) words='--script --fixed --floats --opaque-samples --on-disk --order --max-bytes --clip --all --inlines --crosslines --size --help' pictures='fold slice coordinates histogram' ;;
-        segywb-report) words='--fixed --floats --opaque-samples --on-disk --order --max-bytes --no-pictures --help' ;;
+        segywb-plot) words='--script --fixed --opaque-samples --on-disk --order --max-bytes --clip --all --inlines --crosslines --size --help' pictures='fold slice coordinates histogram' ;;
+        segywb-report) words='--fixed --opaque-samples --on-disk --order --max-bytes --no-pictures --help' ;;
         segywb-desk) words='--out --port --no-browser --fixed --on-disk --order --max-bytes --help' ;;
         segywb-library)
             pictures='scan merge report mend verify undo'

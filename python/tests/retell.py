@@ -1,13 +1,22 @@
 """What Python shows of a volume, written as the program would answer it."""
 
-from float_words import word_of
-
 from segywb.fields import BINARY_NAMES, TRACE_NAMES
 
 
 def value_of(v, value):
     """A sample as the program prints it."""
-    return word_of(5 if v.sample_type == "f4" else 6, value) if v.has_floats else str(value)
+    if not v.has_floats:
+        return str(value)
+    from float_words import word_of  # which needs numpy
+
+    return word_of(5 if v.sample_type == "f4" else 6, value)
+
+
+def sum_of(value):
+    """The sum of floats as the program prints it, of every format with 8 bytes."""
+    from float_words import word_of
+
+    return word_of(6, value)
 
 
 def numbers(v, told, first):
@@ -16,7 +25,7 @@ def numbers(v, told, first):
         return f"{first} none"
     if v.has_floats:
         words = ["none" if one is None else value_of(v, one) for one in told[:2]]
-        total = [] if first == "totals" else ["sum", "none" if told.sum is None else word_of(6, told.sum)]
+        total = [] if first == "totals" else ["sum", "none" if told.sum is None else sum_of(told.sum)]
         return " ".join([first, "least", words[0], "greatest", words[1], *total, "samples", str(told.samples), "nans", str(told.nans)])
     return f"{first} least {told.least} greatest {told.greatest} sum {told.sum} samples {told.samples}"
 

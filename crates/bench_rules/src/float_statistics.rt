@@ -1,6 +1,6 @@
-/// What the samples of a trace say where they are floats. The least, the greatest and the sum are ranks
-/// (`float_codes`), the sum that of a binary64 whatever the format. Where no sample is a number the
-/// least is `float_codes::NO_NUMBER`, and neither the greatest nor the sum says anything.
+/// What the samples of a trace say where they are floats. The least, the greatest and the sum are
+/// ranks (`float_codes`), the sum that of a binary64 whatever the format. Where no sample is a
+/// number the least is `float_codes::NO_NUMBER`, and neither greatest nor sum says anything.
 #[derive(Debug, Clone, Copy, PartialEq, Eq)]
 pub struct FloatStatistics {
     pub least: i128,

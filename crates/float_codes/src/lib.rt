@@ -1,7 +1,7 @@
 //! The float formats of SEG-Y revision 2.0: code 1, hexadecimal floats of 4 bytes as IBM has them,
 //! and codes 5 and 6, the binary32 and binary64 of IEEE 754. Each of their values is exactly a
-//! binary64, an infinity or no number. A sample is read as the rank of its value: the pattern of the
-//! binary64 as a whole number in the order of the values.
+//! binary64, an infinity or no number. A sample is read as the rank of its value: the pattern of
+//! the binary64 as a whole number in the order of the values.
 //!
 //! No call takes memory, and none can fail.
 #![tactic(auto)]

@@ -38,7 +38,8 @@ pub(crate) fn subtract(from: &[u128], less: &[u128], out: &mut [u128]) -> bool
     requires out { length out.old ≡ length from.now }
     requires from_digits { AreDigits from.now }
     requires less_digits { AreDigits less.now }
-    ensures worth { worth out.new + worth less.now ≡ worth from.now + cond result 1 0 * 2 ^ (32 * length from.now) }
+    ensures worth { worth out.new + worth less.now
+        ≡ worth from.now + cond result 1 0 * 2 ^ (32 * length from.now) }
     ensures digits { AreDigits out.new }
     ensures length { length out.new ≡ length from.now }
 {
@@ -62,7 +63,8 @@ pub(crate) struct Leading {
 pub(crate) fn leading_of(words: &[u128]) -> Leading
     requires digits { AreDigits words.now }
     requires length { length words.now < 2 ^ 32 }
-    ensures leading { (r : ℕ) × HasLeading (worth words.now) result.top result.dropped result.rest r }
+    ensures leading { (r : ℕ)
+        × HasLeading (worth words.now) result.top result.dropped result.rest r }
     ensures top { result.top < 2 ^ 96 }
     ensures dropped { result.dropped ≤ length words.now }
 {

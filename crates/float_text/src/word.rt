@@ -8,9 +8,9 @@ use fast_float::Numeral;
 use float_codes::FloatFormat;
 
 /// What a word writes: a decimal with a point and an exponent or without, `nan`, `inf` or `-inf`.
-/// The value is the nearest to the decimal, at a tie the even one; at IBM's format it is the nearest
-/// to the decimal's binary64, so that a decimal is rounded twice there. None where it is no such
-/// word: `+1`, `-nan`, `1e` and a lone point are none. Takes no memory.
+/// The value is the nearest to the decimal, at a tie the even one; at IBM's format the nearest to
+/// the decimal's binary64, so that a decimal is rounded twice there. None where it is no such word:
+/// `+1`, `-nan`, `1e` and a lone point are none. Takes no memory.
 pub fn parse(format: FloatFormat, word: &[u8]) -> Option<Reading>
     ensures { result ≡ reading_of format word.now }
 {

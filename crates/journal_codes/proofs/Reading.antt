@@ -1,10 +1,12 @@
 -- What a journal lists is read again.
-use Rattle.std.proofs.Common.{◌≡◌, ℕ, zero, suc, ◌+◌, ◌-◌, ◌^◌, ◌<◌, List, [], ◌∷◌, ◌++◌, length, take, drop, refl, sym, ◌∙◌, ap, subst, arith}
-use Rattle.std.proofs.lemmas.List.{length-append, take_at, drop_at}
+use Rattle.std.proofs.Common.{◌≡◌, ℕ, zero, suc, ◌+◌, ◌-◌, ◌^◌, ◌<◌, ◌≤◌, List, [], ◌∷◌, ◌++◌, length, take, drop, refl, sym, ◌∙◌, ap, subst, arith}
+use Rattle.std.proofs.lemmas.List.{get_or-take, drop-take, length-append, take_at, drop_at}
 use Rattle.std.proofs.lemmas.Nat.{from_le_bytes-to_le_bytes_8}
 use Rattle.md5.specs.Md5.{md5, digest_bytes}
 use Rattle.journal_codes.specs.declared.file_facts.FileFacts.{FileFacts}
-use Rattle.journal_codes.specs.Codes.{Span, number, number_in, front, piece, pieces, body, journal, Fits, AllFit, AreSmall, place_in, size_in, span_in, IsPiece, spans_from, ArePieces, without_end, IsReadAgain}
+use Rattle.journal_codes.specs.declared.journal_fault.JournalFault.{JournalFault}
+use Rattle.journal_codes.specs.declared.journal_fault.JournalFault.TheVariants.{NoJournal, OtherVersion, OtherLength, OtherFile, Broken}
+use Rattle.journal_codes.specs.Codes.{Span, number, number_in, HasFront, LacksFront, IsRefusedAs, front, piece, pieces, body, journal, Fits, AllFit, AreSmall, place_in, size_in, span_in, IsPiece, spans_from, ArePieces, without_end, IsReadAgain}
 
 pub number_in-number : (n : ℕ) (rest : List ℕ) → n < 2 ^ 64 → number_in (number n ++ rest) ≡ n
 unfolding number_in
@@ -128,3 +130,57 @@ module _ (f : FileFacts) (ss : List Span) where
         },
         ap (spans_from 0) listed ∙ read.1,
       )
+
+-- a number, and what stands before a piece, are told by the first bytes
+pub number_in-take : (n : ℕ) (bs : List ℕ) → 8 ≤ n → number_in (take n bs) ≡ number_in bs
+unfolding number_in
+number_in-take n bs le =
+    let e0 = get_or-take n bs 0 0 (omega arith) in
+    let e1 = get_or-take n bs 1 0 (omega arith) in
+    let e2 = get_or-take n bs 2 0 (omega arith) in
+    let e3 = get_or-take n bs 3 0 (omega arith) in
+    let e4 = get_or-take n bs 4 0 (omega arith) in
+    let e5 = get_or-take n bs 5 0 (omega arith) in
+    let e6 = get_or-take n bs 6 0 (omega arith) in
+    let e7 = get_or-take n bs 7 0 (omega arith) in
+    rw (e0, e1, e2, e3, e4, e5, e6, e7) refl
+
+pub place_in-front : (bs : List ℕ) → place_in (take 16 bs) ≡ place_in bs
+place_in-front bs = number_in-take 16 bs (omega arith)
+
+pub size_in-front : (bs : List ℕ) → size_in (take 16 bs) ≡ size_in bs
+size_in-front bs = ap number_in (drop-take 8 8 bs) ∙ number_in-take 8 (drop 8 bs) (omega arith)
+
+-- the front of a journal, read alone
+pub number_at-front : (k : ℕ) (bs : List ℕ) → k + 8 ≤ 40 → number_in (drop k (take 40 bs)) ≡ number_in (drop k bs)
+number_at-front k bs le =
+    let rest : 40 ≡ k + (40 - k) = omega arith in
+    ap (λ (n : ℕ). number_in (drop k (take n bs))) rest ∙ ap number_in (drop-take k (40 - k) bs) ∙ number_in-take (40 - k) (drop k bs) (omega arith)
+
+pub HasFront-front : (f : FileFacts) (bs : List ℕ) → HasFront f (take 40 bs) → HasFront f bs
+HasFront-front f bs front = (
+  sym (number_at-front 0 bs (omega arith)) ∙ front.0,
+  sym (number_at-front 8 bs (omega arith)) ∙ front.1,
+  sym (number_at-front 16 bs (omega arith)) ∙ front.2,
+  (sym (number_at-front 24 bs (omega arith)) ∙ front.3.0, sym (number_at-front 32 bs (omega arith)) ∙ front.3.1),
+)
+
+pub LacksFront-front : (f : FileFacts) (bs : List ℕ) (fault : JournalFault) → LacksFront f (take 40 bs) fault → LacksFront f bs fault
+LacksFront-front f bs NoJournal lacks = λ h. lacks (number_at-front 0 bs (omega arith) ∙ h)
+LacksFront-front f bs OtherVersion lacks = (sym (number_at-front 0 bs (omega arith)) ∙ lacks.0, λ h. lacks.1 (number_at-front 8 bs (omega arith) ∙ h))
+LacksFront-front f bs OtherLength lacks = (sym (number_at-front 0 bs (omega arith)) ∙ lacks.0, sym (number_at-front 8 bs (omega arith)) ∙ lacks.1, λ h. lacks.2 (number_at-front 16 bs (omega arith) ∙ h))
+LacksFront-front f bs OtherFile lacks = (
+  sym (number_at-front 0 bs (omega arith)) ∙ lacks.0,
+  sym (number_at-front 8 bs (omega arith)) ∙ lacks.1,
+  sym (number_at-front 16 bs (omega arith)) ∙ lacks.2,
+  λ h. lacks.3 (number_at-front 24 bs (omega arith) ∙ h.0, number_at-front 32 bs (omega arith) ∙ h.1),
+)
+LacksFront-front f bs Broken lacks = lacks
+
+-- a journal whose front lacks nothing is refused for what follows, and else for that
+pub refused_front : (f : FileFacts) (bs : List ℕ) (fault : JournalFault) → 56 ≤ length bs → LacksFront f bs fault → IsRefusedAs f bs fault
+refused_front f bs NoJournal long lacks = (long, lacks)
+refused_front f bs OtherVersion long lacks = (long, lacks)
+refused_front f bs OtherLength long lacks = (long, lacks)
+refused_front f bs OtherFile long lacks = (long, lacks)
+refused_front f bs Broken long lacks = absurd lacks

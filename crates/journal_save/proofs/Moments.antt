@@ -1,10 +1,11 @@
 -- What a crash leaves from one call to the next.
-use Rattle.std.proofs.Common.{◌≡◌, inl, inr, ◌⊎◌, ℕ, zero, suc, ◌+◌, ◌<◌, List, [], ◌∷◌, ◌++◌, length, get_or, take, map, Option, Some, None, refl, sym, ◌∙◌, ap, subst, arith, append_assoc}
-use Rattle.std.proofs.lemmas.List.{map_more, take-map, get_or-map, length-map}
-use Rattle.journal_save.specs.declared.disk.Piece.{Piece}
-use Rattle.journal_save.specs.Disk.{Span, Range, range_of, span_of, laid_all, IsOutside, IsFree, IsSame, Journal, State, Disk, Each, StandsFor, MightLeave, IsListed, meaning, step, Over, Known, Does, May, wrote, write_lost}
-use Rattle.journal_save.specs.Saving.{spans, ranges, listed_in, IsSealed, old_of, IsGuarded, Since, IsWriting}
-use Rattle.journal_save.proofs.Laid.{same_all, laid_all_same, free_push, same_within}
+use Rattle.std.proofs.Common.{◌≡◌, inl, inr, ◌⊎◌, ℕ, List, [], ◌∷◌, ◌++◌, Option, Some, None, refl, sym, ◌∙◌, ap, subst, append_assoc}
+use Rattle.std.proofs.lemmas.List.{append-nil}
+use Rattle.journal_codes.specs.Codes.{Span}
+use Rattle.journal_codes.specs.declared.file_facts.FileFacts.{FileFacts}
+use Rattle.journal_save.specs.Disk.{Range, range_of, facts_of, laid_all, IsOutside, IsFree, IsSame, Journal, State, Disk, Each, StandFor, StandsFor, MightLeave, IsFound, step, Over, Known, Does, May, wrote, write_lost}
+use Rattle.journal_save.specs.Saving.{ranges, listed_in, IsSynced, IsTaken, old_of, IsGuarded, Since, IsWriting}
+use Rattle.journal_save.proofs.Laid.{same_all, laid_all_same, free_push, same_within, outside_between}
 
 -- two calls, one behind the other
 pub over_then : {R S T : Disk → Disk → Type 0} (a b c : Option Disk) → Over R a b → Over S b c → ((d e f : Disk) → R d e → S e f → T d f) → Over T a c
@@ -88,26 +89,25 @@ module _ (Q : State → Type 0) where
 pub since_map : (P Q : State → Type 0) (d e : Disk) → ((s : State) → P s → Q s) → Since P d e → Since Q d e
 since_map P Q d e f a = (a.0, a.1, each_map P Q a.0 f a.2)
 
-pub stands_map : (P Q : List ℕ → Type 0) (s : State) → ((f : List ℕ) → P f → Q f) → StandsFor P s → StandsFor Q s
-stands_map P Q s f stands = λ file journal same might. f _ (stands file journal same might)
+pub stand_map : (P Q : List ℕ → Type 0) (f : FileFacts) (file : List ℕ) (journal : Option (List ℕ)) → ((x : List ℕ) → P x → Q x) → StandFor P f file journal → StandFor Q f file journal
+stand_map P Q f file None g stand = g file stand
+stand_map P Q f file (Some bs) g stand = (stand.0, g _ stand.1)
 
--- what a guarded moment stands for
-pub listed_means : (s : State) (j : Option Journal) (found : List ℕ) (l : Option (List Span)) → IsSealed j → ((i : ℕ) → IsFree i (ranges (listed_in j)) → IsFree i s.loose) → IsSame s.loose s.file found → IsListed l j → meaning found l ≡ laid_all (listed_in j) s.file
-listed_means s None found l sealed_one within same is =
+pub stands_map : (P Q : List ℕ → Type 0) (s : State) → ((f : List ℕ) → P f → Q f) → StandsFor P s → StandsFor Q s
+stands_map P Q s f stands = λ file journal same might. stand_map P Q (facts_of s) file journal f (stands file journal same might)
+
+-- what a moment stands for, if only the ranges of this journal may hold what is not known
+pub listed_means : (s : State) (j : Option Journal) (found : List ℕ) (l : Option (List ℕ)) → IsSynced j → IsTaken (facts_of s) j → ((i : ℕ) → IsFree i (ranges (listed_in j)) → IsFree i s.loose) → IsSame s.loose s.file found → IsFound l j
+    → StandFor (λ f. f ≡ laid_all (listed_in j) s.file) (facts_of s) found l
+listed_means s None found l synced taken within same is =
     rw is (same_all s.file found (same_within [] s.loose s.file found within same))
-listed_means s (Some j) found l sealed_one within same is =
-    rw (is sealed_one) (laid_all_same j.spans s.file found (same_within (ranges j.spans) s.loose s.file found within same))
+listed_means s (Some j) found l synced taken within same is =
+    rw (is synced) (taken, laid_all_same (listed_in (Some j)) s.file found (same_within (ranges (listed_in (Some j))) s.loose s.file found within same))
 
 pub guarded_stands : (s : State) → IsGuarded s → StandsFor (λ f. f ≡ old_of s) s
 guarded_stands s guarded found l same might =
-    let one : IsListed l s.journal ⊎ ⊥ = subst (λ js. MightLeave js l) guarded.may_leave might in
-    elim one [ inl is ↦ listed_means s s.journal found l guarded.sealed_one guarded.within same is | inr none ↦ absurd none ]
-
--- a place that is free of ranges is outside each of them
-pub free_at : (i : ℕ) (rs : List Range) (n : ℕ) (d : Range) → n < length rs → IsFree i rs → IsOutside i (get_or rs n d)
-free_at i [] n d lt free = absurd (omega arith)
-free_at i (r ∷ rs) zero d lt free = free.0
-free_at i (r ∷ rs) (suc n) d lt free = free_at i rs n d (omega arith) free.1
+    let one : IsFound l s.journal ⊎ ⊥ = subst (λ js. MightLeave js l) guarded.recoverable.may_leave might in
+    elim one [ inl is ↦ listed_means s s.journal found l guarded.recoverable.synced guarded.taken guarded.recoverable.within same is | inr none ↦ absurd none ]
 
 pub writing_start : (d : Disk) → IsGuarded d.now → IsWriting d d
 writing_start d guarded = record { guarded = guarded; journal = refl; old = refl; before = since_none (StandsFor (λ f. f ≡ old_of d.now)) d }
@@ -117,47 +117,57 @@ writing_stands d e w = stands_map (λ f. f ≡ old_of e.now) (λ f. f ≡ old_of
 
 -- a write within the ranges that the journal guards, done or not
 pub writing_on : (d e : Disk) (r : Range) (ws : List Span) → IsWriting d e → ((i : ℕ) → IsFree i (ranges (listed_in d.now.journal)) → IsOutside i r) → ((i : ℕ) → IsFree i (ranges e.now.writes) → IsOutside i r → IsFree i (ranges ws)) → IsWriting d (step (λ s. record s { loose = r ∷ s.loose; writes = ws }) e)
-writing_on d e r ws w outside kept = record {
-  guarded = record {
-    sealed_one = w.guarded.sealed_one;
-    may_leave = w.guarded.may_leave;
-    within = λ i free. (outside i (subst (λ (j : Option Journal). IsFree i (ranges (listed_in j))) w.journal free), w.guarded.within i free);
-    writes_within = λ i free. kept i (w.guarded.writes_within i free) (outside i (subst (λ (j : Option Journal). IsFree i (ranges (listed_in j))) w.journal free));
-  };
-  journal = w.journal;
-  old = w.old;
-  before = since_step (StandsFor (λ f. f ≡ old_of d.now)) d e (λ s. record s { loose = r ∷ s.loose; writes = ws }) w.before (writing_stands d e w);
+writing_on d e r ws w outside kept =
+    let within : (i : ℕ) → IsFree i (ranges (listed_in e.now.journal)) → IsOutside i r = λ i free. outside i (subst (λ (j : Option Journal). IsFree i (ranges (listed_in j))) w.journal free) in record {
+      guarded = record {
+        recoverable = record {
+          synced = w.guarded.recoverable.synced;
+          may_leave = w.guarded.recoverable.may_leave;
+          within = λ i free. (within i free, w.guarded.recoverable.within i free);
+          writes_within = λ i free. kept i (w.guarded.recoverable.writes_within i free) (within i free);
+        };
+        taken = w.guarded.taken;
+      };
+      journal = w.journal;
+      old = w.old;
+      before = since_step (StandsFor (λ f. f ≡ old_of d.now)) d e (λ s. record s { loose = r ∷ s.loose; writes = ws }) w.before (writing_stands d e w);
+    }
+
+-- pieces were written, and others are left
+pub record IsWritten (all left : List Span) (d e : Disk) : Type 0 where
+  pub given : List Span
+  pub given_is : given ++ left ≡ all
+  pub writes : e.now.writes ≡ d.now.writes ++ given
+  pub file : e.now.file ≡ d.now.file
+  pub writing : IsWriting d e
+
+abbrev pub written_start : (all : List Span) (d : Disk) → IsGuarded d.now → IsWritten all all d d
+written_start all d guarded = record { given = []; given_is = refl; writes = sym (append-nil d.now.writes); file = refl; writing = writing_start d guarded }
+
+pub covered_outside : (rs : List Range) (all left given : List Span) (s : Span) → rs ≡ ranges all → given ++ s ∷ left ≡ all → (i : ℕ) → IsFree i rs → IsOutside i (range_of s)
+covered_outside rs all left given s covered is i free = outside_between given s left i (subst (λ (l : List Span). IsFree i (ranges l)) (sym is) (subst (IsFree i) covered free))
+
+abbrev pub written_on : (all left : List Span) (s : Span) (d e : Disk) → ranges (listed_in d.now.journal) ≡ ranges all → IsWritten all (s ∷ left) d e → IsWritten all left d (step (wrote s) e)
+written_on all left s d e covered w = record {
+  given = w.given ++ s ∷ [];
+  given_is = append_assoc w.given (s ∷ []) left ∙ w.given_is;
+  writes = ap (λ (l : List Span). l ++ s ∷ []) w.writes ∙ append_assoc d.now.writes w.given (s ∷ []);
+  file = w.file;
+  writing = writing_on d e (range_of s) (e.now.writes ++ s ∷ []) w.writing (covered_outside (ranges (listed_in d.now.journal)) all left w.given s covered w.given_is) (λ i free out. free_push i e.now.writes s free out);
 }
 
--- the piece at an index lies in one of the ranges
-piece_outside : (ps : List Piece) (rs : List Range) (n : ℕ) (p : Piece) → rs ≡ ranges (spans ps) → n < length ps → p ≡ get_or ps n p → (i : ℕ) → IsFree i rs → IsOutside i (range_of (span_of p))
-piece_outside ps rs n p is lt read i free =
-    let mapped : get_or (ranges (spans ps)) n (range_of (span_of p)) ≡ range_of (span_of p) =
-    get_or-map range_of (spans ps) n (span_of p) (range_of (span_of p)) (rw (length-map ps span_of) lt)
-    ∙ ap range_of (get_or-map span_of ps n p (span_of p) lt)
-    ∙ ap (λ (q : Piece). range_of (span_of q)) (sym read) in
-    let at = free_at i (ranges (spans ps)) n (range_of (span_of p)) (rw (length-map (spans ps) range_of, length-map ps span_of) lt) (subst (IsFree i) is free) in
-    subst (IsOutside i) mapped at
+pub write_lost_on : (all left : List Span) (s : Span) (d e : Disk) → ranges (listed_in d.now.journal) ≡ ranges all → IsWritten all (s ∷ left) d e → IsWriting d (step (write_lost s) e)
+write_lost_on all left s d e covered w =
+    writing_on d e (range_of s) [] w.writing (covered_outside (ranges (listed_in d.now.journal)) all left w.given s covered w.given_is) (λ i free out. tt)
 
-abbrev pub IsWritten : List Piece → ℕ → Disk → Disk → Type 0
-IsWritten ps n d e = (e.now.writes ≡ d.now.writes ++ take n (spans ps)) × (e.now.file ≡ d.now.file) × IsWriting d e
+pub written_more : (a b c : Option Disk) (all old new : List Span) (s t : Span) → Known a (λ d. ranges (listed_in d.now.journal) ≡ ranges all) → Over (IsWritten all old) a b → old ≡ s ∷ new → t ≡ s → Over (Does (wrote t)) b c → Over (IsWritten all new) a c
+written_more a b c all old new s t covered so_far is same does =
+    over_then a b c (over_knows (λ d. ranges (listed_in d.now.journal) ≡ ranges all) (IsWritten all old) a b covered so_far) does (λ d e f h done.
+    rw done (subst (λ (x : Span). IsWritten all new d (step (wrote x) e)) (sym same) (written_on all new s d e h.0 (subst (λ (l : List Span). IsWritten all l d e) is h.1))))
 
-pub written_more : (a b c : Option Disk) (ps : List Piece) (n : ℕ) (p : Piece) (bs : List ℕ) → Known a (λ d. ranges (listed_in d.now.journal) ≡ ranges (spans ps)) → Over (IsWritten ps n) a b → n < length ps → p ≡ get_or ps n p → bs ≡ p.bytes.items → Over (Does (wrote (p.at, bs))) b c → Over (IsWritten ps (n + 1)) a c
-written_more a b c ps n p bs covered so_far lt read is does =
-    let so : Over (λ d e. (ranges (listed_in d.now.journal) ≡ ranges (spans ps)) × IsWritten ps n d e) a b = over_knows (λ d. ranges (listed_in d.now.journal) ≡ ranges (spans ps)) (IsWritten ps n) a b covered so_far in
-    let does' : Over (Does (wrote (span_of p))) b c = subst (λ (l : List ℕ). Over (Does (wrote (p.at, l))) b c) is does in
-    over_then a b c so does' (λ d e f r s. rw s (
-    let front : take (n + 1) (spans ps) ≡ take n (spans ps) ++ span_of p ∷ [] = take-map span_of (n + 1) ps ∙ map_more span_of ps n p lt ∙ ap (λ (q : Piece). map span_of (take n ps) ++ span_of q ∷ []) (sym read) ∙ ap (λ (l : List Span). l ++ span_of p ∷ []) (sym (take-map span_of n ps)) in (
-      ap (λ (l : List Span). l ++ span_of p ∷ []) r.1.0 ∙ append_assoc d.now.writes (take n (spans ps)) (span_of p ∷ []) ∙ ap (λ (l : List Span). d.now.writes ++ l) (sym front),
-      r.1.1,
-      writing_on d e (range_of (span_of p)) (e.now.writes ++ span_of p ∷ []) r.1.2 (piece_outside ps (ranges (listed_in d.now.journal)) n p r.0 lt read) (λ i free out. free_push i e.now.writes (span_of p) free out),
-    )))
-
-pub written_lost : (a b c : Option Disk) (ps : List Piece) (n : ℕ) (p : Piece) (bs : List ℕ) → Known a (λ d. ranges (listed_in d.now.journal) ≡ ranges (spans ps)) → Over (IsWritten ps n) a b → n < length ps → p ≡ get_or ps n p → bs ≡ p.bytes.items → Over (May (write_lost (p.at, bs))) b c → Over IsWriting a c
-written_lost a b c ps n p bs covered so_far lt read is does =
-    let so : Over (λ d e. (ranges (listed_in d.now.journal) ≡ ranges (spans ps)) × IsWritten ps n d e) a b = over_knows (λ d. ranges (listed_in d.now.journal) ≡ ranges (spans ps)) (IsWritten ps n) a b covered so_far in
-    let does' : Over (May (write_lost (span_of p))) b c = subst (λ (l : List ℕ). Over (May (write_lost (p.at, l))) b c) is does in
-    over_then a b c so does' (λ d e f r s. elim s as (λ _. IsWriting d f) [
-      | inl same ↦ subst (IsWriting d) (sym same) r.1.2
-      | inr done ↦ subst (IsWriting d) (sym done) (writing_on d e (range_of (span_of p)) [] r.1.2 (piece_outside ps (ranges (listed_in d.now.journal)) n p r.0 lt read) (λ i free out. tt))
+pub written_lost : (a b c : Option Disk) (all old new : List Span) (s t : Span) → Known a (λ d. ranges (listed_in d.now.journal) ≡ ranges all) → Over (IsWritten all old) a b → old ≡ s ∷ new → t ≡ s → Over (May (write_lost t)) b c → Over IsWriting a c
+written_lost a b c all old new s t covered so_far is same may =
+    over_then a b c (over_knows (λ d. ranges (listed_in d.now.journal) ≡ ranges all) (IsWritten all old) a b covered so_far) may (λ d e f h one. elim one as (λ _. IsWriting d f) [
+      | inl none ↦ subst (IsWriting d) (sym none) h.1.writing
+      | inr done ↦ rw done (subst (λ (x : Span). IsWriting d (step (write_lost x) e)) (sym same) (write_lost_on all new s d e h.0 (subst (λ (l : List Span). IsWritten all l d e) is h.1)))
     ])

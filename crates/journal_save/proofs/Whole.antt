@@ -1,6 +1,7 @@
 -- A whole save.
 use Rattle.std.proofs.Common.{◌≡◌, inl, inr, ℕ, List, Option, sym, ◌∙◌, ap, subst}
-use Rattle.journal_save.specs.Disk.{Span, Range, laid_all, Disk, StandsFor, IsDurable, Over}
+use Rattle.journal_codes.specs.Codes.{Span}
+use Rattle.journal_save.specs.Disk.{Range, laid_all, Disk, StandsFor, IsDurable, Over}
 use Rattle.journal_save.specs.Saving.{ranges, old_of, Since, WasFree, AsItWasOr, LeavesOnly, IsEither, IsWriting, IsOver, IsHarmless, IsUntouched, IsGuarding}
 use Rattle.journal_save.proofs.Moments.{over_then, over_map, over_first, over_both, since_more, since_map, stands_map}
 

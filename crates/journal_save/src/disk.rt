@@ -1,16 +1,9 @@
 // FILE and its journal, as a save sees them.
-ghost use Rattle.std.specs.Prelude.{◌≡◌, ◌⊎◌, Bool, Option, None, MatchResult, IfOk, OnOk, length, take, drop, map, option_map};
-ghost use Rattle.journal_save.specs.Disk.{Over, Known, May, Turns, Tells, Flushes, IsRead, IsListed, same_state, created, listed, journal_synced, journal_lost, published, half_published, settled, unlisted, half_unlisted, cleared, wrote, write_lost, sync_lost, span_of};
-ghost use Rattle.journal_save.specs.Saving.{spans};
+ghost use Rattle.std.specs.Prelude.{◌≡◌, ◌⊎◌, Bool, Option, List, ℕ, None, MatchResult, OnOk, IfOk, length, take, drop};
+ghost use Rattle.journal_save.specs.Disk.{Over, Known, May, Turns, Tells, Flushes, Shows, IsRead, IsPart, IsLong, facts_of, same_state, created, appended, journal_synced, journal_lost, published, half_published, settled, unlisted, half_unlisted, cleared, wrote, write_lost, sync_lost};
 
+use journal_codes::FileFacts;
 use std::io::Result;
-
-/// Bytes at an offset of a file.
-#[derive(Drop)]
-pub struct Piece {
-    pub at: u64,
-    pub bytes: Vec<u8>,
-}
 
 /// FILE, the name of its journal, and a new name beside it.
 pub trait Disk {
@@ -20,10 +13,15 @@ pub trait Disk {
     /// A call has failed.
     ghost failed: { Self → Bool };
 
-    /// So many bytes of FILE.
-    fn read_at(&mut self, at: u64, len: usize) -> Result<Vec<u8>>
+    /// What tells FILE from others.
+    fn facts(&self) -> FileFacts
+        ensures { Known (disk self.now) (λ d. result ≡ facts_of d.now) };
+
+    /// Fills the buffer from FILE, from this place on. It is refused where that goes past the end
+    /// of FILE.
+    fn read_at(&mut self, at: u64, buf: &mut [u8]) -> Result<()>
         ensures same { disk self.new ≡ disk self.old }
-        ensures bytes { IfOk result (λ v. Known (disk self.old) (λ d. IsRead at len v.items d.now)) }
+        ensures bytes { OnOk result (Known (disk self.old) (λ d. IsRead at buf.new d.now)) }
         ensures cause { Tells result (failed self.old) (failed self.new) };
 
     /// Makes the new journal, with nothing in it. It is refused where a journal has the journal's
@@ -33,9 +31,9 @@ pub trait Disk {
         ensures absent { OnOk result (Known (disk self.old) (λ d. d.now.journal ≡ None)) }
         ensures cause { Tells result (failed self.old) (failed self.new) };
 
-    /// Lists one piece more in it.
-    fn list(&mut self, at: u64, bytes: &[u8]) -> Result<()>
-        ensures turns { Turns result (listed (at, bytes.now)) journal_lost (disk self.old) (disk self.new) }
+    /// Writes bytes at the end of the new journal.
+    fn append(&mut self, bytes: &[u8]) -> Result<()>
+        ensures turns { Turns result (appended bytes.now) journal_lost (disk self.old) (disk self.new) }
         ensures cause { Tells result (failed self.old) (failed self.new) };
 
     /// After it, a crash leaves all of the new journal.
@@ -63,10 +61,16 @@ pub trait Disk {
         ensures turns { Turns result unlisted half_unlisted (disk self.old) (disk self.new) }
         ensures cause { Tells result (failed self.old) (failed self.new) };
 
-    /// What the journal lists, if it is there.
-    fn journal(&mut self) -> Result<Option<Vec<Piece>>>
+    /// How many bytes the journal has. `None` where none has the journal's name.
+    fn journal_length(&mut self) -> Result<Option<u64>>
         ensures same { disk self.new ≡ disk self.old }
-        ensures pieces { IfOk result (λ found. Known (disk self.old) (λ d. IsListed (option_map (λ v. spans v.items) found) d.now.journal)) }
+        ensures length { IfOk result (λ found. Known (disk self.old) (λ d. IsLong found d.now.journal)) }
+        ensures cause { Tells result (failed self.old) (failed self.new) };
+
+    /// Fills the buffer from the journal, from this place on.
+    fn read_journal(&mut self, at: u64, buf: &mut [u8]) -> Result<()>
+        ensures same { disk self.new ≡ disk self.old }
+        ensures bytes { OnOk result ((bytes : List ℕ) → Shows (disk self.old) bytes → IsPart at buf.new bytes) }
         ensures cause { Tells result (failed self.old) (failed self.new) };
 
     /// Writes over bytes of FILE. It is refused where that would make FILE longer.

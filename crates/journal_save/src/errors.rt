@@ -5,7 +5,8 @@ use std::io::Error;
 /// Why a save did not come to its end.
 #[derive(Debug, Drop)]
 pub enum SaveError {
-    /// FILE was never written.
+    /// FILE was never written. A journal may be left there that a call could not take away: a
+    /// recovery then gives FILE as it is.
     Untouched(Error),
     /// A write failed, and FILE is the old file again.
     Undone(Error),

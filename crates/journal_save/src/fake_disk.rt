@@ -2,7 +2,7 @@
 ghost use Rattle.std.specs.Prelude.{◌≡◌, ◌∷◌, ◌++◌, [], ◌+◌, ◌≤◌, true, false, length, take, drop, IsTrue, IsErr, IfSome, OnOk, OnErr, MatchResult};
 ghost use Rattle.journal_save.specs.Disk.{step, laid_all, Flushes, May, Tells, IsPart, sync_lost};
 ghost use Rattle.journal_save.specs.Fake.{span_in, bytes_of};
-ghost use Rattle.journal_save.specs.Saving.{IsSettled};
+ghost use Rattle.journal_save.specs.Saving.{IsRecoverable, IsSettled};
 
 use crate::disk::Disk;
 use journal_codes::FileFacts;
@@ -70,6 +70,35 @@ impl FakeDisk {
             calls: 0,
             fails_from,
             fails_to,
+        }
+    }
+
+    /// What is there when the system is up again behind a crash that left this byte in FILE, and
+    /// this journal.
+    pub fn after_crash(
+        alloc: Global,
+        file: u8,
+        journal: Option<Note>,
+        fails_from: u32,
+        fails_to: u32,
+    ) -> FakeDisk
+        ensures recoverable { IsRecoverable (disk_of result).now }
+        ensures settled { IsSettled (disk_of result).now }
+    {
+        let journal = match journal {
+            Some(note) => Some(Note {
+                synced: true,
+                ..note
+            }),
+            None => None,
+        };
+        let quiet = FakeDisk::new(alloc, file, fails_from, fails_to);
+        FakeDisk {
+            now: Moment {
+                journal,
+                ..quiet.now
+            },
+            ..quiet
         }
     }
 

@@ -19,6 +19,7 @@ number n = to_le_bytes w64 n
 unfoldable pub number_in : List ℕ → ℕ
 number_in bs = from_le_bytes w64 bs
 
+-- the first 8 bytes of a journal
 abbrev pub mark : List ℕ
 mark = codes "SEGYWBJL"
 
@@ -30,6 +31,7 @@ front f = mark ++ (number 1 ++ (number f.length ++ (number f.device ++ number f.
 abbrev pub piece : Span → List ℕ
 piece s = number s.0 ++ (number (length s.1) ++ s.1)
 
+-- pieces, one behind the other
 abbrev pub pieces : List Span → List ℕ
 pieces ss = flat_map piece ss
 
@@ -46,6 +48,7 @@ pub record Fits (f : FileFacts) (s : Span) : Type 0 where
   pub inside : s.0 + length s.1 ≤ f.length
   pub small : length s.1 ≤ 65536
 
+-- all of them have
 abbrev pub AllFit : FileFacts → List Span → Type 0
 AllFit f [] = ⊤
 AllFit f (s ∷ ss) = Fits f s × AllFit f ss
@@ -60,9 +63,11 @@ pub record AreSmall (f : FileFacts) : Type 0 where
 abbrev pub place_in : List ℕ → ℕ
 place_in bs = number_in bs
 
+-- how many bytes that has
 abbrev pub size_in : List ℕ → ℕ
 size_in bs = number_in (drop 8 bs)
 
+-- that piece: its place, and its bytes
 abbrev pub span_in : List ℕ → Span
 span_in bs = (place_in bs, take (size_in bs) (drop 16 bs))
 
@@ -92,15 +97,19 @@ without_end bs = take (length bs - 16) bs
 abbrev pub spans_in : List ℕ → List Span
 spans_in bs = spans_from 0 (drop 40 (without_end bs))
 
+-- they begin with the mark
 abbrev pub HasMark : List ℕ → Type 0
 HasMark bs = number_in bs ≡ number_in mark
 
+-- the version of a journal stands behind it
 abbrev pub HasVersion : List ℕ → Type 0
 HasVersion bs = number_in (drop 8 bs) ≡ 1
 
+-- then FILE's length
 abbrev pub HasLength : FileFacts → List ℕ → Type 0
 HasLength f bs = number_in (drop 16 bs) ≡ f.length
 
+-- then FILE's device and inode
 abbrev pub HasIdentity : FileFacts → List ℕ → Type 0
 HasIdentity f bs = (number_in (drop 24 bs) ≡ f.device) × (number_in (drop 32 bs) ≡ f.inode)
 

@@ -223,7 +223,7 @@ front_lost a b quiet empty may = over_map a b (over_knows (λ d. IsQuiet d.now �
 
 -- all of it is listed, and the digest is its end
 pub listing_all : {T E : Type 0} (r : Result T E) (a b c : Option Disk) (all left : List Span) (hasher : Md5) (digest : List ℕ) → Over (IsListingSome all left hasher) a b → left ≡ [] → ((m : List ℕ) → Holds hasher m → digest ≡ md5 m) → Turns r (appended digest) journal_lost b c
-    → OnOk r (Over (IsListing (ranges all) journal) a c)
+    → OnOk r (Over (IsListing (ranges all)) a c)
 listing_all (Ok t) a b c all left hasher digest so_far none is turns = over_then a b c so_far turns (λ d e f l does. rw does (record {
   spans = l.spans;
   making = subst (λ (x : List ℕ). IsMaking (body (facts_of d.now) l.spans ++ x) d (step (appended digest) e)) (is (body (facts_of d.now) l.spans) l.held) (making_on d e (body (facts_of d.now) l.spans) digest l.making);
@@ -237,7 +237,7 @@ pub listing_end : {T E : Type 0} (r : Result T E) (a b c : Option Disk) (all lef
 listing_end (Ok t) a b c all left hasher digest so_far turns = over_then a b c so_far turns (λ d e f l does. rw does (making_untouched _ d (step (appended digest) e) (making_on d e (body (facts_of d.now) l.spans) digest l.making)))
 listing_end (Err t) a b c all left hasher digest so_far turns = over_then a b c so_far turns (λ d e f l one. making_lost d e f (body (facts_of d.now) l.spans) l.making one)
 
-pub made_lost : (a b c : Option Disk) (rs : List Range) → Over (IsListing rs journal) a b → Over (May journal_lost) b c → Over IsUntouched a c
+pub made_lost : (a b c : Option Disk) (rs : List Range) → Over (IsListing rs) a b → Over (May journal_lost) b c → Over IsUntouched a c
 made_lost a b c rs l may = over_then a b c l may (λ d e f l one. making_lost d e f (journal (facts_of d.now) l.spans) l.making one)
 
 -- the journal is made
@@ -259,7 +259,7 @@ pub record IsReady (rs : List Range) (d e : Disk) : Type 0 where
 facts_same : (d e : State) → e.file ≡ d.file → e.identity ≡ d.identity → facts_of d ≡ facts_of e
 facts_same d e file identity = ap (λ (x : List ℕ). facts_of (record d { file = x })) (sym file) ∙ ap (λ (x : ℕ × ℕ). facts_of (record d { file = e.file; identity = x })) (sym identity)
 
-ready_one : (rs : List Range) (d e : Disk) → IsListing rs journal d e → IsReady rs d (step journal_synced e)
+ready_one : (rs : List Range) (d e : Disk) → IsListing rs d e → IsReady rs d (step journal_synced e)
 ready_one rs d e l =
     let u = making_untouched (journal (facts_of d.now) l.spans) d e l.making in
     let read = read_again (facts_of d.now) l.spans l.small l.old.fit in
@@ -273,7 +273,7 @@ ready_one rs d e l =
       ranges_are = ap ranges lists ∙ l.ranges_are;
     }
 
-pub listing_ready : (a b c : Option Disk) (rs : List Range) → Over (IsListing rs journal) a b → Over (Does journal_synced) b c → Over (IsReady rs) a c
+pub listing_ready : (a b c : Option Disk) (rs : List Range) → Over (IsListing rs) a b → Over (Does journal_synced) b c → Over (IsReady rs) a c
 listing_ready a b c rs l does = over_then a b c l does (λ d e f l is. rw is (ready_one rs d e l))
 
 pub ready_half : (a b c : Option Disk) (rs : List Range) → Over (IsReady rs) a b → Over (May half_published) b c → Over IsUntouched a c

@@ -2,7 +2,7 @@
 use Rattle.std.specs.Prelude.{◌≡◌, ◌⊎◌, ℕ, Bool, true, false, List, [], ◌∷◌, ◌++◌, length, map, Option, Some, None, Result, MatchResult, ⊤}
 use Rattle.journal_save.specs.Disk.{Range, range_of, facts_of, laid_all, IsFree, Journal, State, Disk, Each, StandsFor, IsDurable}
 use Rattle.std.specs.List.{sum_by}
-use Rattle.journal_codes.specs.Codes.{Span, spans_in, IsJournal, IsRefusedAs, AllFit, AreSmall}
+use Rattle.journal_codes.specs.Codes.{Span, spans_in, IsJournal, IsRefusedAs, AllFit, AreSmall, journal}
 use Rattle.journal_codes.specs.declared.file_facts.FileFacts.{FileFacts}
 use Rattle.journal_codes.specs.declared.journal_fault.JournalFault.{JournalFault}
 use Rattle.journal_save.specs.declared.errors.PutBack.{PutBack}
@@ -11,6 +11,7 @@ use Rattle.journal_save.specs.declared.errors.SaveError.TheVariants.{Untouched, 
 use Rattle.journal_save.specs.declared.errors.RecoverError.{RecoverError}
 use Rattle.journal_save.specs.declared.errors.RecoverError.TheVariants.{Refused, Failed}
 
+-- where pieces lie
 abbrev pub ranges : List Span → List Range
 ranges ss = map range_of ss
 
@@ -139,10 +140,10 @@ pub record IsOld (ss : List Span) (d : Disk) : Type 0 where
   pub fit : AllFit (facts_of d.now) ss
   pub restores : laid_all ss d.now.file ≡ d.now.file
 
--- it lists the bytes that FILE has in these ranges
-pub record IsListing (rs : List Range) (bytes : FileFacts → List Span → List ℕ) (d e : Disk) : Type 0 where
+-- it is a whole journal of the bytes that FILE has in these ranges
+pub record IsListing (rs : List Range) (d e : Disk) : Type 0 where
   pub spans : List Span
-  pub making : IsMaking (bytes (facts_of d.now) spans) d e
+  pub making : IsMaking (journal (facts_of d.now) spans) d e
   pub ranges_are : ranges spans ≡ rs
   pub old : IsOld spans d
   pub small : AreSmall (facts_of d.now)

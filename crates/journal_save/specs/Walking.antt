@@ -33,6 +33,7 @@ pub record AreTaken (file : ℕ) (rest : List ℕ) (old new : Md5) : Type 0 wher
   pub pieces : ArePieces file 0 rest
   pub held : (m : List ℕ) → Holds old m → Holds new (m ++ rest)
 
+-- what is left of a journal is no pieces
 abbrev pub AreUnlisted : RecoverError → ℕ → List ℕ → Type 0
 AreUnlisted (Refused fault) file rest = (fault ≡ Broken) × (ArePieces file 0 rest → ⊥)
 AreUnlisted (Failed error) file rest = Unit {0}

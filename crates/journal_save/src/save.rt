@@ -1,6 +1,5 @@
 // A save in place.
 ghost use Rattle.std.specs.Prelude.{◌≡◌, ◌⊎◌, ◌++◌, [], true, length, OnOk, OnErr, IfErr};
-ghost use Rattle.journal_codes.specs.Codes.{journal};
 ghost use Rattle.journal_save.specs.Disk.{Over, Known, Tells, IsDurable, laid_all};
 ghost use Rattle.journal_save.specs.Saving.{ranges, listed_in, IsGuarded, IsSettled, IsSettling, WasFree, AsItWasOr, IsQuiet, LeavesOnly, IsEither, IsWriting, IsOver, IsUntouched, IsListing, IsGuarding, IsHarmless, IsRefused, IsCaused, fresh_journal};
 
@@ -63,7 +62,7 @@ fn list_all<D: Disk, E: Edits>(disk: &mut D, edits: &mut E, room: &mut [u8]) -> 
     requires quiet { Known (D.disk disk.old) (λ d. IsQuiet d.now) }
     requires empty { Known (D.disk disk.old) (λ d. d.now.beside ≡ fresh_journal) }
     requires room { length room.old ≡ PIECE_ROOM }
-    ensures ok { OnOk result (Over (IsListing (ranges (E.all edits.old)) journal) (D.disk disk.old) (D.disk disk.new)) }
+    ensures ok { OnOk result (Over (IsListing (ranges (E.all edits.old))) (D.disk disk.old) (D.disk disk.new)) }
     ensures untouched { Over IsUntouched (D.disk disk.old) (D.disk disk.new) }
     ensures all { E.all edits.new ≡ E.all edits.old }
     ensures cause { IsCaused result (D.failed disk.old) (D.failed disk.new) (E.failed edits.new) }

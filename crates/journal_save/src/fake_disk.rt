@@ -1,7 +1,8 @@
 // A disk in memory, of a FILE of one byte, of which a crash leaves what its calls say.
-ghost use Rattle.std.specs.Prelude.{◌≡◌, ◌∷◌, ◌++◌, [], ◌+◌, ◌≤◌, true, false, length, take, drop, IsTrue, IsErr, IfSome, OnOk, OnErr, MatchResult};
+ghost use Rattle.std.specs.Prelude.{None, option_map, ◌≡◌, ◌∷◌, ◌++◌, [], ◌+◌, ◌≤◌, true, false, length, take, drop, IsTrue, IsErr, IfSome, OnOk, OnErr, MatchResult};
 ghost use Rattle.journal_save.specs.Disk.{step, laid_all, Flushes, May, Tells, IsPart, sync_lost};
 ghost use Rattle.journal_save.specs.Fake.{span_in, bytes_of};
+ghost use Rattle.journal_save.specs.Restart.{found_as};
 ghost use Rattle.journal_save.specs.Saving.{IsRecoverable, IsSettled};
 
 use crate::disk::Disk;
@@ -52,7 +53,10 @@ impl FakeDisk {
 
     /// A disk at rest, with this FILE.
     pub fn new(alloc: Global, file: u8, fails_from: u32, fails_to: u32) -> FakeDisk
-        ensures { IsSettled (disk_of result).now }
+        ensures settled { IsSettled (disk_of result).now }
+        ensures free { (disk_of result).now.journal ≡ None }
+        ensures file { result.now.file ≡ file }
+        ensures fails { (result.fails_from ≡ fails_from) × (result.fails_to ≡ fails_to) }
     {
         FakeDisk {
             alloc,
@@ -84,6 +88,9 @@ impl FakeDisk {
     ) -> FakeDisk
         ensures recoverable { IsRecoverable (disk_of result).now }
         ensures settled { IsSettled (disk_of result).now }
+        ensures journal { (disk_of result).now.journal ≡ found_as (option_map bytes_of journal) }
+        ensures file { result.now.file ≡ file }
+        ensures fails { (result.fails_from ≡ fails_from) × (result.fails_to ≡ fails_to) }
     {
         let journal = match journal {
             Some(note) => Some(Note {

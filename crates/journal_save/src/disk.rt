@@ -33,7 +33,8 @@ pub trait Disk {
 
     /// Writes bytes at the end of the new journal.
     fn append(&mut self, bytes: &[u8]) -> Result<()>
-        ensures turns { Turns result (appended bytes.now) journal_lost (disk self.old) (disk self.new) }
+        ensures turns { Turns result (appended bytes.now) journal_lost
+            (disk self.old) (disk self.new) }
         ensures cause { Tells result (failed self.old) (failed self.new) };
 
     /// After it, a crash leaves all of the new journal.
@@ -64,18 +65,21 @@ pub trait Disk {
     /// How many bytes the journal has. `None` where none has the journal's name.
     fn journal_length(&mut self) -> Result<Option<u64>>
         ensures same { disk self.new ≡ disk self.old }
-        ensures length { IfOk result (λ found. Known (disk self.old) (λ d. IsLong found d.now.journal)) }
+        ensures length { IfOk result (λ found. Known (disk self.old)
+            (λ d. IsLong found d.now.journal)) }
         ensures cause { Tells result (failed self.old) (failed self.new) };
 
     /// Fills the buffer from the journal, from this place on.
     fn read_journal(&mut self, at: u64, buf: &mut [u8]) -> Result<()>
         ensures same { disk self.new ≡ disk self.old }
-        ensures bytes { OnOk result ((bytes : List ℕ) → Shows (disk self.old) bytes → IsPart at buf.new bytes) }
+        ensures bytes { OnOk result ((bytes : List ℕ) → Shows (disk self.old) bytes
+            → IsPart at buf.new bytes) }
         ensures cause { Tells result (failed self.old) (failed self.new) };
 
     /// Writes over bytes of FILE. It is refused where that would make FILE longer.
     fn write_at(&mut self, at: u64, bytes: &[u8]) -> Result<()>
-        ensures turns { Turns result (wrote (at, bytes.now)) (write_lost (at, bytes.now)) (disk self.old) (disk self.new) }
+        ensures turns { Turns result (wrote (at, bytes.now)) (write_lost (at, bytes.now))
+            (disk self.old) (disk self.new) }
         ensures cause { Tells result (failed self.old) (failed self.new) };
 
     /// After it, a crash leaves in FILE what was written since the last call of it, or since the

@@ -30,6 +30,7 @@ pub trait Edits {
     fn next_piece(&mut self, room: &mut [u8]) -> Result<Option<Head>>
         requires { length room.old ≡ PIECE_ROOM }
         ensures all { all self.new ≡ all self.old }
-        ensures piece { IfOk result (λ found. IsNext found room.new (left self.old) (left self.new)) }
+        ensures piece { IfOk result
+            (λ found. IsNext found room.new (left self.old) (left self.new)) }
         ensures cause { Tells result (failed self.old) (failed self.new) };
 }

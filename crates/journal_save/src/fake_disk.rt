@@ -182,7 +182,8 @@ fn on_top(written: Option<u8>, file: u8) -> u8
 
 // The note with these bytes behind its own, where there is room.
 fn grown(note: Note, bytes: &[u8]) -> Option<Note>
-    ensures { IfSome result (λ more. (bytes_of more ≡ bytes_of note ++ bytes.now) × (more.synced ≡ false)) }
+    ensures { IfSome result (λ more. (bytes_of more ≡ bytes_of note ++ bytes.now)
+        × (more.synced ≡ false)) }
 {
     let count = note.count;
     if count > NOTE_ROOM || bytes.len() > NOTE_ROOM - count {

@@ -10,9 +10,11 @@ use std::io::Result;
 pub(crate) fn finish<D: Disk>(disk: &mut D) -> Result<()>
     requires guarded { Known (D.disk disk.old) (λ d. IsGuarded d.now) }
     requires loose { Known (D.disk disk.old) (λ d. d.now.loose ≡ []) }
-    ensures ok { OnOk result (Over (λ d e. IsDurable d.now.file e.now) (D.disk disk.old) (D.disk disk.new)) }
+    ensures ok { OnOk result (Over (λ d e. IsDurable d.now.file e.now)
+        (D.disk disk.old) (D.disk disk.new)) }
     ensures over { Over (IsOver []) (D.disk disk.old) (D.disk disk.new) }
-    ensures any_moment { Over (λ d e. LeavesOnly (IsEither (old_of d.now) d.now.file) d e) (D.disk disk.old) (D.disk disk.new) }
+    ensures any_moment { Over (λ d e. LeavesOnly (IsEither (old_of d.now) d.now.file) d e)
+        (D.disk disk.old) (D.disk disk.new) }
     ensures cause { Tells result (D.failed disk.old) (D.failed disk.new) }
 {
     disk.remove_journal()?;

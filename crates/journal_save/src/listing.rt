@@ -24,7 +24,8 @@ pub struct Listed {
 // length.
 fn is_inside(head: Head, file: u64, left: u64) -> bool
     requires { HEAD_BYTES ≤ left }
-    ensures { IsTrue result ↔ ((16 + head.size ≤ left) × (head.size ≤ PIECE_ROOM) × (head.place + head.size ≤ file)) }
+    ensures { IsTrue result ↔ ((16 + head.size ≤ left) × (head.size ≤ PIECE_ROOM)
+        × (head.place + head.size ≤ file)) }
 {
     let size = head.size;
     size <= left - HEAD_BYTES as u64
@@ -45,10 +46,14 @@ pub(crate) fn next_listed<D: Disk>(
     requires room { length room.old ≡ PIECE_ROOM }
     requires inside { from < end }
     ensures same { D.disk disk.new ≡ D.disk disk.old }
-    ensures small { IfOk result (λ listed. (listed.head.size ≤ PIECE_ROOM) × (from + 16 + listed.head.size ≤ end)) }
-    ensures found { IfOk result (λ listed. (bytes : List ℕ) → Shows (D.disk disk.old) bytes → IsListedAt file (drop from (take end bytes)) listed room.new) }
-    ensures refused { IfErr result (λ error. (bytes : List ℕ) → Shows (D.disk disk.old) bytes → end ≤ length bytes → IsUnlisted error file (drop from (take end bytes))) }
-    ensures cause { MatchResult result (λ _. D.failed disk.new ≡ D.failed disk.old) (λ error. TellsFailure error (D.failed disk.old) (D.failed disk.new)) }
+    ensures small { IfOk result (λ listed. (listed.head.size ≤ PIECE_ROOM)
+        × (from + 16 + listed.head.size ≤ end)) }
+    ensures found { IfOk result (λ listed. (bytes : List ℕ) → Shows (D.disk disk.old) bytes
+        → IsListedAt file (drop from (take end bytes)) listed room.new) }
+    ensures refused { IfErr result (λ error. (bytes : List ℕ) → Shows (D.disk disk.old) bytes
+        → end ≤ length bytes → IsUnlisted error file (drop from (take end bytes))) }
+    ensures cause { MatchResult result (λ _. D.failed disk.new ≡ D.failed disk.old)
+        (λ error. TellsFailure error (D.failed disk.old) (D.failed disk.new)) }
 {
     let left = end - from;
     if left < HEAD_BYTES as u64 {
@@ -75,9 +80,12 @@ fn check_pieces<D: Disk>(
     requires room { length room.old ≡ PIECE_ROOM }
     requires inside { FRONT_BYTES ≤ end }
     ensures same { D.disk disk.new ≡ D.disk disk.old }
-    ensures taken { OnOk result ((bytes : List ℕ) → Shows (D.disk disk.old) bytes → end ≤ length bytes → AreTaken file (drop 40 (take end bytes)) hasher.old hasher.new) }
-    ensures refused { IfErr result (λ error. (bytes : List ℕ) → Shows (D.disk disk.old) bytes → end ≤ length bytes → AreUnlisted error file (drop 40 (take end bytes))) }
-    ensures cause { MatchResult result (λ _. D.failed disk.new ≡ D.failed disk.old) (λ error. TellsFailure error (D.failed disk.old) (D.failed disk.new)) }
+    ensures taken { OnOk result ((bytes : List ℕ) → Shows (D.disk disk.old) bytes
+        → end ≤ length bytes → AreTaken file (drop 40 (take end bytes)) hasher.old hasher.new) }
+    ensures refused { IfErr result (λ error. (bytes : List ℕ) → Shows (D.disk disk.old) bytes
+        → end ≤ length bytes → AreUnlisted error file (drop 40 (take end bytes))) }
+    ensures cause { MatchResult result (λ _. D.failed disk.new ≡ D.failed disk.old)
+        (λ error. TellsFailure error (D.failed disk.old) (D.failed disk.new)) }
 {
     let mut from = FRONT_BYTES as u64;
     'pieces: while from < end {
@@ -99,9 +107,12 @@ pub(crate) fn check<D: Disk>(
     requires room { length room.old ≡ PIECE_ROOM }
     ensures same { D.disk disk.new ≡ D.disk disk.old }
     ensures long { OnOk result (56 ≤ size) }
-    ensures taken { OnOk result ((bytes : List ℕ) → Shows (D.disk disk.old) bytes → size ≡ length bytes → IsJournal facts bytes) }
-    ensures refused { IfErr result (λ error. (bytes : List ℕ) → Shows (D.disk disk.old) bytes → size ≡ length bytes → IsRefusal error facts bytes) }
-    ensures cause { MatchResult result (λ _. D.failed disk.new ≡ D.failed disk.old) (λ error. TellsFailure error (D.failed disk.old) (D.failed disk.new)) }
+    ensures taken { OnOk result ((bytes : List ℕ) → Shows (D.disk disk.old) bytes
+        → size ≡ length bytes → IsJournal facts bytes) }
+    ensures refused { IfErr result (λ error. (bytes : List ℕ) → Shows (D.disk disk.old) bytes
+        → size ≡ length bytes → IsRefusal error facts bytes) }
+    ensures cause { MatchResult result (λ _. D.failed disk.new ≡ D.failed disk.old)
+        (λ error. TellsFailure error (D.failed disk.old) (D.failed disk.new)) }
 {
     if size < (FRONT_BYTES + DIGEST_BYTES) as u64 {
         return Err(RecoverError::Refused(JournalFault::Broken));

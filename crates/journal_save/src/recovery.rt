@@ -17,16 +17,20 @@ pub fn recover<D: Disk>(disk: &mut D, room: &mut [u8]) -> Result<Option<PutBack>
     requires room { length room.old ≡ PIECE_ROOM }
 
     // At `Ok` each crash from now on leaves the old file, and no journal.
-    ensures recovered { IfOk result (λ back. Over (IsRecovered back) (D.disk disk.old) (D.disk disk.new)) }
+    ensures recovered { IfOk result (λ back. Over (IsRecovered back)
+        (D.disk disk.old) (D.disk disk.new)) }
 
     // What is no journal of FILE is refused, and nothing was done.
-    ensures refused { IfErr result (λ error. Over (IsNotRecovered error) (D.disk disk.old) (D.disk disk.new)) }
+    ensures refused { IfErr result (λ error. Over (IsNotRecovered error)
+        (D.disk disk.old) (D.disk disk.new)) }
 
     // A crash at any moment leaves what stands for the old file, if the journal is one of FILE.
-    ensures any_moment { Over (λ d e. IsTaken (facts_of d.now) d.now.journal → LeavesOnly (λ f. f ≡ old_of d.now) d e) (D.disk disk.old) (D.disk disk.new) }
+    ensures any_moment { Over (λ d e. IsTaken (facts_of d.now) d.now.journal
+        → LeavesOnly (λ f. f ≡ old_of d.now) d e) (D.disk disk.old) (D.disk disk.new) }
 
     // It does not give up by itself.
-    ensures cause { MatchResult result (λ _. D.failed disk.new ≡ D.failed disk.old) (λ error. TellsFailure error (D.failed disk.old) (D.failed disk.new)) }
+    ensures cause { MatchResult result (λ _. D.failed disk.new ≡ D.failed disk.old)
+        (λ error. TellsFailure error (D.failed disk.old) (D.failed disk.new)) }
 {
     let Some(size) = disk.journal_length()? else {
         return Ok(None);
@@ -49,12 +53,16 @@ fn put_back<D: Disk>(
     requires room { length room.old ≡ PIECE_ROOM }
     requires long { 56 ≤ size }
     requires guarded { Known (D.disk disk.old) (λ d. IsGuarded d.now × IsThere file size d.now) }
-    ensures count { IfOk result (λ back. Over (λ d e. IsCount (listed_in d.now.journal) back) (D.disk disk.old) (D.disk disk.new)) }
-    ensures ok { OnOk result (Over (λ d e. e.now.writes ≡ d.now.writes ++ listed_in d.now.journal) (D.disk disk.old) (D.disk disk.new)) }
+    ensures count { IfOk result (λ back. Over (λ d e. IsCount (listed_in d.now.journal) back)
+        (D.disk disk.old) (D.disk disk.new)) }
+    ensures ok { OnOk result (Over (λ d e. e.now.writes ≡ d.now.writes ++ listed_in d.now.journal)
+        (D.disk disk.old) (D.disk disk.new)) }
     ensures file { Over (λ d e. e.now.file ≡ d.now.file) (D.disk disk.old) (D.disk disk.new) }
     ensures writing { Over IsWriting (D.disk disk.old) (D.disk disk.new) }
-    ensures refused { IfErr result (λ error. Over (λ d e. IsNoRefusal error) (D.disk disk.old) (D.disk disk.new)) }
-    ensures cause { MatchResult result (λ _. D.failed disk.new ≡ D.failed disk.old) (λ error. TellsFailure error (D.failed disk.old) (D.failed disk.new)) }
+    ensures refused { IfErr result (λ error. Over (λ d e. IsNoRefusal error)
+        (D.disk disk.old) (D.disk disk.new)) }
+    ensures cause { MatchResult result (λ _. D.failed disk.new ≡ D.failed disk.old)
+        (λ error. TellsFailure error (D.failed disk.old) (D.failed disk.new)) }
 {
     let end = size - DIGEST_BYTES as u64;
     let mut from = FRONT_BYTES as u64;

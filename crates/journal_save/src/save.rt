@@ -32,12 +32,17 @@ pub fn save_in_place<D: Disk, E: Edits>(
     requires room { length room.old ≡ PIECE_ROOM }
 
     // At `Ok` each crash from now on leaves the new file, and no journal.
-    ensures saved { OnOk result (Over (λ d e. IsDurable (laid_all (E.all edits.old) d.now.file) e.now) (D.disk disk.old) (D.disk disk.new)) }
+    ensures saved { OnOk result (Over
+        (λ d e. IsDurable (laid_all (E.all edits.old) d.now.file) e.now)
+        (D.disk disk.old) (D.disk disk.new)) }
     ensures free { OnOk result (Over (λ d e. WasFree d) (D.disk disk.old) (D.disk disk.new)) }
-    ensures refused { IfErr result (λ error. Over (IsRefused error (E.all edits.old)) (D.disk disk.old) (D.disk disk.new)) }
+    ensures refused { IfErr result (λ error. Over (IsRefused error (E.all edits.old))
+        (D.disk disk.old) (D.disk disk.new)) }
 
     // A crash at any moment leaves what stands for the old file or the new one, all of it.
-    ensures any_moment { Over (AsItWasOr (λ d e. LeavesOnly (IsEither d.now.file (laid_all (E.all edits.old) d.now.file)) d e)) (D.disk disk.old) (D.disk disk.new) }
+    ensures any_moment { Over (AsItWasOr (λ d e.
+        LeavesOnly (IsEither d.now.file (laid_all (E.all edits.old) d.now.file)) d e))
+        (D.disk disk.old) (D.disk disk.new) }
 
     // It does not give up by itself.
     ensures cause { OnErr result ((D.failed disk.new ≡ true) ⊎ (E.failed edits.new ≡ true)) }
@@ -62,7 +67,8 @@ fn list_all<D: Disk, E: Edits>(disk: &mut D, edits: &mut E, room: &mut [u8]) -> 
     requires quiet { Known (D.disk disk.old) (λ d. IsQuiet d.now) }
     requires empty { Known (D.disk disk.old) (λ d. d.now.beside ≡ fresh_journal) }
     requires room { length room.old ≡ PIECE_ROOM }
-    ensures ok { OnOk result (Over (IsListing (ranges (E.all edits.old))) (D.disk disk.old) (D.disk disk.new)) }
+    ensures ok { OnOk result (Over (IsListing (ranges (E.all edits.old)))
+        (D.disk disk.old) (D.disk disk.new)) }
     ensures untouched { Over IsUntouched (D.disk disk.old) (D.disk disk.new) }
     ensures all { E.all edits.new ≡ E.all edits.old }
     ensures cause { IsCaused result (D.failed disk.old) (D.failed disk.new) (E.failed edits.new) }
@@ -89,8 +95,10 @@ fn list_all<D: Disk, E: Edits>(disk: &mut D, edits: &mut E, room: &mut [u8]) -> 
 fn seal<D: Disk, E: Edits>(disk: &mut D, edits: &mut E, room: &mut [u8]) -> Result<()>
     requires settled { Known (D.disk disk.old) (λ d. IsSettled d.now) }
     requires room { length room.old ≡ PIECE_ROOM }
-    ensures ok { OnOk result (Over (IsGuarding (ranges (E.all edits.old))) (D.disk disk.old) (D.disk disk.new)) }
-    ensures free { OnOk result (Over (λ d e. WasFree d × IsUntouched d e) (D.disk disk.old) (D.disk disk.new)) }
+    ensures ok { OnOk result (Over (IsGuarding (ranges (E.all edits.old)))
+        (D.disk disk.old) (D.disk disk.new)) }
+    ensures free { OnOk result (Over (λ d e. WasFree d × IsUntouched d e)
+        (D.disk disk.old) (D.disk disk.new)) }
     ensures untouched { Over (AsItWasOr IsUntouched) (D.disk disk.old) (D.disk disk.new) }
     ensures all { E.all edits.new ≡ E.all edits.old }
     ensures cause { IsCaused result (D.failed disk.old) (D.failed disk.new) (E.failed edits.new) }
@@ -110,7 +118,8 @@ fn fill<D: Disk, E: Edits>(disk: &mut D, edits: &mut E, room: &mut [u8]) -> Resu
     requires quiet { Known (D.disk disk.old) (λ d. IsQuiet d.now) }
     requires empty { Known (D.disk disk.old) (λ d. d.now.beside ≡ fresh_journal) }
     requires room { length room.old ≡ PIECE_ROOM }
-    ensures ok { OnOk result (Over (IsGuarding (ranges (E.all edits.old))) (D.disk disk.old) (D.disk disk.new)) }
+    ensures ok { OnOk result (Over (IsGuarding (ranges (E.all edits.old)))
+        (D.disk disk.old) (D.disk disk.new)) }
     ensures untouched { Over IsUntouched (D.disk disk.old) (D.disk disk.new) }
     ensures all { E.all edits.new ≡ E.all edits.old }
     ensures cause { IsCaused result (D.failed disk.old) (D.failed disk.new) (E.failed edits.new) }
@@ -123,7 +132,8 @@ fn fill<D: Disk, E: Edits>(disk: &mut D, edits: &mut E, room: &mut [u8]) -> Resu
 
 // Takes away what a save made that did not come to write FILE.
 fn clean<D: Disk>(disk: &mut D)
-    ensures cleaned { Over (λ d e. IsHarmless d.now.file d.now → IsUntouched d e) (D.disk disk.old) (D.disk disk.new) }
+    ensures cleaned { Over (λ d e. IsHarmless d.now.file d.now → IsUntouched d e)
+        (D.disk disk.old) (D.disk disk.new) }
     ensures cause { D.failed disk.old ≡ true → D.failed disk.new ≡ true }
 {
     let _ = disk.clear();
@@ -134,9 +144,11 @@ fn clean<D: Disk>(disk: &mut D)
 // Writes the pieces into FILE, whose journal guards their ranges.
 fn write_all<D: Disk, E: Edits>(disk: &mut D, edits: &mut E, room: &mut [u8]) -> Result<()>
     requires guarded { Known (D.disk disk.old) (λ d. IsGuarded d.now) }
-    requires covered { Known (D.disk disk.old) (λ d. ranges (listed_in d.now.journal) ≡ ranges (E.all edits.old)) }
+    requires covered { Known (D.disk disk.old)
+        (λ d. ranges (listed_in d.now.journal) ≡ ranges (E.all edits.old)) }
     requires room { length room.old ≡ PIECE_ROOM }
-    ensures ok { OnOk result (Over (λ d e. e.now.writes ≡ d.now.writes ++ E.all edits.old) (D.disk disk.old) (D.disk disk.new)) }
+    ensures ok { OnOk result (Over (λ d e. e.now.writes ≡ d.now.writes ++ E.all edits.old)
+        (D.disk disk.old) (D.disk disk.new)) }
     ensures file { Over (λ d e. e.now.file ≡ d.now.file) (D.disk disk.old) (D.disk disk.new) }
     ensures writing { Over IsWriting (D.disk disk.old) (D.disk disk.new) }
     ensures cause { IsCaused result (D.failed disk.old) (D.failed disk.new) (E.failed edits.new) }
@@ -151,7 +163,8 @@ fn write_all<D: Disk, E: Edits>(disk: &mut D, edits: &mut E, room: &mut [u8]) ->
 // The same, durably.
 fn write_over<D: Disk, E: Edits>(disk: &mut D, edits: &mut E, room: &mut [u8]) -> Result<()>
     requires guarded { Known (D.disk disk.old) (λ d. IsGuarded d.now) }
-    requires covered { Known (D.disk disk.old) (λ d. ranges (listed_in d.now.journal) ≡ ranges (E.all edits.old)) }
+    requires covered { Known (D.disk disk.old)
+        (λ d. ranges (listed_in d.now.journal) ≡ ranges (E.all edits.old)) }
     requires room { length room.old ≡ PIECE_ROOM }
     ensures ok { OnOk result (Over (IsOver (E.all edits.old)) (D.disk disk.old) (D.disk disk.new)) }
     ensures writing { Over IsWriting (D.disk disk.old) (D.disk disk.new) }

@@ -46,8 +46,8 @@ fn a_save_is_done(rt: HostRuntime) -> Result<(), Fail> {
     assert_eq!(rt; disk.now.file, 9);
     assert!(rt; disk.now.journal.is_none());
     assert!(rt; disk.now.before.is_none());
-    // create, three appends and the digest, sync_journal, publish, sync_folder, write_at, sync_file,
-    // remove_journal, sync_folder
+    // create, three appends and the digest, sync_journal, publish, sync_folder, write_at,
+    // sync_file, remove_journal, sync_folder
     assert_eq!(rt; disk.past.len(), 12);
     Ok(())
 }

@@ -10,15 +10,17 @@ units_of nan = 0
 units_of (inf s) = 0
 units_of (fin s m e) = m * up e * 2 ^ 1074 / down e
 
+-- whether a float has the sign minus, -0 and -inf too; what is no number has none
 abbrev pub is_negative : Float → Bool
 is_negative nan = false
 is_negative (inf s) = s
 is_negative (fin s m e) = s
 
--- what a float adds to the sum of the positive ones, and to that of the negative ones
+-- what a float adds to the sum of the positive ones
 abbrev pub plus_of : Float → ℕ
 plus_of v = cond (is_negative v) 0 (units_of v)
 
+-- what a float adds to the sum of the amounts of the negative ones
 abbrev pub minus_of : Float → ℕ
 minus_of v = cond (is_negative v) (units_of v) 0
 
@@ -45,6 +47,7 @@ beside_infinities false false s = s
 abbrev pub total_of : List Float → Float
 total_of vs = beside_infinities (list_any (is_infinity false) vs) (list_any (is_infinity true) vs) (nearest_sum (filter float_is_finite vs))
 
+-- no float is infinite or no number
 abbrev pub AreFinite : List Float → Type 0
 AreFinite vs = All (λ v. float_is_finite v ≡ true) vs
 

@@ -11,12 +11,13 @@ use Rattle.float_text.specs.declared.reading.Reading.{Reading}
 use Rattle.float_text.specs.declared.reading.Reading.TheVariants.{Value}
 use Rattle.float_text.specs.Words.{size_of, ibm_reading}
 
--- the floats that a format's texts tell apart, and of them the one whose text is shown: at binary32 the nearest one
+-- the floats that a format's texts tell apart
 abbrev pub text_format : FloatFormat → Format
 text_format Ibm32 = binary64
 text_format Ieee32 = binary32
 text_format Ieee64 = binary64
 
+-- the value that a text shows: of binary32 the nearest one of that format
 abbrev pub shown : FloatFormat → Float → Float
 shown Ibm32 v = v
 shown Ieee32 v = round_to_format binary32 v
@@ -55,5 +56,6 @@ pub record IsInfinityOf (v : Float) (text : List ℕ) (negative : Bool) : Type 0
   pub is : text ≡ sign_text negative ++ codes "inf"
   pub infinite : v ≡ inf negative
 
+-- a text of a float: a decimal that reads back as it, or `inf` with its sign
 abbrev pub IsTextOf : Format → Float → List ℕ → Type 0
 IsTextOf f v text = ((negative : Bool) × (p : Parts) × IsDecimalOf f v text negative p) ⊎ ((negative : Bool) × IsInfinityOf v text negative)

@@ -62,7 +62,8 @@ fn hint(fault: LoadFault, on_disk: bool) -> Option<&'static str> {
         ),
         LoadFault::GainFormat => Some(
             "bytes 3225-3226; format 4 is fixed point with gain: \
-             samples with a value are whole numbers, in formats 2, 3, 7 to 12, 15 and 16",
+             samples with a value are whole numbers, in formats 2, 3, 7 to 12, 15 and 16, or \
+             floats, in 1, 5 and 6",
         ),
         LoadFault::TooManyTraces => Some("a file has at most 4294967295 traces"),
         LoadFault::OutOfMemory if on_disk => Some(
@@ -86,7 +87,10 @@ fn unknown_format<W: fmt::Write>(f: &mut fmt::Formatter<W>, code: u16) -> fmt::R
              says the order of a file whose bytes 3297-3300 do not tell it"
         )
     } else {
-        f.write_str("bytes 3225-3226; formats 2, 3, 7 to 12, 15 and 16 are read")
+        f.write_str(
+            "bytes 3225-3226; formats 2, 3, 7 to 12, 15 and 16 are read, and 1, 5 and 6 with \
+             --floats",
+        )
     }
 }
 

@@ -16,20 +16,22 @@ abbrev pub word_or_none : Option FloatWord → List ℕ
 word_or_none None = codes "none"
 word_or_none (Some w) = word_of w
 
--- the words of a least and a greatest float
+-- the word of the least float
 abbrev pub least_of : Option ShownEnds → Option FloatWord
 least_of None = None
 least_of (Some e) = Some e.least
 
+-- the word of the greatest float
 abbrev pub greatest_of : Option ShownEnds → Option FloatWord
 greatest_of None = None
 greatest_of (Some e) = Some e.greatest
 
--- those of the numbers of a trace, and of their sum
+-- the words of the least and the greatest number of a trace, where some sample is one
 abbrev pub ends_in : Option (ShownEnds × FloatWord) → Option ShownEnds
 ends_in None = None
 ends_in (Some p) = Some p.0
 
+-- the word of their sum
 abbrev pub sum_in : Option (ShownEnds × FloatWord) → Option FloatWord
 sum_in None = None
 sum_in (Some p) = Some p.1

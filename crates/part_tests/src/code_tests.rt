@@ -121,10 +121,14 @@ fn reads_floats_as_ranks(rt: HostRuntime) {
 fn writes_floats(rt: HostRuntime) {
     let mut bytes = [0; 4];
     let narrow = ValueFormat::Float(FloatFormat::Ieee32);
-    narrow.encode(Order::Big, i128::from(NO_NUMBER), &mut bytes);
+    let value = i128::from(NO_NUMBER);
+    assert!(rt; narrow.fits(value));
+    narrow.encode(Order::Big, value, &mut bytes);
     assert_eq!(rt; bytes, [0x7F, 0xC0, 0, 0]);
     let ibm = ValueFormat::Float(FloatFormat::Ibm32);
-    ibm.encode(Order::Little, -1 - 0x405D_A800_0000_0000, &mut bytes);
+    let value = -1 - 0x405D_A800_0000_0000;
+    assert!(rt; ibm.fits(value));
+    ibm.encode(Order::Little, value, &mut bytes);
     assert_eq!(rt; bytes, [0, 0xA0, 0x76, 0xC2]);
 }
 

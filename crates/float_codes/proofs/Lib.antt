@@ -1,0 +1,5 @@
+pub mod IbmLemmas
+pub mod NearestLemmas
+pub mod LawLemmas
+pub mod RankLemmas
+pub mod CodeLemmas

@@ -25,4 +25,3 @@ pub mod SeenLemmas
 pub mod EachLemmas
 pub mod LookLemmas
 pub mod RangeLemmas
-pub mod FloatLemmas

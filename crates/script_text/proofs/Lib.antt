@@ -4,4 +4,3 @@ pub mod TableTextLemmas
 pub mod FullLineLemmas
 pub mod AnswerLineLemmas
 pub mod PlainLemmas
-pub mod FloatLineLemmas

@@ -1,5 +1,4 @@
 pub mod Texts
-pub mod FloatTexts
 pub mod RefusalTexts
 pub mod HeaderTexts
 pub mod AnswerTexts

@@ -1,4 +1,4 @@
-/// The least, the greatest and the sum of the values of at least one sample, as in `Statistics`.
+/// The least, the greatest and the sum of the values of at least one sample.
 #[derive(Debug, Clone, Copy, PartialEq, Eq)]
 pub struct Amplitudes {
     pub least: i128,

@@ -105,14 +105,13 @@ class Desk:
     @property
     def words(self) -> List[str]:
         """The options with which the program reads the file as it is read here."""
-        floats = self._volume is not None and self._volume.has_floats
-        return refusals.words_of({**self._options, "floats": floats, "opaque_samples": self.opaque})
+        return refusals.words_of({**self._options, "opaque_samples": self.opaque})
 
     def _opened(self) -> Volume:
         try:
             return segywb.open(self.path, opaque_samples=self.opaque, **self._options)
         except LoadRefused as refusal:
-            if self.opaque or refusal.code not in refusals.OPAQUE:
+            if self.opaque or refusal.code not in refusals.FLOATS:
                 raise
             self.opaque = True
             try:

@@ -4,6 +4,7 @@ import contextlib
 import io
 import os
 import random
+import signal
 import sqlite3
 import subprocess
 import sys
@@ -68,9 +69,16 @@ def _here(words, more):
     return status, told.getvalue(), errors.getvalue()
 
 
+def takes_interrupts():
+    """Behind a shell that runs the tests in the background a process would ignore Ctrl-C."""
+    signal.signal(signal.SIGINT, signal.SIG_DFL)
+
+
 def started(*words, **more):
-    """Starts a command that is to be killed."""
-    return subprocess.Popen(command(*words), env={**ENVIRONMENT, **more}, stdout=subprocess.DEVNULL, stderr=subprocess.DEVNULL)
+    """Starts a command that is to be killed, or interrupted."""
+    return subprocess.Popen(
+        command(*words), env={**ENVIRONMENT, **more}, stdout=subprocess.DEVNULL, stderr=subprocess.DEVNULL, preexec_fn=takes_interrupts
+    )
 
 
 def as_nobody(*words):

@@ -95,7 +95,7 @@ uninstall:
 	rm -rf $(INTO)/share/doc/segywb
 
 # Speed: the program as ratios to cp and md5sum of the same file in the same run: the jobs of a repair, loads and saves, reports,
-# slices, renumberings, headers, a volume on disk, Python, the desk, a library of files, and the order of traces at three sizes.
+# slices, floats, renumberings, headers, a volume on disk, Python, the desk, a library of files, and the order of traces at three sizes.
 speed: build
 	cd crates/timings && { rt run > out.log 2>&1 || true; }
 	bash speed/jobs $(BUILT)
@@ -103,6 +103,7 @@ speed: build
 	bash speed/save $(BUILT)
 	bash speed/live $(BUILT)
 	bash speed/slices $(BUILT)
+	bash speed/floats $(BUILT)
 	bash speed/renumber $(BUILT)
 	bash speed/headers $(BUILT)
 	bash speed/disk $(BUILT)

@@ -6,6 +6,7 @@ complete -c segywb -l out -r -F -d 'save the edited file here'
 complete -c segywb -l in-place -d 'write over that file itself'
 complete -c segywb -l on-disk -d 'leave the bytes of the file on disk, for files larger than memory'
 complete -c segywb -l fixed -d "read each trace with the binary header's number of samples"
+complete -c segywb -l floats -d 'read floats too, with their values'
 complete -c segywb -l opaque-samples -d 'read formats without values too, their samples as bytes'
 complete -c segywb -l order -x -a 'big little' -d 'the order of bytes of a file that does not tell it'
 complete -c segywb -l max-bytes -x -d 'refuse files above so many bytes'

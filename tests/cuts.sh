@@ -60,6 +60,7 @@ ends=(10484); cuts tail.sgy 10000
 # ---- counts: of FILE the bytes from PLACE on (from 1, as the manual counts) become HEX. It is refused with TEXT, or has so many
 # traces, and is then saved as it is
 opaque='segywb: with --opaque-samples the file is read all the same, its samples as bytes without a value'
+floats_hint='segywb: with --floats the file is read, its samples with their values; with --opaque-samples as bytes without a value'
 number=0
 while read -r file place hex text; do
     [ -n "$file" ] || continue
@@ -68,7 +69,8 @@ while read -r file place hex text; do
     put bad.sgy $((place - 1)) "$hex"
     case $text in
         traces*) ways=(may accepted 0 "=$text" - bad.sgy) ;;
-        L06* | L07*) ways=(may refused 3 "=load refused $text" "=$opaque" -) ;;
+        L06*) ways=(may refused 3 "=load refused $text" "=$floats_hint" -) ;;
+        L07*) ways=(may refused 3 "=load refused $text" "=$opaque" -) ;;
         *) ways=(may refused 3 "=load refused $text" - -) ;;
     esac
     once "$file with $hex at $place" saves o.sgy "${ways[@]}" -- "$program" bad.sgy --script count --out o.sgy

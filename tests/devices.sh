@@ -132,6 +132,15 @@ for at in 1 2 500 "$size"; do
 done
 # a write that a signal interrupts is made again
 sweep 'a write of the answers is interrupted at' 0 20 saves o.sgy may whole 1 long.txt - long.sgy -- $library DEVICE=answers HOLDS=% FAULT=$EINTR "$program" s.sgy --script long --out o.sgy
+# and to lines about floats
+float_line f.sgy little 6 2 3fb999999999999a,c05da80000000000 7ff8000000000000,fff0000000000000 8000000000000000,0000000000000001
+printf '%s\n' 'sample 1 0' 'stat 1' 'stat 2' totals 'slice 0' 'slice 1' 'patch 1 0 1e-5 nan' 'patch 1 0 1e999' 'patch 1 0 +1' 'stat 1' 'slice 1' 'resize 1 3' 'sample 3 1' 'delete 3' totals 'delete 1' 'stat 1' totals > floats
+"$program" f.sgy --floats --script floats --out floats.sgy > floats.txt
+size=$(wc -c < floats.txt)
+lost=(saves o.sgy may lost 4 floats.txt:% '=segywb: answers failed' -)
+sweep 'answers about floats take single bytes, and fail at' 0 $((size - 1)) "${lost[@]}" -- $library DEVICE=answers STEP=1 HOLDS=% "$program" f.sgy --floats --script floats --out o.sgy
+sweep 'answers about floats fail at' 0 $((size - 1)) "${lost[@]}" -- $library DEVICE=answers HOLDS=% "$program" f.sgy --floats --script floats --out o.sgy
+sweep 'a write of answers about floats is interrupted at' 0 20 saves o.sgy may whole 1 floats.txt - floats.sgy -- $library DEVICE=answers HOLDS=% FAULT=$EINTR "$program" f.sgy --floats --script floats --out o.sgy
 { head -c 3600 s.sgy; zeros 244000; } > blanks.sgy
 echo faults > list
 "$program" blanks.sgy --script list > list.txt

@@ -82,3 +82,45 @@ varying() {
     put "$file" 3714 0003
     put "$file" 4204 ffff
 }
+
+# at ORDER FILE PLACE HEX: the number into the file, in that order of bytes
+at() {
+    local hex=$4
+    [ "$1" = big ] || hex=$(fold -w 2 <<< "$4" | tac | tr -d '\n')
+    put "$2" "$3" "$hex"
+}
+
+# float_line FILE ORDER FORMAT MAJOR TRACE..: floats on inline 10 and crosslines 21 and on, a trace for each word: the patterns of its
+# samples in hexadecimal, with commas between them, or `-` for none. Of fixed length where they are equally many and the revision is
+# not 0; the binary header has the first trace's number, and 0 where a trace has none. Bytes 3297-3300 tell the order in revision 2 alone
+float_line() {
+    local file=$1 order=$2 format=$3 major=$4 number=0 trace pattern bytes fixed=1 length first count
+    local -a patterns
+    shift 4
+    IFS=, read -ra patterns <<< "${1#-}"
+    first=${#patterns[@]}
+    case " $* " in *' - '*) count=0 ;; *) count=$first ;; esac
+    { ebcdic_header; zeros 400; } > "$file"
+    at "$order" "$file" 3216 0fa0
+    at "$order" "$file" 3220 "$(printf %04x "$count")"
+    at "$order" "$file" 3224 "$(printf %04x "$format")"
+    put "$file" 3500 "0$major"
+    [ "$major" != 2 ] || at "$order" "$file" 3296 01020304
+    for trace in "$@"; do
+        number=$((number + 1))
+        length=$(wc -c < "$file")
+        IFS=, read -ra patterns <<< "${trace#-}"
+        [ "${#patterns[@]}" = "$first" ] || fixed=0
+        bytes=
+        for pattern in ${patterns[@]+"${patterns[@]}"}; do
+            [ "$order" = big ] || pattern=$(fold -w 2 <<< "$pattern" | tac | tr -d '\n')
+            bytes+=$pattern
+        done
+        { zeros 240; printf "$(sed 's/../\\x&/g' <<< "$bytes")"; } >> "$file"
+        at "$order" "$file" $((length + 4)) "$(printf %08x "$number")"
+        at "$order" "$file" $((length + 114)) "$(printf %04x "${#patterns[@]}")"
+        at "$order" "$file" $((length + 188)) 0000000a
+        at "$order" "$file" $((length + 192)) "$(printf %08x $((20 + number)))"
+    done
+    [ "$major" = 0 ] || at "$order" "$file" 3502 "000$fixed"
+}

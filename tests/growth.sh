@@ -152,6 +152,23 @@ reads_alone 'text 40 C40 END' 'text 41 C40 END'
 reads_alone 'bin interval 1000' 'bin intervals 1000'
 reads_alone 'unmap mine' 'unmap nine'
 
+# ---- floats with values, of each format: a patch takes memory, and a slice more than one of whole numbers; nothing else of values does.
+# The option is one more word of the command line
+before=$first
+first=1
+option+=(--floats)
+float_line ibm.sgy big 1 1 42010000,c276a000 80000000,00000001 7fffffff,4019999a
+float_line f.sgy little 5 2 3dcccccd,c2ed4000 7fc00000,7f800000 80000000,00000001
+float_line wide.sgy big 6 0 3fb999999999999a,c05da80000000000 7ff8000000000000 8000000000000000,0000000000000001,fff0000000000000
+for file in ibm.sgy f.sgy wide.sgy; do
+    grows "patched floats of $file" $file 'patch 1 0 1.5e-3 -118.625' 'patch 2 0 1e9999' 'patch 1 0 .25 -0' "${queries[@]}" 'slice 1'
+    grows "slices of floats of $file" $file 'slice 0' 'slice 0' 'patch 2 0 7' 'slice 0' 'delete 1' 'slice 0' 'slice 1' totals 'stat 1'
+done
+grows 'another number of floats' wide.sgy 'resize 2 5' 'stat 2' 'patch 2 0 nan inf -inf 1 2' 'stat 2' 'slice 4' 'resize 1 1' totals 'slice 1'
+grows 'words that are no floats' f.sgy 'patch 1 0 1 +1' 'patch 1 0 1e 2' 'patch 9 0 1.5' 'patch 1 9 1.5' 'slice 0'
+option=("${@:2}")
+first=$before
+
 # ---- long scripts: edits and queries at random
 random_lines() { # SEED NUMBER: into the array `all`
     local n p q

@@ -1,7 +1,7 @@
 /* Makes hostile SEG-Y files and runs the program on each: it loads the file, answers queries and saves it.
    usage: hostile_files PROGRAM SEED NUMBER FILE..
    Each of the NUMBER variants is one of the FILEs, cut, with a tail, or with bytes changed where the frame is steered, as the
-   numbers drawn from SEED say; --fixed, --opaque-samples and --order are drawn too. Whether it is refused, with which text, and the
+   numbers drawn from SEED say; --fixed, --floats, --opaque-samples and --order are drawn too. Whether it is refused, with which text, and the
    number of its traces are worked out here a second time, from the manual's words. A file that is refused gives that text alone and saves nothing; of one that is accepted no query
    is refused, and it is saved byte for byte.
    Prints the variants that went otherwise, and how often each refusal came. */
@@ -27,7 +27,7 @@ static uint64_t draw(uint64_t below) {
 struct volume {
     const byte *bytes;
     size_t length, most;
-    int little, fixed_reading, opaque_reading;
+    int little, fixed_reading, floats_reading, opaque_reading;
     const char *order; /* that is asked for, or NULL */
     int is_opaque; /* its samples have no values */
 };
@@ -129,7 +129,7 @@ static void judge(struct volume *file, char *text) {
     uint64_t format, first;
     int64_t blocks, count, trailer = 0;
     struct frame frame;
-    int major, second;
+    int major, second, is_float;
     file->little = file->is_opaque = 0;
     if (file->length > file->most) { strcpy(text, "L02 too large"); return; }
     if (file->length < 3600) { sprintf(text, "L03 short %zu", file->length); return; }
@@ -139,7 +139,8 @@ static void judge(struct volume *file, char *text) {
     second = major == 2;
     if (major > 2 || (second && file->bytes[3501])) { sprintf(text, "L05 revision %d.%d", major, file->bytes[3501]); return; }
     format = field(file, 3224, 2);
-    file->is_opaque = format == 1 || format == 4 || format == 5 || format == 6;
+    is_float = format == 1 || format == 5 || format == 6;
+    file->is_opaque = format == 4 || (is_float && !file->floats_reading);
     if (file->is_opaque && !file->opaque_reading) {
         if (format == 4) strcpy(text, "L07 gain format");
         else sprintf(text, "L06 float format %d", (int)format);
@@ -287,9 +288,10 @@ static void ask(const char *text, int is_opaque) {
     write_path("queries", queries, strlen(queries));
 }
 
-/* What standard error has, the refusal aside: of a file whose format is read under the option alone the line that names it. */
+/* What standard error has, the refusal aside: of a file whose format is read under an option alone the line that names it. */
 static const char *told_beside(const char *text) {
-    if (strncmp(text, "L06", 3) && strncmp(text, "L07", 3)) return "";
+    if (!strncmp(text, "L06", 3)) return "segywb: with --floats the file is read, its samples with their values; with --opaque-samples as bytes without a value\n";
+    if (strncmp(text, "L07", 3)) return "";
     return "segywb: with --opaque-samples the file is read all the same, its samples as bytes without a value\n";
 }
 
@@ -297,9 +299,9 @@ static const char *told_beside(const char *text) {
 static int run(char *program, long number, byte *bytes) {
     extern char **environ;
     const char *told;
-    struct volume file = {bytes, vary(bytes), 4294967296, 0, draw(4) == 0, draw(3) == 0, NULL, 0};
+    struct volume file = {bytes, vary(bytes), 4294967296, 0, draw(4) == 0, draw(3) == 0, draw(3) == 0, NULL, 0};
     char text[80], wanted[100], limit[30];
-    char *words[14] = {program, "variant.sgy", "--script", "queries", "--out", "saved.sgy", "--max-bytes", limit}, **word = words + 8;
+    char *words[15] = {program, "variant.sgy", "--script", "queries", "--out", "saved.sgy", "--max-bytes", limit}, **word = words + 8;
     struct ended ended;
     struct text saved;
     int well, is_accepted;
@@ -307,6 +309,7 @@ static int run(char *program, long number, byte *bytes) {
     sprintf(limit, "%zu", file.most);
     if (draw(5) == 0) file.order = draw(2) ? "big" : "little";
     if (file.fixed_reading) *word++ = "--fixed";
+    if (file.floats_reading) *word++ = "--floats";
     if (file.opaque_reading) *word++ = "--opaque-samples";
     if (file.order) *word++ = "--order", *word++ = (char *)file.order;
     judge(&file, text);
@@ -323,7 +326,7 @@ static int run(char *program, long number, byte *bytes) {
         && (is_accepted || ended.answers.length == strlen(wanted))
         && (is_accepted ? saved.bytes && saved.length == file.length && !memcmp(saved.bytes, bytes, file.length) : !saved.bytes);
     if (!well) {
-        printf("FAILED variant %ld of %zu bytes, limit %s%s%s%s%s: ", number, file.length, limit, file.fixed_reading ? ", fixed" : "", file.opaque_reading ? ", opaque" : "",
+        printf("FAILED variant %ld of %zu bytes, limit %s%s%s%s%s%s: ", number, file.length, limit, file.fixed_reading ? ", fixed" : "", file.floats_reading ? ", floats" : "", file.opaque_reading ? ", opaque" : "",
             file.order ? ", " : "", file.order ? file.order : "");
         say_end(&ended);
         printf(saved.bytes ? ", saved %zu bytes" : ", nothing saved", saved.length);

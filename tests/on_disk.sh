@@ -36,6 +36,15 @@ alike 'a file that is refused' script
 head -c 4000 s.sgy > torn.sgy
 alike 'a torn file' torn.sgy
 alike 'a file above its limit' s.sgy --max-bytes 4331
+printf '%s\n' info 'sample 1 1' 'stat 1' 'stat 2' totals 'slice 0' 'patch 1 0 nan -1e-5' 'patch 2 0 1e999' 'stat 1' totals 'slice 0' 'slice 1' 'resize 2 4' 'stat 2' \
+    'copy 2 1' 'blank 1' 'move 1 3' totals 'slice 1' 'delete 2' totals faults > script
+float_line f1.sgy big 1 0 42010000,c276a000 - 7fffffff,4019999a,80000000
+float_line f5.sgy little 5 2 3dcccccd,c2ed4000 7fc00000,7f800000 80000000,00000001
+float_line f6.sgy big 6 1 3fb999999999999a,c05da80000000000 7ff8000000000000,fff0000000000000 8000000000000000,0000000000000001
+for file in f1.sgy f5.sgy f6.sgy; do
+    alike "floats of $file" $file --floats
+    alike "opaque floats of $file" $file --opaque-samples
+done
 : > script
 alike 'nothing is changed' v.sgy
 
@@ -91,6 +100,24 @@ for call in $(seq 1 40); do
     tell "read $call fails" "$outcome"
 done
 
+# ---- a statistic of floats looks at its trace, and one of whole numbers at none; totals look at none
+printf 'stat 2\ntotals\nsample 3 0\n' > script
+"$program" f5.sgy --floats --script script > whole.txt
+sed '1s/.*/refused E14 read failed/' whole.txt > stat_failed.txt
+sed '3s/.*/refused E14 read failed/' whole.txt > sample_failed.txt
+met=
+for call in $(seq 1 20); do
+    env $library DEVICE=f5.sgy FAIL_CALL=$call "$program" f5.sgy --floats --on-disk --script script > answers 2> errors
+    status=$?
+    outcome="status $status: $(head -c 300 answers)"
+    if [ $status = 3 ] && [ "$(< answers)" = 'load refused L01 read failed' ]; then outcome=ok; fi
+    if [ $status = 0 ] && cmp -s whole.txt answers; then outcome=ok; fi
+    if [ $status = 1 ] && cmp -s stat_failed.txt answers; then outcome=ok met+=stat; fi
+    if [ $status = 1 ] && cmp -s sample_failed.txt answers; then outcome=ok met+=sample; fi
+    tell "a statistic of floats, read $call fails" "$outcome"
+done
+case $met in *stat*) tell 'some statistic of floats met it' ok ;; *) tell 'some statistic of floats met it' 'none did' ;; esac
+
 # ---- a set of an inline reads nothing: whichever read fails, it is done where the file was loaded (and below, where the trace is cut off)
 printf 'set 2 @189:4 7\nrenumber 1 3 @193:4 5 1\n' > script
 for call in $(seq 1 12); do
@@ -102,12 +129,14 @@ for call in $(seq 1 12); do
 done
 
 # ---- the file changes while the program runs: a session, so that it is known when
-# meanwhile NAME LINE ANSWER COMMAND: the file own.sgy is loaded, the command is run, and the line then has this answer; at the end nothing is saved
+# meanwhile NAME LINE ANSWER COMMAND: the file own.sgy, a copy of $base, is loaded with the options `reading`, the command is run, and the line then has this answer; at the end nothing is saved
+base=v.sgy
+reading=()
 meanwhile() {
     local name=$1 line=$2 wanted=$3 command=$4 said outcome=ok status
-    cp v.sgy own.sgy
+    cp "$base" own.sgy
     rm -f o.sgy
-    coproc RUN { "$program" own.sgy --on-disk --session --save-at-end --out o.sgy 2> errors; }
+    coproc RUN { "$program" own.sgy ${reading[@]+"${reading[@]}"} --on-disk --session --save-at-end --out o.sgy 2> errors; }
     local in=${RUN[1]} out=${RUN[0]} id=$RUN_PID
     printf 'count\n' >&"$in"
     read -r said <&"$out"
@@ -130,6 +159,13 @@ meanwhile 'cut, and a slice' 'slice 0' 'refused E14 read failed' 'truncate -s 37
 meanwhile 'cut, and a set that reads nothing' "set $last inline 7" 'ok' 'truncate -s 3700 own.sgy'
 meanwhile 'grown' 'count' "traces $last" 'printf x >> own.sgy'
 meanwhile 'a trace of another length' "get 1 inline" 'refused E15 file changed' 'put own.sgy $((3600 + 114)) 0fff'
+meanwhile 'a statistic of whole numbers, cut' 'stat 1' "$(echo 'stat 1' | "$program" v.sgy --script /dev/stdin)" 'truncate -s 3700 own.sgy'
+base=f1.sgy reading=(--floats)
+totals=$(echo totals | "$program" f1.sgy --floats --script /dev/stdin)
+meanwhile 'a statistic of floats, cut' 'stat 3' 'refused E14 read failed' 'truncate -s 3700 own.sgy'
+meanwhile 'a slice of floats, cut' 'slice 0' 'refused E14 read failed' 'truncate -s 3700 own.sgy'
+meanwhile 'totals of floats, cut' totals "$totals" 'truncate -s 3700 own.sgy'
+meanwhile 'a statistic of floats, of another length' 'stat 1' 'refused E15 file changed' 'put own.sgy $((3600 + 114)) 0fff'
 
 # ---- the file changes while it is copied to a pipe, which took a part by then
 survey copied.sgy

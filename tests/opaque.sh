@@ -1,12 +1,5 @@
 # Files whose samples are bytes without a value, and files that do not tell their order of bytes. Sourced by run.sh.
 
-# at ORDER FILE PLACE HEX: the number into the file, in that order of bytes
-at() {
-    local hex=$4
-    [ "$1" = big ] || hex=$(fold -w 2 <<< "$4" | tac | tr -d '\n')
-    put "$2" "$3" "$hex"
-}
-
 # samples_of FORMAT: two samples by the standard's tables: 1.0 and -118.625, and with a gain 1 and 2
 samples_of() {
     case $1 in
@@ -90,7 +83,7 @@ for major in 0 1 2; do
             expect "$name, again" 0 'traces 2\nvalue 11\n' '' o.sgy --script again "${options[@]}"
             case $format in 4) code='L07 gain format' ;; *) code="L06 float format $format" ;; esac
             [ ${#options[@]} = 1 ] || code="L08 unknown format $((256 * format))"
-            case $code in L08*) errors_wanted='' ;; *) errors_wanted=$opaque ;; esac
+            case $code in L08*) errors_wanted='' ;; L06*) errors_wanted=$floats_hint ;; *) errors_wanted=$opaque ;; esac
             expect "$name, unasked" 3 "load refused $code\n" "$errors_wanted" f.sgy --script again
         done
     done

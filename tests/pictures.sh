@@ -82,14 +82,24 @@ has 'says so' page.html '<tr><th scope="row">fold (traces of a cell)</th><td>non
 runs 'a page' 0 '' segywb-report --no-pictures cube.sgy memory.html
 runs 'a page of a file that stays on disk' 0 '' segywb-report --no-pictures --on-disk cube.sgy disk.html
 if cmp -s memory.html disk.html; then tell 'the same page' ok; else tell 'the same page' 'it differs'; fi
-runs 'a page of floats' 0 '' segywb-report --no-pictures --opaque-samples float_line.sgy page.html fix.txt
+runs 'a page of floats' 0 '' segywb-report --no-pictures float_line.sgy page.html fix.txt
 has 'their format' page.html '<tr><th scope="row">sample format</th><td>1: 4 bytes, IBM float</td><td>1: 4 bytes, IBM float</td></tr>'
 has 'their cells' page.html '<tr class="differs"><th scope="row">cells of the grid</th><td>8</td><td>12</td></tr>'
 has 'their faults' page.html '<td>4</td><td>trace 5 first 1; trace 6 first 2; trace 7 first 3; trace 8 first 4</td><td>0</td><td></td>'
+printf 'patch 6 2 -12.75\npatch 9 3 0 0\n' > muted.txt
+runs 'a page of wrong floats' 0 '' segywb-report --no-pictures --floats wrong_floats.sgy page.html muted.txt
+has 'their least' page.html '<tr><th scope="row">least sample</th><td>-12.875</td><td>-12.875</td></tr>'
+has 'their greatest' page.html '<tr class="differs"><th scope="row">greatest sample</th><td>1e20</td><td>5.5</td></tr>'
+has 'their mean' page.html '<tr><th scope="row">mean of the samples</th><td>not told of floats</td><td>not told of floats</td></tr>'
+has 'what is no number' page.html '<tr class="differs"><th scope="row">samples that are no numbers</th><td>2</td><td>0</td></tr>'
+cp float_line.sgy gain.sgy
+printf '\0\4' | dd of=gain.sgy bs=1 seek=3224 conv=notrunc status=none
+runs 'a page of samples with a gain' 0 '' segywb-report --no-pictures --opaque-samples gain.sgy page.html
+has 'that format' page.html '<tr><th scope="row">sample format</th><td>4: 4 bytes, fixed point with gain</td>'
 for what in 'least sample' 'greatest sample' 'mean of the samples' samples; do
     has "no $what" page.html "<tr><th scope=\"row\">$what</th><td>not told: samples of this format have no value here</td>"
 done
-runs 'a page of floats, unasked' 3 $'float_line.sgy: load refused L06 float format 1\nsegywb: float_line.sgy: L06' segywb-report --no-pictures float_line.sgy x.html
+runs 'a page of samples with a gain, unasked' 3 $'gain.sgy: load refused L07 gain format\nsegywb: gain.sgy: L07' segywb-report --no-pictures gain.sgy x.html
 has 'names the option' errors 'with --opaque-samples the file is read all the same'
 runs 'a page under the other order' 3 'cube.sgy: load refused L08' segywb-report --no-pictures --order little cube.sgy x.html
 
@@ -169,8 +179,11 @@ drawn 'a file without traces' 700x500 'segywb-plot: no traces' --size 700x500 fo
 drawn 'positions of no traces' 1200x900 'segywb-plot: no traces' coordinates none.sgy
 drawn 'a histogram of no traces' 1200x900 'segywb-plot: no traces' histogram none.sgy
 drawn 'a sample that no trace has' 1200x900 'segywb-plot: no trace has sample 5' slice 5 cube.sgy
-drawn 'a slice of floats' 1200x900 'segywb-plot: no slice: samples of format 1 have no value here' --opaque-samples slice 1 float_line.sgy
-drawn 'positions of floats' 1200x900 '' --opaque-samples coordinates float_line.sgy
+drawn 'a slice of floats' 1200x900 '' slice 1 float_line.sgy
+drawn 'a slice without values' 1200x900 'segywb-plot: no slice: samples of format 4 have no value here' --opaque-samples slice 1 gain.sgy
+drawn 'positions of floats' 1200x900 '' --floats coordinates float_line.sgy
+printf 'patch 1 0 3.4e38 -3.4e38 1e-45 inf nan\npatch 2 3 nan\n' > script
+for k in 0 1 2 3 4; do drawn "floats of every size, sample $k" 1200x900 '' --script script --all slice $k wrong_floats.sgy; done
 drawn 'a survey of one line' 1200x900 '' slice 1 survey.sgy
 printf 'delete 3\ndelete 2\n' > script
 drawn 'a survey of one trace' 1200x900 '' --script script fold survey.sgy
@@ -227,11 +240,21 @@ cells 'a trace twice' 101 204 253 231 37
 drawn 'a fold map of the cube without a trace' 400x300 '' --size 400x300 fold missing.sgy
 cells 'a missing trace' 102 203 204 204 204
 printf 'renumber 5 8 inline 102 0\ndelete 7\n' > script
-drawn 'a fold map of floats after edits' 400x300 '' --size 400x300 --opaque-samples --script script fold float_line.sgy
+drawn 'a fold map of floats after edits' 400x300 '' --size 400x300 --script script fold float_line.sgy
 cells 'floats after edits' 102 203 204 204 204
 printf 'map inline @9:4\nmap crossline @21:4\ncopy 9 9\n' > script
 drawn 'a fold map after edits' 400x300 '' --size 400x300 --script script fold elsewhere.sgy
 cells 'after edits' 103 201 253 231 37
+
+# of floats: what is no finite number is grey as a missing trace, a dead trace is white, and the ends of the colours are told
+printf 'patch 1 3 4\npatch 12 3 -4\npatch 6 3 -inf\n' > script
+drawn 'a slice of floats after edits' 400x300 '' --size 400x300 --script script slice 3 wrong_floats.sgy
+cell 'no number' 103 201 204 204 204
+cell 'no finite number' 102 202 204 204 204
+cell 'a dead trace' 101 203 255 255 255
+cell 'the greatest float' 101 201 168 15 20
+cell 'the least float' 103 204 10 47 156
+judge
 
 # the greatest and the least sample are red and blue, and 0 is white
 printf 'patch 2 1 500\npatch 12 1 -500\npatch 5 1 0\ndelete 9\n' > script

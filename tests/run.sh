@@ -230,7 +230,8 @@ head -c 3599 s.sgy > bad.sgy; refused 'short' 'L03 short 3599' bad.sgy
 cp s.sgy bad.sgy; put bad.sgy 3296 02010403; refused 'pairs' 'L04 pair swapped' bad.sgy
 cp s.sgy bad.sgy; put bad.sgy 3500 0201; refused 'revision' 'L05 revision 2.1' bad.sgy
 opaque='segywb: with --opaque-samples the file is read all the same, its samples as bytes without a value\n'
-cp s.sgy bad.sgy; put bad.sgy 3224 0001; expect 'float' 3 'load refused L06 float format 1\n' "$opaque" bad.sgy --script script --out o.sgy
+floats_hint='segywb: with --floats the file is read, its samples with their values; with --opaque-samples as bytes without a value\n'
+cp s.sgy bad.sgy; put bad.sgy 3224 0001; expect 'float' 3 'load refused L06 float format 1\n' "$floats_hint" bad.sgy --script script --out o.sgy
 cp s.sgy bad.sgy; put bad.sgy 3224 0004; expect 'gain' 3 'load refused L07 gain format\n' "$opaque" bad.sgy --script script --out o.sgy
 cp s.sgy bad.sgy; put bad.sgy 3224 000d; refused 'format' 'L08 unknown format 13' bad.sgy
 cp s.sgy bad.sgy; put bad.sgy 3504 fffe; refused 'text count' 'L09 text count -2' bad.sgy
@@ -292,6 +293,8 @@ expect 'the greatest limit' 0 'ok\n' '' s.sgy --script script --max-bytes 109951
 . "$here/edits.sh" || tell 'edits.sh' 'did not run to its end'
 
 . "$here/opaque.sh" || tell 'opaque.sh' 'did not run to its end'
+
+. "$here/floats.sh" || tell 'floats.sh' 'did not run to its end'
 
 . "$here/headers.sh" || tell 'headers.sh' 'did not run to its end'
 . "$here/computed.sh" || tell 'computed.sh' 'did not run to its end'

@@ -76,10 +76,13 @@ expect 'and quietly' 3 'load refused L03 short 3000\n' '' short.sgy --session --
 cp s.sgy floats.sgy
 put floats.sgy 3220 0001
 put floats.sgy 3224 0001
-expect 'floats' 3 'load refused L06 float format 1\n' 'segywb: floats.sgy: L06 float format 1 (bytes 3225-3226; formats 1, 5 and 6 are floats: samples with a value are whole numbers, in formats 2, 3, 7 to 12, 15 and 16)\nsegywb: with --opaque-samples the file is read all the same, its samples as bytes without a value\n' floats.sgy --session
+expect 'floats' 3 'load refused L06 float format 1\n' 'segywb: floats.sgy: L06 float format 1 (bytes 3225-3226; formats 1, 5 and 6 are floats, which have values where --floats asks for them)\nsegywb: with --floats the file is read, its samples with their values; with --opaque-samples as bytes without a value\n' floats.sgy --session
 printf 'info\nsample 1 0\nset 1 inline 7\nsample 9 0\nget 1 inline\n' > lines
 expect 'floats, asked for' 1 'info order big revision 1.0 format 1 samples 1 fixed yes extensions 0 blocks 0 trailer 0 traces 3 bytes 4332\n\nrefused E12 samples have no value\n\nok\n\nrefused E01 no trace 9 of 3\n\nvalue 7\n\n' '' floats.sgy --session --opaque-samples
 as_a_run 'floats as a run' floats.sgy --opaque-samples
+printf 'info\npatch 1 0 -118.625\nsample 1 0\nstat 1\ntotals\npatch 2 0 1e76\npatch 3 0 nan\nslice 0\n' > lines
+expect 'floats with values' 1 'info order big revision 1.0 format 1 samples 1 fixed yes extensions 0 blocks 0 trailer 0 traces 3 bytes 4332\n\nok\n\nvalue -118.625\n\nstat least -118.625 greatest -118.625 sum -118.625 samples 1 nans 0\n\ntotals least -7.0956604003048715e75 greatest 1.0120715927804881e-79 samples 3 nans 0\n\nrefused E04 does not fit\n\nrefused E04 does not fit\n\nslice 3\nrow 10 21 1 -118.625\nrow 10 22 2 1.0120715927804881e-79\nrow 10 23 3 -7.0956604003048715e75\n\n' '' floats.sgy --session --floats
+as_a_run 'floats with values as a run' floats.sgy --floats
 
 # ---- as a run of the same lines
 printf 'count\nset 1 inline 77\nset 9 inline 1\ninlines\nfaults\ngrid\n# note\n\nmap far @1:4\nfields\ninfo\nhistogram\nslice 0\nslice 1\nslice 1\nline 0 1\ntext 1 C 1 NOTE\nline 0 1\n' > lines

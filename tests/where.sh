@@ -44,7 +44,7 @@ told 'a word of Seismic Unix in capitals' 'get 1 FLDR' 'E02 no field: get 1 FLDR
 told 'a near name of a search' 'find 1 3 crosline 1 2' 'E02 no field: find 1 3 crosline 1 2 (did you mean crossline?)'
 told 'no near name' 'get 1 z' 'E02 no field: get 1 z'
 told 'a hexadecimal number' 'set 1 inline 0x7' 'S03 number: set 1 inline 0x7 (numbers are decimal)'
-told 'a number with a point' 'set 1 inline 7.0' 'S03 number: set 1 inline 7.0 (numbers are whole, in digits alone)'
+told 'a number with a point' 'set 1 inline 7.0' 'S03 number: set 1 inline 7.0 (whole numbers are digits alone, and samples of floats decimals, such as -1.5e3)'
 told 'a number with a plus' 'set 1 inline +7' 'S03 number: set 1 inline +7 (a number has no + in front)'
 told 'a note behind a command' 'set 1 inline 7 # why' 'S02 words: set 1 inline 7 # why (a note stands on a line of its own)'
 told 'a note behind numbers' 'patch 1 0 7 # why' 'S03 number: patch 1 0 7 # why (a note stands on a line of its own)'
@@ -203,7 +203,10 @@ load_told() {
     shift 3
     printf 'count\n' > script
     told="segywb: bad.sgy: $text ($hint)"
-    case $text in L06* | L07*) told+=$'\nsegywb: with --opaque-samples the file is read all the same, its samples as bytes without a value' ;; esac
+    case $text in
+        L06*) told+=$'\nsegywb: with --floats the file is read, its samples with their values; with --opaque-samples as bytes without a value' ;;
+        L07*) told+=$'\nsegywb: with --opaque-samples the file is read all the same, its samples as bytes without a value' ;;
+    esac
     "$program" bad.sgy --script script "$@" > answers 2> errors
     local got=$?
     if [ $got = 3 ] && [ "$(< answers)" = "load refused $text" ] && [ "$(< errors)" = "$told" ]; then tell "$name" ok; else tell "$name" "status $got: $(< answers): $(< errors)"; fi
@@ -212,10 +215,10 @@ cp s.sgy bad.sgy; load_told 'a limit' 'L02 too large' '--max-bytes N raises the 
 head -c 99 s.sgy > bad.sgy; load_told 'a short file' 'L03 short 99' 'the two file headers have 3600 bytes'
 cp s.sgy bad.sgy; put bad.sgy 3296 02010403; load_told 'swapped pairs' 'L04 pair swapped' 'bytes 3297-3300 are 02 01 04 03: the two bytes of each pair are swapped; swap them back, as by dd conv=swab'
 cp s.sgy bad.sgy; put bad.sgy 3500 0201; load_told 'a revision' 'L05 revision 2.1' 'bytes 3501-3502; revisions 0, 1 and 2.0 are read'
-cp s.sgy bad.sgy; put bad.sgy 3224 0005; load_told 'floats' 'L06 float format 5' 'bytes 3225-3226; formats 1, 5 and 6 are floats: samples with a value are whole numbers, in formats 2, 3, 7 to 12, 15 and 16'
-cp s.sgy bad.sgy; put bad.sgy 3224 0004; load_told 'gain' 'L07 gain format' 'bytes 3225-3226; format 4 is fixed point with gain: samples with a value are whole numbers, in formats 2, 3, 7 to 12, 15 and 16'
+cp s.sgy bad.sgy; put bad.sgy 3224 0005; load_told 'floats' 'L06 float format 5' 'bytes 3225-3226; formats 1, 5 and 6 are floats, which have values where --floats asks for them'
+cp s.sgy bad.sgy; put bad.sgy 3224 0004; load_told 'gain' 'L07 gain format' 'bytes 3225-3226; format 4 is fixed point with gain: samples with a value are whole numbers, in formats 2, 3, 7 to 12, 15 and 16, or floats, in 1, 5 and 6'
 cp s.sgy bad.sgy; put bad.sgy 3224 0300; load_told 'another byte order' 'L08 unknown format 768' 'bytes 3225-3226; in the other byte order it is 3: --order big or --order little says the order of a file whose bytes 3297-3300 do not tell it'
-cp s.sgy bad.sgy; put bad.sgy 3224 000d; load_told 'no format' 'L08 unknown format 13' 'bytes 3225-3226; formats 2, 3, 7 to 12, 15 and 16 are read'
+cp s.sgy bad.sgy; put bad.sgy 3224 000d; load_told 'no format' 'L08 unknown format 13' 'bytes 3225-3226; formats 2, 3, 7 to 12, 15 and 16 are read, and 1, 5 and 6 with --floats'
 cp s.sgy bad.sgy; put bad.sgy 3504 fffe; load_told 'a text count' 'L09 text count -2' 'bytes 3505-3506: extended textual headers'
 cp x.sgy bad.sgy; put bad.sgy 3506 00000100; load_told 'header extensions' 'L10 extensions 256' 'bytes 3507-3510: header extensions of a trace, at most 255'
 cp x.sgy bad.sgy; put bad.sgy 3528 00000001; load_told 'a trailer' 'L11 trailer 1' 'bytes 3529-3532: data trailer records'

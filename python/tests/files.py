@@ -57,6 +57,17 @@ def floats(path, form=5, traces=3):
     return write(path, header(), binary(form=form), *(trace(n, 1, n, samples, size=4, signed=False) for n in range(1, traces + 1)))
 
 
+def odd_floats(path, form):
+    """Traces of their own lengths, of floats of every kind: no numbers, infinities, zeros of both signs, the least, the greatest."""
+    patterns = {
+        1: [[0xC276A000, 0x42010000], [0x80000000], [0x7FFFFFFF, 0x00000001, 0x4019999A]],
+        5: [[0xC2ED4000, 0x7FC00000], [0xFFC00001], [0x7F7FFFFF, 0x00000001, 0x3DCCCCCD, 0xFF800000, 0x80000000]],
+        6: [[0xC05DA80000000000, 0x7FF8000000000000], [0x7FF0000000000001], [0x7FEFFFFFFFFFFFFF, 1, 0x3FB999999999999A, 0x7FF0000000000000, 1 << 63]],
+    }[form]
+    traces = [trace(n, n, 1, samples, size=8 if form == 6 else 4, signed=False) for n, samples in enumerate(patterns, 1)]
+    return write(path, header(), binary(samples=2, form=form, fixed=0), *traces)
+
+
 def varying(path):
     """Traces of 1, 2 and 3 samples of 8 unsigned bytes."""
     traces = [trace(n, n, 1, [2**64 - k - 1 for k in range(n)], size=8, signed=False) for n in (1, 2, 3)]

@@ -3,10 +3,30 @@
 from segywb.fields import BINARY_NAMES, TRACE_NAMES
 
 
-def numbers(told, first):
+def value_of(v, value):
+    """A sample as the program prints it."""
+    if not v.has_floats:
+        return str(value)
+    from float_words import word_of  # which needs numpy
+
+    return word_of(5 if v.sample_type == "f4" else 6, value)
+
+
+def sum_of(value):
+    """The sum of floats as the program prints it, of every format with 8 bytes."""
+    from float_words import word_of
+
+    return word_of(6, value)
+
+
+def numbers(v, told, first):
     """Statistics as the program tells them."""
     if told is None:
         return f"{first} none"
+    if v.has_floats:
+        words = ["none" if one is None else value_of(v, one) for one in told[:2]]
+        total = [] if first == "totals" else ["sum", "none" if told.sum is None else sum_of(told.sum)]
+        return " ".join([first, "least", words[0], "greatest", words[1], *total, "samples", str(told.samples), "nans", str(told.nans)])
     return f"{first} least {told.least} greatest {told.greatest} sum {told.sum} samples {told.samples}"
 
 
@@ -38,7 +58,7 @@ def whole_file(v):
 
 def reports(v):
     """Reports, each with the answer by what Python shows."""
-    yield "totals", numbers(v.totals, "totals")
+    yield "totals", numbers(v, v.totals, "totals")
     for which in ("inline", "crossline", "offset", "x", "y"):
         found = v.range(which)
         yield f"range {which}", "range none" if found is None else f"range {found[0]} {found[1]}"
@@ -47,7 +67,7 @@ def reports(v):
     yield "crosslines", listed("crosslines", (f"crossline {x} {n}" for x, n in v.crosslines().items()))
     yield "histogram", listed("histogram", (f"times {fold} {n}" for fold, n in v.histogram().items()))
     for k in (0, 1, 7):
-        yield f"slice {k}", listed("slice", (f"row {i} {x} {p} {value}" for i, x, p, value in v.slice(k).rows))
+        yield f"slice {k}", listed("slice", (f"row {i} {x} {p} {value_of(v, value)}" for i, x, p, value in v.slice(k).rows))
     yield "faults", listed("faults", (fault.text for fault in v.faults()))
     for i, x, fold in list(v.grid.rows)[:5]:
         yield f"fold {i} {x}", f"fold {v.fold(i, x)}"
@@ -80,12 +100,13 @@ def traces(v):
         yield f"geometry {p}", f"geometry inline {g.inline} crossline {g.crossline} offset {g.offset} x {g.x} y {g.y}"
         assert tuple(where[p - 1])[:3] == (g.inline, g.crossline, g.offset)
         assert tuple(where[p - 1])[3:] == (float(g.x), float(g.y))
-        yield f"stat {p}", numbers(v.stat(p), "stat")
+        yield f"stat {p}", numbers(v, v.stat(p), "stat")
         yield f"header {p}", listed("header", (f"field {name} {value}" for name, value in v.header(p).items()))
         for name, value in zip(names, headers[p - 1]):
             yield f"get {p} {name}", f"value {value}"
         for k, value in enumerate(v.samples(p)):
-            yield f"sample {p} {k}", f"value {value}"
+            assert v.sample(p, k) == value or value != value
+            yield f"sample {p} {k}", f"value {value_of(v, value)}"
 
 
 def everything(v):

@@ -246,6 +246,12 @@ except ImportError as error:
     assert "pandas" in str(error)
 else:
     raise SystemExit("a table without pandas")
+floats = segywb.open(sys.argv[2])
+if floats.has_floats:
+    assert floats.samples(1) == [1.375, 5.125, -12.625, 3.625, 0.0] and floats.sample(6, 2) == 1.0000000200408773e20
+    assert floats.slice(2).array[1][:2] == [-12.75, 1.0000000200408773e20] and floats.slice(2).rows[0] == (101, 201, 1, -12.625)
+    floats.patch(1, 0, [0.1, float("nan")])
+    assert floats.stat(1) == (-12.625, 3.625, floats.stat(1).sum, 5, 1) and floats.samples(1)[0] == 0.10000000149011612
 print("done")
 """
 
@@ -255,7 +261,7 @@ def test_without_numpy(example, tmp_path):
     source = (HERE / "conftest.py").read_text()
     head = "import os, subprocess\nfrom segywb import program\n"
     (tmp_path / "conftest_run.py").write_text(head + source[source.index("def run("):])
-    done = subprocess.run([sys.executable, "-c", f"import sys; sys.path.insert(0, {str(tmp_path)!r})\n" + BARE, example("cube")], capture_output=True, text=True, check=False)
+    done = subprocess.run([sys.executable, "-c", f"import sys; sys.path.insert(0, {str(tmp_path)!r})\n" + BARE, example("cube"), example("wrong_floats")], capture_output=True, text=True, check=False)
     assert (done.stdout, done.stderr) == ("done\n", "")
 
 

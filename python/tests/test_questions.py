@@ -11,9 +11,8 @@ from conftest import TOP, run
 import segywb
 from segywb.fields import TRACE_NAMES
 
-# The file of floats is read by an option, and half of the questions are refused there: test_refusals has it.
-EXAMPLES = sorted(path.stem for path in (TOP / "examples").glob("*.sgy") if path.stem != "float_line")
-MADE = [files.varying, files.stanzas, files.extended, files.empty]
+EXAMPLES = sorted(path.stem for path in (TOP / "examples").glob("*.sgy"))
+MADE = [files.varying, files.stanzas, files.extended, files.empty, *(lambda path, form=form: files.odd_floats(path, form) for form in (1, 5, 6))]
 METHODS = {
     "set": "set", "renumber": "renumber", "compute": "compute", "sort": "sort", "get": "get", "map": "map", "unmap": "unmap", "fields": "fields", "bin": "set_bin",
     "getbin": "getbin", "text": "set_text", "line": "line", "code": "code", "stanzas": "stanzas", "sample": "sample",
@@ -27,7 +26,7 @@ METHODS = {
 def told(volume, path, edits=()):
     """Compares all that Python shows with one run of the program."""
     pairs = retell.everything(volume)
-    answers, status = run(path, [*edits, *(question for question, _ in pairs)])
+    answers, status = run(path, [*edits, *(question for question, _ in pairs)], "--floats")
     assert answers == "".join(f"{line}\n" for line in ["ok"] * len(edits) + [answer for _, answer in pairs])
     assert status == 0
 
@@ -51,6 +50,14 @@ def test_after_edits(opened):
     volume.copy(3, 1)
     volume.blank(5)
     volume.set(4, "shot", -7)
+    told(volume, volume.path, volume.edits)
+
+
+def test_after_edits_of_floats(opened):
+    volume = opened("wrong_floats")
+    volume.patch(1, 1, [0.1, -1e-30, float("nan"), float("inf")])
+    volume.copy(1, 13)
+    volume.delete(6)
     told(volume, volume.path, volume.edits)
 
 

@@ -123,7 +123,7 @@ def test_every_refusal_of_the_manual_is_tried():
 ], ids=["sample", "no sample", "patch", "a number that fits nowhere", "stat", "totals", "slice"])
 def test_samples_without_values(tmp_path, call):
     path = files.floats(tmp_path / "float.sgy")
-    volume = segywb.open(path, opaque_samples=True)
+    volume = segywb.open(path, opaque_samples=True, floats=False)
     with pytest.raises(Refused) as refusal:
         call(volume)
     assert (refusal.value.code, refusal.value.text) == ("E12", "samples have no value")
@@ -132,7 +132,7 @@ def test_samples_without_values(tmp_path, call):
 
 
 def test_no_trace_is_told_before_no_value(tmp_path):
-    volume = segywb.open(files.floats(tmp_path / "float.sgy"), opaque_samples=True)
+    volume = segywb.open(files.floats(tmp_path / "float.sgy"), opaque_samples=True, floats=False)
     for call in (lambda: volume.sample(9, 0), lambda: volume.patch(9, 0, [1]), lambda: volume.stat(9)):
         with pytest.raises(Refused) as refusal:
             call()
@@ -144,7 +144,7 @@ LOADS = {
     "L03": (lambda p: files.write(p, b"C"), {}, "short 1"),
     "L04": (lambda p: files.write(p, files.header(), files.binary(at3297=(4, 0x02010403))), {}, "pair swapped"),
     "L05": (lambda p: files.write(p, files.header(), files.binary(major=3)), {}, "revision 3.0"),
-    "L06": (lambda p: files.write(p, files.header(), files.binary(form=5)), {}, "float format 5"),
+    "L06": (lambda p: files.write(p, files.header(), files.binary(form=5)), {"floats": False}, "float format 5"),
     "L07": (lambda p: files.write(p, files.header(), files.binary(form=4)), {}, "gain format"),
     "L08": (lambda p: files.write(p, files.header(), files.binary(form=77)), {}, "unknown format 77"),
     "L09": (lambda p: files.write(p, files.header(), files.binary(blocks=3)), {}, "text count 3"),
@@ -172,7 +172,7 @@ def test_load_refused(tmp_path, code):
     with pytest.raises(segywb.LoadRefused) as refusal:
         segywb.open(path, **options)
     assert (refusal.value.code, refusal.value.text, refusal.value.status, refusal.value.path) == (code, text, 3, str(path))
-    words = [f"--{name.replace('_', '-')}={value}" for name, value in options.items()]
+    words = [f"--{name.replace('_', '-')}={value}" for name, value in options.items() if value is not False]
     assert run(path, ["count"], *words) == (f"{refusal.value.answer}\n", 3)
 
 
@@ -183,7 +183,7 @@ def test_the_hint_of_a_refused_file(tmp_path, code):
     path = make(tmp_path / "bad: (a) file.sgy")
     with pytest.raises(segywb.LoadRefused) as refusal:
         segywb.open(path, **options)
-    words = [f"--{name.replace('_', '-')}={value}" for name, value in options.items()]
+    words = [f"--{name.replace('_', '-')}={value}" for name, value in options.items() if value is not False]
     told = subprocess.run([program.find(), str(path), "--session", *words], input=b"", capture_output=True, check=False).stderr.decode()
     got = refusal.value
     assert got.hint and got.hint in str(got) and f"{code} " in str(got) and str(path) in str(got)
@@ -204,7 +204,7 @@ def other_order(path):
 
 HELPS = {
     "L02": (lambda p: files.cube(p), {"max_bytes": 4000}, ["max_bytes=N", "on_disk=True"], {"max_bytes": 10_000}),
-    "L06": (lambda p: files.floats(p), {}, ["opaque_samples=True"], {"opaque_samples": True}),
+    "L06": (lambda p: files.floats(p), {"floats": False}, ["floats=True", "opaque_samples=True"], {"floats": True}),
     "L07": (lambda p: files.write(p, files.header(), files.binary(form=4)), {}, ["opaque_samples=True"], {"opaque_samples": True}),
     "L08": (other_order, {}, ['order="big"', 'order="little"'], {"order": "little"}),
     "L14": (lambda p: files.write(p, files.header(), files.binary(fixed=0), files.trace(1, 1, 1, [1, 2], told=9)), {}, ["fixed=True"], {"fixed": True}),

@@ -14,6 +14,7 @@ from pathlib import Path
 import files
 import pytest
 from conftest import SOURCES, Started, run, wait_for
+from selenium.webdriver.common.keys import Keys
 
 HOSTILE = [
     "<script>window.taken = 1</script>", "<img src=x onerror='window.taken = 1'>", "<b>bold</b>&amp;", "\"><svg onload=window.taken=1>", "C 5 </script>",
@@ -226,11 +227,36 @@ def test_a_port(example):
     assert status == 0 and told == ""
 
 
+def of_samples(path, form, rows):
+    """A trace for each row, of samples that are bytes."""
+    traces = [files.trace(n, 1, n, [0] * len(row), size=len(row[0]))[:240] + b"".join(row) for n, row in enumerate(rows, 1)]
+    return files.write(path, files.header(), files.binary(form=form, samples=len(rows[0])), *traces)
+
+
 def test_floats(opened, tmp_path):
-    """A file of floats is shown, without values for its samples."""
-    samples = struct.pack(">2f", 1.5, -2.5)
-    traces = [files.trace(n, 1, n, [0, 0], size=4)[:240] + samples for n in (1, 2, 3)]
-    path = files.write(tmp_path / "float.sgy", files.header(), files.binary(form=5), *traces)
+    """A file of floats is shown with the values of its samples; what is no finite number is left out of the map, and counted."""
+    rows = [(1.5, -2.5), (0.1, float("nan")), (-118.625, float("inf"))]
+    path = of_samples(tmp_path / "float.sgy", 5, [[struct.pack(">f", one) for one in row] for row in rows])
+    page = opened(path)
+    assert page.map() == [[1, 1, 1]] and "no values here" not in page.text("summary")
+    page.map_tab("slice")
+    page.wait(lambda: page.map() == [[1.5, 0.10000000149011612, -118.625]])
+    field = page.find("sample-number")
+    field.clear()
+    field.send_keys("1", Keys.TAB)
+    page.wait(lambda: page.map() == [[-2.5, None, None]])
+    assert "one of 2 samples that are no finite numbers" in page.text("caption")
+    page.tab("numbers")
+    page.wait(lambda: "samples that are no numbers" in page.text("panel"))
+    assert "-118.625" in page.text("panel") and "inf" in page.text("panel")
+    assert page.run("patch 2 1 1e-3 ") == "ok"
+    page.wait(lambda: page.map() == [[-2.5, 0.0010000000474974513, None]])
+    assert page.marks() == 1 and "one of 1 sample that" in page.text("caption")
+
+
+def test_samples_without_values(opened, tmp_path):
+    """A file of fixed point with gain is shown, without values for its samples."""
+    path = of_samples(tmp_path / "gain.sgy", 4, [[b"\0\0\0\1"] * 2] * 3)
     page = opened(path)
     assert page.map() == [[1, 1, 1]] and "no values here" in page.text("summary")
     page.tab("slice")

@@ -22,7 +22,7 @@ TRUNCATED = "load refused L14 truncated trace 3"
 
 def wrong_count(path, form=3):
     """Three traces of two samples, of which the last says that it has nine: read by the binary header's number alone."""
-    size = {3: 2, 5: 4}[form]
+    size = {3: 2, 4: 4, 5: 4}[form]
     traces = [files.trace(n, 1, n, [0, 0], size=size, told=9 if n == 3 else None) for n in (1, 2, 3)]
     return files.write(path, files.header(), files.binary(form=form, fixed=0), *traces)
 
@@ -90,7 +90,7 @@ def refused_page(started, browser, path, *words):
     return page
 
 
-@pytest.mark.parametrize("form", [3, 5])
+@pytest.mark.parametrize("form", [3, 4, 5])
 def test_the_page_offers_the_reading(started, browser, tmp_path, form):
     path = wrong_count(tmp_path / "count.sgy", form)
     page = refused_page(started, browser, path)
@@ -105,7 +105,7 @@ def test_the_page_offers_the_reading(started, browser, tmp_path, form):
     page.step("undo")
     page.step("redo")
     page.tab("edits")
-    wanted = "segywb FILE --fixed --script" if form == 3 else "segywb FILE --fixed --opaque-samples --script"
+    wanted = {3: "segywb FILE --fixed --script", 4: "segywb FILE --fixed --opaque-samples --script", 5: "segywb FILE --fixed --floats --script"}[form]
     page.wait(lambda: wanted in page.text("panel"))
     out = tmp_path / "out.sgy"
     assert run(path, "renumber 1 3 inline 7 0\n", *wanted.split()[2:-1], "--out", str(out))[1] == 0

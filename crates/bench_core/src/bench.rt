@@ -10,6 +10,7 @@ ghost use Rattle.edit_overlay.specs.Saving.{CountsSaveFailure, Saves};
 ghost use Rattle.live_volume.specs.Held.{IsReadAs};
 ghost use Rattle.bench_rules.specs.declared.query.Query.TheVariants as queries;
 ghost use Rattle.bench_rules.specs.Answer.{IsReply};
+ghost use Rattle.bench_rules.specs.FloatStatistics.{float_format as float_format_of};
 ghost use Rattle.bench_rules.specs.Kept.{is_kept, kept_after_load, kept_after_edit, kept_after_query};
 ghost use Rattle.bench_core.specs.Lent.{volume_of};
 ghost use Rattle.bench_rules.specs.Live.{kept_after_reply};
@@ -20,6 +21,7 @@ use crate::changes::{change, follow, no_slices};
 use bench_rules::{Answer, AskFault, Edit, Items, Query, Refusal};
 use device_io::{Sink, Source};
 use edit_overlay::{PassFault, SaveFault};
+use float_codes::FloatFormat;
 use frame_cut::{Limits, LoadFault, Reading};
 use live_volume::LiveVolume;
 use std::alloc::Global;
@@ -207,6 +209,14 @@ impl Bench {
     /// dropped.
     pub fn close(self) {
         self.volume.close();
+    }
+
+    /// The format of the samples of the file where they are floats. Takes no memory and looks at no
+    /// trace.
+    pub fn float_format(&self) -> Option<FloatFormat>
+        ensures { result ≡ float_format_of self.now.state.volume.head.format }
+    {
+        self.volume.float_format()
     }
 
     /// Whether slice k, counted from 0, is kept: a query of it looks at no trace then. Takes no

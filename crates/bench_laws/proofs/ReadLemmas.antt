@@ -13,13 +13,13 @@ use Rattle.frame_cut.specs.Frames.{sample_count}
 use Rattle.frame_cut.specs.Traces.{count_of, is_trace, trace_at}
 use Rattle.frame_cut.specs.Volume.{Volume, bytes_of}
 use Rattle.frame_cut.specs.Parts.{block_of}
-use Rattle.sample_codes.specs.declared.integer_format.IntegerFormat.{IntegerFormat}
+use Rattle.sample_codes.specs.declared.value_format.ValueFormat.{ValueFormat}
 use Rattle.sample_codes.specs.Formats.{values, sample_fits}
 use Rattle.text_block.specs.Blocks.{code_of}
 use Rattle.text_block.specs.Lines.{text_fault}
 use Rattle.std.specs.Str.{chars}
-use Rattle.trace_view.specs.Values.{has_place, sample_of, samples_of}
-use Rattle.trace_record.specs.Statistics.{statistics_of}
+use Rattle.trace_view.specs.Values.{has_place, has_floats, sample_of, samples_of}
+use Rattle.bench_rules.specs.FloatStatistics.{stat_of}
 use Rattle.bench_rules.specs.declared.answer.Answer.{Answer}
 use Rattle.bench_rules.specs.declared.answer.Answer.TheVariants as answers
 use Rattle.bench_rules.specs.declared.ask_fault.AskFault.{AskFault}
@@ -90,7 +90,7 @@ set_bin_silent (Some place) x =
 text_silent : (block : List ℕ) (q : ℕ) (text : List ℕ) → Silent (text_refusal block q text)
 text_silent block q text = choose (not (is_line q)) _ _ refl (mapped refusals.Text (text_fault (code_of block) (chars text)) (λ fault. refl))
 
-values_silent : (o : Option IntegerFormat) (h : Head) (t : List ℕ) (k : ℕ) (xs : List ℤ) → Silent (values_refusal o h t k xs)
+values_silent : (o : Option ValueFormat) (h : Head) (t : List ℕ) (k : ℕ) (xs : List ℤ) → Silent (values_refusal o h t k xs)
 values_silent None h t k xs = refl
 values_silent (Some f) h t k xs = choose (not (list_all (sample_fits f) xs)) _ _ refl (choose (nat_lt (sample_count h t) (k + length xs)) _ None refl tt)
 
@@ -254,8 +254,8 @@ sample_silent h t k =
     let fault : AskFault = asks.NoSample (max k (sample_count h t)) (sample_count h t) in
     of_values_silent h (or_fault (sample_of h t k) fault answers.Value) (or_fault_silent (sample_of h t k) fault answers.Value refl)
 
-stat_silent : (h : Head) (t : List ℕ) → SilentReply (of_values h (Ok (answers.Stat (statistics_of (samples_of h t)))))
-stat_silent h t = of_values_silent h (Ok (answers.Stat (statistics_of (samples_of h t)))) tt
+stat_silent : (h : Head) (t : List ℕ) → SilentReply (of_values h (Ok (stat_of (has_floats h) (samples_of h t))))
+stat_silent h t = of_values_silent h (Ok (stat_of (has_floats h) (samples_of h t))) tt
 
 line_silent : (o : Option (List ℕ)) (q : ℕ) → SilentReply (line_answer o q)
 line_silent o q = choose_reply (not (is_line q)) _ _ refl (or_fault_silent o asks.NoPlace _ refl)

@@ -7,7 +7,7 @@ use Rattle.std.proofs.lemmas.Bool.{and_cases, leb-false, ltb-false, ltb-true}
 use Rattle.std.proofs.lemmas.List.{drop-drop}
 use Rattle.std.proofs.lemmas.Bool.Decides.{nat_tests}
 use Rattle.num_order.specs.Number.{num}
-use Rattle.sample_codes.specs.declared.integer_format.IntegerFormat.{IntegerFormat}
+use Rattle.sample_codes.specs.declared.value_format.ValueFormat.{ValueFormat}
 use Rattle.sample_codes.specs.Formats.{width, values, sample_value, samples_bytes}
 use Rattle.sample_codes.proofs.WidthLemmas.{width-positive}
 use Rattle.field_map.specs.declared.place.Place.{Place}
@@ -123,14 +123,14 @@ beside a w first many k at size e place sized = by (and_cases (leb first k) (ltb
     by (inr f) = let l : first + many ≤ k = ltb-false k (first + many) f in inr (omega (arith, mul-le-mul_left w l))
 
 -- values over the samples leave the front
-pub front_of-patched : (h : Head) (f : IntegerFormat) (t : List ℕ) (first : ℕ) (xs : List ℤ) → IsTrace h t → first + length xs ≤ sample_count h t → SameFront h t (with_samples h f t first xs)
+pub front_of-patched : (h : Head) (f : ValueFormat) (t : List ℕ) (first : ℕ) (xs : List ℤ) → IsTrace h t → first + length xs ≤ sample_count h t → SameFront h t (with_samples h f t first xs)
 front_of-patched h f t first xs is few j i le =
     let room = samples_inside h t first xs is few in
     let old = measured h t is in
     slice_before t (samples_at h t + width h.format * first) (width h.format * length xs) (samples_bytes h.order f xs) j i (omega (arith, le, old.front)) (omega (arith, room))
 
 -- and each other sample
-pub sample_of-patched : (h : Head) (f : IntegerFormat) (t : List ℕ) (first : ℕ) (xs : List ℤ) (k : ℕ) → values h.format ≡ Some f → IsTrace h t → first + length xs ≤ sample_count h t → is_from first (length xs) k ≡ false
+pub sample_of-patched : (h : Head) (f : ValueFormat) (t : List ℕ) (first : ℕ) (xs : List ℤ) (k : ℕ) → values h.format ≡ Some f → IsTrace h t → first + length xs ≤ sample_count h t → is_from first (length xs) k ≡ false
     → sample_of h (with_samples h f t first xs) k ≡ sample_of h t k
 sample_of-patched h f t first xs k reads is few apart_from =
     let w : ℕ = width h.format in

@@ -1,6 +1,6 @@
 -- What holds of another number of samples of a trace, and of a field of many traces counted up or computed.
 use Rattle.std.specs.Prelude.{◌≡◌, ℕ, nat_abs, ◌-◌, ◌*◌, min, ℤ, pos, List, [], ◌++◌, map, take, replicate, Option, Some, None, Result, Ok}
-use Rattle.sample_codes.specs.declared.integer_format.IntegerFormat.{IntegerFormat}
+use Rattle.sample_codes.specs.declared.value_format.ValueFormat.{ValueFormat}
 use Rattle.sample_codes.specs.Formats.{width, values}
 use Rattle.frame_cut.specs.Cuts.{IsCut}
 use Rattle.frame_cut.specs.Frames.{sample_count}
@@ -40,7 +40,7 @@ ResizeKeepsBytes = (s : State) (p : ℕ) (m : ℤ) (v : Volume)
 
 -- and where samples have values, the values of its first ones are as they were, and zeros behind them
 abbrev pub ResizeKeepsSamples : Type 0
-ResizeKeepsSamples = (s : State) (p : ℕ) (m : ℤ) (v : Volume) (f : IntegerFormat)
+ResizeKeepsSamples = (s : State) (p : ℕ) (m : ℤ) (v : Volume) (f : ValueFormat)
     → values s.volume.head.format ≡ Some f
     → IsCut (bytes_of s.volume) s.reading s.limits s.volume → first_refusal s (Resize p m) ≡ None → IsCut (bytes_after s.volume s.fields (Resize p m)) s.reading s.limits v
     → samples_of v.head (trace_at v p) ≡ samples_up_to (sample_count s.volume.head (trace_at s.volume p)) (nat_abs m) (samples_of s.volume.head (trace_at s.volume p))

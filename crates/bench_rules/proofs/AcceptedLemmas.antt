@@ -2,7 +2,7 @@
 use Rattle.std.proofs.Common.{◌≡◌, ℕ, ◌+◌, ◌≤◌, Bool, true, false, ◌&&◌, cond, leb, ltb, List, length, Option, Some, None, ℤ, refl}
 use Rattle.std.specs.List.{list_all}
 use Rattle.std.proofs.lemmas.Bool.{leb-true, ltb-false}
-use Rattle.sample_codes.specs.declared.integer_format.IntegerFormat.{IntegerFormat}
+use Rattle.sample_codes.specs.declared.value_format.ValueFormat.{ValueFormat}
 use Rattle.sample_codes.specs.Formats.{sample_fits, values as read_as}
 use Rattle.frame_cut.specs.declared.limits.Limits.{Limits}
 use Rattle.frame_cut.specs.Frames.{sample_count}
@@ -82,7 +82,7 @@ move_accepted s a b e =
 
 pub record PatchAccepted (s : State) (p k : ℕ) (values : List ℤ) : Type 0 where
   pub place : IsWithin p (count_of s.volume)
-  pub format : IntegerFormat
+  pub format : ValueFormat
   pub reads : read_as s.volume.head.format ≡ Some format
   pub fit : list_all (sample_fits format) values ≡ true
   pub inside : k + length values ≤ sample_count s.volume.head (trace_at s.volume p)
@@ -93,7 +93,7 @@ patch_accepted s p k values e =
     let place = none_of_either _ (refusals.NoTrace p (count_of v)) _ e in
     by (read_as v.head.format) refl place.1
   where
-    by : (o : Option IntegerFormat) → read_as s.volume.head.format ≡ o → values_refusal o s.volume.head (trace_at s.volume p) k values ≡ None → PatchAccepted s p k values
+    by : (o : Option ValueFormat) → read_as s.volume.head.format ≡ o → values_refusal o s.volume.head (trace_at s.volume p) k values ≡ None → PatchAccepted s p k values
     by None reads none = absurd cc
     by (Some f) reads none =
         let v : Volume = s.volume in

@@ -25,3 +25,4 @@ pub mod SeenLemmas
 pub mod EachLemmas
 pub mod LookLemmas
 pub mod RangeLemmas
+pub mod FloatLemmas

@@ -1,17 +1,17 @@
 -- What running values show is what the reports say of the volume.
-use Rattle.std.proofs.Common.{inl, List, ap, sym, ◌≡◌, ◌<◌, ◌∙◌, ℕ, ℤ, [], ◌∷◌, length, inr, refl, arith}
+use Rattle.std.proofs.Common.{inl, Bool, List, ap, sym, ◌≡◌, ◌<◌, ◌∙◌, ℕ, ℤ, [], ◌∷◌, length, inr, refl, arith}
 use Rattle.std.specs.Prelude.{Option, Some, None, Ok, Err, option_map}
 use Rattle.std.specs.Option.{option_map_or}
 use Rattle.std.specs.Result.{IsErrAnd}
 use Rattle.num_order.specs.declared.order.Order.{Order}
-use Rattle.sample_codes.specs.declared.integer_format.IntegerFormat.{IntegerFormat}
+use Rattle.sample_codes.specs.declared.value_format.ValueFormat.{ValueFormat}
 use Rattle.sample_codes.specs.Formats.{values}
 use Rattle.field_map.specs.Pairs.{Pairs}
 use Rattle.frame_cut.specs.declared.file_head.Head.{Head}
 use Rattle.frame_cut.specs.Frames.{sample_count}
-use Rattle.trace_view.specs.Values.{samples_in, samples_of, sample_bytes}
+use Rattle.trace_view.specs.Values.{has_floats, samples_in, samples_of, sample_bytes}
 use Rattle.trace_record.specs.OfTrace.{record_of}
-use Rattle.trace_record.specs.Statistics.{least_of, greatest_of, int_sum, statistics_of, statistics_with, amplitudes_of}
+use Rattle.trace_record.specs.Statistics.{least_of, greatest_sample, sample_sum, statistics_of, statistics_with, amplitudes_of}
 use Rattle.trace_record.proofs.SampleLemmas.{length-samples_in}
 use Rattle.trace_record.specs.declared.statistics.Statistics.{Statistics}
 use Rattle.bench_rules.specs.declared.query.Query.TheVariants as queries
@@ -71,16 +71,16 @@ wants_memory s (Err fault) is = inr (inl (ap (λ (f : AskFault). let r : Reply =
 -- ---- statistics of one trace
 
 -- statistics without their number, and with it again
-again : (vs : List ℤ) (n : ℕ) → (0 < length vs → length vs ≡ n) → option_map (λ a. statistics_with a n) (amplitudes_of vs) ≡ statistics_of vs
-again [] n e = refl
-again (v ∷ vs) n e = ap (λ (m : ℕ). let o : Option Statistics = Some (record { least = least_of (v ∷ vs); greatest = greatest_of (v ∷ vs); sum = int_sum (v ∷ vs); number = m }) in o) (sym (e (omega arith)))
+again : (floats : Bool) (vs : List ℤ) (n : ℕ) → (0 < length vs → length vs ≡ n) → option_map (λ a. statistics_with a n) (amplitudes_of floats vs) ≡ statistics_of floats vs
+again floats [] n e = refl
+again floats (v ∷ vs) n e = ap (λ (m : ℕ). let o : Option Statistics = Some (record { least = least_of (v ∷ vs); greatest = greatest_sample floats (v ∷ vs); sum = sample_sum floats (v ∷ vs); number = m }) in o) (sym (e (omega arith)))
 
 -- where samples have values, there are as many values
-all_or_none : (o : Order) (f : Option IntegerFormat) (n : ℕ) (bytes : List ℕ) → 0 < length (option_map_or (λ g. samples_in o g n bytes) f []) → length (option_map_or (λ g. samples_in o g n bytes) f []) ≡ n
+all_or_none : (o : Order) (f : Option ValueFormat) (n : ℕ) (bytes : List ℕ) → 0 < length (option_map_or (λ g. samples_in o g n bytes) f []) → length (option_map_or (λ g. samples_in o g n bytes) f []) ≡ n
 all_or_none o None n bytes some = absurd (omega arith)
 all_or_none o (Some g) n bytes some = length-samples_in o g n bytes
 
 -- the statistics that a record holds are those of the trace's samples
-pub stat_shown : (h : Head) (fields : Pairs) (t : List ℕ) (f : Facts) → f ≡ record_of h fields t → statistics_in f ≡ statistics_of (samples_of h t)
+pub stat_shown : (h : Head) (fields : Pairs) (t : List ℕ) (f : Facts) → f ≡ record_of h fields t → statistics_in f ≡ statistics_of (has_floats h) (samples_of h t)
 stat_shown h fields t f is =
-    ap statistics_in is ∙ again (samples_of h t) (sample_count h t) (all_or_none h.order (values h.format) (sample_count h t) (sample_bytes h t))
+    ap statistics_in is ∙ again (has_floats h) (samples_of h t) (sample_count h t) (all_or_none h.order (values h.format) (sample_count h t) (sample_bytes h t))

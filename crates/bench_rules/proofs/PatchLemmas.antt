@@ -1,5 +1,5 @@
 -- Values over the samples of a trace leave a file that is cut.
-use Rattle.std.proofs.Common.{◌≡◌, ℕ, ℤ, zero, suc, ◌+◌, ◌*◌, ◌-◌, ◌<◌, ◌≤◌, Bool, true, false, cond, eqb, leb, List, [], ◌∷◌, length, Option, Some, None, refl, sym, ap, subst, ◌∙◌, arith}
+use Rattle.std.proofs.Common.{◌≡◌, ℕ, ℤ, pos, zero, suc, ◌+◌, ◌*◌, ◌-◌, ◌<◌, ◌≤◌, Bool, true, false, cond, eqb, leb, List, [], ◌∷◌, length, Option, Some, None, refl, sym, ap, subst, ◌∙◌, arith}
 use Rattle.std.specs.Prelude.{option_map, unwrap_or}
 use Rattle.std.specs.Option.{option_map_or}
 use Rattle.std.proofs.Math.Nat.{mul-le-mul_left}
@@ -7,8 +7,12 @@ use Rattle.std.proofs.lemmas.List.{length-append}
 use Rattle.std.proofs.lemmas.List.Elements.{All-get_or}
 use Rattle.num_order.specs.declared.order.Order.{Order}
 use Rattle.num_order.proofs.InRangeLemmas.{length-number}
-use Rattle.sample_codes.specs.declared.integer_format.IntegerFormat.{IntegerFormat}
-use Rattle.sample_codes.specs.Formats.{integer_width, width, values, kind_of, samples_bytes, sample_bytes}
+use Rattle.sample_codes.specs.declared.value_format.ValueFormat.{ValueFormat}
+use Rattle.sample_codes.specs.declared.value_format.ValueFormat.TheVariants.{Integer, Float}
+use Rattle.float_codes.specs.Values.{float_width}
+use Rattle.float_codes.specs.Nearest.{pattern_of}
+use Rattle.float_codes.specs.Ranks.{value_at}
+use Rattle.sample_codes.specs.Formats.{value_width, width, values, kind_of, samples_bytes, sample_bytes}
 use Rattle.sample_codes.proofs.WidthLemmas.{width-values}
 use Rattle.frame_cut.specs.declared.file_head.Head.{Head}
 use Rattle.frame_cut.specs.declared.limits.Limits.{Limits}
@@ -25,11 +29,15 @@ use Rattle.bench_rules.proofs.PlaceLemmas.{length_same}
 
 -- ---- where the samples lie
 
-pub length-samples : (o : Order) (f : IntegerFormat) (xs : List ℤ) → length (samples_bytes o f xs) ≡ integer_width f * length xs
+length-sample : (o : Order) (f : ValueFormat) (x : ℤ) → length (sample_bytes o f x) ≡ value_width f
+length-sample o (Integer f) x = length-number o (kind_of f) x
+length-sample o (Float f) x = length-number o (record { size = float_width f; signed = false }) (pos (unwrap_or (pattern_of f (value_at x)) 0))
+
+pub length-samples : (o : Order) (f : ValueFormat) (xs : List ℤ) → length (samples_bytes o f xs) ≡ value_width f * length xs
 length-samples o f [] = omega arith
 length-samples o f (x ∷ xs) =
     let rest = length-samples o f xs in
-    let first : length (sample_bytes o f x) ≡ integer_width f = length-number o (kind_of f) x in
+    let first = length-sample o f x in
     omega (arith, length-append (sample_bytes o f x) (samples_bytes o f xs))
 
 some-number : (x : ℕ) → eqb x 0 ≡ false → 0 < x
@@ -70,11 +78,11 @@ measured h t is = measured-by h t (extension_count h t) refl is.exact
 -- ---- the values over them
 
 -- the trace with the values over its samples from sample k on, as numbers of the format
-abbrev pub with_samples : Head → IntegerFormat → List ℕ → ℕ → List ℤ → List ℕ
+abbrev pub with_samples : Head → ValueFormat → List ℕ → ℕ → List ℤ → List ℕ
 with_samples h f t k xs = splice t (samples_at h t + width h.format * k) (width h.format * length xs) (samples_bytes h.order f xs)
 
 -- their bytes are as many as those of the file's samples
-pub length-values : (h : Head) (f : IntegerFormat) (xs : List ℤ) → values h.format ≡ Some f → length (samples_bytes h.order f xs) ≡ width h.format * length xs
+pub length-values : (h : Head) (f : ValueFormat) (xs : List ℤ) → values h.format ≡ Some f → length (samples_bytes h.order f xs) ≡ width h.format * length xs
 length-values h f xs reads = length-samples h.order f xs ∙ ap (λ (w : ℕ). w * length xs) (sym (width-values h.format f reads))
 
 pub samples_inside : (h : Head) (t : List ℕ) (k : ℕ) (xs : List ℤ) → IsTrace h t → k + length xs ≤ sample_count h t → samples_at h t + width h.format * k + width h.format * length xs ≤ length t
@@ -82,7 +90,7 @@ samples_inside h t k xs is inside =
     let m = measured h t is in
     omega (arith, m.whole, mul-le-mul_left (width h.format) inside)
 
-pub cut_patched : (reading : Reading) (l : Limits) (v : Volume) (f : IntegerFormat) (p k : ℕ) (xs : List ℤ) → values v.head.format ≡ Some f → IsCut (bytes_of v) reading l v → 1 ≤ p → p ≤ count_of v → k + length xs ≤ sample_count v.head (trace_at v p)
+pub cut_patched : (reading : Reading) (l : Limits) (v : Volume) (f : ValueFormat) (p k : ℕ) (xs : List ℤ) → values v.head.format ≡ Some f → IsCut (bytes_of v) reading l v → 1 ≤ p → p ≤ count_of v → k + length xs ≤ sample_count v.head (trace_at v p)
     → IsCut (bytes_after_patch v p k xs) reading l (with_trace v p (with_samples v.head f (trace_at v p) k xs))
 cut_patched reading l v f p k xs reads cut first last inside =
     let h : Head = v.head in
@@ -103,5 +111,5 @@ cut_patched reading l v f p k xs reads cut first last inside =
     let recut = cut_with_trace reading l v (p - 1) (splice t at n new) cut there same exact in
     let place : start_of v (p - 1) + at ≡ samples_start v p + width h.format * k = omega arith in
     let bytes_are : bytes_of (with_trace v p (splice t at n new)) ≡ bytes_after_patch v p k xs =
-    bytes_with_splice v (p - 1) at n new there room ∙ ap (λ (i : ℕ). splice (bytes_of v) i n new) place ∙ ap (λ (o : Option IntegerFormat). option_map_or (λ g. patched v g p k xs) o (bytes_of v)) (sym reads) in
+    bytes_with_splice v (p - 1) at n new there room ∙ ap (λ (i : ℕ). splice (bytes_of v) i n new) place ∙ ap (λ (o : Option ValueFormat). option_map_or (λ g. patched v g p k xs) o (bytes_of v)) (sym reads) in
     subst (λ (file : List ℕ). IsCut file reading l (with_trace v p (splice t at n new))) bytes_are recut

@@ -2,7 +2,7 @@
 use Rattle.std.proofs.Common.{◌≡◌, ℕ, ℤ, ◌+◌, ◌*◌, ◌^◌, ◌≤◌, true, List, length, Option, Some, None, refl, sym, ap, subst, ◌∙◌, arith}
 use Rattle.std.proofs.Math.Nat.{mul-le-mul_right}
 use Rattle.std.proofs.lemmas.Bool.{leb-true, le-leb}
-use Rattle.sample_codes.specs.declared.integer_format.IntegerFormat.{IntegerFormat}
+use Rattle.sample_codes.specs.declared.value_format.ValueFormat.{ValueFormat}
 use Rattle.sample_codes.specs.Formats.{width, values as read_as, samples_bytes}
 use Rattle.sample_codes.proofs.WidthLemmas.{width-positive}
 use Rattle.frame_cut.specs.declared.file_head.Head.{Head}
@@ -66,7 +66,7 @@ move_done s a b w cut none is =
     let m = move_accepted s a b none in
     done s (Move a b) (with_moved s.volume a b) w (cut_moved s.reading s.limits s.volume a b cut m.source.first m.source.last) refl is
 
-pub patch_is_after : (s : State) (f : IntegerFormat) (p k : ℕ) (values : List ℤ) → read_as s.volume.head.format ≡ Some f → IsCut (bytes_of s.volume) s.reading s.limits s.volume → first_refusal s (Patch p k values) ≡ None
+pub patch_is_after : (s : State) (f : ValueFormat) (p k : ℕ) (values : List ℤ) → read_as s.volume.head.format ≡ Some f → IsCut (bytes_of s.volume) s.reading s.limits s.volume → first_refusal s (Patch p k values) ≡ None
     → IsAfter s (Patch p k values) (record s { volume = with_trace s.volume p (with_samples s.volume.head f (trace_at s.volume p) k values) })
 patch_is_after s f p k values reads cut none =
     let v : Volume = s.volume in
@@ -75,7 +75,7 @@ patch_is_after s f p k values reads cut none =
     done s (Patch p k values) w w (cut_patched s.reading s.limits v f p k values reads cut a.place.first a.place.last a.inside) refl refl
 
 -- the values' bytes at their place in the trace
-pub patch_done : (s : State) (f : IntegerFormat) (p k : ℕ) (values : List ℤ) (w : Volume) (at : ℕ) (new : List ℕ) → read_as s.volume.head.format ≡ Some f → IsCut (bytes_of s.volume) s.reading s.limits s.volume → first_refusal s (Patch p k values) ≡ None
+pub patch_done : (s : State) (f : ValueFormat) (p k : ℕ) (values : List ℤ) (w : Volume) (at : ℕ) (new : List ℕ) → read_as s.volume.head.format ≡ Some f → IsCut (bytes_of s.volume) s.reading s.limits s.volume → first_refusal s (Patch p k values) ≡ None
     → at ≡ samples_at s.volume.head (trace_at s.volume p) + width s.volume.head.format * k → new ≡ samples_bytes s.volume.head.order f values
     → w ≡ with_trace s.volume p (splice (trace_at s.volume p) at (length new) new) → IsAfter s (Patch p k values) (record s { volume = w })
 patch_done s f p k values w at new reads cut none e g is =
@@ -89,7 +89,7 @@ pub record IsPatch (h : Head) (t : List ℕ) (at : ℕ) (new : List ℕ) : Type 
   pub inside : at + length new ≤ length t
   pub whole : IsTrace h (splice t at (length new) new)
 
-pub patch_fits : (s : State) (f : IntegerFormat) (p k : ℕ) (values : List ℤ) (at : ℕ) (new : List ℕ) → read_as s.volume.head.format ≡ Some f → IsCut (bytes_of s.volume) s.reading s.limits s.volume → first_refusal s (Patch p k values) ≡ None
+pub patch_fits : (s : State) (f : ValueFormat) (p k : ℕ) (values : List ℤ) (at : ℕ) (new : List ℕ) → read_as s.volume.head.format ≡ Some f → IsCut (bytes_of s.volume) s.reading s.limits s.volume → first_refusal s (Patch p k values) ≡ None
     → at ≡ samples_at s.volume.head (trace_at s.volume p) + width s.volume.head.format * k → new ≡ samples_bytes s.volume.head.order f values
     → IsPatch s.volume.head (trace_at s.volume p) at new
 patch_fits s f p k values at new reads cut none e g =

@@ -12,14 +12,14 @@ use Rattle.frame_cut.specs.BinaryHeader.{bin_bytes}
 use Rattle.frame_cut.specs.Frames.{sample_count}
 use Rattle.frame_cut.specs.Volume.{Volume, bytes_of}
 use Rattle.sample_codes.specs.Formats.{values}
-use Rattle.trace_view.specs.Values.{value_of, sample_of, samples_of}
-use Rattle.trace_record.specs.Statistics.{statistics_of}
+use Rattle.trace_view.specs.Values.{value_of, has_floats, sample_of, samples_of}
 use Rattle.bench_rules.specs.declared.query.Query.{Query}
 use Rattle.bench_rules.specs.declared.query.Query.TheVariants as queries
 use Rattle.bench_rules.specs.declared.answer.Answer.{Answer}
 use Rattle.bench_rules.specs.declared.answer.Answer.TheVariants as answers
 use Rattle.bench_rules.specs.declared.ask_fault.AskFault.{AskFault}
 use Rattle.bench_rules.specs.declared.ask_fault.AskFault.TheVariants.{NoTrace, NoField, NoPlace, NoSample, NoValues, OutOfMemory}
+use Rattle.bench_rules.specs.FloatStatistics.{stat_of}
 use Rattle.bench_rules.specs.Places.{place_in_trace, place_in_binary, is_in_binary}
 use Rattle.bench_rules.specs.ReadFaults.{IsReadFault}
 use Rattle.bench_rules.specs.Refused.{is_line}
@@ -123,7 +123,7 @@ answer s queries.Stanzas = Ok (answers.Stanzas (all_stanzas s.volume))
 answer s queries.Fields = Ok (answers.Fields s.fields)
 answer s (queries.Sample p k) = of_trace s.volume p (λ t. trace_sample s.volume.head t k)
 answer s (queries.Geometry p) = or_no_trace s.volume p (geometry_in s p) answers.Geometry
-answer s (queries.Stat p) = of_trace s.volume p (λ t. of_values s.volume.head (Ok (answers.Stat (statistics_of (samples_of s.volume.head t)))))
+answer s (queries.Stat p) = of_trace s.volume p (λ t. of_values s.volume.head (Ok (stat_of (has_floats s.volume.head) (samples_of s.volume.head t))))
 answer s (queries.Fold i c) = Ok (answers.Fold (fold_in s i c))
 answer s queries.Grid = Ok (answers.Grid (cells_in s))
 answer s queries.Inlines = Ok (answers.Inlines (inlines_in s))

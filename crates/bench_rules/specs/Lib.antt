@@ -4,6 +4,8 @@ pub mod Computed
 pub mod ComputedBytes
 pub mod ComputedExamples
 pub mod Examples
+pub mod FloatStatistics
+pub mod FloatExamples
 pub mod HeaderExamples
 pub mod Headers
 pub mod Kept

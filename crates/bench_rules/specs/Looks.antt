@@ -16,8 +16,9 @@ use Rattle.bench_rules.specs.Kept.{is_kept}
 use Rattle.bench_rules.specs.ManyTraces.{each_of}
 use Rattle.bench_rules.specs.Places.{place_in_trace, leaves_length}
 use Rattle.bench_rules.specs.State.{State}
-use Rattle.sample_codes.specs.declared.integer_format.IntegerFormat.{IntegerFormat}
+use Rattle.sample_codes.specs.declared.value_format.ValueFormat.{ValueFormat}
 use Rattle.sample_codes.specs.Formats.{values}
+use Rattle.trace_view.specs.Values.{has_floats}
 
 -- the most traces that a load looks at: each once, for its record
 abbrev pub load_looks : Volume → ℕ
@@ -42,9 +43,13 @@ abbrev pub trace_looks : Volume → ℕ → ℕ → ℕ
 trace_looks v p n = if is_trace v p then n else 0
 
 -- so many looks, but none where the samples have no values
-abbrev pub value_looks : Option IntegerFormat → ℕ → ℕ
+abbrev pub value_looks : Option ValueFormat → ℕ → ℕ
 value_looks None n = 0
 value_looks (Some format) n = n
+
+-- the statistics of a trace's samples stand in its record, but for the exact sum of floats
+abbrev pub stat_looks : Volume → ℕ → ℕ
+stat_looks v p = if has_floats v.head then trace_looks v p 1 else 0
 
 -- the number of traces a to b; none where a is no trace, or b is none of those from a on
 abbrev pub range_looks : Volume → ℕ → ℕ → ℕ
@@ -81,7 +86,7 @@ query_looks s kept queries.Stanzas = 0
 query_looks s kept queries.Fields = 0
 query_looks s kept (queries.Sample p k) = trace_looks s.volume p 1
 query_looks s kept (queries.Geometry p) = 0
-query_looks s kept (queries.Stat p) = 0
+query_looks s kept (queries.Stat p) = stat_looks s.volume p
 query_looks s kept (queries.Fold i c) = 0
 query_looks s kept queries.Grid = 0
 query_looks s kept queries.Inlines = 0

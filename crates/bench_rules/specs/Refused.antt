@@ -8,7 +8,7 @@ use Rattle.field_map.specs.declared.place.Place.{Place}
 use Rattle.field_map.specs.Binding.{bind_fault, unbind_fault}
 use Rattle.text_block.specs.Blocks.{code_of}
 use Rattle.text_block.specs.Lines.{text_fault}
-use Rattle.sample_codes.specs.declared.integer_format.IntegerFormat.{IntegerFormat}
+use Rattle.sample_codes.specs.declared.value_format.ValueFormat.{ValueFormat}
 use Rattle.sample_codes.specs.Formats.{values, sample_fits}
 use Rattle.frame_cut.specs.declared.file_head.Head.{Head}
 use Rattle.frame_cut.specs.declared.limits.Limits.{Limits}
@@ -51,7 +51,7 @@ abbrev pub no_samples : ℕ → ℕ → ℕ → Option Refusal
 no_samples n k many = if nat_lt n (k + many) then Some (refusals.NoSample (max k n) n) else None
 
 -- the refusal of values over samples that are read so, if they have values
-abbrev pub values_refusal : Option IntegerFormat → Head → List ℕ → ℕ → List ℤ → Option Refusal
+abbrev pub values_refusal : Option ValueFormat → Head → List ℕ → ℕ → List ℤ → Option Refusal
 values_refusal None h t k xs = Some refusals.NoValues
 values_refusal (Some f) h t k xs = if not (list_all (sample_fits f) xs) then Some refusals.DoesNotFit else no_samples (sample_count h t) k (length xs)
 

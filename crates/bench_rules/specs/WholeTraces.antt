@@ -1,7 +1,7 @@
 -- What edits of samples and of whole traces make of a file's bytes. Traces are counted from 1, samples from 0.
 use Rattle.std.specs.Prelude.{ℕ, ◌+◌, ◌-◌, ◌*◌, ℤ, List, [], length, replicate}
 use Rattle.std.specs.Option.{option_map_or}
-use Rattle.sample_codes.specs.declared.integer_format.IntegerFormat.{IntegerFormat}
+use Rattle.sample_codes.specs.declared.value_format.ValueFormat.{ValueFormat}
 use Rattle.sample_codes.specs.Formats.{width, values, samples_bytes}
 use Rattle.frame_cut.specs.declared.file_head.Head.{Head}
 use Rattle.frame_cut.specs.Splice.{splice}
@@ -22,7 +22,7 @@ samples_start v p = trace_start v p + samples_at v.head (trace_at v p)
 -- ---- samples
 
 -- the file's bytes with these numbers of a format over the samples of trace p from sample k on
-abbrev pub patched : Volume → IntegerFormat → ℕ → ℕ → List ℤ → List ℕ
+abbrev pub patched : Volume → ValueFormat → ℕ → ℕ → List ℤ → List ℕ
 patched v f p k xs = let w = width v.head.format in
     splice (bytes_of v) (samples_start v p + w * k) (w * length xs) (samples_bytes v.head.order f xs)
 

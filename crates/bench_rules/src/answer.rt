@@ -1,4 +1,5 @@
 use crate::extremes::Extremes;
+use crate::float_statistics::FloatStatistics;
 use crate::info::Info;
 use crate::items::Items;
 use crate::location::Location;
@@ -18,7 +19,8 @@ pub enum Answer {
     /// The number of traces.
     Count(u32),
     Info(Info),
-    /// Of `Get` and `GetBin`: the number in the field, unscaled. Of `Sample`: the sample.
+    /// Of `Get` and `GetBin`: the number in the field, unscaled. Of `Sample`: the sample, of
+    /// floats its rank (`float_codes`).
     Value(i128),
     /// The shown line, with the blanks at its end.
     Line(Text),
@@ -33,6 +35,8 @@ pub enum Answer {
     Geometry(Location),
     /// `None` of a trace without samples.
     Stat(Option<Statistics>),
+    /// The same where samples are floats.
+    FloatStat(Option<FloatStatistics>),
     /// The number of traces.
     Fold(u64),
     /// Each cell with its fold, rising by inline and then by crossline.
@@ -45,9 +49,11 @@ pub enum Answer {
     Histogram(Items<FoldCount>),
     /// The least and the greatest value; `None` without traces.
     Range(Option<(Ratio, Ratio)>),
-    /// `None` without samples.
+    /// `None` without samples. Of floats the least and the greatest are ranks, and the place of the
+    /// sum has how many samples are no number.
     Totals(Option<Statistics>),
-    /// A row for each trace that has the sample, rising by inline, crossline and position.
+    /// A row for each trace that has the sample, of floats with its rank, rising by inline,
+    /// crossline and position.
     Slice(Items<Row>),
     /// Those of the headers, then those of each trace in order.
     Faults(Items<Fault>),

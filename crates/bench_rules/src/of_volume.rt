@@ -2,7 +2,9 @@
 ghost use Rattle.std.specs.Prelude.{◌≡◌, ◌≤◌, None, is_none};
 ghost use Rattle.sample_codes.specs.Formats.{values};
 ghost use Rattle.frame_cut.specs.Traces.{count_of, is_trace};
+ghost use Rattle.trace_view.specs.Values.{has_floats};
 ghost use Rattle.bench_rules.specs.Answer.{of_traces, Reply};
+ghost use Rattle.bench_rules.specs.FloatStatistics.{float_format as float_format_of};
 ghost use Rattle.bench_rules.specs.Places.{place_in_trace as place_of_field};
 ghost use Rattle.bench_rules.specs.RangeFaults.{or_fault};
 
@@ -10,6 +12,8 @@ use crate::ask_fault::AskFault;
 use crate::field::Field;
 use edit_overlay::Overlay;
 use field_map::{FieldMap, Place, named};
+use float_codes::FloatFormat;
+use sample_codes::{Format, ValueFormat};
 use trace_record::PackedRecord;
 
 /// Whether there is a trace p. Takes no memory and looks at no trace.
@@ -41,6 +45,27 @@ pub fn has_opaque_samples(overlay: &Overlay<PackedRecord>) -> bool
     ensures { result ≡ is_none (values overlay.now.volume.head.format) }
 {
     overlay.head().format.values().is_none()
+}
+
+/// Whether the samples of the file are floats. Takes no memory and looks at no trace.
+pub fn has_float_samples(overlay: &Overlay<PackedRecord>) -> bool
+    ensures { result ≡ has_floats overlay.now.volume.head }
+{
+    match overlay.head().format.values() {
+        Some(format) => format.is_float(),
+        None => false,
+    }
+}
+
+/// The format of the samples of the file where they are floats. Takes no memory and looks at no
+/// trace.
+pub fn float_format(overlay: &Overlay<PackedRecord>) -> Option<FloatFormat>
+    ensures { result ≡ float_format_of overlay.now.volume.head.format }
+{
+    match overlay.head().format {
+        Format::Valued(ValueFormat::Float(format)) => Some(format),
+        Format::Valued(ValueFormat::Integer(_)) | Format::Opaque(_) => None,
+    }
 }
 
 /// The place of a trace's field, where it has one: of a name the bound one, else that of a name

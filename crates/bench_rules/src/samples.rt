@@ -1,18 +1,26 @@
 // The samples of one trace.
-ghost use Rattle.std.specs.Prelude.{◌≡◌, ◌+◌, ◌*◌};
+ghost use Rattle.std.specs.Prelude.{◌≡◌, ◌≤◌, ◌+◌, ◌*◌, ◌^◌, true, All, length};
+ghost use Rattle.num_order.specs.Number.{is_between};
+ghost use Rattle.float_codes.specs.Ranks.{value_at as value_at_rank};
+ghost use Rattle.float_sum.specs.Sums.{total_of};
 ghost use Rattle.sample_codes.specs.Formats.{width};
 ghost use Rattle.trace_view.specs.Shown.{bytes_of, head_of};
-ghost use Rattle.trace_view.specs.Values.{samples_at};
+ghost use Rattle.trace_view.specs.Values.{has_floats, samples_at, samples_of};
 ghost use Rattle.bench_rules.specs.Answer.{trace_sample as sample_reply};
+ghost use Rattle.bench_rules.specs.FloatStatistics.{floats_of, stat_of};
 ghost use Rattle.bench_rules.specs.Refused.{patch_refusal as refusal_of_patch};
 
 use crate::answer::Answer;
 use crate::ask_fault::AskFault;
+use crate::float_statistics::FloatStatistics;
 use crate::refusal::Refusal;
 use crate::trace_bytes::all_fit;
 use field_map::TRACE_HEADER_BYTES;
+use float_codes::{rank_of, value_at};
+use float_sum::FloatTotal;
 use sample_codes::Format;
-use trace_view::TraceView;
+use trace_record::statistics_of;
+use trace_view::{Samples, TraceView};
 
 /// The answer on sample k of the trace: E12 where samples have no values; E05 names the greater of
 /// k and the number of samples.
@@ -28,6 +36,51 @@ pub fn trace_sample(trace: &TraceView<'_>, k: u32) -> Result<Answer, AskFault>
             let count = trace.sample_count();
             Err(AskFault::NoSample(k.max(count), count))
         }
+    }
+}
+
+/// The answer on the statistics of the samples of the trace, which are floats, in two passes over
+/// them.
+pub fn float_stat(trace: &TraceView<'_>) -> Answer
+    requires { has_floats (head_of trace.now) ≡ true }
+    ensures { result ≡ stat_of true (samples_of (head_of trace.now) (bytes_of trace.now)) }
+{
+    match statistics_of(trace) {
+        None => Answer::FloatStat(None),
+        Some(all) => {
+            // its number of samples has 32 bits
+            let _count = trace.sample_count();
+            Answer::FloatStat(Some(FloatStatistics {
+                least: all.least,
+                greatest: all.greatest,
+                sum: rank_of(float_sum(trace.samples())),
+                number: all.number,
+                no_numbers: all.sum,
+            }))
+        }
+    }
+}
+
+// The exact sum of those samples that are numbers, rounded once.
+fn float_sum(mut ranks: Samples<'_>) -> f64
+    requires few { length ranks ≤ 2 ^ 32 }
+    requires ranks { All (λ r. is_between true 8 r ≡ true) ranks }
+    ensures { result ≡ total_of (floats_of ranks.entry) }
+{
+    let mut total = FloatTotal::new();
+    'ranks: while let Some(rank) = ranks.next() {
+        total.add(value_of(rank));
+    }
+    total.sum()
+}
+
+// The float of a rank.
+fn value_of(rank: i128) -> f64
+    ensures { is_between true 8 rank ≡ true → result ≡ value_at_rank rank }
+{
+    match i64::try_from(rank) {
+        Ok(rank) => value_at(rank),
+        Err(_) => 0.0,
     }
 }
 

@@ -10,12 +10,12 @@ use crate::refusal::Refusal;
 use field_map::TRACE_HEADER_BYTES;
 use frame_cut::Head;
 use num_order::Order;
-use sample_codes::IntegerFormat;
+use sample_codes::ValueFormat;
 use std::alloc::Global;
 use trace_view::TraceView;
 
 /// Whether the format has each of the values.
-pub fn all_fit(format: IntegerFormat, values: &[i128]) -> bool
+pub fn all_fit(format: ValueFormat, values: &[i128]) -> bool
     ensures { result ≡ list_all (sample_fits format) values.now }
 {
     for value in values {
@@ -30,7 +30,7 @@ pub fn all_fit(format: IntegerFormat, values: &[i128]) -> bool
 pub fn samples_bytes(
     alloc: Global,
     order: Order,
-    format: IntegerFormat,
+    format: ValueFormat,
     values: &[i128],
 ) -> Result<Vec<u8>, Refusal>
     requires few { length values.now ≤ 2 ^ 40 }

@@ -336,6 +336,7 @@ fn a_set_under_a_fixed_length_moves_no_end(rt: HostRuntime) -> Result<(), Fail> 
         Reading {
             fixed: true,
             opaque: false,
+            floats: false,
             order: None,
         },
         &[(3503, 0)],

@@ -36,6 +36,10 @@ on_disk_rule = record (new_rule (codes "on-disk")) { long = Some (codes "on-disk
 abbrev pub fixed_rule : Rule
 fixed_rule = record (new_rule (codes "fixed")) { long = Some (codes "fixed"); action = Some SetTrue }
 
+-- the flag `--floats`
+abbrev pub floats_rule : Rule
+floats_rule = record (new_rule (codes "floats")) { long = Some (codes "floats"); action = Some SetTrue }
+
 -- the flag `--opaque-samples`
 abbrev pub opaque_rule : Rule
 opaque_rule = record (new_rule (codes "opaque-samples")) { long = Some (codes "opaque-samples"); action = Some SetTrue }
@@ -69,9 +73,9 @@ quiet_rule = record (new_rule (codes "quiet")) { long = Some (codes "quiet"); ac
 abbrev pub titled : App
 titled = on_top (λ s. record s { has_version = true; args_override_self = true }) (new_app (codes "segywb"))
 
--- `segywb FILE [--script S] [--session] [--save-at-end] [--out O] [--in-place] [--on-disk] [--fixed] [--opaque-samples] [--order O] [--max-bytes N] [--stop] [--quiet]`
+-- `segywb FILE [--script S] [--session] [--save-at-end] [--out O] [--in-place] [--on-disk] [--fixed] [--floats] [--opaque-samples] [--order O] [--max-bytes N] [--stop] [--quiet]`
 unfoldable pub segywb : App
-segywb = with_rule (with_rule (with_rule (with_rule (with_rule (with_rule (with_rule (with_rule (with_rule (with_rule (with_rule (with_rule (with_rule titled file_rule) script_rule) out_rule) in_place_rule) on_disk_rule) fixed_rule) opaque_rule) order_rule) limit_rule) stop_rule) session_rule) save_at_end_rule) quiet_rule
+segywb = with_rule (with_rule (with_rule (with_rule (with_rule (with_rule (with_rule (with_rule (with_rule (with_rule (with_rule (with_rule (with_rule (with_rule titled file_rule) script_rule) out_rule) in_place_rule) on_disk_rule) fixed_rule) floats_rule) opaque_rule) order_rule) limit_rule) stop_rule) session_rule) save_at_end_rule) quiet_rule
 
 -- what clap matches for the words
 abbrev pub matched : List (List ℕ) → List Row

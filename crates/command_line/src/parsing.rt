@@ -62,6 +62,7 @@ fn command<'a>(alloc: Global) -> Result<Command<'a>, AllocError>
         .arg(args::in_place(alloc))?
         .arg(args::on_disk(alloc))?
         .arg(args::fixed(alloc))?
+        .arg(args::floats(alloc))?
         .arg(args::opaque(alloc))?
         .arg(args::order(alloc))?
         .arg(args::limit(alloc))?
@@ -127,6 +128,8 @@ fn read_matches<'a>(matches: &ArgMatches<'a>, order: Option<Order>) -> Option<Ar
     ensures range { IfSome result (λ a. IfSome a.max_bytes (λ n. (1 ≤ n) × (n ≤ 1099511627776))) }
     ensures fixed { IfSome result
         (λ a. a.fixed ≡ is_set (first_value (found_of matches.now) (codes "fixed"))) }
+    ensures floats { IfSome result
+        (λ a. a.floats ≡ is_set (first_value (found_of matches.now) (codes "floats"))) }
     ensures opaque { IfSome result
         (λ a. a.opaque ≡ is_set (first_value (found_of matches.now) (codes "opaque-samples"))) }
     ensures order { IfSome result (λ a. a.order ≡ order) }
@@ -146,6 +149,7 @@ fn read_matches<'a>(matches: &ArgMatches<'a>, order: Option<Order>) -> Option<Ar
     let on_disk = is_set(matches, "on-disk");
     let max_bytes = max_bytes(matches)?;
     let fixed = is_set(matches, "fixed");
+    let floats = is_set(matches, "floats");
     let opaque = is_set(matches, "opaque-samples");
     let stop = is_set(matches, "stop");
     let session = is_set(matches, "session");
@@ -159,6 +163,7 @@ fn read_matches<'a>(matches: &ArgMatches<'a>, order: Option<Order>) -> Option<Ar
         on_disk,
         max_bytes,
         fixed,
+        floats,
         opaque,
         order,
         stop,
@@ -169,11 +174,11 @@ fn read_matches<'a>(matches: &ArgMatches<'a>, order: Option<Order>) -> Option<Ar
 }
 
 /// What the words of a command line say, the program's name first: `FILE --script S [--out O]
-/// [--in-place] [--on-disk] [--fixed] [--opaque-samples] [--order big|little] [--max-bytes N]
-/// [--stop] [--quiet]`, or `FILE --session [--save-at-end]` with the same options but `--script`; N
-/// from 1 to 1099511627776; an option may stand more than once, and the last one counts. Refused
-/// with clap's text where they are not accepted, `--help` too, or where a growth was refused. Takes
-/// memory.
+/// [--in-place] [--on-disk] [--fixed] [--floats] [--opaque-samples] [--order big|little]
+/// [--max-bytes N] [--stop] [--quiet]`, or `FILE --session [--save-at-end]` with the same options
+/// but `--script`; N from 1 to 1099511627776; an option may stand more than once, and the last one
+/// counts. Refused with clap's text where they are not accepted, `--help` too, or where a growth
+/// was refused. Takes memory.
 pub fn arguments<'a>(alloc: Global, words: &'a [String]) -> Result<Arguments<'a>, Error>
     ensures file { IfOk result (λ a. first_of (codes "FILE") (matched (map string_bytes words.now))
         ≡ Some a.file.now) }
@@ -195,6 +200,9 @@ pub fn arguments<'a>(alloc: Global, words: &'a [String]) -> Result<Arguments<'a>
     ensures fixed { IfOk result
         (λ a. a.fixed
         ≡ is_set (first_of (codes "fixed") (matched (map string_bytes words.now)))) }
+    ensures floats { IfOk result
+        (λ a. a.floats
+        ≡ is_set (first_of (codes "floats") (matched (map string_bytes words.now)))) }
     ensures opaque { IfOk result
         (λ a. a.opaque
         ≡ is_set (first_of (codes "opaque-samples") (matched (map string_bytes words.now)))) }

@@ -106,16 +106,16 @@ head_by-same : (reading : Reading) (o : Order) (bin other rest : List ℕ) → S
 head_by-same reading o bin other rest s =
     head_in-same reading o bin other (format_in reading o other) (blocks_in o other rest) s
     ∙ ap₂ (head_in reading o bin)
-    (ap (λ (code : ℕ). format_or_2 (format_of reading.opaque code)) (format-same o bin other s))
+    (ap (λ (code : ℕ). format_or_2 (format_of reading.opaque reading.floats code)) (format-same o bin other s))
     (ap (λ (count : ℤ). unwrap_or (blocks_for count rest) 0) (count-same o bin other s))
 
 -- the list of its refusals by what they ask
-faults_with : Bool → Bool → Bool → ℕ → ℕ → Bool → ℕ → ℤ → ℤ → ℤ → ℕ → List ℕ → List (Bool × LoadFault)
-faults_with swapped otherwise unknown major minor opaque code count extensions trailer first rest =
+faults_with : Bool → Bool → Bool → ℕ → ℕ → Bool → Bool → ℕ → ℤ → ℤ → ℤ → ℕ → List ℕ → List (Bool × LoadFault)
+faults_with swapped otherwise unknown major minor opaque floats code count extensions trailer first rest =
     (swapped, PairSwapped)
     ∷ (otherwise, OtherOrder)
     ∷ (unknown, Revision major minor)
-    ∷ (not opaque && is_among code (1 ∷ 5 ∷ 6 ∷ []), FloatFormat code)
+    ∷ (not (opaque || floats) && is_among code (1 ∷ 5 ∷ 6 ∷ []), FloatFormat code)
     ∷ (not opaque && is_among code (4 ∷ []), GainFormat)
     ∷ (not (is_among code (1 ∷ 2 ∷ 3 ∷ 4 ∷ 5 ∷ 6 ∷ 7 ∷ 8 ∷ 9 ∷ 10 ∷ 11 ∷ 12 ∷ 15 ∷ 16 ∷ [])), UnknownFormat code)
     ∷ (is_none (blocks_for count rest), TextCount count)
@@ -124,7 +124,7 @@ faults_with swapped otherwise unknown major minor opaque code count extensions t
     ∷ (not (first == 0) && not (first == traces_at (unwrap_or (blocks_for count rest) 0)), FirstTrace first)
     ∷ []
 
-head_faults-is : (reading : Reading) (o : Order) (bin rest : List ℕ) → head_faults reading o bin rest ≡ faults_with (is_pair_swapped bin) (is_other_order reading.order (told_order bin)) (is_unknown_revision o bin) (major_of o bin) (minor_of o bin) reading.opaque (format_code o bin) (text_count o bin) (extensions_field o bin) (trailer_field o bin) (first_trace o bin) rest
+head_faults-is : (reading : Reading) (o : Order) (bin rest : List ℕ) → head_faults reading o bin rest ≡ faults_with (is_pair_swapped bin) (is_other_order reading.order (told_order bin)) (is_unknown_revision o bin) (major_of o bin) (minor_of o bin) reading.opaque reading.floats (format_code o bin) (text_count o bin) (extensions_field o bin) (trailer_field o bin) (first_trace o bin) rest
 unfolding faults_with
 head_faults-is reading o bin rest = refl
 

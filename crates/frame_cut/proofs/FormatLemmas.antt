@@ -1,6 +1,6 @@
 -- The sample format of a code, or its refusal, by the codes that the list of a head's refusals names.
 use Rattle.std.proofs.Common.{◌≡◌, ℕ, Bool, true, false, [], ◌∷◌, Result, Ok, Err, refl, sym, subst}
-use Rattle.std.specs.Prelude.{◌==◌, ◌&&◌, not, if◌then◌else◌}
+use Rattle.std.specs.Prelude.{◌==◌, ◌&&◌, ◌||◌, not, if◌then◌else◌}
 use Rattle.std.proofs.lemmas.Bool.{eqb-true}
 use Rattle.sample_codes.specs.declared.format.Format.{Format}
 use Rattle.sample_codes.specs.declared.format_fault.FormatFault.{FormatFault}
@@ -11,9 +11,9 @@ use Rattle.frame_cut.specs.declared.load_fault.LoadFault.TheVariants.{FloatForma
 use Rattle.frame_cut.specs.Heads.{is_among, format_refusal}
 
 -- what a code comes to by the list, where `more` is what the rest of the list comes to
-abbrev pub by_code : Bool → ℕ → Result Head LoadFault → Result Head LoadFault
-by_code opaque code more =
-    if not opaque && is_among code (1 ∷ 5 ∷ 6 ∷ []) then Err (FloatFormat code) else
+abbrev pub by_code : Bool → Bool → ℕ → Result Head LoadFault → Result Head LoadFault
+by_code opaque floats code more =
+    if not (opaque || floats) && is_among code (1 ∷ 5 ∷ 6 ∷ []) then Err (FloatFormat code) else
     if not opaque && is_among code (4 ∷ []) then Err GainFormat else
     if not (is_among code (1 ∷ 2 ∷ 3 ∷ 4 ∷ 5 ∷ 6 ∷ 7 ∷ 8 ∷ 9 ∷ 10 ∷ 11 ∷ 12 ∷ 15 ∷ 16 ∷ [])) then Err (UnknownFormat code) else
     more
@@ -44,12 +44,20 @@ at_codes P code p1 p2 p3 p4 p5 p6 p7 p8 p9 p10 p11 p12 p15 p16 none =
     none e1 e2 e3 e4 e5 e6 e7 e8 e9 e10 e11 e12 e15 e16))))))))))))))
 
 -- both come to the same
-pub by_code-is : (opaque : Bool) (code : ℕ) (more : Result Head LoadFault) → by_code opaque code more ≡ by_format (format_of opaque code) code more
-by_code-is true code more =
-    at_codes (λ (n : ℕ). by_code true n more ≡ by_format (format_of true n) n more) code
+pub by_code-is : (opaque floats : Bool) (code : ℕ) (more : Result Head LoadFault) → by_code opaque floats code more ≡ by_format (format_of opaque floats code) code more
+by_code-is true true code more =
+    at_codes (λ (n : ℕ). by_code true true n more ≡ by_format (format_of true true n) n more) code
     refl refl refl refl refl refl refl refl refl refl refl refl refl refl
     (λ e1 e2 e3 e4 e5 e6 e7 e8 e9 e10 e11 e12 e15 e16. rw (e1, e2, e3, e4, e5, e6, e7, e8, e9, e10, e11, e12, e15, e16) refl)
-by_code-is false code more =
-    at_codes (λ (n : ℕ). by_code false n more ≡ by_format (format_of false n) n more) code
+by_code-is true false code more =
+    at_codes (λ (n : ℕ). by_code true false n more ≡ by_format (format_of true false n) n more) code
+    refl refl refl refl refl refl refl refl refl refl refl refl refl refl
+    (λ e1 e2 e3 e4 e5 e6 e7 e8 e9 e10 e11 e12 e15 e16. rw (e1, e2, e3, e4, e5, e6, e7, e8, e9, e10, e11, e12, e15, e16) refl)
+by_code-is false true code more =
+    at_codes (λ (n : ℕ). by_code false true n more ≡ by_format (format_of false true n) n more) code
+    refl refl refl refl refl refl refl refl refl refl refl refl refl refl
+    (λ e1 e2 e3 e4 e5 e6 e7 e8 e9 e10 e11 e12 e15 e16. rw (e1, e2, e3, e4, e5, e6, e7, e8, e9, e10, e11, e12, e15, e16) refl)
+by_code-is false false code more =
+    at_codes (λ (n : ℕ). by_code false false n more ≡ by_format (format_of false false n) n more) code
     refl refl refl refl refl refl refl refl refl refl refl refl refl refl
     (λ e1 e2 e3 e4 e5 e6 e7 e8 e9 e10 e11 e12 e15 e16. rw (e1, e2, e3, e4, e5, e6, e7, e8, e9, e10, e11, e12, e15, e16) refl)

@@ -55,7 +55,7 @@ record Checked (reading : Reading) (o : Order) (bin rest : List ℕ) (h : Head) 
   swapped : is_pair_swapped bin ≡ false
   otherwise : is_other_order reading.order (told_order bin) ≡ false
   revision : is_unknown_revision o bin ≡ false
-  float : (not reading.opaque && is_among (format_code o bin) (1 ∷ 5 ∷ 6 ∷ [])) ≡ false
+  float : (not (reading.opaque || reading.floats) && is_among (format_code o bin) (1 ∷ 5 ∷ 6 ∷ [])) ≡ false
   gain : (not reading.opaque && is_among (format_code o bin) (4 ∷ [])) ≡ false
   unknown : not (is_among (format_code o bin) (1 ∷ 2 ∷ 3 ∷ 4 ∷ 5 ∷ 6 ∷ 7 ∷ 8 ∷ 9 ∷ 10 ∷ 11 ∷ 12 ∷ 15 ∷ 16 ∷ [])) ≡ false
   text : is_none (blocks_for (text_count o bin) rest) ≡ false
@@ -72,7 +72,7 @@ checked reading o bin rest h e =
     let swapped = past (is_pair_swapped bin) PairSwapped _ h e in
     let otherwise = past (is_other_order reading.order (told_order bin)) OtherOrder _ h swapped.1 in
     let revision = past (is_unknown_revision o bin) (Revision (major_of o bin) (minor_of o bin)) _ h otherwise.1 in
-    let float = past (not reading.opaque && is_among (format_code o bin) (1 ∷ 5 ∷ 6 ∷ [])) (FloatFormat (format_code o bin)) _ h revision.1 in
+    let float = past (not (reading.opaque || reading.floats) && is_among (format_code o bin) (1 ∷ 5 ∷ 6 ∷ [])) (FloatFormat (format_code o bin)) _ h revision.1 in
     let gain = past (not reading.opaque && is_among (format_code o bin) (4 ∷ [])) GainFormat _ h float.1 in
     let unknown = past (not (is_among (format_code o bin) (1 ∷ 2 ∷ 3 ∷ 4 ∷ 5 ∷ 6 ∷ 7 ∷ 8 ∷ 9 ∷ 10 ∷ 11 ∷ 12 ∷ 15 ∷ 16 ∷ []))) (UnknownFormat (format_code o bin)) _ h gain.1 in
     let text = past (is_none (blocks_for (text_count o bin) rest)) (TextCount (text_count o bin)) _ h unknown.1 in
@@ -98,7 +98,7 @@ rechecked reading o bin rest h k =
     passed (is_pair_swapped bin) PairSwapped _ h k.swapped
     (passed (is_other_order reading.order (told_order bin)) OtherOrder _ h k.otherwise
     (passed (is_unknown_revision o bin) (Revision (major_of o bin) (minor_of o bin)) _ h k.revision
-    (passed (not reading.opaque && is_among (format_code o bin) (1 ∷ 5 ∷ 6 ∷ [])) (FloatFormat (format_code o bin)) _ h k.float
+    (passed (not (reading.opaque || reading.floats) && is_among (format_code o bin) (1 ∷ 5 ∷ 6 ∷ [])) (FloatFormat (format_code o bin)) _ h k.float
     (passed (not reading.opaque && is_among (format_code o bin) (4 ∷ [])) GainFormat _ h k.gain
     (passed (not (is_among (format_code o bin) (1 ∷ 2 ∷ 3 ∷ 4 ∷ 5 ∷ 6 ∷ 7 ∷ 8 ∷ 9 ∷ 10 ∷ 11 ∷ 12 ∷ 15 ∷ 16 ∷ []))) (UnknownFormat (format_code o bin)) _ h k.unknown
     (passed (is_none (blocks_for (text_count o bin) rest)) (TextCount (text_count o bin)) _ h k.text

@@ -1,7 +1,10 @@
 -- Heads, refusals and trace lengths of small files, worked by hand.
-use Rattle.std.specs.Prelude.{◌≡◌, [], ◌∷◌, take, false, Some, Ok, Err, negsuc, refl}
+use Rattle.std.specs.Prelude.{◌≡◌, [], ◌∷◌, take, true, false, Some, Ok, Err, negsuc, refl}
 use Rattle.num_order.specs.declared.order.Order.TheVariants.{Big, Little}
 use Rattle.sample_codes.specs.declared.format.Format.TheVariants.{Opaque}
+use Rattle.sample_codes.specs.declared.format.Format.TheVariants.{Valued}
+use Rattle.sample_codes.specs.declared.value_format.ValueFormat.TheVariants.{Float}
+use Rattle.float_codes.specs.declared.float_format.FloatFormat.TheVariants.{Ieee64}
 use Rattle.sample_codes.specs.declared.opaque_format.OpaqueFormat.TheVariants.{IeeeFloat64}
 use Rattle.frame_cut.specs.declared.load_fault.LoadFault.TheVariants.{PairSwapped, OtherOrder, FloatFormat, UnknownFormat, TextCount, Truncated}
 use Rattle.frame_cut.specs.Readings.{as_written, as_fixed, as_opaque}
@@ -44,6 +47,10 @@ float = refl
 
 pub float-opaque : head_from as_opaque (put_bin 3225 (0 ∷ 6 ∷ []) bin_plain) [] ≡ Ok (record head_plain { format = Opaque IeeeFloat64 })
 float-opaque = refl
+
+-- where floats and opaque formats are asked for, floats have values
+pub float-valued : head_from (record as_opaque { floats = true }) (put_bin 3225 (0 ∷ 6 ∷ []) bin_plain) [] ≡ Ok (record head_plain { format = Valued (Float Ieee64) })
+float-valued = refl
 
 -- an integer format keeps its values
 pub integer-opaque : head_of file_little as_opaque wide_limits ≡ Ok head_little

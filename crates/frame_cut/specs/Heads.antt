@@ -3,7 +3,8 @@
 use Rattle.std.specs.Prelude.{ℕ, zero, suc, ◌+◌, ◌*◌, ◌-◌, ◌/◌, ◌==◌, ◌||◌, ◌&&◌, nat_lt, nat_le, Bool, true, false, not, List, [], ◌∷◌, ◌++◌, length, take, drop, position, Option, Some, None, is_none, unwrap_or, option_map, Result, Ok, Err, ℤ, pos, negsuc, int_lt, nat_abs, if◌then◌else◌}
 use Rattle.num_order.specs.declared.order.Order.{Order}
 use Rattle.sample_codes.specs.declared.format.Format.{Format}
-use Rattle.sample_codes.specs.declared.format.Format.TheVariants.{Integer}
+use Rattle.sample_codes.specs.declared.format.Format.TheVariants.{Valued}
+use Rattle.sample_codes.specs.declared.value_format.ValueFormat.TheVariants.{Integer}
 use Rattle.sample_codes.specs.declared.integer_format.IntegerFormat.TheVariants.{Signed32}
 use Rattle.sample_codes.specs.declared.format_fault.FormatFault.{FormatFault}
 use Rattle.sample_codes.specs.declared.format_fault.FormatFault.TheVariants as formats
@@ -46,11 +47,11 @@ blocks_in o bin rest = unwrap_or (blocks_for (text_count o bin) rest) 0
 -- the sample format that a code was found to have; that of code 2 where the code is refused, and then there is no head
 abbrev pub format_or_2 : Result Format FormatFault → Format
 format_or_2 (Ok format) = format
-format_or_2 (Err fault) = Integer Signed32
+format_or_2 (Err fault) = Valued (Integer Signed32)
 
 -- the sample format of the binary header's code
 abbrev pub format_in : Reading → Order → List ℕ → Format
-format_in reading o bin = format_or_2 (format_of reading.opaque (format_code o bin))
+format_in reading o bin = format_or_2 (format_of reading.opaque reading.floats (format_code o bin))
 
 -- ---- conditions
 
@@ -82,9 +83,9 @@ head_faults reading o bin rest =
     ∷ (is_other_order reading.order (told_order bin), OtherOrder)
     -- L05: a revision above 2.0
     ∷ (is_unknown_revision o bin, Revision (major_of o bin) (minor_of o bin))
-    -- L06: a sample format of floats, where opaque ones are not asked for
-    ∷ (not reading.opaque && is_among (format_code o bin) (1 ∷ 5 ∷ 6 ∷ []), FloatFormat (format_code o bin))
-    -- L07: that of fixed point with gain, where opaque ones are not asked for
+    -- L06: a sample format of floats, where neither floats nor opaque formats are asked for
+    ∷ (not (reading.opaque || reading.floats) && is_among (format_code o bin) (1 ∷ 5 ∷ 6 ∷ []), FloatFormat (format_code o bin))
+    -- L07: that of fixed point with gain, where opaque formats are not asked for
     ∷ (not reading.opaque && is_among (format_code o bin) (4 ∷ []), GainFormat)
     -- L08: a sample format code that the standard leaves unassigned
     ∷ (not (is_among (format_code o bin) (1 ∷ 2 ∷ 3 ∷ 4 ∷ 5 ∷ 6 ∷ 7 ∷ 8 ∷ 9 ∷ 10 ∷ 11 ∷ 12 ∷ 15 ∷ 16 ∷ [])), UnknownFormat (format_code o bin))

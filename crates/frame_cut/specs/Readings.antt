@@ -4,7 +4,7 @@ use Rattle.frame_cut.specs.declared.reading.Reading.{Reading}
 
 -- as the file says, and integer samples alone
 abbrev pub as_written : Reading
-as_written = record { fixed = false; opaque = false; order = None }
+as_written = record { fixed = false; opaque = false; floats = false; order = None }
 
 -- with the binary header's number of samples in every trace
 abbrev pub as_fixed : Reading
@@ -13,3 +13,7 @@ as_fixed = record as_written { fixed = true }
 -- with the files whose samples have no value here
 abbrev pub as_opaque : Reading
 as_opaque = record as_written { opaque = true }
+
+-- with the values of floats
+abbrev pub as_floats : Reading
+as_floats = record as_written { floats = true }

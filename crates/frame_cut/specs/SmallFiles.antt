@@ -7,7 +7,8 @@ use Rattle.frame_cut.specs.Splice.{splice}
 use Rattle.frame_cut.specs.Volume.{Volume}
 use Rattle.frame_cut.specs.declared.file_head.Head.{Head}
 use Rattle.num_order.specs.declared.order.Order.TheVariants.{Big, Little}
-use Rattle.sample_codes.specs.declared.format.Format.TheVariants.{Integer, Opaque}
+use Rattle.sample_codes.specs.declared.format.Format.TheVariants.{Valued, Opaque}
+use Rattle.sample_codes.specs.declared.value_format.ValueFormat.TheVariants.{Integer}
 use Rattle.sample_codes.specs.declared.integer_format.IntegerFormat.TheVariants.{Signed16, Signed24}
 use Rattle.sample_codes.specs.declared.opaque_format.OpaqueFormat.TheVariants.{IbmFloat32}
 
@@ -147,16 +148,16 @@ file_untold = replicate 3200 0x40 ++ bin_untold ++ trace_untold
 -- ---- what their headers say, and their parts
 
 abbrev pub head_plain : Head
-head_plain = record { order = Big; major = 1; minor = 0; format = Integer Signed16; samples = 2; fixed = true; extensions = 0; blocks = 0; trailer = 0; traces_at = 3600 }
+head_plain = record { order = Big; major = 1; minor = 0; format = Valued (Integer Signed16); samples = 2; fixed = true; extensions = 0; blocks = 0; trailer = 0; traces_at = 3600 }
 
 abbrev pub head_extended : Head
-head_extended = record { order = Big; major = 2; minor = 0; format = Integer Signed16; samples = 2; fixed = true; extensions = 1; blocks = 0; trailer = 0; traces_at = 3600 }
+head_extended = record { order = Big; major = 2; minor = 0; format = Valued (Integer Signed16); samples = 2; fixed = true; extensions = 1; blocks = 0; trailer = 0; traces_at = 3600 }
 
 abbrev pub head_counted : Head
 head_counted = record head_extended { fixed = false; extensions = 3 }
 
 abbrev pub head_little : Head
-head_little = record head_plain { order = Little; major = 2; format = Integer Signed24 }
+head_little = record head_plain { order = Little; major = 2; format = Valued (Integer Signed24) }
 
 abbrev pub head_untold : Head
 head_untold = record { order = Little; major = 0; minor = 0; format = Opaque IbmFloat32; samples = 1; fixed = false; extensions = 0; blocks = 0; trailer = 0; traces_at = 3600 }

@@ -138,7 +138,7 @@ fn with_revision(
     ensures more { result ≡ Ok None → length rest.now < left }
 {
     let code = format_code(order, bin);
-    match Format::of(code, reading.opaque) {
+    match Format::of(code, reading.opaque, reading.floats) {
         Ok(format) => with_format(reading, order, bin, rest, left, format),
         Err(fault) => Err(format_refusal(fault, code)),
     }

@@ -21,10 +21,11 @@ pub enum LoadFault {
     /// A revision above 2.0: its major and minor number (bytes 3501 and 3502).
     #[error("L05 revision {0}.{1}")]
     Revision(u8, u8),
-    /// A sample format of floats: code 1, 5 or 6 (bytes 3225-3226), where opaque ones are not read.
+    /// A sample format of floats: code 1, 5 or 6 (bytes 3225-3226), where neither floats nor opaque
+    /// formats are asked for.
     #[error("L06 float format {0}")]
     FloatFormat(u16),
-    /// The sample format of fixed point with gain, code 4, where opaque ones are not read.
+    /// The sample format of fixed point with gain, code 4, where opaque ones are not asked for.
     #[error("L07 gain format")]
     GainFormat,
     /// A sample format code that the standard leaves unassigned.

@@ -461,7 +461,7 @@ impl LiveVolume {
             Query::Fields => fields_answer(alloc, &self.fields),
             Query::Sample(p, k) => sample_answer(&mut self.overlay, *p, *k),
             Query::Geometry(p) => geometry_answer(self.record(*p), &self.overlay, *p),
-            Query::Stat(p) => stat_answer(self.record(*p), &self.overlay, *p),
+            Query::Stat(p) => stat_answer(self.record(*p), &mut self.overlay, *p),
             Query::Fold(inline, crossline) => Ok(fold(self.grid(), *inline, *crossline)),
             Query::Grid => cells(alloc, self.grid()),
             Query::Inlines => inlines(alloc, self.grid()),

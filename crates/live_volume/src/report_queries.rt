@@ -4,11 +4,13 @@ ghost use Rattle.sample_codes.specs.Formats.{values};
 ghost use Rattle.frame_cut.specs.Traces.{trace_of};
 ghost use Rattle.trace_record.specs.Facts.{facts_of};
 ghost use Rattle.trace_record.specs.OfTrace.{record_of};
+ghost use Rattle.bench_rules.specs.FloatStatistics.{float_format as float_format_of};
 ghost use Rattle.bench_rules.specs.Live.{IsGridOf, AreRangesOf, AreTotalsOf, AreTriplesOf};
 
 use crate::live_volume::LiveVolume;
-use bench_rules::has_opaque_samples;
+use bench_rules::{float_format, has_opaque_samples};
 use fault_live::Faults;
+use float_codes::FloatFormat;
 use grid_live::Grid;
 use range_stats::{Ranges, Totals};
 use trace_record::Record;
@@ -56,6 +58,14 @@ impl LiveVolume {
             return None;
         }
         Some(self.overlay.payload(p).record())
+    }
+
+    /// The format of the samples of the file where they are floats. Takes no memory and looks at no
+    /// trace.
+    pub fn float_format(&self) -> Option<FloatFormat>
+        ensures { result ≡ float_format_of self.now.state.volume.head.format }
+    {
+        float_format(&self.overlay)
     }
 
     /// Whether the samples of the file have no values. Takes no memory and looks at no trace.

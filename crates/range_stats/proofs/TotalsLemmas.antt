@@ -24,15 +24,15 @@ use Rattle.range_stats.proofs.EndKeyLemmas.{times_in-cons, ends, counted_ends}
 
 -- ---- the samples of all
 
-statistics_in-samples : (f : Facts) (vs : List ℤ) → statistics_in (with_samples f vs) ≡ statistics_of vs
-statistics_in-samples f [] = refl
-statistics_in-samples f (v ∷ vs) = refl
+statistics_in-samples : (floats : Bool) (f : Facts) (vs : List ℤ) → statistics_in (with_samples floats f vs) ≡ statistics_of floats vs
+statistics_in-samples floats f [] = refl
+statistics_in-samples floats f (v ∷ vs) = refl
 
 pub totals_are_of_samples : TotalsAreOfSamples
-totals_are_of_samples [] = refl
-totals_are_of_samples (p ∷ ps) =
-    ap₂ statistics_of_both (statistics_in-samples p.0 p.1) (totals_are_of_samples ps)
-    ∙ sym (statistics_of_joined p.1 (flat_map (λ q. q.1) ps))
+totals_are_of_samples floats [] = refl
+totals_are_of_samples floats (p ∷ ps) =
+    ap₂ statistics_of_both (statistics_in-samples floats p.0 p.1) (totals_are_of_samples floats ps)
+    ∙ sym (statistics_of_joined floats p.1 (flat_map (λ q. q.1) ps))
 
 -- ---- in a tally
 

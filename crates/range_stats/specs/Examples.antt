@@ -1,5 +1,5 @@
 -- Ranges and totals, worked by hand.
-use Rattle.std.specs.Prelude.{◌≡◌, ℕ, ℤ, pos, negsuc, [], ◌∷◌, Option, Some, None, option_map, refl}
+use Rattle.std.specs.Prelude.{◌≡◌, ℕ, ℤ, pos, negsuc, false, [], ◌∷◌, Option, Some, None, option_map, refl}
 use Rattle.trace_record.specs.Facts.{with_amplitudes, with_samples}
 use Rattle.key_counts.specs.Coordinates.{under_scalar, over, greatest_divisor}
 use Rattle.key_counts.specs.RatioOrder.{fraction_of}
@@ -33,10 +33,10 @@ pub totals-survey : totals_of survey ≡ Some (record { least = negsuc 4; greate
 totals-survey = refl
 
 -- a trace without samples has no part in them
-pub totals-sampled : totals_of (with_samples trace_1 [] ∷ trace_2 ∷ []) ≡ Some (record { least = pos 3; greatest = pos 4; sum = pos 7; number = 2 })
+pub totals-sampled : totals_of (with_samples false trace_1 [] ∷ trace_2 ∷ []) ≡ Some (record { least = pos 3; greatest = pos 4; sum = pos 7; number = 2 })
 totals-sampled = refl
 
-pub totals-none : totals_of (with_samples trace_1 [] ∷ []) ≡ None
+pub totals-none : totals_of (with_samples false trace_1 [] ∷ []) ≡ None
 totals-none = refl
 
 -- nor has one whose two samples have no values
@@ -47,6 +47,6 @@ pub totals-opaque-alone : totals_of (with_amplitudes trace_1 None 2 ∷ []) ≡ 
 totals-opaque-alone = refl
 
 -- two traces with one sample each, the greatest of eight unsigned bytes
-pub totals-greatest : totals_of (with_samples trace_1 (pos 18446744073709551615 ∷ []) ∷ with_samples trace_2 (pos 18446744073709551615 ∷ []) ∷ [])
+pub totals-greatest : totals_of (with_samples false trace_1 (pos 18446744073709551615 ∷ []) ∷ with_samples false trace_2 (pos 18446744073709551615 ∷ []) ∷ [])
     ≡ Some (record { least = pos 18446744073709551615; greatest = pos 18446744073709551615; sum = pos 36893488147419103230; number = 2 })
 totals-greatest = refl

@@ -1,5 +1,5 @@
 -- Laws of ranges and totals: there is one, and it is the one that is read from the tally.
-use Rattle.std.specs.Prelude.{◌≡◌, ℤ, List, map, flat_map, Option}
+use Rattle.std.specs.Prelude.{◌≡◌, ℤ, Bool, List, map, flat_map, Option}
 use Rattle.trace_record.specs.Facts.{Facts, with_samples}
 use Rattle.range_stats.specs.RangeKeys.{keys_of_ranges}
 use Rattle.range_stats.specs.TotalKeys.{keys_of_totals}
@@ -35,13 +35,13 @@ AtMostOneGreatestIn = (t u : Tally) (a b : Option ℤ) → Same t u → IsGreate
 abbrev pub RangeOfTally : Type 0
 RangeOfTally = (w : Quantity) (fs : List Facts) (t : Tally) (r : Option (Ratio × Ratio)) → Same t (tally_of keys_of_ranges fs) → IsRangeIn w t r → r ≡ range_of w fs
 
--- traces with these samples
-abbrev pub with_each : List (Facts × List ℤ) → List Facts
-with_each ps = map (λ p. with_samples p.0 p.1) ps
+-- traces with these samples; whether they are floats comes first
+abbrev pub with_each : Bool → List (Facts × List ℤ) → List Facts
+with_each floats ps = map (λ p. with_samples floats p.0 p.1) ps
 
 -- the totals of traces are the statistics of their samples one after another
 abbrev pub TotalsAreOfSamples : Type 0
-TotalsAreOfSamples = (ps : List (Facts × List ℤ)) → totals_of (with_each ps) ≡ statistics_of (flat_map (λ p. p.1) ps)
+TotalsAreOfSamples = (floats : Bool) (ps : List (Facts × List ℤ)) → totals_of (with_each floats ps) ≡ statistics_of floats (flat_map (λ p. p.1) ps)
 
 -- the totals of a list of traces are those in its tally
 abbrev pub TotalsOfTally : Type 0

@@ -87,12 +87,14 @@ pub fn reading_of(arguments: &Arguments) -> Reading
     ensures { result ≡ record {
       fixed = arguments.now.fixed;
       opaque = arguments.now.opaque;
+      floats = arguments.now.floats;
       order = arguments.now.order;
     } }
 {
     Reading {
         fixed: arguments.fixed,
         opaque: arguments.opaque,
+        floats: arguments.floats,
         order: arguments.order,
     }
 }

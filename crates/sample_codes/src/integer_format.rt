@@ -1,4 +1,5 @@
 ghost use Rattle.std.specs.Prelude.{◌≡◌, length, IsTrue};
+ghost use Rattle.num_order.specs.Number.{num, bytes as bytes_of, fits as is_of};
 
 use num_order::{Kind, Order};
 
@@ -19,7 +20,7 @@ pub enum IntegerFormat {
 }
 
 impl IntegerFormat {
-    ghost use Rattle.sample_codes.specs.Formats.{integer_code, integer_width, kind_of, integer_of, sample_value, sample_bytes, sample_fits};
+    ghost use Rattle.sample_codes.specs.Formats.{integer_code, integer_width, kind_of, integer_of};
 
     /// The integer format with this code, if there is one. Takes no memory.
     pub fn of(code: u16) -> Option<IntegerFormat>
@@ -97,14 +98,14 @@ impl IntegerFormat {
     /// The number of one sample's bytes. Takes no memory.
     pub fn decode(self, order: Order, bytes: &[u8]) -> i128
         requires { length bytes.now ≡ integer_width self }
-        ensures { result ≡ sample_value order self bytes.now }
+        ensures { result ≡ num order (kind_of self) bytes.now }
     {
         num_order::read(order, self.kind(), bytes)
     }
 
     /// Whether the format has the number: whether one sample can hold it. Takes no memory.
     pub fn fits(self, value: i128) -> bool
-        ensures { result ≡ sample_fits self value }
+        ensures { result ≡ is_of (kind_of self) value }
     {
         num_order::fits(self.kind(), value)
     }
@@ -112,8 +113,8 @@ impl IntegerFormat {
     /// Writes the number over the bytes of one sample. Takes no memory.
     pub fn encode(self, order: Order, value: i128, bytes: &mut [u8])
         requires whole { length bytes.old ≡ integer_width self }
-        requires fits { IsTrue (sample_fits self value) }
-        ensures { bytes.new ≡ sample_bytes order self value }
+        requires fits { IsTrue (is_of (kind_of self) value) }
+        ensures { bytes.new ≡ bytes_of order (kind_of self) value }
     {
         num_order::write(order, self.kind(), value, bytes);
     }

@@ -27,7 +27,11 @@ pub fn fault_of(reply: &Reply) -> Option<Fault>
     ensures { is_some result ≡ (printed_of reply.now).is_refusal }
 {
     match reply {
-        Reply::Silent | Reply::Session(Ok(_)) | Reply::Edited(Ok(())) | Reply::Asked(Ok(_)) => None,
+        Reply::Silent
+        | Reply::Session(Ok(_))
+        | Reply::Edited(Ok(()))
+        | Reply::Asked(Ok(_))
+        | Reply::Floats(_) => None,
         Reply::Fault(fault) => Some(Fault::Line(*fault)),
         Reply::Session(Err(fault)) => Some(Fault::Session(*fault)),
         Reply::Edited(Err(refusal)) => Some(Fault::Edit(*refusal)),

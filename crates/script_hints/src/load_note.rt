@@ -30,7 +30,11 @@ impl fmt::Display for LoadNote<'_> {
         }
         f.write_str(")")?;
         match fault {
-            LoadFault::FloatFormat(_) | LoadFault::GainFormat => f.write_str(
+            LoadFault::FloatFormat(_) => f.write_str(
+                "\nsegywb: with --floats the file is read, its samples with their values; \
+                 with --opaque-samples as bytes without a value",
+            ),
+            LoadFault::GainFormat => f.write_str(
                 "\nsegywb: with --opaque-samples the file is read all the same, \
                  its samples as bytes without a value",
             ),
@@ -53,12 +57,13 @@ fn hint(fault: LoadFault, on_disk: bool) -> Option<&'static str> {
         ),
         LoadFault::Revision(..) => Some("bytes 3501-3502; revisions 0, 1 and 2.0 are read"),
         LoadFault::FloatFormat(_) => Some(
-            "bytes 3225-3226; formats 1, 5 and 6 are floats: \
-             samples with a value are whole numbers, in formats 2, 3, 7 to 12, 15 and 16",
+            "bytes 3225-3226; formats 1, 5 and 6 are floats, which have values where --floats asks \
+             for them",
         ),
         LoadFault::GainFormat => Some(
             "bytes 3225-3226; format 4 is fixed point with gain: \
-             samples with a value are whole numbers, in formats 2, 3, 7 to 12, 15 and 16",
+             samples with a value are whole numbers, in formats 2, 3, 7 to 12, 15 and 16, or \
+             floats, in 1, 5 and 6",
         ),
         LoadFault::TooManyTraces => Some("a file has at most 4294967295 traces"),
         LoadFault::OutOfMemory if on_disk => Some(
@@ -82,7 +87,10 @@ fn unknown_format<W: fmt::Write>(f: &mut fmt::Formatter<W>, code: u16) -> fmt::R
              says the order of a file whose bytes 3297-3300 do not tell it"
         )
     } else {
-        f.write_str("bytes 3225-3226; formats 2, 3, 7 to 12, 15 and 16 are read")
+        f.write_str(
+            "bytes 3225-3226; formats 2, 3, 7 to 12, 15 and 16 are read, and 1, 5 and 6 with \
+             --floats",
+        )
     }
 }
 

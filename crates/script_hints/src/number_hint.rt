@@ -13,7 +13,9 @@ pub(crate) fn number_hint(word: &[u8]) -> Option<&'static str> {
         return None;
     }
     if digits.iter().any(|byte| *byte == b'.' || *byte == b',') {
-        return Some("numbers are whole, in digits alone");
+        return Some(
+            "whole numbers are digits alone, and samples of floats decimals, such as -1.5e3",
+        );
     }
     None
 }

@@ -23,8 +23,13 @@ use Rattle.script_words.specs.declared.line_fault.LineFault.TheVariants.{Words, 
 use Rattle.script_text.specs.declared.session_fault.SessionFault.TheVariants.{CutOff}
 use Rattle.script_text.specs.Replies.{Printed, fault_reply, session_reply, edit_reply}
 use Rattle.script_text.specs.Texts.{IsFullLines}
-use Rattle.script_text.proofs.PlainLemmas.{HasPlainNames, plain_name, plain_bound, plain_unbound, nothing_full, fault_full, session_full as session_text_full, edit_full, query_full}
-use Rattle.script_run.specs.Runs.{ReadStep}
+use Rattle.script_text.proofs.PlainLemmas.{HasPlainNames, plain_name, plain_bound, plain_unbound, nothing_full, fault_full, session_full as session_text_full, edit_full, query_full, reply_full}
+use Rattle.float_codes.specs.declared.float_format.FloatFormat.{FloatFormat}
+use Rattle.bench_rules.specs.Answer.{Reply}
+use Rattle.bench_rules.specs.declared.ask_fault.AskFault.TheVariants as asks
+use Rattle.script_text.specs.Replies.{query_reply}
+use Rattle.script_text.proofs.FloatLineLemmas.{float_answers_are_full_lines}
+use Rattle.script_run.specs.Runs.{ReadStep, IsPrintedOf, floats_asked}
 use Rattle.script_words.specs.declared.session_words.SessionWord.{SessionWord}
 use Rattle.script_words.specs.declared.session_words.SessionWord.TheVariants.{Save, SaveWithMore, Other}
 use Rattle.script_words.specs.SessionWords.{session_word_of}
@@ -80,11 +85,19 @@ step_plain None old new edit (Err s) e h step = same_plain old new step.1 h
 full_by : (p q : Printed) → p ≡ q → IsFullLines q.text → IsFullLines p.text
 full_by p q e full = subst (λ (r : Printed). IsFullLines r.text) (sym e) full
 
+-- what a query prints, also where samples are floats
+asked_full : (o : Option FloatFormat) (reply : Reply) (p : Printed) → IsPrintedOf o reply p → IsFullLines (query_reply reply).text → IsFullLines p.text
+asked_full None reply p e full = full_by p _ e full
+asked_full (Some f) (Err fault) p e full = full_by p _ e full
+asked_full (Some f) (Ok answer) p (inl (shown, shows, e)) full = full_by p _ e (float_answers_are_full_lines f answer shown shows)
+asked_full (Some f) (Ok answer) p (inr (inl e)) full = full_by p _ e.1 (reply_full (Err asks.OutOfMemory) tt)
+asked_full (Some f) (Ok answer) p (inr (inr e)) full = full_by p _ e.1 full
+
 read_full : (old new : State) (read : Result (Option Command) LineFault) (p : Printed) → HasPlainNames old.fields → ReadStep old read p new → IsFullLines p.text × HasPlainNames new.fields
 read_full old new (Ok None) p h step = (full_by p _ step.0 nothing_full, same_plain old new step.1 h)
 read_full old new (Ok (Some (Apply edit))) p h step =
     (full_by p (edit_reply step.0) step.2 (edit_full step.0), step_plain (first_refusal old edit) old new edit step.0 refl h step.1)
-read_full old new (Ok (Some (Ask query))) p h step = (full_by p _ step.2 (query_full old query step.0 h step.1), same_plain old new step.3 h)
+read_full old new (Ok (Some (Ask query))) p h step = (asked_full (floats_asked old query) step.0 p step.2 (query_full old query step.0 h step.1), same_plain old new step.3 h)
 read_full old new (Err fault) p h step = (full_by p (fault_reply fault) step.0 (fault_full fault), same_plain old new step.1 h)
 
 stands_plain : (old new : Standing) → new ≡ old → HasPlainNames old.state.fields → HasPlainNames new.state.fields

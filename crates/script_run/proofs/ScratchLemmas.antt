@@ -16,7 +16,7 @@ use Rattle.script_words.specs.declared.command.Command.TheVariants.{Apply, Ask}
 use Rattle.script_words.specs.declared.line_fault.LineFault.{LineFault}
 use Rattle.script_text.specs.Replies.{Printed}
 use Rattle.script_run.specs.FromScratch.{saved, ScratchSteps}
-use Rattle.script_run.specs.Laws.{IsRead, IsReload, Replied, none_yet, AddsEdit, AddsLine, LinesAreEdits, LinesFromScratch, ReloadsAsSaved}
+use Rattle.script_run.specs.Laws.{IsRead, IsReload, Replied, Reached, at_start, AddsEdit, AddsLine, LinesAreEdits, LinesFromScratch, ReloadsAsSaved}
 use Rattle.script_run.specs.Runs.{ReadStep, LineStep, LineSteps, StepsBy}
 use Rattle.script_words.specs.declared.session_words.SessionWord.{SessionWord}
 use Rattle.script_words.specs.declared.session_words.SessionWord.TheVariants.{Save, SaveWithMore, Other}
@@ -51,23 +51,26 @@ module _ (start : State) where
   add_read before old new (Ok (Some (Ask query))) p sofar step = (before, refl, subst (λ (s : State). Steps start before.edits before.replies s) (sym step.3) sofar)
   add_read before old new (Err fault) p sofar step = (before, (step.0, refl), subst (λ (s : State). Steps start before.edits before.replies s) (sym step.1) sofar)
 
-  add_line : (before : Replied) (old new : State) (line : List ℕ) (p : Printed) → Steps start before.edits before.replies old → LineStep old line p new
-      → LeadsTo new (AddsLine before line p)
-  add_line before old new line p sofar (read, parsed, step) =
-      let one = add_read before old new read p sofar step in (one.0, (read, parsed, one.1), one.2)
+  add_line : (before : Reached) (new : State) (line : List ℕ) (p : Printed) → Steps start before.replied.edits before.replied.replies before.state → LineStep before.state line p new
+      → (all : Replied) × AddsLine start before line p (record { state = new; replied = all })
+  add_line before new line p sofar (read, parsed, step) =
+      let one = add_read before.replied before.state new read p sofar step in (one.0, (read, parsed, one.1, one.2))
 
-  pub add_lines : (before : Replied) (old new : State) (lines : List (List ℕ)) (ps : List Printed) → Steps start before.edits before.replies old → LineSteps old lines ps new
-      → LeadsTo new (StepsBy AddsLine before lines ps)
-  add_lines before old new [] [] sofar h = (before, refl, subst (λ (s : State). Steps start before.edits before.replies s) (sym h) sofar)
-  add_lines before old new [] (p ∷ ps) sofar h = absurd h
-  add_lines before old new (l ∷ ls) [] sofar h = absurd h
-  add_lines before old new (l ∷ ls) (p ∷ ps) sofar (mid, first, rest) =
-      let one = add_line before old mid l p sofar first in
-      let others = add_lines one.0 mid new ls ps one.2 rest in
-      (others.0, (one.0, one.1, others.1), others.2)
+  pub add_lines : (before : Reached) (new : State) (lines : List (List ℕ)) (ps : List Printed) → Steps start before.replied.edits before.replied.replies before.state → LineSteps before.state lines ps new
+      → (all : Replied) × StepsBy (AddsLine start) before lines ps (record { state = new; replied = all }) × Steps start all.edits all.replies new
+  add_lines before new [] [] sofar h =
+      let all : Replied = before.replied in
+      (all, ap (λ (s : State). let r : Reached = record { state = s; replied = all } in r) h, subst (λ (s : State). Steps start all.edits all.replies s) (sym h) sofar)
+  add_lines before new [] (p ∷ ps) sofar h = absurd h
+  add_lines before new (l ∷ ls) [] sofar h = absurd h
+  add_lines before new (l ∷ ls) (p ∷ ps) sofar (mid, first, rest) =
+      let one = add_line before mid l p sofar first in
+      let here : Reached = record { state = mid; replied = one.0 } in
+      let others = add_lines here new ls ps one.1.3 rest in
+      (others.0, (here, one.1, others.1), others.2)
 
 pub lines_are_edits : LinesAreEdits
-lines_are_edits old new lines ps h = add_lines old none_yet old new lines ps refl h
+lines_are_edits old new lines ps h = add_lines old (at_start old) new lines ps refl h
 
 -- ---- a line leaves a file that is read again
 
@@ -77,7 +80,7 @@ Keeps {L} Step = (old new : State) (line : L) (p : Printed) → IsRead old → S
 
 pub line_keeps : StepsStayCut → Keeps LineStep
 line_keeps stay old new line p cut step =
-    let some = add_line old none_yet old new line p refl step in stay old new some.0.edits some.0.replies cut some.2
+    let some = add_line old (at_start old) new line p refl step in stay old new some.0.edits some.0.replies cut some.1.3
 
 -- what leaves the volume as it is keeps it
 same_keeps : StepsStayCut → (old new : State) → IsRead old → new ≡ old → IsReadAlike old new

@@ -6,6 +6,7 @@ use Rattle.bench_rules.specs.declared.edit.Edit.{Edit}
 use Rattle.bench_rules.specs.declared.query.Query.{Query}
 use Rattle.bench_rules.specs.declared.refusal.Refusal.{Refusal}
 use Rattle.bench_rules.specs.Answer.{answer}
+use Rattle.bench_rules.specs.FloatStatistics.{float_format}
 use Rattle.bench_rules.specs.State.{State}
 use Rattle.bench_rules.specs.Steps.{Steps}
 use Rattle.script_words.specs.declared.command.Command.{Command}
@@ -46,18 +47,29 @@ AddsEdit (Ok (Some (Ask query))) printed old new = new ≡ old
 AddsEdit (Ok None) printed old new = new ≡ old
 AddsEdit (Err fault) printed old new = (printed ≡ fault_reply fault) × (new ≡ old)
 
--- the same of a line as it stands
-abbrev pub AddsLine : Replied → List ℕ → Printed → Replied → Type 0
-AddsLine old line printed new = (read : Result (Option Command) LineFault) × IsParsed line read × AddsEdit read printed old new
+-- edits with the reply to each, and the volume that they lead to
+pub record Reached : Type 0 where
+  pub state : State
+  pub replied : Replied
 
--- the edits of these lines, in order, each with the reply that is printed for it
-abbrev pub AreEditsOf : List (List ℕ) → List Printed → Replied → Type 0
-AreEditsOf lines printed all = StepsBy AddsLine none_yet lines printed all
+-- this volume, and no edits so far
+abbrev pub at_start : State → Reached
+at_start s = record { state = s; replied = none_yet }
+
+-- a line, read as the format of the volume's samples has it, comes behind those before it, and all edits from the start on lead to the volume behind it
+abbrev pub AddsLine : State → Reached → List ℕ → Printed → Reached → Type 0
+AddsLine start old line printed new =
+    (read : Result (Option Command) LineFault) × IsParsed (float_format old.state.volume.head.format) line read
+    × AddsEdit read printed old.replied new.replied × Steps start new.replied.edits new.replied.replies new.state
+
+-- the edits of these lines, in order, each with the reply that is printed for it, lead from one volume to another
+abbrev pub AreEditsOf : State → List (List ℕ) → List Printed → Replied → State → Type 0
+AreEditsOf old lines printed all new = StepsBy (AddsLine old) (at_start old) lines printed (record { state = new; replied = all })
 
 -- what lines do to a volume is what their edits do, one after another, each with the reply that is printed
 abbrev pub LinesAreEdits : Type 0
 LinesAreEdits = (old new : State) (lines : List (List ℕ)) (printed : List Printed) → LineSteps old lines printed new
-    → (all : Replied) × AreEditsOf lines printed all × Steps old all.edits all.replies new
+    → (all : Replied) × AreEditsOf old lines printed all new × Steps old all.edits all.replies new
 
 -- each line of a script prints what a load of the bytes that a save before it writes answers, and leaves the bytes that it then saves
 abbrev pub LinesFromScratch : Type 0

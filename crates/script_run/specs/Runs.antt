@@ -1,22 +1,51 @@
 -- A script run over a volume, line by line.
-use Rattle.std.specs.Prelude.{◌≡◌, ℕ, Bool, IsTrue, ◌+◌, ◌<◌, ◌≤◌, List, [], ◌∷◌, ◌++◌, length, take, flat_map, count_by, Option, Some, None, Result, Ok, Err}
+use Rattle.std.specs.Prelude.{◌≡◌, ◌⊎◌, ℕ, Bool, true, false, if◌then◌else◌, IsTrue, ◌+◌, ◌<◌, ◌≤◌, List, [], ◌∷◌, ◌++◌, length, take, flat_map, count_by, Option, Some, None, Result, Ok, Err}
 use Rattle.bench_rules.specs.declared.refusal.Refusal.{Refusal}
 use Rattle.bench_rules.specs.State.{State}
 use Rattle.bench_rules.specs.Steps.{Step}
 use Rattle.bench_rules.specs.Answer.{Reply, IsReply}
+use Rattle.bench_rules.specs.FloatStatistics.{float_format}
+use Rattle.bench_rules.specs.declared.query.Query.{Query}
+use Rattle.bench_rules.specs.declared.query.Query.TheVariants as queries
+use Rattle.bench_rules.specs.declared.ask_fault.AskFault.TheVariants.{OutOfMemory}
+use Rattle.float_codes.specs.declared.float_format.FloatFormat.{FloatFormat}
+use Rattle.shown_floats.specs.declared.float_answer.FloatAnswer.{FloatAnswer}
+use Rattle.shown_floats.specs.Shows.{Shows, IsSlice, IsOther}
 use Rattle.script_words.specs.declared.command.Command.{Command}
 use Rattle.script_words.specs.declared.command.Command.TheVariants.{Apply, Ask}
 use Rattle.script_words.specs.declared.line_fault.LineFault.{LineFault}
 use Rattle.script_words.specs.Words.{script_lines}
 use Rattle.script_words.specs.Commands.{IsParsed}
-use Rattle.script_text.specs.Replies.{Printed, nothing, fault_reply, edit_reply, query_reply}
+use Rattle.script_text.specs.Replies.{Printed, nothing, fault_reply, edit_reply, query_reply, float_reply}
+
+-- whether a query asks for samples
+abbrev pub asks_for_samples : Query → Bool
+asks_for_samples (queries.Sample p k) = true
+asks_for_samples (queries.Stat p) = true
+asks_for_samples queries.Totals = true
+asks_for_samples (queries.Slice k) = true
+asks_for_samples query = false
+
+-- the format of the samples that a query asks for, where they are floats
+abbrev pub floats_asked : State → Query → Option FloatFormat
+floats_asked s query = if asks_for_samples query then float_format s.volume.head.format else None
+
+-- What a reply prints. Floats are printed as words that show them; a slice of floats may be told to want memory for its words; an answer
+-- about anything else is printed as ever.
+abbrev pub IsPrintedOf : Option FloatFormat → Reply → Printed → Type 0
+IsPrintedOf None reply printed = printed ≡ query_reply reply
+IsPrintedOf (Some f) (Err fault) printed = printed ≡ query_reply (Err fault)
+IsPrintedOf (Some f) (Ok answer) printed =
+    ((shown : FloatAnswer) × Shows f answer shown × (printed ≡ float_reply shown))
+    ⊎ (IsSlice answer × (printed ≡ query_reply (Err OutOfMemory)))
+    ⊎ (IsOther answer × (printed ≡ query_reply (Ok answer)))
 
 -- a command with what it prints: an edit is one step, a query changes nothing
 abbrev pub CommandStep : State → Command → Printed → State → Type 0
 CommandStep old (Apply edit) printed new =
     (reply : Result (Unit {0}) Refusal) × Step old edit reply new × (printed ≡ edit_reply reply)
 CommandStep old (Ask query) printed new =
-    (reply : Reply) × IsReply old query reply × (printed ≡ query_reply reply) × (new ≡ old)
+    (reply : Reply) × IsReply old query reply × IsPrintedOf (floats_asked old query) reply printed × (new ≡ old)
 
 -- a line that was read, with what it prints
 abbrev pub ReadStep : State → Result (Option Command) LineFault → Printed → State → Type 0
@@ -27,7 +56,7 @@ ReadStep old (Err fault) printed new = (printed ≡ fault_reply fault) × (new �
 -- a line with what it prints
 abbrev pub LineStep : State → List ℕ → Printed → State → Type 0
 LineStep old line printed new =
-    (read : Result (Option Command) LineFault) × IsParsed line read × ReadStep old read printed new
+    (read : Result (Option Command) LineFault) × IsParsed (float_format old.volume.head.format) line read × ReadStep old read printed new
 
 module _ {S L : Type 0} where
   -- lines one after another, each by such a step, with what each prints

@@ -6,15 +6,19 @@ ghost use Rattle.script_run.specs.Telling.{IsWritten};
 ghost use Rattle.script_text.specs.Held.{printed_of};
 ghost use Rattle.script_run.specs.LineRuns.{RunsLines};
 ghost use Rattle.script_text.specs.Replies.{Printed};
-ghost use Rattle.script_run.specs.Runs.{LineStep, CommandStep};
+ghost use Rattle.script_run.specs.Runs.{LineStep, CommandStep, IsPrintedOf, floats_asked};
+ghost use Rattle.script_words.specs.declared.command.Command.TheVariants.{Ask};
 
 use crate::lines_end::LinesEnd;
 use crate::told::{Told, write_reply};
 use bench_core::Bench;
+use bench_rules::{Answer, AskFault, Query};
 use device_io::{Sink, WriteFault};
+use float_codes::FloatFormat;
 use script_hints::{Notes, fault_of};
 use script_text::{OutBuffer, Reply};
 use script_words::{Command, Lines, parse_line};
+use shown_floats::shown;
 use std::alloc::Global;
 use std::io::Write;
 
@@ -98,7 +102,7 @@ pub(crate) fn run_line(alloc: Global, bench: &mut Bench, line: &[u8]) -> Reply
     ensures agreed { IsTrue bench.new.agreed → IsTrue bench.old.agreed }
     ensures loaded { bench.new.loaded ≡ bench.old.loaded }
 {
-    match parse_line(alloc, line) {
+    match parse_line(alloc, bench.float_format(), line) {
         Ok(None) => Reply::Silent,
         Ok(Some(command)) => run_command(alloc, bench, &command),
         Err(fault) => Reply::Fault(fault),
@@ -114,6 +118,51 @@ fn run_command(alloc: Global, bench: &mut Bench, command: &Command) -> Reply
 {
     match command {
         Command::Apply(edit) => Reply::Edited(bench.apply(alloc, edit)),
-        Command::Ask(query) => Reply::Asked(bench.ask(alloc, query)),
+        Command::Ask(query) => answered(alloc, bench, query),
+    }
+}
+
+// The reply to a query. Where it asks for samples that are floats, it has their words.
+fn answered(alloc: Global, bench: &mut Bench, query: &Query) -> Reply
+    ensures step { IsTrue bench.new.agreed →
+        CommandStep bench.old.state (Ask query.now) (printed_of result) bench.new.state }
+    ensures same { IsReadAs bench.old.state bench.new.state }
+    ensures agreed { IsTrue bench.new.agreed → IsTrue bench.old.agreed }
+    ensures loaded { bench.new.loaded ≡ bench.old.loaded }
+{
+    let floats = floats_of(bench, query);
+    shown_reply(alloc, floats, bench.ask(alloc, query))
+}
+
+// The format of the samples that the query asks for, where they are floats.
+fn floats_of(bench: &Bench, query: &Query) -> Option<FloatFormat>
+    ensures { result ≡ floats_asked bench.now.state query.now }
+{
+    match query {
+        Query::Sample(..) | Query::Stat(_) | Query::Totals | Query::Slice(_) => {
+            bench.float_format()
+        }
+        _ => None,
+    }
+}
+
+// What is printed for the reply to a query.
+fn shown_reply(
+    alloc: Global,
+    floats: Option<FloatFormat>,
+    reply: Result<Answer, AskFault>,
+) -> Reply
+    ensures { IsPrintedOf floats reply (printed_of result) }
+{
+    let Some(format) = floats else {
+        return Reply::Asked(reply);
+    };
+    match reply {
+        Err(fault) => Reply::Asked(Err(fault)),
+        Ok(answer) => match shown(alloc, format, &answer) {
+            Ok(Some(shown)) => Reply::Floats(shown),
+            Ok(None) => Reply::Asked(Ok(answer)),
+            Err(_) => Reply::Asked(Err(AskFault::OutOfMemory)),
+        },
     }
 }

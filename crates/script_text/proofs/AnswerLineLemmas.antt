@@ -13,6 +13,7 @@ use Rattle.field_map.specs.declared.place.Place.{Place}
 use Rattle.sample_codes.specs.Formats.{code_of}
 use Rattle.key_counts.specs.declared.ratio.Ratio.{Ratio}
 use Rattle.trace_record.specs.declared.statistics.Statistics.{Statistics}
+use Rattle.bench_rules.specs.declared.float_statistics.FloatStatistics.{FloatStatistics}
 use Rattle.grid_live.specs.declared.cell.Cell.{Cell}
 use Rattle.grid_live.specs.declared.line.Line.{Line}
 use Rattle.grid_live.specs.declared.fold_count.FoldCount.{FoldCount}
@@ -26,7 +27,7 @@ use Rattle.bench_rules.specs.declared.answer.Answer.TheVariants as answers
 use Rattle.script_text.specs.Texts.{with_blanks, list_lines, place_text, extension_text, sign_letter, is_plain, is_full_line, IsFullLines}
 use Rattle.script_text.specs.ReportTexts.{fraction_text, location_text, statistics_text, range_text, cell_text, numbered_text, fold_count_text, row_text, of_trace_text, fault_text}
 use Rattle.script_text.specs.HeaderTexts.{table_row_text, found_text, number_text, four_numbers, extremes_text}
-use Rattle.script_text.specs.AnswerTexts.{order_text, yes_or_no, info_text, code_text, stanza_text, field_text, shown_text}
+use Rattle.script_text.specs.AnswerTexts.{order_text, yes_or_no, info_text, code_text, stanza_text, field_text, shown_text, ranks_text}
 use Rattle.script_text.specs.FullLines.{AnswersAreFullLines}
 use Rattle.script_text.proofs.FullLineLemmas.{plain_both, plain_decimal, full_decimal, plain_signed, plain_numbers, plain_first, plain_joined, Plain, no_word, word, plain_words, full_joined, words_line, one_line, lines_behind, each_full, some_full}
 
@@ -98,6 +99,11 @@ full_statistics head e (Some s) = words_line head e
     (word (codes "sum") refl (word (signed_decimal s.sum) (plain_signed s.sum)
     (word (codes "samples") refl (word (decimal s.number) (plain_decimal s.number) no_word))))))))
 
+full_ranks : (s : Option FloatStatistics) → is_full_line (ranks_text s) ≡ true
+full_ranks None = refl
+full_ranks (Some s) = words_line (codes "stat ranks") refl
+    (word (signed_decimal s.least) (plain_signed s.least) (word (signed_decimal s.greatest) (plain_signed s.greatest) (word (signed_decimal s.sum) (plain_signed s.sum) no_word)))
+
 full_range : (range : Option (Ratio × Ratio)) → is_full_line (range_text range) ≡ true
 full_range None = refl
 full_range (Some r) = words_line (codes "range") refl (word (fraction_text r.0) (plain_fraction r.0) (word (fraction_text r.1) (plain_fraction r.1) no_word))
@@ -162,7 +168,7 @@ full_extremes f e = full_joined (codes "field ") refl (word f.0 e (word (codes "
 counted : (head : List ℕ) (n : ℕ) → is_full_line head ≡ true → is_full_line (head ++ codes " " ++ decimal n) ≡ true
 counted head n e = full_joined head e (word (codes " ") refl (word (decimal n) (plain_decimal n) no_word))
 
-a_list : (head : List ℕ) (lines : List (List ℕ)) → is_full_line head ≡ true → list_all is_full_line lines ≡ true → IsFullLines (list_lines head lines)
+pub a_list : (head : List ℕ) (lines : List (List ℕ)) → is_full_line head ≡ true → list_all is_full_line lines ≡ true → IsFullLines (list_lines head lines)
 a_list head lines e f = lines_behind head lines (counted head (length lines) e) f
 
 pub answers_are_full_lines : AnswersAreFullLines
@@ -175,6 +181,7 @@ answers_are_full_lines (answers.Stanzas stanzas) h = a_list (codes "stanzas") (m
 answers_are_full_lines (answers.Fields fields) h = a_list (codes "fields") (map field_text fields) refl (some_full field_text (λ f. is_plain f.0) full_field fields h)
 answers_are_full_lines (answers.Geometry location) h = one_line (location_text location) (full_location location)
 answers_are_full_lines (answers.Stat statistics) h = one_line (statistics_text (codes "stat") statistics) (full_statistics (codes "stat") refl statistics)
+answers_are_full_lines (answers.FloatStat s) h = one_line (ranks_text s) (full_ranks s)
 answers_are_full_lines (answers.Fold n) h = one_line (with_blanks (codes "fold" ∷ decimal n ∷ [])) (words_line (codes "fold") refl (word (decimal n) (plain_decimal n) no_word))
 answers_are_full_lines (answers.Grid cells) h = a_list (codes "cells") (map (cell_text (codes "cell")) cells) refl (each_full (cell_text (codes "cell")) full_cell cells)
 answers_are_full_lines (answers.Inlines lines) h = a_list (codes "inlines") (map (numbered_text (codes "inline")) lines) refl (each_full (numbered_text (codes "inline")) (full_numbered (codes "inline") refl) lines)

@@ -4,3 +4,4 @@ pub mod TableTextLemmas
 pub mod FullLineLemmas
 pub mod AnswerLineLemmas
 pub mod PlainLemmas
+pub mod FloatLineLemmas

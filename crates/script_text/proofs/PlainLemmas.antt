@@ -27,8 +27,8 @@ use Rattle.frame_cut.specs.Frames.{sample_count}
 use Rattle.frame_cut.specs.Parts.{block_of}
 use Rattle.frame_cut.specs.Volume.{Volume}
 use Rattle.sample_codes.specs.Formats.{values}
-use Rattle.trace_view.specs.Values.{value_of, sample_of, samples_of}
-use Rattle.trace_record.specs.Statistics.{statistics_of}
+use Rattle.trace_view.specs.Values.{value_of, has_floats, sample_of, samples_of}
+use Rattle.bench_rules.specs.FloatStatistics.{stat_of}
 use Rattle.bench_rules.specs.declared.answer.Answer.{Answer}
 use Rattle.bench_rules.specs.declared.answer.Answer.TheVariants as answers
 use Rattle.bench_rules.specs.declared.ask_fault.AskFault.{AskFault}
@@ -253,6 +253,11 @@ plain_found_answer : (v : Volume) (a b : ℕ) (low high : ℤ) (place : Option P
 plain_found_answer v a b low high None = tt
 plain_found_answer v a b low high (Some place) = plain_or_fault (found_of v place low high a b) NoPlace answers.Found (λ x. tt)
 
+-- statistics have no text
+plain_stat : (floats : Bool) (vs : List ℤ) → HasPlainTexts (stat_of floats vs)
+plain_stat true vs = tt
+plain_stat false vs = tt
+
 plain_answer : (s : State) (query : Query) → HasPlainNames s.fields → PlainReply (answer s query)
 plain_answer s queries.Count h = tt
 plain_answer s queries.Info h = tt
@@ -269,8 +274,8 @@ plain_answer s (queries.Sample p k) h =
     (plain_or_fault (sample_of s.volume.head t k) (NoSample (max k (sample_count s.volume.head t)) (sample_count s.volume.head t)) answers.Value (λ x. tt)))
 plain_answer s (queries.Geometry p) h = plain_or_fault (geometry_in s p) (NoTrace p (count_of s.volume)) answers.Geometry (λ x. tt)
 plain_answer s (queries.Stat p) h =
-    plain_of_trace s.volume p (λ t. of_values s.volume.head (Ok (answers.Stat (statistics_of (samples_of s.volume.head t)))))
-    (λ t. plain_of_values s.volume.head (Ok (answers.Stat (statistics_of (samples_of s.volume.head t)))) tt)
+    plain_of_trace s.volume p (λ t. of_values s.volume.head (Ok (stat_of (has_floats s.volume.head) (samples_of s.volume.head t))))
+    (λ t. plain_of_values s.volume.head (Ok (stat_of (has_floats s.volume.head) (samples_of s.volume.head t))) (plain_stat (has_floats s.volume.head) (samples_of s.volume.head t)))
 plain_answer s (queries.Fold i c) h = tt
 plain_answer s queries.Grid h = tt
 plain_answer s queries.Inlines h = tt
@@ -371,7 +376,7 @@ pub edit_full : {T : Type 0} (reply : Result T Refusal) → IsFullLines (edit_re
 edit_full (Ok done) = one_line (codes "ok") refl
 edit_full (Err fault) = refused_full (refusal_text fault) (plain_refusal fault)
 
-reply_full : (reply : Reply) → PlainReply reply → IsFullLines (query_reply reply).text
+pub reply_full : (reply : Reply) → PlainReply reply → IsFullLines (query_reply reply).text
 reply_full (Ok a) h = answers_are_full_lines a h
 reply_full (Err fault) h = refused_full (ask_fault_text fault) (plain_ask_fault fault)
 

@@ -1,5 +1,5 @@
 -- What is printed for an answer.
-use Rattle.std.specs.Prelude.{ℕ, Bool, List, [], ◌∷◌, ◌++◌, map, decimal, codes, if◌then◌else◌}
+use Rattle.std.specs.Prelude.{ℕ, Bool, List, [], ◌∷◌, ◌++◌, map, decimal, codes, if◌then◌else◌, Option, Some, None}
 use Rattle.std.specs.Fmt.{signed_decimal}
 use Rattle.num_order.specs.declared.order.Order.{Order}
 use Rattle.num_order.specs.declared.order.Order.TheVariants.{Big, Little}
@@ -7,6 +7,7 @@ use Rattle.text_block.specs.declared.code.Code.{Code}
 use Rattle.text_block.specs.declared.code.Code.TheVariants.{Ebcdic, Ascii}
 use Rattle.field_map.specs.declared.place.Place.{Place}
 use Rattle.sample_codes.specs.Formats.{code_of}
+use Rattle.bench_rules.specs.declared.float_statistics.FloatStatistics.{FloatStatistics}
 use Rattle.bench_rules.specs.declared.info.Info.{Info}
 use Rattle.bench_rules.specs.declared.answer.Answer.{Answer}
 use Rattle.bench_rules.specs.declared.answer.Answer.TheVariants as answers
@@ -55,6 +56,11 @@ field_text f = codes "field " ++ f.0 ++ codes " " ++ place_text f.1
 abbrev pub shown_text : List ℕ → List ℕ
 shown_text text = codes "line |" ++ without_blanks text ++ codes "|"
 
+-- of floats, as ranks; what a run prints are their words
+abbrev pub ranks_text : Option FloatStatistics → List ℕ
+ranks_text None = codes "stat none"
+ranks_text (Some s) = with_blanks (codes "stat ranks" ∷ signed_decimal s.least ∷ signed_decimal s.greatest ∷ signed_decimal s.sum ∷ [])
+
 -- an answer, each line with its end
 abbrev pub answer_text : Answer → List ℕ
 answer_text (answers.Count n) = with_line_end (with_blanks (codes "traces" ∷ decimal n ∷ []))
@@ -66,6 +72,7 @@ answer_text (answers.Stanzas stanzas) = list_lines (codes "stanzas") (map stanza
 answer_text (answers.Fields fields) = list_lines (codes "fields") (map field_text fields)
 answer_text (answers.Geometry location) = with_line_end (location_text location)
 answer_text (answers.Stat statistics) = with_line_end (statistics_text (codes "stat") statistics)
+answer_text (answers.FloatStat statistics) = with_line_end (ranks_text statistics)
 answer_text (answers.Fold n) = with_line_end (with_blanks (codes "fold" ∷ decimal n ∷ []))
 answer_text (answers.Grid cells) = list_lines (codes "cells") (map (cell_text (codes "cell")) cells)
 answer_text (answers.Inlines lines) = list_lines (codes "inlines") (map (numbered_text (codes "inline")) lines)

@@ -1,7 +1,7 @@
 -- What is printed for a reply that is held.
-use Rattle.script_text.specs.Replies.{Printed, nothing, fault_reply, session_reply, edit_reply, query_reply}
+use Rattle.script_text.specs.Replies.{Printed, nothing, fault_reply, session_reply, edit_reply, query_reply, float_reply}
 use Rattle.script_text.specs.declared.reply.Reply.{Reply}
-use Rattle.script_text.specs.declared.reply.Reply.TheVariants.{Silent, Fault, Session, Edited, Asked}
+use Rattle.script_text.specs.declared.reply.Reply.TheVariants.{Silent, Fault, Session, Edited, Asked, Floats}
 
 -- what a reply prints
 abbrev pub printed_of : Reply → Printed
@@ -10,3 +10,4 @@ printed_of (Fault fault) = fault_reply fault
 printed_of (Session reply) = session_reply reply
 printed_of (Edited reply) = edit_reply reply
 printed_of (Asked reply) = query_reply reply
+printed_of (Floats answer) = float_reply answer

@@ -1,4 +1,5 @@
 pub mod Texts
+pub mod FloatTexts
 pub mod RefusalTexts
 pub mod HeaderTexts
 pub mod AnswerTexts

@@ -5,7 +5,9 @@ use Rattle.bench_rules.specs.declared.answer.Answer.{Answer}
 use Rattle.bench_rules.specs.declared.ask_fault.AskFault.{AskFault}
 use Rattle.script_words.specs.declared.line_fault.LineFault.{LineFault}
 use Rattle.script_text.specs.declared.session_fault.SessionFault.{SessionFault}
+use Rattle.shown_floats.specs.declared.float_answer.FloatAnswer.{FloatAnswer}
 use Rattle.script_text.specs.AnswerTexts.{answer_text}
+use Rattle.script_text.specs.FloatTexts.{float_answer_text}
 use Rattle.script_text.specs.Texts.{with_blanks, with_line_end}
 use Rattle.script_text.specs.RefusalTexts.{accepted_line, refused_line, refusal_text, ask_fault_text, line_fault_text, session_fault_text}
 
@@ -44,3 +46,7 @@ edit_reply (Err fault) = refusal (refusal_text fault)
 abbrev pub query_reply : Result Answer AskFault → Printed
 query_reply (Ok answer) = record { text = answer_text answer; is_refusal = false }
 query_reply (Err fault) = refusal (ask_fault_text fault)
+
+-- the reply to a query for samples that are floats, where it is answered
+abbrev pub float_reply : FloatAnswer → Printed
+float_reply answer = record { text = float_answer_text answer; is_refusal = false }

@@ -1,6 +1,6 @@
 // The lines that are printed for answers.
-ghost use Rattle.std.specs.Prelude.{◌≡◌, ◌≤◌, ◌++◌, [], length, codes};
-ghost use Rattle.script_text.specs.AnswerTexts.{answer_text, info_text, order_text, yes_or_no, code_text};
+ghost use Rattle.std.specs.Prelude.{◌≡◌, ◌≤◌, ◌++◌, [], Some, length, codes};
+ghost use Rattle.script_text.specs.AnswerTexts.{answer_text, ranks_text, info_text, order_text, yes_or_no, code_text};
 ghost use Rattle.script_text.specs.Devices.{device_of};
 ghost use Rattle.script_text.specs.Printing.{Pushes};
 ghost use Rattle.script_text.specs.Texts.{with_line_end};
@@ -11,7 +11,7 @@ use crate::out_buffer::OutBuffer;
 use crate::report_texts::{location_line, range_line, statistics_line};
 use crate::table_texts::push_table;
 use crate::text_buffer::TextBuffer;
-use bench_rules::{Answer, Info};
+use bench_rules::{Answer, FloatStatistics, Info};
 use device_io::{Sink, WriteFault};
 use itoa::Integer;
 use num_order::Order;
@@ -56,10 +56,34 @@ pub(crate) fn push_answer<W: Write>(
         Answer::Code(code) => out.push(writer, code_line(*code).as_slice()),
         Answer::Geometry(location) => out.push(writer, location_line(*location).as_slice()),
         Answer::Stat(found) => out.push(writer, statistics_line(b"stat", *found).as_slice()),
+        Answer::FloatStat(found) => out.push(writer, ranks_line(*found).as_slice()),
         Answer::Fold(fold) => out.push(writer, numbered_line(b"fold ", *fold).as_slice()),
         Answer::Range(range) => out.push(writer, range_line(*range).as_slice()),
         Answer::Totals(found) => out.push(writer, statistics_line(b"totals", *found).as_slice()),
     }
+}
+
+// The line of ranks.
+fn ranks_line(found: Option<FloatStatistics>) -> TextBuffer
+    ensures { result ≡ with_line_end (ranks_text found) }
+{
+    let mut line = TextBuffer::new();
+    match found {
+        Some(found) => push_ranks(&mut line, found),
+        None => line.push(b"stat none"),
+    }
+    line.push(b"\n");
+    line
+}
+
+fn push_ranks(line: &mut TextBuffer, found: FloatStatistics)
+    requires { line.old ≡ [] }
+    ensures text { line.new ≡ ranks_text (Some found) }
+    ensures short { length line.new ≤ 639 }
+{
+    line.push_numbered(b"stat ranks ", found.least);
+    line.push_numbered(b" ", found.greatest);
+    line.push_numbered(b" ", found.sum);
 }
 
 // The line of one number behind its word, which ends with a blank.

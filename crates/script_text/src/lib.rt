@@ -5,6 +5,7 @@
 #![tactic(auto)]
 
 mod answer_texts;
+mod float_texts;
 mod header_texts;
 mod laws;
 mod list_texts;
@@ -21,7 +22,7 @@ mod text_buffer;
 mod text_from_end;
 mod writing;
 
-pub use crate::laws::answers_are_full_lines;
+pub use crate::laws::{answers_are_full_lines, float_answers_are_full_lines};
 pub use crate::out_buffer::OutBuffer;
 pub use crate::refusal_texts::{load_fault_line, script_fault_line};
 pub use crate::reply::{Reply, is_refusal, push_reply};

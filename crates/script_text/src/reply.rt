@@ -5,6 +5,7 @@ ghost use Rattle.script_text.specs.Printing.{Pushes, nothing_out};
 ghost use Rattle.script_text.specs.Held.{printed_of};
 
 use crate::answer_texts::push_answer;
+use crate::float_texts::push_floats;
 use crate::out_buffer::OutBuffer;
 use crate::refusal_texts::{
     ask_fault_line, line_fault_line, refusal_line, saved_line, session_fault_line,
@@ -13,6 +14,7 @@ use crate::session_fault::SessionFault;
 use bench_rules::{Answer, AskFault, Refusal};
 use device_io::{Sink, WriteFault};
 use script_words::LineFault;
+use shown_floats::FloatAnswer;
 use std::io::Write;
 
 /// What a line gives, of which its text is made.
@@ -29,6 +31,8 @@ pub enum Reply {
     Edited(Result<(), Refusal>),
     /// The line is a query.
     Asked(Result<Answer, AskFault>),
+    /// The line is a query for samples that are floats.
+    Floats(FloatAnswer),
 }
 
 /// Whether a reply is a refusal.
@@ -36,8 +40,11 @@ pub fn is_refusal(reply: &Reply) -> bool
     ensures { result ≡ (printed_of reply.now).is_refusal }
 {
     match reply {
-        Reply::Silent | Reply::Session(Ok(_)) | Reply::Edited(Ok(())) | Reply::Asked(Ok(_)) =>
-            false,
+        Reply::Silent
+        | Reply::Session(Ok(_))
+        | Reply::Edited(Ok(()))
+        | Reply::Asked(Ok(_))
+        | Reply::Floats(_) => false,
         Reply::Fault(_) | Reply::Session(Err(_)) | Reply::Edited(Err(_)) | Reply::Asked(Err(_)) =>
             true,
     }
@@ -61,6 +68,7 @@ pub fn push_reply<W: Write>(
         Reply::Edited(Ok(())) => out.push(writer, b"ok\n"),
         Reply::Edited(Err(refusal)) => out.push(writer, refusal_line(*refusal).as_slice()),
         Reply::Asked(Ok(answer)) => push_answer(out, writer, answer),
+        Reply::Floats(answer) => push_floats(out, writer, answer),
         Reply::Asked(Err(fault)) => out.push(writer, ask_fault_line(*fault).as_slice()),
     }
 }

@@ -16,6 +16,7 @@ use Rattle.script_words.specs.declared.line_fault.LineFault.{LineFault}
 use Rattle.script_words.specs.declared.line_fault.LineFault.TheVariants.{Unknown, Number, NotText, OutOfMemory}
 use Rattle.script_words.specs.Words.{words_of, behind_word, text_behind_word, is_note}
 use Rattle.script_words.specs.Numbers.{number_of, position_of}
+use Rattle.float_codes.specs.declared.float_format.FloatFormat.{FloatFormat}
 use Rattle.script_words.specs.Readers.{Reader, name_of, field_of, target_of, alone, one, two, three, five, one_and_text, two_and_numbers}
 use Rattle.script_words.specs.HeaderCommands.{header_commands}
 
@@ -81,9 +82,9 @@ read_info = alone (Ask queries.Info)
 abbrev pub read_sample : Reader Command
 read_sample = two position_of position_of (λ p k. Ask (queries.Sample p k))
 
--- `patch P K NUMBER ..`
-abbrev pub read_patch : Reader Command
-read_patch = two_and_numbers position_of position_of (λ p k values. Apply (edits.Patch p k values))
+-- `patch P K NUMBER ..`; the format of samples that are floats comes first
+abbrev pub read_patch : Option FloatFormat → Reader Command
+read_patch floats = two_and_numbers floats position_of position_of (λ p k values. Apply (edits.Patch p k values))
 
 -- `blank P`
 abbrev pub read_blank : Reader Command
@@ -109,9 +110,9 @@ read_resize = two position_of number_of (λ p count. Apply (edits.Resize p count
 abbrev pub read_renumber : Reader Command
 read_renumber = five position_of position_of field_of number_of number_of (λ a b field first step. Apply (edits.Renumber a b field first step))
 
--- each command's word with what reads the words behind it, which stand in this rest of the line
-abbrev pub commands : List ℕ → List (List ℕ × Reader Command)
-commands rest =
+-- each command's word with what reads the words behind it, which stand in this rest of the line; the format of samples that are floats comes first
+abbrev pub commands : Option FloatFormat → List ℕ → List (List ℕ × Reader Command)
+commands floats rest =
     (codes "set", read_set)
     ∷ (codes "get", read_get)
     ∷ (codes "bin", read_bin)
@@ -127,7 +128,7 @@ commands rest =
     ∷ (codes "count", read_count)
     ∷ (codes "info", read_info)
     ∷ (codes "sample", read_sample)
-    ∷ (codes "patch", read_patch)
+    ∷ (codes "patch", read_patch floats)
     ∷ (codes "blank", read_blank)
     ∷ (codes "copy", read_copy)
     ∷ (codes "delete", read_delete)
@@ -142,8 +143,8 @@ read_by None words = Err Unknown
 read_by (Some reader) words = reader words
 
 -- the command of a first word and of what stands behind it
-abbrev pub command_of : List ℕ → List ℕ → Result Command LineFault
-command_of word rest = read_by (lookup (bytes_eq word) (commands rest)) (words_of rest)
+abbrev pub command_of : Option FloatFormat → List ℕ → List ℕ → Result Command LineFault
+command_of floats word rest = read_by (lookup (bytes_eq word) (commands floats rest)) (words_of rest)
 
 -- a command that was read
 abbrev pub some_command : {C : Type 0} → Result C LineFault → Result (Option C) LineFault
@@ -157,12 +158,12 @@ words_by command line [] = Ok None
 words_by command line (word ∷ words) = if is_note word then Ok None else some_command (command word (behind_word line))
 
 -- what a line with these words gives: nothing, a command, or the first fault
-abbrev pub words_result : List ℕ → List (List ℕ) → Result (Option Command) LineFault
-words_result line words = words_by command_of line words
+abbrev pub words_result : Option FloatFormat → List ℕ → List (List ℕ) → Result (Option Command) LineFault
+words_result floats line words = words_by (command_of floats) line words
 
 -- what a line gives: nothing, a command, or the first fault
-abbrev pub line_result : List ℕ → Result (Option Command) LineFault
-line_result line = if not (is_utf8 line) then Err NotText else words_result line (words_of line)
+abbrev pub line_result : Option FloatFormat → List ℕ → Result (Option Command) LineFault
+line_result floats line = if not (is_utf8 line) then Err NotText else words_result floats line (words_of line)
 
 -- ---- want of memory
 
@@ -257,5 +258,5 @@ abbrev pub IsRead : Result Command LineFault → Result Command LineFault → Ty
 IsRead expected result = (result ≡ expected) ⊎ ((result ≡ Err OutOfMemory) × CommandTakesMemory expected)
 
 -- what is read from a line: what it gives, or want of memory where its command holds a text or a list
-abbrev pub IsParsed : List ℕ → Result (Option Command) LineFault → Type 0
-IsParsed line result = (result ≡ line_result line) ⊎ ((result ≡ Err OutOfMemory) × LineTakesMemory (line_result line))
+abbrev pub IsParsed : Option FloatFormat → List ℕ → Result (Option Command) LineFault → Type 0
+IsParsed floats line result = (result ≡ line_result floats line) ⊎ ((result ≡ Err OutOfMemory) × LineTakesMemory (line_result floats line))

@@ -12,7 +12,8 @@ use Rattle.bench_rules.specs.declared.operator.Operator.TheVariants.{Plus, Minus
 use Rattle.bench_rules.specs.ManyTraces.{each_of}
 use Rattle.script_words.specs.declared.line_fault.LineFault.{LineFault}
 use Rattle.script_words.specs.declared.line_fault.LineFault.TheVariants.{Words, Number}
-use Rattle.script_words.specs.Numbers.{number_of, is_to_be_number, begins_with_at, place_of_word}
+use Rattle.float_codes.specs.declared.float_format.FloatFormat.{FloatFormat}
+use Rattle.script_words.specs.Numbers.{number_of, sample_number, is_to_be_number, begins_with_at, place_of_word}
 
 -- ---- one word
 
@@ -44,10 +45,10 @@ operator_of word = lookup (bytes_eq word)
 
 -- ---- all words
 
--- one number for each word, if each is one
-abbrev pub numbers_of : List (List ℕ) → Option (List ℤ)
-numbers_of [] = Some []
-numbers_of (word ∷ words) = option_and_then (λ x. option_map (λ xs. x ∷ xs) (numbers_of words)) (number_of word)
+-- the numbers of samples, whose format comes first where they are floats, each in a word
+abbrev pub numbers_of : Option FloatFormat → List (List ℕ) → Option (List ℤ)
+numbers_of floats [] = Some []
+numbers_of floats (word ∷ words) = option_and_then (λ x. option_map (λ xs. x ∷ xs) (numbers_of floats words)) (sample_number floats word)
 
 -- one field for each word, if each is one
 abbrev pub fields_of : List (List ℕ) → Option (List Field)
@@ -109,13 +110,13 @@ abbrev pub one_and_text : {A C : Type 0} → (List ℕ → Option A) → (A → 
 one_and_text a command (v ∷ words) = ok_or (option_map command (a v)) Number
 one_and_text a command [] = Err Words
 
--- two words, and then one or more numbers
-abbrev pub two_and_numbers : {A B C : Type 0} → (List ℕ → Option A) → (List ℕ → Option B) → (A → B → List ℤ → C) → Reader C
-two_and_numbers a b command (u ∷ v ∷ w ∷ words) =
-    ok_or (option_and_then (λ x. option_and_then (λ y. option_map (command x y) (numbers_of (w ∷ words))) (b v)) (a u)) Number
-two_and_numbers a b command (u ∷ v ∷ []) = Err Words
-two_and_numbers a b command (u ∷ []) = Err Words
-two_and_numbers a b command [] = Err Words
+-- two words, and then one or more numbers of samples
+abbrev pub two_and_numbers : {A B C : Type 0} → Option FloatFormat → (List ℕ → Option A) → (List ℕ → Option B) → (A → B → List ℤ → C) → Reader C
+two_and_numbers floats a b command (u ∷ v ∷ w ∷ words) =
+    ok_or (option_and_then (λ x. option_and_then (λ y. option_map (command x y) (numbers_of floats (w ∷ words))) (b v)) (a u)) Number
+two_and_numbers floats a b command (u ∷ v ∷ []) = Err Words
+two_and_numbers floats a b command (u ∷ []) = Err Words
+two_and_numbers floats a b command [] = Err Words
 
 -- two words, and then a list of so many words as it may have
 abbrev pub two_and_list : {A B L C : Type 0} → (List ℕ → Option A) → (List ℕ → Option B) → (ℕ → Bool) → (List (List ℕ) → Option L) → (A → B → L → C) → Reader C

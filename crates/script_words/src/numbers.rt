@@ -1,6 +1,9 @@
 // Words that are numbers.
 ghost use Rattle.std.specs.Prelude.{◌≡◌, ◌≤◌, ◌^◌, neg_ℤ, pos};
-ghost use Rattle.script_words.specs.Numbers.{natural_up_to, number_of, position_of, is_to_be_number};
+ghost use Rattle.script_words.specs.Numbers.{natural_up_to, number_of, sample_number, rank_read as rank_of_reading, position_of, is_to_be_number};
+
+use float_codes::FloatFormat;
+use float_text::Reading;
 
 // From here on one more digit goes past 2^127, and below it a digit more fits 128 bits.
 const ROOM_FOR_A_DIGIT: u128 = 1 << 124;
@@ -31,6 +34,29 @@ pub(crate) fn number(word: &str) -> Option<i128>
     match word.strip_prefix(b"-") {
         Some(digits) => Some(negative(natural(digits, 1 << 127)?)),
         None => Some(natural(word, (1 << 127) - 1)? as i128),
+    }
+}
+
+// What is given for a decimal past the greatest value of a format: no sample has this number.
+const PAST_GREATEST: i128 = 1 << 64;
+
+/// The number that a word gives a sample: a number, or of floats, whose format comes first, the
+/// rank of the value that is nearest to a decimal.
+pub(crate) fn sample(floats: Option<FloatFormat>, word: &str) -> Option<i128>
+    ensures { result ≡ sample_number floats word.now }
+{
+    match floats {
+        None => number(word),
+        Some(format) => Some(rank_read(float_text::parse(format, word.as_bytes())?)),
+    }
+}
+
+fn rank_read(reading: Reading) -> i128
+    ensures { result ≡ rank_of_reading reading }
+{
+    match reading {
+        Reading::Value(value) => i128::from(float_codes::rank_of(value)),
+        Reading::PastGreatest { .. } => PAST_GREATEST,
     }
 }
 

@@ -13,6 +13,7 @@ use crate::numbers::{number, position};
 use crate::trace_commands::{blank, copy, delete, move_trace, patch, renumber, resize};
 use crate::words::Words;
 use bench_rules::{Edit, Query};
+use float_codes::FloatFormat;
 use std::alloc::Global;
 use std::str;
 
@@ -21,10 +22,15 @@ use std::str;
 ///
 /// Words are separated by blanks and tabs. A line that is not UTF-8 is S04, a first word that is no
 /// command S01, too few or too many words S02, and a word that has to be a number, a place, a kind
-/// of value or an operator and is none S03; the first of these that holds is told. Takes memory
-/// only where the command holds a text, a name or a list, and is E11 where that was refused.
-pub fn parse_line(alloc: Global, line: &[u8]) -> Result<Option<Command>, LineFault>
-    ensures { IsParsed line.now result }
+/// of value or an operator and is none S03; the first of these that holds is told. Where the
+/// samples are floats, of the format that comes first, their values are decimals. Takes memory only
+/// where the command holds a text, a name or a list, and is E11 where that was refused.
+pub fn parse_line(
+    alloc: Global,
+    floats: Option<FloatFormat>,
+    line: &[u8],
+) -> Result<Option<Command>, LineFault>
+    ensures { IsParsed floats line.now result }
 {
     let Ok(text) = str::from_utf8(line) else {
         return Err(LineFault::NotText);
@@ -33,13 +39,18 @@ pub fn parse_line(alloc: Global, line: &[u8]) -> Result<Option<Command>, LineFau
     match words.next() {
         None => Ok(None),
         Some(word) if word.as_bytes().starts_with(b"#") => Ok(None),
-        Some(word) => Ok(Some(command(alloc, word, words)?)),
+        Some(word) => Ok(Some(command(alloc, floats, word, words)?)),
     }
 }
 
 // The command of a word and of what stands behind it.
-fn command(alloc: Global, word: &str, words: Words) -> Result<Command, LineFault>
-    ensures { IsRead (command_of word.now words.entry) result }
+fn command(
+    alloc: Global,
+    floats: Option<FloatFormat>,
+    word: &str,
+    words: Words,
+) -> Result<Command, LineFault>
+    ensures { IsRead (command_of floats word.now words.entry) result }
 {
     match word {
         "set" => set(alloc, words),
@@ -57,7 +68,7 @@ fn command(alloc: Global, word: &str, words: Words) -> Result<Command, LineFault
         "count" => query_alone(words, Query::Count),
         "info" => query_alone(words, Query::Info),
         "sample" => sample(words),
-        "patch" => patch(alloc, words),
+        "patch" => patch(alloc, floats, words),
         "blank" => blank(words),
         "copy" => copy(words),
         "delete" => delete(words),

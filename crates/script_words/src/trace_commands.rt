@@ -8,14 +8,21 @@ ghost use Rattle.script_words.specs.Commands.{read_patch, read_blank, read_copy,
 use crate::command::Command;
 use crate::fields::field;
 use crate::line_fault::LineFault;
-use crate::numbers::{number, position};
+use crate::numbers::{number, position, sample};
 use crate::parse::{five, one, two};
 use crate::words::Words;
 use bench_rules::{Edit, Items};
+use float_codes::FloatFormat;
 use std::alloc::Global;
 
-pub(crate) fn patch(alloc: Global, mut words: Words) -> Result<Command, LineFault>
-    ensures { IsRead (read_patch (words_of words.entry)) result }
+/// The values of samples that are floats, of the format that comes first where they are, may be
+/// decimals.
+pub(crate) fn patch(
+    alloc: Global,
+    floats: Option<FloatFormat>,
+    mut words: Words,
+) -> Result<Command, LineFault>
+    ensures { IsRead (read_patch floats (words_of words.entry)) result }
 {
     let p = words.next().ok_or(LineFault::Words)?;
     let k = words.next().ok_or(LineFault::Words)?;
@@ -25,7 +32,7 @@ pub(crate) fn patch(alloc: Global, mut words: Words) -> Result<Command, LineFaul
     }
     let p = position(p).ok_or(LineFault::Number)?;
     let k = position(k).ok_or(LineFault::Number)?;
-    let values = numbers(alloc, values)?;
+    let values = numbers(alloc, floats, values)?;
     Ok(Command::Apply(Edit::Patch(p, k, values)))
 }
 
@@ -91,12 +98,12 @@ pub(crate) fn renumber(alloc: Global, words: Words) -> Result<Command, LineFault
 }
 
 // Whether each word of the text is a number.
-fn are_numbers(text: &str) -> bool
-    ensures { result ≡ is_some (numbers_of (words_of text.now)) }
+fn are_numbers(floats: Option<FloatFormat>, text: &str) -> bool
+    ensures { result ≡ is_some (numbers_of floats (words_of text.now)) }
 {
     let mut words = Words::new(text);
     'words: while let Some(word) = words.next() {
-        if number(word).is_none() {
+        if sample(floats, word).is_none() {
             return false;
         }
     }
@@ -104,10 +111,11 @@ fn are_numbers(text: &str) -> bool
 }
 
 // What is told where memory ran out in front of this rest: S03 comes before E11.
-fn fault_without_memory(rest: &str) -> LineFault
-    ensures { result ≡ if is_some (numbers_of (words_of rest.now)) then no_memory else no_number }
+fn fault_without_memory(floats: Option<FloatFormat>, rest: &str) -> LineFault
+    ensures { result ≡
+        if is_some (numbers_of floats (words_of rest.now)) then no_memory else no_number }
 {
-    if are_numbers(rest) {
+    if are_numbers(floats, rest) {
         LineFault::OutOfMemory
     } else {
         LineFault::Number
@@ -116,16 +124,16 @@ fn fault_without_memory(rest: &str) -> LineFault
 
 // The numbers that the words of the text are. Takes memory. S03 where a word is no number, else
 // E11.
-fn numbers(alloc: Global, text: &str) -> Result<Items<i128>, LineFault>
-    ensures { IsListRead (numbers_of (words_of text.now)) result }
+fn numbers(alloc: Global, floats: Option<FloatFormat>, text: &str) -> Result<Items<i128>, LineFault>
+    ensures { IsListRead (numbers_of floats (words_of text.now)) result }
 {
     let mut values = Vec::new(alloc);
     let mut words = Words::new(text);
     'words: while let Some(word) = words.next() {
-        match number(word) {
+        match sample(floats, word) {
             Some(value) => {
                 if values.push(value).is_err() {
-                    return Err(fault_without_memory(words.rest()));
+                    return Err(fault_without_memory(floats, words.rest()));
                 }
             }
             None => return Err(LineFault::Number),

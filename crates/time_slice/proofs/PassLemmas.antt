@@ -9,8 +9,8 @@ use Rattle.field_map.specs.Pairs.{Pairs}
 use Rattle.frame_cut.specs.declared.file_head.Head.{Head}
 use Rattle.frame_cut.specs.Frames.{extensions_of, sample_count}
 use Rattle.sample_codes.specs.declared.format.Format.{Format}
-use Rattle.sample_codes.specs.declared.integer_format.IntegerFormat.{IntegerFormat}
-use Rattle.sample_codes.specs.Formats.{integer_width, width, values, sample_value}
+use Rattle.sample_codes.specs.declared.value_format.ValueFormat.{ValueFormat}
+use Rattle.sample_codes.specs.Formats.{value_width, width, values, sample_value}
 use Rattle.sample_codes.proofs.WidthLemmas.{width-values}
 use Rattle.trace_view.specs.Values.{bytes_of_sample, sample_of}
 use Rattle.trace_record.specs.Facts.{Facts, facts_of}
@@ -24,7 +24,7 @@ use Rattle.bench_rules.specs.SlicesOfRecords.{with_sample_of}
 use Rattle.bench_rules.specs.Slices.{row_of, rows_from, slice_rows, with_sample}
 
 -- the bytes of a sample at their place in the trace
-pub sample_at : (h : Head) (f : IntegerFormat) (t : List ℕ) (k e w j : ℕ) (bytes : List ℕ) → values h.format ≡ Some f → k < sample_count h t → e ≡ extensions_of h t → w ≡ integer_width f → j ≡ k
+pub sample_at : (h : Head) (f : ValueFormat) (t : List ℕ) (k e w j : ℕ) (bytes : List ℕ) → values h.format ≡ Some f → k < sample_count h t → e ≡ extensions_of h t → w ≡ value_width f → j ≡ k
     → bytes ≡ slice_range t (240 * (1 + e) + w * j) (240 * (1 + e) + w * j + w) → Some (sample_value h.order f bytes) ≡ sample_of h t k
 sample_at h f t k e w j bytes reads there headers narrow number here =
     let wide : w ≡ width h.format = narrow ∙ sym (width-values h.format f reads) in
@@ -35,7 +35,7 @@ sample_at h f t k e w j bytes reads there headers narrow number here =
     let bytes_are : bytes ≡ bytes_of_sample h t k = here ∙ ap (λ (n : ℕ). take n (drop place t)) (size ∙ wide) ∙ ap (λ (bs : List ℕ). take (width h.format) bs) at in
     rw (lt-ltb k (sample_count h t) there)
     (ap (λ (bs : List ℕ). Some (sample_value h.order f bs)) bytes_are
-    ∙ ap (λ (o : Option IntegerFormat). option_map (λ g. sample_value h.order g (bytes_of_sample h t k)) o) (sym reads))
+    ∙ ap (λ (o : Option ValueFormat). option_map (λ g. sample_value h.order g (bytes_of_sample h t k)) o) (sym reads))
 
 -- a row more whose sample the format has
 pub fits_more : (f : Format) (old new : List Row) (p : ℕ) (facts : Facts) (s : Option ℤ) → new ≡ old ++ row_of p facts s → IfSome s (λ v. IsTrue (value_fits f v))

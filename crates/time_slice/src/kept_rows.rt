@@ -17,7 +17,8 @@ use std::alloc::Global;
 use std::marker::Model;
 use std::mem::size_of;
 
-// The position of a row, and its sample as a number of 8 bytes: 12 bytes in all.
+// The position of a row, and its sample, of floats the rank, as a number of 8 bytes: 12 bytes in
+// all.
 #[derive(Clone, Copy)]
 pub(crate) struct KeptRow {
     position: u32,
@@ -102,7 +103,7 @@ fn may_be_signed(format: Format) -> bool
     ensures { result ≡ has_signs format }
 {
     match format.values() {
-        Some(format) => format.kind().signed,
+        Some(format) => format.may_be_negative(),
         None => false,
     }
 }

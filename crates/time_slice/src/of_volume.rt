@@ -1,6 +1,6 @@
 ghost use Rattle.std.specs.Prelude.{◌≡◌, ◌<◌, ◌++◌, length, map, All, IfOk, IfErr, IfSome, OnOk, IsTrue};
 ghost use Rattle.frame_cut.specs.Traces.{count_of, is_trace, trace_at};
-ghost use Rattle.sample_codes.specs.Formats.{integer_width, sample_value, sample_fits};
+ghost use Rattle.sample_codes.specs.Formats.{value_width, sample_value, sample_fits};
 ghost use Rattle.trace_view.specs.Shown.{head_of, bytes_of};
 ghost use Rattle.trace_view.specs.Values.{sample_of};
 ghost use Rattle.trace_record.specs.Facts.{facts_of};
@@ -17,7 +17,7 @@ use edit_overlay::{Overlay, ReadFault};
 use field_map::TRACE_HEADER_BYTES;
 use frame_cut::Head;
 use num_order::Order;
-use sample_codes::IntegerFormat;
+use sample_codes::ValueFormat;
 use std::alloc::Global;
 use trace_record::{PackedRecord, Record};
 use trace_view::TraceView;
@@ -151,8 +151,8 @@ fn sample_that_fits(trace: &TraceView<'_>, k: u32) -> Option<i128>
 }
 
 // The number of the bytes of a sample, which its format has.
-fn number_of(order: Order, format: IntegerFormat, bytes: &[u8]) -> i128
-    requires { length bytes.now ≡ integer_width format }
+fn number_of(order: Order, format: ValueFormat, bytes: &[u8]) -> i128
+    requires { length bytes.now ≡ value_width format }
     ensures value { result ≡ sample_value order format bytes.now }
     ensures fits { IsTrue (sample_fits format result) }
 {

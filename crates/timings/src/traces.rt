@@ -62,6 +62,7 @@ pub(crate) fn count_records<R: Files + AllocGlobal>(
     let reading = Reading {
         fixed: false,
         opaque: true,
+        floats: false,
         order: None,
     };
     let mut loading: Loading<()> = Loading::load(

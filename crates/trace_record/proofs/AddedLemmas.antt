@@ -1,5 +1,5 @@
 -- One sample more, as the code computes it.
-use Rattle.std.proofs.Common.{◌≡◌, ℕ, ℤ, ◌+◌, ◌^◌, ◌≤◌, ◌+ℤ◌, SFits, to_z, of_z, refl, arith, rules}
+use Rattle.std.proofs.Common.{◌≡◌, ℕ, ℤ, false, ◌+◌, ◌^◌, ◌≤◌, ◌+ℤ◌, SFits, to_z, of_z, refl, arith, rules}
 use Rattle.std.proofs.lemmas.Int.{ints, to_z-of_z}
 use Rattle.std.specs.Int.{Width, w128, int_min, int_max}
 use Rattle.trace_record.specs.declared.statistics.Statistics.{Statistics}
@@ -8,7 +8,7 @@ use Rattle.trace_record.proofs.PartLemmas.{fits_min, fits_max}
 
 -- a value that fits is what its bits are
 pub statistics_added : (v w : Width) (s : Statistics) (x y low high : ℤ) (n : ℕ) → SFits v s.least → SFits v s.greatest → SFits w s.sum → SFits v x → SFits w y → SFits v low → SFits v high → SFits w (s.sum +ℤ y) → y ≡ x → low ≡ int_min (to_z v (of_z v s.least)) (to_z v (of_z v x)) → high ≡ int_max (to_z v (of_z v s.greatest)) (to_z v (of_z v x)) → n ≡ s.number + 1
-    → (let r : Statistics = record { least = to_z v (of_z v low); greatest = to_z v (of_z v high); sum = to_z w (of_z w (to_z w (of_z w s.sum) +ℤ to_z w (of_z w y))); number = n } in r) ≡ with_sample s x
+    → (let r : Statistics = record { least = to_z v (of_z v low); greatest = to_z v (of_z v high); sum = to_z w (of_z w (to_z w (of_z w s.sum) +ℤ to_z w (of_z w y))); number = n } in r) ≡ with_sample false s x
 statistics_added v w s x y low high n fl fg fs fx fy flow fhigh fsum same el eg en =
     rw (to_z-of_z v low flow, to_z-of_z v high fhigh, to_z-of_z w s.sum fs, to_z-of_z w y fy, to_z-of_z w (s.sum +ℤ y) fsum, el, eg, to_z-of_z v s.least fl, to_z-of_z v s.greatest fg, to_z-of_z v x fx, same, en) refl
 

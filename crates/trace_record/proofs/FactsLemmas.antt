@@ -1,15 +1,15 @@
 -- Facts that are what the bytes of a trace say.
-use Rattle.std.proofs.Common.{◌≡◌, ℕ, List, [], ℤ, Option, Some, None, ◌∙◌, SFits, to_z, of_z}
+use Rattle.std.proofs.Common.{Bool, ◌≡◌, ℕ, List, [], ℤ, Option, Some, None, ◌∙◌, SFits, to_z, of_z}
 use Rattle.std.specs.Prelude.{codes}
 use Rattle.std.specs.Option.{option_map_or}
 use Rattle.std.specs.Int.{Width}
 use Rattle.std.proofs.lemmas.Int.{to_z-of_z}
 use Rattle.num_order.specs.declared.order.Order.{Order}
-use Rattle.sample_codes.specs.declared.integer_format.IntegerFormat.{IntegerFormat}
+use Rattle.sample_codes.specs.declared.value_format.ValueFormat.{ValueFormat}
 use Rattle.field_map.specs.Pairs.{Pairs}
 use Rattle.frame_cut.specs.declared.file_head.Head.{Head}
 use Rattle.frame_cut.specs.Frames.{header_unsigned, sample_count}
-use Rattle.trace_view.specs.Values.{samples_in, samples_of}
+use Rattle.trace_view.specs.Values.{samples_in, has_floats, samples_of}
 use Rattle.trace_record.specs.Facts.{Facts, with_amplitudes}
 use Rattle.trace_record.specs.OfTrace.{record_of, bound_value, signed_value, has_known_name_of}
 use Rattle.key_counts.specs.Coordinates.{under_scalar}
@@ -57,10 +57,10 @@ facts_with f h fields t a n e = λ i. record {
 }
 
 -- the amplitudes and the number of the trace's own samples make it the record of the trace
-pub with_own : (h : Head) (fields : Pairs) (t : List ℕ) (a : Option Amplitudes) (n : ℕ) → a ≡ amplitudes_of (samples_of h t) → n ≡ sample_count h t → with_amplitudes (record_of h fields t) a n ≡ record_of h fields t
+pub with_own : (h : Head) (fields : Pairs) (t : List ℕ) (a : Option Amplitudes) (n : ℕ) → a ≡ amplitudes_of (has_floats h) (samples_of h t) → n ≡ sample_count h t → with_amplitudes (record_of h fields t) a n ≡ record_of h fields t
 with_own h fields t a n amplitudes number = λ i. record (record_of h fields t) { amplitudes = amplitudes i; number = number i }
 
 -- where n samples have values, statistics of them are of n samples
-pub counted : (o : Order) (f : Option IntegerFormat) (n : ℕ) (bytes : List ℕ) (s : Statistics) → Some s ≡ statistics_of (option_map_or (λ g. samples_in o g n bytes) f []) → s.number ≡ n
-counted o None n bytes s e = absurd cc
-counted o (Some g) n bytes s e = (says s (samples_in o g n bytes) e).1.1.1 ∙ length-samples_in o g n bytes
+pub counted : (floats : Bool) (o : Order) (f : Option ValueFormat) (n : ℕ) (bytes : List ℕ) (s : Statistics) → Some s ≡ statistics_of floats (option_map_or (λ g. samples_in o g n bytes) f []) → s.number ≡ n
+counted floats o None n bytes s e = absurd cc
+counted floats o (Some g) n bytes s e = (says floats s (samples_in o g n bytes) e).1.1.1 ∙ length-samples_in o g n bytes

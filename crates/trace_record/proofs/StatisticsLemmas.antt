@@ -1,9 +1,9 @@
 -- Statistics of lists one after the other.
-use Rattle.std.specs.Prelude.{◌≡◌, ℕ, ℤ, pos, ◌+ℤ◌, List, [], ◌∷◌, ◌++◌, length, Option, Some, None, unwrap_or, refl}
+use Rattle.std.specs.Prelude.{◌≡◌, ℕ, ℤ, Bool, pos, ◌+ℤ◌, List, [], ◌∷◌, ◌++◌, length, Option, Some, None, unwrap_or, refl}
 use Rattle.std.proofs.Common.{arith, ap, ◌∙◌, length-append}
 use Rattle.std.proofs.lemmas.Int.{ints}
 use Rattle.std.specs.Int.{int_min, int_max}
-use Rattle.trace_record.specs.Statistics.{least_of, greatest_of, int_sum, statistics_of}
+use Rattle.trace_record.specs.Statistics.{least_of, greatest_of, int_sum, for_greatest, for_sum, greatest_sample, sample_sum, statistics_of}
 use Rattle.trace_record.specs.declared.statistics.Statistics.{Statistics}
 use Rattle.trace_record.specs.Laws.{StatisticsOfJoined}
 
@@ -29,6 +29,14 @@ append-none : (vs : List ℤ) → vs ++ [] ≡ vs
 append-none [] = refl
 append-none (v ∷ vs) = ap (λ us. v ∷ us) (append-none vs)
 
+greatest_sample-append : (floats : Bool) (v : ℤ) (vs : List ℤ) (w : ℤ) (ws : List ℤ) → greatest_sample floats ((v ∷ vs) ++ (w ∷ ws)) ≡ int_max (greatest_sample floats (v ∷ vs)) (greatest_sample floats (w ∷ ws))
+greatest_sample-append floats v [] w ws = refl
+greatest_sample-append floats v (u ∷ us) w ws = ap (λ m. int_max (for_greatest floats v) m) (greatest_sample-append floats u us w ws) ∙ max_assoc (for_greatest floats v) (greatest_sample floats (u ∷ us)) (greatest_sample floats (w ∷ ws))
+
+sample_sum-append : (floats : Bool) (vs ws : List ℤ) → sample_sum floats (vs ++ ws) ≡ sample_sum floats vs +ℤ sample_sum floats ws
+sample_sum-append floats [] ws = omega (arith, ints)
+sample_sum-append floats (v ∷ vs) ws = let e = sample_sum-append floats vs ws in omega (arith, ints)
+
 -- the statistics of these four
 abbrev pub four : ℤ → ℤ → ℤ → ℕ → Option Statistics
 four l g s n = Some (record { least = l; greatest = g; sum = s; number = n })
@@ -37,21 +45,21 @@ pub same_four : (l g s : ℤ) (n : ℕ) (m h t : ℤ) (k : ℕ) → l ≡ m → 
 same_four l g s n m h t k a b c d = λ i. four (a i) (b i) (c i) (d i)
 
 pub statistics_of_joined : StatisticsOfJoined
-statistics_of_joined [] ys = refl
-statistics_of_joined (v ∷ vs) [] = ap statistics_of (append-none (v ∷ vs))
-statistics_of_joined (v ∷ vs) (w ∷ ws) =
-    same_four _ _ _ _ _ _ _ _ (least_of-append v vs w ws) (greatest_of-append v vs w ws) (int_sum-append (v ∷ vs) (w ∷ ws)) (length-append (v ∷ vs) (w ∷ ws))
+statistics_of_joined floats [] ys = refl
+statistics_of_joined floats (v ∷ vs) [] = ap (statistics_of floats) (append-none (v ∷ vs))
+statistics_of_joined floats (v ∷ vs) (w ∷ ws) =
+    same_four _ _ _ _ _ _ _ _ (least_of-append v vs w ws) (greatest_sample-append floats v vs w ws) (sample_sum-append floats (v ∷ vs) (w ∷ ws)) (length-append (v ∷ vs) (w ∷ ws))
 
 -- ---- each of the four by itself
 
 -- what statistics of samples say, and what there is without any
-abbrev pub Says : Statistics → List ℤ → Type 0
-Says s vs = (s.least ≡ least_of vs) × ((s.greatest ≡ greatest_of vs) × ((s.sum ≡ int_sum vs) × (s.number ≡ length vs)))
+abbrev pub Says : Bool → Statistics → List ℤ → Type 0
+Says floats s vs = (s.least ≡ least_of vs) × ((s.greatest ≡ greatest_sample floats vs) × ((s.sum ≡ sample_sum floats vs) × (s.number ≡ length vs)))
 
-pub says : (s : Statistics) (vs : List ℤ) → Some s ≡ statistics_of vs → Says s vs
-says s [] e = absurd cc
-says s (v ∷ vs) e = (ap (λ o. (unwrap_or o s).least) e, (ap (λ o. (unwrap_or o s).greatest) e, (ap (λ o. (unwrap_or o s).sum) e, ap (λ o. (unwrap_or o s).number) e)))
+pub says : (floats : Bool) (s : Statistics) (vs : List ℤ) → Some s ≡ statistics_of floats vs → Says floats s vs
+says floats s [] e = absurd cc
+says floats s (v ∷ vs) e = (ap (λ o. (unwrap_or o s).least) e, (ap (λ o. (unwrap_or o s).greatest) e, (ap (λ o. (unwrap_or o s).sum) e, ap (λ o. (unwrap_or o s).number) e)))
 
-pub says_none : (vs : List ℤ) → None ≡ statistics_of vs → Says (record { least = pos 0; greatest = pos 0; sum = pos 0; number = 0 }) vs
-says_none [] e = (refl, (refl, (refl, refl)))
-says_none (v ∷ vs) e = absurd cc
+pub says_none : (floats : Bool) (vs : List ℤ) → None ≡ statistics_of floats vs → Says floats (record { least = pos 0; greatest = pos 0; sum = pos 0; number = 0 }) vs
+says_none floats [] e = (refl, (refl, (refl, refl)))
+says_none floats (v ∷ vs) e = absurd cc

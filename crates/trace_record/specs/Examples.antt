@@ -5,15 +5,24 @@ use Rattle.field_map.specs.Pairs.{bound, signed_at}
 use Rattle.frame_cut.specs.SmallFiles.{head_plain, head_untold, trace_plain_1, trace_plain_3, trace_untold, with_bytes_at}
 use Rattle.key_counts.specs.RatioOrder.{fraction_of}
 use Rattle.key_counts.specs.Coordinates.{under_scalar}
-use Rattle.trace_record.specs.Statistics.{statistics_of}
+use Rattle.trace_record.specs.Statistics.{statistics_of, below_numbers}
+use Rattle.float_codes.specs.Ranks.{no_number}
 use Rattle.trace_record.specs.OfTrace.{record_of, has_geometry}
 use Rattle.trace_record.specs.SmallSurvey.{trace_1, trace_3}
 
-pub statistics-two : statistics_of (negsuc 4 ∷ pos 6 ∷ []) ≡ Some (record { least = negsuc 4; greatest = pos 6; sum = pos 1; number = 2 })
+pub statistics-two : statistics_of false (negsuc 4 ∷ pos 6 ∷ []) ≡ Some (record { least = negsuc 4; greatest = pos 6; sum = pos 1; number = 2 })
 statistics-two = refl
 
-pub statistics-none : statistics_of [] ≡ None
+pub statistics-none : statistics_of false [] ≡ None
 statistics-none = refl
+
+-- 2.5, what is no number, and -2.5, by their ranks
+pub statistics-floats : statistics_of true (pos 0x4004000000000000 ∷ no_number ∷ negsuc 0x4004000000000000 ∷ []) ≡ Some (record { least = negsuc 0x4004000000000000; greatest = pos 0x4004000000000000; sum = pos 1; number = 3 })
+statistics-floats = refl
+
+-- where no sample is a number
+pub statistics-no_number : statistics_of true (no_number ∷ []) ≡ Some (record { least = no_number; greatest = below_numbers; sum = pos 1; number = 1 })
+statistics-no_number = refl
 
 -- the first and the third trace are the ones made by hand
 pub record-plain_1 : record_of head_plain geometry_at_load trace_plain_1 ≡ trace_1

@@ -64,9 +64,9 @@ sum_of_values f = option_map_or (λ a. a.sum) f.amplitudes (pos 0)
 abbrev pub with_amplitudes : Facts → Option Amplitudes → ℕ → Facts
 with_amplitudes f a n = record f { amplitudes = a; number = n }
 
--- the same facts with the amplitudes and the number of these samples
-abbrev pub with_samples : Facts → List ℤ → Facts
-with_samples f vs = with_amplitudes f (amplitudes_of vs) (length vs)
+-- the same facts with the amplitudes and the number of these samples; whether they are floats comes first
+abbrev pub with_samples : Bool → Facts → List ℤ → Facts
+with_samples floats f vs = with_amplitudes f (amplitudes_of floats vs) (length vs)
 
 -- the same facts with what other facts say of the samples
 abbrev pub with_samples_of : Facts → Facts → Facts

@@ -1,5 +1,5 @@
 -- Laws of statistics and tallies, whatever traces they are of.
-use Rattle.std.specs.Prelude.{◌≡◌, ℕ, ℤ, true, List, ◌∷◌, ◌++◌, IsPermutation}
+use Rattle.std.specs.Prelude.{◌≡◌, ℕ, ℤ, Bool, true, List, ◌∷◌, ◌++◌, IsPermutation}
 use Rattle.field_map.specs.Pairs.{Pairs}
 use Rattle.field_map.specs.Binding.{HasGeometry}
 use Rattle.frame_cut.specs.declared.file_head.Head.{Head}
@@ -12,7 +12,7 @@ use Rattle.trace_record.specs.Tally.{Tally, tally_of, plus, minus, plus_beside, 
 
 -- the statistics of two lists one after the other are those of both together
 abbrev pub StatisticsOfJoined : Type 0
-StatisticsOfJoined = (xs ys : List ℤ) → statistics_of (xs ++ ys) ≡ statistics_of_both (statistics_of xs) (statistics_of ys)
+StatisticsOfJoined = (floats : Bool) (xs ys : List ℤ) → statistics_of floats (xs ++ ys) ≡ statistics_of_both (statistics_of floats xs) (statistics_of floats ys)
 
 -- the tally does not depend on the order of the traces
 abbrev pub TallyInAnyOrder : Type 0

@@ -3,6 +3,7 @@ pub mod Packable
 pub mod Packed
 pub mod Statistics
 pub mod Narrow
+pub mod Floats
 pub mod Unsigned
 pub mod Facts
 pub mod NumberPlaces

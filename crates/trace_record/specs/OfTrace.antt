@@ -7,7 +7,7 @@ use Rattle.field_map.specs.Pairs.{Pairs, place_of, signed_at}
 use Rattle.field_map.specs.Binding.{geometry_at_load, is_geometry_kind}
 use Rattle.frame_cut.specs.declared.file_head.Head.{Head}
 use Rattle.frame_cut.specs.Frames.{header_bytes, header_unsigned, sample_count}
-use Rattle.trace_view.specs.Values.{value_at, has_place, samples_of}
+use Rattle.trace_view.specs.Values.{value_at, has_place, has_floats, samples_of}
 use Rattle.std.specs.Prelude.{false}
 use Rattle.trace_record.specs.Facts.{Facts}
 use Rattle.trace_record.specs.Statistics.{amplitudes_of}
@@ -59,6 +59,6 @@ record_of h fields t = record {
   interval = header_unsigned h 0 117 2 t;
   samples_field = header_unsigned h 0 115 2 t;
   has_known_name = has_known_name_of t;
-  amplitudes = amplitudes_of (samples_of h t);
+  amplitudes = amplitudes_of (has_floats h) (samples_of h t);
   number = sample_count h t;
 }

@@ -1,12 +1,12 @@
 -- Three traces of a small survey, for worked examples.
-use Rattle.std.specs.Prelude.{ℤ, pos, negsuc, List, [], ◌∷◌, true, None}
+use Rattle.std.specs.Prelude.{ℤ, pos, negsuc, List, [], ◌∷◌, true, false, None}
 use Rattle.trace_record.specs.Facts.{Facts, with_samples}
 use Rattle.key_counts.specs.Coordinates.{whole}
 
 -- a trace at this inline and crossline, with this offset, x and sequence number, and two samples
 abbrev pub made : ℤ → ℤ → ℤ → ℤ → ℤ → ℤ → ℤ → Facts
 made i c o x sequence v w =
-    with_samples (record {
+    with_samples false (record {
       inline = i;
       crossline = c;
       offset = o;

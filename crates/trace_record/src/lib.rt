@@ -8,6 +8,7 @@
 #![tactic(auto)]
 
 mod amplitudes;
+mod floats;
 mod header_fields;
 mod laws;
 mod main_header;
@@ -27,6 +28,7 @@ pub use crate::laws::{
     plus_undoes_minus, statistics_of_joined, tally_holds_each, tally_in_any_order,
     tally_of_an_exchange, tally_of_one_less, tally_of_one_more,
 };
+pub use crate::of_samples::statistics_of;
 pub use crate::of_trace::{record_of, record_with_samples_of};
 pub use crate::packed_record::PackedRecord;
 pub use crate::record::Record;

@@ -1,5 +1,6 @@
 // The statistics of samples that fit an i32, in one slice.
-ghost use Rattle.std.specs.Prelude.{◌≡◌, ◌*◌, ◌≤◌, IfSome, length};
+ghost use Rattle.std.specs.Prelude.{◌≡◌, ◌*◌, ◌≤◌, IfSome, length, false};
+ghost use Rattle.sample_codes.specs.declared.value_format.ValueFormat.TheVariants.{Integer};
 ghost use Rattle.sample_codes.specs.Formats.{integer_width};
 ghost use Rattle.trace_view.specs.Values.{samples_in};
 ghost use Rattle.trace_record.specs.Statistics.{statistics_of, HasRange};
@@ -16,14 +17,14 @@ struct Narrow {
 }
 
 impl Narrow {
-    ghost use Rattle.std.specs.Prelude.{◌≡◌, ◌*◌, ◌-◌, ◌+◌, ◌^◌, ◌≤ℤ◌, pos, neg_ℤ, ℕ};
+    ghost use Rattle.std.specs.Prelude.{◌≡◌, false, ◌*◌, ◌-◌, ◌+◌, ◌^◌, ◌≤ℤ◌, pos, neg_ℤ, ℕ};
     ghost use Rattle.trace_record.specs.Parts.{FitsSample};
     ghost use Rattle.trace_record.specs.Statistics.{one_sample, with_sample};
     ghost use Rattle.trace_record.specs.Narrow.{statistics_of_narrow};
 
     #[inline(always)]
     fn of(sample: i32) -> Narrow
-        ensures { statistics_of_narrow result 1 ≡ one_sample sample }
+        ensures { statistics_of_narrow result 1 ≡ one_sample false sample }
     {
         Narrow {
             least: sample,
@@ -36,7 +37,7 @@ impl Narrow {
     fn add(&mut self, sample: i32)
         requires sum_low { neg_ℤ (pos (2 ^ 31 * (2 ^ 32 - 1))) ≤ℤ self.old.sum }
         requires sum_high { self.old.sum ≤ℤ pos (2 ^ 31 * (2 ^ 32 - 1)) }
-        ensures { (n : ℕ) → statistics_of_narrow self.new (n + 1) ≡ with_sample
+        ensures { (n : ℕ) → statistics_of_narrow self.new (n + 1) ≡ with_sample false
             (statistics_of_narrow self.old n) sample }
     {
         self.least = self.least.min(sample);
@@ -65,7 +66,8 @@ pub(crate) fn narrow_statistics<S: ReadsSample, O: Ordered>(
     number: u32,
 ) -> Option<Statistics>
     requires { integer_width S.format * number ≤ length bytes.now }
-    ensures value { result ≡ statistics_of (samples_in O.order S.format number bytes.now) }
+    ensures value { result ≡ statistics_of false
+        (samples_in O.order (Integer S.format) number bytes.now) }
     ensures range { IfSome result HasRange }
 {
     if number == 0 {

@@ -1,29 +1,34 @@
 // The statistics of the samples of a trace.
-ghost use Rattle.std.specs.Prelude.{◌≡◌, ◌+◌, ◌*◌, ◌≤◌, IfSome, length, drop};
-ghost use Rattle.sample_codes.specs.Formats.{integer_width, width};
+ghost use Rattle.std.specs.Prelude.{◌≡◌, ◌+◌, ◌*◌, ◌≤◌, IfSome, true, false, length, drop};
+ghost use Rattle.sample_codes.specs.declared.value_format.ValueFormat.TheVariants.{Integer, Float};
+ghost use Rattle.float_codes.specs.Values.{float_width};
+ghost use Rattle.sample_codes.specs.Formats.{integer_width, value_width, width, is_float};
 ghost use Rattle.frame_cut.specs.Frames.{sample_count};
 ghost use Rattle.trace_view.specs.Shown.{bytes_of, head_of};
-ghost use Rattle.trace_view.specs.Values.{samples_in, samples_of, sample_bytes};
+ghost use Rattle.trace_view.specs.Values.{has_floats, samples_in, samples_of, sample_bytes};
 ghost use Rattle.trace_record.specs.Statistics.{statistics_of as statistics_of_samples, HasRange};
 
 use crate::Statistics;
+use crate::floats::float_statistics;
 use crate::narrow::narrow_statistics;
-use crate::reads_sample::{I24, Ordered, U24};
+use crate::reads_sample::{I24, Ibm, Ordered, U24};
 use crate::unsigned::unsigned_statistics;
 use crate::wide::wide_statistics;
 use byteorder::{BigEndian, LittleEndian};
 use field_map::TRACE_HEADER_BYTES;
+use float_codes::FloatFormat;
 use num_order::Order;
-use sample_codes::IntegerFormat;
+use sample_codes::{IntegerFormat, ValueFormat};
 use trace_view::TraceView;
 
 // Where a run lies in the samples, so many of them are gathered at a time.
 const BLOCK: u32 = 512;
 
-// The statistics of the trace's samples. Where they have no values, none is read.
-pub(crate) fn statistics_of(view: &TraceView<'_>) -> Option<Statistics>
+/// The statistics of the trace's samples, in one pass over them; none of a trace without samples,
+/// or whose samples have no values, of which none is read. Takes no memory.
+pub fn statistics_of(view: &TraceView<'_>) -> Option<Statistics>
     ensures value { result ≡ statistics_of_samples
-        (samples_of (head_of view.now) (bytes_of view.now)) }
+        (has_floats (head_of view.now)) (samples_of (head_of view.now) (bytes_of view.now)) }
     ensures range { IfSome result HasRange }
 {
     let head = view.head();
@@ -35,9 +40,9 @@ pub(crate) fn statistics_of(view: &TraceView<'_>) -> Option<Statistics>
 }
 
 // Of all samples, a block at a time.
-fn block_statistics(view: &TraceView<'_>, format: IntegerFormat) -> Option<Statistics>
-    requires { integer_width format ≡ width (head_of view.now).format }
-    ensures value { result ≡ statistics_of_samples
+fn block_statistics(view: &TraceView<'_>, format: ValueFormat) -> Option<Statistics>
+    requires { value_width format ≡ width (head_of view.now).format }
+    ensures value { result ≡ statistics_of_samples (is_float format)
         (samples_in (head_of view.now).order format
         (sample_count (head_of view.now) (bytes_of view.now))
         (sample_bytes (head_of view.now) (bytes_of view.now))) }
@@ -58,16 +63,16 @@ fn block_statistics(view: &TraceView<'_>, format: IntegerFormat) -> Option<Stati
 // Of so many samples, from this one on, gathered into one slice.
 fn gathered_statistics(
     view: &TraceView<'_>,
-    format: IntegerFormat,
+    format: ValueFormat,
     from: u32,
     number: u32,
 ) -> Option<Statistics>
-    requires width { integer_width format ≡ width (head_of view.now).format }
+    requires width { value_width format ≡ width (head_of view.now).format }
     requires inside { from + number ≤ sample_count (head_of view.now) (bytes_of view.now) }
     requires few { number ≤ 512 }
-    ensures value { result ≡ statistics_of_samples
+    ensures value { result ≡ statistics_of_samples (is_float format)
         (samples_in (head_of view.now).order format number
-        (drop (integer_width format * from)
+        (drop (value_width format * from)
         (sample_bytes (head_of view.now) (bytes_of view.now)))) }
     ensures range { IfSome result HasRange }
 {
@@ -87,14 +92,14 @@ fn gathered_statistics(
 // Of so many samples, read from this place of the trace on into the slice.
 fn read_statistics(
     view: &TraceView<'_>,
-    format: IntegerFormat,
+    format: ValueFormat,
     at: u64,
     bytes: &mut [u8],
     number: u32,
 ) -> Option<Statistics>
     requires inside { at + length bytes.old ≤ length (bytes_of view.now) }
-    requires whole { integer_width format * number ≤ length bytes.old }
-    ensures value { result ≡ statistics_of_samples
+    requires whole { value_width format * number ≤ length bytes.old }
+    ensures value { result ≡ statistics_of_samples (is_float format)
         (samples_in (head_of view.now).order format number (drop at (bytes_of view.now))) }
     ensures range { IfSome result HasRange }
 {
@@ -105,12 +110,13 @@ fn read_statistics(
 // Of the first samples of the bytes.
 fn slice_statistics(
     order: Order,
-    format: IntegerFormat,
+    format: ValueFormat,
     bytes: &[u8],
     number: u32,
 ) -> Option<Statistics>
-    requires { integer_width format * number ≤ length bytes.now }
-    ensures value { result ≡ statistics_of_samples (samples_in order format number bytes.now) }
+    requires { value_width format * number ≤ length bytes.now }
+    ensures value { result ≡ statistics_of_samples (is_float format)
+        (samples_in order format number bytes.now) }
     ensures range { IfSome result HasRange }
 {
     match order {
@@ -119,14 +125,50 @@ fn slice_statistics(
     }
 }
 
-// The same in the order O. Each format has a loop of its own.
+// The same in the order O.
 fn ordered_statistics<O: Ordered>(
+    format: ValueFormat,
+    bytes: &[u8],
+    number: u32,
+) -> Option<Statistics>
+    requires { value_width format * number ≤ length bytes.now }
+    ensures value { result ≡ statistics_of_samples (is_float format)
+        (samples_in O.order format number bytes.now) }
+    ensures range { IfSome result HasRange }
+{
+    match format {
+        ValueFormat::Integer(format) => integer_statistics::<O>(format, bytes, number),
+        ValueFormat::Float(format) => statistics_of_floats::<O>(format, bytes, number),
+    }
+}
+
+// Of floats. Each format has a loop of its own.
+fn statistics_of_floats<O: Ordered>(
+    format: FloatFormat,
+    bytes: &[u8],
+    number: u32,
+) -> Option<Statistics>
+    requires { float_width format * number ≤ length bytes.now }
+    ensures value { result ≡ statistics_of_samples true
+        (samples_in O.order (Float format) number bytes.now) }
+    ensures range { IfSome result HasRange }
+{
+    match format {
+        FloatFormat::Ibm32 => float_statistics::<Ibm, O>(bytes, number),
+        FloatFormat::Ieee32 => float_statistics::<f32, O>(bytes, number),
+        FloatFormat::Ieee64 => float_statistics::<f64, O>(bytes, number),
+    }
+}
+
+// Of whole numbers. Each format has a loop of its own.
+fn integer_statistics<O: Ordered>(
     format: IntegerFormat,
     bytes: &[u8],
     number: u32,
 ) -> Option<Statistics>
     requires { integer_width format * number ≤ length bytes.now }
-    ensures value { result ≡ statistics_of_samples (samples_in O.order format number bytes.now) }
+    ensures value { result ≡ statistics_of_samples false
+        (samples_in O.order (Integer format) number bytes.now) }
     ensures range { IfSome result HasRange }
 {
     match format {

@@ -1,7 +1,7 @@
 ghost use Rattle.std.specs.Prelude.{◌≡◌, true};
 ghost use Rattle.frame_cut.specs.Frames.{sample_count};
 ghost use Rattle.trace_view.specs.Shown.{bytes_of, head_of};
-ghost use Rattle.trace_view.specs.Values.{main_header, has_place, value_at as number_at, samples_of};
+ghost use Rattle.trace_view.specs.Values.{main_header, has_place, value_at as number_at, has_floats, samples_of};
 ghost use Rattle.trace_record.specs.Facts.{facts_of, with_amplitudes, with_samples_of};
 ghost use Rattle.trace_record.specs.NumberPlaces.{IsNumber, IsShort};
 ghost use Rattle.trace_record.specs.OfTrace.{record_of as record_of_trace, has_geometry};
@@ -139,7 +139,7 @@ fn scalar_at(view: &TraceView<'_>, main: &[u8], place: Place) -> i16
 // The amplitudes of the samples, where they have values and there are any.
 fn amplitudes_of(view: &TraceView<'_>) -> Option<Amplitudes>
     ensures value { result ≡ amplitudes_of_samples
-        (samples_of (head_of view.now) (bytes_of view.now)) }
+        (has_floats (head_of view.now)) (samples_of (head_of view.now) (bytes_of view.now)) }
     ensures range { HaveRange result (sample_count (head_of view.now) (bytes_of view.now)) }
 {
     match statistics_of(view) {

@@ -6,9 +6,14 @@ ghost use Rattle.num_order.specs.declared.order.Order.TheVariants.{Big, Little};
 ghost use Rattle.num_order.proofs.NumberLemmas.{low_first-is, high_first-is};
 ghost use Rattle.sample_codes.specs.declared.integer_format.IntegerFormat.{IntegerFormat};
 ghost use Rattle.sample_codes.specs.declared.integer_format.IntegerFormat.TheVariants.{Signed32, Signed24, Signed16, Signed8, Signed64, Unsigned24, Unsigned16, Unsigned8, Unsigned64};
+ghost use Rattle.sample_codes.specs.declared.value_format.ValueFormat.TheVariants.{Integer, Float};
 ghost use Rattle.sample_codes.specs.Formats.{integer_width, sample_value};
+ghost use Rattle.float_codes.specs.declared.float_format.FloatFormat.{FloatFormat};
+ghost use Rattle.float_codes.specs.declared.float_format.FloatFormat.TheVariants.{Ibm32, Ieee32, Ieee64};
+ghost use Rattle.float_codes.specs.Values.{float_width};
 
 use byteorder::{BigEndian, ByteOrder, LittleEndian};
+use float_codes::FloatFormat;
 
 // An order that byteorder has, as an order of a file.
 pub(crate) trait Ordered: ByteOrder {
@@ -73,7 +78,7 @@ pub(crate) trait ReadsSample {
     // Sample i of the bytes, in the order O.
     fn at<O: Ordered>(bytes: &[u8], i: usize) -> i32
         requires { integer_width format * i + integer_width format ≤ length bytes.now }
-        ensures { result ≡ sample_value O.order format
+        ensures { result ≡ sample_value O.order (Integer format)
             (take (integer_width format) (drop (integer_width format * i) bytes.now)) };
 }
 
@@ -158,7 +163,7 @@ pub(crate) trait ReadsWide {
     // Sample i of the bytes, in the order O.
     fn at<O: Ordered>(bytes: &[u8], i: usize) -> i128
         requires { integer_width format * i + integer_width format ≤ length bytes.now }
-        ensures value { result ≡ sample_value O.order format
+        ensures value { result ≡ sample_value O.order (Integer format)
             (take (integer_width format) (drop (integer_width format * i) bytes.now)) }
         ensures low { neg_ℤ (pos (2 ^ 63)) ≤ℤ result }
         ensures high { result <ℤ pos (2 ^ 64) };
@@ -179,5 +184,46 @@ impl ReadsWide for u64 {
     #[inline(always)]
     fn at<O: Ordered>(bytes: &[u8], i: usize) -> i128 {
         i128::from(eight_bytes::<O>(bytes, 8 * i))
+    }
+}
+
+// Samples that are floats.
+pub(crate) trait ReadsFloat {
+    ghost format: { FloatFormat };
+
+    // The rank of sample i of the bytes, in the order O.
+    fn at<O: Ordered>(bytes: &[u8], i: usize) -> i64
+        requires { float_width format * i + float_width format ≤ length bytes.now }
+        ensures { result ≡ sample_value O.order (Float format)
+            (take (float_width format) (drop (float_width format * i) bytes.now)) };
+}
+
+// Floats of 4 bytes as IBM has them.
+pub(crate) struct Ibm;
+
+impl ReadsFloat for Ibm {
+    ghost format = { Ibm32 };
+
+    #[inline(always)]
+    fn at<O: Ordered>(bytes: &[u8], i: usize) -> i64 {
+        FloatFormat::Ibm32.rank(u64::from(four_bytes::<O>(bytes, 4 * i)))
+    }
+}
+
+impl ReadsFloat for f32 {
+    ghost format = { Ieee32 };
+
+    #[inline(always)]
+    fn at<O: Ordered>(bytes: &[u8], i: usize) -> i64 {
+        FloatFormat::Ieee32.rank(u64::from(four_bytes::<O>(bytes, 4 * i)))
+    }
+}
+
+impl ReadsFloat for f64 {
+    ghost format = { Ieee64 };
+
+    #[inline(always)]
+    fn at<O: Ordered>(bytes: &[u8], i: usize) -> i64 {
+        FloatFormat::Ieee64.rank(eight_bytes::<O>(bytes, 8 * i))
     }
 }

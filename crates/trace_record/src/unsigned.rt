@@ -1,5 +1,6 @@
 // The statistics of unsigned samples of 32 bits, in one slice.
-ghost use Rattle.std.specs.Prelude.{◌≡◌, ◌*◌, ◌≤◌, IfSome, length};
+ghost use Rattle.std.specs.Prelude.{◌≡◌, ◌*◌, ◌≤◌, IfSome, length, false};
+ghost use Rattle.sample_codes.specs.declared.value_format.ValueFormat.TheVariants.{Integer};
 ghost use Rattle.sample_codes.specs.declared.integer_format.IntegerFormat.TheVariants.{Unsigned32};
 ghost use Rattle.trace_view.specs.Values.{samples_in};
 ghost use Rattle.trace_record.specs.Statistics.{statistics_of, HasRange};
@@ -16,14 +17,14 @@ struct Unsigned {
 }
 
 impl Unsigned {
-    ghost use Rattle.std.specs.Prelude.{◌≡◌, ◌+◌, ◌^◌, ◌<◌, pos, ℕ};
+    ghost use Rattle.std.specs.Prelude.{◌≡◌, false, ◌+◌, ◌^◌, ◌<◌, pos, ℕ};
     ghost use Rattle.trace_record.specs.Parts.{FitsSample};
     ghost use Rattle.trace_record.specs.Statistics.{one_sample, with_sample};
     ghost use Rattle.trace_record.specs.Unsigned.{statistics_of_unsigned};
 
     #[inline(always)]
     fn of(sample: u32) -> Unsigned
-        ensures { statistics_of_unsigned result 1 ≡ one_sample (pos sample) }
+        ensures { statistics_of_unsigned result 1 ≡ one_sample false (pos sample) }
     {
         Unsigned {
             least: sample,
@@ -35,7 +36,7 @@ impl Unsigned {
     #[inline(always)]
     fn add(&mut self, sample: u32)
         requires { self.old.sum + sample < 2 ^ 64 }
-        ensures { (n : ℕ) → statistics_of_unsigned self.new (n + 1) ≡ with_sample
+        ensures { (n : ℕ) → statistics_of_unsigned self.new (n + 1) ≡ with_sample false
             (statistics_of_unsigned self.old n) (pos sample) }
     {
         self.least = self.least.min(sample);
@@ -61,7 +62,8 @@ impl Unsigned {
 // Of the first samples of the bytes, in the order O.
 pub(crate) fn unsigned_statistics<O: Ordered>(bytes: &[u8], number: u32) -> Option<Statistics>
     requires { 4 * number ≤ length bytes.now }
-    ensures value { result ≡ statistics_of (samples_in O.order Unsigned32 number bytes.now) }
+    ensures value { result ≡ statistics_of false
+        (samples_in O.order (Integer Unsigned32) number bytes.now) }
     ensures range { IfSome result HasRange }
 {
     if number == 0 {

@@ -1,5 +1,6 @@
 // The statistics of samples of 64 bits, in one slice.
-ghost use Rattle.std.specs.Prelude.{◌≡◌, ◌*◌, ◌≤◌, IfSome, length};
+ghost use Rattle.std.specs.Prelude.{◌≡◌, ◌*◌, ◌≤◌, IfSome, length, false};
+ghost use Rattle.sample_codes.specs.declared.value_format.ValueFormat.TheVariants.{Integer};
 ghost use Rattle.sample_codes.specs.Formats.{integer_width};
 ghost use Rattle.trace_view.specs.Values.{samples_in};
 ghost use Rattle.trace_record.specs.Statistics.{statistics_of, HasRange};
@@ -13,7 +14,8 @@ pub(crate) fn wide_statistics<S: ReadsWide, O: Ordered>(
     number: u32,
 ) -> Option<Statistics>
     requires { integer_width S.format * number ≤ length bytes.now }
-    ensures value { result ≡ statistics_of (samples_in O.order S.format number bytes.now) }
+    ensures value { result ≡ statistics_of false
+        (samples_in O.order (Integer S.format) number bytes.now) }
     ensures range { IfSome result HasRange }
 {
     if number == 0 {

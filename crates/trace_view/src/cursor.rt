@@ -1,9 +1,11 @@
 // A place in the bytes of a trace.
 ghost use Rattle.std.specs.Prelude.{◌≡◌, ◌<◌, ◌≤◌, ◌∷◌, ◌++◌, take, drop, length};
 ghost use Rattle.num_order.specs.Number.{num, IsSize};
+ghost use Rattle.sample_codes.specs.Formats.{value_width, sample_value};
 
 use crate::stretches::Stretches;
 use num_order::{Kind, Order, read};
+use sample_codes::ValueFormat;
 use std::marker::Model;
 
 // The bytes of a trace from some place on, and seen as the list of those.
@@ -107,5 +109,23 @@ impl<'a> Cursor<'a> {
         let mut bytes = [0u8; 8];
         self.read(&mut bytes[..size]);
         read(order, kind, &bytes[..size])
+    }
+
+    // The number of the next sample, gathered where it lies in more than one stretch.
+    #[inline]
+    pub(crate) fn sample(&mut self, order: Order, format: ValueFormat) -> i128
+        requires { value_width format ≤ length self.old }
+        ensures number { result ≡ sample_value order format (take (value_width format) self.old) }
+        ensures rest { self.new ≡ drop (value_width format) self.old }
+    {
+        let size = format.width() as usize;
+        if size <= self.front.len() {
+            let number = format.decode(order, &self.front[..size]);
+            self.front = &self.front[size..];
+            return number;
+        }
+        let mut bytes = [0u8; 8];
+        self.read(&mut bytes[..size]);
+        format.decode(order, &bytes[..size])
     }
 }

@@ -1,6 +1,7 @@
 // Base bytes with runs laid over them.
 ghost use Rattle.std.specs.Prelude.{◌≡◌, ◌+◌, ◌^◌, ◌<◌, ◌≤◌, ◌↔◌, ◌⊎◌, take, drop, length, slice_range, IsTrue, IsSome, IfSome};
 ghost use Rattle.num_order.specs.Number.{num, unsigned, IsSize};
+ghost use Rattle.sample_codes.specs.Formats.{value_width, sample_value};
 ghost use Rattle.trace_view.specs.Runs.{Fit, FitFrom-prop, bytes_with_runs, is_plain as is_plain_of};
 
 use crate::cursor::Cursor;
@@ -8,6 +9,7 @@ use crate::pieces::Pieces;
 use crate::run::Run;
 use crate::stretches::Stretches;
 use num_order::{Kind, Order, read};
+use sample_codes::ValueFormat;
 
 #[derive(Clone, Copy)]
 pub(crate) struct Overlaid<'a> {
@@ -87,6 +89,20 @@ impl<'a> Overlaid<'a> {
         match self.plain(at, at + kind.size as usize) {
             Some(bytes) => read(order, kind, bytes),
             None => self.cursor(at).number(order, kind),
+        }
+    }
+
+    // The number of the sample at this place.
+    pub(crate) fn sample(&self, order: Order, format: ValueFormat, at: usize) -> i128
+        requires inside { at + value_width format ≤ length
+            (bytes_with_runs self.now.base.now self.now.runs.now) }
+        requires small { at + value_width format < 2 ^ 64 }
+        ensures { result ≡ sample_value order format (take (value_width format)
+            (drop at (bytes_with_runs self.now.base.now self.now.runs.now))) }
+    {
+        match self.plain(at, at + format.width() as usize) {
+            Some(bytes) => format.decode(order, bytes),
+            None => self.cursor(at).sample(order, format),
         }
     }
 

@@ -1,10 +1,10 @@
 ghost use Rattle.std.specs.Prelude.{◌≡◌, ◌*◌, ◌≤◌, length};
-ghost use Rattle.sample_codes.specs.Formats.{integer_width};
+ghost use Rattle.sample_codes.specs.Formats.{value_width};
 ghost use Rattle.trace_view.specs.Values.{samples_in};
 
 use crate::cursor::Cursor;
 use num_order::Order;
-use sample_codes::IntegerFormat;
+use sample_codes::ValueFormat;
 use std::marker::Model;
 
 /// An iterator over the values of the samples of a trace, in order. Seen as the list of those that
@@ -12,32 +12,32 @@ use std::marker::Model;
 #[derive(Drop)]
 pub struct Samples<'a> {
     order: Order,
-    format: IntegerFormat,
+    format: ValueFormat,
     left: u32,
     cursor: Cursor<'a>,
 }
 
 impl<'a> Model for Samples<'a> {
     ghost use Rattle.std.specs.Prelude.{ℤ, List, ◌*◌, ◌≤◌, length};
-    ghost use Rattle.sample_codes.specs.Formats.{integer_width};
+    ghost use Rattle.sample_codes.specs.Formats.{value_width};
     ghost use Rattle.trace_view.specs.Values.{samples_in};
 
     ghost Value = { List ℤ };
 
     ghost view = { λ s. samples_in s.order s.format s.left s.cursor };
 
-    ghost invariant = { λ s. integer_width s.format * s.left ≤ length s.cursor };
+    ghost invariant = { λ s. value_width s.format * s.left ≤ length s.cursor };
 }
 
 impl<'a> Samples<'a> {
     // So many samples behind the cursor.
     pub(crate) fn new(
         order: Order,
-        format: IntegerFormat,
+        format: ValueFormat,
         left: u32,
         cursor: Cursor<'a>,
     ) -> Samples<'a>
-        requires { integer_width format * left ≤ length cursor }
+        requires { value_width format * left ≤ length cursor }
         ensures { result ≡ samples_in order format left cursor.entry }
     {
         Samples {
@@ -64,6 +64,6 @@ impl<'a> Iterator for Samples<'a> {
             return None;
         }
         self.left -= 1;
-        Some(self.cursor.number(self.order, self.format.kind()))
+        Some(self.cursor.sample(self.order, self.format))
     }
 }

@@ -16,7 +16,10 @@ use crate::samples::Samples;
 use field_map::{Place, TRACE_HEADER_BYTES};
 use frame_cut::{Head, front_length, trace_length};
 use num_order::Kind;
-use sample_codes::IntegerFormat;
+use sample_codes::{IntegerFormat, ValueFormat};
+
+// The format of samples of which there are none.
+const NO_VALUES: ValueFormat = ValueFormat::Integer(IntegerFormat::Signed8);
 
 /// A trace: the bytes that it has in its file, with runs laid over them.
 #[derive(Clone, Copy)]
@@ -224,8 +227,8 @@ impl<'a> TraceView<'a> {
             return None;
         }
         let format = self.head.format.values()?;
-        let kind = format.kind();
-        Some(self.number(kind, self.samples_at() + kind.size as usize * k as usize))
+        let at = self.samples_at() + format.width() as usize * k as usize;
+        Some(self.bytes.sample(self.head.order, format, at))
     }
 
     /// The values of the trace's samples, in order; none where they have none. Takes no memory.
@@ -235,7 +238,7 @@ impl<'a> TraceView<'a> {
         let cursor = self.bytes.cursor(self.samples_at());
         match self.head.format.values() {
             Some(format) => { Samples::new(self.head.order, format, self.sample_count(), cursor) }
-            None => Samples::new(self.head.order, IntegerFormat::Signed8, 0, cursor),
+            None => Samples::new(self.head.order, NO_VALUES, 0, cursor),
         }
     }
 }

@@ -4,7 +4,7 @@ use Rattle.std.specs.Prelude.{nat_le, nat_lt}
 use Rattle.std.specs.List.{list_all}
 use Rattle.std.proofs.lemmas.Bool.{leb-true, ltb-false}
 use Rattle.num_order.specs.Number.{fits as fits_kind}
-use Rattle.sample_codes.specs.declared.integer_format.IntegerFormat.{IntegerFormat}
+use Rattle.sample_codes.specs.declared.value_format.ValueFormat.{ValueFormat}
 use Rattle.sample_codes.specs.Formats.{sample_fits, values, width}
 use Rattle.field_map.specs.declared.place.Place.{Place}
 use Rattle.frame_cut.specs.declared.file_head.Head.{Head}
@@ -42,7 +42,7 @@ pub sample_room : (v : Volume) (p k at : ℕ) (xs : List ℤ) (h : Head) (t : Li
     → at ≡ samples_at h t + width h.format * k → patch_refusal h t k xs ≡ None → HasSampleRoom v p at xs
 sample_room v p k at xs h t there head whole long small place none = by (values h.format) refl none
   where
-    by : (o : Option IntegerFormat) → values h.format ≡ o → values_refusal o h t k xs ≡ None → HasSampleRoom v p at xs
+    by : (o : Option ValueFormat) → values h.format ≡ o → values_refusal o h t k xs ≡ None → HasSampleRoom v p at xs
     by None reads none = absurd cc
     by (Some f) reads none =
         let range = both (nat_le 1 p) (nat_le p (count_of v)) there in

@@ -2,7 +2,7 @@
 use Rattle.std.specs.Prelude.{◌≡◌, ℕ, ◌+◌, ◌*◌, ◌<◌, ◌≤◌, ◌^◌, true, ℤ, List, length, Some}
 use Rattle.std.specs.List.{list_all}
 use Rattle.num_order.specs.Number.{IsSize, fits}
-use Rattle.sample_codes.specs.declared.integer_format.IntegerFormat.{IntegerFormat}
+use Rattle.sample_codes.specs.declared.value_format.ValueFormat.{ValueFormat}
 use Rattle.sample_codes.specs.Formats.{values, width, sample_fits}
 use Rattle.field_map.specs.declared.place.Place.{Place}
 use Rattle.field_map.specs.Places.{offset_of}
@@ -22,7 +22,7 @@ pub record HasRoom (v : Volume) (p : ℕ) (place : Place) (x : ℤ) : Type 0 whe
 pub record HasSampleRoom (v : Volume) (p at : ℕ) (xs : List ℤ) : Type 0 where
   pub first : 1 ≤ p
   pub last : p ≤ count_of v
-  pub format : IntegerFormat
+  pub format : ValueFormat
   pub reads : values v.head.format ≡ Some format
   pub fit : list_all (sample_fits format) xs ≡ true
   pub few : length xs < 2 ^ 32

@@ -1,9 +1,9 @@
 // The answers of the reports, from the records of a volume's traces and the values that run with
 // them. None looks at a trace.
-ghost use Rattle.std.specs.Prelude.{◌≡◌, ◌<◌, ◌^◌, ℕ, List, length, Ok};
+ghost use Rattle.std.specs.Prelude.{◌≡◌, ◌<◌, ◌^◌, ℕ, List, length, false, Ok};
 ghost use Rattle.field_map.specs.Pairs.{Pairs};
 ghost use Rattle.frame_cut.specs.declared.file_head.Head.{Head as Heads};
-ghost use Rattle.trace_view.specs.Values.{samples_of};
+ghost use Rattle.trace_view.specs.Values.{has_floats, samples_of};
 ghost use Rattle.trace_record.specs.Facts.{facts_of};
 ghost use Rattle.trace_record.specs.OfTrace.{record_of};
 ghost use Rattle.trace_record.specs.Statistics.{statistics_of};
@@ -36,12 +36,12 @@ pub fn geometry(trace: &Record) -> Answer
     })
 }
 
-/// The statistics of the samples of the trace of this record, as far as they have values. Takes no
-/// memory.
+/// The statistics of the samples of the trace of this record, where they are whole numbers, as far
+/// as they have values. Takes no memory.
 pub fn stat(trace: &Record) -> Answer
-    ensures { (h : Heads) (fields : Pairs) (t : List ℕ) →
+    ensures { (h : Heads) (fields : Pairs) (t : List ℕ) → has_floats h ≡ false →
         facts_of trace.now ≡ record_of h fields t →
-        result ≡ answers.Stat (statistics_of (samples_of h t)) }
+        result ≡ answers.Stat (statistics_of false (samples_of h t)) }
 {
     let Some(amplitudes) = trace.amplitudes else {
         return Answer::Stat(None);

@@ -1,19 +1,21 @@
 // The answers about the headers, the samples and the record of one trace.
-ghost use Rattle.std.specs.Prelude.{◌≡◌, ◌⊎◌, [], Some, IsTrue, IsErrAnd, option_map};
+ghost use Rattle.std.specs.Prelude.{◌≡◌, ◌⊎◌, [], Some, true, false, IsTrue, IsErrAnd, option_map};
 ghost use Rattle.frame_cut.specs.Traces.{is_trace, trace_of};
+ghost use Rattle.trace_view.specs.Values.{has_floats};
 ghost use Rattle.trace_record.specs.Facts.{facts_of};
 ghost use Rattle.trace_record.specs.OfTrace.{record_of};
 ghost use Rattle.edit_overlay.specs.CountedVolume.{IsSeen};
 ghost use Rattle.bench_rules.specs.declared.query.Query.TheVariants as queries;
 ghost use Rattle.bench_rules.specs.Answer.{answer, of_trace, trace_value, IsReply};
-ghost use Rattle.bench_rules.specs.Looks.{looks_at, trace_looks};
+ghost use Rattle.bench_rules.specs.Looks.{looks_at, trace_looks, stat_looks};
 ghost use Rattle.bench_rules.specs.Places.{place_in_trace as place_of_field};
 ghost use Rattle.bench_rules.specs.ReadFaults.{IsReadFault};
 ghost use Rattle.bench_rules.specs.State.{State};
 
 use crate::report_answers::{geometry, stat};
 use bench_rules::{
-    Answer, AskFault, Field, has_opaque_samples, has_trace, place_in_trace, trace_sample,
+    Answer, AskFault, Field, float_stat, has_float_samples, has_opaque_samples, has_trace,
+    place_in_trace, trace_sample,
 };
 use edit_overlay::Overlay;
 use field_map::{FieldMap, Place};
@@ -95,14 +97,49 @@ pub fn geometry_answer(
     }
 }
 
-/// The statistics of the samples of trace p, from its record where there is one. Takes no memory
-/// and looks at no trace. Refused: E01, E12.
+/// The statistics of the samples of trace p. Of whole numbers they are told by its record, where
+/// there is one, and no trace is looked at; the exact sum of floats needs the samples, so that the
+/// trace is looked at once. Takes no memory. Refused: E01, E12. Of floats on disk also where the
+/// trace could not be read (E14, E15).
 pub fn stat_answer(
+    trace: Option<Record>,
+    overlay: &mut Overlay<PackedRecord>,
+    p: u32,
+) -> Result<Answer, AskFault>
+    ensures reply { (s : State) → s.volume ≡ overlay.old.volume →
+        s.on_disk ≡ overlay.old.loaded.on_disk → IsTrue overlay.new.agreed →
+        option_map facts_of trace ≡ option_map (record_of s.volume.head s.fields)
+        (trace_of s.volume p) → IsReply s (queries.Stat p) result }
+    ensures seen { IsSeen overlay.old overlay.new (stat_looks overlay.old.volume p) }
+{
+    if has_float_samples(overlay) {
+        return stat_of_floats(overlay, p);
+    }
+    stat_of_numbers(trace, overlay, p)
+}
+
+// Of samples that are floats.
+fn stat_of_floats(overlay: &mut Overlay<PackedRecord>, p: u32) -> Result<Answer, AskFault>
+    requires { has_floats overlay.old.volume.head ≡ true }
+    ensures reply { (s : State) → s.volume ≡ overlay.old.volume →
+        s.on_disk ≡ overlay.old.loaded.on_disk → IsTrue overlay.new.agreed →
+        IsReply s (queries.Stat p) result }
+    ensures seen { IsSeen overlay.old overlay.new (stat_looks overlay.old.volume p) }
+{
+    let Some(trace) = overlay.look(p)? else {
+        return Err(AskFault::NoTrace(p, overlay.count()));
+    };
+    Ok(float_stat(&trace))
+}
+
+// Of samples that are whole numbers, or have no values.
+fn stat_of_numbers(
     trace: Option<Record>,
     overlay: &Overlay<PackedRecord>,
     p: u32,
 ) -> Result<Answer, AskFault>
-    ensures { (s : State) → s.volume ≡ overlay.now.volume → option_map facts_of trace ≡
+    ensures { (s : State) → s.volume ≡ overlay.now.volume →
+        has_floats s.volume.head ≡ false → option_map facts_of trace ≡
         option_map (record_of s.volume.head s.fields) (trace_of s.volume p) →
         result ≡ answer s (queries.Stat p) }
 {

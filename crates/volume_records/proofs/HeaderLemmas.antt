@@ -14,7 +14,7 @@ use Rattle.frame_cut.specs.Frames.{extension_count, extensions_of, sample_count,
 use Rattle.frame_cut.specs.Splice.{splice}
 use Rattle.frame_cut.proofs.EditLemmas.{length-splice}
 use Rattle.frame_cut.proofs.ExtensionLemmas.{extensions_kept}
-use Rattle.trace_view.specs.Values.{samples_at, sample_bytes, samples_in, samples_of}
+use Rattle.trace_view.specs.Values.{samples_at, sample_bytes, samples_in, has_floats, samples_of}
 use Rattle.trace_record.specs.declared.amplitudes.Amplitudes.{Amplitudes}
 use Rattle.trace_record.specs.Statistics.{amplitudes_of}
 use Rattle.trace_record.specs.Facts.{with_amplitudes, with_samples_of}
@@ -90,9 +90,9 @@ SameSamples-header h t u new at is whole e few front =
 
 -- the amplitudes of so many samples in these bytes
 amplitudes_in : Head → ℕ → List ℕ → Option Amplitudes
-amplitudes_in h n bytes = amplitudes_of (option_map_or (λ f. samples_in h.order f n bytes) (values h.format) [])
+amplitudes_in h n bytes = amplitudes_of (has_floats h) (option_map_or (λ f. samples_in h.order f n bytes) (values h.format) [])
 
-amplitudes-same : (h : Head) (t u : List ℕ) → SameSamples h t u → amplitudes_of (samples_of h u) ≡ amplitudes_of (samples_of h t)
+amplitudes-same : (h : Head) (t u : List ℕ) → SameSamples h t u → amplitudes_of (has_floats h) (samples_of h u) ≡ amplitudes_of (has_floats h) (samples_of h t)
 unfolding amplitudes_in
 amplitudes-same h t u s = ap₂ (amplitudes_in h) s.count s.bytes
 

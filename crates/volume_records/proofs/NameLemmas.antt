@@ -10,7 +10,7 @@ use Rattle.field_map.proofs.GeometryLemmas.{place-bound, place-removed}
 use Rattle.frame_cut.specs.declared.file_head.Head.{Head}
 use Rattle.frame_cut.specs.Frames.{sample_count}
 use Rattle.frame_cut.specs.Volume.{Volume}
-use Rattle.trace_view.specs.Values.{value_at, samples_of}
+use Rattle.trace_view.specs.Values.{value_at, has_floats, samples_of}
 use Rattle.key_counts.specs.Coordinates.{under_scalar}
 use Rattle.trace_record.specs.Facts.{Facts}
 use Rattle.trace_record.specs.OfTrace.{record_of, bound_value}
@@ -29,7 +29,7 @@ value-same h fields other t name g same = ap (λ (o : Option Place). option_map_
 pub record-same : (h : Head) (fields other : Pairs) (t : List ℕ) → SamePlaces fields other → record_of h fields t ≡ record_of h other t
 record-same h fields other t same =
     let scalar = value-same h fields other t (codes "scalar") refl same in
-    facts_with (record_of h fields t) h other t (amplitudes_of (samples_of h t)) (sample_count h t) (record {
+    facts_with (record_of h fields t) h other t (amplitudes_of (has_floats h) (samples_of h t)) (sample_count h t) (record {
       inline = value-same h fields other t (codes "inline") refl same;
       crossline = value-same h fields other t (codes "crossline") refl same;
       offset = value-same h fields other t (codes "offset") refl same;
@@ -44,7 +44,7 @@ record-same h fields other t same =
       amplitudes = refl;
       number = refl;
     })
-    ∙ with_own h other t (amplitudes_of (samples_of h t)) (sample_count h t) refl refl
+    ∙ with_own h other t (amplitudes_of (has_floats h) (samples_of h t)) (sample_count h t) refl refl
 
 all-same : (h : Head) (fields other : Pairs) (ts : List (List ℕ)) → SamePlaces fields other → map (record_of h fields) ts ≡ map (record_of h other) ts
 all-same h fields other [] same = refl

@@ -4,7 +4,7 @@ use crate::files::{
     counted_file, extended_file, little_file, plain_file, put, texted_file, trailed_file,
     varying_file,
 };
-use crate::heads::plain_head;
+use crate::heads::{integers, plain_head};
 use frame_cut::{
     Cut, Extent, Head, Limits, LoadFault, Reading, cut, extension_count, front_length, head,
     sample_count, trace_length,
@@ -19,6 +19,7 @@ use std::test::Fail;
 const FIXED: Reading = Reading {
     fixed: true,
     opaque: false,
+    floats: false,
     order: None,
 };
 
@@ -26,6 +27,7 @@ const FIXED: Reading = Reading {
 const OPAQUE: Reading = Reading {
     fixed: false,
     opaque: true,
+    floats: false,
     order: None,
 };
 
@@ -150,7 +152,7 @@ fn reads_heads(rt: HostRuntime) -> Result<(), Fail> {
     let mut little = plain;
     little.order = Order::Little;
     little.major = 2;
-    little.format = Format::Integer(IntegerFormat::Signed24);
+    little.format = integers(IntegerFormat::Signed24);
     expect_head(&rt, &little_file(alloc)?, written, &little)?;
     let mut texted = plain;
     texted.blocks = 2;
@@ -311,7 +313,7 @@ fn measures_the_longest(rt: &impl Abort, mut head: Head, front: &[u8; 480]) {
     assert!(rt; head.extensions != 0);
     assert_eq!(rt; extension_count(&head, front), Some(1));
     assert_eq!(rt; trace_length(&head, front), Some(480 + 2 * 4294967295));
-    head.format = Format::Integer(IntegerFormat::Unsigned64);
+    head.format = integers(IntegerFormat::Unsigned64);
     assert_eq!(rt; trace_length(&head, front), Some(480 + 8 * 4294967295));
     head.order = Order::Little;
     assert_eq!(rt; extension_count(&head, front), None);

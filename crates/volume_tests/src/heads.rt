@@ -3,16 +3,21 @@ ghost use Rattle.std.specs.Prelude.{◌≡◌, IfOk};
 
 use frame_cut::Head;
 use num_order::Order;
-use sample_codes::{Format, IntegerFormat};
+use sample_codes::{Format, IntegerFormat, ValueFormat};
 use smallvec::SmallVec;
 use std::alloc::{AllocError, Global};
 use trace_view::Run;
+
+// Samples that are whole numbers.
+pub(crate) fn integers(format: IntegerFormat) -> Format {
+    Format::Valued(ValueFormat::Integer(format))
+}
 
 // Big-endian, revision 1.0, 16-bit samples, two a trace, in traces of one length.
 pub(crate) fn plain_head() -> Head
     ensures { result.extensions ≡ 0 }
 {
-    head_of(Order::Big, Format::Integer(IntegerFormat::Signed16), 2)
+    head_of(Order::Big, integers(IntegerFormat::Signed16), 2)
 }
 
 // So many samples of this format a trace, and no header extensions.

@@ -4,7 +4,7 @@
 ghost use Rattle.std.specs.Prelude.{◌≡◌, length, IfOk};
 ghost use Rattle.trace_view.specs.Runs.{Fit};
 
-use crate::heads::{head_of, plain_head, run};
+use crate::heads::{head_of, integers, plain_head, run};
 use crate::views::view;
 use field_map::{FieldMap, Place};
 use frame_cut::Head;
@@ -220,7 +220,7 @@ fn samples_of_each_format(rt: &impl Abort, fields: &FieldMap) {
         ),
     ];
     for (order, format, samples, first, last) in rows {
-        let head = head_of(order, Format::Integer(format), samples);
+        let head = head_of(order, integers(format), samples);
         let record = made(rt, &head, fields, &base, &[]);
         let (least, greatest) = (first.min(last).min(0), first.max(last).max(0));
         let sum = first.saturating_add(last);
@@ -246,10 +246,10 @@ fn samples_of_a_byte(rt: &impl Abort, fields: &FieldMap) {
     base[240] = 0x80;
     base[241] = 0x01;
     base[242] = 0xFF;
-    let head = head_of(Order::Big, Format::Integer(IntegerFormat::Signed8), 3);
+    let head = head_of(Order::Big, integers(IntegerFormat::Signed8), 3);
     let record = made(rt, &head, fields, &base, &[]);
     assert_eq!(rt; record.amplitudes, amplitudes(-128, 1, -128));
-    let head = head_of(Order::Little, Format::Integer(IntegerFormat::Unsigned8), 3);
+    let head = head_of(Order::Little, integers(IntegerFormat::Unsigned8), 3);
     let record = made(rt, &head, fields, &base, &[]);
     assert_eq!(rt; record.amplitudes, amplitudes(1, 255, 384));
 }
@@ -269,7 +269,7 @@ fn takes_samples_of_a_byte(rt: HostRuntime) -> Result<(), Fail> {
 fn samples_under_a_run(rt: &impl Abort, fields: &FieldMap, runs: &[Run])
     requires fit { Fit runs.now 3240 }
 {
-    let head = head_of(Order::Big, Format::Integer(IntegerFormat::Signed24), 1000);
+    let head = head_of(Order::Big, integers(IntegerFormat::Signed24), 1000);
     let mut base = [0; 3240];
     base[240] = 0xFF;
     base[3239] = 0x05;
@@ -305,7 +305,7 @@ fn takes_samples_under_a_run(rt: HostRuntime) -> Result<(), Fail> {
 }
 
 fn record_without_samples(rt: &impl Abort, fields: &FieldMap) {
-    let head = head_of(Order::Little, Format::Integer(IntegerFormat::Signed32), 0);
+    let head = head_of(Order::Little, integers(IntegerFormat::Signed32), 0);
     let record = made(rt, &head, fields, &[0; 240], &[]);
     assert_eq!(rt; record.amplitudes, None);
     assert_eq!(rt; (record.number, record.interval), (0, 0));
@@ -351,7 +351,7 @@ fn takes_samples_without_values(rt: HostRuntime) -> Result<(), Fail> {
 
 // The headers of the trace, and four samples that its bytes have under another head.
 fn samples_of_another_record(rt: &impl Abort, fields: &FieldMap) {
-    let bytes = head_of(Order::Little, Format::Integer(IntegerFormat::Unsigned8), 4);
+    let bytes = head_of(Order::Little, integers(IntegerFormat::Unsigned8), 4);
     let other = made(rt, &bytes, fields, &small_trace(), &[]);
     let head = plain_head();
     let trace = small_trace();

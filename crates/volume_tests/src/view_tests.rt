@@ -4,7 +4,7 @@ ghost use Rattle.std.specs.Prelude.{◌≡◌, ◌+◌, ◌<◌, ◌≤◌, leng
 ghost use Rattle.trace_view.specs.Runs.{Fit};
 ghost use Rattle.trace_view.specs.Shown.{bytes_of};
 
-use crate::heads::{plain_head, run};
+use crate::heads::{integers, plain_head, run};
 use crate::views::view;
 use field_map::Place;
 use frame_cut::Head;
@@ -74,7 +74,7 @@ fn expect_values_in_main_header(rt: &impl Abort, view: &TraceView<'_>) {
 fn reads_little_endian_samples(rt: HostRuntime) {
     let mut head = plain_head();
     head.order = Order::Little;
-    head.format = Format::Integer(IntegerFormat::Signed24);
+    head.format = integers(IntegerFormat::Signed24);
     let mut base = [0; 246];
     base[240] = 0xFF;
     base[241] = 0xFF;

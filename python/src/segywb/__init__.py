@@ -5,7 +5,7 @@ from __future__ import annotations
 from typing import Optional
 
 from . import tools
-from .answers import Answer, Extremes, Fault, Geometry, Info, Stanza, Statistics
+from .answers import Answer, Extremes, Fault, FloatStatistics, FloatTotals, Geometry, Info, Stanza, Statistics
 from .errors import (
     Closed,
     Error,
@@ -25,7 +25,7 @@ from .volume import Path, Volume
 __version__ = "0.1.0"
 
 __all__ = [
-    "Answer", "BinField", "Closed", "Error", "Extremes", "Fault", "FileChanged", "Geometry", "Grid", "Info", "LoadRefused",
+    "Answer", "BinField", "Closed", "Error", "Extremes", "Fault", "FileChanged", "FloatStatistics", "FloatTotals", "Geometry", "Grid", "Info", "LoadRefused",
     "OptionRefused", "PathRefused", "ProgramEnded", "ProgramNotFound", "Refused", "SaveFailed", "Slice", "Stanza", "Statistics",
     "TraceField", "Volume", "open", "tools",
 ]
@@ -33,13 +33,14 @@ __all__ = [
 
 def open(
     path: Path, fixed: bool = False, opaque_samples: bool = False, max_bytes: Optional[int] = None, order: Optional[str] = None,
-    on_disk: bool = False
+    on_disk: bool = False, floats: bool = True
 ) -> Volume:
     """Opens a SEG-Y file: ``with segywb.open("cube.sgy") as volume: ..``.
 
-    ``fixed``: each trace has the binary header's number of samples. ``opaque_samples``: read files whose samples have no values here
-    (floats). ``max_bytes``: the largest file that is read, and the largest that edits may make; where it is left out, edits may make one of
+    ``fixed``: each trace has the binary header's number of samples. ``floats``: samples of the formats 1, 5 and 6 have their
+    values; with ``floats=False`` such a file is refused, or has opaque samples. ``opaque_samples``: read files whose samples have no values here
+    (format 4, and floats without ``floats``). ``max_bytes``: the largest file that is read, and the largest that edits may make; where it is left out, edits may make one of
     1099511627776 bytes (1 TiB), in memory and on disk, and one above 4294967296 (4 GiB) is read with ``on_disk`` alone. ``order``: ``"big"`` or ``"little"``, the order of bytes of a file that
     does not tell it. ``on_disk``: leave the bytes of the file on disk, for a file larger than memory; nothing may change it until it is closed.
     """
-    return Volume(path, fixed=fixed, opaque_samples=opaque_samples, max_bytes=max_bytes, order=order, on_disk=on_disk)
+    return Volume(path, fixed=fixed, opaque_samples=opaque_samples, max_bytes=max_bytes, order=order, on_disk=on_disk, floats=floats)

@@ -5,6 +5,8 @@ from __future__ import annotations
 import functools
 from collections import Counter
 from fractions import Fraction
+from math import isfinite
+from struct import pack, unpack
 from typing import Any, Callable, Dict, List, NamedTuple, Optional, Tuple, TypeVar, cast
 
 from .errors import ProgramEnded, Refused
@@ -54,6 +56,26 @@ class Statistics(NamedTuple):
     greatest: int
     sum: int
     samples: int
+
+
+class FloatStatistics(NamedTuple):
+    """The samples of a trace of floats: the least, the greatest and the sum (exact, and rounded once) of those that are numbers, ``None`` where none
+    is; how many there are, and how many are no numbers."""
+
+    least: Optional[float]
+    greatest: Optional[float]
+    sum: Optional[float]
+    samples: int
+    nans: int
+
+
+class FloatTotals(NamedTuple):
+    """The samples of all traces of floats, likewise. There is no sum."""
+
+    least: Optional[float]
+    greatest: Optional[float]
+    samples: int
+    nans: int
 
 
 class Extremes(NamedTuple):
@@ -273,6 +295,71 @@ def statistics(line: str, first: str) -> Optional[Statistics]:
     """
     got = words(line, first)
     return None if got == ["none"] else Statistics(*map(int, pairs(got, Statistics._fields)))
+
+
+def floating(word: str, narrow: bool = False) -> float:
+    """The value that a word says; ``narrow``: the value of 4 bytes (IEEE) that is nearest to it, which the program rounded once.
+
+    >>> floating("0.1"), floating("0.1", narrow=True), floating("-inf")
+    (0.1, 0.10000000149011612, -inf)
+    >>> floating("1.00000005960464477539062500000001"), floating("1.00000005960464477539062500000001", narrow=True)
+    (1.0000000596046448, 1.0000001192092896)
+    """
+    value = float(word)
+    if not narrow or not isfinite(value):
+        return value
+    return _rounded(value, word)
+
+
+def _rounded(value: float, word: str) -> float:
+    """The nearest value of 4 bytes. Where the value of 8 bytes lies halfway between two of them, the word says to which side it was rounded."""
+    made = cast(float, unpack("f", pack("f", value))[0])
+    (bits,) = unpack("I", pack("f", made))
+    for other in (bits - 1, bits + 1):
+        if 0 <= other < 1 << 32 and value != made:
+            beside = cast(float, unpack("f", pack("I", other))[0])
+            if value == (made + beside) / 2 and Fraction(word) != Fraction(value):
+                return max(made, beside) if Fraction(word) > Fraction(value) else min(made, beside)
+    return made
+
+
+@strict
+def sample(line: str, narrow: bool) -> float:
+    """
+    >>> sample("value -118.625", False)
+    -118.625
+    """
+    return floating(name(line, "value"), narrow)
+
+
+def _some(word: str, narrow: bool = False) -> Optional[float]:
+    return None if word == "none" else floating(word, narrow)
+
+
+@strict
+def float_statistics(line: str, narrow: bool) -> Optional[FloatStatistics]:
+    """
+    >>> float_statistics("stat least -118.625 greatest 0.1 sum none samples 3 nans 1", False)
+    FloatStatistics(least=-118.625, greatest=0.1, sum=None, samples=3, nans=1)
+    """
+    got = words(line, "stat")
+    if got == ["none"]:
+        return None
+    least, greatest, total, samples, nans = pairs(got, FloatStatistics._fields)
+    return FloatStatistics(_some(least, narrow), _some(greatest, narrow), _some(total), int(samples), int(nans))
+
+
+@strict
+def float_totals(line: str, narrow: bool) -> Optional[FloatTotals]:
+    """
+    >>> float_totals("totals least none greatest none samples 3 nans 3", False)
+    FloatTotals(least=None, greatest=None, samples=3, nans=3)
+    """
+    got = words(line, "totals")
+    if got == ["none"]:
+        return None
+    least, greatest, samples, nans = pairs(got, FloatTotals._fields)
+    return FloatTotals(_some(least, narrow), _some(greatest, narrow), int(samples), int(nans))
 
 
 @strict

@@ -6,7 +6,7 @@ import importlib
 import warnings
 from typing import Any, List, Optional, Sequence, Tuple
 
-from .answers import unexpected
+from .answers import floating, unexpected
 
 
 def numpy() -> Any:
@@ -40,6 +40,60 @@ def parse(data: bytes, count: int, unsigned: bool = False) -> Any:
     if len(found) != count:
         raise unexpected(data[:200].decode("utf-8", "replace"))
     return found if np is None or count else np.empty(0, dtype=np.uint64 if unsigned else np.int64)
+
+
+def floats(data: bytes, count: int, narrow: bool = False, width: int = 1) -> Any:
+    """So many rows of decimals between blanks and line feeds, each of ``width``: their last ones, as float64, or ``narrow`` as the float32 that each
+    of them was printed for. With a ``width`` above 1 the columns in front of these too, of whole numbers below 2**53."""
+    np = numpy()
+    if np is None:
+        found = _columns_of([word.decode("ascii", "replace") for word in data.split()], width, narrow)
+    else:
+        flat = _decimals(np, data)
+        found = [flat[at::width].astype(np.int64) for at in range(width - 1)] + [flat[width - 1::width]] if len(flat) == count * width else []
+        if found and narrow:
+            found[-1] = _narrowed(np, found[-1], data, width)
+    if not found or any(len(one) != count for one in found):
+        raise unexpected(data[:200].decode("utf-8", "replace"))
+    return found if width > 1 else found[0]
+
+
+def _columns_of(words: List[str], width: int, narrow: bool) -> List[List[Any]]:
+    try:
+        return [[*map(int, words[at::width])] for at in range(width - 1)] + [[floating(word, narrow) for word in words[width - 1::width]]]
+    except ValueError:
+        return []
+
+
+def _decimals(np: Any, data: bytes) -> Any:
+    """The decimals up to a word that is none."""
+    if not data.strip():
+        return np.empty(0)
+    with warnings.catch_warnings():
+        warnings.simplefilter("ignore", DeprecationWarning)
+        try:
+            return np.fromstring(data, dtype=np.float64, sep=" ")
+        except ValueError:
+            return np.empty(0)
+
+
+def _narrowed(np: Any, wide: Any, data: bytes, width: int) -> Any:
+    with np.errstate(over="ignore"):
+        made = wide.astype(np.float32)
+    unsure = np.flatnonzero(_halfway(np, wide, made)).tolist()
+    if unsure:
+        words = data.split()
+        for at in unsure:
+            made[at] = floating(words[at * width + width - 1].decode("ascii"), True)
+    return made
+
+
+def _halfway(np: Any, wide: Any, narrow: Any) -> Any:
+    """Where a value of 8 bytes lies halfway between two of 4 bytes: it may have been rounded to there."""
+    with np.errstate(all="ignore"):
+        exact = narrow.astype(np.float64)
+        beside = [(exact + np.nextafter(narrow, np.float32(to)).astype(np.float64)) / 2 == wide for to in (-np.inf, np.inf)]
+        return (wide != exact) & (beside[0] | beside[1]) & np.isfinite(wide)
 
 
 def _plain(data: bytes) -> List[int]:

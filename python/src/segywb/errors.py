@@ -9,7 +9,7 @@ from typing import Dict, Optional, Tuple
 _PARTS = {"E07": "T", "E08": "M"}
 # what arguments of `segywb.open` the program's options are; those of the first list have a value
 _VALUED = ("max-bytes", "order")
-_TRUE = ("fixed", "on-disk", "opaque-samples")
+_TRUE = ("fixed", "floats", "on-disk", "opaque-samples")
 
 
 class Error(Exception):
@@ -40,11 +40,11 @@ class LoadRefused(Refused):
 
     ``hint`` is what the program says to do, and ``arguments`` names the arguments of ``segywb.open`` for the options in it:
 
-    >>> refusal = LoadRefused("load refused L06 float format 5", "line.sgy", 3, "with --opaque-samples the file is read all the same")
+    >>> refusal = LoadRefused("load refused L07 gain format", "line.sgy", 3, "with --opaque-samples the file is read all the same")
     >>> refusal.arguments
     ('opaque_samples=True',)
     >>> print(refusal)
-    L06 float format 5: line.sgy (with --opaque-samples the file is read all the same; in Python --opaque-samples is opaque_samples=True)
+    L07 gain format: line.sgy (with --opaque-samples the file is read all the same; in Python --opaque-samples is opaque_samples=True)
     """
 
     def __init__(self, answer: str, path: str = "", status: Optional[int] = None, hint: str = "") -> None:

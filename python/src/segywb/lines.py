@@ -2,6 +2,7 @@
 
 from __future__ import annotations
 
+import numbers as kinds
 import operator
 from typing import Any, Iterable, List, Union
 
@@ -67,7 +68,7 @@ def binary_field(name: Field) -> str:
 
 def single(value: Any) -> bool:
     """Whether this is one number, and no list of them."""
-    return isinstance(value, int) or getattr(value, "ndim", None) == 0
+    return isinstance(value, kinds.Real) or getattr(value, "ndim", None) == 0
 
 
 def listed(values: Any) -> List[Any]:
@@ -85,6 +86,25 @@ def numbers(values: Any) -> List[int]:
         return list(map(operator.index, values))
     except TypeError:
         return [int(number(value)) for value in values]  # which tells the one that is none
+
+
+def decimals(values: Any) -> List[str]:
+    """Floats and whole numbers from a list, an array or a column of a table, each as a word that says its value exactly.
+
+    >>> decimals([0.1, 2, float("-inf"), float("nan")])
+    ['0.1', '2', '-inf', 'nan']
+    """
+    return [decimal(value) for value in listed(values)]
+
+
+def decimal(value: Any) -> str:
+    """A number as a word: a float, a whole number, or one of numpy's. A text is refused, also one that writes a number."""
+    value = value.item() if getattr(value, "ndim", None) == 0 and not hasattr(value, "mask") else value
+    if isinstance(value, kinds.Integral):
+        return str(operator.index(value))
+    if not isinstance(value, kinds.Real):
+        raise TypeError(f"a number is wanted, not {value!r}")
+    return repr(float(value))
 
 
 def encode(line: str) -> bytes:

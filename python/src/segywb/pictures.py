@@ -46,7 +46,7 @@ def slice(volume: Volume, sample: int, clip: Optional[float] = None, axes: Any =
     np = _numpy()
     axes = _axes(axes)
     found = volume.slice(sample)
-    values = found.array.astype("f8")
+    values = np.ma.masked_invalid(found.array.astype("f8"))  # what is no finite number is left out
     if clip is None and values.count():
         clip = float(np.percentile(np.abs(values.compressed()), 98))
     bound = clip or 1.0

@@ -1,14 +1,19 @@
-"""Which program is run: the one that SEGYWB names, the one in the package, or the shipped one of the repository."""
+"""Which program is run: the one that SEGYWB names, the one in the package, or the shipped one of the repository. And what it knows."""
 
 from __future__ import annotations
 
 import os
+import re
+import shutil
+import subprocess
 from pathlib import Path
-from typing import Iterator
+from typing import Dict, FrozenSet, Iterator, Tuple
 
 from .errors import ProgramNotFound
 
 NAME = "segywb-x86_64-linux"
+HELP_SECONDS = 10.0
+_options: Dict[Tuple[str, int, int], FrozenSet[str]] = {}
 
 
 def _shipped() -> Iterator[Path]:
@@ -27,3 +32,18 @@ def find() -> str:
         if os.access(path, os.X_OK):
             return str(path)
     raise ProgramNotFound("there is no program segywb in the package: SEGYWB=.. names one")
+
+
+def knows(option: str) -> bool:
+    """Whether the program has this option, by its help, which is asked for once. One that gives no help has none."""
+    path = shutil.which(find()) or find()
+    try:
+        found = os.stat(path)
+        key = (path, found.st_mtime_ns, found.st_size)
+        if key not in _options:
+            _options[key] = frozenset()
+            told = subprocess.run([path, "--help"], stdin=subprocess.DEVNULL, stdout=subprocess.PIPE, stderr=subprocess.DEVNULL, timeout=HELP_SECONDS, check=False)
+            _options[key] = frozenset(re.findall(r"--[a-z]+(?:-[a-z]+)*", told.stdout.decode("utf-8", "replace")))
+        return option in _options[key]
+    except (OSError, subprocess.SubprocessError):
+        return False

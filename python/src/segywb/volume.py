@@ -7,8 +7,8 @@ from contextlib import closing
 from fractions import Fraction
 from typing import Any, Callable, Dict, Iterable, Iterator, List, Optional, Sequence, Tuple, Union
 
-from . import answers, arrays, lines
-from .answers import Answer, Extremes, Fault, Geometry, Info, Stanza, Statistics
+from . import answers, arrays, lines, program
+from .answers import Answer, Extremes, Fault, FloatStatistics, FloatTotals, Geometry, Info, Stanza, Statistics
 from .engine import BATCH_LINES, Engine
 from .errors import ProgramEnded, Refused
 from .fields import TRACE_NAMES, kind
@@ -26,6 +26,10 @@ GET_LINES = 1 << 16
 WINDOW_TRACES = 1 << 15
 WINDOW_LINES = 1 << 12
 
+# The sample formats of floats, and of these the one of 4 bytes as IEEE 754 has them: its values are printed so that no other of 4 bytes is meant.
+FLOATS = (1, 5, 6)
+NARROW = 5
+
 Path = Union[str, "os.PathLike[str]"]
 
 
@@ -38,9 +42,11 @@ class Volume:
 
     def __init__(
         self, path: Path, fixed: bool = False, opaque_samples: bool = False, max_bytes: Optional[int] = None, order: Optional[str] = None,
-        on_disk: bool = False
+        on_disk: bool = False, floats: bool = True
     ) -> None:
+        floats = floats and program.knows("--floats")
         options = ["--fixed"] if fixed else []
+        options += ["--floats"] if floats else []
         options += ["--opaque-samples"] if opaque_samples else []
         options += ["--order", order] if order is not None else []
         options += ["--max-bytes", number(_limit(path, on_disk) if max_bytes is None else max_bytes)]
@@ -48,6 +54,8 @@ class Volume:
         self.path = os.fspath(path)
         self._engine = Engine(self.path, options)
         self._table: Optional[bool] = None
+        self._asked_floats = floats
+        self._format: Optional[int] = None
 
     # ---- opening and closing
 
@@ -368,24 +376,51 @@ class Volume:
 
     # ---- samples
 
-    def sample(self, trace: int, sample: int) -> int:
-        """A sample of a trace."""
-        return self._value("sample", position(trace), number(sample))
+    def _kept_format(self) -> int:
+        """The sample format, which no edit changes."""
+        if self._format is None:
+            self._format = self.info.format
+        return self._format
+
+    @property
+    def has_floats(self) -> bool:
+        """Whether the samples are floats, with their values."""
+        return self._asked_floats and self._kept_format() in FLOATS
+
+    @property
+    def sample_type(self) -> str:
+        """The numpy type that holds the samples: ``f4`` and ``f8`` of floats, ``u8`` of format 12, ``i8`` of all others."""
+        if self.has_floats:
+            return "f4" if self._kept_format() == NARROW else "f8"
+        return "u8" if self._kept_format() == 12 else "i8"
+
+    def sample(self, trace: int, sample: int) -> Any:
+        """A sample of a trace: a whole number, or a float where the file has floats."""
+        line = self._one("sample", position(trace), number(sample))
+        return answers.sample(line, self.sample_type == "f4") if self.has_floats else answers.number(line, "value")
 
     def samples(self, trace: int) -> Any:
         """All samples of a trace, as an array."""
         told = self.stat(trace)
         count = told.samples if told else 0
-        unsigned = self.info.format == 12
         first = f"sample {position(trace)} "
         sent = ((encode("".join(f"{first}{k}\n" for k in range(at, min(at + BATCH_LINES, count)))), min(BATCH_LINES, count - at))
                 for at in range(0, count, BATCH_LINES))
         with closing(self._engine.stream(sent)) as stream:
-            return arrays.parse(b"".join(stream).replace(b"value ", b""), count, unsigned)
+            return self._numbers(b"".join(stream).replace(b"value ", b""), count)
+
+    def _numbers(self, data: bytes, count: int) -> Any:
+        """So many samples."""
+        if self.has_floats:
+            return arrays.floats(data, count, self.sample_type == "f4")
+        return arrays.parse(data, count, self.sample_type == "u8")
 
     def patch(self, trace: int, sample: int, values: Any) -> None:
-        """Writes the numbers over the samples from ``sample`` on, all or none."""
-        self._edit("patch", position(trace), number(sample), *map(str, lines.numbers([values] if lines.single(values) else values)))
+        """Writes the numbers over the samples from ``sample`` on, all or none. In a file of floats these may be floats, also of numpy."""
+        if lines.single(values):
+            values = [values]
+        told = lines.decimals(values) if self.has_floats else list(map(str, lines.numbers(values)))
+        self._edit("patch", position(trace), number(sample), *told)
 
     def resize(self, trace: int, samples: int) -> None:
         """Gives a trace that number of samples."""
@@ -426,14 +461,16 @@ class Volume:
         pandas = arrays.pandas()
         return pandas.DataFrame(made, columns=list(names), index=pandas.Index(where, name="trace"))
 
-    def stat(self, trace: int) -> Optional[Statistics]:
-        """The samples of a trace; ``None`` where it has none."""
-        return answers.statistics(self._one("stat", position(trace)), "stat")
+    def stat(self, trace: int) -> Union[Statistics, FloatStatistics, None]:
+        """The samples of a trace; ``None`` where it has none. Of floats the sum is exact, and rounded once."""
+        line = self._one("stat", position(trace))
+        return answers.float_statistics(line, self.sample_type == "f4") if self.has_floats else answers.statistics(line, "stat")
 
     @property
-    def totals(self) -> Optional[Statistics]:
-        """The samples of all traces; ``None`` where there are none."""
-        return answers.statistics(self._one("totals"), "totals")
+    def totals(self) -> Union[Statistics, FloatTotals, None]:
+        """The samples of all traces; ``None`` where there are none. Of floats there is no sum."""
+        line = self._one("totals")
+        return answers.float_totals(line, self.sample_type == "f4") if self.has_floats else answers.statistics(line, "totals")
 
     def range(self, which: str) -> Optional[Tuple[Fraction, Fraction]]:
         """The least and the greatest ``inline``, ``crossline``, ``offset``, ``x`` or ``y``, as fractions; ``None`` without traces."""
@@ -462,9 +499,8 @@ class Volume:
 
     def slice(self, sample: int) -> Slice:
         """A sample of each trace that has it."""
-        value = "u8" if self.info.format == 12 else "i8"
         line = "slice " + number(sample)
-        return Slice(sample, self._list(line, "slice", "row", Slice.columns, ["i8", "i8", "i8", value]))
+        return Slice(sample, self._list(line, "slice", "row", Slice.columns, ["i8", "i8", "i8", self.sample_type]))
 
     def faults(self) -> List[Fault]:
         """What is wrong with the headers: the faults of the file, then those of the traces."""
@@ -485,9 +521,11 @@ class Volume:
         first, _, rest = told.partition(b"\n")
         count = answers.number(lines.decode(first), head)
         numbers = rest.replace(encode(row) + b" ", b"")
-        if types[-1] == "u8":
+        if types[-1] in ("f4", "f8"):
+            columns: List[Any] = arrays.floats(numbers, count, types[-1] == "f4", len(names))
+        elif types[-1] == "u8":
             plain = numbers.split()
-            columns: List[Any] = [arrays.parse(b" ".join(plain[at::len(names)]), count, at == len(names) - 1) for at in range(len(names))]
+            columns = [arrays.parse(b" ".join(plain[at::len(names)]), count, at == len(names) - 1) for at in range(len(names))]
         else:
             flat = arrays.parse(numbers, count * len(names))
             columns = [flat[at::len(names)] for at in range(len(names))]

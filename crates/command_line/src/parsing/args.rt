@@ -1,7 +1,7 @@
 // The arguments of the command line, one by one.
 ghost use Rattle.std.specs.Prelude.{◌≡◌, false};
 ghost use Rattle.clap.specs.Words.{rule_of};
-ghost use Rattle.command_line.specs.CommandLine.{file_rule, script_rule, out_rule, in_place_rule, on_disk_rule, fixed_rule, opaque_rule, order_rule, limit_rule, stop_rule, session_rule, save_at_end_rule, quiet_rule};
+ghost use Rattle.command_line.specs.CommandLine.{file_rule, script_rule, out_rule, in_place_rule, on_disk_rule, fixed_rule, floats_rule, opaque_rule, order_rule, limit_rule, stop_rule, session_rule, save_at_end_rule, quiet_rule};
 
 use clap::builder::ValueParser;
 use clap::{Arg, ArgAction};
@@ -13,7 +13,7 @@ pub fn file<'a>(alloc: Global) -> Arg<'a>
     ensures local { result.global ≡ false }
 {
     Arg::new(alloc, "FILE").required(true).help(
-        "SEG-Y file, with integer samples or --opaque-samples; in memory, but for --on-disk",
+        "SEG-Y file of integers, or with --floats, --opaque-samples; in memory, but for --on-disk",
     )
 }
 
@@ -73,6 +73,19 @@ pub fn fixed<'a>(alloc: Global) -> Arg<'a>
         .help("read each trace with the binary header's number of samples")
 }
 
+// `--floats`: the samples of formats of floats have their values.
+pub fn floats<'a>(alloc: Global) -> Arg<'a>
+    ensures rule { rule_of result ≡ floats_rule }
+    ensures local { result.global ≡ false }
+{
+    Arg::new(alloc, "floats")
+        .long("floats")
+        .action(ArgAction::SetTrue)
+        .help(
+            "read formats 1, 5 and 6 too, floats as IBM and IEEE 754 have them, with their values",
+        )
+}
+
 // `--opaque-samples`: formats whose samples have no value here are read too.
 pub fn opaque<'a>(alloc: Global) -> Arg<'a>
     ensures rule { rule_of result ≡ opaque_rule }
@@ -81,7 +94,10 @@ pub fn opaque<'a>(alloc: Global) -> Arg<'a>
     Arg::new(alloc, "opaque-samples")
         .long("opaque-samples")
         .action(ArgAction::SetTrue)
-        .help("read formats 1, 4, 5 and 6 too, with samples that are bytes without a value")
+        .help(
+            "read formats 1, 4, 5 and 6 too, with samples that are bytes without a value; \
+             with --floats format 4 alone",
+        )
 }
 
 // `--order big|little`: the order of bytes, where bytes 3297-3300 do not tell it.

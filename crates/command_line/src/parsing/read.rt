@@ -17,6 +17,8 @@ pub struct Arguments<'a> {
     pub max_bytes: Option<u64>,
     /// Whether the file is read as one of fixed length.
     pub fixed: bool,
+    /// Whether samples that are floats have their values.
+    pub floats: bool,
     /// Whether formats whose samples have no value here are read too.
     pub opaque: bool,
     /// The order of bytes, where the file does not tell it.

@@ -105,13 +105,14 @@ class Desk:
     @property
     def words(self) -> List[str]:
         """The options with which the program reads the file as it is read here."""
-        return refusals.words_of({**self._options, "opaque_samples": self.opaque})
+        floats = self._volume is not None and self._volume.has_floats
+        return refusals.words_of({**self._options, "floats": floats, "opaque_samples": self.opaque})
 
     def _opened(self) -> Volume:
         try:
             return segywb.open(self.path, opaque_samples=self.opaque, **self._options)
         except LoadRefused as refusal:
-            if self.opaque or refusal.code not in refusals.FLOATS:
+            if self.opaque or refusal.code not in refusals.OPAQUE:
                 raise
             self.opaque = True
             try:

@@ -136,10 +136,15 @@ def differing(one: Cells, other: Cells, wide: int) -> Tuple[Any, Any]:
 
 
 def plain(array: Any) -> List[List[Optional[float]]]:
-    """An array of whole numbers as lists, with nothing where it is not a number; above 2**53 they are rounded."""
+    """An array of numbers as lists, with nothing where it is not a number; where all are whole, as whole numbers, but above 2**53.
+
+    >>> plain(np.array([[1.0, np.nan]])), plain(np.array([[1.0, 0.5]]))
+    ([[1, None]], [[1.0, 0.5]])
+    """
     missing = np.isnan(array)
     known = np.where(missing, 0, array)
-    boxed = (known.astype(np.int64) if np.abs(known).max(initial=0) < 2**53 else known).astype(object)
+    whole = np.abs(known).max(initial=0) < 2**53 and bool((known == np.floor(known)).all())
+    boxed = (known.astype(np.int64) if whole else known).astype(object)
     boxed[missing] = None
     return list(boxed.tolist())
 

@@ -9,7 +9,7 @@ import segywb
 
 from ..errors import Error, LoadRefused
 
-FLOATS = ("L06", "L07")  # refused for their samples alone: the desk reads them without the values of these
+OPAQUE = ("L06", "L07")  # refused for their samples alone (L06 by a program that knows no floats): the desk reads them without the values of these
 Options = Dict[str, Any]
 
 
@@ -86,7 +86,7 @@ def taken(path: str, options: Options) -> Optional[Tuple[int, int]]:
             with segywb.open(path, **asked) as volume:
                 return len(volume), volume.info.samples
         except LoadRefused as refusal:
-            if refusal.code not in FLOATS:
+            if refusal.code not in OPAQUE:
                 return None
         except (Error, OSError):
             return None

@@ -80,9 +80,11 @@ def totals(told: str) -> List[List[str]]:
     """The samples of all traces; a refusal in its own words."""
     if told.startswith("refused "):
         return [["all samples", told]]
-    found = answers.statistics(told, "totals")
-    names = ("least sample", "greatest sample", "sum of the samples", "all samples")
-    return [[name, "none" if found is None else str(number)] for name, number in zip(names, found or (0, 0, 0, 0))]
+    found = answers.words(told, "totals")
+    named = dict(zip(found[0::2], found[1::2]))
+    last = ["samples that are no numbers", "nans"] if "nans" in named else ["sum of the samples", "sum"]
+    rows = [["least sample", "least"], ["greatest sample", "greatest"], last, ["all samples", "samples"]]
+    return [[name, named.get(word, "none")] for name, word in rows]
 
 
 def histogram_of(shot: Shot) -> List[Tuple[int, int]]:
@@ -194,14 +196,15 @@ class Slices:
         bundle = bundle_for(down, right, window.pixels, shown)
         pictures = [maps.plain(farthest(one, bundle, 0, False)) for one in shown]
         return {
-            "version": desk.version, "sample": sample, "rows": len(rows), **framed(down, right, bundle, pictures), **changes(others, cells, bundle),
+            "version": desk.version, "sample": sample, "rows": len(rows), "odd": int((~np.isfinite(rows["value"])).sum()), **framed(down, right, bundle, pictures), **changes(others, cells, bundle),
             **amplitude(np.concatenate([one.values for one in shown]), whole),
         }
 
 
 def sliced(rows: Any, down: maps.Axis, right: maps.Axis, inside: bool) -> maps.Cells:
     """The cells of a slice; of several traces in a cell the sample farthest from zero. Rows rise by inline and crossline. Where they
-    need not be ``inside`` of the axes, those that are not are left out."""
+    need not be ``inside`` of the axes, those that are not are left out; so are floats that are no finite numbers."""
+    rows = rows[np.isfinite(rows["value"])]
     if not inside:
         rows = rows[np.isin(rows["inline"], down.numbers) & np.isin(rows["crossline"], right.numbers)]
     wide = max(len(right), 1)

@@ -17,8 +17,8 @@ returns-in-Ok-clause-told c = λ all begun.
     let code = format_code o bin in
     let more : Result Head LoadFault = first_fault_else (drop 6 (head_faults c.args.reading o bin all)) (head_by c.args.reading o bin all) in
     tells_to c.with_format.result _ _
-    (ap (λ (f : Result Format FormatFault). by_format f code more) (c.in-Ok.ensures ∙ ap (format_of c.args.reading.opaque) c.format_code-code.ensures)
-    ∙ sym (by_code-is c.args.reading.opaque code more))
+    (ap (λ (f : Result Format FormatFault). by_format f code more) (c.in-Ok.ensures ∙ ap (format_of c.args.reading.opaque c.args.reading.floats) c.format_code-code.ensures)
+    ∙ sym (by_code-is c.args.reading.opaque c.args.reading.floats code more))
     (c.with_format.ensures.told all begun)
 
 pub returns-in-Err-clause-told : goal.returns-in-Err-clause-told
@@ -28,5 +28,5 @@ returns-in-Err-clause-told c = λ all begun.
     let code = format_code o bin in
     let more : Result Head LoadFault = first_fault_else (drop 6 (head_faults c.args.reading o bin all)) (head_by c.args.reading o bin all) in
     sym (ap (λ (f : LoadFault). let r : Result Head LoadFault = Err f in r) (c.format_refusal.ensures ∙ ap (format_refusal c.in-Err.fault) c.format_code-code.ensures)
-    ∙ ap (λ (f : Result Format FormatFault). by_format f code more) (c.in-Err.ensures ∙ ap (format_of c.args.reading.opaque) c.format_code-code.ensures)
-    ∙ sym (by_code-is c.args.reading.opaque code more))
+    ∙ ap (λ (f : Result Format FormatFault). by_format f code more) (c.in-Err.ensures ∙ ap (format_of c.args.reading.opaque c.args.reading.floats) c.format_code-code.ensures)
+    ∙ sym (by_code-is c.args.reading.opaque c.args.reading.floats code more))

@@ -5,7 +5,7 @@ use Rattle.script_words.proofs.trace_commands.numbers.Given as goal
 
 -- the numbers of all words are those that are read, and then those of the words left
 abbrev pub invariant-words : goal.invariant-words
-invariant-words l = numbers_of (words_of l.initial.words) ≡ option_map (λ ys. l.values.items ++ ys) (numbers_of (words_of l.words))
+invariant-words l = numbers_of l.floats (words_of l.initial.words) ≡ option_map (λ ys. l.values.items ++ ys) (numbers_of l.floats (words_of l.words))
 
 abbrev pub decreases-words : goal.decreases-words
 decreases-words l = length (words_of l.words)

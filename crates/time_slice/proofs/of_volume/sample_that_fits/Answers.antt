@@ -21,6 +21,6 @@ returns-in-Some-clause-sample c =
     ∙ sample_at h f (bytes_of c.args.trace.now) c.args.k c.from.result c.from-width.result c.from-2.result c.in-Some.bytes.now reads
     (omega (arith, c.if-k-sample_count.false, c.sample_count.ensures))
     (c.from.ensures ∙ c.extension_count.ensures)
-    (c.from-width.ensures ∙ c.width.ensures)
+    (c.from-width.ensures ∙ c.width.ensures.width)
     c.from-2.ensures
     c.in-Some.ensures.bytes)

@@ -1,7 +1,8 @@
-use Rattle.std.proofs.Common.{◌≡◌, ◌<◌, ap, sym, subst, ◌∙◌, rules, arith, SFits}
+use Rattle.std.proofs.Common.{◌≡◌, false, ◌<◌, ap, sym, subst, ◌∙◌, rules, arith, SFits}
 use Rattle.std.specs.Int.{w128}
 use Rattle.std.proofs.lemmas.Int.{ints, to_z-of_z}
-use Rattle.sample_codes.specs.Formats.{integer_width}
+use Rattle.sample_codes.specs.declared.value_format.ValueFormat.TheVariants.{Integer}
+use Rattle.sample_codes.specs.Formats.{value_width}
 use Rattle.trace_view.specs.Values.{samples_in}
 use Rattle.trace_record.specs.Statistics.{statistics_of, one_sample, with_sample}
 use Rattle.trace_record.specs.Parts.{FitsSample}
@@ -13,7 +14,7 @@ pub loop-i-init : goal.loop-i-init
 loop-i-init g c =
     let fits : SFits w128 c.at.result = search rules in
     let some : 0 < c.args.number = omega arith in
-    let begun : c.of-statistics.result ≡ one_sample c.at.result = c.of-statistics.ensures ∙ ap one_sample (to_z-of_z w128 _ fits) in
+    let begun : c.of-statistics.result ≡ one_sample false c.at.result = c.of-statistics.ensures ∙ ap (one_sample false) (to_z-of_z w128 _ fits) in
     let sum = ap (λ r. r.sum) begun in
     let number = ap (λ r. r.number) begun in
     record {
@@ -25,16 +26,16 @@ loop-i-init g c =
         low = omega (arith, ints, c.at.ensures.low);
         high = omega (arith, ints, c.at.ensures.high);
       };
-      rest = samples_begun g.O.Ordered.order g.S.ReadsWide.format c.args.number c.args.bytes.now _ c.at.result some c.at.ensures.value begun;
+      rest = samples_begun false g.O.Ordered.order (Integer g.S.ReadsWide.format) c.args.number c.args.bytes.now _ c.at.result some c.at.ensures.value begun;
     }
 
 pub loop-i-preserved : goal.loop-i-preserved
 loop-i-preserved g c =
     let x = c.at-in-loop-i.result in
     let i = c.loop-i.i in
-    let all = statistics_of (samples_in g.O.Ordered.order g.S.ReadsWide.format c.args.number c.args.bytes.now) in
+    let all = statistics_of false (samples_in g.O.Ordered.order (Integer g.S.ReadsWide.format) c.args.number c.args.bytes.now) in
     let fits : SFits w128 x = search rules in
-    let added : c.add.new.self ≡ with_sample c.loop-i.statistics x = c.add.ensures ∙ ap (with_sample c.loop-i.statistics) (to_z-of_z w128 _ fits) in
+    let added : c.add.new.self ≡ with_sample false c.loop-i.statistics x = c.add.ensures ∙ ap (with_sample false c.loop-i.statistics) (to_z-of_z w128 _ fits) in
     let sum = ap (λ r. r.sum) added in
     let number = ap (λ r. r.number) added in
     record {
@@ -46,18 +47,18 @@ loop-i-preserved g c =
         low = omega (arith, ints, c.at-in-loop-i.ensures.low);
         high = omega (arith, ints, c.at-in-loop-i.ensures.high);
       };
-      rest = sample_counted g.O.Ordered.order g.S.ReadsWide.format c.args.number i c.args.bytes.now c.loop-i.statistics c.add.new.self x all c.loop-i-test.true c.at-in-loop-i.ensures.value added c.loop-i.invariant.rest;
+      rest = sample_counted false g.O.Ordered.order (Integer g.S.ReadsWide.format) c.args.number i c.args.bytes.now c.loop-i.statistics c.add.new.self x all c.loop-i-test.true c.at-in-loop-i.ensures.value added c.loop-i.invariant.rest;
     }
 
 pub at-requires : goal.at-requires
-at-requires g c = let some : 0 < c.args.number = omega arith in sample_inside (integer_width g.S.ReadsWide.format) c.args.number 0 _ some c.requires
+at-requires g c = let some : 0 < c.args.number = omega arith in sample_inside (value_width (Integer g.S.ReadsWide.format)) c.args.number 0 _ some c.requires
 
 pub at-requires-in-loop-i : goal.at-requires-in-loop-i
-at-requires-in-loop-i g c = sample_inside (integer_width g.S.ReadsWide.format) c.args.number c.loop-i.i _ c.loop-i-test.true c.requires
+at-requires-in-loop-i g c = sample_inside (value_width (Integer g.S.ReadsWide.format)) c.args.number c.loop-i.i _ c.loop-i-test.true c.requires
 
 pub returns : goal.returns
 returns g c =
     record {
-      value = samples_ended g.O.Ordered.order g.S.ReadsWide.format c.args.number c.loop-i.i c.args.bytes.now c.loop-i.statistics _ c.loop-i-test.false c.loop-i.invariant.rest;
+      value = samples_ended false g.O.Ordered.order (Integer g.S.ReadsWide.format) c.args.number c.loop-i.i c.args.bytes.now c.loop-i.statistics _ c.loop-i-test.false c.loop-i.invariant.rest;
       range = c.loop-i.invariant.range;
     }

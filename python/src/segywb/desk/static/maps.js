@@ -99,9 +99,9 @@ function caption(got) {
   const said = [];
   if (store.compare) said.push(kind === "fold" ? "Colours: fold." : "Colours: samples.");
   if (kind === "fold") said.push(`Usual fold ${got.usual}; grey: no traces.`, missing(got.missing));
-  if (kind === "slice") said.push(`${many(got.rows, "trace")} with this sample; grey: none.`);
+  if (kind === "slice") said.push(`${many(got.rows, "trace")} with this sample; grey: none${got.odd ? `, or one of ${many(got.odd, "sample")} that are no finite numbers` : ""}.`);
   said.push(...changed(got, "cell", ", outlined"), ...bundled(got.bundle));
-  if (got.beyond) said.push(`${many(got.beyond, "value")} beyond the colours, up to ${got.most}.`);
+  if (got.beyond) said.push(`${many(got.beyond, "value")} beyond the colours, up to ${Number(got.most.toPrecision(7))}.`);
   if (got.down.gaps || got.right.gaps) said.push("An empty line without a number: many numbers lack there.");
   return said.join(" ");
 }
@@ -137,7 +137,7 @@ async function tell(row, column, side, put) {
   const crossline = label(view.right, column);
   if (inline === null || crossline === null) return put("no lines here");
   const value = side === was ? view.was[row][column] : view.now[row][column];
-  const text = `inline ${inline}, crossline ${crossline}: ${kind === "fold" ? `fold ${value === null ? 0 : value}` : value === null ? "no sample" : `sample ${value}`}`;
+  const text = `inline ${inline}, crossline ${crossline}: ${kind === "fold" ? `fold ${value === null ? 0 : value}` : value === null ? "no sample" : `sample ${Number.isInteger(value) ? value : Number(value.toPrecision(9))}`}`;
   put(text);
   if (side === was) return undefined;
   const mine = ++asking;

@@ -1,6 +1,6 @@
 use Rattle.std.proofs.Common.{◌≡◌, ◌∙◌, IsTrue, ℕ, List, ap, sym, subst, refl, length, arith}
 use Rattle.std.specs.Prelude.{Option, Some, unwrap_or}
-use Rattle.sample_codes.specs.declared.integer_format.IntegerFormat.{IntegerFormat}
+use Rattle.sample_codes.specs.declared.value_format.ValueFormat.{ValueFormat}
 use Rattle.sample_codes.specs.Formats.{values as read_as, samples_bytes, sample_fits}
 use Rattle.std.specs.List.{list_all}
 use Rattle.frame_cut.specs.declared.file_head.Head.{Head}
@@ -30,8 +30,8 @@ samples_bytes-requires-clause-fit c =
     let s = state_of c.self.inside in
     let a : HasSampleRoom s.volume c.args.p c.args.at c.args.values.now = rw (← c.self.view_is) at c.requires.room in
     let reads : read_as s.volume.head.format ≡ Some c.in-Some.format = ap (λ (h : Head). read_as h.format) (sym c.head-head.ensures) ∙ sym c.values.ensures.values ∙ c.in-Some.is in
-    let same : a.format ≡ c.in-Some.format = ap (λ (o : Option IntegerFormat). unwrap_or o a.format) (sym a.reads ∙ reads) in
-    ap (λ (f : IntegerFormat). list_all (sample_fits f) c.args.values.now) (sym same) ∙ a.fit
+    let same : a.format ≡ c.in-Some.format = ap (λ (o : Option ValueFormat). unwrap_or o a.format) (sym a.reads ∙ reads) in
+    ap (λ (f : ValueFormat). list_all (sample_fits f) c.args.values.now) (sym same) ∙ a.fit
 
 -- how the samples are read
 reads : (c : goal.After-as_slice) → read_as (state_of c.self.inside).volume.head.format ≡ Some c.in-Some.format

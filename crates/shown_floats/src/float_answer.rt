@@ -1,0 +1,51 @@
+use crate::float_word::FloatWord;
+use bench_rules::{Items, Row};
+
+/// The least and the greatest float of some that are numbers.
+#[derive(Clone, Copy)]
+pub struct ShownEnds {
+    pub least: FloatWord,
+    pub greatest: FloatWord,
+}
+
+/// The statistics of the samples of a trace.
+#[derive(Clone, Copy)]
+pub struct ShownStatistics {
+    /// The ends, and the exact sum, rounded once; `None` where no sample is a number.
+    pub of_numbers: Option<(ShownEnds, FloatWord)>,
+    /// How many samples there are.
+    pub number: u64,
+    /// How many of them are no number.
+    pub no_numbers: i128,
+}
+
+/// What is told of the samples of all traces.
+#[derive(Clone, Copy)]
+pub struct ShownTotals {
+    /// `None` where no sample is a number.
+    pub ends: Option<ShownEnds>,
+    /// How many samples there are.
+    pub number: u64,
+    /// How many of them are no number.
+    pub no_numbers: i128,
+}
+
+/// A row of a slice, whose value is a rank, with the word of its float.
+#[derive(Clone, Copy)]
+pub struct FloatRow {
+    pub row: Row,
+    pub word: FloatWord,
+}
+
+/// The answer to a query for samples that are floats.
+#[derive(Drop)]
+pub enum FloatAnswer {
+    /// Of a sample.
+    Value(FloatWord),
+    /// `None` of a trace without samples.
+    Stat(Option<ShownStatistics>),
+    /// `None` without samples.
+    Totals(Option<ShownTotals>),
+    /// A row for each trace that has the sample, rising by inline, crossline and position.
+    Slice(Items<FloatRow>),
+}

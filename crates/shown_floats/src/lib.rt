@@ -1,0 +1,15 @@
+//! The answers about samples that are floats, with the words that are printed for them: each a
+//! decimal that reads back as the value (`float_text`), or `nan`, `inf` or `-inf`.
+//!
+//! [`shown`] makes them of an answer of a volume, whose floats are ranks (`float_codes`), and takes
+//! memory for the rows of a slice alone.
+#![tactic(auto)]
+
+mod float_answer;
+mod float_word;
+mod showing;
+mod wording;
+
+pub use crate::float_answer::{FloatAnswer, FloatRow, ShownEnds, ShownStatistics, ShownTotals};
+pub use crate::float_word::FloatWord;
+pub use crate::showing::shown;

@@ -63,20 +63,22 @@ takes 'and of a large one' 100001 /dev/stdin --script script --max-bytes 100000
 takes 'and where the limit is that of a buffer' 65537 /dev/stdin --script script --max-bytes 65536
 takes 'a refused script takes one byte more' 16777217 s.sgy --script /dev/stdin
 
-# ---- the saved file: it takes a byte a call, or what it has room for, and fails once it holds 0, 1, .. bytes. OUT is left alone, or
-# in place it holds what it took
+# ---- the saved file: it takes a byte a call, or what it has room for, and fails once it holds 0, 1, .. bytes. OUT is left alone; a
+# device, which takes the bytes itself, took what is told
 EIO=5
 declare -A reason=([$EIO]='Input/output error (os error 5)' [$ENOSPC]='No space left on device (os error 28)' [0]='write zero')
 # failing WAY FAULT ANSWERS BYTES [none]: the ways in which a save may then end, in the array `torn`: with the first bytes, or with none
 failing() {
     local took='it took a part of the file'
-    [ "${5-}" != none ] || took='it took nothing, and is empty if it is a file'
+    [ "${5-}" != none ] || took='it took nothing'
     if [ "$1" = saved ]; then
-        torn=(saves o.sgy may torn 4 "$3" "=segywb: save failed after % bytes"$'\n'"segywb: o.sgy: cannot write the file beside it (${reason[$2]}): it is as it was; save elsewhere, or over it with --in-place" -)
-        in_place=()
+        torn=(saves o.sgy may torn 4 "$3" "=segywb: save failed after % bytes"$'\n'"segywb: o.sgy: cannot write the file beside it (${reason[$2]}): it is as it was; save elsewhere, or repair FILE itself with --in-place" -)
+        there=(may whole 0 whole.txt - whole.sgy)
+        large=(may whole 0 one.txt - whole_v.sgy)
     else
-        torn=(saves o.sgy may torn 4 "$3" "=segywb: save failed after % bytes"$'\n'"segywb: o.sgy: cannot write it (${reason[$2]}): $took; save elsewhere" "$4:%")
-        in_place=(--in-place)
+        torn=(saves o.sgy may torn 4 "$3" "=segywb: save failed after % bytes"$'\n'"segywb: $1: cannot write it (${reason[$2]}): $took; save elsewhere" -)
+        there=(may whole 0 whole.txt - -)
+        large=(may whole 0 one.txt - -)
     fi
 }
 # fails WAY FAULT ANSWERS BYTES NAME FIRST LAST WORD..: a sweep of a save that fails once it took FIRST to LAST bytes
@@ -84,18 +86,21 @@ fails() {
     local from=$6
     if [ "$from" = 0 ]; then
         failing "${@:1:4}" none
-        sweep "$5" 0 0 "${torn[@]}" -- "${@:8}" "${in_place[@]}"
+        sweep "$5" 0 0 "${torn[@]}" -- "${@:8}"
         from=1
     fi
     failing "${@:1:4}"
-    [ "$from" -gt "$7" ] || sweep "$5" "$from" "$7" "${torn[@]}" -- "${@:8}" "${in_place[@]}"
+    [ "$from" -gt "$7" ] || sweep "$5" "$from" "$7" "${torn[@]}" -- "${@:8}"
 }
 printf 'set 2 inline 7\n' > one
 "$program" v.sgy --script one --out whole_v.sgy > one.txt
 size=$(wc -c < v.sgy)
-for way in saved o.sgy; do
+for way in saved /dev/null; do
     failing $way $EIO whole.txt whole.sgy
-    sweep "the save ($way) has just room" $bytes $((bytes + 1)) saves o.sgy "${whole[@]}" -- $library DEVICE=$way HOLDS=% "${on[@]}" "${in_place[@]}"
+    out=o.sgy
+    [ $way = saved ] || out=$way
+    on=("$program" s.sgy --script script --out $out)
+    sweep "the save ($way) has just room" $bytes $((bytes + 1)) saves o.sgy "${there[@]}" -- $library DEVICE=$way HOLDS=% "${on[@]}"
     fails $way $EIO whole.txt whole.sgy "the save ($way) takes single bytes, and fails at" 0 $((bytes - 1)) $library DEVICE=$way STEP=1 HOLDS=% "${on[@]}"
     fails $way $ENOSPC whole.txt whole.sgy "the save ($way) fails at" 0 $((bytes - 1)) $library DEVICE=$way HOLDS=% FAULT=$ENOSPC "${on[@]}"
     for at in 1 2 2000 $bytes; do
@@ -103,15 +108,16 @@ for way in saved o.sgy; do
     done
     # a write that a signal interrupts is made again
     for at in 0 1 $((bytes - 1)); do
-        sweep "a write of the save ($way) is interrupted at $at" "$at" "$at" saves o.sgy "${whole[@]}" -- $library DEVICE=$way HOLDS=% FAULT=$EINTR "${on[@]}" "${in_place[@]}"
+        sweep "a write of the save ($way) is interrupted at $at" "$at" "$at" saves o.sgy "${there[@]}" -- $library DEVICE=$way HOLDS=% FAULT=$EINTR "${on[@]}"
     done
     # more than the program's buffer holds
     for at in 0 3190 3590 65526 $((size - 20)); do
-        fails $way $EIO one.txt whole_v.sgy "the save ($way) of a large file fails at" "$at" $((at + 19)) $library DEVICE=$way HOLDS=% "$program" v.sgy --script one --out o.sgy
+        fails $way $EIO one.txt whole_v.sgy "the save ($way) of a large file fails at" "$at" $((at + 19)) $library DEVICE=$way HOLDS=% "$program" v.sgy --script one --out $out
     done
-    sweep "a write of a large piece ($way) is interrupted at" 65536 65536 saves o.sgy may whole 0 one.txt - whole_v.sgy -- $library DEVICE=$way HOLDS=% FAULT=$EINTR "$program" v.sgy --script one --out o.sgy "${in_place[@]}"
-    sweep "the save ($way) of a large file has just room" "$size" "$size" saves o.sgy may whole 0 one.txt - whole_v.sgy -- $library DEVICE=$way HOLDS=% "$program" v.sgy --script one --out o.sgy "${in_place[@]}"
+    sweep "a write of a large piece ($way) is interrupted at" 65536 65536 saves o.sgy "${large[@]}" -- $library DEVICE=$way HOLDS=% FAULT=$EINTR "$program" v.sgy --script one --out $out
+    sweep "the save ($way) of a large file has just room" "$size" "$size" saves o.sgy "${large[@]}" -- $library DEVICE=$way HOLDS=% "$program" v.sgy --script one --out $out
 done
+on=("$program" s.sgy --script script --out o.sgy)
 is_left=$(find . -name '.*segywb-*')
 [ -z "$is_left" ] && tell 'no new file is left' ok || tell 'no new file is left' "$is_left"
 

@@ -1,5 +1,6 @@
 /* Preloaded by the tests: one call of a save fails. By these variables:
-     FAIL_CALL  the name of the call: open, write, fsync, fchown, fchmod, close, rename, unlink, stat, fstat, realpath
+     FAIL_CALL  the name of the call: open, write, pread, pwrite, fsync, flock, fchown, fchmod, close, rename, unlink, stat, fstat,
+                realpath
      FAIL_NTH   the call with this number fails, counted from 1
      FAIL_ALL   if set, all later ones fail too
      FAULT      the errno of the failure, by default that of a broken device (EIO)
@@ -64,6 +65,20 @@ ssize_t write(int file, const void *bytes, size_t count) {
 }
 
 ssize_t __write(int file, const void *bytes, size_t count) { return write(file, bytes, count); }
+
+ssize_t pread(int file, void *bytes, size_t count, off_t at) {
+    return fails("pread") ? -1 : syscall(SYS_pread64, file, bytes, count, at);
+}
+
+ssize_t pread64(int file, void *bytes, size_t count, off_t at) { return pread(file, bytes, count, at); }
+
+ssize_t pwrite(int file, const void *bytes, size_t count, off_t at) {
+    return fails("pwrite") ? -1 : syscall(SYS_pwrite64, file, bytes, count, at);
+}
+
+ssize_t pwrite64(int file, const void *bytes, size_t count, off_t at) { return pwrite(file, bytes, count, at); }
+
+int flock(int file, int how) { return fails("flock") ? -1 : syscall(SYS_flock, file, how); }
 
 int close(int file) {
     int is_made = file == made;

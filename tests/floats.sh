@@ -248,9 +248,9 @@ cp f.sgy wanted.sgy
 put wanted.sgy $((3848 + 188)) 0000000b
 differs 'keeps its bytes' wanted.sgy o.sgy ''
 float_line f.sgy big 6 1 3ff0000000000000
-head -c 3600 f.sgy > none.sgy
+head -c 3600 f.sgy > no_floats.sgy
 printf 'totals\nslice 0\nstat 1\ncount\nblank 1\ntotals\nslice 0\npatch 1 0 1e-400\nstat 1\n' > script
-both 'floats without traces' 1 'totals none\nslice 0\nrefused E01 no trace 1 of 0\ntraces 0\nok\ntotals least 0 greatest 0 samples 1 nans 0\nslice 1\nrow 0 0 1 0\nok\nstat least 0 greatest 0 sum 0 samples 1 nans 0\n' none.sgy --floats
+both 'floats without traces' 1 'totals none\nslice 0\nrefused E01 no trace 1 of 0\ntraces 0\nok\ntotals least 0 greatest 0 samples 1 nans 0\nslice 1\nrow 0 0 1 0\nok\nstat least 0 greatest 0 sum 0 samples 1 nans 0\n' no_floats.sgy --floats
 
 # ---- with both options floats have values and format 4 is bytes; each may stand twice; alone neither reads what the other reads
 printf 'sample 1 1\nstat 1\ntotals\nslice 0\npatch 1 0 9\ninfo\nfaults\n' > script

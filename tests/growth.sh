@@ -13,7 +13,7 @@ printf 'load refused L16 out of memory\n' > l16.txt
 printf 'script refused P03 out of memory\n' > p03.txt
 early=(may words 2 - '=segywb: cannot read the command line' - may words 2 - '=error: out of memory' -
     may out 4 - $'=segywb: save failed after 0 bytes\nsegywb: o.sgy: out of memory; save elsewhere' -
-    may beside 4 - $'=segywb: save failed after 0 bytes\nsegywb: o.sgy: cannot make a file beside it (out of memory); save elsewhere, or over it with --in-place' -
+    may beside 4 - $'=segywb: save failed after 0 bytes\nsegywb: o.sgy: cannot make a file beside it (out of memory); save elsewhere' -
     may room 4 - '=segywb: out of memory' - may L16 3 l16.txt - - may P03 4 p03.txt - -)
 # how often each command was answered E11, and how often the last line of a script
 declare -A refused=()
@@ -35,8 +35,8 @@ ways() {
     printf '%s\n' "$@" > script
     "$program" "$file" "${option[@]}" --script script --out whole.sgy > whole.txt
     status=$?
-    ways=("${early[@]}" may whole $status whole.txt - whole.sgy)
-    then='it is as it was; save elsewhere, or over it with --in-place'
+    ways=("${early[@]}" may journal 3 - "=segywb: $file: cannot look for a journal beside it (out of memory)" - may whole $status whole.txt - whole.sgy)
+    then='it is as it was; save elsewhere, or repair FILE itself with --in-place'
     ways+=(may create 4 whole.txt $'=segywb: save failed after 0 bytes\nsegywb: o.sgy: cannot make a file beside it (out of memory): '"$then" -)
     [ ! -e whole.sgy ] || ways+=(may rename 4 whole.txt "=segywb: save failed after $(wc -c < whole.sgy) bytes"$'\nsegywb: o.sgy: cannot put the file beside it in its place (out of memory): '"$then" -)
     # behind each line stands one that no line of the script is: so the answers to each line are known
@@ -71,7 +71,7 @@ grows() {
             [0-9]*) word=${!kind}; word=${word%% *}; refused[$word]=$((${refused[$word]:-0} + number)); last=$number ;;
         esac
     done < kinds
-    once "$name: no growth" saves o.sgy "${ways[@]:${#early[@]}:6}" -- $library REFUSE=$(($(< asked) + 1)) "$program" "$file" "${option[@]}" --script script --out o.sgy
+    once "$name: no growth" saves o.sgy "${ways[@]:${#early[@]}+6:6}" -- $library REFUSE=$(($(< asked) + 1)) "$program" "$file" "${option[@]}" --script script --out o.sgy
 }
 
 queries=(grid inlines crosslines histogram 'slice 0' 'slice 1' faults fields stanzas 'line 0 1' totals 'range inline' 'range crossline' 'range offset' 'range x' 'range y'

@@ -49,7 +49,7 @@ done
 alike 'nothing is changed' v.sgy
 
 # ---- each worked example, with the option
-printf '#!/bin/sh\ncase " $* " in *" --in-place "*|*" --help "*|*" --version "*) exec "%s" "$@" ;; esac\nfor word in "$@"; do [ ! -f "$word" ] || { exec "%s" "$@" --on-disk; }; break; done\nexec "%s" "$@"\n' \
+printf '#!/bin/sh\ncase " $* " in *" --help "*|*" --version "*) exec "%s" "$@" ;; esac\nfor word in "$@"; do [ ! -f "$word" ] || { exec "%s" "$@" --on-disk; }; break; done\nexec "%s" "$@"\n' \
     "$named" "$named" "$named" > disked
 chmod +x disked
 # the sweeps over lengths of files, over hostile files and over growths of memory, with the option, beside the rest
@@ -66,12 +66,13 @@ cat s.sgy > pipe &
 if [ $? = 3 ] && [ "$(< errors)" = 'segywb: --on-disk needs a file on disk, and pipe is none' ]; then tell 'a pipe' ok; else tell 'a pipe' "$(< errors)"; fi
 wait $!
 cp s.sgy own.sgy
-"$program" own.sgy --script script --on-disk --in-place --out own.sgy > answers 2> errors
-if [ $? = 2 ] && cmp -s s.sgy own.sgy; then tell 'in place over the file' ok; else tell 'in place over the file' "$(< errors)"; fi
 printf 'set 2 @189:4 7\n' > script
 "$program" s.sgy --script script --out wanted.sgy > /dev/null
 "$program" own.sgy --script script --on-disk --out own.sgy > answers 2> errors
 if cmp -s wanted.sgy own.sgy; then tell 'a save over the file' ok; else tell 'a save over the file' "$(< errors)"; fi
+cp s.sgy own.sgy
+"$program" own.sgy --script script --on-disk --in-place > answers 2> errors
+if cmp -s wanted.sgy own.sgy && [ ! -s errors ]; then tell 'a repair of the file itself' ok; else tell 'a repair of the file itself' "$(< errors)"; fi
 
 # ---- the device fails at each read: of the load, of a look, of the save. Another coordinate scalar has the trace read anew
 printf 'set 2 @71:2 7\nget 3 @189:4\n' > script

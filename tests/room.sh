@@ -71,7 +71,7 @@ none='segywb: save failed after 0 bytes\nsegywb: none/o.sgy: No such file or dir
 expect 'a save that cannot be, before any line is run' 4 '' "$none" s.sgy --script script --out none/o.sgy
 expect 'and with --stop' 4 '' "$none" s.sgy --script script --stop --out none/o.sgy
 if [ -e /dev/full ]; then
-    full='segywb: save failed after 0 bytes\nsegywb: /dev/full: cannot write it (No space left on device (os error 28)): it took nothing, and is empty if it is a file; save elsewhere\n'
+    full='segywb: save failed after 0 bytes\nsegywb: /dev/full: cannot write it (No space left on device (os error 28)): it took nothing; save elsewhere\n'
     expect 'a refused line and a save that fails' 4 'refused S01 unknown word\n' "$full" s.sgy --script script --out /dev/full
     expect 'a save that fails with --stop, before it is begun' 1 'refused S01 unknown word\n' '' s.sgy --script script --stop --out /dev/full
 fi

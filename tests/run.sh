@@ -16,12 +16,12 @@ passed=0
 failed=0
 
 # the pictures and the page are tried beside the other tests, and so are those that run the program some ten thousand times
-beside='pictures growth devices cuts hostile save session on_disk streams'
+beside='pictures growth devices cuts hostile save in_place session on_disk streams'
 alone() { bash "$here/$1.sh" "$program" > "$1.told" 2>&1; echo $? > "$1.status"; }
 alone pictures &
 { alone growth; alone cuts; } &
 { alone devices; alone hostile; } &
-{ alone save; alone session; alone streams; } &
+{ alone save; alone in_place; alone session; alone streams; } &
 alone on_disk &
 
 # tell NAME OUTCOME: counts one test
@@ -257,7 +257,7 @@ expect 'no file' 3 '' 'segywb: cannot open absent.sgy\n' absent.sgy --script scr
 expect 'no script' 4 '' 'segywb: cannot open absent.txt\n' s.sgy --script absent.txt
 expect 'no place for the save' 4 '' 'segywb: save failed after 0 bytes\nsegywb: none/o.sgy: No such file or directory (os error 2); save elsewhere\n' s.sgy --script script --out none/o.sgy
 if [ -e /dev/full ]; then
-    expect 'a full device' 4 'ok\n' 'segywb: save failed after 0 bytes\nsegywb: /dev/full: cannot write it (No space left on device (os error 28)): it took nothing, and is empty if it is a file; save elsewhere\n' s.sgy --script script --out /dev/full
+    expect 'a full device' 4 'ok\n' 'segywb: save failed after 0 bytes\nsegywb: /dev/full: cannot write it (No space left on device (os error 28)): it took nothing; save elsewhere\n' s.sgy --script script --out /dev/full
     "$program" s.sgy --script script --out o.sgy > /dev/full 2> errors
     got=$?
     if [ "$got" = 4 ] && printf 'segywb: answers failed\n' | cmp -s - errors; then tell 'answers fail' ok; else tell 'answers fail' "status $got"; fi

@@ -255,9 +255,13 @@ ln -s script link
 ln script hard
 for name in script ./script link hard "$PWD/script"; do misused "OUT is SCRIPT: ${name##*/}" '--out names SCRIPT itself' s.sgy --script script --out "$name"; done
 misused 'SCRIPT is a link to OUT' '--out names SCRIPT itself' s.sgy --script link --out script
-misused 'OUT is SCRIPT, and in place' '--out names SCRIPT itself' s.sgy --script script --out script --in-place
 misused 'OUT is SCRIPT, and FILE is not there' '--out names SCRIPT itself' absent.sgy --script script --out script
-misused 'in place, and no OUT' '--in-place needs --out' s.sgy --script script --in-place
+misused 'in place, and another OUT' '--in-place repairs FILE itself, and --out names another file' s.sgy --script script --out room/o.sgy --in-place
+misused 'in place, and an OUT that is not there' '--in-place repairs FILE itself, and --out names another file' s.sgy --script script --out absent.sgy --in-place
+misused 'in place, and FILE is SCRIPT' '--in-place, and FILE is SCRIPT itself' script --script script --in-place
+misused 'in place, and FILE is SCRIPT by a link' '--in-place, and FILE is SCRIPT itself' link --script hard --in-place
+misused 'in place, and a session' '--in-place is for a script; a session saves with --out' s.sgy --session --in-place
+for words in '--script script' --session '--out o.sgy' --in-place --save-at-end; do misused "a recovery with $words" '--recover stands alone: segywb FILE --recover' s.sgy --recover $words; done
 rm -f link hard
 "$program" s.sgy --script /dev/stdin --out script < script > answers 2> errors
 got=$?
@@ -278,26 +282,6 @@ cat pipe > piped.sgy &
 got=$?
 wait $!
 [ $got = 0 ] && [ -p pipe ] && cmp -s whole.sgy piped.sgy && tell 'a pipe' ok || tell 'a pipe' "status $got"
-
-# ---- in place: the same file, and what a save that failed leaves of it
-saves s.sgy --script script --out $out --in-place
-ends 'in place' 0 '' whole.sgy
-cp s.sgy $out
-ln $out room/hard.sgy
-number=$(stat -c %i $out)
-"$program" $out --script script --out $out --in-place > answers 2> errors
-[ "$(stat -c %i $out)" = "$number" ] && cmp -s whole.sgy room/hard.sgy && tell 'in place is the same file' ok || tell 'in place is the same file' 'it is another'
-rm -f room/hard.sgy
-runs=$((runs + 2))
-cp s.sgy $out
-env $library FAIL_CALL=fsync FAIL_NTH=1 "$program" s.sgy --script script --out $out --in-place > answers 2> errors
-got=$?
-[ $got = 4 ] && [ "$(head -n 1 errors)" = "$(failed_after "$size")" ] && tell 'in place, and the sync fails' ok || tell 'in place, and the sync fails' "status $got: $(head -c 200 errors)"
-# what a close could tell of the bytes, the sync before it has told
-env $library FAIL_CALL=close FAIL_NTH=1 "$program" s.sgy --script script --out $out --in-place > answers 2> errors
-got=$?
-[ $got = 0 ] && cmp -s whole.sgy $out && tell 'in place, and closing it fails behind the sync' ok || tell 'in place, and closing it fails behind the sync' "status $got: $(head -c 200 errors)"
-rm -f room/.o.sgy*
 
 # ---- limits on the size of a file, and full disks
 echo 'set 2 inline 7' > one
@@ -340,12 +324,12 @@ chmod 555 locked
 if nobody ./runs s.sgy --script script > answers 2> errors; then
     nobody ./runs torn.sgy --script script --out locked/o.sgy > answers 2> errors
     got=$?
-    [ $got = 4 ] && [ ! -s answers ] && [ "$(head -n 1 errors)" = "$(failed_after 0)" ] && grep -q 'Permission denied.*--in-place' errors && cmp -s s.sgy locked/o.sgy && tell 'a folder that may not be written' ok || tell 'a folder that may not be written' "status $got: $(cat errors)"
-    nobody ./runs s.sgy --script script --out locked/o.sgy --in-place > answers 2> errors
+    [ $got = 4 ] && [ ! -s answers ] && [ "$(head -n 1 errors)" = "$(failed_after 0)" ] && grep -q 'Permission denied.*; save elsewhere$' errors && cmp -s s.sgy locked/o.sgy && tell 'a folder that may not be written' ok || tell 'a folder that may not be written' "status $got: $(cat errors)"
+    nobody ./runs locked/o.sgy --script script --in-place > answers 2> errors
     got=$?
-    [ $got = 0 ] && cmp -s whole.sgy locked/o.sgy && tell 'and in place' ok || tell 'and in place' "status $got: $(cat errors)"
+    [ $got = 4 ] && [ "$(head -n 1 errors)" = "$(failed_after 0)" ] && grep -q 'cannot make its journal .*/\.o\.sgy\.segywb-journal (Permission denied' errors && cmp -s s.sgy locked/o.sgy && tell 'nor is there room for a journal' ok || tell 'nor is there room for a journal' "status $got: $(cat errors)"
     chmod 444 locked/o.sgy
-    nobody ./runs torn.sgy --script script --out locked/o.sgy --in-place > answers 2> errors
+    nobody ./runs locked/o.sgy --script script --in-place > answers 2> errors
     got=$?
     [ $got = 4 ] && [ ! -s answers ] && [ "$(head -n 1 errors)" = "$(failed_after 0)" ] && tell 'and a file that may not be written' ok || tell 'and a file that may not be written' "status $got: $(cat errors)"
 else
@@ -363,7 +347,7 @@ changing() {
     rm -f gate
     mkfifo gate
     runs=$((runs + 1))
-    "$program" f.sgy --script gate ${saved:+--out $out} $how > answers 2> errors &
+    "$program" f.sgy --script gate ${saved:+--out $out} > answers 2> errors &
     local running=$!
     # the pipe opens once the program has opened FILE
     { "$@"; cat script; } > gate
@@ -373,22 +357,19 @@ changing() {
     cmp -s s.sgy $out || outcome='OUT is another'
     [ "$(head -n 1 errors)" = 'segywb: FILE was changed by another program' ] || outcome="$(head -c 300 errors)"
     [ -z "$(left)" ] || outcome="left: $(left)"
-    tell "$name ${how:-}" "$outcome"
+    tell "$name" "$outcome"
 }
 touched() { touch -d '2001-02-03' f.sgy; }
 written() { printf '\1' | dd of=f.sgy bs=1 seek=3700 conv=notrunc status=none; }
 replaced() { cp s.sgy g.sgy; mv g.sgy f.sgy; }
 grown() { head -c 3844 s.sgy | tail -c 244 >> f.sgy; }
 cut_short() { truncate -s 4088 f.sgy; }
-for how in '' --in-place; do
-    changing 'FILE is touched' 4 yes touched
-    changing 'FILE is written' 4 yes written
-    changing 'FILE is replaced' 4 yes replaced
-    changing 'FILE grows by a trace' 4 yes grown
-    changing 'FILE is cut at a trace' 4 yes cut_short
-    changing 'FILE is removed' 4 yes rm f.sgy
-done
-how=''
+changing 'FILE is touched' 4 yes touched
+changing 'FILE is written' 4 yes written
+changing 'FILE is replaced' 4 yes replaced
+changing 'FILE grows by a trace' 4 yes grown
+changing 'FILE is cut at a trace' 4 yes cut_short
+changing 'FILE is removed' 4 yes rm f.sgy
 changing 'without a save: FILE is written' 0 '' written
 changing 'without a save: FILE is cut at a trace' 0 '' cut_short
 changing 'without a save: FILE is removed' 0 '' rm f.sgy

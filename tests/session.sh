@@ -165,7 +165,7 @@ if command -v cc > /dev/null && cc -O1 -shared -fPIC -o refuse_growth.so "$here/
         got=$?
         case $got in
             2 | 4) [ ! -e o.sgy ] || outcome="growth $n: status $got, and a file" ; continue ;;
-            3) [ "$(cat answers)" = 'load refused L16 out of memory' ] || outcome="growth $n: $(head -c 100 answers)" ; continue ;;
+            3) [ "$(cat answers)" = 'load refused L16 out of memory' ] || [ "$(cat errors)" = 'segywb: s.sgy: cannot look for a journal beside it (out of memory)' ] || outcome="growth $n: $(head -c 100 answers)" ; continue ;;
         esac
         [ "$(grep -c '^$' answers)" = ${#script[@]} ] || outcome="growth $n: not one empty line for each line"
         : > fewer
@@ -285,13 +285,11 @@ eval "exec ${RUN[1]}>&-"
 wait "$run"
 grep -q '^segywb: FILE was changed by another program$' errors && tell 'and that is told' ok || tell 'and that is told' "$(< errors)"
 
-# in place, over FILE and to a device that takes nothing
+# to FILE itself, a pipe and a device that takes nothing
 cp s.sgy own.sgy
-number=$(stat -c %i own.sgy)
 printf 'set 2 @189:4 7\nsave\nset 2 @189:4 8\nsave\n' > lines
-expect 'two saves in place' 0 'ok\n\nsaved 4332\n\nok\n\nsaved 4332\n\n' '' own.sgy --session --out own.sgy --in-place
-changed 'of which the last stands in the same file' s.sgy own.sgy '4036 12 10;'
-[ "$(stat -c %i own.sgy)" = "$number" ] && tell 'which is the same' ok || tell 'which is the same' 'another file'
+expect 'a session saves beside OUT alone' 2 '' 'segywb: --in-place is for a script; a session saves with --out\n' own.sgy --session --out own.sgy --in-place
+cmp -s s.sgy own.sgy && tell 'and FILE is as it was' ok || tell 'and FILE is as it was' 'it is not'
 mkfifo pipe
 cat pipe > piped &
 printf 'set 2 @189:4 7\nsave\n' | "$program" s.sgy --session --out pipe > answers 2> errors
@@ -301,7 +299,7 @@ wait $!
 changed 'gets the bytes' s.sgy piped '4036 12 7;'
 if [ -e /dev/full ]; then
     printf 'save\ncount\n' > lines
-    expect 'a device that takes nothing' 1 'refused S08 save failed after 0 bytes\n\ntraces 3\n\n' 'segywb: save failed after 0 bytes\nsegywb: /dev/full: cannot write it (No space left on device (os error 28)): it took nothing, and is empty if it is a file; save elsewhere\n' s.sgy --session --out /dev/full
+    expect 'a device that takes nothing' 1 'refused S08 save failed after 0 bytes\n\ntraces 3\n\n' 'segywb: save failed after 0 bytes\nsegywb: /dev/full: cannot write it (No space left on device (os error 28)): it took nothing; save elsewhere\n' s.sgy --session --out /dev/full
 fi
 
 # what sends the lines dies: at each line, and between two writes

@@ -108,13 +108,13 @@ long=$(printf 'a%.0s' $(seq 230))
 is 'a name that is cut takes none away' yes "$([ -e "folder/.$long.segywb-0" ] && echo yes)"
 rm -f "folder/.$long.segywb-0"
 if command -v flock > /dev/null; then
+    # this shell holds the lock, so that it is free at once when it lets go; what it starts has no part in it
     : > folder/.out.sgy.segywb-0
-    flock folder/.out.sgy.segywb-0 sleep 60 &
-    writer=$!
-    for _ in $(seq 100); do flock -n folder/.out.sgy.segywb-0 true || break; sleep 0.05; done
-    "$program" s.sgy --script script --out folder/out.sgy > answers 2> errors
+    exec 9<> folder/.out.sgy.segywb-0
+    flock -n 9
+    "$program" s.sgy --script script --out folder/out.sgy > answers 2> errors 9>&-
     is 'a file that is being written stays' '0  yes' "$? $(< errors) $([ -e folder/.out.sgy.segywb-0 ] && echo yes)"
-    pkill -P "$writer"; kill "$writer" 2> /dev/null; wait "$writer" 2> /dev/null
+    exec 9>&-
     "$program" s.sgy --script script --out folder/out.sgy > answers 2> errors
     is 'and goes once its writer has ended' '0 segywb: folder/out.sgy: a file that a save had left beside it is taken away no' "$? $(< errors) $([ -e folder/.out.sgy.segywb-0 ] || echo no)"
 fi

@@ -68,14 +68,18 @@ save_at_end_rule = record (new_rule (codes "save-at-end")) { long = Some (codes 
 abbrev pub quiet_rule : Rule
 quiet_rule = record (new_rule (codes "quiet")) { long = Some (codes "quiet"); action = Some SetTrue }
 
+-- the flag `--recover`
+abbrev pub recover_rule : Rule
+recover_rule = record (new_rule (codes "recover")) { long = Some (codes "recover"); action = Some SetTrue }
+
 -- the program's name with a version, for which there is the flag `--version`; an option may stand
 -- more than once, and the last one counts
 abbrev pub titled : App
 titled = on_top (λ s. record s { has_version = true; args_override_self = true }) (new_app (codes "segywb"))
 
--- `segywb FILE [--script S] [--session] [--save-at-end] [--out O] [--in-place] [--on-disk] [--fixed] [--floats] [--opaque-samples] [--order O] [--max-bytes N] [--stop] [--quiet]`
+-- `segywb FILE [--script S] [--session] [--save-at-end] [--out O] [--in-place] [--on-disk] [--fixed] [--floats] [--opaque-samples] [--order O] [--max-bytes N] [--stop] [--quiet] [--recover]`
 unfoldable pub segywb : App
-segywb = with_rule (with_rule (with_rule (with_rule (with_rule (with_rule (with_rule (with_rule (with_rule (with_rule (with_rule (with_rule (with_rule (with_rule titled file_rule) script_rule) out_rule) in_place_rule) on_disk_rule) fixed_rule) floats_rule) opaque_rule) order_rule) limit_rule) stop_rule) session_rule) save_at_end_rule) quiet_rule
+segywb = with_rule (with_rule (with_rule (with_rule (with_rule (with_rule (with_rule (with_rule (with_rule (with_rule (with_rule (with_rule (with_rule (with_rule (with_rule titled file_rule) script_rule) out_rule) in_place_rule) on_disk_rule) fixed_rule) floats_rule) opaque_rule) order_rule) limit_rule) stop_rule) session_rule) save_at_end_rule) quiet_rule) recover_rule
 
 -- what clap matches for the words
 abbrev pub matched : List (List ℕ) → List Row

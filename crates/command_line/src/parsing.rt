@@ -20,8 +20,8 @@ const GREATEST_LIMIT: u64 = 1099511627776;
 // with this text at hand takes a minute.
 fn about() -> &'static str {
     "Repairs SEG-Y files: runs a script of edits and queries over FILE, prints one answer for \
-     each\nline on standard output, and saves the edited file where --out says. A save that fails \
-     leaves\nOUT as it was."
+     each\nline on standard output, and saves the edited file where --out says, or in FILE itself \
+     with\n--in-place. A save that fails leaves what was there as it was."
 }
 
 // What it says below them.
@@ -30,12 +30,13 @@ fn after() -> &'static str {
      \x20 0  no line was refused\n\
      \x20 1  some line was refused\n\
      \x20 2  the command line is not accepted, or --help or --version was asked for\n\
-     \x20 3  FILE cannot be opened, or is refused\n\
+     \x20 3  FILE cannot be opened, or is refused, or a repair of it was cut off\n\
      \x20 4  SCRIPT cannot be opened or read, or the answers or the save failed, or FILE was\n\
      \x20    changed by another program before the save\n\n\
      Examples:\n\
      \x20 segywb line.sgy --script fix.txt --out fixed.sgy\n\
      \x20 segywb line.sgy --script fix.txt --stop --out line.sgy\n\
+     \x20 segywb line.sgy --script fix.txt --stop --in-place\n\
      \x20 echo info | segywb line.sgy --session\n\n\
      The script language: man 5 segywb-script, or docs/MANUAL.md."
 }
@@ -69,7 +70,8 @@ fn command<'a>(alloc: Global) -> Result<Command<'a>, AllocError>
         .arg(args::stop(alloc))?
         .arg(args::session(alloc))?
         .arg(args::save_at_end(alloc))?
-        .arg(args::quiet(alloc))?;
+        .arg(args::quiet(alloc))?
+        .arg(args::recover(alloc))?;
     Ok(command)
 }
 
@@ -141,6 +143,8 @@ fn read_matches<'a>(matches: &ArgMatches<'a>, order: Option<Order>) -> Option<Ar
         (λ a. a.save_at_end ≡ is_set (first_value (found_of matches.now) (codes "save-at-end"))) }
     ensures quiet { IfSome result
         (λ a. a.quiet ≡ is_set (first_value (found_of matches.now) (codes "quiet"))) }
+    ensures recover { IfSome result
+        (λ a. a.recover ≡ is_set (first_value (found_of matches.now) (codes "recover"))) }
 {
     let file = matches.get_str("FILE")?;
     let script = matches.get_str("script");
@@ -155,6 +159,7 @@ fn read_matches<'a>(matches: &ArgMatches<'a>, order: Option<Order>) -> Option<Ar
     let session = is_set(matches, "session");
     let save_at_end = is_set(matches, "save-at-end");
     let quiet = is_set(matches, "quiet");
+    let recover = is_set(matches, "recover");
     Some(Arguments {
         file,
         script,
@@ -170,15 +175,16 @@ fn read_matches<'a>(matches: &ArgMatches<'a>, order: Option<Order>) -> Option<Ar
         session,
         save_at_end,
         quiet,
+        recover,
     })
 }
 
 /// What the words of a command line say, the program's name first: `FILE --script S [--out O]
 /// [--in-place] [--on-disk] [--fixed] [--floats] [--opaque-samples] [--order big|little]
 /// [--max-bytes N] [--stop] [--quiet]`, or `FILE --session [--save-at-end]` with the same options
-/// but `--script`; N from 1 to 1099511627776; an option may stand more than once, and the last one
-/// counts. Refused with clap's text where they are not accepted, `--help` too, or where a growth
-/// was refused. Takes memory.
+/// but `--script`, or `FILE --recover`; N from 1 to 1099511627776; an option may stand more than
+/// once, and the last one counts. Refused with clap's text where they are not accepted, `--help`
+/// too, or where a growth was refused. Takes memory.
 pub fn arguments<'a>(alloc: Global, words: &'a [String]) -> Result<Arguments<'a>, Error>
     ensures file { IfOk result (λ a. first_of (codes "FILE") (matched (map string_bytes words.now))
         ≡ Some a.file.now) }
@@ -221,6 +227,9 @@ pub fn arguments<'a>(alloc: Global, words: &'a [String]) -> Result<Arguments<'a>
     ensures quiet { IfOk result
         (λ a. a.quiet
         ≡ is_set (first_of (codes "quiet") (matched (map string_bytes words.now)))) }
+    ensures recover { IfOk result
+        (λ a. a.recover
+        ≡ is_set (first_of (codes "recover") (matched (map string_bytes words.now)))) }
 {
     let mut command = command(alloc)?;
     let matches = command.try_get_matches_from_mut(words)?;

@@ -97,6 +97,16 @@ impl<T: Copy> Overlay<T> {
         self.laid.store.head
     }
 
+    /// The traces, with the loaded bytes that they lie over. Takes no memory and looks at no trace.
+    pub fn store(&self) -> &TraceStore<T>
+        ensures volume { volume_with self.now.volume.text self.now.volume.bin result.now
+            ≡ self.now.volume }
+        ensures loaded { loaded_in result.now.loaded ≡ self.now.loaded }
+        ensures ends { HasEnds result.now }
+    {
+        &self.laid.store
+    }
+
     /// The number of traces.
     pub fn count(&self) -> u32
         ensures { result ≡ count_of self.now.volume }

@@ -105,11 +105,11 @@ module _ (f : FileFacts) (ss : List Span) where
   pub drop-journal : drop (length (journal f ss) - 16) (journal f ss) ≡ md5 (body f ss)
   drop-journal = drop_at (body f ss) (md5 (body f ss)) (length (journal f ss) - 16) at_end
 
-  pub drop-body : drop 40 (body f ss) ≡ pieces ss
+  pub drop-body : drop 32 (body f ss) ≡ pieces ss
   drop-body = refl
 
-  listed : drop 40 (without_end (journal f ss)) ≡ pieces ss
-  listed = ap (drop 40) without_end-journal
+  listed : drop 32 (without_end (journal f ss)) ≡ pieces ss
+  listed = ap (drop 32) without_end-journal
 
   pub read_again : AreSmall f → AllFit f ss → IsReadAgain f ss
   unfolding number_in
@@ -121,7 +121,7 @@ module _ (f : FileFacts) (ss : List Span) where
             refl,
             number_in-number 1 (drop 16 (journal f ss)) (omega arith),
             number_in-number f.length (drop 24 (journal f ss)) small.length,
-            (number_in-number f.device (drop 32 (journal f ss)) small.device, number_in-number f.inode (drop 40 (journal f ss)) small.inode),
+            number_in-number f.inode (drop 32 (journal f ss)) small.inode,
           );
           whole = record {
             pieces = subst (λ (l : List ℕ). ArePieces f.length 0 l) (sym listed) read.0;
@@ -152,20 +152,20 @@ pub size_in-front : (bs : List ℕ) → size_in (take 16 bs) ≡ size_in bs
 size_in-front bs = ap number_in (drop-take 8 8 bs) ∙ number_in-take 8 (drop 8 bs) (omega arith)
 
 -- the front of a journal, read alone
-pub number_at-front : (k : ℕ) (bs : List ℕ) → k + 8 ≤ 40 → number_in (drop k (take 40 bs)) ≡ number_in (drop k bs)
+pub number_at-front : (k : ℕ) (bs : List ℕ) → k + 8 ≤ 32 → number_in (drop k (take 32 bs)) ≡ number_in (drop k bs)
 number_at-front k bs le =
-    let rest : 40 ≡ k + (40 - k) = omega arith in
-    ap (λ (n : ℕ). number_in (drop k (take n bs))) rest ∙ ap number_in (drop-take k (40 - k) bs) ∙ number_in-take (40 - k) (drop k bs) (omega arith)
+    let rest : 32 ≡ k + (32 - k) = omega arith in
+    ap (λ (n : ℕ). number_in (drop k (take n bs))) rest ∙ ap number_in (drop-take k (32 - k) bs) ∙ number_in-take (32 - k) (drop k bs) (omega arith)
 
-pub HasFront-front : (f : FileFacts) (bs : List ℕ) → HasFront f (take 40 bs) → HasFront f bs
+pub HasFront-front : (f : FileFacts) (bs : List ℕ) → HasFront f (take 32 bs) → HasFront f bs
 HasFront-front f bs front = (
   sym (number_at-front 0 bs (omega arith)) ∙ front.0,
   sym (number_at-front 8 bs (omega arith)) ∙ front.1,
   sym (number_at-front 16 bs (omega arith)) ∙ front.2,
-  (sym (number_at-front 24 bs (omega arith)) ∙ front.3.0, sym (number_at-front 32 bs (omega arith)) ∙ front.3.1),
+  sym (number_at-front 24 bs (omega arith)) ∙ front.3,
 )
 
-pub LacksFront-front : (f : FileFacts) (bs : List ℕ) (fault : JournalFault) → LacksFront f (take 40 bs) fault → LacksFront f bs fault
+pub LacksFront-front : (f : FileFacts) (bs : List ℕ) (fault : JournalFault) → LacksFront f (take 32 bs) fault → LacksFront f bs fault
 LacksFront-front f bs NoJournal lacks = λ h. lacks (number_at-front 0 bs (omega arith) ∙ h)
 LacksFront-front f bs OtherVersion lacks = (sym (number_at-front 0 bs (omega arith)) ∙ lacks.0, λ h. lacks.1 (number_at-front 8 bs (omega arith) ∙ h))
 LacksFront-front f bs OtherLength lacks = (sym (number_at-front 0 bs (omega arith)) ∙ lacks.0, sym (number_at-front 8 bs (omega arith)) ∙ lacks.1, λ h. lacks.2 (number_at-front 16 bs (omega arith) ∙ h))
@@ -173,12 +173,12 @@ LacksFront-front f bs OtherFile lacks = (
   sym (number_at-front 0 bs (omega arith)) ∙ lacks.0,
   sym (number_at-front 8 bs (omega arith)) ∙ lacks.1,
   sym (number_at-front 16 bs (omega arith)) ∙ lacks.2,
-  λ h. lacks.3 (number_at-front 24 bs (omega arith) ∙ h.0, number_at-front 32 bs (omega arith) ∙ h.1),
+  λ h. lacks.3 (number_at-front 24 bs (omega arith) ∙ h),
 )
 LacksFront-front f bs Broken lacks = lacks
 
 -- a journal whose front lacks nothing is refused for what follows, and else for that
-pub refused_front : (f : FileFacts) (bs : List ℕ) (fault : JournalFault) → 56 ≤ length bs → LacksFront f bs fault → IsRefusedAs f bs fault
+pub refused_front : (f : FileFacts) (bs : List ℕ) (fault : JournalFault) → 48 ≤ length bs → LacksFront f bs fault → IsRefusedAs f bs fault
 refused_front f bs NoJournal long lacks = (long, lacks)
 refused_front f bs OtherVersion long lacks = (long, lacks)
 refused_front f bs OtherLength long lacks = (long, lacks)

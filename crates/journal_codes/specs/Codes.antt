@@ -23,9 +23,9 @@ number_in bs = from_le_bytes w64 bs
 abbrev pub mark : List ℕ
 mark = codes "SEGYWBJL"
 
--- what a journal begins with: the mark, the version, and the length, the device and the inode of its FILE
+-- what a journal begins with: the mark, the version, and the length and the inode of its FILE
 abbrev pub front : FileFacts → List ℕ
-front f = mark ++ (number 1 ++ (number f.length ++ (number f.device ++ number f.inode)))
+front f = mark ++ (number 1 ++ (number f.length ++ number f.inode))
 
 -- a piece: its place in FILE, how many bytes it has, and those
 abbrev pub piece : Span → List ℕ
@@ -56,7 +56,6 @@ AllFit f (s ∷ ss) = Fits f s × AllFit f ss
 -- each of these numbers is one of 64 bits
 pub record AreSmall (f : FileFacts) : Type 0 where
   pub length : f.length < 2 ^ 64
-  pub device : f.device < 2 ^ 64
   pub inode : f.inode < 2 ^ 64
 
 -- the piece that bytes begin with
@@ -95,7 +94,7 @@ without_end bs = take (length bs - 16) bs
 
 -- the pieces that a journal lists
 abbrev pub spans_in : List ℕ → List Span
-spans_in bs = spans_from 0 (drop 40 (without_end bs))
+spans_in bs = spans_from 0 (drop 32 (without_end bs))
 
 -- they begin with the mark
 abbrev pub HasMark : List ℕ → Type 0
@@ -109,9 +108,9 @@ HasVersion bs = number_in (drop 8 bs) ≡ 1
 abbrev pub HasLength : FileFacts → List ℕ → Type 0
 HasLength f bs = number_in (drop 16 bs) ≡ f.length
 
--- then FILE's device and inode
+-- then FILE's inode
 abbrev pub HasIdentity : FileFacts → List ℕ → Type 0
-HasIdentity f bs = (number_in (drop 24 bs) ≡ f.device) × (number_in (drop 32 bs) ≡ f.inode)
+HasIdentity f bs = number_in (drop 24 bs) ≡ f.inode
 
 -- bytes begin as a journal of this FILE does
 abbrev pub HasFront : FileFacts → List ℕ → Type 0
@@ -127,19 +126,19 @@ LacksFront f bs Broken = ⊥
 
 -- behind its front, a journal of this FILE is whole
 pub record IsWhole (f : FileFacts) (bs : List ℕ) : Type 0 where
-  pub pieces : ArePieces f.length 0 (drop 40 (without_end bs))
+  pub pieces : ArePieces f.length 0 (drop 32 (without_end bs))
   pub digest : drop (length bs - 16) bs ≡ md5 (without_end bs)
 
 -- a journal of this FILE
 pub record IsJournal (f : FileFacts) (bs : List ℕ) : Type 0 where
-  pub long : 56 ≤ length bs
+  pub long : 48 ≤ length bs
   pub front : HasFront f bs
   pub whole : IsWhole f bs
 
 -- why bytes are none: they are too short, or else their front tells, or else they are cut or rotten behind it
 abbrev pub IsRefusedAs : FileFacts → List ℕ → JournalFault → Type 0
-IsRefusedAs f bs Broken = (length bs < 56) ⊎ (HasFront f bs × (IsWhole f bs → ⊥))
-IsRefusedAs f bs fault = (56 ≤ length bs) × LacksFront f bs fault
+IsRefusedAs f bs Broken = (length bs < 48) ⊎ (HasFront f bs × (IsWhole f bs → ⊥))
+IsRefusedAs f bs fault = (48 ≤ length bs) × LacksFront f bs fault
 
 -- What is written as a journal is one, and lists what was written.
 abbrev pub IsReadAgain : FileFacts → List Span → Type 0

@@ -7,7 +7,7 @@ use crate::journal_fault::JournalFault;
 use crate::numbers::number_at;
 
 /// How many bytes stand before the pieces.
-pub const FRONT_BYTES: usize = 40;
+pub const FRONT_BYTES: usize = 32;
 
 const MARK: [u8; 8] = *b"SEGYWBJL";
 
@@ -20,12 +20,11 @@ pub fn front_of(facts: FileFacts) -> [u8; FRONT_BYTES]
     let m = MARK;
     let v = VERSION.to_le_bytes();
     let l = facts.length.to_le_bytes();
-    let d = facts.device.to_le_bytes();
     let i = facts.inode.to_le_bytes();
     [
         m[0], m[1], m[2], m[3], m[4], m[5], m[6], m[7], v[0], v[1], v[2], v[3], v[4], v[5], v[6],
-        v[7], l[0], l[1], l[2], l[3], l[4], l[5], l[6], l[7], d[0], d[1], d[2], d[3], d[4], d[5],
-        d[6], d[7], i[0], i[1], i[2], i[3], i[4], i[5], i[6], i[7],
+        v[7], l[0], l[1], l[2], l[3], l[4], l[5], l[6], l[7], i[0], i[1], i[2], i[3], i[4], i[5],
+        i[6], i[7],
     ]
 }
 
@@ -43,10 +42,7 @@ pub fn front_fault(bytes: &[u8; FRONT_BYTES], facts: FileFacts) -> Option<Journa
     if number_at(bytes, 16) != facts.length {
         return Some(JournalFault::OtherLength);
     }
-    if number_at(bytes, 24) != facts.device {
-        return Some(JournalFault::OtherFile);
-    }
-    if number_at(bytes, 32) != facts.inode {
+    if number_at(bytes, 24) != facts.inode {
         return Some(JournalFault::OtherFile);
     }
     None

@@ -13,7 +13,7 @@ pub enum JournalFault {
     /// FILE had another length when it was made.
     #[error("it is a journal of a file of another length")]
     OtherLength,
-    /// It is of a file with another device or inode.
+    /// It is of a file with another inode.
     #[error("it is a journal of another file")]
     OtherFile,
     /// Bytes of it are missing or changed: it is too short, a piece does not end or lies outside

@@ -257,7 +257,7 @@ pub record IsReady (rs : List Range) (d e : Disk) : Type 0 where
   pub ranges_are : ranges (listed_in e.now.beside) ≡ rs
 
 facts_same : (d e : State) → e.file ≡ d.file → e.identity ≡ d.identity → facts_of d ≡ facts_of e
-facts_same d e file identity = ap (λ (x : List ℕ). facts_of (record d { file = x })) (sym file) ∙ ap (λ (x : ℕ × ℕ). facts_of (record d { file = e.file; identity = x })) (sym identity)
+facts_same d e file identity = ap (λ (x : List ℕ). facts_of (record d { file = x })) (sym file) ∙ ap (λ (x : ℕ). facts_of (record d { file = e.file; identity = x })) (sym identity)
 
 ready_one : (rs : List Range) (d e : Disk) → IsListing rs d e → IsReady rs d (step journal_synced e)
 ready_one rs d e l =

@@ -119,6 +119,10 @@ pub record IsUntouched (d e : Disk) : Type 0 where
 abbrev pub IsAsItWas : Disk → Disk → Type 0
 IsAsItWas d e = (e.now ≡ d.now) × Since (λ s. s ≡ d.now) d e
 
+-- where nothing is under way, nothing was done
+abbrev pub StaysSettled : Disk → Disk → Type 0
+StaysSettled d e = IsSettled d.now → IsAsItWas d e
+
 -- nothing was done, or there was no journal of an earlier save, and this is so
 abbrev pub AsItWasOr : (Disk → Disk → Type 0) → Disk → Disk → Type 0
 AsItWasOr R d e = IsAsItWas d e ⊎ (WasFree d × R d e)

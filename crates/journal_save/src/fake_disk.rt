@@ -230,7 +230,6 @@ impl Disk for FakeDisk {
     fn facts(&self) -> FileFacts {
         FileFacts {
             length: 1,
-            device: 7,
             inode: 11,
         }
     }

@@ -1,7 +1,7 @@
 // A save in place.
 ghost use Rattle.std.specs.Prelude.{◌≡◌, ◌⊎◌, ◌++◌, [], true, length, OnOk, OnErr, IfErr};
 ghost use Rattle.journal_save.specs.Disk.{Over, Known, Tells, IsDurable, laid_all};
-ghost use Rattle.journal_save.specs.Saving.{ranges, listed_in, IsGuarded, IsSettled, IsSettling, WasFree, AsItWasOr, IsQuiet, LeavesOnly, IsEither, IsWriting, IsOver, IsUntouched, IsListing, IsGuarding, IsHarmless, IsRefused, IsCaused, fresh_journal};
+ghost use Rattle.journal_save.specs.Saving.{ranges, listed_in, IsGuarded, IsSettled, IsSettling, StaysSettled, WasFree, AsItWasOr, IsQuiet, LeavesOnly, IsEither, IsWriting, IsOver, IsUntouched, IsListing, IsGuarding, IsHarmless, IsRefused, IsCaused, fresh_journal};
 
 use crate::disk::Disk;
 use crate::edits::Edits;
@@ -13,8 +13,10 @@ use md5::{Digest, Md5};
 use std::io::Result;
 
 /// Lets all that FILE took, and what the journal's name leads to, be on the disk, as a save needs.
+/// Where that is so already, nothing changes, whether a call fails or not.
 pub fn settle<D: Disk>(disk: &mut D) -> Result<()>
     ensures ok { OnOk result (Over IsSettling (D.disk disk.old) (D.disk disk.new)) }
+    ensures still { Over StaysSettled (D.disk disk.old) (D.disk disk.new) }
     ensures cause { Tells result (D.failed disk.old) (D.failed disk.new) }
 {
     disk.sync_file()?;

@@ -511,6 +511,15 @@ impl LiveVolume {
         self.overlay.write_to(writer)
     }
 
+    /// The loaded file with the edits over it. Takes no memory, and looks at no trace.
+    pub fn overlay(&self) -> &Overlay<PackedRecord>
+        ensures volume { result.now.volume ≡ self.now.state.volume }
+        ensures loaded { result.now.loaded.bytes ≡ self.now.loaded }
+        ensures place { result.now.loaded.on_disk ≡ self.now.state.on_disk }
+    {
+        &self.overlay
+    }
+
     /// The number of traces.
     pub fn count(&self) -> u32
         ensures { result ≡ count_of self.now.state.volume }

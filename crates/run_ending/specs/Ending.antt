@@ -2,6 +2,10 @@
 use Rattle.std.specs.Prelude.{◌≡◌, ℕ, Bool, true, false, nat_lt, is_some, if◌then◌else◌}
 use Rattle.script_text.specs.declared.run_end.RunEnd.{RunEnd}
 use Rattle.script_text.specs.declared.run_end.RunEnd.TheVariants.{Done, Stopped, Load, Script, Answers, Save, SaveAtEnd}
+use Rattle.edit_pieces.specs.declared.repaired.Repaired.{Repaired}
+use Rattle.edit_pieces.specs.declared.repaired.Repaired.TheVariants.{NotBegun, Saved, Unfit, Unsettled, Failed}
+use Rattle.journal_save.specs.declared.errors.SaveError.{SaveError}
+use Rattle.journal_save.specs.declared.errors.SaveError.TheVariants.{Untouched, Undone, Interrupted, NotSettled}
 use Rattle.run_ending.specs.declared.ending.SaveEnd.{SaveEnd}
 use Rattle.run_ending.specs.declared.ending.SaveEnd.TheVariants as s
 use Rattle.run_ending.specs.declared.ending.Message.{Message}
@@ -77,6 +81,21 @@ of_change false s.Doubtful = t.Nothing
 -- what standard error says behind what it says of the run and the save, where FILE was changed by another program
 abbrev pub told_of_change : RunEnd → SaveEnd → Message
 told_of_change end ended = of_change (is_unread end) ended
+
+-- how the save of a repair ended that a call ended, where FILE had been changed by another program or not
+abbrev pub failed_end : SaveError → Bool → SaveEnd
+failed_end (Untouched error) stale = if stale then s.Stale else s.Failed
+failed_end (Undone error) stale = s.Failed
+failed_end (Interrupted error again) stale = s.Failed
+failed_end (NotSettled error) stale = s.Unsettled
+
+-- how the save of a repair ended
+abbrev pub repair_end : Repaired → Bool → SaveEnd
+repair_end NotBegun stale = s.NotBegun
+repair_end Saved stale = s.Saved
+repair_end (Unfit why) stale = s.Failed
+repair_end (Unsettled error) stale = s.Failed
+repair_end (Failed error) stale = failed_end error stale
 
 -- the exit status is that of some end of the save
 abbrev pub IsExitStatus : RunEnd → ℕ → Type 0

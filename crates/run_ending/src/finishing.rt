@@ -94,7 +94,7 @@ pub(crate) fn is_heard<R: Files + AllocGlobal>(rt: &R, room: u64) -> bool {
 }
 
 // How many bytes a message may have.
-fn room_of(arguments: &Arguments) -> u64 {
+pub(crate) fn room_of(arguments: &Arguments) -> u64 {
     let out = arguments.out.unwrap_or("");
     MESSAGE_ROOM
         .saturating_add(arguments.file.len() as u64)
@@ -241,8 +241,18 @@ pub fn refused_out<R: Eprint>(rt: &R, out: &str, refusal: &OutRefusal) -> u8 {
             let _ = eprintln!(rt; "segywb: {out}: {error}; save elsewhere");
         }
         OutRefusal::NoFileBeside(error) => {
-            let then = "save elsewhere, or over it with --in-place";
-            let _ = eprintln!(rt; "segywb: {out}: cannot make a file beside it ({error}); {then}");
+            let _ = eprintln!(rt;
+                "segywb: {out}: cannot make a file beside it ({error}); save elsewhere"
+            );
+        }
+        OutRefusal::CutOff => {
+            let _ = eprintln!(rt;
+                "segywb: {out}: an earlier repair of it was cut off; segywb {out} --recover puts \
+                 the old bytes back"
+            );
+        }
+        OutRefusal::UnderWay => {
+            let _ = eprintln!(rt; "segywb: {out}: a repair of it is under way; wait for its end");
         }
     }
     4
@@ -254,12 +264,12 @@ fn save_failed<R: Eprint>(rt: &R, out: &str, fault: &Fault, is_beside: bool) {
     let what = if is_beside {
         step_beside(fault.step)
     } else {
-        step_in_place(fault.step)
+        step_of_device(fault.step)
     };
     let then = match (is_beside, fault.step) {
-        (true, _) => "it is as it was; save elsewhere, or over it with --in-place",
+        (true, _) => "it is as it was; save elsewhere, or repair FILE itself with --in-place",
         (false, Step::Create) => "it is as it was; save elsewhere",
-        (false, _) if taken == 0 => "it took nothing, and is empty if it is a file; save elsewhere",
+        (false, _) if taken == 0 => "it took nothing; save elsewhere",
         (false, _) => "it took a part of the file; save elsewhere",
     };
     let left = left_beside(fault);
@@ -312,8 +322,8 @@ fn step_beside(step: Step) -> &'static str {
     }
 }
 
-// What failed of a save over OUT itself.
-fn step_in_place(step: Step) -> &'static str {
+// What failed of a save to a pipe or a device.
+fn step_of_device(step: Step) -> &'static str {
     match step {
         Step::Create => "cannot open it",
         Step::Write | Step::SetMode => "cannot write it",
@@ -322,7 +332,7 @@ fn step_in_place(step: Step) -> &'static str {
 }
 
 // Tells that FILE was changed, and what that means.
-fn changed<R: Eprint>(rt: &R, file: &str, then: &str) {
+pub(crate) fn changed<R: Eprint>(rt: &R, file: &str, then: &str) {
     let _ = eprintln!(rt; "segywb: FILE was changed by another program");
     let _ = eprintln!(rt; "segywb: {file}: {then}");
 }

@@ -4,23 +4,30 @@
 //! [`misuse`] and [`target_of`] judge, before anything is read, where the command line lets a save
 //! go; [`finish`] ends the save, tells what there is to tell, and gives the exit status, which is a
 //! function of how the run and the save ended. [`OutPlace`] takes the saves of a session, and
-//! [`finish_told`] ends one. A save goes to a new file beside OUT, or to OUT
-//! itself where that is asked for.
+//! [`finish_told`] ends one. A save goes to a new file beside OUT, or to OUT itself where that is a
+//! pipe or a device.
+//!
+//! A repair of FILE itself begins with [`journal_refusal`] and [`disk_of`], which locks it, and
+//! ends with [`finish_in_place`]; [`recover_file`] undoes one that was cut off.
 #![tactic(auto)]
 
+mod device_out;
 mod ending;
 mod finishing;
-mod in_place;
+mod journals;
 mod out_place;
 mod refused;
+mod repairing;
 mod target;
 mod torn_file;
 mod where_to;
 
+pub use crate::device_out::DeviceOut;
 pub use crate::ending::{Message, SaveEnd, exit_status, told, told_of_change};
 pub use crate::finishing::{finish, finish_told, refused_out};
-pub use crate::in_place::InPlace;
+pub use crate::journals::{journal_refusal, recover_file};
 pub use crate::out_place::OutPlace;
 pub use crate::refused::{reading_of, tell_how_to_begin};
+pub use crate::repairing::{disk_of, finish_in_place};
 pub use crate::target::Target;
 pub use crate::where_to::{OutRefusal, misuse, target_of};

@@ -1,7 +1,7 @@
-// Where a save goes: beside OUT first, and then over it; or to OUT itself.
+// Where a save goes: beside OUT first, and then over it; or to a device.
 ghost use Rattle.std.specs.Prelude.{None};
 
-use crate::in_place::InPlace;
+use crate::device_out::DeviceOut;
 use safe_save::{FileFolder, Folder, Original};
 use std::fs::File;
 use std::io::Result;
@@ -11,7 +11,7 @@ use std::rt::Files;
 #[derive(Drop)]
 pub enum Target<'a, R: Files> {
     Beside(FileFolder<'a, R>),
-    InPlace(InPlace<'a, R>),
+    Device(DeviceOut<'a, R>),
 }
 
 impl<'a, R: Files<File = File> + AllocGlobal> Target<'a, R> {
@@ -19,7 +19,7 @@ impl<'a, R: Files<File = File> + AllocGlobal> Target<'a, R> {
     pub fn mode(&self) -> Option<u32> {
         match self {
             Target::Beside(folder) => folder.mode(),
-            Target::InPlace(_) => None,
+            Target::Device(_) => None,
         }
     }
 
@@ -32,7 +32,7 @@ impl<'a, R: Files<File = File> + AllocGlobal> Target<'a, R> {
     pub fn is_stale(&self) -> bool {
         match self {
             Target::Beside(folder) => folder.is_stale(),
-            Target::InPlace(place) => place.is_stale(),
+            Target::Device(device) => device.is_stale(),
         }
     }
 
@@ -40,7 +40,7 @@ impl<'a, R: Files<File = File> + AllocGlobal> Target<'a, R> {
     pub fn is_unseen(&self) -> bool {
         match self {
             Target::Beside(folder) => folder.is_unseen(),
-            Target::InPlace(place) => place.is_unseen(),
+            Target::Device(device) => device.is_unseen(),
         }
     }
 
@@ -48,7 +48,7 @@ impl<'a, R: Files<File = File> + AllocGlobal> Target<'a, R> {
     pub fn cleared(&self) -> u32 {
         match self {
             Target::Beside(folder) => folder.cleared(),
-            Target::InPlace(_) => 0,
+            Target::Device(_) => 0,
         }
     }
 
@@ -56,7 +56,7 @@ impl<'a, R: Files<File = File> + AllocGlobal> Target<'a, R> {
     pub fn original(&self) -> Option<Original<'a>> {
         match self {
             Target::Beside(folder) => folder.original(),
-            Target::InPlace(place) => place.original(),
+            Target::Device(device) => device.original(),
         }
     }
 }
@@ -67,49 +67,52 @@ impl<R: Files<File = File> + AllocGlobal> Folder for Target<'_, R> {
     fn create(&mut self) -> Result<()> {
         match self {
             Target::Beside(folder) => folder.create(),
-            Target::InPlace(place) => place.create(),
+            Target::Device(device) => device.create(),
         }
     }
 
     fn write(&mut self, bytes: &[u8]) -> Result<usize> {
         match self {
             Target::Beside(folder) => folder.write(bytes),
-            Target::InPlace(place) => place.write(bytes),
+            Target::Device(device) => device.write(bytes),
         }
     }
 
     fn set_mode(&mut self, mode: u32) -> Result<()> {
         match self {
             Target::Beside(folder) => folder.set_mode(mode),
-            Target::InPlace(_) => Ok(()),
+            Target::Device(_) => Ok(()),
         }
     }
 
     fn sync(&mut self) -> Result<()> {
         match self {
             Target::Beside(folder) => folder.sync(),
-            Target::InPlace(place) => place.sync(),
+            Target::Device(device) => {
+                device.close();
+                Ok(())
+            }
         }
     }
 
     fn rename(&mut self) -> Result<()> {
         match self {
             Target::Beside(folder) => folder.rename(),
-            Target::InPlace(_) => Ok(()),
+            Target::Device(_) => Ok(()),
         }
     }
 
     fn remove(&mut self) -> Result<()> {
         match self {
             Target::Beside(folder) => folder.remove(),
-            Target::InPlace(_) => Ok(()),
+            Target::Device(_) => Ok(()),
         }
     }
 
     fn sync_folder(&mut self) -> Result<()> {
         match self {
             Target::Beside(folder) => folder.sync_folder(),
-            Target::InPlace(_) => Ok(()),
+            Target::Device(_) => Ok(()),
         }
     }
 }

@@ -1,10 +1,11 @@
 // Where the command line lets a save go.
-use crate::in_place::InPlace;
+use crate::device_out::DeviceOut;
+use crate::journals::{InRepair, in_repair};
 use crate::target::Target;
 use command_line::Arguments;
 use safe_save::{FileFolder, Original, resolve};
 use std::fs;
-use std::fs::{File, Metadata, OpenOptions};
+use std::fs::{File, Metadata};
 use std::io::Error;
 use std::os::unix::fs::MetadataExt;
 use std::rt::Files;
@@ -16,10 +17,17 @@ pub enum OutRefusal {
     NoPlace(Error),
     /// No file can be made in its folder.
     NoFileBeside(Error),
+    /// A repair of it was cut off, and its journal is there.
+    CutOff,
+    /// A repair of it is under way.
+    UnderWay,
 }
 
 /// Why the words of the command line do not go together: nothing is read then, and nothing written.
 pub fn misuse<R: Files>(rt: &R, arguments: &Arguments) -> Option<&'static str> {
+    if arguments.recover {
+        return misuse_of_recovery(arguments);
+    }
     match arguments.script {
         None if !arguments.session => return Some("--script or --session is needed; see --help"),
         Some(_) if arguments.session => return Some("--script and --session exclude each other"),
@@ -31,30 +39,73 @@ pub fn misuse<R: Files>(rt: &R, arguments: &Arguments) -> Option<&'static str> {
         }
         _ => {}
     }
-    let Some(out) = arguments.out else {
-        return if arguments.in_place {
-            Some("--in-place needs --out")
-        } else {
-            None
-        };
-    };
-    let there = match fs::metadata(rt, out) {
+    if arguments.in_place {
+        return misuse_in_place(rt, arguments);
+    }
+    let there = match fs::metadata(rt, arguments.out?) {
         Ok(there) if there.is_file() => there,
         _ => return None,
     };
-    if let Some(script) = arguments.script
-        && leads_to(rt, path_of(script), &there)
+    misuse_of_file(rt, arguments, &there)
+}
+
+// Of a recovery: it reads no script, and saves nothing.
+fn misuse_of_recovery(arguments: &Arguments) -> Option<&'static str> {
+    let is_alone = arguments.script.is_none()
+        && arguments.out.is_none()
+        && !(arguments.session || arguments.in_place || arguments.save_at_end);
+    if is_alone {
+        None
+    } else {
+        Some("--recover stands alone: segywb FILE --recover")
+    }
+}
+
+// Of a repair of FILE itself.
+fn misuse_in_place<R: Files>(rt: &R, arguments: &Arguments) -> Option<&'static str> {
+    if arguments.session {
+        return Some("--in-place is for a script; a session saves with --out");
+    }
+    let there = match fs::metadata(rt, arguments.file) {
+        Ok(there) if there.is_file() => there,
+        _ => return None,
+    };
+    if let Some(out) = arguments.out
+        && !leads_to(rt, out, &there)
     {
-        return Some("--out names SCRIPT itself");
+        return Some("--in-place repairs FILE itself, and --out names another file");
     }
-    if arguments.on_disk && arguments.in_place && leads_to(rt, arguments.file, &there) {
-        return Some("--in-place over FILE itself needs its bytes in memory: leave out --on-disk");
+    misuse_of_file(rt, arguments, &there)
+}
+
+// Of the file that is to be written, which is there: what the script or the answers are is not.
+fn misuse_of_file<R: Files>(
+    rt: &R,
+    arguments: &Arguments,
+    there: &Metadata,
+) -> Option<&'static str> {
+    if let Some(script) = arguments.script
+        && leads_to(rt, path_of(script), there)
+    {
+        return Some(if arguments.in_place {
+            "--in-place, and FILE is SCRIPT itself"
+        } else {
+            "--out names SCRIPT itself"
+        });
     }
-    if leads_to(rt, "/dev/stdout", &there) {
-        return Some("--out names the file that the answers go to");
+    if leads_to(rt, "/dev/stdout", there) {
+        return Some(if arguments.in_place {
+            "--in-place, and the answers go to FILE"
+        } else {
+            "--out names the file that the answers go to"
+        });
     }
-    if leads_to(rt, "/dev/stderr", &there) {
-        return Some("--out names the file that standard error goes to");
+    if leads_to(rt, "/dev/stderr", there) {
+        return Some(if arguments.in_place {
+            "--in-place, and standard error goes to FILE"
+        } else {
+            "--out names the file that standard error goes to"
+        });
     }
     None
 }
@@ -80,42 +131,26 @@ pub fn target_of<'a, R: Files<File = File> + AllocGlobal>(
     original: Option<Original<'a>>,
 ) -> Result<Target<'a, R>, OutRefusal> {
     let Some(out) = arguments.out else {
-        let nowhere = InPlace::new(rt, "", None, false);
-        return Ok(Target::InPlace(nowhere));
+        return Ok(Target::Device(DeviceOut::new(rt, "", None)));
     };
     let is_device = match fs::metadata(rt, out) {
         Ok(there) => !there.is_file() && !there.is_dir(),
         Err(_) => false,
     };
     if is_device {
-        let device = InPlace::new(rt, out, original, false);
-        return Ok(Target::InPlace(device));
+        return Ok(Target::Device(DeviceOut::new(rt, out, original)));
     }
     if let Err(error) = resolve(rt, out) {
         return Err(OutRefusal::NoPlace(error));
     }
-    if arguments.in_place {
-        return in_place(rt, out, original);
+    match in_repair(rt, out) {
+        Ok(None) => {}
+        Ok(Some(InRepair::CutOff)) => return Err(OutRefusal::CutOff),
+        Ok(Some(InRepair::UnderWay)) => return Err(OutRefusal::UnderWay),
+        Err(error) => return Err(OutRefusal::NoPlace(error)),
     }
     match FileFolder::open(rt, out, original) {
         Ok(folder) => Ok(Target::Beside(folder)),
         Err(error) => Err(OutRefusal::NoFileBeside(error)),
     }
-}
-
-// A save over the file itself, which may be written if it is there.
-fn in_place<'a, R: Files<File = File> + AllocGlobal>(
-    rt: &'a R,
-    out: &'a str,
-    original: Option<Original<'a>>,
-) -> Result<Target<'a, R>, OutRefusal> {
-    if fs::metadata(rt, out).is_ok() {
-        let mut how = OpenOptions::new();
-        how.write(true);
-        if let Err(error) = how.open(rt, out) {
-            return Err(OutRefusal::NoPlace(error));
-        }
-    }
-    let file = InPlace::new(rt, out, original, true);
-    Ok(Target::InPlace(file))
 }

@@ -64,11 +64,11 @@ script_end on_disk options old new fault result refuses (inr (written, is, part)
 module _ (stay : StepsStayCut) (on_disk : Bool) (options : Options) (old new : Devices) (start end : State) (script : List ℕ)
     (loaded : Loads old.reader new.reader options.reading options.limits on_disk start) (read : ReadsScript old.script new.script script) where
   -- each line is answered as by what reading the file from scratch gives
-  as_from_scratch : (lines : List (List ℕ)) (printed : List Printed) → LineSteps start lines printed end
+  pub as_from_scratch : (lines : List (List ℕ)) (printed : List Printed) → LineSteps start lines printed end
       → ScratchSteps LineStep options.reading options.limits on_disk (saved start) lines printed (saved end)
   as_from_scratch lines printed steps = scratch LineStep (line_keeps stay) options.reading options.limits on_disk start end lines printed loaded.cut loaded.reading_is loaded.limits_are loaded.place_is steps
 
-  pub runs_through : (refused : ℕ) → (text : List ℕ) × RunsWhole start script options.stop text refused end × Takes old.answers new.answers text
+  unfoldable pub runs_through : (refused : ℕ) → (text : List ℕ) × RunsWhole start script options.stop text refused end × Takes old.answers new.answers text
       → RunsThrough on_disk options old new refused end
   runs_through refused (text, lines, printed) =
       record {

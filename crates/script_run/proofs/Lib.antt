@@ -9,3 +9,4 @@ pub mod FullAnswerLemmas
 pub mod SessionRunLemmas
 pub mod SessionEndLemmas
 pub mod ReadAsLemmas
+pub mod InPlaceLemmas

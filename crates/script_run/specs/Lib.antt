@@ -8,5 +8,6 @@ pub mod Telling
 pub mod Sessions
 pub mod OnDisk
 pub mod Input
+pub mod InPlace
 pub mod NextLine
 pub mod SessionLineRuns

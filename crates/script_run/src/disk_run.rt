@@ -24,7 +24,7 @@ impl DiskRun {
     }
 }
 
-fn close_volume(volume: Result<Bench, PassFault>) {
+pub(crate) fn close_volume(volume: Result<Bench, PassFault>) {
     match volume {
         Ok(bench) => bench.close(),
         Err(_refused) => {}

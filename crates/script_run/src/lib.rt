@@ -4,7 +4,8 @@
 //! answers the lines of a reader one by one, with an empty line behind each answer, and saves at a
 //! line `save`. Both answer by
 //! [`RunEnd`], which is the whole report of a run. [`run_on_disk`] and [`session_on_disk`] do the
-//! same over a file whose bytes stay on disk, and give the volume back beside the end. They take
+//! same over a file whose bytes stay on disk, and give the volume back beside the end.
+//! [`run_in_place`] and [`run_on_disk_in_place`] repair FILE itself behind the last line. They take
 //! memory for the volume and for lines, and tell want of it as L16, P03 or E11; to print a reply
 //! takes none. Lines count from 1, those that print nothing too; traces count from 1.
 #![tactic(auto)]
@@ -12,6 +13,7 @@
 mod answering;
 mod disk_run;
 mod held_line;
+mod in_place;
 mod laws;
 mod line_input;
 mod line_read;
@@ -29,6 +31,7 @@ mod whole_run;
 mod whole_session;
 
 pub use crate::disk_run::DiskRun;
+pub use crate::in_place::{DiskRepairRun, RepairRun, run_in_place, run_on_disk_in_place};
 pub use crate::laws::{
     lines_are_edits, lines_from_scratch, out_is_last_save, reloads_as_saved, session_is_run,
 };

@@ -147,11 +147,7 @@ fn floats_of(bench: &Bench, query: &Query) -> Option<FloatFormat>
 }
 
 // What is printed for the reply to a query.
-fn shown_reply(
-    alloc: Global,
-    floats: Option<FloatFormat>,
-    reply: Result<Answer, AskFault>,
-) -> Reply
+fn shown_reply(alloc: Global, floats: Option<FloatFormat>, reply: Result<Answer, AskFault>) -> Reply
     ensures { IsPrintedOf floats reply (printed_of result) }
 {
     let Some(format) = floats else {

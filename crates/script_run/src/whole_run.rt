@@ -111,6 +111,7 @@ pub(crate) fn load<R: Read>(
     ensures ok { IfOk result (λ bench. Loads (device_of R.remaining reader.old)
         (device_of R.remaining reader.new) options.reading options.limits false
         bench.state) }
+    ensures loaded { IfOk result (λ bench. bench.loaded ≡ bytes_of bench.state.volume) }
     ensures err { IfErr result
         (λ fault. IsLoadRefused (device_of R.remaining reader.old)
         (device_of R.remaining reader.new) options.reading options.limits fault) }

@@ -10,6 +10,8 @@ mod header_tests;
 #[cfg(test)]
 mod hint_tests;
 #[cfg(test)]
+mod in_place_tests;
+#[cfg(test)]
 mod run_tests;
 #[cfg(test)]
 mod session_tests;

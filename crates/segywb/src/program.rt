@@ -1,19 +1,24 @@
 // From the command line to the exit status.
-ghost use Rattle.std.specs.Prelude.{◌≡◌, ◌≤◌, ◌&&◌, ◌||◌, not, IfSome, is_some, unwrap_or};
+ghost use Rattle.std.specs.Prelude.{◌≡◌, ◌≤◌, ◌&&◌, ◌||◌, not, length, IfSome, is_some, unwrap_or};
 ghost use Rattle.command_line.specs.CommandLine.{usual_limit};
 
 use command_line::{Arguments, arguments};
 use device_io::{Sink, Source};
 use frame_cut::{Limits, LoadFault};
+use journal_codes::PIECE_ROOM;
+use journal_save::Disk;
 use run_ending::{
-    OutPlace, Target, finish, finish_told, misuse, reading_of, refused_out, target_of,
-    tell_how_to_begin,
+    OutPlace, Target, disk_of, finish, finish_in_place, finish_told, journal_refusal, misuse,
+    reading_of, recover_file, refused_out, target_of, tell_how_to_begin,
 };
 use safe_save::{
     BoundedFile, Original, Save, answers_limit, hold_standard_streams, keep_from_clearing,
 };
 use script_hints::Notes;
-use script_run::{Options, RunEnd, refuse_load, run, run_on_disk, session, session_on_disk};
+use script_run::{
+    Options, RepairRun, RunEnd, refuse_load, run, run_in_place, run_on_disk, run_on_disk_in_place,
+    session, session_on_disk,
+};
 use std::fs::{File, Metadata, OpenFile};
 use std::io::{BufWriter, Read, Write};
 use std::rt::{Clock, Env, Files};
@@ -65,7 +70,7 @@ pub fn status_of<R: Files<File = File> + Env + Clock + AllocGlobal + Print + Epr
         return 2;
     };
     match arguments(rt.alloc(), words.as_slice()) {
-        Ok(arguments) if is_typed && arguments.script.is_none() && !arguments.session => {
+        Ok(arguments) if is_typed && is_without_lines(&arguments) => {
             tell_how_to_begin(rt, arguments.file);
             2
         }
@@ -76,6 +81,11 @@ pub fn status_of<R: Files<File = File> + Env + Clock + AllocGlobal + Print + Epr
             2
         }
     }
+}
+
+// Whether the command line asks for nothing yet.
+fn is_without_lines(arguments: &Arguments) -> bool {
+    arguments.script.is_none() && !arguments.session && !arguments.recover
 }
 
 // The words of the command line, the program's name first.
@@ -98,35 +108,76 @@ fn open_and_run<'a, R: Files<File = File> + Clock + AllocGlobal + Print + Eprint
         let _ = eprintln!(rt; "segywb: {text}");
         return 2;
     }
+    if arguments.recover {
+        return recover_file(rt, arguments);
+    }
     let _kept = kept_files(rt, arguments);
     let (file, about) = match opened(rt, arguments.file) {
         Ok(opened) => opened,
         Err(status) => return status,
     };
     let original = original_of(rt, arguments, &about);
-    // What is no regular file, as a pipe, gives its bytes but once.
-    if arguments.on_disk && original.is_none() {
-        let name = arguments.file;
-        let _ = eprintln!(rt; "segywb: --on-disk needs a file on disk, and {name} is none");
-        return 3;
+    if let Some(status) = file_refusal(rt, arguments, original, &file) {
+        return status;
     }
     let lines = match lines_of(rt, arguments) {
         Ok(lines) => lines,
         Err(status) => return status,
     };
     let bytes = about.len();
+    let is_large = original.is_some() && bytes > limit_of(arguments, false);
+    let volume = volume_of(arguments, file, bytes);
+    match lines {
+        Some(lines) if arguments.in_place => {
+            repair(rt, arguments, original, is_large, volume, lines)
+        }
+        lines => open_out_and_run(rt, arguments, original, is_large, volume, lines),
+    }
+}
+
+// Opens the folder of the save, and runs the script or the session.
+fn open_out_and_run<'a, R: Files<File = File> + Clock + AllocGlobal + Print + Eprint + Input>(
+    rt: &'a R,
+    arguments: &Arguments<'a>,
+    original: Option<Original<'a>>,
+    is_large: bool,
+    volume: Volume<R::File>,
+    lines: Option<Lines<R::File>>,
+) -> u8
+    requires { IfSome arguments.now.max_bytes (λ n. n ≤ 1099511627776) }
+{
     let target = match target_of(rt, arguments, original) {
         Ok(target) => target,
         Err(refusal) => return refused_out(rt, arguments.out.unwrap_or(""), &refusal),
     };
-    if original.is_some() && bytes > limit_of(arguments, false) {
+    if is_large {
         return too_large(rt, arguments);
     }
-    let volume = volume_of(arguments, file, bytes);
     match lines {
         Some(lines) => run_to(rt, arguments, original, volume, lines, target),
         None => session_over(rt, arguments, original, volume),
     }
+}
+
+// Refuses, before it is read, a FILE that is none on disk where one is needed, since a pipe gives
+// its bytes but once; and one beside which a journal stands.
+fn file_refusal<R: Files<File = File> + AllocGlobal + Eprint>(
+    rt: &R,
+    arguments: &Arguments,
+    original: Option<Original>,
+    file: &File,
+) -> Option<u8> {
+    if original.is_some() {
+        return journal_refusal(rt, arguments, file);
+    }
+    let option = match (arguments.on_disk, arguments.in_place) {
+        (false, false) => return None,
+        (true, _) => "--on-disk",
+        (false, true) => "--in-place",
+    };
+    let name = arguments.file;
+    let _ = eprintln!(rt; "segywb: {option} needs a file on disk, and {name} is none");
+    Some(3)
 }
 
 // FILE, open, and what is known of it; where it cannot be opened or looked at, the exit status.
@@ -159,7 +210,8 @@ fn volume_of(arguments: &Arguments, file: File, bytes: u64) -> Volume<File> {
 // What a save of this run is not to take for a file that an earlier one left: FILE and SCRIPT, and
 // what the standard streams are.
 fn kept_files<R: Files<File = File>>(rt: &R, arguments: &Arguments) -> [Option<File>; 5] {
-    if arguments.out.is_none() {
+    // A repair of FILE itself takes no file away, and locks FILE alone.
+    if arguments.out.is_none() || arguments.in_place {
         return [None, None, None, None, None];
     }
     [
@@ -178,7 +230,7 @@ fn original_of<'a, R: Files + Clock>(
     about: &Metadata,
 ) -> Option<Original<'a>> {
     let original = Original::new(arguments.file, about)?;
-    if arguments.out.is_some() {
+    if arguments.out.is_some() || arguments.in_place {
         Some(original.watched(rt))
     } else {
         Some(original)
@@ -238,6 +290,88 @@ fn session_over<'a, R: Files<File = File> + Clock + AllocGlobal + Print + Eprint
         }
     };
     finish_told(rt, arguments, place.original(), end)
+}
+
+// Runs the script over the file, and repairs FILE itself.
+fn repair<'a, R: Files<File = File> + AllocGlobal + Print + Eprint + Input>(
+    rt: &'a R,
+    arguments: &Arguments<'a>,
+    original: Option<Original<'a>>,
+    is_large: bool,
+    volume: Volume<R::File>,
+    lines: Lines<R::File>,
+) -> u8
+    requires { IfSome arguments.now.max_bytes (λ n. n ≤ 1099511627776) }
+{
+    let mut disk = match disk_of(rt, arguments, original) {
+        Ok(disk) => disk,
+        Err(status) => return status,
+    };
+    if is_large {
+        return too_large(rt, arguments);
+    }
+    let mut room = Vec::new(rt.alloc());
+    if room.resize(PIECE_ROOM, 0).is_err() {
+        let _ = eprintln!(rt; "segywb: out of memory");
+        return 4;
+    }
+    let mut notes = Notes::new();
+    let options = options(arguments, false);
+    let room = room.as_mut_slice();
+    let run = match lines {
+        Lines::File(file) => {
+            let script = &mut Source::new(file);
+            repaired(rt, volume, script, &mut disk, room, options, &mut notes)
+        }
+        Lines::Standard => {
+            let script = &mut Source::new(rt.reader());
+            repaired(rt, volume, script, &mut disk, room, options, &mut notes)
+        }
+    };
+    finish_in_place(
+        rt,
+        arguments,
+        original,
+        run.end,
+        run.repaired,
+        disk.is_stale(),
+        disk.journal(),
+        &notes,
+    )
+}
+
+// Answers the lines of a script on standard output, and repairs the disk behind them.
+fn repaired<R: Files<File = File> + AllocGlobal + Print, S: Read, D: Disk>(
+    rt: &R,
+    volume: Volume<R::File>,
+    script: &mut Source<S>,
+    disk: &mut D,
+    room: &mut [u8],
+    options: Options,
+    notes: &mut Notes,
+) -> RepairRun
+    requires { length room.old ≡ PIECE_ROOM }
+{
+    let answers = &mut Sink::new(BoundedFile::new(io::writer(rt), answers_limit(rt)));
+    let alloc = rt.alloc();
+    match volume {
+        Volume::Memory(mut volume) => {
+            run_in_place(
+                alloc,
+                &mut volume,
+                script,
+                answers,
+                disk,
+                room,
+                options,
+                notes,
+            )
+        }
+        Volume::Disk(file, bytes) => run_on_disk_in_place(
+            alloc, file, bytes, script, answers, disk, room, options, notes,
+        )
+        .close(),
+    }
 }
 
 // Runs the script over the file, and saves to the target.
@@ -367,13 +501,14 @@ fn options(arguments: &Arguments, is_one_limit: bool) -> Options
     ensures reading { result.reading ≡ record {
       fixed = arguments.now.fixed;
       opaque = arguments.now.opaque;
+      floats = arguments.now.floats;
       order = arguments.now.order;
     } }
     ensures bytes { result.limits.bytes ≡ unwrap_or arguments.now.max_bytes
         (usual_limit (arguments.now.on_disk || is_one_limit)) }
     ensures traces { result.limits.traces ≡ 4294967295 }
     ensures stop { result.stop ≡ arguments.now.stop }
-    ensures save { result.save ≡ (is_some arguments.now.out
+    ensures save { result.save ≡ ((is_some arguments.now.out || arguments.now.in_place)
         && (not arguments.now.session || arguments.now.save_at_end)) }
 {
     let limits = match Limits::new(limit_of(arguments, is_one_limit), u32::MAX) {
@@ -384,6 +519,7 @@ fn options(arguments: &Arguments, is_one_limit: bool) -> Options
         reading: reading_of(arguments),
         limits,
         stop: arguments.stop,
-        save: arguments.out.is_some() && (!arguments.session || arguments.save_at_end),
+        save: (arguments.out.is_some() || arguments.in_place)
+            && (!arguments.session || arguments.save_at_end),
     }
 }

@@ -116,9 +116,9 @@ impl Layers {
         }
     }
 
-    // The extent of the loaded file under the runs, if they lie over one.
+    /// The extent of the loaded file under the runs, if they lie over one.
     #[inline]
-    fn extent(&self) -> Option<Extent>
+    pub fn extent(&self) -> Option<Extent>
         ensures { result ≡ extent_of self.now.base }
     {
         match &self.kind {
@@ -144,9 +144,9 @@ impl Layers {
         }
     }
 
-    // The runs.
+    /// The runs that edits laid over it.
     #[inline]
-    pub(crate) fn runs(&self) -> &[Run]
+    pub fn runs(&self) -> &[Run]
         ensures { result.now ≡ self.now.runs }
     {
         self.kind.runs()

@@ -1,7 +1,7 @@
 // The arguments of the command line, one by one.
 ghost use Rattle.std.specs.Prelude.{◌≡◌, false};
 ghost use Rattle.clap.specs.Words.{rule_of};
-ghost use Rattle.command_line.specs.CommandLine.{file_rule, script_rule, out_rule, in_place_rule, on_disk_rule, fixed_rule, floats_rule, opaque_rule, order_rule, limit_rule, stop_rule, session_rule, save_at_end_rule, quiet_rule};
+ghost use Rattle.command_line.specs.CommandLine.{file_rule, script_rule, out_rule, in_place_rule, on_disk_rule, fixed_rule, floats_rule, opaque_rule, order_rule, limit_rule, stop_rule, session_rule, save_at_end_rule, quiet_rule, recover_rule};
 
 use clap::builder::ValueParser;
 use clap::{Arg, ArgAction};
@@ -13,7 +13,8 @@ pub fn file<'a>(alloc: Global) -> Arg<'a>
     ensures local { result.global ≡ false }
 {
     Arg::new(alloc, "FILE").required(true).help(
-        "SEG-Y file of integers, or with --floats, --opaque-samples; in memory, but for --on-disk",
+        "SEG-Y file of integers, or with --floats or --opaque-samples; in memory, but for \
+         --on-disk",
     )
 }
 
@@ -38,7 +39,7 @@ pub fn out<'a>(alloc: Global) -> Arg<'a>
     )
 }
 
-// `--in-place`: the save goes to the file OUT itself.
+// `--in-place`: FILE itself becomes the edited file.
 pub fn in_place<'a>(alloc: Global) -> Arg<'a>
     ensures rule { rule_of result ≡ in_place_rule }
     ensures local { result.global ≡ false }
@@ -46,7 +47,7 @@ pub fn in_place<'a>(alloc: Global) -> Arg<'a>
     Arg::new(alloc, "in-place")
         .long("in-place")
         .action(ArgAction::SetTrue)
-        .help("write over OUT itself; a save that fails then leaves a part of the file")
+        .help("repair FILE itself: only changed bytes are written, and a crash loses nothing")
 }
 
 // `--on-disk`: the bytes of the file stay on disk.
@@ -168,4 +169,15 @@ pub fn quiet<'a>(alloc: Global) -> Arg<'a>
         .long("quiet")
         .action(ArgAction::SetTrue)
         .help("leave out the places and hints that standard error has for refused lines")
+}
+
+// `--recover`: a repair of the file itself that was cut off is undone.
+pub fn recover<'a>(alloc: Global) -> Arg<'a>
+    ensures rule { rule_of result ≡ recover_rule }
+    ensures local { result.global ≡ false }
+{
+    Arg::new(alloc, "recover")
+        .long("recover")
+        .action(ArgAction::SetTrue)
+        .help("put the old bytes back where a repair by --in-place was cut off")
 }

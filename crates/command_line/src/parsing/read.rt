@@ -9,7 +9,7 @@ pub struct Arguments<'a> {
     pub script: Option<&'a str>,
     /// The path of the file to save to.
     pub out: Option<&'a str>,
-    /// Whether the save goes to the file itself, and not beside it.
+    /// Whether the file to load itself is to become the edited one.
     pub in_place: bool,
     /// Whether the bytes of the file stay on disk.
     pub on_disk: bool,
@@ -31,4 +31,6 @@ pub struct Arguments<'a> {
     pub save_at_end: bool,
     /// Whether standard error is not told of refused lines.
     pub quiet: bool,
+    /// Whether a repair of the file itself that was cut off is to be undone.
+    pub recover: bool,
 }

@@ -79,6 +79,12 @@ returns-in-Some-read_matches-clause-quiet c =
     let same = sym (ap (first_of (codes "quiet")) (sym rows) ∙ first_of-rows_of (found_of c.in_ok-matches.matches) (codes "quiet")) in
     c.in-Some-read_matches.ensures.quiet ∙ ap is_set same
 
+pub returns-in-Some-read_matches-clause-recover : goal.returns-in-Some-read_matches-clause-recover
+returns-in-Some-read_matches-clause-recover c =
+    let rows = rows_are _ _ c.in_ok-matches.matches c.in_ok-command.ensures c.in_ok-matches.ensures.ok.2 in
+    let same = sym (ap (first_of (codes "recover")) (sym rows) ∙ first_of-rows_of (found_of c.in_ok-matches.matches) (codes "recover")) in
+    c.in-Some-read_matches.ensures.recover ∙ ap is_set same
+
 pub returns-in-Some-read_matches-clause-order : goal.returns-in-Some-read_matches-clause-order
 returns-in-Some-read_matches-clause-order c =
     let rows = rows_are _ _ c.in_ok-matches.matches c.in_ok-command.ensures c.in_ok-matches.ensures.ok.2 in

@@ -1,0 +1,3 @@
+pub mod LaidLemmas
+pub mod RunLemmas
+pub mod Law

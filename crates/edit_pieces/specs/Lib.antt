@@ -1,0 +1,9 @@
+pub mod Changes
+pub mod InPlace
+pub mod Pieces
+pub mod Spans
+pub mod RunsLeft
+pub mod Walks
+pub mod PiecesLeft
+pub mod Told
+pub mod Examples

@@ -1,0 +1,26 @@
+//! What the edits of a volume changed of its loaded file, as pieces that a save writes into the
+//! file itself: only the bytes that changed are written.
+//!
+//! [`edits_of`] tells whether the edits left the order, the number and the lengths of the traces as
+//! they were, and is refused where they did not: an [`Unfit`] says which trace is the first that is
+//! not at its place. Where they did, [`VolumeEdits`] are the pieces, walked as
+//! `journal_save::Edits`: the textual and the binary header where they differ from the loaded ones,
+//! and then for each trace the runs of bytes that lie over it. Laid over the loaded bytes they give
+//! the bytes of the volume: that is the law of the crate.
+//!
+//! [`Repaired`] says how a repair ended.
+//!
+//! No call takes memory, reads the file or looks at a trace: runs and headers are in memory. Traces
+//! count from 1, bytes from 0 in the file.
+#![tactic(auto)]
+
+mod change;
+mod in_place;
+mod repaired;
+mod runs_walk;
+mod unfit;
+mod volume_edits;
+
+pub use crate::repaired::Repaired;
+pub use crate::unfit::Unfit;
+pub use crate::volume_edits::{VolumeEdits, edits_of, edits_over};

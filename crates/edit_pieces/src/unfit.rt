@@ -1,0 +1,18 @@
+use thiserror::Error;
+
+/// Why the edits of a volume cannot be written into its file. Traces count from 1.
+#[derive(Clone, Copy, Debug, PartialEq, Eq, Error)]
+pub enum Unfit {
+    /// This trace is the first that is not at its place, and it lies over bytes of its own: it was
+    /// inserted, copied or resized.
+    #[error("trace {0} has bytes of its own")]
+    NewTrace(u32),
+    /// This trace is the first that is not at its place, and it lies over a part of the file that
+    /// starts elsewhere: it was moved or sorted, or one before it was deleted.
+    #[error("trace {0} lies at another place of the file")]
+    OtherPlace(u32),
+    /// Each trace is at its place, but the last one does not end where the file's traces do: traces
+    /// at the end were deleted.
+    #[error("the file has more traces")]
+    Fewer,
+}

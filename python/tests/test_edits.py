@@ -337,12 +337,6 @@ def test_save_that_finds_another_file(fake, opened, tmp_path):
     assert volume.edits == ["set 1 inline 7"]
 
 
-def test_save_in_place(fake, opened, tmp_path):
-    fake(saves("", "saved 6600", 0))
-    opened("cube", fixed=True, max_bytes=9000).save(tmp_path / "o.sgy", in_place=True)
-    assert (tmp_path / "o.sgy").read_text() == f"--fixed --max-bytes 9000 --out {tmp_path / 'o.sgy'} --in-place --stop"
-
-
 def test_save_of_a_file_that_was_changed(opened, tmp_path):
     volume = opened("cube")
     volume.set(1, "inline", 7)

@@ -246,6 +246,12 @@ except ImportError as error:
     assert "pandas" in str(error)
 else:
     raise SystemExit("a table without pandas")
+try:
+    volume.fit()
+except ImportError as error:
+    assert "a fit needs numpy" in str(error)
+else:
+    raise SystemExit("a fit without numpy")
 floats = segywb.open(sys.argv[2])
 if floats.has_floats:
     assert floats.samples(1) == [1.375, 5.125, -12.625, 3.625, 0.0] and floats.sample(6, 2) == 1.0000000200408773e20

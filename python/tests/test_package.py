@@ -88,11 +88,14 @@ def test_types(tmp_path):
 
 
 @pytest.mark.parametrize("name", MODULES)
-def test_examples_of_modules(name):
+def test_examples_of_modules(name, monkeypatch):
+    """In a folder with the example files, as the examples of the documents."""
+    monkeypatch.chdir(TOP / "examples")
     assert doctest.testmod(importlib.import_module(f"segywb.{name}")).failed == 0
 
 
-def test_modules_have_examples():
+def test_modules_have_examples(monkeypatch):
+    monkeypatch.chdir(TOP / "examples")
     found = [doctest.testmod(importlib.import_module(f"segywb.{name}")).attempted for name in MODULES]
     assert sum(found) > 15
 

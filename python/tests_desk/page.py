@@ -124,6 +124,28 @@ class Page:
         chain.perform()
         self.wait(lambda: self.find("offers").is_displayed())
 
+    def brush(self, start, end, axis="yaxis"):
+        """Draws a rectangle on the graph from one place to another, each a number to the right and one upwards on this axis."""
+        self.js("document.getElementById('graph').scrollIntoView({block: 'center'})")
+        place = f"const gd = document.getElementById('plot-graph'); const {{xaxis: x, {axis}: y}} = gd._fullLayout; const room = gd.getBoundingClientRect();"
+        at = [self.js(f"{place} return [room.left + x._offset + x.d2p(arguments[0]), room.top + y._offset + y.d2p(arguments[1])]", *one) for one in (start, end)]
+        (x0, y0), (x1, y1) = [(round(x), round(y)) for x, y in at]
+        chain = ActionChains(self.browser)
+        chain.w3c_actions.pointer_action.move_to_location(x0, y0)
+        chain.w3c_actions.pointer_action.pointer_down()
+        chain.w3c_actions.pointer_action.move_to_location((x0 + x1) // 2, (y0 + y1) // 2)
+        chain.w3c_actions.pointer_action.move_to_location(x1, y1)
+        chain.w3c_actions.pointer_action.pointer_up()
+        chain.perform()
+
+    def press(self, selector):
+        """Clicks on an element by the page itself, also where it is out of sight."""
+        self.js("document.querySelector(arguments[0]).click()", selector)
+
+    def graph(self):
+        """The fields of the graph with their numbers, and the numbers of their traces."""
+        return self.js("return document.getElementById('plot-graph').data.map(({name, x, y}) => [name || '', x, y])")
+
     def hovered(self, row, column, text):
         """Waits until the pointer over a cell tells this; it is moved now and then."""
 

@@ -13,18 +13,21 @@ import numpy as np
 import pytest
 from conftest import HERE, SOURCES, TOP
 
+import segywb
+
 from segywb.desk import bundles, faults, maps, mirror, places, views
 from segywb.desk.desk import Desk
 
-MODULES = ("bundles", "cli", "desk", "faults", "guard", "maps", "marks", "mirror", "places", "refusals", "saving", "server", "views", "words")
+MODULES = ("bundles", "cli", "desk", "faults", "fieldmaps", "graphs", "guard", "maps", "marks", "mirror", "places", "refusals", "saving", "server", "tables", "views", "words")
 NAMES = ["inline", "crossline", "x", "y", "scalar"]
+MORE = ["delay", "cdp", "@1:8", "trace_code"]  # fields that are shown: by a name of the program's own, of Seismic Unix, by a place
 
 
 @pytest.fixture
 def desk(tmp_path):
     made = Desk(str(files.cube(tmp_path / "cube.sgy", 4, 5)))
     made.load()
-    made.widen(mirror.PLACES)
+    made.widen([*mirror.PLACES, *MORE])
     yield made
     made.close()
 
@@ -32,9 +35,10 @@ def desk(tmp_path):
 def sound(desk):
     """The columns are those of a fresh reading, and the cells those of ``grid``."""
     shot = desk.now()
-    fresh = desk.volume.headers(*NAMES)
-    assert len(shot.mirror) == len(desk.volume)
-    for name in NAMES:
+    names = list(shot.mirror.columns)
+    fresh = desk.volume.headers(*names)
+    assert len(shot.mirror) == len(desk.volume) and set(names) >= set(NAMES)
+    for name in names:
         assert shot.mirror.columns[name].tolist() == fresh[name].tolist(), name
     view = views.fold(desk, views.Window((500, 400), False))
     cells = [(view["down"]["first"][at], view["right"]["first"][up], int(fold)) for at, row in enumerate(view["now"]) for up, fold in enumerate(row) if fold]
@@ -89,6 +93,8 @@ def test_random_edits(desk, seed):
         assert "refused" not in str(told), told
         shot = sound(desk)
         assert not shot.mirror.origin.any() or len(set(shot.mirror.origin[shot.mirror.origin > 0].tolist())) == np.count_nonzero(shot.mirror.origin)
+        desk.widen(MORE)
+        assert set(sound(desk).mirror.columns) == {*NAMES, *MORE}
         if chance.random() < 0.4:
             desk.undo()
             sound(desk)
@@ -118,6 +124,44 @@ def test_slices(desk, seed):
 def test_names_of_traces(desk):
     desk.run_script("delete 20\ndelete 3\ndelete 2\nblank 1\nmove 2 4\ncopy 5 1")
     assert sound(desk).mirror.origin.tolist() == [0, 0, 4, 5, 1, *range(6, 20)]
+
+
+def test_fields_that_are_bound_and_left_out(desk):
+    """A further field is followed where its name is bound elsewhere, and left out where nothing has the name any more."""
+    desk.run("map shot @17:4")
+    desk.widen(["shot", "source_point"])
+    desk.run("renumber 1 20 @17:2 1 1")
+    assert sound(desk).mirror.columns["shot"][:2].tolist() == [65536, 131072]
+    desk.run_script("set 3 delay 7\nmap shot @109:2")
+    assert sound(desk).mirror.columns["shot"][:4].tolist() == [0, 0, 7, 0]
+    desk.run("unmap shot")
+    assert "shot" not in sound(desk).mirror.columns
+    desk.undo()
+    assert sound(desk).mirror.columns["shot"][2] == 7
+    with pytest.raises(segywb.Refused):
+        desk.widen(["colour"])
+    sound(desk)
+
+
+def test_further_fields_are_few(desk):
+    names = [f"@{byte}:4" for byte in range(1, 41, 4)]
+    for name in names:
+        desk.widen([name])
+        assert name in desk.now().mirror.columns
+    assert len(desk.now().mirror.columns) <= len(NAMES) + mirror.MOST_MORE
+
+
+def test_fields_of_an_extension(tmp_path):
+    """Also where one of the six lies there, and where an edit changes the number of samples."""
+    made = Desk(str(files.extended(tmp_path / "extended.sgy")))
+    made.load()
+    made.run("map x @1.9:4")
+    made.widen([*mirror.PLACES, "ext_samples", "samples", "@1.17:4"])
+    for line in ("set 2 @1.9:4 -77", "set 1 @1.20:2 5", "resize 2 5", "set 1 @1.7:4 9", "copy 2 1", "resize 1 1"):
+        assert made.run(line)["answers"][0]["text"] == "ok", line
+        sound(made)
+    assert made.now().mirror.columns["x"].tolist()[2] == -77 and made.now().mirror.columns["samples"].tolist() == [1, 2, 5]
+    made.close()
 
 
 def test_very_many_moves(desk):

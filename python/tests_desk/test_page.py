@@ -84,6 +84,7 @@ def test_undo_and_redo(opened):
     ("renumber", ["renumber 1 2 inline 101 0", "renumber 5 6 inline 101 0"]),
     ("set", ["set 1 inline 101", "set 2 inline 101", "set 5 inline 101", "set 6 inline 101"]),
     ("delete", ["delete 6", "delete 5", "delete 2", "delete 1"]),
+    ("compute", ["compute 1 2 inline inline + 0", "compute 5 6 inline inline + 0"]),
 ])
 def test_a_rectangle(opened, what, wanted):
     page = opened("wrong_line")
@@ -318,4 +319,12 @@ def test_width_and_pictures(opened, scheme, tmp_path):
     page.tab("edits")
     page.wait(lambda: page.text("steps") == "renumber 441 480 inline 112 0")
     picture("positions")
+    page.run("compute 500 530 x x + 6000")
+    page.map_tab("field")
+    page.press("#graph .to-right")
+    page.wait(lambda: page.data("graphVersion") == page.data("version") and "the farthest is trace" in page.text("caption"))
+    page.find("graph-field").send_keys("x", Keys.ENTER)
+    page.wait(lambda: len(page.graph()) == 3 and page.graph()[2][0] == "x")
+    picture("graph")
+    page.js("localStorage.clear()")
     page.browser.execute_cdp_cmd("Emulation.clearDeviceMetricsOverride", {})

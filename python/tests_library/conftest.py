@@ -182,7 +182,9 @@ def few(tmp_path):
     """A folder with the example files."""
     folder = tmp_path / "files"
     folder.mkdir()
-    for path in (TOP / "examples").glob("*.sgy"):
+    for path in sorted((TOP / "examples").glob("*.sgy")):
+        if path.name == "wrong_floats.sgy":
+            continue  # the twelve of integers
         (folder / path.name).write_bytes(path.read_bytes())
     settle()
     return folder

@@ -6,28 +6,34 @@ from typing import Optional
 
 from . import tools
 from .answers import Answer, Extremes, Fault, FloatStatistics, FloatTotals, Geometry, Info, Stanza, Statistics
+from .csvs import CsvImport
 from .errors import (
     Closed,
+    CsvRefused,
     Error,
     FileChanged,
+    FitRefused,
     LoadRefused,
     OptionRefused,
     PathRefused,
     ProgramEnded,
     ProgramNotFound,
     Refused,
+    RepairCutOff,
     SaveFailed,
 )
 from .fields import BinField, TraceField
+from .fitting import Fit
 from .grids import Grid, Slice
+from .repairs import Recovered, recover
 from .volume import Path, Volume
 
 __version__ = "0.1.0"
 
 __all__ = [
-    "Answer", "BinField", "Closed", "Error", "Extremes", "Fault", "FileChanged", "FloatStatistics", "FloatTotals", "Geometry", "Grid", "Info", "LoadRefused",
-    "OptionRefused", "PathRefused", "ProgramEnded", "ProgramNotFound", "Refused", "SaveFailed", "Slice", "Stanza", "Statistics",
-    "TraceField", "Volume", "open", "tools",
+    "Answer", "BinField", "Closed", "CsvImport", "CsvRefused", "Error", "Extremes", "Fault", "FileChanged", "Fit", "FitRefused", "FloatStatistics",
+    "FloatTotals", "Geometry", "Grid", "Info", "LoadRefused", "OptionRefused", "PathRefused", "ProgramEnded", "ProgramNotFound", "Recovered", "Refused",
+    "RepairCutOff", "SaveFailed", "Slice", "Stanza", "Statistics", "TraceField", "Volume", "open", "recover", "tools",
 ]
 
 

@@ -13,12 +13,11 @@ from .answers import Answer, unexpected
 from .errors import Closed, FileChanged, LoadRefused, OptionRefused, PathRefused, ProgramEnded, Refused, SaveFailed
 from .history import History, Step
 from .lines import decode, payload, silent
+from .repairs import CHANGED, UNSETTLED, repair
 from .session import Answers, Batch, Session
 from .stream import split
 
 BATCH_LINES = 1 << 14
-CHANGED = "segywb: FILE was changed by another program"
-UNSETTLED = "segywb: saved, but a power cut may undo it"
 
 
 def batches(lines: Sequence[bytes]) -> Iterator[Batch]:
@@ -244,7 +243,19 @@ class Engine:
 
     # ---- the save
 
-    def save(self, path: str, replace: bool, in_place: bool) -> None:
+    def repair(self) -> None:
+        """Writes the changed bytes into the file itself, by a run of its own over the file that was opened."""
+        with self._lock:
+            self._open()
+            self._unchanged()
+            told = repair(self.path, self.options, self.history.sent().sent)
+            if "--on-disk" in self.options:
+                self.forget()  # the bytes under it are others now
+            self._settle(self.path, False)
+            if told:
+                warnings.warn(told, stacklevel=3)
+
+    def save(self, path: str, replace: bool) -> None:
         """Writes the edited file, by a session of its own over the file that was opened."""
         out = os.path.abspath(path)
         with self._lock:
@@ -253,17 +264,17 @@ class Engine:
             if _is_file(out) and not replace:
                 raise FileExistsError(f"{out} is there: save(.., replace=True) writes over it")
             linked = _same(out, self.path)
-            told = self._write(out, ["--in-place"] if in_place else [])
+            told = self._write(out)
             self._settle(out, linked)
             if told:
                 warnings.warn(told, stacklevel=3)
 
-    def _write(self, out: str, words: Sequence[str]) -> str:
+    def _write(self, out: str) -> str:
         """Saves by the word ``save``: where this process dies before the whole of it was sent, nothing is saved. What the program told."""
         failed = f"the save of {out} failed"
         session: Optional[Session] = None
         try:
-            session = self._start(self.history, ["--out", out, *words, "--stop"])
+            session = self._start(self.history, ["--out", out, "--stop"])
             answer = decode(session.exchange(b"save\n", 1)[0])
             status, left, told = session.finish()
         except (LoadRefused, OptionRefused):

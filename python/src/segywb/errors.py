@@ -132,6 +132,22 @@ class SaveFailed(ProgramEnded):
     """The save failed. ``stderr`` is the program's own text, ``status`` its exit status."""
 
 
+class RepairCutOff(Error):
+    """A repair of the file itself was cut off: the file is neither the old one nor the edited one. ``segywb.recover(path)`` puts the old bytes back.
+
+    >>> print(RepairCutOff("line.sgy", ""))
+    line.sgy: an earlier repair was cut off; segywb.recover('line.sgy') puts the old bytes back
+    """
+
+    def __init__(self, path: str, told: str) -> None:
+        super().__init__(path, told)
+        self.path = path
+        self.told = told
+
+    def __str__(self) -> str:
+        return f"{self.path}: an earlier repair was cut off; segywb.recover({self.path!r}) puts the old bytes back"
+
+
 class FileChanged(Error):
     """The file is no longer the one that was opened, so the edits cannot be applied to it."""
 
@@ -149,6 +165,29 @@ class PathRefused(Error, ValueError):
 
 class Closed(Error):
     """The volume is closed."""
+
+
+class CsvRefused(Error, ValueError):
+    """A CSV that cannot be taken onto traces. Nothing has changed. ``why`` says what is wrong, ``line`` where it stands, ``column`` in which one.
+
+    >>> print(CsvRefused("an empty cell", 7, "x"))
+    line 7, column 'x': an empty cell
+    """
+
+    def __init__(self, why: str, line: Optional[int] = None, column: Optional[str] = None) -> None:
+        super().__init__(why, line, column)
+        self.why = why
+        self.line = line
+        self.column = column
+
+    def __str__(self) -> str:
+        where = [f"line {self.line}"] if self.line is not None else []
+        where += [f"column {self.column!r}"] if self.column is not None else []
+        return f"{', '.join(where)}: {self.why}" if where else self.why
+
+
+class FitRefused(Error, ValueError):
+    """The inlines, crosslines and coordinates of these traces tell no bin grid; the text says why."""
 
 
 def _split(answer: str) -> Tuple[str, Optional[str], str]:

@@ -3,9 +3,14 @@
 from __future__ import annotations
 
 import importlib
-from typing import Any, Optional
+import os
+from typing import Any, List, Optional
 
-from .volume import Volume
+from .lines import Field, field
+from .thinning import thinned
+from .volume import Path, Volume
+
+HEADER_PIXELS = 1200
 
 
 def _axes(axes: Any) -> Any:
@@ -78,3 +83,39 @@ def histogram(volume: Volume, axes: Any = None) -> Any:
     axes.set_ylabel("cells")
     axes.set_title("Histogram of folds")
     return axes
+
+
+def headers(volume: Volume, *fields: Field, traces: Any = None, path: Optional[Path] = None) -> List[Any]:
+    """Header fields against the number of the trace: one picture below the other, each field with its own scale. Without fields: inline and crossline.
+
+    ``traces`` as for ``Volume.headers``. Of many traces the least and the greatest number of each pixel are drawn, so that a wild one is seen.
+    With ``path`` the picture is saved there. The axes are given back, one for each field.
+    """
+    np = _numpy()
+    names = [field(one) for one in fields or ("inline", "crossline")]
+    where = np.asarray(volume._where(traces), dtype=np.int64)
+    order = np.argsort(where, kind="stable")
+    found = volume.headers(*names, traces=where[order])
+    rows = _rows(len(names), path is not None)
+    for axes, name in zip(rows, names):
+        numbers = found[name]
+        kept = thinned(numbers, HEADER_PIXELS)
+        axes.plot(where[order][kept], numbers[kept].astype("f8"), "-" if len(kept) < len(numbers) else ".-", linewidth=0.8, markersize=3)
+        axes.set_ylabel(name)
+        axes.ticklabel_format(style="plain", useOffset=False)
+        axes.grid(alpha=0.3)
+    rows[-1].set_xlabel("trace")
+    rows[0].set_title("Headers")
+    if path is not None:
+        rows[0].figure.savefig(os.fspath(path))
+    return rows
+
+
+def _rows(count: int, saved: bool) -> List[Any]:
+    """A figure with so many axes, one below the other; where it is only saved, one that no window shows."""
+    size = (9.0, max(2.2 * count, 3.0))
+    if saved:
+        figure = importlib.import_module("matplotlib.figure").Figure(figsize=size, layout="constrained")
+    else:
+        figure = importlib.import_module("matplotlib.pyplot").figure(figsize=size, layout="constrained")
+    return list(figure.subplots(count, 1, sharex=True, squeeze=False)[:, 0])

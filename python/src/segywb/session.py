@@ -11,7 +11,8 @@ import time
 from typing import IO, Generator, Iterable, Iterator, List, Optional, Sequence, Tuple
 
 from . import program
-from .errors import LoadRefused, OptionRefused, ProgramEnded, ProgramNotFound, hint_of
+from .errors import LoadRefused, OptionRefused, ProgramEnded, ProgramNotFound, RepairCutOff, hint_of
+from .repairs import CUT_OFF
 from .stream import Splitter, split
 
 PIPE_BYTES = 1 << 20
@@ -203,6 +204,8 @@ class Session:
         self.kill()
         if text.startswith("load refused "):
             return LoadRefused(text, self.path, status, hint_of(text[len("load refused "):], told))
+        if status == 3 and CUT_OFF in told:
+            return RepairCutOff(self.path, told)
         if status == 2:
             return OptionRefused("the program does not accept " + " ".join(self.words[2:]), status, told)
         if text:

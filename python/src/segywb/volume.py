@@ -7,7 +7,7 @@ from contextlib import closing
 from fractions import Fraction
 from typing import Any, Callable, Dict, Iterable, Iterator, List, Optional, Sequence, Tuple, Union
 
-from . import answers, arrays, lines, program
+from . import answers, arrays, csvs, fitting, lines, program
 from .answers import Answer, Extremes, Fault, FloatStatistics, FloatTotals, Geometry, Info, Stanza, Statistics
 from .engine import BATCH_LINES, Engine
 from .errors import ProgramEnded, Refused
@@ -161,6 +161,27 @@ class Volume:
                 yield encode("".join([f"set {one} {word} {value}\n" for one, value in some])), len(some)
 
         self._engine.edit_whole(batches())
+
+    def import_csv(self, path: Path, keys: csvs.Columns, values: csvs.Columns, dry_run: bool = False) -> csvs.CsvImport:
+        """Writes the value columns of a CSV into the traces whose headers have the numbers of its key columns, as one step: all of it or nothing.
+
+        ``v.import_csv("navigation.csv", keys=["inline", "crossline"], values=["x", "y"])``: the names are those of columns and of fields. Where
+        they differ a dictionary says so: ``keys={"IL": "inline"}``. The key ``trace`` is the position. With ``dry_run`` nothing is changed, and
+        what is told is what would change. Numbers that stand there already are not written. What is wrong with the CSV is a ``CsvRefused``.
+
+        >>> import os, segywb, tempfile
+        >>> path = os.path.join(tempfile.mkdtemp(), "x.csv")
+        >>> with open(path, "w") as file:
+        ...     _ = file.write("inline,crossline,x\\n102,202,45002525\\n109,201,7\\n")
+        >>> with segywb.open("cube.sgy") as v:
+        ...     print(v.import_csv(path, keys=["inline", "crossline"], values=["x"], dry_run=True))
+        2 rows, 1 with a trace; 1 traces of 12 are meant
+        1 numbers of 1 traces would change
+          trace 6 x: 45002500 -> 45002525 (line 2)
+        1 rows whose key no trace has, first 109, 201 on line 3
+        """
+        plan = csvs.planned(self, csvs.of_file(path), keys, values)
+        return plan.told if dry_run else plan.do(self)
 
     def renumber(self, first_trace: int, last_trace: int, name: Field, first: int, step: int = 0) -> None:
         """Writes ``first``, ``first + step``, .. into the traces from ``first_trace`` to ``last_trace``, all or none."""
@@ -461,6 +482,24 @@ class Volume:
         pandas = arrays.pandas()
         return pandas.DataFrame(made, columns=list(names), index=pandas.Index(where, name="trace"))
 
+    def fit(self, traces: Any = None) -> fitting.Fit:
+        """The bin grid that fits the traces: x and y as linear functions of inline and crossline, by least squares, with the residuals of each trace.
+
+        ``traces`` as for ``headers``. Traces that lie farther from the grid than three times the middle residual are left out of the fit (``used``
+        tells which are in it) and have their residuals all the same: ``v.fit().misfit.argmax() + 1`` is the trace that lies farthest from its bin.
+        x and y are under the scalar. Where the traces tell no grid it is a ``FitRefused``, which says why: all on one line, or none with a place.
+
+        >>> import segywb
+        >>> with segywb.open("cube.sgy") as v:
+        ...     grid = v.fit()
+        >>> [round(one, 6) for one in grid.spacing], round(float(grid.misfit.max()), 6), [round(one, 3) for one in grid.at(102, 203)]
+        ([25.0, 25.0], 0.0, [450050.0, 6800025.0])
+        """
+        where = self._where(traces)
+        *numbers, scalar = self._columns(["inline", "crossline", "x", "y", "scalar"], where, [False] * 5)
+        inline, crossline, x, y = arrays.scaled([*numbers, scalar])
+        return fitting.fitted(inline, crossline, x, y, fitting.rounding(scalar), where)
+
     def stat(self, trace: int) -> Union[Statistics, FloatStatistics, None]:
         """The samples of a trace; ``None`` where it has none. Of floats the sum is exact, and rounded once."""
         line = self._one("stat", position(trace))
@@ -559,12 +598,22 @@ class Volume:
         """Does again the steps that ``undo`` took back last, and gives their lines. A new edit leaves nothing to do again."""
         return self._engine.redo(n)
 
-    def save(self, path: Path, replace: bool = False, in_place: bool = False) -> None:
-        """Writes the edited file. A file that is there is written over with ``replace`` alone; ``in_place`` is the program's option.
+    def save(self, path: Optional[Path] = None, replace: bool = False, in_place: bool = False) -> None:
+        """Writes the edited file. A file that is there is written over with ``replace`` alone.
+
+        With ``in_place`` the changed bytes alone are written into the file itself, under a journal of the old ones; edits that move, add, take away or
+        resize traces need a new file (``SaveFailed``). ``path`` may be left out then, and else has to lead to the file.
 
         Where ``path`` is the file itself, it is the file of this volume from then on: ``edits`` begins anew, with the names that ``map`` bound.
         """
-        self._engine.save(os.fspath(path), replace, in_place)
+        if not in_place:
+            if path is None:
+                raise TypeError("save needs a path, or in_place=True")
+            self._engine.save(os.fspath(path), replace)
+        elif path is None or _leads_to(path, self.path):
+            self._engine.repair()
+        else:
+            raise ValueError(f"in_place=True writes into {self.path} itself, and {os.fspath(path)} is another path")
 
     # ---- shown
 
@@ -576,10 +625,27 @@ class Volume:
         except ProgramEnded as error:
             return f"<segywb.Volume {self.path!r}, {error}>"
 
+    def plot_headers(self, *names: Field, traces: Any = None, path: Optional[Path] = None) -> List[Any]:
+        """Draws header fields against the number of the trace, by matplotlib: ``v.plot_headers("inline", "x", path="headers.png")``.
+
+        One picture below the other; of many traces the least and the greatest number of each pixel. The axes are given back, one for each field.
+        """
+        from . import pictures
+
+        return pictures.headers(self, *names, traces=traces, path=path)
+
     def _repr_html_(self) -> str:
         from .html import page
 
         return page(self)
+
+
+def _leads_to(path: Path, other: Path) -> bool:
+    """Whether both paths are of one file."""
+    try:
+        return os.path.samefile(path, other)
+    except OSError:
+        return False
 
 
 def _limit(path: Path, on_disk: bool) -> int:

@@ -221,7 +221,7 @@ class Desk:
         now = self.now()
         if all(name in now.mirror.columns for name in names):
             return self.loaded, now
-        wide = now._replace(mirror=mirror.wider(now.mirror, self.volume, names))
+        wide = now._replace(mirror=mirror.wider(mirror.narrowed(now.mirror, names), self.volume, names))
         self._keep(wide)
         if now is self._loaded:
             self._loaded = wide
@@ -239,7 +239,7 @@ class Desk:
         """Runs one line, and tells its answer; a long one in part."""
         self.now()
         got = self.volume.run(of_script(line))
-        self._accepted([one.line for one in got if one.accepted])
+        self.accepted([one.line for one in got if one.accepted])
         return {"answers": [shown(one.line, one.text) for one in got], "version": self.version}
 
     def run_script(self, script: str) -> Dict[str, Any]:
@@ -250,11 +250,12 @@ class Desk:
         except segywb.Refused as refusal:
             return {"refused": shown(refusal.line, refusal.answer), "version": self.version}
         edits = [one.line for one in got if one.accepted]
-        self._accepted(edits)
+        self.accepted(edits)
         queries = [shown(one.line, one.text) for one in got if not one.accepted]
         return {"edits": len(edits), "answers": queries[:100], "queries": len(queries), "version": self.version}
 
-    def _accepted(self, lines: List[str]) -> None:
+    def accepted(self, lines: List[str]) -> None:
+        """What the program has accepted, in the order in which it was done: a new version, where it is anything."""
         if lines:
             self._pending += lines
             self.edited = self.version
@@ -275,7 +276,7 @@ class Desk:
         """Does the step again that was taken back last."""
         self.now()
         lines = self.volume.redo(1)
-        self._accepted(lines)
+        self.accepted(lines)
         return {"lines": shortened(lines), "version": self.version}
 
     def restart(self) -> Dict[str, Any]:

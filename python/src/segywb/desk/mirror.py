@@ -1,4 +1,4 @@
-"""The inlines, crosslines and coordinates of all traces, kept beside the program, so that an edit does not read all of them again."""
+"""The inlines, crosslines and coordinates of all traces, and further fields that are shown, kept beside the program, so that an edit does not read all of them again."""
 
 from __future__ import annotations
 
@@ -15,6 +15,7 @@ LINES = ("inline", "crossline")
 PLACES = ("x", "y", "scalar")
 SIX = ("inline", "crossline", "offset", "x", "y", "scalar")
 PIECE = 1 << 17
+MOST_MORE = 8
 MOST_MOVES = 2000
 
 Told = Callable[[int, int], None]
@@ -50,7 +51,20 @@ def read(volume: Volume, names: Sequence[str], told: Told = silent) -> Mirror:
     count = len(volume)
     found = of_slice(volume, count) if count > PIECE else {}
     rest = [name for name in names if name not in found]
-    return Mirror({**found, **column(volume, rest, count, told)} if rest else found, np.arange(1, count + 1, dtype=np.int64))
+    return Mirror({**found, **columns_of(volume, rest, count, told)} if rest else found, np.arange(1, count + 1, dtype=np.int64))
+
+
+def columns_of(volume: Volume, names: Sequence[str], count: int, told: Told = silent) -> Dict[str, Any]:
+    """These fields of all traces, but those beside the six that the program does not know, or no longer."""
+    six = [name for name in names if name in SIX]
+    found = column(volume, six, count, told) if six else {}
+    for name in names:
+        if name not in SIX:
+            try:
+                found.update(column(volume, [name], count))
+            except Refused:
+                pass
+    return found
 
 
 def of_slice(volume: Volume, count: int) -> Dict[str, Any]:
@@ -69,13 +83,21 @@ def of_slice(volume: Volume, count: int) -> Dict[str, Any]:
 
 def wider(mirror: Mirror, volume: Volume, names: Sequence[str], told: Told = silent) -> Mirror:
     """The same with further fields."""
-    more = [name for name in names if name not in mirror.columns]
+    more = list(dict.fromkeys(name for name in names if name not in mirror.columns))
     return Mirror({**mirror.columns, **column(volume, more, len(mirror), told)}, mirror.origin) if more else mirror
+
+
+def narrowed(mirror: Mirror, names: Sequence[str]) -> Mirror:
+    """The same without the fields beside the six and these, where there are many of them."""
+    more = [name for name in dict.fromkeys([*mirror.columns, *names]) if name not in SIX]
+    if len(more) <= MOST_MORE:
+        return mirror
+    return Mirror({name: values for name, values in mirror.columns.items() if name in SIX or name in names}, mirror.origin)
 
 
 def followed(mirror: Mirror, volume: Volume, lines: Sequence[str]) -> Mirror:
     """What it is after these accepted lines."""
-    plan = Plan(len(mirror), volume.fields())
+    plan = Plan(len(mirror), volume.fields(), list(mirror.columns))
     for line in lines:
         plan.line(line.split())
     plan.flush()
@@ -89,14 +111,29 @@ def followed(mirror: Mirror, volume: Volume, lines: Sequence[str]) -> Mirror:
     if 2 * len(stale) > len(origin):
         anew = names
     if anew:
-        columns.update(column(volume, anew, len(origin)))
-    kept = [name for name in names if name not in anew]
-    if kept and len(stale):
-        got = volume.headers(*kept, traces=stale)
-        for name in kept:
+        for name in anew:
+            del columns[name]
+        columns.update(columns_of(volume, anew, len(origin)))
+    if len(stale):
+        reread(columns, [name for name in names if name not in anew], volume, stale)
+    return Mirror({name: columns[name] for name in names if name in columns}, origin)
+
+
+def reread(columns: Dict[str, Any], names: Sequence[str], volume: Volume, stale: Any) -> None:
+    """Reads these traces again. A field beside the six that is refused there is left out."""
+    for some in ([name for name in names if name in SIX], *([name] for name in names if name not in SIX)):
+        if not some:
+            continue
+        try:
+            got = volume.headers(*some, traces=stale)
+        except Refused:
+            if some[0] in SIX:
+                raise
+            del columns[some[0]]
+            continue
+        for name in some:
             columns[name] = columns[name].copy()
             columns[name][stale - 1] = got[name]
-    return Mirror(columns, origin)
 
 
 def moved(mirror: Mirror, plan: "Plan") -> Tuple[Dict[str, Any], Any]:
@@ -115,13 +152,14 @@ def moved(mirror: Mirror, plan: "Plan") -> Tuple[Dict[str, Any], Any]:
 class Plan:
     """What lines do to rows: where each row comes from, and which ones are to be read again."""
 
-    def __init__(self, count: int, fields: Dict[str, str]) -> None:
+    def __init__(self, count: int, fields: Dict[str, str], names: Sequence[str] = ()) -> None:
         self.row: Any = None
         self.stale = np.zeros(count, dtype=bool)
         self.bound: List[str] = []
         self.lost = False
         self._fields = fields
-        self._places = [spanned(fields[name]) for name in SIX if name in fields]
+        self._watched = list(dict.fromkeys([*SIX, *names]))
+        self._places = [spanned(self._place(name)) for name in self._watched]
         self._moves = 0
         self._gone: List[int] = []
 
@@ -136,8 +174,10 @@ class Plan:
             self.stale[int(words[1]) - 1] = True
         elif word in ("renumber", "compute") and self._touches(words[3]):
             self.stale[int(words[1]) - 1:int(words[2])] = True
-        elif word == "map" and words[1] in SIX:
+        elif word in ("map", "unmap") and words[1] in self._watched:
             self.bound.append(words[1])
+        elif word == "resize":
+            self.stale[int(words[1]) - 1] = True  # its header tells how many samples it has
         elif word in ("blank", "copy"):
             self._insert(int(words[-1]), None, True)
         elif word == "move":
@@ -147,9 +187,12 @@ class Plan:
             self.lost = True
 
     def _touches(self, field: str) -> bool:
-        """Whether the field may share bytes with one of the six. Their places are those that hold behind all lines."""
-        span = spanned(self._fields.get(field, TRACE_NAMES.get(field, field)))
-        return field in SIX or span is None or bool(self.bound) or any(one is None or one[0] < span[1] and span[0] < one[1] for one in self._places)
+        """Whether the field may share bytes with one that is kept. Their places are those that hold behind all lines."""
+        span = spanned(self._place(field))
+        return field in self._watched or span is None or bool(self.bound) or any(one is None or one[0] < span[1] and span[0] < one[1] for one in self._places)
+
+    def _place(self, field: str) -> str:
+        return self._fields.get(field, TRACE_NAMES.get(field, field))
 
     def _rows(self) -> Any:
         if self.row is None:
@@ -189,15 +232,17 @@ class Plan:
 
 
 def spanned(place: str) -> Optional[Tuple[int, int]]:
-    """The bytes of a place in the first header: the first one, and the one behind the last.
+    """The bytes of a place: the first one, and the one behind the last. Those of the n-th extension of a header follow the 240 of the header.
 
     >>> spanned("@189:4"), spanned("@115:2u"), spanned("@1.137:4u"), spanned("shot")
-    ((189, 193), (115, 117), (0, 0), None)
+    ((189, 193), (115, 117), (377, 381), None)
     """
     word = place.rstrip("u")
     if not word.startswith("@") or ":" not in word:
         return None
     byte, _, size = word[1:].partition(":")
-    if "." in byte:
-        return (0, 0)
-    return (int(byte), int(byte) + int(size)) if byte.isdigit() and size.isdigit() else None
+    extension, dot, at = byte.rpartition(".")
+    if not ((extension.isdigit() or not dot) and at.isdigit() and size.isdigit()):
+        return None
+    first = 240 * int(extension or "0") + int(at)
+    return first, first + int(size)

@@ -12,7 +12,7 @@ from typing import Any, Callable, Dict, List, Optional, Tuple
 from aiohttp import web
 
 from ..errors import Error, FileChanged, LoadRefused, ProgramEnded, Refused
-from . import places, saving, views
+from . import fieldmaps, graphs, places, saving, tables, views
 from .desk import Desk, clean
 from .faults import Kept
 from .guard import HEADERS, Guard, Handler
@@ -86,6 +86,7 @@ class Server:
         self._at_work = 0
         self._faults = Kept()
         self._slices = views.Slices()
+        self._maps = fieldmaps.FieldMaps()
         self._runner: Optional[web.AppRunner] = None
         self._stopped = False
         self._heard = False
@@ -109,6 +110,9 @@ class Server:
             "edits": lambda q: views.edits(desk),
             "cell": lambda q: views.cell(desk, box(q)),
             "select": lambda q: views.select(desk, box(q)),
+            "field": lambda q: self._maps.view(desk, fieldmaps.asked(q), window(q)),
+            "graph": lambda q: graphs.drawn(desk, q, number(q, "first", 1), number(q, "last", 0), window(q).pixels[0]),
+            "choose": lambda q: graphs.choose(desk, graphs.parts_of(q), (number(q, "first", 1), number(q, "last", 0))),
             "place": lambda q: views.place(desk, number(q, "trace")),
         }
 
@@ -118,6 +122,7 @@ class Server:
         return {
             "run": lambda q: desk.run(str(q["line"])),
             "script": lambda q: desk.run_script(str(q["script"])),
+            "csv": lambda q: tables.asked(desk, q),
             "undo": lambda q: desk.undo(),
             "redo": lambda q: desk.redo(),
             "save": lambda q: saving.save(desk, str(q["path"]), q.get("replace") is True),

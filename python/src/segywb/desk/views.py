@@ -246,12 +246,16 @@ def cell(desk: Desk, box: Tuple[int, int, int, int]) -> Dict[str, Any]:
 
 def select(desk: Desk, box: Tuple[int, int, int, int]) -> Dict[str, Any]:
     """The traces of a rectangle as runs of positions."""
-    found = within(desk, box)
+    return {"version": desk.version, **runs_of(within(desk, box))}
+
+
+def runs_of(found: Any) -> Dict[str, Any]:
+    """Rising positions as runs that follow one another; the first ones where there are very many."""
     breaks = np.flatnonzero(np.diff(found) != 1) + 1
     firsts = found[np.concatenate([[0], breaks])] if len(found) else found
     lasts = found[np.concatenate([breaks - 1, [len(found) - 1]])] if len(found) else found
     runs = [[int(first), int(last)] for first, last in zip(firsts[:MOST_RUNS], lasts[:MOST_RUNS])]
-    return {"version": desk.version, "count": len(found), "runs": runs, "all": len(firsts) <= MOST_RUNS}
+    return {"count": len(found), "runs": runs, "all": len(firsts) <= MOST_RUNS}
 
 
 def place(desk: Desk, trace: int) -> Dict[str, Any]:

@@ -2,7 +2,10 @@
 
 import { tell, whenPhase, words } from "./api.js";
 import * as command from "./command.js";
+import * as csv from "./csv.js";
 import { at, fill, make, many } from "./dom.js";
+import * as graph from "./graph.js";
+import * as layout from "./layout.js";
 import * as maps from "./maps.js";
 import * as offers from "./offers.js";
 import * as save from "./save.js";
@@ -92,8 +95,10 @@ async function bar() {
   at("undo").disabled = !undoable;
   at("redo").disabled = !redoable;
   at("save").disabled = false;
+  at("csv").disabled = false;
   document.body.dataset.version = String(store.state.version);
   maps.time();
+  layout.again();
 }
 
 async function back(name) {
@@ -123,6 +128,9 @@ async function start() {
   table.start();
   offers.start();
   side.start();
+  graph.start();
+  csv.start();
+  layout.start();
   command.start();
   at("undo").addEventListener("click", () => back("undo"));
   at("redo").addEventListener("click", () => back("redo"));

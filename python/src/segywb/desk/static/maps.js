@@ -1,7 +1,7 @@
 // The panel of maps: which one is shown, what stands under the pointer, and the rectangle that is drawn.
 
 import { ask } from "./api.js";
-import { at, fill, many, tabs } from "./dom.js";
+import { at, fill, make, many, tabs } from "./dom.js";
 import * as plots from "./plots.js";
 import { part, store } from "./store.js";
 import { goTo } from "./table.js";
@@ -15,13 +15,16 @@ let view = null;
 let place = null;
 let bound = false;
 
-const KINDS = [["fold", "Fold map"], ["positions", "Positions"], ["slice", "Slice"], ["histogram", "Histogram"]];
-const isMap = () => kind === "fold" || kind === "slice";
+const KINDS = [["fold", "Fold map"], ["field", "Field map"], ["positions", "Positions"], ["slice", "Slice"], ["histogram", "Histogram"]];
+const isMap = () => kind === "fold" || kind === "slice" || (kind === "field" && Boolean(view) && view.kind === "number");
+const beside = () => store.compare && kind !== "field";
 
 function query() {
-  at("was-figure").hidden = !store.compare;
-  at("now-caption").hidden = !store.compare;
-  return { wide: Math.max(now.clientWidth - 150, 60), tall: now.clientHeight - 80, compare: store.compare ? 1 : 0, all: at("whole").checked ? 1 : 0, sample: at("sample-number").value || 0 };
+  at("was-figure").hidden = !beside();
+  at("now-caption").hidden = !beside();
+  const room = { wide: Math.max(now.clientWidth - 150, 60), tall: now.clientHeight - 80, all: at("whole").checked ? 1 : 0 };
+  if (kind === "field") return { ...room, colour: at("map-colour").value.trim(), how: at("map-how").value, place: at("map-place").value };
+  return { ...room, compare: store.compare ? 1 : 0, sample: at("sample-number").value || 0 };
 }
 
 export async function show() {
@@ -31,22 +34,27 @@ export async function show() {
     const got = await ask(kind, query());
     if (asked !== kind) return;
     view = got;
+    at("box").hidden = !isMap();
     await drawAll(got);
+    at("map-said").textContent = "";
   } catch (error) {
-    at("told").textContent = error.message;
+    at("map-said").textContent = error.message;
   } finally {
     now.classList.remove("busy");
   }
 }
 
 async function drawAll(got) {
-  if (got.refused) {
+  if (got.refused || got.kind === "none") {
     await plots.draw(now, { data: [], layout: { paper_bgcolor: "rgba(0,0,0,0)", plot_bgcolor: "rgba(0,0,0,0)", xaxis: { visible: false }, yaxis: { visible: false } } });
-    fill(at("caption"), `The program answers: ${got.refused}`);
+    fill(at("caption"), got.refused ? `The program answers: ${got.refused}` : `No grid can be fitted: ${got.why}.`);
+    if (got.refused) return;
+    document.body.dataset.mapVersion = String(got.version);
+    document.body.dataset.mapKind = kind;
     return;
   }
-  await plots.draw(now, picture(got, got.now), store.compare);
-  if (store.compare && got.was) await plots.draw(was, picture(got, got.was), true);
+  await plots.draw(now, picture(got, got.now), beside());
+  if (beside() && got.was) await plots.draw(was, picture(got, got.was), true);
   fill(at("caption"), caption(got));
   document.body.dataset.mapVersion = String(got.version);
   document.body.dataset.mapKind = kind;
@@ -54,8 +62,9 @@ async function drawAll(got) {
 }
 
 function picture(got, drawn) {
-  if (isMap()) return plots.map(kind, drawn, got, marking() ? plots.boxes(got) : []);
-  if (kind === "positions") return plots.places(drawn, got, store.state ? store.state.unit : "unit not told", marking());
+  if (kind === "field") return plots.fieldMap(got, at("map-scale").value, store.state ? store.state.unit : "unit not told");
+  if (isMap()) return plots.map(kind, drawn, got, marking() ? plots.boxes(got) : [], at("map-scale").value);
+  if (kind === "positions") return plots.places(drawn, got, store.state ? store.state.unit : "unit not told", marking(), at("map-scale").value);
   const every = [...got.now, ...(got.was || [])];
   return plots.bars(drawn, { fold: Math.max(1, ...every.map(([fold]) => fold)), cells: Math.max(1, ...every.map(([, count]) => count)) });
 }
@@ -93,7 +102,27 @@ function positions(got) {
   return said;
 }
 
+const short = (number) => Number(number.toPrecision(7)).toLocaleString("en", { maximumFractionDigits: 9 });
+
+// The grid that was fitted, and how far the farthest trace lies from it.
+function fitted(got) {
+  if (!got.grid) return `No grid can be fitted: ${got.why}.`;
+  const { spacing, angle, used, most, trace } = got.grid;
+  return `Fitted grid: inlines ${short(spacing[0])} apart, crosslines ${short(spacing[1])}, ${Number(angle.toFixed(2))} degrees between them, from ${used.toLocaleString("en")} of ${many(got.traces, "trace")}; the farthest is trace ${trace}, by ${short(most)}.`;
+}
+
+function fieldSaid(got) {
+  const whose = got.colour === "fold" ? "Colours: fold" : `Colours: ${got.how} ${got.colour === "misfit" ? "distance of a trace from the fitted grid" : got.colour} of a cell`;
+  const said = [`${whose}, ${short(got.least)} to ${short(got.most)} in ${many(got.cells, "cell")}.`];
+  if (got.kind === "number" && got.bundle[0] * got.bundle[1] > 1) said.push(`A pixel stands for up to ${got.bundle[0]} by ${got.bundle[1]} cells and shows their ${got.how}.`);
+  if (got.kind === "pixels") said.push(`Many cells: a pixel shows the ${got.how} of those in it.`);
+  if (got.left) said.push(`Not drawn: ${many(got.left, "trace")} at (0, 0) or far from the rest.`);
+  if (got.beyond) said.push(`${many(got.beyond, "value")} beyond the colours.`);
+  return [...said, fitted(got)].join(" ");
+}
+
 function caption(got) {
+  if (kind === "field") return fieldSaid(got);
   if (kind === "histogram") return "How many cells have each fold.";
   if (kind === "positions") return positions(got).join(" ");
   const said = [];
@@ -109,10 +138,14 @@ function caption(got) {
 function choose(key) {
   kind = key;
   at("slice-tools").hidden = kind !== "slice";
-  at("whole-tools").hidden = kind !== "slice" && kind !== "positions";
-  at("whole-text").textContent = kind === "slice" ? "all colours" : "axes to the farthest trace";
+  at("field-tools").hidden = kind !== "field";
+  at("scale-tools").hidden = kind === "slice" || kind === "histogram";
+  at("whole-tools").hidden = kind === "fold" || kind === "histogram";
+  at("whole-text").textContent = { slice: "all colours", field: "all colours, all traces" }[kind] || "axes to the farthest trace";
   at("whole").checked = false;
+  view = null;
   at("box").hidden = !isMap();
+  at("map-said").textContent = "";
   place = null;
   fill(at("told"));
   show();
@@ -130,6 +163,8 @@ function boxOf(row, column) {
   return ends.includes(null) ? null : { i0: ends[0], i1: ends[1], x0: ends[2], x1: ends[3] };
 }
 
+const named = (value) => (value === null ? "no traces" : `${view.colour === "fold" ? "" : `${view.how} `}${view.colour} ${Number(value.toPrecision(9))}`);
+
 let asking = 0;
 
 async function tell(row, column, side, put) {
@@ -137,7 +172,7 @@ async function tell(row, column, side, put) {
   const crossline = label(view.right, column);
   if (inline === null || crossline === null) return put("no lines here");
   const value = side === was ? view.was[row][column] : view.now[row][column];
-  const text = `inline ${inline}, crossline ${crossline}: ${kind === "fold" ? `fold ${value === null ? 0 : value}` : value === null ? "no sample" : `sample ${Number.isInteger(value) ? value : Number(value.toPrecision(9))}`}`;
+  const text = `inline ${inline}, crossline ${crossline}: ${kind === "field" ? named(value) : kind === "fold" ? `fold ${value === null ? 0 : value}` : value === null ? "no sample" : `sample ${Number.isInteger(value) ? value : Number(value.toPrecision(9))}`}`;
   put(text);
   if (side === was) return undefined;
   const mine = ++asking;
@@ -175,7 +210,7 @@ function unhover() {
 }
 
 async function click(event) {
-  if (kind === "positions") {
+  if (kind === "positions" || (kind === "field" && !isMap())) {
     const point = event.points[0];
     if (point && point.customdata) goTo(point.customdata);
     return;
@@ -229,7 +264,7 @@ function drawn(event) {
 
 async function select(box) {
   for (const [name, value] of Object.entries(box)) at("box").elements[name].value = value;
-  offer(box, await ask("select", box));
+  offer({ ask: "select", query: box, field: "inline", value: box.i0, shape: "rectangle", room: "maps" }, await ask("select", box));
 }
 
 function listen() {
@@ -272,6 +307,8 @@ export function start() {
     select(box).catch((error) => { at("told").textContent = error.message; });
   });
   at("whole").addEventListener("change", show);
+  for (const id of ["map-colour", "map-how", "map-place"]) at(id).addEventListener("change", show);
+  at("map-scale").addEventListener("change", () => { if (view) drawAll(view); });
   at("marks").addEventListener("change", () => { if (view) drawAll(view); });
   const sample = (value) => {
     at("sample").value = value;
@@ -284,6 +321,10 @@ export function start() {
   at("sample-number").addEventListener("change", () => sample(at("sample-number").value));
   window.matchMedia("(prefers-color-scheme: dark)").addEventListener("change", () => { if (view) drawAll(view); });
   part(show);
+  part(async () => {
+    const names = ["fold", "misfit", ...Object.keys(store.bound), ...(store.words ? store.words.names.map((one) => one.name) : [])];
+    fill(at("map-colours"), ...[...new Set(names)].map((value) => make("option", { value })));
+  });
 }
 
 export function time() {

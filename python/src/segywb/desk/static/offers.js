@@ -1,4 +1,4 @@
-// What can be done to the traces of a rectangle, with the lines shown before they are run.
+// What can be done to the traces that were selected, with the lines shown before they are run.
 
 import { at, fill, make, many } from "./dom.js";
 import { ask } from "./api.js";
@@ -10,16 +10,17 @@ const MOST_SHOWN = 200;
 let runs = [];
 let count = 0;
 let version = 0;
-let shownBox = null;
+let source = null;
 let preview = () => {};
 
 // The lines of a repair of these runs of traces.
-export function linesOf(what, field, value, step) {
+export function linesOf(what, field, value, step, formula) {
   const made = [];
   let at = BigInt(0);
   for (const [first, last] of runs) {
     const size = BigInt(last - first + 1);
     if (what === "renumber") made.push(`renumber ${first} ${last} ${field} ${value + step * at} ${step}`);
+    if (what === "compute") made.push(`compute ${first} ${last} ${field} ${formula}`);
     if (what === "set") for (let trace = first; trace <= last; trace += 1) made.push(`set ${trace} ${field} ${value}`);
     at += size;
   }
@@ -29,30 +30,35 @@ export function linesOf(what, field, value, step) {
 
 const names = () => (store.words ? store.words.names.map((one) => one.name) : []);
 
-export function offer(box, got) {
+// Offers what can be done to the traces of an answer. What was asked is told by `from`: the question and its words, the field and the number that are
+// suggested, what holds the traces, and the panel where they were selected.
+export function offer(from, got) {
   runs = got.runs;
   count = got.count;
   version = got.version;
-  shownBox = box;
+  source = from;
   preview = () => {};
   const room = at("offers");
+  at(from.room).append(room);
   room.hidden = false;
   if (!count || !got.all) {
-    fill(room, count ? `${many(count, "trace")} in too many runs: select fewer.` : "No traces in this rectangle.", close());
+    fill(room, count ? `${many(count, "trace")} in too many runs: select fewer.` : `No traces in this ${from.shape}.`, close());
     return;
   }
-  const what = make("select", { "aria-label": "what to do", id: "offer-what" }, ...["renumber", "set", "delete"].map((one) => make("option", {}, one)));
-  const field = make("input", { "aria-label": "field", id: "offer-field", list: "offer-fields", size: "14", spellcheck: "false", value: "inline" });
-  const value = make("input", { "aria-label": "first number", id: "offer-value", size: "9", value: String(box.i0) });
+  const what = make("select", { "aria-label": "what to do", id: "offer-what" }, ...["renumber", "set", "compute", "delete"].map((one) => make("option", {}, one)));
+  const field = make("input", { "aria-label": "field", id: "offer-field", list: "offer-fields", size: "14", spellcheck: "false", value: from.field });
+  const value = make("input", { "aria-label": "first number", id: "offer-value", size: "9", value: String(from.value) });
   const step = make("input", { "aria-label": "step", id: "offer-step", size: "5", value: "0" });
+  const formula = make("input", { "aria-label": "formula", id: "offer-formula", size: "22", spellcheck: "false", value: `${from.field} + 0` });
   const shown = make("pre", { "aria-label": "the lines that will be run", tabIndex: 0 });
   const run = make("button", { class: "strong", id: "offer-run" }, "Run");
   const fields = make("datalist", { id: "offer-fields" }, ...[...new Set([...Object.keys(store.bound), ...names()])].map((name) => make("option", { value: name })));
-  const parts = make("span", {}, field, make("label", {}, " from ", value), make("label", {}, " step ", step));
+  const parts = make("span", {}, field, make("label", {}, " from ", value), make("label", {}, " step ", step), make("label", {}, " = ", formula));
   const form = make("form", { class: "bar", on: { submit: (event) => { event.preventDefault(); apply(); } } },
     make("strong", { id: "offer-count" }, many(count, "trace")), what, parts, fields, run,
     make("button", { type: "button", on: { click: () => goTo(runs[0][0]) } }, "Show in the table"), close());
   const made = () => {
+    if (what.value === "compute") return formula.value.trim() && !/[\r\n]/.test(formula.value) ? linesOf("compute", field.value.trim(), 0, 0, formula.value.trim()) : null;
     try {
       return linesOf(what.value, field.value.trim(), BigInt(value.value.trim() || "0"), BigInt(step.value.trim() || "0"));
     } catch {
@@ -61,18 +67,21 @@ export function offer(box, got) {
   };
   preview = () => {
     parts.hidden = what.value === "delete";
+    value.parentElement.hidden = what.value === "compute";
     step.parentElement.hidden = what.value !== "renumber";
+    formula.parentElement.hidden = what.value !== "compute";
     const lines = made();
     run.disabled = !lines;
     run.textContent = lines ? `Run ${many(lines.length, "line")}` : "Run";
     fill(at("offer-count"), many(count, "trace"));
-    fill(shown, lines ? lines.slice(0, MOST_SHOWN).join("\n") + (lines.length > MOST_SHOWN ? `\n.. and ${(lines.length - MOST_SHOWN).toLocaleString("en")} more` : "") : "The numbers must be whole.");
+    const lacks = what.value === "compute" ? "A formula is wanted, as inline + 100." : "The numbers must be whole.";
+    fill(shown, lines ? lines.slice(0, MOST_SHOWN).join("\n") + (lines.length > MOST_SHOWN ? `\n.. and ${(lines.length - MOST_SHOWN).toLocaleString("en")} more` : "") : lacks);
   };
   const apply = async () => {
     const lines = made();
     if (!lines) return;
     if (version !== store.version) {
-      fill(shown, "The survey has changed since this rectangle was selected: select it again.");
+      fill(shown, `The survey has changed since this ${from.shape} was selected: select it again.`);
       return;
     }
     run.disabled = true;
@@ -85,17 +94,17 @@ export function offer(box, got) {
       room.hidden = true;
     }
   };
-  for (const one of [what, field, value, step]) one.addEventListener("input", preview);
+  for (const one of [what, field, value, step, formula]) one.addEventListener("input", preview);
   fill(room, form, shown);
   preview();
 }
 
-// After a step the same rectangle may hold other traces.
+// After a step the same part may hold other traces.
 export function start() {
   part(async () => {
     if (at("offers").hidden || version === store.version) return;
-    const got = await ask("select", shownBox);
-    if (!got.count || !at("offer-run")) offer(shownBox, got);
+    const got = await ask(source.ask, source.query);
+    if (!got.count || !at("offer-run")) offer(source, got);
     else {
       ({ runs, count, version } = got);
       preview();

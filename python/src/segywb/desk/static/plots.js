@@ -85,19 +85,22 @@ function cells(z, view, look) {
   return { type: "heatmap", z, xgap: gap, ygap: gap, zsmooth: count > MANY ? "fast" : false, hoverinfo: "none", ...look };
 }
 
-const foldLook = (view) => ({
-  zmin: 0, zmax: Math.max(view.end, 2), colorscale: "Viridis", colorbar: bar("fold (traces of a cell)", wholes(0, Math.max(view.end, 2))),
+const foldLook = (view, scale) => ({
+  zmin: 0, zmax: Math.max(view.end, 2), ...scaled(scale), colorbar: bar("fold (traces of a cell)", wholes(0, Math.max(view.end, 2))),
 });
 const sliceLook = (view) => ({ zmin: -view.end, zmax: view.end, colorscale: SLICES, colorbar: bar("sample (as in the file, no unit)") });
 
-export const map = (kind, z, view, found) => ({
-  data: [cells(z, view, kind === "fold" ? foldLook(view) : sliceLook(view)), ...outlines(found)],
+// A scale of colours by its name. The greys of plotly begin with black, and a cell without traces is grey: they end before it.
+const scaled = (name) => (name === "Greys" ? { colorscale: [[0, "#101010"], [1, "#ffffff"]] } : { colorscale: name });
+
+export const map = (kind, z, view, found, scale) => ({
+  data: [cells(z, view, kind === "fold" ? foldLook(view, scale) : sliceLook(view)), ...outlines(found)],
   layout: layout(slots("crossline (number)", view.right), slots("inline (number)", view.down), { uirevision: `${kind} ${view.right.first.length} ${view.down.first.length}` }),
 });
 
 // x and y have one scale: a survey has the shape that it has on the ground.
-export function places(drawn, view, unit, marking) {
-  const look = { colorscale: "Viridis", colorbar: bar("trace (position in the file)") };
+export function places(drawn, view, unit, marking, scale) {
+  const look = { ...scaled(scale), colorbar: bar("trace (position in the file)") };
   const data = drawn.kind === "points"
     ? { type: "scatter", mode: "markers", x: drawn.x, y: drawn.y, customdata: drawn.trace, hovertemplate: "trace %{customdata}<br>x %{x}<br>y %{y}<extra></extra>",
         marker: { size: 7, color: drawn.trace, line: { width: 0.8, color: css("--quiet") }, ...look } }
@@ -112,9 +115,61 @@ export function places(drawn, view, unit, marking) {
   };
 }
 
+// Bins by the numbers of their lines, or where they lie: then x and y have one scale.
+export function fieldMap(view, scale, unit) {
+  const title = view.colour === "fold" ? "fold (traces of a cell)" : view.colour === "misfit" ? `misfit (${unit})` : plain(view.colour);
+  const ends = { ...scaled(scale), colorbar: bar(title) };
+  if (view.kind === "number") {
+    return { data: [cells(view.now, view, { zmin: view.low, zmax: view.high, ...ends })],
+      layout: layout(slots("crossline (number)", view.right), slots("inline (number)", view.down), { uirevision: `field ${view.right.first.length} ${view.down.first.length}` }) };
+  }
+  const [x0, y0] = [view.x[0], view.y[0]];
+  const data = view.kind === "points"
+    ? { type: "scatter", mode: "markers", x: view.px, y: view.py, customdata: view.trace, text: view.value.map((value, at) => `inline ${view.inline[at]}, crossline ${view.crossline[at]}: ${Number(value.toPrecision(9))}`),
+        hovertemplate: "%{text}<br>x %{x}<br>y %{y}<extra></extra>", marker: { size: 8, symbol: "square", color: view.value, cmin: view.low, cmax: view.high, ...ends } }
+    : { type: "heatmap", z: view.z, x0, y0, dx: view.side, dy: view.side, customdata: view.first, zmin: view.low, zmax: view.high, hovertemplate: "%{z}<br>trace %{customdata}<br>x %{x}<br>y %{y}<extra></extra>", ...ends };
+  return { data: [data], layout: layout(axis(`x (${unit})`, { range: wide(view.x), nticks: 6, tickformat: "~f" }), axis(`y (${unit})`, { range: wide(view.y), nticks: 8, tickformat: "~f", scaleanchor: "x" }),
+    { plot_bgcolor: css("--plot"), dragmode: "zoom", uirevision: "lying" }) };
+}
+
 function wide([least, most]) {
   const room = (most - least) * 0.04 || 1;
   return [least - room, most + room];
+}
+
+// Fields against the number of the trace, one below the other: the numbers stay whole, and one scale goes across all of them.
+export function series(view, points, drag, heights) {
+  const count = view.fields.length;
+  const room = 0.06;
+  const tall = (1 - room * (count - 1)) / count;
+  const kind = points || view.last === view.first ? "markers" : "lines";
+  const data = view.fields.map(({ name, trace, value }, at) => ({
+    type: "scatter", mode: kind, x: trace, y: value, xaxis: "x", yaxis: at ? `y${at + 1}` : "y", name, line: { color: css("--strong"), width: 1.2 }, marker: { color: css("--strong"), size: 4 },
+    hovertemplate: `trace %{x}<br>${plain(name)} %{y}<extra></extra>`,
+  }));
+  const shape = layout(axis("trace (position in the file)", { range: [view.first - 0.5, Math.max(view.last, view.first) + 0.5], tickformat: "d", nticks: 10, anchor: count > 1 ? `y${count}` : "y" }), null,
+    { plot_bgcolor: css("--plot"), selectdirection: "any", dragmode: drag });
+  delete shape.yaxis;
+  view.fields.forEach(({ name }, at) => {
+    const top = 1 - at * (tall + room);
+    shape[at ? `yaxis${at + 1}` : "yaxis"] = axis(plain(name), { domain: [Math.max(top - tall, 0), top], anchor: "x", tickformat: "~f", nticks: count > 2 ? 4 : 6,
+      ...(heights[name] ? { range: heights[name] } : { autorange: true }) });
+  });
+  return { data, layout: shape };
+}
+
+// A name as plotly shows it: it reads some tags, and a name has none.
+const plain = (name) => name.replace(/[<>&%]/g, "?");
+
+// A field against another one: points that lead to their traces, or pixels with their numbers of traces.
+export function cloud(view, drag) {
+  const [x, y] = view.names.map(plain);
+  const data = view.kind === "points"
+    ? { type: "scatter", mode: "markers", x: view.x, y: view.y, customdata: view.trace, marker: { size: 6, color: css("--strong") }, hovertemplate: `trace %{customdata}<br>${x} %{x}<br>${y} %{y}<extra></extra>` }
+    : { type: "heatmap", x0: view.x0, y0: view.y0, dx: view.dx, dy: view.dy, z: view.z.map((row) => row.map((one) => (one === null ? null : Math.log10(one)))), customdata: view.z,
+        hovertemplate: `%{customdata} traces<br>${x} %{x}<br>${y} %{y}<extra></extra>`, colorscale: "Cividis", colorbar: bar("traces of a pixel (power of ten)") };
+  const look = { tickformat: "~f", nticks: 8 };
+  return { data: [data], layout: layout(axis(x, look), axis(y, look), { plot_bgcolor: css("--plot"), selectdirection: "any", dragmode: drag }) };
 }
 
 export function bars(times, end) {

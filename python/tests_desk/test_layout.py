@@ -1,0 +1,110 @@
+"""The panels: side by side, enlarged, folded; their sizes, which are kept; and that a laptop's window is enough."""
+
+import pytest
+from conftest import wait_for
+from selenium.webdriver import ActionChains
+from selenium.webdriver.common.by import By
+from selenium.webdriver.common.keys import Keys
+
+
+@pytest.fixture
+def laptop(opened):
+    """A page in a window of 1,280 by 720."""
+    page = opened("wrong_line")
+    page.browser.execute_cdp_cmd("Emulation.setDeviceMetricsOverride", {"width": 1280, "height": 720, "deviceScaleFactor": 1, "mobile": False})
+    page.js("localStorage.clear()")
+    page.open()
+    yield page
+    page.js("localStorage.clear()")
+    page.browser.execute_cdp_cmd("Emulation.clearDeviceMetricsOverride", {})
+
+
+def places(page):
+    return page.js("return Object.fromEntries(['maps', 'side', 'graph', 'headers'].map((one) => [one, document.getElementById(one).dataset.place]))")
+
+
+def room(page, id):
+    """Left, top, right and bottom of an element in the window."""
+    return page.js("const {left, top, right, bottom} = document.getElementById(arguments[0]).getBoundingClientRect(); return [left, top, right, bottom].map(Math.round)", id)
+
+
+def no_wider(page):
+    return page.js("return document.documentElement.scrollWidth") <= page.js("return window.innerWidth")
+
+
+def test_a_laptop_is_enough(laptop):
+    """Without scrolling one sees both panels and the command line."""
+    assert places(laptop) == {"maps": "left", "side": "right", "graph": "below", "headers": "below"} and no_wider(laptop)
+    assert room(laptop, "line")[3] <= 720 and room(laptop, "maps")[2] < room(laptop, "side")[0] and room(laptop, "plot-now")[3] <= 720
+    for name in ("graph", "headers", "maps"):
+        laptop.press(f"#{name} .to-right")
+        laptop.wait(lambda: places(laptop)[name] == "right")
+        assert no_wider(laptop), name
+        left = next(one for one, place in places(laptop).items() if place == "left")
+        assert room(laptop, left)[2] <= room(laptop, name)[0] and sorted(places(laptop).values()) == ["below", "below", "left", "right"]
+        assert room(laptop, "commands")[1] >= max(room(laptop, name)[3], room(laptop, left)[3])
+
+
+def test_two_panels_side_by_side(laptop):
+    laptop.press("#graph .to-right")
+    laptop.wait(lambda: laptop.data("graphKind") == "against-trace")
+    assert places(laptop) == {"maps": "left", "side": "below", "graph": "right", "headers": "below"}
+    width = laptop.js("return document.getElementById('plot-graph')._fullLayout.width")
+    assert width == laptop.js("return document.getElementById('plot-graph').clientWidth") and abs(room(laptop, "maps")[1] - room(laptop, "graph")[1]) <= 1
+    laptop.press("#graph .to-left")
+    laptop.wait(lambda: places(laptop)["graph"] == "left")
+    assert places(laptop)["maps"] == "right"
+    assert laptop.run("renumber 5 8 inline 102 0") == "ok"
+    laptop.wait(lambda: laptop.graph()[0][2] == [101] * 4 + [102] * 4 + [103] * 4)
+
+
+@pytest.mark.parametrize("name", ["maps", "side", "graph", "headers"])
+def test_a_panel_as_large_as_the_window(laptop, name):
+    before = room(laptop, name)
+    laptop.press(f"#{name} .enlarge")
+    head = room(laptop, "main")[1]
+    assert room(laptop, name)[0] == 0 and room(laptop, name)[2] == 1280 and room(laptop, name)[3] == 720 and room(laptop, name)[1] <= head + 1
+    plot = {"maps": "plot-now", "graph": "plot-graph"}.get(name)
+    if plot:
+        wide = "const one = document.getElementById(arguments[0]); return one._fullLayout ? [one._fullLayout.width, one._fullLayout.height] : [0, 0]"
+        wait_for(lambda: laptop.js(wide, plot)[0] > 1150)
+        assert laptop.js(wide, plot)[0] > 1150 and laptop.js(wide, plot)[1] > 380 and room(laptop, plot)[3] <= 720
+    assert no_wider(laptop)
+    laptop.one("body").send_keys(Keys.ESCAPE)
+    laptop.wait(lambda: room(laptop, name)[2] - room(laptop, name)[0] == before[2] - before[0])
+    assert not laptop.all("section.whole")
+
+
+def test_an_escape_in_a_field_stays_there(laptop):
+    laptop.press("#headers .enlarge")
+    laptop.find("column").send_keys(Keys.ESCAPE)
+    assert laptop.all("section.whole")
+    laptop.press("#headers .enlarge")
+    assert not laptop.all("section.whole")
+
+
+def test_sizes_are_kept(laptop):
+    wide = room(laptop, "maps")[2] - room(laptop, "maps")[0]
+    ActionChains(laptop.browser).click_and_hold(laptop.find("splitter")).move_by_offset(-200, 0).release().perform()
+    laptop.wait(lambda: abs(wide - 200 - (room(laptop, "maps")[2] - room(laptop, "maps")[0])) < 8)
+    laptop.one("#maps .sash").send_keys(Keys.ARROW_DOWN * 3)
+    laptop.wait(lambda: laptop.js("return document.getElementById('plot-now').clientHeight") == 400)
+    laptop.press("#headers .fold")
+    laptop.press("#graph .to-right")
+    kept = room(laptop, "maps")
+    laptop.open()
+    assert room(laptop, "maps")[2] == kept[2] and laptop.js("return document.getElementById('plot-now').clientHeight") == 400
+    assert places(laptop)["graph"] == "right" and laptop.find("headers").get_attribute("data-folded") == "yes"
+    laptop.wait(lambda: laptop.js("return document.getElementById('plot-now')._fullLayout.height") == 400)
+    laptop.find("splitter").send_keys(Keys.ARROW_RIGHT * 60)
+    maps, graph = room(laptop, "maps"), room(laptop, "graph")
+    assert 0.7 < (maps[2] - maps[0]) / (graph[2] - maps[0]) < 0.77  # it stops before a panel vanishes
+
+
+@pytest.mark.parametrize("kept", ["{", "[]", "null", '{"left": "maps", "right": "maps"}', '{"left": "<img>", "right": "side"}', '{"left": "constructor", "right": "side"}',
+                                  '{"left": "side", "right": "maps", "split": "x", "tall": -5, "open": 7}'])
+def test_what_is_kept_may_be_anything(laptop, kept):
+    laptop.js("localStorage.setItem('segywb-desk-layout', arguments[0])", kept)
+    laptop.open()
+    assert sorted(places(laptop).values()) == ["below", "below", "left", "right"] and laptop.js("return document.getElementById('plot-now').clientHeight") >= 160
+    assert laptop.browser.find_elements(By.TAG_NAME, "img") == []

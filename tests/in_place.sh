@@ -349,7 +349,16 @@ else
 fi
 
 # ---- FILE is changed meanwhile, and two at once
-# meanwhile NAME COMMAND..: the command runs while the program, which has FILE open, waits for its script
+# is_locked: waits until FILE is locked, which is behind the opening of the script
+is_locked() {
+    local inode
+    inode=$(stat -c %i $own)
+    for _ in $(seq 400); do
+        if grep -q "FLOCK .*:$inode " /proc/locks; then return; fi
+        sleep 0.05
+    done
+}
+# meanwhile NAME COMMAND..: the command runs while the program, which has FILE open and locked, waits for its script
 meanwhile() {
     rm -rf room gate
     mkdir room
@@ -358,7 +367,7 @@ meanwhile() {
     runs=$((runs + 1))
     "$program" $own --script gate --in-place > answers 2> errors &
     local running=$!
-    { "${@:2}"; cat script; } > gate
+    { is_locked; "${@:2}"; cat script; } > gate
     wait $running
     got=$?
     [ $got = 4 ] && [ "$(head -n 1 errors)" = 'segywb: FILE was changed by another program' ] && [ ! -e $journal ] && ! cmp -s whole.sgy $own && tell "$1" ok || tell "$1" "status $got: $(cat errors)"
@@ -376,14 +385,8 @@ cp s.sgy $own
 "$program" $own --script gate --in-place > first 2> first.err &
 running=$!
 exec 8> gate
-# the first has FILE locked once it has opened the script
-for _ in $(seq 100); do
-    "$program" $own --script script --in-place > answers 2> errors
-    got=$?
-    [ $got = 4 ] && break
-    cp s.sgy $own
-    sleep 0.05
-done
+is_locked
+runs --script script --in-place
 [ "$got $(tail -n 1 errors)" = "4 segywb: $own: another run of segywb has it in use, a repair, a recovery or one with --out; try again when that has ended" ] && tell 'a second repair is refused' ok || tell 'a second repair is refused' "$got $(cat errors)"
 runs --recover
 [ $got = 4 ] && tell 'and a recovery' ok || tell 'and a recovery' "$got $(cat errors)"

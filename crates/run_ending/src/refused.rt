@@ -89,6 +89,9 @@ pub fn reading_of(arguments: &Arguments) -> Reading
       opaque = arguments.now.opaque;
       floats = arguments.now.floats;
       order = arguments.now.order;
+      samples = arguments.now.samples;
+      format = arguments.now.format;
+      texts = arguments.now.texts;
     } }
 {
     Reading {
@@ -96,6 +99,9 @@ pub fn reading_of(arguments: &Arguments) -> Reading
         opaque: arguments.opaque,
         floats: arguments.floats,
         order: arguments.order,
+        samples: arguments.samples,
+        format: arguments.format,
+        texts: arguments.texts,
     }
 }
 

@@ -3,10 +3,11 @@ ghost use Rattle.std.specs.Prelude.{◌≡◌};
 
 use crate::ending::SaveEnd;
 use crate::finishing::is_heard;
+use crate::fitting::fits;
 use crate::torn_file::torn_file;
 use command_line::Arguments;
 use frame_cut::{Limits, LoadFault, Reading};
-use script_hints::{LoadNote, NoteLine, Notes, TornFile};
+use script_hints::{Fit, LoadNote, NoteLine, Notes, TornFile};
 use script_text::RunEnd;
 use std::fs::File;
 use std::rt::Files;
@@ -37,6 +38,7 @@ pub(crate) fn tell_refused<R: Files<File = File> + AllocGlobal + Eprint>(
             fault,
             on_disk: arguments.on_disk,
             torn: torn(rt, arguments, fault),
+            fits: fits_of(rt, arguments, fault),
         };
         let _ = eprintln!(rt; "{line}");
     }
@@ -63,8 +65,21 @@ pub(crate) fn tell_refused<R: Files<File = File> + AllocGlobal + Eprint>(
 fn notes_room(arguments: &Arguments) -> u64 {
     let script = arguments.script.unwrap_or("").len() as u64;
     let line = script.saturating_add(NOTE_ROOM);
+    // The path stands in each of the lines of a refused file, of which there are at most six.
     line.saturating_mul(LINES)
-        .saturating_add(arguments.file.len() as u64)
+        .saturating_add((arguments.file.len() as u64).saturating_mul(6))
+}
+
+// Readings that would cut the refused file evenly.
+fn fits_of<R: Files<File = File> + AllocGlobal>(
+    rt: &R,
+    arguments: &Arguments,
+    fault: LoadFault,
+) -> [Option<Fit>; 4] {
+    match Limits::new(GREATEST, u32::MAX) {
+        Some(limits) => fits(rt, arguments.file, reading_of(arguments), limits, fault),
+        None => [None, None, None, None],
+    }
 }
 
 // What is seen of a file that ends inside a trace.

@@ -119,10 +119,10 @@ fn getbin(alloc: Global, words: Words) -> Result<Command, LineFault>
 fn declare(mut words: Words) -> Result<Command, LineFault>
     ensures { result ≡ read_declare (words_of words.entry) }
 {
-    match words.next() {
-        Some(_) => Err(LineFault::Words),
-        None => Ok(Command::Apply(Edit::Declare)),
+    if words.next().is_some() {
+        return Err(LineFault::Words);
     }
+    Ok(Command::Apply(Edit::Declare))
 }
 
 fn text(alloc: Global, mut words: Words) -> Result<Command, LineFault>

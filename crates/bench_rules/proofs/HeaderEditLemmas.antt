@@ -23,7 +23,7 @@ use Rattle.frame_cut.specs.Splice.{splice}
 use Rattle.frame_cut.specs.Traces.{is_trace, count_of}
 use Rattle.frame_cut.specs.Volume.{Volume, bytes_of}
 use Rattle.frame_cut.proofs.EditLemmas.{cut_with_text, bytes_with_text, length-splice}
-use Rattle.frame_cut.proofs.BinEditLemmas.{SameFrame, keeps_frame, cut_with_bin, bytes_with_bin}
+use Rattle.frame_cut.proofs.BinEditLemmas.{SameFrame, keeps_frame, same_under, cut_with_bin, bytes_with_bin}
 use Rattle.frame_cut.specs.Parts.{with_line, with_header_bytes}
 use Rattle.bench_rules.specs.declared.edit.Edit.{Edit}
 use Rattle.bench_rules.specs.declared.edit.Edit.TheVariants.{Set, SetBin, SetText, Map}
@@ -151,7 +151,7 @@ bin_is_after s f place x e cut a =
     let same : SameFrame v.bin (splice v.bin at (length new) new) = spares_frame v.bin place new cut.parts.bin size a.inside a.apart in
     let inside : at + place.kind.size ≤ length v.bin = omega (arith, cut.parts.bin, i.first, i.last) in
     let len : length (splice v.bin at (length new) new) ≡ 400 = length-splice v.bin at new (omega (arith, size, inside)) ∙ cut.parts.bin in
-    let recut = cut_with_bin s.reading s.limits v (splice v.bin at (length new) new) cut len same in
+    let recut = cut_with_bin s.reading s.limits v (splice v.bin at (length new) new) cut len (same_under s.reading v.bin (splice v.bin at (length new) new) same) in
     let recut_is : IsCut (bytes_of (with_binary v place x)) s.reading s.limits (with_binary v place x) = subst (λ (b : List ℕ). IsCut (bytes_of (record v { bin = b })) s.reading s.limits (record v { bin = b })) (sym bin) recut in
     let place_is : 3200 + at ≡ place.byte - 1 = omega (arith, i.first) in
     let bytes_are : bytes_of (with_binary v place x) ≡ splice (bytes_of v) (place.byte - 1) place.kind.size new =

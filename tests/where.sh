@@ -209,6 +209,8 @@ load_told() {
     esac
     "$program" bad.sgy --script script "$@" > answers 2> errors
     local got=$?
+    # readings that fit are tried in readings.sh
+    sed -i "/ can be read with /d" errors
     if [ $got = 3 ] && [ "$(< answers)" = "load refused $text" ] && [ "$(< errors)" = "$told" ]; then tell "$name" ok; else tell "$name" "status $got: $(< answers): $(< errors)"; fi
 }
 cp s.sgy bad.sgy; load_told 'a limit' 'L02 too large' '--max-bytes N raises the limit; with --on-disk FILE need not fit in memory' --max-bytes 4331

@@ -15,7 +15,7 @@ bases=(s.sgy s.sgy x.sgy x.sgy t.sgy untold.sgy deep.sgy deep.sgy ended.sgy ebcd
 runs=$number
 sort told | grep -v '^FAILED' | tr '\n' ' '
 echo
-for code in L02 L03 L04 L05 L06 L07 L08 L09 L10 L11 L12 L13 L14 L17 accepted; do
+for code in L02 L03 L04 L05 L06 L07 L08 L09 L10 L11 L12 L13 L14 L17 accepted declared undeclared; do
     if grep -q "^$code " told; then tell "some files are $code" ok; else tell "some files are $code" 'none is'; fi
 done
 

@@ -1,9 +1,9 @@
 /* Makes hostile SEG-Y files and runs the program on each: it loads the file, answers queries and saves it.
    usage: hostile_files PROGRAM SEED NUMBER FILE..
    Each of the NUMBER variants is one of the FILEs, cut, with a tail, or with bytes changed where the frame is steered, as the
-   numbers drawn from SEED say; --fixed, --floats, --opaque-samples and --order are drawn too. Whether it is refused, with which text, and the
+   numbers drawn from SEED say; --fixed, --samples, --format, --texts, --floats, --opaque-samples and --order are drawn too. Whether it is refused, with which text, and the
    number of its traces are worked out here a second time, from the manual's words. A file that is refused gives that text alone and saves nothing; of one that is accepted no query
-   is refused, and it is saved byte for byte.
+   is refused, and it is saved byte for byte; or the line `declare` is, with what the manual says of it: done, where a load without the readings that it writes gives the same parts.
    Prints the variants that went otherwise, and how often each refusal came. */
 #include "run_program.h"
 #include <stdint.h>
@@ -30,6 +30,13 @@ struct volume {
     int little, fixed_reading, floats_reading, opaque_reading;
     const char *order; /* that is asked for, or NULL */
     int is_opaque; /* its samples have no values */
+    int64_t samples_reading, format_reading, texts_reading; /* that are asked for, or -1 */
+};
+
+/* The parts of a file that is accepted, with a number for where the traces begin. */
+struct parts {
+    int little, major;
+    uint64_t traces, starts, samples, format, blocks, extensions, trailer;
 };
 
 static uint64_t field(const struct volume *file, size_t place, int size) {
@@ -103,8 +110,9 @@ struct frame {
 };
 
 /* The traces between two places: their number, or the refusal of the first that is torn or names too many extensions. */
-static void judge_traces(const struct volume *file, struct frame frame, uint64_t at, uint64_t end, char *text) {
+static void judge_traces(const struct volume *file, struct frame frame, uint64_t at, uint64_t end, char *text, struct parts *parts) {
     unsigned long trace = 0;
+    parts->starts = 0;
     while (at < end) {
         uint64_t left = end - at, extensions = frame.extensions, samples = 0, named;
         trace++;
@@ -115,16 +123,18 @@ static void judge_traces(const struct volume *file, struct frame frame, uint64_t
         }
         if (!frame.fixed && frame.extensions) samples = field(file, at + 240 + 136, 4);
         if (!frame.fixed && !samples) samples = field(file, at + 114, 2);
-        if (!samples) samples = frame.samples;
+        if (!samples || frame.fixed) samples = frame.samples;
         samples = 240 * (1 + extensions) + frame.width * samples;
         if (left < samples) { sprintf(text, "L14 truncated trace %lu", trace); return; }
         at += samples;
+        parts->starts = parts->starts * 1000003 + at;
     }
+    parts->traces = trace;
     sprintf(text, "traces %lu", trace);
 }
 
 /* The refusal of the file without `load refused`, or the number of its traces. */
-static void judge(struct volume *file, char *text) {
+static void judge(struct volume *file, char *text, struct parts *parts) {
     const byte *order = file->bytes + 3296;
     uint64_t format, first;
     int64_t blocks, count, trailer = 0;
@@ -138,7 +148,7 @@ static void judge(struct volume *file, char *text) {
     major = file->bytes[3500];
     second = major == 2;
     if (major > 2 || (second && file->bytes[3501])) { sprintf(text, "L05 revision %d.%d", major, file->bytes[3501]); return; }
-    format = field(file, 3224, 2);
+    format = file->format_reading < 0 ? field(file, 3224, 2) : (uint64_t)file->format_reading;
     is_float = format == 1 || format == 5 || format == 6;
     file->is_opaque = format == 4 || (is_float && !file->floats_reading);
     if (file->is_opaque && !file->opaque_reading) {
@@ -148,7 +158,7 @@ static void judge(struct volume *file, char *text) {
     }
     frame.width = width_of(format);
     if (!frame.width) { sprintf(text, "L08 unknown format %d", (int)format); return; }
-    count = major ? signed_field(file, 3504, 2) : 0;
+    count = file->texts_reading >= 0 ? file->texts_reading : major ? signed_field(file, 3504, 2) : 0;
     blocks = blocks_of(file, count);
     if (blocks < 0) { sprintf(text, "L09 text count %d", (int)count); return; }
     frame.extensions = second ? signed_field(file, 3506, 4) : 0;
@@ -159,8 +169,11 @@ static void judge(struct volume *file, char *text) {
     if (first && first != 3600 + 3200 * (uint64_t)blocks) { sprintf(text, "L12 first trace %llu", (unsigned long long)first); return; }
     frame.samples = second ? field(file, 3268, 4) : 0;
     if (!frame.samples) frame.samples = field(file, 3220, 2);
-    frame.fixed = file->fixed_reading || (major && field(file, 3502, 2));
-    judge_traces(file, frame, 3600 + 3200 * blocks, file->length - 3200 * trailer, text);
+    if (file->samples_reading >= 0) frame.samples = file->samples_reading;
+    frame.fixed = file->fixed_reading || file->samples_reading >= 0 || (major && field(file, 3502, 2));
+    parts->little = file->little, parts->major = major, parts->samples = frame.samples, parts->format = format;
+    parts->blocks = blocks, parts->extensions = frame.extensions, parts->trailer = trailer;
+    judge_traces(file, frame, 3600 + 3200 * blocks, file->length - 3200 * trailer, text, parts);
 }
 
 /* ---- variants */
@@ -266,13 +279,57 @@ static size_t vary(byte *bytes) {
     return length;
 }
 
+/* ---- the readings, and the line `declare` */
+
+/* Draws the readings of a file. */
+static void draw_readings(struct volume *file) {
+    static const int formats[] = {1, 2, 3, 3, 3, 5, 7, 8, 13, 300};
+    if (draw(5) == 0) file->samples_reading = draw(3) ? (int64_t)draw(8) : (int64_t)(any_number() & 0xffffffff);
+    if (draw(5) == 0) file->format_reading = formats[draw(sizeof formats / sizeof *formats)];
+    if (draw(5) == 0) file->texts_reading = draw(4) ? (int64_t)draw(4) : (int64_t)draw(32768);
+}
+
+/* The words of the readings behind others; the numbers stand in `room`. */
+static char **reading_words(const struct volume *file, char **word, char room[3][20]) {
+    static char *names[] = {"--samples", "--format", "--texts"};
+    int64_t numbers[] = {file->samples_reading, file->format_reading, file->texts_reading};
+    for (int at = 0; at < 3; at++) {
+        if (numbers[at] < 0) continue;
+        sprintf(room[at], "%lld", (long long)numbers[at]);
+        *word++ = names[at], *word++ = room[at];
+    }
+    return word;
+}
+
+/* Writes what the manual says that `declare` writes; whether a load without the readings then gives the same parts. */
+static int declare(const struct volume *file, const struct parts *parts, byte *bytes) {
+    struct volume plain = *file;
+    struct parts again;
+    char text[80];
+    if (file->samples_reading >= 0) {
+        int is_wide = file->samples_reading > 65535;
+        write_number(bytes + 3220, 2, is_wide ? 0 : file->samples_reading, parts->little);
+        if (parts->major == 2) write_number(bytes + 3268, 4, is_wide ? file->samples_reading : 0, parts->little);
+    }
+    if (file->format_reading >= 0) write_number(bytes + 3224, 2, file->format_reading, parts->little);
+    if ((file->samples_reading >= 0 || file->fixed_reading) && parts->major) write_number(bytes + 3502, 2, 1, parts->little);
+    if (file->texts_reading >= 0 && parts->major) write_number(bytes + 3504, 2, file->texts_reading, parts->little);
+    plain.bytes = bytes;
+    plain.samples_reading = plain.format_reading = plain.texts_reading = -1;
+    plain.fixed_reading = 0;
+    judge(&plain, text, &again);
+    return text[0] == 't' && again.traces == parts->traces && again.starts == parts->starts && again.samples == parts->samples && again.format == parts->format
+        && again.blocks == parts->blocks && again.extensions == parts->extensions && again.trailer == parts->trailer;
+}
+
 /* ---- the runs */
-static struct { char code[8]; long met; } met[20];
+static struct { char code[12]; long met; } met[20];
 
 static void count_as(const char *text) {
     int at;
-    for (at = 0; met[at].met && strncmp(met[at].code, text, 3); at++);
-    strncpy(met[at].code, text, 3);
+    int length = text[0] == 'L' ? 3 : 11;
+    for (at = 0; met[at].met && strncmp(met[at].code, text, length); at++);
+    strncpy(met[at].code, text, length);
     met[at].met++;
 }
 
@@ -299,12 +356,15 @@ static const char *told_beside(const char *text) {
 static int run(char *program, long number, byte *bytes) {
     extern char **environ;
     const char *told;
-    struct volume file = {bytes, vary(bytes), 4294967296, 0, draw(4) == 0, draw(3) == 0, draw(3) == 0, NULL, 0};
-    char text[80], wanted[100], limit[30];
-    char *words[15] = {program, "variant.sgy", "--script", "queries", "--out", "saved.sgy", "--max-bytes", limit}, **word = words + 8;
+    static byte declared[MOST_BYTES + 5000];
+    struct volume file = {bytes, vary(bytes), 4294967296, 0, draw(4) == 0, draw(3) == 0, draw(3) == 0, NULL, 0, -1, -1, -1};
+    struct parts parts;
+    char text[80], wanted[100], limit[30], numbers[3][20];
+    char *words[21] = {program, "variant.sgy", "--script", "queries", "--out", "saved.sgy", "--max-bytes", limit}, **word = words + 8;
     struct ended ended;
     struct text saved;
-    int well, is_accepted;
+    int well, is_accepted, declares, is_refused = 0;
+    draw_readings(&file);
     if (draw(20) == 0 && file.length > 2) file.most = file.length - 2 + draw(4);
     sprintf(limit, "%zu", file.most);
     if (draw(5) == 0) file.order = draw(2) ? "big" : "little";
@@ -312,22 +372,32 @@ static int run(char *program, long number, byte *bytes) {
     if (file.floats_reading) *word++ = "--floats";
     if (file.opaque_reading) *word++ = "--opaque-samples";
     if (file.order) *word++ = "--order", *word++ = (char *)file.order;
-    judge(&file, text);
+    word = reading_words(&file, word, numbers);
+    judge(&file, text, &parts);
     is_accepted = text[0] == 't';
+    memcpy(declared, bytes, file.length);
+    declares = draw(2) && is_accepted;
     ask(text, file.is_opaque);
-    sprintf(wanted, is_accepted ? "%s\n" : "load refused %s\n", text);
+    if (declares) {
+        is_refused = !declare(&file, &parts, declared);
+        if (is_refused) memcpy(declared, bytes, file.length);
+        write_path("queries", "declare\n", 8);
+        strcpy(wanted, is_refused ? "refused E06 frame\n" : "ok\n");
+        count_as(is_refused ? "undeclared" : "declared");
+    } else sprintf(wanted, is_accepted ? "%s\n" : "load refused %s\n", text);
     write_path("variant.sgy", bytes, file.length);
     unlink("saved.sgy");
     ended = run_program(words, environ);
     saved = read_path("saved.sgy");
     told = told_beside(text);
-    well = ended.status == (is_accepted ? 0 : 3) && ended.errors.length == strlen(told) && !memcmp(ended.errors.bytes, told, strlen(told))
+    well = ended.status == (is_accepted ? is_refused : 3) && ended.errors.length == strlen(told) && !memcmp(ended.errors.bytes, told, strlen(told))
         && ended.answers.length >= strlen(wanted) && !memcmp(ended.answers.bytes, wanted, strlen(wanted))
         && (is_accepted || ended.answers.length == strlen(wanted))
-        && (is_accepted ? saved.bytes && saved.length == file.length && !memcmp(saved.bytes, bytes, file.length) : !saved.bytes);
+        && (is_accepted ? saved.bytes && saved.length == file.length && !memcmp(saved.bytes, declared, file.length) : !saved.bytes);
     if (!well) {
-        printf("FAILED variant %ld of %zu bytes, limit %s%s%s%s%s%s: ", number, file.length, limit, file.fixed_reading ? ", fixed" : "", file.floats_reading ? ", floats" : "", file.opaque_reading ? ", opaque" : "",
+        printf("FAILED variant %ld of %zu bytes, limit %s%s%s%s%s%s,", number, file.length, limit, file.fixed_reading ? ", fixed" : "", file.floats_reading ? ", floats" : "", file.opaque_reading ? ", opaque" : "",
             file.order ? ", " : "", file.order ? file.order : "");
+        printf(" samples %lld format %lld texts %lld%s: ", (long long)file.samples_reading, (long long)file.format_reading, (long long)file.texts_reading, declares ? ", declared" : "");
         say_end(&ended);
         printf(saved.bytes ? ", saved %zu bytes" : ", nothing saved", saved.length);
         printf("; wanted %s", wanted);
@@ -349,6 +419,6 @@ int main(int count, char **words) {
         if (!bases[base_count].bytes || bases[base_count++].length > MOST_BYTES) give_up(words[at]);
     }
     for (number = 1; number <= atol(words[3]) && !is_late; number++) failed += !run(words[1], number, bytes);
-    for (at = 0; met[at].met; at++) printf("%s %ld\n", strcmp(met[at].code, "acc") ? met[at].code : "accepted", met[at].met);
+    for (at = 0; met[at].met; at++) printf("%s %ld\n", met[at].code, met[at].met);
     return failed != 0;
 }

@@ -75,9 +75,11 @@ static void write_path(const char *path, const void *bytes, size_t length) {
 }
 
 /* Whether a line of standard error tells a refused line or file, which the answers tell too: `segywb: PATH:3: E01 ..`, `segywb: PATH: L14 ..`,
-   how many more there are, or a save without them. */
+   how many more there are, a save without them, or readings with which a refused file can be read. */
 static int tells_refusal(const char *line, size_t length) {
     static const char head[] = "segywb: ", saved[] = "saved without ", more[] = ".. and ";
+    static const char fits[] = " can be read with --";
+    if (memmem(line, length, fits, sizeof fits - 1)) return 1;
     size_t at = sizeof head - 1;
     if (length < at || memcmp(line, head, at) != 0) return 0;
     if (length >= at + sizeof saved - 1 && memcmp(line + at, saved, sizeof saved - 1) == 0) return 1;

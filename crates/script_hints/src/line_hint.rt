@@ -290,6 +290,7 @@ fn no_place(words: &Words) -> Hint {
 fn frame(words: &Words) -> Hint {
     match words.at(0) {
         b"resize" => Hint::Text("each trace has the binary header's number of samples"),
+        b"declare" => Hint::Text("a load without these options would give other traces or texts"),
         _ => Hint::Text("these bytes say how the file is cut"),
     }
 }

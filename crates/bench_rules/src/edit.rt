@@ -14,8 +14,8 @@ pub enum Edit {
     /// `SetBin(field, value)`: the value into a field of the binary header. Refused, in this order:
     /// E02, E03, E04, E06.
     SetBin(Field, i128),
-    /// What the reading of the load asked for, written into the binary header where the revision has
-    /// a place for it: the number of samples, the format, the fixed length flag, the number of
+    /// What the reading of the load asked for, written into the binary header where the revision
+    /// has a place for it: the number of samples, the format, the fixed length flag, the number of
     /// extended textual headers. Refused: E06 where a load without the reading would then give
     /// other parts. Takes no memory.
     Declare,

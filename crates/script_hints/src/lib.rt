@@ -5,8 +5,8 @@
 //! without its line feed. What may be meant is one of the commands ([`COMMANDS`], each with its
 //! [`form`]), of the names of header fields ([`TRACE_NAMES`], [`BINARY_NAMES`]), or of the words
 //! of `range`; of a refused file also readings that would cut it evenly ([`Fit`]). [`Look`] is what
-//! the head of a file says, beside what its length says. Nothing here takes memory, and no answer depends on it. Lines count from 1, and
-//! bytes of a header from 1.
+//! the head of a file says, beside what its length says. Nothing here takes memory, and no answer
+//! depends on it. Lines count from 1, and bytes of a header from 1.
 #![tactic(auto)]
 
 mod commands;

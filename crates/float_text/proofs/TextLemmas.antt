@@ -27,31 +27,10 @@ use Rattle.float_codes.specs.Nearest.{ibm_pattern}
 use Rattle.float_text.specs.declared.reading.Reading.{Reading}
 use Rattle.float_text.specs.declared.reading.Reading.TheVariants.{Value, PastGreatest}
 use Rattle.float_text.specs.Words.{is_negative, size_of, is_decimal, reading_of, nearest_in, finite_reading, ibm_reading}
+use Rattle.float_text.proofs.SignLemmas.{HasSign, sign_round}
 use Rattle.float_text.specs.Texts.{text_format, shown, read_as, has_point_zero, without_point_zero, IsDecimalOf, IsTextOf}
 
 -- ---- the sign of what was rounded
-
-HasSign : Bool → Float → Type 0
-HasSign s nan = ⊥
-HasSign s (inf t) = t ≡ s
-HasSign s (fin t m e) = t ≡ s
-
-sign_odd : (d : ℕ) (s : Bool) (q k l : ℕ) → HasSign s (odd d s q k l)
-unfolding odd HasSign
-sign_odd d s Prim.Native.Nat.zero k l = refl
-sign_odd d s (Prim.Native.Nat.suc q) k l = refl
-
-sign_either : (s b : Bool) (x : Float) → HasSign s x → HasSign s (cond b x (inf s))
-unfolding HasSign
-sign_either s true x h = h
-sign_either s false x h = refl
-
-sign_units : (f : Format) (s : Bool) (q k : ℕ) → HasSign s (units f s q k)
-unfolding units
-sign_units f s q k = sign_either s (ltb (q * 2 ^ k) (2 ^ (low f + Prim.Native.Nat.suc (emax f)))) (odd (Prim.Native.Nat.suc (prec f)) s q k (low f)) (sign_odd (Prim.Native.Nat.suc (prec f)) s q k (low f))
-
-sign_nearest : (f : Format) (s : Bool) (p : Parts) → HasSign s (nearest f s p)
-sign_nearest f s p = subst (HasSign s) (sym (round_is f s (digits_of p * 10 ^ tens_up p) (10 ^ tens_down p))) (sign_units f s _ _)
 
 number_with_sign : (s : Bool) (v : Float) → HasSign s v → NotNan v
 unfolding HasSign is_nan
@@ -63,7 +42,7 @@ rounded_number : (f : Format) (v : Float) → NotNan v → NotNan (round_to_form
 unfolding round_to_format is_nan
 rounded_number f nan n = absurd n
 rounded_number f (inf s) n = tt
-rounded_number f (fin s m e) n = number_with_sign s _ (subst (HasSign s) (sym (round_is f s (m * up e) (down e))) (sign_units f s _ _))
+rounded_number f (fin s m e) n = number_with_sign s _ (sign_round f s (m * up e) (down e))
 
 -- ---- a text begins with its sign
 

@@ -5,7 +5,7 @@ use Rattle.field_map.specs.declared.place.Place.{Place}
 use Rattle.frame_cut.specs.Cuts.{IsCut}
 use Rattle.frame_cut.specs.Volume.{Volume}
 use Rattle.frame_cut.specs.Traces.{trace_at, with_trace}
-use Rattle.bench_rules.specs.declared.edit.Edit.TheVariants.{Set, SetBin, SetText, Map, Unmap, Patch, Blank, Copy, Delete, Move, Resize, Renumber, Compute, Sort}
+use Rattle.bench_rules.specs.declared.edit.Edit.TheVariants.{Set, SetBin, Declare, SetText, Map, Unmap, Patch, Blank, Copy, Delete, Move, Resize, Renumber, Compute, Sort}
 use Rattle.bench_laws.specs.EditLaws.{StaysCut}
 use Rattle.bench_rules.specs.Places.{place_in_trace, place_in_binary}
 use Rattle.bench_rules.specs.Refused.{with_value}
@@ -19,6 +19,8 @@ use Rattle.bench_rules.proofs.ManyValueLemmas.{with_traces}
 use Rattle.bench_rules.proofs.ResizeLemmas.{resize_done}
 use Rattle.bench_rules.proofs.SetLemmas.{accepted, is_after}
 use Rattle.bench_rules.proofs.HeaderEditLemmas.{same_refused, same_after, no_place, bin_accepted, with_binary, bin_is_after, text_accepted, with_text, text_is_after, no_bin_place}
+use Rattle.declared_frame.specs.Written.{with_declared}
+use Rattle.bench_rules.proofs.DeclareLemmas.{declare_is_after}
 use Rattle.bench_rules.specs.Sorted.{in_order, with_order}
 use Rattle.bench_rules.proofs.ComputeLemmas.{compute_accepted}
 use Rattle.bench_rules.proofs.SortedLemmas.{sort_accepted, sort_done}
@@ -28,7 +30,7 @@ use Rattle.bench_laws.proofs.ResizeLemmas.{with_resized}
 pub stays_cut : StaysCut
 stays_cut s (Set p f x) cut none = by (place_in_trace s.fields f) refl
   where
-    by : (o : Option Place) → place_in_trace s.fields f ≡ o → (v : Volume) × IsCut (bytes_after s.volume s.fields (Set p f x)) s.reading s.limits v × (v.head ≡ s.volume.head)
+    by : (o : Option Place) → place_in_trace s.fields f ≡ o → (v : Volume) × IsCut (bytes_after s (Set p f x)) s.reading s.limits v × (v.head ≡ s.volume.head)
     by None e = absurd (no_place s p f x e none)
     by (Some place) e =
         let v : Volume = with_trace s.volume p (with_value s.volume.head (trace_at s.volume p) place x) in
@@ -36,11 +38,12 @@ stays_cut s (Set p f x) cut none = by (place_in_trace s.fields f) refl
         (v, (same_after s p f place x (record s { volume = v }) e a).volume, refl)
 stays_cut s (SetBin f x) cut none = by (place_in_binary f) refl
   where
-    by : (o : Option Place) → place_in_binary f ≡ o → (v : Volume) × IsCut (bytes_after s.volume s.fields (SetBin f x)) s.reading s.limits v × (v.head ≡ s.volume.head)
+    by : (o : Option Place) → place_in_binary f ≡ o → (v : Volume) × IsCut (bytes_after s (SetBin f x)) s.reading s.limits v × (v.head ≡ s.volume.head)
     by None e = absurd (no_bin_place s f x e none)
     by (Some place) e =
         let v : Volume = with_binary s.volume place x in
         (v, (bin_is_after s f place x e cut (bin_accepted s f place x e none)).volume, refl)
+stays_cut s Declare cut none = (with_declared s.reading s.volume, (declare_is_after s cut).volume, refl)
 stays_cut s (SetText q text) cut none = (with_text s.volume q text, (text_is_after s q text cut (text_accepted s q text none)).volume, refl)
 stays_cut s (Map name field) cut none = (s.volume, cut, refl)
 stays_cut s (Unmap name) cut none = (s.volume, cut, refl)
@@ -57,7 +60,7 @@ stays_cut s (Resize p m) cut none =
     (w, (resize_done s p m w _ cut none refl refl).volume, refl)
 stays_cut s (Renumber a b f first step) cut none = by (place_in_trace s.fields f) refl
   where
-    by : (o : Option Place) → place_in_trace s.fields f ≡ o → (v : Volume) × IsCut (bytes_after s.volume s.fields (Renumber a b f first step)) s.reading s.limits v × (v.head ≡ s.volume.head)
+    by : (o : Option Place) → place_in_trace s.fields f ≡ o → (v : Volume) × IsCut (bytes_after s (Renumber a b f first step)) s.reading s.limits v × (v.head ≡ s.volume.head)
     by None e = absurd (unplaced s a b f first step e none)
     by (Some place) e = ((with_traces s (counted_traces s a b place first step)).volume, (cut_counted s a b f first step place cut e none).volume, refl)
 stays_cut s (Compute a b f source steps) cut none =

@@ -80,7 +80,7 @@ renumber_stays old new a b f first step kept j cut none after any = by (place_in
     by (Some place) e =
         let w : Volume = (with_traces old (counted_traces old a b place first step)).volume in
         let one : new.volume ≡ w =
-        at_most_one_cut (bytes_after old.volume old.fields (Renumber a b f first step)) old.reading old.limits new.volume w after.volume (cut_counted old a b f first step place cut e none).volume in
+        at_most_one_cut (bytes_after old (Renumber a b f first step)) old.reading old.limits new.volume w after.volume (cut_counted old a b f first step place cut e none).volume in
         slice_after old new j w one after.fields
         ∙ slices_from old f place (λ p. counted first step (p - a)) a (b + 1 - a) old.volume.traces e (alike_first old.volume.traces a) cut (accepted_from old a b f first step place e none).each kept j (rw e at any)
 
@@ -92,7 +92,7 @@ compute_stays old new a b field source steps kept j cut none after any =
     let n : ℕ = b + 1 - a in
     let w : Volume = (with_traces old (computed_traces old a b f)).volume in
     let one : new.volume ≡ w =
-    at_most_one_cut (bytes_after old.volume old.fields (Compute a b field source steps)) old.reading old.limits new.volume w after.volume (cut_computed old a b field source steps cut c).volume in
+    at_most_one_cut (bytes_after old (Compute a b field source steps)) old.reading old.limits new.volume w after.volume (cut_computed old a b field source steps cut c).volume in
     let left : kept_after_edit old (Compute a b field source steps) kept ≡ kept_after_sets old (Some f.place) (valued (number_of old.volume f) a n) kept =
     ap (λ (o : Option Formula). kept_after_compute old o a b kept) c.found
     ∙ ap (λ (ns : List (ℕ × ℤ)). kept_after_sets old (Some f.place) ns kept) (numbers_are old.volume f a n c.none) in

@@ -62,8 +62,8 @@ kept_apart p (j ∷ kept) k e = by (p j) refl (eqb j k) refl (λ rest. kept_apar
 
 -- ---- the volume that an edit makes
 
-pub one_volume : (old new : State) (edit : Edit) (w : Volume) → IsAfter old edit new → IsCut (bytes_after old.volume old.fields edit) old.reading old.limits w → new.volume ≡ w
-one_volume old new edit w after cut = at_most_one_cut (bytes_after old.volume old.fields edit) old.reading old.limits new.volume w after.volume cut
+pub one_volume : (old new : State) (edit : Edit) (w : Volume) → IsAfter old edit new → IsCut (bytes_after old edit) old.reading old.limits w → new.volume ≡ w
+one_volume old new edit w after cut = at_most_one_cut (bytes_after old edit) old.reading old.limits new.volume w after.volume cut
 
 -- its slice, where the field map stays
 pub slice_after : (old new : State) (k : ℕ) (w : Volume) → new.volume ≡ w → new.fields ≡ old.fields → slice_in new k ≡ slice_of w.head old.fields k w.traces

@@ -104,13 +104,13 @@ same_numbers v a b place x none =
     ∙ same_values (number_of v (just place x)) (λ p. counted x (pos 0) (p - a)) a (b + 1 - a) (λ i less. number_is v place x (a + i) (none i less) ∙ sym (no_steps x (a + i - a)))
 
 same_bytes : (s : State) (a b : ℕ) (field : Field) (x : ℤ) → first_refusal s (Compute a b field (Number x) []) ≡ None
-    → bytes_after s.volume s.fields (Compute a b field (Number x) []) ≡ bytes_after s.volume s.fields (Renumber a b field x (pos 0))
+    → bytes_after s (Compute a b field (Number x) []) ≡ bytes_after s (Renumber a b field x (pos 0))
 same_bytes s a b field x first = by (place_in_trace s.fields field) refl
   where
     t : AreTraces s.volume a b (compute_refusal_in s.volume (formula_of s.fields field (Number x) []) a b)
     t = are_traces s.volume a b (compute_refusal_in s.volume (formula_of s.fields field (Number x) []) a b) first
 
-    by : (o : Option Place) → place_in_trace s.fields field ≡ o → bytes_after s.volume s.fields (Compute a b field (Number x) []) ≡ bytes_after s.volume s.fields (Renumber a b field x (pos 0))
+    by : (o : Option Place) → place_in_trace s.fields field ≡ o → bytes_after s (Compute a b field (Number x) []) ≡ bytes_after s (Renumber a b field x (pos 0))
     by None e = rw e refl
     by (Some place) e =
         let all : first_at (compute_refusal s.volume (just place x)) (range_with_len a (b + 1 - a)) ≡ None = rw e at t.none in

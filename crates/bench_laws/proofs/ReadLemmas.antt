@@ -159,6 +159,7 @@ map_silent s name (Some place) = mapped refusals.Map (bind_fault s.volume.head.e
 silent : (s : State) (edit : Edit) → Silent (first_refusal s edit)
 silent s (edits.Set p f x) = either (no_trace s.volume p) _ (no_trace_silent s.volume p) (set_silent s.volume.head (trace_at s.volume p) (place_in_trace s.fields f) x)
 silent s (edits.SetBin f x) = set_bin_silent (place_in_binary f) x
+silent s edits.Declare = choose (can_declare s.reading s.volume) None _ tt refl
 silent s (edits.SetText q text) = text_silent s.volume.text q text
 silent s (edits.Map name f) = map_silent s name (place_in_trace s.fields f)
 silent s (edits.Unmap name) = mapped refusals.Map (unbind_fault s.fields name) (λ fault. refl)

@@ -77,12 +77,12 @@ pub record IsMade (s : State) (p : ℕ) (place : Place) (x : ℤ) (v : Volume) :
   pub same : v ≡ with_trace s.volume p (with_value s.volume.head (trace_at s.volume p) place x)
 
 pub made : (s : State) (p : ℕ) (f : Field) (place : Place) (x : ℤ) (v : Volume) → place_in_trace s.fields f ≡ Some place → IsCut (bytes_of s.volume) s.reading s.limits s.volume → first_refusal s (Set p f x) ≡ None
-    → IsCut (bytes_after s.volume s.fields (Set p f x)) s.reading s.limits v → IsMade s p place x v
+    → IsCut (bytes_after s (Set p f x)) s.reading s.limits v → IsMade s p place x v
 made s p f place x v e cut none after =
     let w : Volume = with_trace s.volume p (with_value s.volume.head (trace_at s.volume p) place x) in
     let a = accepted s p place x (sym (same_refused s p f place x e) ∙ none) in
     let again = (same_after s p f place x (record s { volume = w }) e (is_after s p place x cut a)).volume in
-    record { accepted = a; same = at_most_one_cut (bytes_after s.volume s.fields (Set p f x)) s.reading s.limits v w after again }
+    record { accepted = a; same = at_most_one_cut (bytes_after s (Set p f x)) s.reading s.limits v w after again }
 
 pub reads_what_was_set : ReadsWhatWasSet
 reads_what_was_set s p f x v cut none after = by (place_in_trace s.fields f) refl

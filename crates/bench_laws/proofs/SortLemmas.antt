@@ -107,7 +107,7 @@ sorted-volume s new a b names falls cut none after =
     let w : Volume = with_order s.volume a b (map (λ row. row.0) (in_order falls c.rows)) in
     record {
       c = c;
-      is = at_most_one_cut (bytes_after s.volume s.fields (Sort a b names falls)) s.reading s.limits new.volume w after.volume (sort_done s a b names falls w cut c refl).volume;
+      is = at_most_one_cut (bytes_after s (Sort a b names falls)) s.reading s.limits new.volume w after.volume (sort_done s a b names falls w cut c refl).volume;
       same = ordered-permutes s.volume c.places falls a b c.rows c.table;
     }
 

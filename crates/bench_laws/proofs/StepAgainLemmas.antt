@@ -27,7 +27,7 @@ unchanged old new cut e = subst (λ (s : State). IsReadAlike old s) (sym e) (its
 done : (old new : State) (edit : Edit) → IsRead old → first_refusal old edit ≡ None → IsAfter old edit new → IsReadAlike old new
 done old new edit cut none after =
     let some = stays_cut old edit cut none in
-    let same : new.volume ≡ some.0 = at_most_one_cut (bytes_after old.volume old.fields edit) old.reading old.limits new.volume some.0 after.volume some.1 in
+    let same : new.volume ≡ some.0 = at_most_one_cut (bytes_after old edit) old.reading old.limits new.volume some.0 after.volume some.1 in
     record {
       cut = subst (λ (file : List ℕ). IsCut file old.reading old.limits new.volume) (sym after.volume.joined) after.volume;
       head = ap (λ (v : Volume). v.head) same ∙ some.2;

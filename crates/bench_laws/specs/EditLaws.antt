@@ -19,7 +19,7 @@ use Rattle.bench_rules.specs.Steps.{Steps}
 -- a file that is cut is cut again after an edit that is not refused, and has the same head
 abbrev pub StaysCut : Type 0
 StaysCut = (s : State) (edit : Edit) → IsCut (bytes_of s.volume) s.reading s.limits s.volume → first_refusal s edit ≡ None
-    → (v : Volume) × IsCut (bytes_after s.volume s.fields edit) s.reading s.limits v × (v.head ≡ s.volume.head)
+    → (v : Volume) × IsCut (bytes_after s edit) s.reading s.limits v × (v.head ≡ s.volume.head)
 
 -- the new volume is the cut of its own bytes, read as the old one was, and has its head
 pub record IsReadAlike (old new : State) : Type 0 where
@@ -56,7 +56,7 @@ RepliesFromScratch = (old new : State) (edits : List Edit) (replies : List (Resu
 -- after a set that is not refused, the field of that trace has the value, in the volume that is read from the new bytes
 abbrev pub ReadsWhatWasSet : Type 0
 ReadsWhatWasSet = (s : State) (p : ℕ) (field : Field) (x : ℤ) (v : Volume)
-    → IsCut (bytes_of s.volume) s.reading s.limits s.volume → first_refusal s (Set p field x) ≡ None → IsCut (bytes_after s.volume s.fields (Set p field x)) s.reading s.limits v
+    → IsCut (bytes_of s.volume) s.reading s.limits s.volume → first_refusal s (Set p field x) ≡ None → IsCut (bytes_after s (Set p field x)) s.reading s.limits v
     → answer (record s { volume = v }) (queries.Get p field) ≡ Ok (answers.Value x)
 
 -- all but trace p is as it was
@@ -72,5 +72,5 @@ pub record LeavesOthers (old new : Volume) (p : ℕ) : Type 0 where
 -- after a set that is not refused, all but its trace is as it was, in the volume that is read from the new bytes
 abbrev pub SetLeavesTheRest : Type 0
 SetLeavesTheRest = (s : State) (p : ℕ) (field : Field) (x : ℤ) (v : Volume)
-    → IsCut (bytes_of s.volume) s.reading s.limits s.volume → first_refusal s (Set p field x) ≡ None → IsCut (bytes_after s.volume s.fields (Set p field x)) s.reading s.limits v
+    → IsCut (bytes_of s.volume) s.reading s.limits s.volume → first_refusal s (Set p field x) ≡ None → IsCut (bytes_after s (Set p field x)) s.reading s.limits v
     → LeavesOthers s.volume v p

@@ -35,20 +35,20 @@ bytes_up_to width n m bytes = take (width * min n m) bytes ++ replicate (width *
 -- after an edit that gives trace p m samples it has them, whatever their format is: the bytes of its first ones as they were, and zero bytes behind them
 abbrev pub ResizeKeepsBytes : Type 0
 ResizeKeepsBytes = (s : State) (p : ℕ) (m : ℤ) (v : Volume)
-    → IsCut (bytes_of s.volume) s.reading s.limits s.volume → first_refusal s (Resize p m) ≡ None → IsCut (bytes_after s.volume s.fields (Resize p m)) s.reading s.limits v
+    → IsCut (bytes_of s.volume) s.reading s.limits s.volume → first_refusal s (Resize p m) ≡ None → IsCut (bytes_after s (Resize p m)) s.reading s.limits v
     → sample_bytes v.head (trace_at v p) ≡ bytes_up_to (width s.volume.head.format) (sample_count s.volume.head (trace_at s.volume p)) (nat_abs m) (sample_bytes s.volume.head (trace_at s.volume p))
 
 -- and where samples have values, the values of its first ones are as they were, and zeros behind them
 abbrev pub ResizeKeepsSamples : Type 0
 ResizeKeepsSamples = (s : State) (p : ℕ) (m : ℤ) (v : Volume) (f : ValueFormat)
     → values s.volume.head.format ≡ Some f
-    → IsCut (bytes_of s.volume) s.reading s.limits s.volume → first_refusal s (Resize p m) ≡ None → IsCut (bytes_after s.volume s.fields (Resize p m)) s.reading s.limits v
+    → IsCut (bytes_of s.volume) s.reading s.limits s.volume → first_refusal s (Resize p m) ≡ None → IsCut (bytes_after s (Resize p m)) s.reading s.limits v
     → samples_of v.head (trace_at v p) ≡ samples_up_to (sample_count s.volume.head (trace_at s.volume p)) (nat_abs m) (samples_of s.volume.head (trace_at s.volume p))
 
 -- after such an edit all but trace p is as it was
 abbrev pub ResizeLeavesTheRest : Type 0
 ResizeLeavesTheRest = (s : State) (p : ℕ) (m : ℤ) (v : Volume)
-    → IsCut (bytes_of s.volume) s.reading s.limits s.volume → first_refusal s (Resize p m) ≡ None → IsCut (bytes_after s.volume s.fields (Resize p m)) s.reading s.limits v
+    → IsCut (bytes_of s.volume) s.reading s.limits s.volume → first_refusal s (Resize p m) ≡ None → IsCut (bytes_after s (Resize p m)) s.reading s.limits v
     → LeavesOthers s.volume v p
 
 -- ---- a field of many traces
@@ -83,4 +83,4 @@ ComputeIsItsSets = (s : State) (a b : ℕ) (field : Field) (source : Operand) (s
 abbrev pub ComputeOfANumberIsRenumber : Type 0
 ComputeOfANumberIsRenumber = (s : State) (a b : ℕ) (field : Field) (x : ℤ)
     → (first_refusal s (Compute a b field (Number x) []) ≡ first_refusal s (Renumber a b field x (pos 0)))
-    × (first_refusal s (Compute a b field (Number x) []) ≡ None → bytes_after s.volume s.fields (Compute a b field (Number x) []) ≡ bytes_after s.volume s.fields (Renumber a b field x (pos 0)))
+    × (first_refusal s (Compute a b field (Number x) []) ≡ None → bytes_after s (Compute a b field (Number x) []) ≡ bytes_after s (Renumber a b field x (pos 0)))

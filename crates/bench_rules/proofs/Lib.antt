@@ -1,6 +1,7 @@
 pub mod PlaceLemmas
 pub mod SetLemmas
 pub mod HeaderEditLemmas
+pub mod DeclareLemmas
 pub mod AcceptedLemmas
 pub mod WholeTraceLemmas
 pub mod PatchLemmas

@@ -29,10 +29,10 @@ use Rattle.bench_rules.proofs.SetLemmas.{both, whole_trace}
 use Rattle.bench_rules.proofs.WholeTraceLemmas.{cut_inserted, cut_deleted, cut_moved, blank_is_trace, length-without}
 
 -- an edit is done where the volume is the cut of the bytes after it, and the edit leaves the field map
-done : (s : State) (edit : Edit) (v w : Volume) → IsCut (bytes_after s.volume s.fields edit) s.reading s.limits v → fields_after s.fields edit ≡ s.fields → w ≡ v → IsAfter s edit (record s { volume = w })
+done : (s : State) (edit : Edit) (v w : Volume) → IsCut (bytes_after s edit) s.reading s.limits v → fields_after s.fields edit ≡ s.fields → w ≡ v → IsAfter s edit (record s { volume = w })
 done s edit v w cut same is =
     record {
-      volume = subst (λ (u : Volume). IsCut (bytes_after s.volume s.fields edit) s.reading s.limits u) (sym is) cut;
+      volume = subst (λ (u : Volume). IsCut (bytes_after s edit) s.reading s.limits u) (sym is) cut;
       fields = sym same;
       reading = refl;
       limits = refl;

@@ -57,7 +57,7 @@ pub twelve-accepted : first_refusal loaded twelve ≡ None
 twelve-accepted = refl
 
 -- bytes 4040 and 4284 of the file: the low bytes of the crosslines of traces 2 and 3
-pub twelve-bytes : bytes_after volume_plain geometry_at_load twelve ≡ with_bytes_at 4284 (13 ∷ []) (with_bytes_at 4040 (12 ∷ []) file_plain)
+pub twelve-bytes : bytes_after loaded twelve ≡ with_bytes_at 4284 (13 ∷ []) (with_bytes_at 4040 (12 ∷ []) file_plain)
 twelve-bytes = refl
 
 pub twelve-kept : kept_after_edit loaded twelve (2 ∷ []) ≡ []

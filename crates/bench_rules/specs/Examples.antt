@@ -25,7 +25,7 @@ abbrev loaded : Volume → State
 loaded v = record { volume = v; fields = geometry_at_load; reading = as_written; limits = wide_limits; on_disk = false }
 
 -- 07 in place of 0A at byte 4036 of the file: the inline number of trace 2
-pub set-inline : bytes_after volume_plain geometry_at_load (Set 2 (field.Name (codes "inline")) (pos 7)) ≡ with_bytes_at 4036 (7 ∷ []) file_plain
+pub set-inline : bytes_after (loaded volume_plain) (Set 2 (field.Name (codes "inline")) (pos 7)) ≡ with_bytes_at 4036 (7 ∷ []) file_plain
 set-inline = refl
 
 pub set-accepted : first_refusal (loaded volume_plain) (Set 2 (field.Name (codes "inline")) (pos 7)) ≡ None

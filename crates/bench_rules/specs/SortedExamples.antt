@@ -64,11 +64,11 @@ pub turned-accepted : first_refusal loaded by_crossline ≡ None
 turned-accepted = refl
 
 -- the file is then the one with crosslines 21, 22 and 23
-pub turned-bytes : bytes_after turned geometry_at_load by_crossline ≡ file_plain
+pub turned-bytes : bytes_after loaded by_crossline ≡ file_plain
 turned-bytes = refl
 
 -- traces 2 and 3 alone, falling: they stand so
-pub turned-behind : bytes_after turned geometry_at_load (Sort 2 3 (field.Name (codes "crossline") ∷ []) (true ∷ [])) ≡ bytes_of turned
+pub turned-behind : bytes_after loaded (Sort 2 3 (field.Name (codes "crossline") ∷ []) (true ∷ [])) ≡ bytes_of turned
 turned-behind = refl
 
 pub turned-kept : kept_after_edit loaded by_crossline (2 ∷ 0 ∷ []) ≡ []

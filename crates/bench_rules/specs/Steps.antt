@@ -2,7 +2,7 @@
 use Rattle.std.specs.Prelude.{◌≡◌, ◌⊎◌, ◌<◌, List, [], ◌∷◌, Option, Some, None, Result, Ok, Err}
 use Rattle.frame_cut.specs.Cuts.{IsCut}
 use Rattle.bench_rules.specs.declared.edit.Edit.{Edit}
-use Rattle.bench_rules.specs.declared.edit.Edit.TheVariants.{Set, SetBin, SetText, Map, Unmap, Patch, Blank, Copy, Delete, Move, Resize, Renumber, Compute, Sort}
+use Rattle.bench_rules.specs.declared.edit.Edit.TheVariants.{Set, SetBin, Declare, SetText, Map, Unmap, Patch, Blank, Copy, Delete, Move, Resize, Renumber, Compute, Sort}
 use Rattle.bench_rules.specs.declared.refusal.Refusal.{Refusal}
 use Rattle.bench_rules.specs.declared.refusal.Refusal.TheVariants.{OutOfMemory}
 use Rattle.bench_rules.specs.After.{bytes_after, fields_after}
@@ -15,6 +15,7 @@ use Rattle.bench_rules.specs.State.{State}
 abbrev pub TakesMemory : Edit → Type 0
 TakesMemory (Set p field x) = Unit {0}
 TakesMemory (SetBin field x) = ⊥
+TakesMemory Declare = ⊥
 TakesMemory (SetText q text) = ⊥
 TakesMemory (Map name field) = Unit {0}
 TakesMemory (Unmap name) = ⊥
@@ -30,7 +31,7 @@ TakesMemory (Sort a b names falls) = Unit {0}
 
 -- the new volume is the cut of the bytes after the edit, with the field map after it
 pub record IsAfter (old : State) (edit : Edit) (new : State) : Type 0 where
-  pub volume : IsCut (bytes_after old.volume old.fields edit) old.reading old.limits new.volume
+  pub volume : IsCut (bytes_after old edit) old.reading old.limits new.volume
   pub fields : new.fields ≡ fields_after old.fields edit
   pub reading : new.reading ≡ old.reading
   pub limits : new.limits ≡ old.limits

@@ -14,6 +14,11 @@ pub enum Edit {
     /// `SetBin(field, value)`: the value into a field of the binary header. Refused, in this order:
     /// E02, E03, E04, E06.
     SetBin(Field, i128),
+    /// What the reading of the load asked for, written into the binary header where the revision has
+    /// a place for it: the number of samples, the format, the fixed length flag, the number of
+    /// extended textual headers. Refused: E06 where a load without the reading would then give
+    /// other parts. Takes no memory.
+    Declare,
     /// `SetText(q, text)`: the text as line q of the textual header, in its code, with blanks up to
     /// 80 characters. Refused, in this order: E03, E07.
     SetText(u32, Text),

@@ -1,5 +1,5 @@
 -- The command line of the program, as clap sees it.
-use Rattle.std.specs.Prelude.{◌≡◌, ◌⊎◌, ℕ, Bool, true, false, List, map, Option, Some, None, codes, if◌then◌else◌}
+use Rattle.std.specs.Prelude.{◌≡◌, ◌⊎◌, ℕ, ℤ, pos, Bool, true, false, List, map, Option, Some, None, codes, if◌then◌else◌}
 use Rattle.std.specs.Str.{bytes_eq}
 use Rattle.std.specs.Str.Parse.{digits_value, without_leading_plus}
 use Rattle.std.specs.String.{string_bytes}
@@ -35,6 +35,18 @@ on_disk_rule = record (new_rule (codes "on-disk")) { long = Some (codes "on-disk
 -- the flag `--fixed`
 abbrev pub fixed_rule : Rule
 fixed_rule = record (new_rule (codes "fixed")) { long = Some (codes "fixed"); action = Some SetTrue }
+
+-- the argument `--samples N`, N from 0 to 2^32 - 1
+abbrev pub samples_rule : Rule
+samples_rule = record (new_rule (codes "samples")) { long = Some (codes "samples"); parser = Some (vp.Unsigned 0 4294967295); value_names = 1 }
+
+-- the argument `--format N`, N from 0 to 2^16 - 1
+abbrev pub format_rule : Rule
+format_rule = record (new_rule (codes "format")) { long = Some (codes "format"); parser = Some (vp.Unsigned 0 65535); value_names = 1 }
+
+-- the argument `--texts N`, N from 0 to 2^15 - 1
+abbrev pub texts_rule : Rule
+texts_rule = record (new_rule (codes "texts")) { long = Some (codes "texts"); parser = Some (vp.Unsigned 0 32767); value_names = 1 }
 
 -- the flag `--floats`
 abbrev pub floats_rule : Rule
@@ -72,14 +84,18 @@ quiet_rule = record (new_rule (codes "quiet")) { long = Some (codes "quiet"); ac
 abbrev pub recover_rule : Rule
 recover_rule = record (new_rule (codes "recover")) { long = Some (codes "recover"); action = Some SetTrue }
 
+-- the flag `--look`
+abbrev pub look_rule : Rule
+look_rule = record (new_rule (codes "look")) { long = Some (codes "look"); action = Some SetTrue }
+
 -- the program's name with a version, for which there is the flag `--version`; an option may stand
 -- more than once, and the last one counts
 abbrev pub titled : App
 titled = on_top (λ s. record s { has_version = true; args_override_self = true }) (new_app (codes "segywb"))
 
--- `segywb FILE [--script S] [--session] [--save-at-end] [--out O] [--in-place] [--on-disk] [--fixed] [--floats] [--opaque-samples] [--order O] [--max-bytes N] [--stop] [--quiet] [--recover]`
+-- `segywb FILE [--script S] [--session] [--save-at-end] [--out O] [--in-place] [--on-disk] [--fixed] [--samples N] [--format N] [--texts N] [--floats] [--opaque-samples] [--order O] [--max-bytes N] [--stop] [--quiet] [--recover] [--look]`
 unfoldable pub segywb : App
-segywb = with_rule (with_rule (with_rule (with_rule (with_rule (with_rule (with_rule (with_rule (with_rule (with_rule (with_rule (with_rule (with_rule (with_rule (with_rule titled file_rule) script_rule) out_rule) in_place_rule) on_disk_rule) fixed_rule) floats_rule) opaque_rule) order_rule) limit_rule) stop_rule) session_rule) save_at_end_rule) quiet_rule) recover_rule
+segywb = with_rule (with_rule (with_rule (with_rule (with_rule (with_rule (with_rule (with_rule (with_rule (with_rule (with_rule (with_rule (with_rule (with_rule (with_rule (with_rule (with_rule (with_rule (with_rule titled file_rule) script_rule) out_rule) in_place_rule) on_disk_rule) fixed_rule) samples_rule) format_rule) texts_rule) floats_rule) opaque_rule) order_rule) limit_rule) stop_rule) session_rule) save_at_end_rule) quiet_rule) recover_rule) look_rule
 
 -- what clap matches for the words
 abbrev pub matched : List (List ℕ) → List Row
@@ -94,10 +110,15 @@ is_set (Some text) = bytes_eq text (codes "true")
 abbrev pub usual_limit : Bool → ℕ
 usual_limit on_disk = if on_disk then 1099511627776 else 4294967296
 
--- the limit is the number whose digits clap keeps for it, and there is none where it keeps none
+-- the limit, or another number that is asked for, is the one whose digits clap keeps for it, and there is none where it keeps none
 abbrev pub ReadsLimit : Option (List ℕ) → Option ℕ → Type 0
 ReadsLimit None limit = limit ≡ None
 ReadsLimit (Some text) limit = limit ≡ Some (digits_value 10 (without_leading_plus text))
+
+-- a count that is asked for is the number whose digits clap keeps for it, and there is none where it keeps none
+abbrev pub ReadsCount : Option (List ℕ) → Option ℤ → Type 0
+ReadsCount None count = count ≡ None
+ReadsCount (Some text) count = count ≡ Some (pos (digits_value 10 (without_leading_plus text)))
 
 -- the order of bytes that is asked for has one of two names, and there is none where clap keeps none
 abbrev pub ReadsOrder : Option (List ℕ) → Option Order → Type 0

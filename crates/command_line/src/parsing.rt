@@ -2,7 +2,7 @@
 ghost use Rattle.std.specs.Prelude.{◌≡◌, ◌≤◌, ℕ, List, Some, None, IfOk, IfSome, IfErr, codes, map, option_map, OnOk, true, false};
 ghost use Rattle.std.specs.String.{string_bytes};
 ghost use Rattle.clap.specs.Words.{app_of, first_of, one_of, is_simple, found_of, rows_of, first_value, one_text};
-ghost use Rattle.command_line.specs.CommandLine.{segywb, titled, matched, is_set, ReadsLimit, ReadsOrder};
+ghost use Rattle.command_line.specs.CommandLine.{segywb, titled, matched, is_set, ReadsLimit, ReadsCount, ReadsOrder};
 
 use clap::error::ErrorKind;
 use clap::{ArgMatches, Command, Error};
@@ -63,6 +63,9 @@ fn command<'a>(alloc: Global) -> Result<Command<'a>, AllocError>
         .arg(args::in_place(alloc))?
         .arg(args::on_disk(alloc))?
         .arg(args::fixed(alloc))?
+        .arg(args::samples(alloc))?
+        .arg(args::format(alloc))?
+        .arg(args::texts(alloc))?
         .arg(args::floats(alloc))?
         .arg(args::opaque(alloc))?
         .arg(args::order(alloc))?
@@ -71,7 +74,8 @@ fn command<'a>(alloc: Global) -> Result<Command<'a>, AllocError>
         .arg(args::session(alloc))?
         .arg(args::save_at_end(alloc))?
         .arg(args::quiet(alloc))?
-        .arg(args::recover(alloc))?;
+        .arg(args::recover(alloc))?
+        .arg(args::look(alloc))?;
     Ok(command)
 }
 
@@ -86,6 +90,53 @@ fn max_bytes(matches: &ArgMatches) -> Option<Option<u64>>
         Ok(None) => Some(None),
         Ok(Some(n)) if 1 <= n && n <= GREATEST_LIMIT => Some(Some(n)),
         _ => None,
+    }
+}
+
+// A number that is asked for; `None` where it is above the greatest, which the matches of `command`
+// rule out.
+fn number(matches: &ArgMatches, id: &str, greatest: u64) -> Option<Option<u64>>
+    ensures text { IfSome result
+        (λ number. ReadsLimit (one_text (found_of matches.now) id.now) number) }
+    ensures range { IfSome result (λ number. IfSome number (λ n. n ≤ greatest)) }
+{
+    match matches.try_get_one::<u64>(id) {
+        Ok(None) => Some(None),
+        Ok(Some(n)) if n <= greatest => Some(Some(n)),
+        _ => None,
+    }
+}
+
+// The number of samples that is asked for.
+fn samples(matches: &ArgMatches) -> Option<Option<u32>>
+    ensures { IfSome result
+        (λ samples. ReadsLimit (one_text (found_of matches.now) (codes "samples")) samples) }
+{
+    match number(matches, "samples", u32::MAX as u64)? {
+        Some(n) => Some(Some(n as u32)),
+        None => Some(None),
+    }
+}
+
+// The code of the sample format that is asked for.
+fn format(matches: &ArgMatches) -> Option<Option<u16>>
+    ensures { IfSome result
+        (λ format. ReadsLimit (one_text (found_of matches.now) (codes "format")) format) }
+{
+    match number(matches, "format", u16::MAX as u64)? {
+        Some(n) => Some(Some(n as u16)),
+        None => Some(None),
+    }
+}
+
+// The number of extended textual headers that is asked for.
+fn texts(matches: &ArgMatches) -> Option<Option<i16>>
+    ensures { IfSome result
+        (λ texts. ReadsCount (one_text (found_of matches.now) (codes "texts")) texts) }
+{
+    match number(matches, "texts", i16::MAX as u64)? {
+        Some(n) => Some(Some(n as i16)),
+        None => Some(None),
     }
 }
 
@@ -130,6 +181,12 @@ fn read_matches<'a>(matches: &ArgMatches<'a>, order: Option<Order>) -> Option<Ar
     ensures range { IfSome result (λ a. IfSome a.max_bytes (λ n. (1 ≤ n) × (n ≤ 1099511627776))) }
     ensures fixed { IfSome result
         (λ a. a.fixed ≡ is_set (first_value (found_of matches.now) (codes "fixed"))) }
+    ensures samples { IfSome result
+        (λ a. ReadsLimit (one_text (found_of matches.now) (codes "samples")) a.samples) }
+    ensures format { IfSome result
+        (λ a. ReadsLimit (one_text (found_of matches.now) (codes "format")) a.format) }
+    ensures texts { IfSome result
+        (λ a. ReadsCount (one_text (found_of matches.now) (codes "texts")) a.texts) }
     ensures floats { IfSome result
         (λ a. a.floats ≡ is_set (first_value (found_of matches.now) (codes "floats"))) }
     ensures opaque { IfSome result
@@ -145,6 +202,8 @@ fn read_matches<'a>(matches: &ArgMatches<'a>, order: Option<Order>) -> Option<Ar
         (λ a. a.quiet ≡ is_set (first_value (found_of matches.now) (codes "quiet"))) }
     ensures recover { IfSome result
         (λ a. a.recover ≡ is_set (first_value (found_of matches.now) (codes "recover"))) }
+    ensures look { IfSome result
+        (λ a. a.look ≡ is_set (first_value (found_of matches.now) (codes "look"))) }
 {
     let file = matches.get_str("FILE")?;
     let script = matches.get_str("script");
@@ -153,6 +212,9 @@ fn read_matches<'a>(matches: &ArgMatches<'a>, order: Option<Order>) -> Option<Ar
     let on_disk = is_set(matches, "on-disk");
     let max_bytes = max_bytes(matches)?;
     let fixed = is_set(matches, "fixed");
+    let samples = samples(matches)?;
+    let format = format(matches)?;
+    let texts = texts(matches)?;
     let floats = is_set(matches, "floats");
     let opaque = is_set(matches, "opaque-samples");
     let stop = is_set(matches, "stop");
@@ -160,6 +222,7 @@ fn read_matches<'a>(matches: &ArgMatches<'a>, order: Option<Order>) -> Option<Ar
     let save_at_end = is_set(matches, "save-at-end");
     let quiet = is_set(matches, "quiet");
     let recover = is_set(matches, "recover");
+    let look = is_set(matches, "look");
     Some(Arguments {
         file,
         script,
@@ -168,6 +231,9 @@ fn read_matches<'a>(matches: &ArgMatches<'a>, order: Option<Order>) -> Option<Ar
         on_disk,
         max_bytes,
         fixed,
+        samples,
+        format,
+        texts,
         floats,
         opaque,
         order,
@@ -176,14 +242,17 @@ fn read_matches<'a>(matches: &ArgMatches<'a>, order: Option<Order>) -> Option<Ar
         save_at_end,
         quiet,
         recover,
+        look,
     })
 }
 
 /// What the words of a command line say, the program's name first: `FILE --script S [--out O]
-/// [--in-place] [--on-disk] [--fixed] [--floats] [--opaque-samples] [--order big|little]
-/// [--max-bytes N] [--stop] [--quiet]`, or `FILE --session [--save-at-end]` with the same options
-/// but `--script`, or `FILE --recover`; N from 1 to 1099511627776; an option may stand more than
-/// once, and the last one counts. Refused with clap's text where they are not accepted, `--help`
+/// [--in-place] [--on-disk] [--fixed] [--samples N] [--format CODE] [--texts N] [--floats]
+/// [--opaque-samples] [--order big|little] [--max-bytes N] [--stop] [--quiet]`, or
+/// `FILE --session [--save-at-end]` with the same options but `--script`, or `FILE --recover`, or
+/// `FILE --look`. The number of samples is 0 to 4294967295, CODE 0 to 65535, the number of texts 0
+/// to 32767, and that of bytes 1 to 1099511627776. An option may stand more than once, and the last
+/// one counts. Refused with clap's text where they are not accepted, `--help`
 /// too, or where a growth was refused. Takes memory.
 pub fn arguments<'a>(alloc: Global, words: &'a [String]) -> Result<Arguments<'a>, Error>
     ensures file { IfOk result (λ a. first_of (codes "FILE") (matched (map string_bytes words.now))
@@ -206,6 +275,15 @@ pub fn arguments<'a>(alloc: Global, words: &'a [String]) -> Result<Arguments<'a>
     ensures fixed { IfOk result
         (λ a. a.fixed
         ≡ is_set (first_of (codes "fixed") (matched (map string_bytes words.now)))) }
+    ensures samples { IfOk result
+        (λ a. ReadsLimit (one_of (codes "samples") (matched (map string_bytes words.now)))
+        a.samples) }
+    ensures format { IfOk result
+        (λ a. ReadsLimit (one_of (codes "format") (matched (map string_bytes words.now)))
+        a.format) }
+    ensures texts { IfOk result
+        (λ a. ReadsCount (one_of (codes "texts") (matched (map string_bytes words.now)))
+        a.texts) }
     ensures floats { IfOk result
         (λ a. a.floats
         ≡ is_set (first_of (codes "floats") (matched (map string_bytes words.now)))) }
@@ -230,6 +308,9 @@ pub fn arguments<'a>(alloc: Global, words: &'a [String]) -> Result<Arguments<'a>
     ensures recover { IfOk result
         (λ a. a.recover
         ≡ is_set (first_of (codes "recover") (matched (map string_bytes words.now)))) }
+    ensures look { IfOk result
+        (λ a. a.look
+        ≡ is_set (first_of (codes "look") (matched (map string_bytes words.now)))) }
 {
     let mut command = command(alloc)?;
     let matches = command.try_get_matches_from_mut(words)?;

@@ -34,46 +34,62 @@ pub record SameFrame (bin other : List ℕ) : Type 0 where
   pub first_trace : bin_bytes 3521 8 other ≡ bin_bytes 3521 8 bin
   pub trailer : bin_bytes 3529 4 other ≡ bin_bytes 3529 4 bin
 
+-- the fields that frame the file say the same under a reading
+pub record SameUnder (reading : Reading) (bin other : List ℕ) : Type 0 where
+  pub samples : (o : Order) → samples_field reading o other ≡ samples_field reading o bin
+  pub format : (o : Order) → format_code reading o other ≡ format_code reading o bin
+  pub fixed : (o : Order) → is_fixed reading o other ≡ is_fixed reading o bin
+  pub texts : (o : Order) → text_count reading o other ≡ text_count reading o bin
+  pub order : bin_bytes 3297 4 other ≡ bin_bytes 3297 4 bin
+  pub major : bin_bytes 3501 1 other ≡ bin_bytes 3501 1 bin
+  pub minor : bin_bytes 3502 1 other ≡ bin_bytes 3502 1 bin
+  pub extensions : bin_bytes 3507 4 other ≡ bin_bytes 3507 4 bin
+  pub first_trace : bin_bytes 3521 8 other ≡ bin_bytes 3521 8 bin
+  pub trailer : bin_bytes 3529 4 other ≡ bin_bytes 3529 4 bin
+
+-- where they keep their bytes they say the same under each reading
+pub same_under : (reading : Reading) (bin other : List ℕ) → SameFrame bin other → SameUnder reading bin other
+same_under reading bin other s = record {
+  samples = λ o. rw (s.major, s.wide_samples, s.samples) refl;
+  format = λ o. rw s.format refl;
+  fixed = λ o. rw (s.major, s.flag) refl;
+  texts = λ o. rw (s.major, s.text_count) refl;
+  order = s.order;
+  major = s.major;
+  minor = s.minor;
+  extensions = s.extensions;
+  first_trace = s.first_trace;
+  trailer = s.trailer;
+}
+
 -- ---- the fields have the same values
 
-told-same : (bin other : List ℕ) → SameFrame bin other → told_order other ≡ told_order bin
-told-same bin other s = rw s.order refl
+told-same : (reading : Reading) (bin other : List ℕ) → SameUnder reading bin other → told_order other ≡ told_order bin
+told-same reading bin other s = rw s.order refl
 
-order-same : (reading : Reading) (bin other : List ℕ) → SameFrame bin other → order_of reading other ≡ order_of reading bin
+order-same : (reading : Reading) (bin other : List ℕ) → SameUnder reading bin other → order_of reading other ≡ order_of reading bin
 order-same reading bin other s = rw s.order refl
 
-swapped-same : (bin other : List ℕ) → SameFrame bin other → is_pair_swapped other ≡ is_pair_swapped bin
-swapped-same bin other s = rw s.order refl
+swapped-same : (reading : Reading) (bin other : List ℕ) → SameUnder reading bin other → is_pair_swapped other ≡ is_pair_swapped bin
+swapped-same reading bin other s = rw s.order refl
 
-major-same : (o : Order) (bin other : List ℕ) → SameFrame bin other → major_of o other ≡ major_of o bin
-major-same o bin other s = rw s.major refl
+major-same : (reading : Reading) (o : Order) (bin other : List ℕ) → SameUnder reading bin other → major_of o other ≡ major_of o bin
+major-same reading o bin other s = rw s.major refl
 
-minor-same : (o : Order) (bin other : List ℕ) → SameFrame bin other → minor_of o other ≡ minor_of o bin
-minor-same o bin other s = rw s.minor refl
+minor-same : (reading : Reading) (o : Order) (bin other : List ℕ) → SameUnder reading bin other → minor_of o other ≡ minor_of o bin
+minor-same reading o bin other s = rw s.minor refl
 
-format-same : (o : Order) (bin other : List ℕ) → SameFrame bin other → format_code o other ≡ format_code o bin
-format-same o bin other s = rw s.format refl
+unknown-same : (reading : Reading) (o : Order) (bin other : List ℕ) → SameUnder reading bin other → is_unknown_revision o other ≡ is_unknown_revision o bin
+unknown-same reading o bin other s = rw (major-same reading o bin other s, minor-same reading o bin other s) refl
 
-unknown-same : (o : Order) (bin other : List ℕ) → SameFrame bin other → is_unknown_revision o other ≡ is_unknown_revision o bin
-unknown-same o bin other s = rw (major-same o bin other s, minor-same o bin other s) refl
+extensions-same : (reading : Reading) (o : Order) (bin other : List ℕ) → SameUnder reading bin other → extensions_field o other ≡ extensions_field o bin
+extensions-same reading o bin other s = rw (major-same reading o bin other s, s.extensions) refl
 
-samples-same : (o : Order) (bin other : List ℕ) → SameFrame bin other → samples_field o other ≡ samples_field o bin
-samples-same o bin other s = rw (major-same o bin other s, s.wide_samples, s.samples) refl
+trailer-same : (reading : Reading) (o : Order) (bin other : List ℕ) → SameUnder reading bin other → trailer_field o other ≡ trailer_field o bin
+trailer-same reading o bin other s = rw (major-same reading o bin other s, s.trailer) refl
 
-fixed-same : (reading : Reading) (o : Order) (bin other : List ℕ) → SameFrame bin other → is_fixed reading o other ≡ is_fixed reading o bin
-fixed-same reading o bin other s = rw (major-same o bin other s, s.flag) refl
-
-count-same : (o : Order) (bin other : List ℕ) → SameFrame bin other → text_count o other ≡ text_count o bin
-count-same o bin other s = rw (major-same o bin other s, s.text_count) refl
-
-extensions-same : (o : Order) (bin other : List ℕ) → SameFrame bin other → extensions_field o other ≡ extensions_field o bin
-extensions-same o bin other s = rw (major-same o bin other s, s.extensions) refl
-
-trailer-same : (o : Order) (bin other : List ℕ) → SameFrame bin other → trailer_field o other ≡ trailer_field o bin
-trailer-same o bin other s = rw (major-same o bin other s, s.trailer) refl
-
-first-same : (o : Order) (bin other : List ℕ) → SameFrame bin other → first_trace o other ≡ first_trace o bin
-first-same o bin other s = rw (major-same o bin other s, s.first_trace) refl
+first-same : (reading : Reading) (o : Order) (bin other : List ℕ) → SameUnder reading bin other → first_trace o other ≡ first_trace o bin
+first-same reading o bin other s = rw (major-same reading o bin other s, s.first_trace) refl
 
 -- ---- the head
 
@@ -92,22 +108,22 @@ head_with order major minor format samples fixed extensions blocks trailer = rec
   traces_at = traces_at blocks;
 }
 
-head_in-is : (reading : Reading) (o : Order) (bin : List ℕ) (format : Format) (blocks : ℕ) → head_in reading o bin format blocks ≡ head_with o (major_of o bin) (minor_of o bin) format (samples_field o bin) (is_fixed reading o bin) (extensions_field o bin) blocks (trailer_field o bin)
+head_in-is : (reading : Reading) (o : Order) (bin : List ℕ) (format : Format) (blocks : ℕ) → head_in reading o bin format blocks ≡ head_with o (major_of o bin) (minor_of o bin) format (samples_field reading o bin) (is_fixed reading o bin) (extensions_field o bin) blocks (trailer_field o bin)
 unfolding head_with
 head_in-is reading o bin format blocks = refl
 
-head_in-same : (reading : Reading) (o : Order) (bin other : List ℕ) (format : Format) (blocks : ℕ) → SameFrame bin other → head_in reading o other format blocks ≡ head_in reading o bin format blocks
+head_in-same : (reading : Reading) (o : Order) (bin other : List ℕ) (format : Format) (blocks : ℕ) → SameUnder reading bin other → head_in reading o other format blocks ≡ head_in reading o bin format blocks
 head_in-same reading o bin other format blocks s =
     head_in-is reading o other format blocks
-    ∙ rw (fixed-same reading o bin other s, extensions-same o bin other s, trailer-same o bin other s, samples-same o bin other s, minor-same o bin other s, major-same o bin other s) refl
+    ∙ rw (s.fixed o, extensions-same reading o bin other s, trailer-same reading o bin other s, s.samples o, minor-same reading o bin other s, major-same reading o bin other s) refl
     ∙ sym (head_in-is reading o bin format blocks)
 
-head_by-same : (reading : Reading) (o : Order) (bin other rest : List ℕ) → SameFrame bin other → head_by reading o other rest ≡ head_by reading o bin rest
+head_by-same : (reading : Reading) (o : Order) (bin other rest : List ℕ) → SameUnder reading bin other → head_by reading o other rest ≡ head_by reading o bin rest
 head_by-same reading o bin other rest s =
-    head_in-same reading o bin other (format_in reading o other) (blocks_in o other rest) s
+    head_in-same reading o bin other (format_in reading o other) (blocks_in reading o other rest) s
     ∙ ap₂ (head_in reading o bin)
-    (ap (λ (code : ℕ). format_or_2 (format_of reading.opaque reading.floats code)) (format-same o bin other s))
-    (ap (λ (count : ℤ). unwrap_or (blocks_for count rest) 0) (count-same o bin other s))
+    (ap (λ (code : ℕ). format_or_2 (format_of reading.opaque reading.floats code)) (s.format o))
+    (ap (λ (count : ℤ). unwrap_or (blocks_for count rest) 0) (s.texts o))
 
 -- the list of its refusals by what they ask
 faults_with : Bool → Bool → Bool → ℕ → ℕ → Bool → Bool → ℕ → ℤ → ℤ → ℤ → ℕ → List ℕ → List (Bool × LoadFault)
@@ -124,18 +140,18 @@ faults_with swapped otherwise unknown major minor opaque floats code count exten
     ∷ (not (first == 0) && not (first == traces_at (unwrap_or (blocks_for count rest) 0)), FirstTrace first)
     ∷ []
 
-head_faults-is : (reading : Reading) (o : Order) (bin rest : List ℕ) → head_faults reading o bin rest ≡ faults_with (is_pair_swapped bin) (is_other_order reading.order (told_order bin)) (is_unknown_revision o bin) (major_of o bin) (minor_of o bin) reading.opaque reading.floats (format_code o bin) (text_count o bin) (extensions_field o bin) (trailer_field o bin) (first_trace o bin) rest
+head_faults-is : (reading : Reading) (o : Order) (bin rest : List ℕ) → head_faults reading o bin rest ≡ faults_with (is_pair_swapped bin) (is_other_order reading.order (told_order bin)) (is_unknown_revision o bin) (major_of o bin) (minor_of o bin) reading.opaque reading.floats (format_code reading o bin) (text_count reading o bin) (extensions_field o bin) (trailer_field o bin) (first_trace o bin) rest
 unfolding faults_with
 head_faults-is reading o bin rest = refl
 
-head_faults-same : (reading : Reading) (o : Order) (bin other rest : List ℕ) → SameFrame bin other → head_faults reading o other rest ≡ head_faults reading o bin rest
+head_faults-same : (reading : Reading) (o : Order) (bin other rest : List ℕ) → SameUnder reading bin other → head_faults reading o other rest ≡ head_faults reading o bin rest
 head_faults-same reading o bin other rest s =
     head_faults-is reading o other rest
-    ∙ rw (swapped-same bin other s, told-same bin other s, unknown-same o bin other s, format-same o bin other s, count-same o bin other s, extensions-same o bin other s, trailer-same o bin other s, first-same o bin other s, minor-same o bin other s, major-same o bin other s) refl
+    ∙ rw (swapped-same reading bin other s, told-same reading bin other s, unknown-same reading o bin other s, s.format o, s.texts o, extensions-same reading o bin other s, trailer-same reading o bin other s, first-same reading o bin other s, minor-same reading o bin other s, major-same reading o bin other s) refl
     ∙ sym (head_faults-is reading o bin rest)
 
 -- bytes of the binary header outside those fields do not count
-pub head_from-same : (reading : Reading) (bin other rest : List ℕ) → SameFrame bin other → head_from reading other rest ≡ head_from reading bin rest
+pub head_from-same : (reading : Reading) (bin other rest : List ℕ) → SameUnder reading bin other → head_from reading other rest ≡ head_from reading bin rest
 head_from-same reading bin other rest s =
     let o : Order = order_of reading bin in
     ap (λ (p : Order). first_fault_else (head_faults reading p other rest) (head_by reading p other rest)) (order-same reading bin other s)
@@ -149,8 +165,8 @@ grouped_parts a b c d e = simp append_assoc
 grouped : (v : Volume) → bytes_of v ≡ v.text ++ v.bin ++ (concat v.blocks ++ concat v.traces ++ concat v.trailer)
 grouped v = grouped_parts v.text v.bin (concat v.blocks) (concat v.traces) (concat v.trailer)
 
--- another binary header that keeps the frame
-pub cut_with_bin : (reading : Reading) (l : Limits) (v : Volume) (bin : List ℕ) → IsCut (bytes_of v) reading l v → length bin ≡ 400 → SameFrame v.bin bin
+-- another binary header that says the same of the frame
+pub cut_with_bin : (reading : Reading) (l : Limits) (v : Volume) (bin : List ℕ) → IsCut (bytes_of v) reading l v → length bin ≡ 400 → SameUnder reading v.bin bin
     → IsCut (bytes_of (record v { bin = bin })) reading l (record v { bin = bin })
 cut_with_bin reading l v bin cut len same =
     let w : Volume = record v { bin = bin } in

@@ -55,13 +55,13 @@ record Checked (reading : Reading) (o : Order) (bin rest : List ℕ) (h : Head) 
   swapped : is_pair_swapped bin ≡ false
   otherwise : is_other_order reading.order (told_order bin) ≡ false
   revision : is_unknown_revision o bin ≡ false
-  float : (not (reading.opaque || reading.floats) && is_among (format_code o bin) (1 ∷ 5 ∷ 6 ∷ [])) ≡ false
-  gain : (not reading.opaque && is_among (format_code o bin) (4 ∷ [])) ≡ false
-  unknown : not (is_among (format_code o bin) (1 ∷ 2 ∷ 3 ∷ 4 ∷ 5 ∷ 6 ∷ 7 ∷ 8 ∷ 9 ∷ 10 ∷ 11 ∷ 12 ∷ 15 ∷ 16 ∷ [])) ≡ false
-  text : is_none (blocks_for (text_count o bin) rest) ≡ false
+  float : (not (reading.opaque || reading.floats) && is_among (format_code reading o bin) (1 ∷ 5 ∷ 6 ∷ [])) ≡ false
+  gain : (not reading.opaque && is_among (format_code reading o bin) (4 ∷ [])) ≡ false
+  unknown : not (is_among (format_code reading o bin) (1 ∷ 2 ∷ 3 ∷ 4 ∷ 5 ∷ 6 ∷ 7 ∷ 8 ∷ 9 ∷ 10 ∷ 11 ∷ 12 ∷ 15 ∷ 16 ∷ [])) ≡ false
+  text : is_none (blocks_for (text_count reading o bin) rest) ≡ false
   extensions : (int_lt (extensions_field o bin) (pos 0) || int_lt (pos 255) (extensions_field o bin)) ≡ false
-  trailer : is_trailer_refused (trailer_field o bin) (length rest - 3200 * blocks_in o bin rest) ≡ false
-  first : is_elsewhere o bin (blocks_in o bin rest) ≡ false
+  trailer : is_trailer_refused (trailer_field o bin) (length rest - 3200 * blocks_in reading o bin rest) ≡ false
+  first : is_elsewhere o bin (blocks_in reading o bin rest) ≡ false
   is : head_by reading o bin rest ≡ h
 
 ok_is : (a b : Head) → let ra : Result Head LoadFault = Ok a in let rb : Result Head LoadFault = Ok b in ra ≡ rb → a ≡ b
@@ -72,13 +72,13 @@ checked reading o bin rest h e =
     let swapped = past (is_pair_swapped bin) PairSwapped _ h e in
     let otherwise = past (is_other_order reading.order (told_order bin)) OtherOrder _ h swapped.1 in
     let revision = past (is_unknown_revision o bin) (Revision (major_of o bin) (minor_of o bin)) _ h otherwise.1 in
-    let float = past (not (reading.opaque || reading.floats) && is_among (format_code o bin) (1 ∷ 5 ∷ 6 ∷ [])) (FloatFormat (format_code o bin)) _ h revision.1 in
-    let gain = past (not reading.opaque && is_among (format_code o bin) (4 ∷ [])) GainFormat _ h float.1 in
-    let unknown = past (not (is_among (format_code o bin) (1 ∷ 2 ∷ 3 ∷ 4 ∷ 5 ∷ 6 ∷ 7 ∷ 8 ∷ 9 ∷ 10 ∷ 11 ∷ 12 ∷ 15 ∷ 16 ∷ []))) (UnknownFormat (format_code o bin)) _ h gain.1 in
-    let text = past (is_none (blocks_for (text_count o bin) rest)) (TextCount (text_count o bin)) _ h unknown.1 in
+    let float = past (not (reading.opaque || reading.floats) && is_among (format_code reading o bin) (1 ∷ 5 ∷ 6 ∷ [])) (FloatFormat (format_code reading o bin)) _ h revision.1 in
+    let gain = past (not reading.opaque && is_among (format_code reading o bin) (4 ∷ [])) GainFormat _ h float.1 in
+    let unknown = past (not (is_among (format_code reading o bin) (1 ∷ 2 ∷ 3 ∷ 4 ∷ 5 ∷ 6 ∷ 7 ∷ 8 ∷ 9 ∷ 10 ∷ 11 ∷ 12 ∷ 15 ∷ 16 ∷ []))) (UnknownFormat (format_code reading o bin)) _ h gain.1 in
+    let text = past (is_none (blocks_for (text_count reading o bin) rest)) (TextCount (text_count reading o bin)) _ h unknown.1 in
     let extensions = past (int_lt (extensions_field o bin) (pos 0) || int_lt (pos 255) (extensions_field o bin)) (Extensions (extensions_field o bin)) _ h text.1 in
-    let trailer = past (is_trailer_refused (trailer_field o bin) (length rest - 3200 * blocks_in o bin rest)) (Trailer (trailer_field o bin)) _ h extensions.1 in
-    let first = past (is_elsewhere o bin (blocks_in o bin rest)) (FirstTrace (first_trace o bin)) _ h trailer.1 in
+    let trailer = past (is_trailer_refused (trailer_field o bin) (length rest - 3200 * blocks_in reading o bin rest)) (Trailer (trailer_field o bin)) _ h extensions.1 in
+    let first = past (is_elsewhere o bin (blocks_in reading o bin rest)) (FirstTrace (first_trace o bin)) _ h trailer.1 in
     record {
       swapped = swapped.0;
       otherwise = otherwise.0;
@@ -98,13 +98,13 @@ rechecked reading o bin rest h k =
     passed (is_pair_swapped bin) PairSwapped _ h k.swapped
     (passed (is_other_order reading.order (told_order bin)) OtherOrder _ h k.otherwise
     (passed (is_unknown_revision o bin) (Revision (major_of o bin) (minor_of o bin)) _ h k.revision
-    (passed (not (reading.opaque || reading.floats) && is_among (format_code o bin) (1 ∷ 5 ∷ 6 ∷ [])) (FloatFormat (format_code o bin)) _ h k.float
-    (passed (not reading.opaque && is_among (format_code o bin) (4 ∷ [])) GainFormat _ h k.gain
-    (passed (not (is_among (format_code o bin) (1 ∷ 2 ∷ 3 ∷ 4 ∷ 5 ∷ 6 ∷ 7 ∷ 8 ∷ 9 ∷ 10 ∷ 11 ∷ 12 ∷ 15 ∷ 16 ∷ []))) (UnknownFormat (format_code o bin)) _ h k.unknown
-    (passed (is_none (blocks_for (text_count o bin) rest)) (TextCount (text_count o bin)) _ h k.text
+    (passed (not (reading.opaque || reading.floats) && is_among (format_code reading o bin) (1 ∷ 5 ∷ 6 ∷ [])) (FloatFormat (format_code reading o bin)) _ h k.float
+    (passed (not reading.opaque && is_among (format_code reading o bin) (4 ∷ [])) GainFormat _ h k.gain
+    (passed (not (is_among (format_code reading o bin) (1 ∷ 2 ∷ 3 ∷ 4 ∷ 5 ∷ 6 ∷ 7 ∷ 8 ∷ 9 ∷ 10 ∷ 11 ∷ 12 ∷ 15 ∷ 16 ∷ []))) (UnknownFormat (format_code reading o bin)) _ h k.unknown
+    (passed (is_none (blocks_for (text_count reading o bin) rest)) (TextCount (text_count reading o bin)) _ h k.text
     (passed (int_lt (extensions_field o bin) (pos 0) || int_lt (pos 255) (extensions_field o bin)) (Extensions (extensions_field o bin)) _ h k.extensions
-    (passed (is_trailer_refused (trailer_field o bin) (length rest - 3200 * blocks_in o bin rest)) (Trailer (trailer_field o bin)) _ h k.trailer
-    (passed (is_elsewhere o bin (blocks_in o bin rest)) (FirstTrace (first_trace o bin)) _ h k.first
+    (passed (is_trailer_refused (trailer_field o bin) (length rest - 3200 * blocks_in reading o bin rest)) (Trailer (trailer_field o bin)) _ h k.trailer
+    (passed (is_elsewhere o bin (blocks_in reading o bin rest)) (FirstTrace (first_trace o bin)) _ h k.first
     (ap (λ (x : Head). let r : Result Head LoadFault = Ok x in r) k.is))))))))))
 
 -- a number of blocks that is there
@@ -113,23 +113,23 @@ some_is None e = absurd cc
 some_is (Some n) e = refl
 
 -- the number of blocks is that of the head
-blocks_are : (reading : Reading) (o : Order) (bin rest : List ℕ) (h : Head) → Checked reading o bin rest h → blocks_in o bin rest ≡ h.blocks
+blocks_are : (reading : Reading) (o : Order) (bin rest : List ℕ) (h : Head) → Checked reading o bin rest h → blocks_in reading o bin rest ≡ h.blocks
 blocks_are reading o bin rest h k = ap (λ (x : Head). x.blocks) k.is
 
-blocks_found : (reading : Reading) (o : Order) (bin rest : List ℕ) (h : Head) → Checked reading o bin rest h → blocks_for (text_count o bin) rest ≡ Some h.blocks
+blocks_found : (reading : Reading) (o : Order) (bin rest : List ℕ) (h : Head) → Checked reading o bin rest h → blocks_for (text_count reading o bin) rest ≡ Some h.blocks
 blocks_found reading o bin rest h k =
-    some_is (blocks_for (text_count o bin) rest) k.text ∙ ap (λ (n : ℕ). let m : Option ℕ = Some n in m) (blocks_are reading o bin rest h k)
+    some_is (blocks_for (text_count reading o bin) rest) k.text ∙ ap (λ (n : ℕ). let m : Option ℕ = Some n in m) (blocks_are reading o bin rest h k)
 
 -- other bytes behind the blocks
 front_checked : (reading : Reading) (o : Order) (bin front xs ys : List ℕ) (h : Head) → length front ≡ 3200 * h.blocks → 3200 * h.trailer ≤ length ys → Checked reading o bin (front ++ xs) h → Checked reading o bin (front ++ ys) h
 front_checked reading o bin front xs ys h len le k =
-    let found : blocks_for (text_count o bin) (front ++ xs) ≡ Some h.blocks = blocks_found reading o bin (front ++ xs) h k in
-    let again : blocks_for (text_count o bin) (front ++ ys) ≡ Some h.blocks = blocks_for-front (text_count o bin) h.blocks front xs ys len found in
-    let old : blocks_in o bin (front ++ xs) ≡ h.blocks = blocks_are reading o bin (front ++ xs) h k in
-    let new : blocks_in o bin (front ++ ys) ≡ h.blocks = ap (λ (m : Option ℕ). unwrap_or m 0) again in
-    let same : blocks_in o bin (front ++ ys) ≡ blocks_in o bin (front ++ xs) = new ∙ sym old in
+    let found : blocks_for (text_count reading o bin) (front ++ xs) ≡ Some h.blocks = blocks_found reading o bin (front ++ xs) h k in
+    let again : blocks_for (text_count reading o bin) (front ++ ys) ≡ Some h.blocks = blocks_for-front (text_count reading o bin) h.blocks front xs ys len found in
+    let old : blocks_in reading o bin (front ++ xs) ≡ h.blocks = blocks_are reading o bin (front ++ xs) h k in
+    let new : blocks_in reading o bin (front ++ ys) ≡ h.blocks = ap (λ (m : Option ℕ). unwrap_or m 0) again in
+    let same : blocks_in reading o bin (front ++ ys) ≡ blocks_in reading o bin (front ++ xs) = new ∙ sym old in
     let trailer : nat_abs (trailer_field o bin) ≡ h.trailer = ap (λ (x : Head). x.trailer) k.is in
-    let room : 3200 * nat_abs (trailer_field o bin) ≤ length (front ++ ys) - 3200 * blocks_in o bin (front ++ ys) = omega (arith, length-append front ys, new, len, trailer, le) in
+    let room : 3200 * nat_abs (trailer_field o bin) ≤ length (front ++ ys) - 3200 * blocks_in reading o bin (front ++ ys) = omega (arith, length-append front ys, new, len, trailer, le) in
     record {
       swapped = k.swapped;
       otherwise = k.otherwise;
@@ -139,7 +139,7 @@ front_checked reading o bin front xs ys h len le k =
       unknown = k.unknown;
       text = ap is_none again;
       extensions = k.extensions;
-      trailer = trailer-fits (trailer_field o bin) (length (front ++ xs) - 3200 * blocks_in o bin (front ++ xs)) (length (front ++ ys) - 3200 * blocks_in o bin (front ++ ys)) k.trailer room;
+      trailer = trailer-fits (trailer_field o bin) (length (front ++ xs) - 3200 * blocks_in reading o bin (front ++ xs)) (length (front ++ ys) - 3200 * blocks_in reading o bin (front ++ ys)) k.trailer room;
       first = ap (is_elsewhere o bin) same ∙ k.first;
       is = ap (head_in reading o bin (format_in reading o bin)) same ∙ k.is;
     }
@@ -154,11 +154,11 @@ head_from-has : (reading : Reading) (bin rest : List ℕ) (h : Head) → head_fr
 head_from-has reading bin rest h e =
     let o : Order = order_of reading bin in
     let k : Checked reading o bin rest h = checked reading o bin rest h e in
-    let n : blocks_in o bin rest ≡ h.blocks = blocks_are reading o bin rest h k in
-    let inside : 3200 * h.blocks ≤ length rest = blocks_for-le (text_count o bin) h.blocks rest (blocks_found reading o bin rest h k) in
-    let records : 3200 * nat_abs (trailer_field o bin) ≤ length rest - 3200 * blocks_in o bin rest = trailer-le (trailer_field o bin) (length rest - 3200 * blocks_in o bin rest) k.trailer in
+    let n : blocks_in reading o bin rest ≡ h.blocks = blocks_are reading o bin rest h k in
+    let inside : 3200 * h.blocks ≤ length rest = blocks_for-le (text_count reading o bin) h.blocks rest (blocks_found reading o bin rest h k) in
+    let records : 3200 * nat_abs (trailer_field o bin) ≤ length rest - 3200 * blocks_in reading o bin rest = trailer-le (trailer_field o bin) (length rest - 3200 * blocks_in reading o bin rest) k.trailer in
     let trailer : nat_abs (trailer_field o bin) ≡ h.trailer = ap (λ (x : Head). x.trailer) k.is in
-    let traces : traces_at (blocks_in o bin rest) ≡ h.traces_at = ap (λ (x : Head). x.traces_at) k.is in
+    let traces : traces_at (blocks_in reading o bin rest) ≡ h.traces_at = ap (λ (x : Head). x.traces_at) k.is in
     let few : nat_abs (extensions_field o bin) ≤ 255 = extensions-le (extensions_field o bin) k.extensions in
     let extensions : nat_abs (extensions_field o bin) ≡ h.extensions = ap (λ (x : Head). x.extensions) k.is in
     (omega arith, omega arith, omega arith)

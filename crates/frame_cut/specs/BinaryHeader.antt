@@ -1,5 +1,5 @@
 -- The fields of the binary header (bytes 3201 to 3600 of a file) that say how the file is cut.
-use Rattle.std.specs.Prelude.{ℕ, ◌-◌, ◌==◌, ◌||◌, ◌&&◌, nat_lt, Bool, true, false, not, List, [], ◌∷◌, take, drop, bytes_eq, ℤ, pos, Option, Some, None, unwrap_or, if◌then◌else◌}
+use Rattle.std.specs.Prelude.{ℕ, ◌-◌, ◌==◌, ◌||◌, ◌&&◌, nat_lt, Bool, true, false, not, List, [], ◌∷◌, take, drop, bytes_eq, ℤ, pos, Option, Some, None, unwrap_or, is_some, if◌then◌else◌}
 use Rattle.num_order.specs.declared.order.Order.{Order}
 use Rattle.num_order.specs.declared.order.Order.TheVariants.{Big, Little}
 use Rattle.num_order.specs.Number.{num, unsigned}
@@ -62,13 +62,13 @@ since_1 o bin field = if major_of o bin == 0 then pos 0 else field
 abbrev pub in_2 : Order → List ℕ → ℤ → ℤ
 in_2 o bin field = if major_of o bin == 2 then field else pos 0
 
--- the code of the sample format
-abbrev pub format_code : Order → List ℕ → ℕ
-format_code o bin = bin_unsigned o 3225 2 bin
+-- the code of the sample format: the one that is asked for, else the field's
+abbrev pub format_code : Reading → Order → List ℕ → ℕ
+format_code reading o bin = unwrap_or reading.format (bin_unsigned o 3225 2 bin)
 
--- the number of extended textual headers, -1 where they end by themselves
-abbrev pub text_count : Order → List ℕ → ℤ
-text_count o bin = since_1 o bin (bin_signed o 3505 2 bin)
+-- the number of extended textual headers: the one that is asked for, else the field's, -1 where they end by themselves
+abbrev pub text_count : Reading → Order → List ℕ → ℤ
+text_count reading o bin = unwrap_or reading.texts (since_1 o bin (bin_signed o 3505 2 bin))
 
 -- the most header extensions of a trace
 abbrev pub extensions_field : Order → List ℕ → ℤ
@@ -86,14 +86,22 @@ first_trace o bin = if major_of o bin == 2 then bin_unsigned o 3521 8 bin else 0
 abbrev pub wide_samples : Order → List ℕ → ℕ
 wide_samples o bin = if major_of o bin == 2 then bin_unsigned o 3269 4 bin else 0
 
--- the number of samples of a trace: that of the wide field unless it is 0
-abbrev pub samples_field : Order → List ℕ → ℕ
-samples_field o bin = if wide_samples o bin == 0 then bin_unsigned o 3221 2 bin else wide_samples o bin
+-- the number of samples of a trace in the fields: that of the wide one unless it is 0
+abbrev pub written_samples : Order → List ℕ → ℕ
+written_samples o bin = if wide_samples o bin == 0 then bin_unsigned o 3221 2 bin else wide_samples o bin
+
+-- the number of samples of a trace: the one that is asked for, else the fields'
+abbrev pub samples_field : Reading → Order → List ℕ → ℕ
+samples_field reading o bin = unwrap_or reading.samples (written_samples o bin)
 
 -- whether the fixed length flag (3503-3504) counts and is set
 abbrev pub is_flag_set : Order → List ℕ → Bool
 is_flag_set o bin = not (major_of o bin == 0) && not (bin_unsigned o 3503 2 bin == 0)
 
--- whether each trace has the binary header's number of samples, under the reading
+-- each trace is asked to have one number of samples: the binary header's, or the one that is given
+abbrev pub asks_fixed : Reading → Bool
+asks_fixed reading = reading.fixed || is_some reading.samples
+
+-- whether each trace has that number of samples, under the reading
 abbrev pub is_fixed : Reading → Order → List ℕ → Bool
-is_fixed reading o bin = reading.fixed || is_flag_set o bin
+is_fixed reading o bin = asks_fixed reading || is_flag_set o bin

@@ -41,8 +41,8 @@ abbrev pub traces_at : ℕ → ℕ
 traces_at blocks = FILE_HEADER_BYTES + TEXT_BLOCK_BYTES * blocks
 
 -- how many extended textual headers there are, 0 where there are not so many as the text count says
-abbrev pub blocks_in : Order → List ℕ → List ℕ → ℕ
-blocks_in o bin rest = unwrap_or (blocks_for (text_count o bin) rest) 0
+abbrev pub blocks_in : Reading → Order → List ℕ → List ℕ → ℕ
+blocks_in reading o bin rest = unwrap_or (blocks_for (text_count reading o bin) rest) 0
 
 -- the sample format that a code was found to have; that of code 2 where the code is refused, and then there is no head
 abbrev pub format_or_2 : Result Format FormatFault → Format
@@ -51,7 +51,7 @@ format_or_2 (Err fault) = Valued (Integer Signed32)
 
 -- the sample format of the binary header's code
 abbrev pub format_in : Reading → Order → List ℕ → Format
-format_in reading o bin = format_or_2 (format_of reading.opaque reading.floats (format_code o bin))
+format_in reading o bin = format_or_2 (format_of reading.opaque reading.floats (format_code reading o bin))
 
 -- ---- conditions
 
@@ -84,19 +84,19 @@ head_faults reading o bin rest =
     -- L05: a revision above 2.0
     ∷ (is_unknown_revision o bin, Revision (major_of o bin) (minor_of o bin))
     -- L06: a sample format of floats, where neither floats nor opaque formats are asked for
-    ∷ (not (reading.opaque || reading.floats) && is_among (format_code o bin) (1 ∷ 5 ∷ 6 ∷ []), FloatFormat (format_code o bin))
+    ∷ (not (reading.opaque || reading.floats) && is_among (format_code reading o bin) (1 ∷ 5 ∷ 6 ∷ []), FloatFormat (format_code reading o bin))
     -- L07: that of fixed point with gain, where opaque formats are not asked for
-    ∷ (not reading.opaque && is_among (format_code o bin) (4 ∷ []), GainFormat)
+    ∷ (not reading.opaque && is_among (format_code reading o bin) (4 ∷ []), GainFormat)
     -- L08: a sample format code that the standard leaves unassigned
-    ∷ (not (is_among (format_code o bin) (1 ∷ 2 ∷ 3 ∷ 4 ∷ 5 ∷ 6 ∷ 7 ∷ 8 ∷ 9 ∷ 10 ∷ 11 ∷ 12 ∷ 15 ∷ 16 ∷ [])), UnknownFormat (format_code o bin))
+    ∷ (not (is_among (format_code reading o bin) (1 ∷ 2 ∷ 3 ∷ 4 ∷ 5 ∷ 6 ∷ 7 ∷ 8 ∷ 9 ∷ 10 ∷ 11 ∷ 12 ∷ 15 ∷ 16 ∷ [])), UnknownFormat (format_code reading o bin))
     -- L09: a number of extended textual headers below -1, or more than there are bytes, or -1 where none ends the text
-    ∷ (is_none (blocks_for (text_count o bin) rest), TextCount (text_count o bin))
+    ∷ (is_none (blocks_for (text_count reading o bin) rest), TextCount (text_count reading o bin))
     -- L10: a number of trace header extensions outside 0 to 255
     ∷ (int_lt (extensions_field o bin) (pos 0) || int_lt (pos 255) (extensions_field o bin), Extensions (extensions_field o bin))
     -- L11: a number of data trailer records that is negative, or more than there are bytes behind the extended textual headers
-    ∷ (is_trailer_refused (trailer_field o bin) (length rest - TEXT_BLOCK_BYTES * blocks_in o bin rest), Trailer (trailer_field o bin))
+    ∷ (is_trailer_refused (trailer_field o bin) (length rest - TEXT_BLOCK_BYTES * blocks_in reading o bin rest), Trailer (trailer_field o bin))
     -- L12: a place of the first trace that is neither 0 nor the one behind the extended textual headers
-    ∷ (not (first_trace o bin == 0) && not (first_trace o bin == traces_at (blocks_in o bin rest)), FirstTrace (first_trace o bin))
+    ∷ (not (first_trace o bin == 0) && not (first_trace o bin == traces_at (blocks_in reading o bin rest)), FirstTrace (first_trace o bin))
     ∷ []
 
 -- what the binary header says, with the order of bytes, the sample format and the number of blocks
@@ -106,7 +106,7 @@ head_in reading o bin format blocks = record {
   major = major_of o bin;
   minor = minor_of o bin;
   format = format;
-  samples = samples_field o bin;
+  samples = samples_field reading o bin;
   fixed = is_fixed reading o bin;
   extensions = nat_abs (extensions_field o bin);
   blocks = blocks;
@@ -116,7 +116,7 @@ head_in reading o bin format blocks = record {
 
 -- the head of a file with this binary header and these bytes behind it, where it is not refused
 abbrev pub head_by : Reading → Order → List ℕ → List ℕ → Head
-head_by reading o bin rest = head_in reading o bin (format_in reading o bin) (blocks_in o bin rest)
+head_by reading o bin rest = head_in reading o bin (format_in reading o bin) (blocks_in reading o bin rest)
 
 -- the first fault whose condition holds, else the head
 abbrev pub first_fault_else : List (Bool × LoadFault) → Head → Result Head LoadFault

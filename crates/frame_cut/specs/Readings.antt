@@ -1,10 +1,10 @@
 -- How a file is read.
-use Rattle.std.specs.Prelude.{true, false, None}
+use Rattle.std.specs.Prelude.{ℕ, true, false, None, Some}
 use Rattle.frame_cut.specs.declared.reading.Reading.{Reading}
 
 -- as the file says, and integer samples alone
 abbrev pub as_written : Reading
-as_written = record { fixed = false; opaque = false; floats = false; order = None }
+as_written = record { fixed = false; opaque = false; floats = false; order = None; samples = None; format = None; texts = None }
 
 -- with the binary header's number of samples in every trace
 abbrev pub as_fixed : Reading
@@ -17,3 +17,7 @@ as_opaque = record as_written { opaque = true }
 -- with the values of floats
 abbrev pub as_floats : Reading
 as_floats = record as_written { floats = true }
+
+-- with this number of samples in every trace
+abbrev pub as_samples : ℕ → Reading
+as_samples n = record as_written { samples = Some n }

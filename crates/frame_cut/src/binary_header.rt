@@ -3,7 +3,7 @@
 // alone its major revision. A place is written as the field's first byte, counted from 1 over the
 // file, less the header's.
 ghost use Rattle.std.specs.Prelude.{◌≡◌, length};
-ghost use Rattle.frame_cut.specs.BinaryHeader.{order_of as order_in, told_order as told_order_in, is_other_order as is_other_order_in, is_pair_swapped as is_pair_swapped_in, major_of, minor_of, format_code as format_code_in, text_count as text_count_in, extensions_field, trailer_field, first_trace as first_trace_in, samples_field, is_fixed as is_fixed_in};
+ghost use Rattle.frame_cut.specs.BinaryHeader.{order_of as order_in, told_order as told_order_in, is_other_order as is_other_order_in, is_pair_swapped as is_pair_swapped_in, major_of, minor_of, format_code as format_code_in, text_count as text_count_in, extensions_field, trailer_field, first_trace as first_trace_in, written_samples as written_samples_in, samples_field, is_fixed as is_fixed_in};
 
 use crate::reading::Reading;
 use crate::sizes::BINARY_HEADER_BYTES;
@@ -65,22 +65,25 @@ pub(crate) fn minor(order: Order, bin: &[u8]) -> u8
     u8_at(order, bin, 3502 - 3201)
 }
 
-pub(crate) fn format_code(order: Order, bin: &[u8]) -> u16
+pub(crate) fn format_code(reading: Reading, order: Order, bin: &[u8]) -> u16
     requires { length bin.now ≡ BINARY_HEADER_BYTES }
-    ensures { result ≡ format_code_in order bin.now }
+    ensures { result ≡ format_code_in reading order bin.now }
 {
-    u16_at(order, bin, 3225 - 3201)
+    match reading.format {
+        Some(code) => code,
+        None => u16_at(order, bin, 3225 - 3201),
+    }
 }
 
-pub(crate) fn text_count(order: Order, major: u8, bin: &[u8]) -> i16
+pub(crate) fn text_count(reading: Reading, order: Order, major: u8, bin: &[u8]) -> i16
     requires whole { length bin.now ≡ BINARY_HEADER_BYTES }
     requires major { major ≡ major_of order bin.now }
-    ensures { result ≡ text_count_in order bin.now }
+    ensures { result ≡ text_count_in reading order bin.now }
 {
-    if major == 0 {
-        0
-    } else {
-        i16_at(order, bin, 3505 - 3201)
+    match reading.texts {
+        Some(count) => count,
+        None if major == 0 => 0,
+        None => i16_at(order, bin, 3505 - 3201),
     }
 }
 
@@ -120,10 +123,22 @@ pub(crate) fn first_trace(order: Order, major: u8, bin: &[u8]) -> u64
     }
 }
 
-pub(crate) fn samples(order: Order, major: u8, bin: &[u8]) -> u32
+pub(crate) fn samples(reading: Reading, order: Order, major: u8, bin: &[u8]) -> u32
     requires whole { length bin.now ≡ BINARY_HEADER_BYTES }
     requires major { major ≡ major_of order bin.now }
-    ensures { result ≡ samples_field order bin.now }
+    ensures { result ≡ samples_field reading order bin.now }
+{
+    match reading.samples {
+        Some(count) => count,
+        None => written_samples(order, major, bin),
+    }
+}
+
+// The number of samples of a trace in the fields: that of the wide one unless it is 0.
+fn written_samples(order: Order, major: u8, bin: &[u8]) -> u32
+    requires whole { length bin.now ≡ BINARY_HEADER_BYTES }
+    requires major { major ≡ major_of order bin.now }
+    ensures { result ≡ written_samples_in order bin.now }
 {
     let wide = if major == 2 {
         u32_at(order, bin, 3269 - 3201)
@@ -142,5 +157,7 @@ pub(crate) fn is_fixed(reading: Reading, order: Order, major: u8, bin: &[u8]) ->
     requires major { major ≡ major_of order bin.now }
     ensures { result ≡ is_fixed_in reading order bin.now }
 {
-    reading.fixed || (major != 0 && u16_at(order, bin, 3503 - 3201) != 0)
+    reading.fixed
+        || reading.samples.is_some()
+        || (major != 0 && u16_at(order, bin, 3503 - 3201) != 0)
 }

@@ -137,7 +137,7 @@ fn with_revision(
         (head_by reading order bin.now all)) }
     ensures more { result ≡ Ok None → length rest.now < left }
 {
-    let code = format_code(order, bin);
+    let code = format_code(reading, order, bin);
     match Format::of(code, reading.opaque, reading.floats) {
         Ok(format) => with_format(reading, order, bin, rest, left, format),
         Err(fault) => Err(format_refusal(fault, code)),
@@ -173,7 +173,7 @@ fn with_format(
         (head_by reading order bin.now all)) }
     ensures more { result ≡ Ok None → length rest.now < left }
 {
-    let count = text_count(order, major(order, bin), bin);
+    let count = text_count(reading, order, major(order, bin), bin);
     match blocks_told(count, rest, left) {
         Some(Some(blocks)) => with_blocks(reading, order, bin, left, format, blocks),
         Some(None) => Err(LoadFault::TextCount(count)),
@@ -193,7 +193,7 @@ fn with_blocks(
     requires whole { length bin.now ≡ BINARY_HEADER_BYTES }
     requires inside { TEXT_BLOCK_BYTES * blocks ≤ left }
     requires format { format ≡ format_in reading order bin.now }
-    ensures told { (all : List ℕ) → length all ≡ left → blocks ≡ blocks_in order bin.now all →
+    ensures told { (all : List ℕ) → length all ≡ left → blocks ≡ blocks_in reading order bin.now all →
         Tells result (first_fault_else (drop 7 (head_faults reading order bin.now all))
         (head_by reading order bin.now all)) }
     ensures known { IfOk result (λ head. IsSome head) }
@@ -260,7 +260,7 @@ fn head_in(
         major,
         minor: minor(order, bin),
         format,
-        samples: samples(order, major, bin),
+        samples: samples(reading, order, major, bin),
         fixed: is_fixed(reading, order, major, bin),
         extensions: extensions.unsigned_abs() as u8,
         blocks,

@@ -24,6 +24,7 @@
 #![tactic(auto)]
 
 mod computed_edits;
+mod declaring;
 mod kept_slices;
 mod live_volume;
 mod number_edits;

@@ -140,6 +140,7 @@ impl LiveVolume {
         match edit {
             Edit::Set(p, field, value) => self.set_field(alloc, *p, field, *value),
             Edit::SetBin(field, value) => self.set_bin(field, *value),
+            Edit::Declare => self.declare(),
             Edit::SetText(q, text) => self.set_text(*q, text),
             Edit::Map(name, field) => self.bind(alloc, name, field),
             Edit::Unmap(name) => self.unbind(name),

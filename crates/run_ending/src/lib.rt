@@ -8,13 +8,16 @@
 //! pipe or a device.
 //!
 //! A repair of FILE itself begins with [`journal_refusal`] and [`disk_of`], which locks it, and
-//! ends with [`finish_in_place`]; [`recover_file`] undoes one that was cut off.
+//! ends with [`finish_in_place`]; [`recover_file`] undoes one that was cut off. [`look_at_file`]
+//! tells what the head of FILE says, beside what its length says.
 #![tactic(auto)]
 
 mod device_out;
 mod ending;
 mod finishing;
+mod fitting;
 mod journals;
+mod looking;
 mod out_place;
 mod refused;
 mod repairing;
@@ -26,6 +29,7 @@ pub use crate::device_out::DeviceOut;
 pub use crate::ending::{Message, SaveEnd, exit_status, told, told_of_change};
 pub use crate::finishing::{finish, finish_told, refused_out};
 pub use crate::journals::{journal_refusal, recover_file};
+pub use crate::looking::look_at_file;
 pub use crate::out_place::OutPlace;
 pub use crate::refused::{reading_of, tell_how_to_begin};
 pub use crate::repairing::{disk_of, finish_in_place};

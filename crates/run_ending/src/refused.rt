@@ -3,10 +3,11 @@ ghost use Rattle.std.specs.Prelude.{◌≡◌};
 
 use crate::ending::SaveEnd;
 use crate::finishing::is_heard;
+use crate::fitting::fits;
 use crate::torn_file::torn_file;
 use command_line::Arguments;
 use frame_cut::{Limits, LoadFault, Reading};
-use script_hints::{LoadNote, NoteLine, Notes, TornFile};
+use script_hints::{Fit, LoadNote, NoteLine, Notes, TornFile};
 use script_text::RunEnd;
 use std::fs::File;
 use std::rt::Files;
@@ -37,6 +38,7 @@ pub(crate) fn tell_refused<R: Files<File = File> + AllocGlobal + Eprint>(
             fault,
             on_disk: arguments.on_disk,
             torn: torn(rt, arguments, fault),
+            fits: fits_of(rt, arguments, fault),
         };
         let _ = eprintln!(rt; "{line}");
     }
@@ -63,8 +65,21 @@ pub(crate) fn tell_refused<R: Files<File = File> + AllocGlobal + Eprint>(
 fn notes_room(arguments: &Arguments) -> u64 {
     let script = arguments.script.unwrap_or("").len() as u64;
     let line = script.saturating_add(NOTE_ROOM);
+    // The path stands in each of the lines of a refused file, of which there are at most six.
     line.saturating_mul(LINES)
-        .saturating_add(arguments.file.len() as u64)
+        .saturating_add((arguments.file.len() as u64).saturating_mul(6))
+}
+
+// Readings that would cut the refused file evenly.
+fn fits_of<R: Files<File = File> + AllocGlobal>(
+    rt: &R,
+    arguments: &Arguments,
+    fault: LoadFault,
+) -> [Option<Fit>; 4] {
+    match Limits::new(GREATEST, u32::MAX) {
+        Some(limits) => fits(rt, arguments.file, reading_of(arguments), limits, fault),
+        None => [None, None, None, None],
+    }
 }
 
 // What is seen of a file that ends inside a trace.
@@ -89,6 +104,9 @@ pub fn reading_of(arguments: &Arguments) -> Reading
       opaque = arguments.now.opaque;
       floats = arguments.now.floats;
       order = arguments.now.order;
+      samples = arguments.now.samples;
+      format = arguments.now.format;
+      texts = arguments.now.texts;
     } }
 {
     Reading {
@@ -96,6 +114,9 @@ pub fn reading_of(arguments: &Arguments) -> Reading
         opaque: arguments.opaque,
         floats: arguments.floats,
         order: arguments.order,
+        samples: arguments.samples,
+        format: arguments.format,
+        texts: arguments.texts,
     }
 }
 

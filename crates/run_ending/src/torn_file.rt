@@ -52,8 +52,8 @@ pub(crate) fn torn_file<R: Files<File = File> + AllocGlobal>(
     })
 }
 
-// The first bytes of the file.
-fn read_front<F: FileExt>(alloc: Global, file: &F, size: u64) -> Option<Vec<u8>> {
+/// The first bytes of the file.
+pub(crate) fn read_front<F: FileExt>(alloc: Global, file: &F, size: u64) -> Option<Vec<u8>> {
     let most = size.min(FRONT) as usize;
     let mut front = Vec::new(alloc);
     front.resize(most, 0).ok()?;
@@ -64,8 +64,8 @@ fn read_front<F: FileExt>(alloc: Global, file: &F, size: u64) -> Option<Vec<u8>>
     }
 }
 
-// Whether all these bytes are read from this place on.
-fn is_read<F: FileExt>(file: &F, at: u64, out: &mut [u8]) -> bool {
+/// Whether all these bytes are read from this place on.
+pub(crate) fn is_read<F: FileExt>(file: &F, at: u64, out: &mut [u8]) -> bool {
     let mut done = 0usize;
     for _ in 0..out.len() {
         if done >= out.len() {
@@ -116,17 +116,7 @@ fn even_samples<F: FileExt>(file: &F, head: &Head, limits: Limits, end: u64) -> 
     if is_even(head, limits, all, head.samples) {
         return Some(head.samples);
     }
-    let mut front = [0u8; HEADERS];
-    if !is_read(file, head.traces_at, &mut front) {
-        return None;
-    }
-    let own = sample_count(
-        &Head {
-            fixed: false,
-            ..*head
-        },
-        &front,
-    );
+    let own = first_samples(file, head)?;
     if is_even(head, limits, all, own) {
         Some(own)
     } else {
@@ -134,9 +124,24 @@ fn even_samples<F: FileExt>(file: &F, head: &Head, limits: Limits, end: u64) -> 
     }
 }
 
-// Whether traces of so many samples, and no fewer header extensions than the file allows, are
-// together as long as this.
-fn is_even(head: &Head, limits: Limits, all: u64, samples: u32) -> bool {
+/// The number of samples that the headers of the first trace say.
+pub(crate) fn first_samples<F: FileExt>(file: &F, head: &Head) -> Option<u32> {
+    let mut front = [0u8; HEADERS];
+    if !is_read(file, head.traces_at, &mut front) {
+        return None;
+    }
+    Some(sample_count(
+        &Head {
+            fixed: false,
+            ..*head
+        },
+        &front,
+    ))
+}
+
+/// Whether traces of so many samples, and no fewer header extensions than the file allows, are
+/// together as long as this.
+pub(crate) fn is_even(head: &Head, limits: Limits, all: u64, samples: u32) -> bool {
     let headers = 240 * (1 + u64::from(head.extensions));
     let length = headers + u64::from(samples) * u64::from(head.format.width());
     all > 0 && all % length == 0 && all / length <= u64::from(limits.traces())

@@ -28,6 +28,9 @@ pub fn misuse<R: Files>(rt: &R, arguments: &Arguments) -> Option<&'static str> {
     if arguments.recover {
         return misuse_of_recovery(arguments);
     }
+    if arguments.look {
+        return misuse_of_look(arguments);
+    }
     match arguments.script {
         None if !arguments.session => return Some("--script or --session is needed; see --help"),
         Some(_) if arguments.session => return Some("--script and --session exclude each other"),
@@ -58,6 +61,18 @@ fn misuse_of_recovery(arguments: &Arguments) -> Option<&'static str> {
         None
     } else {
         Some("--recover stands alone: segywb FILE --recover")
+    }
+}
+
+// Of a look at the head: it reads no script, and saves nothing.
+fn misuse_of_look(arguments: &Arguments) -> Option<&'static str> {
+    let is_alone = arguments.script.is_none()
+        && arguments.out.is_none()
+        && !(arguments.session || arguments.in_place || arguments.save_at_end);
+    if is_alone {
+        None
+    } else {
+        Some("--look reads the head alone: segywb FILE --look, with readings as --samples N")
     }
 }
 

@@ -1,11 +1,12 @@
 // The commands and their forms.
 
 /// The first words of the commands.
-pub static COMMANDS: [&str; 39] = [
+pub static COMMANDS: [&str; 40] = [
     "set",
     "get",
     "bin",
     "getbin",
+    "declare",
     "text",
     "line",
     "lines",
@@ -45,11 +46,12 @@ pub static COMMANDS: [&str; 39] = [
 
 // Their forms, in the same order. They are searched: a `match` of so many texts takes minutes to
 // prove.
-static FORMS: [&str; 39] = [
+static FORMS: [&str; 40] = [
     "set P FIELD NUMBER",
     "get P FIELD",
     "bin FIELD NUMBER",
     "getbin FIELD",
+    "declare",
     "text L TEXT",
     "line B L",
     "lines B",

@@ -4,16 +4,19 @@
 //! [`NoteLine`] is what is told of one of them, [`LoadNote`] of a refused file; each is one line,
 //! without its line feed. What may be meant is one of the commands ([`COMMANDS`], each with its
 //! [`form`]), of the names of header fields ([`TRACE_NAMES`], [`BINARY_NAMES`]), or of the words
-//! of `range`. Nothing here takes memory, and no answer depends on it. Lines count from 1, and
+//! of `range`; of a refused file also readings that would cut it evenly ([`Fit`]). [`Look`] is what
+//! the head of a file says, beside what its length says. Nothing here takes memory, and no answer depends on it. Lines count from 1, and
 //! bytes of a header from 1.
 #![tactic(auto)]
 
 mod commands;
 mod compute_hint;
 mod fault;
+mod fit;
 mod hint;
 mod line_hint;
 mod load_note;
+mod look;
 mod names;
 mod near;
 mod note;
@@ -26,7 +29,9 @@ mod words;
 
 pub use crate::commands::{COMMANDS, form};
 pub use crate::fault::{Fault, fault_of};
+pub use crate::fit::Fit;
 pub use crate::load_note::LoadNote;
+pub use crate::look::Look;
 pub use crate::names::{BINARY_NAMES, TRACE_NAMES};
 pub use crate::note::Note;
 pub use crate::note_line::NoteLine;

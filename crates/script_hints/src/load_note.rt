@@ -1,10 +1,11 @@
 // What is told of a file that is refused.
+use crate::fit::Fit;
 use crate::torn_file::TornFile;
 use frame_cut::LoadFault;
 use std::fmt;
 
 /// `segywb: FILE: REFUSAL (HINT)`, one line without its line feed: why the file is refused, and
-/// what to do. Where an option reads the file all the same, a second line names it.
+/// what to do. Where an option reads the file all the same, a further line names it.
 #[derive(Drop)]
 pub struct LoadNote<'a> {
     /// The path of the file.
@@ -15,6 +16,8 @@ pub struct LoadNote<'a> {
     pub on_disk: bool,
     /// What is seen of a file that ends inside a trace.
     pub torn: Option<TornFile>,
+    /// Readings that would cut it evenly.
+    pub fits: [Option<Fit>; 4],
 }
 
 impl fmt::Display for LoadNote<'_> {
@@ -33,13 +36,20 @@ impl fmt::Display for LoadNote<'_> {
             LoadFault::FloatFormat(_) => f.write_str(
                 "\nsegywb: with --floats the file is read, its samples with their values; \
                  with --opaque-samples as bytes without a value",
-            ),
+            )?,
             LoadFault::GainFormat => f.write_str(
                 "\nsegywb: with --opaque-samples the file is read all the same, \
                  its samples as bytes without a value",
-            ),
-            _ => Ok(()),
+            )?,
+            _ => {}
         }
+        for fit in &self.fits {
+            if let Some(fit) = fit {
+                f.write_str("\nsegywb: ")?;
+                fit.write(f, file)?;
+            }
+        }
+        Ok(())
     }
 }
 

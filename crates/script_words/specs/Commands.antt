@@ -38,6 +38,10 @@ read_bin = two field_of number_of (λ field value. Apply (edits.SetBin field val
 abbrev pub read_getbin : Reader Command
 read_getbin = one field_of (λ field. Ask (queries.GetBin field))
 
+-- `declare`
+abbrev pub read_declare : Reader Command
+read_declare = alone (Apply edits.Declare)
+
 -- `text L TEXT`: the text is what stands behind L in the rest of the line, further blanks included
 abbrev pub read_text : List ℕ → Reader Command
 read_text rest = one_and_text position_of (λ q. Apply (edits.SetText q (text_behind_word rest)))
@@ -117,6 +121,7 @@ commands floats rest =
     ∷ (codes "get", read_get)
     ∷ (codes "bin", read_bin)
     ∷ (codes "getbin", read_getbin)
+    ∷ (codes "declare", read_declare)
     ∷ (codes "text", read_text rest)
     ∷ (codes "line", read_line)
     ∷ (codes "lines", read_lines)
@@ -196,6 +201,7 @@ IsListRead (Some items) result = (result ≡ Ok items) ⊎ (result ≡ Err OutOf
 abbrev pub EditHoldsMemory : Edit → Type 0
 EditHoldsMemory (edits.Set p field x) = IsName field
 EditHoldsMemory (edits.SetBin field x) = IsName field
+EditHoldsMemory edits.Declare = ⊥
 EditHoldsMemory (edits.SetText q text) = Unit {0}
 EditHoldsMemory (edits.Map name field) = Unit {0}
 EditHoldsMemory (edits.Unmap name) = Unit {0}

@@ -3,7 +3,7 @@ ghost use Rattle.std.specs.Prelude.{◌≡◌, ◌≢◌, ◌∷◌, [], length,
 ghost use Rattle.script_words.specs.Words.{words_of};
 ghost use Rattle.script_words.specs.declared.command.Command.TheVariants.{Ask as ask};
 ghost use Rattle.script_words.specs.Readers.{alone};
-ghost use Rattle.script_words.specs.Commands.{command_of, read_set, read_get, read_bin, read_getbin, read_text, read_line, read_lines, read_code, read_map, read_unmap, read_sample, IsRead, IsParsed};
+ghost use Rattle.script_words.specs.Commands.{command_of, read_set, read_get, read_bin, read_getbin, read_declare, read_text, read_line, read_lines, read_code, read_map, read_unmap, read_sample, IsRead, IsParsed};
 
 use crate::command::Command;
 use crate::fields::{field, target, text_of};
@@ -57,6 +57,7 @@ fn command(
         "get" => get(alloc, words),
         "bin" => bin(alloc, words),
         "getbin" => getbin(alloc, words),
+        "declare" => declare(words),
         "text" => text(alloc, words),
         "line" => line(words),
         "lines" => lines(words),
@@ -113,6 +114,15 @@ fn getbin(alloc: Global, words: Words) -> Result<Command, LineFault>
     let at = one(words).ok_or(LineFault::Words)?;
     let at = field(alloc, at)?;
     Ok(Command::Ask(Query::GetBin(at)))
+}
+
+fn declare(mut words: Words) -> Result<Command, LineFault>
+    ensures { result ≡ read_declare (words_of words.entry) }
+{
+    if words.next().is_some() {
+        return Err(LineFault::Words);
+    }
+    Ok(Command::Apply(Edit::Declare))
 }
 
 fn text(alloc: Global, mut words: Words) -> Result<Command, LineFault>

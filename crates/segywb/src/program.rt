@@ -8,8 +8,8 @@ use frame_cut::{Limits, LoadFault};
 use journal_codes::PIECE_ROOM;
 use journal_save::Disk;
 use run_ending::{
-    OutPlace, Target, disk_of, finish, finish_in_place, finish_told, journal_refusal, misuse,
-    reading_of, recover_file, refused_out, target_of, tell_how_to_begin,
+    OutPlace, Target, disk_of, finish, finish_in_place, finish_told, journal_refusal, look_at_file,
+    misuse, reading_of, recover_file, refused_out, target_of, tell_how_to_begin,
 };
 use safe_save::{
     BoundedFile, Original, Save, answers_limit, hold_standard_streams, keep_from_clearing,
@@ -85,7 +85,7 @@ pub fn status_of<R: Files<File = File> + Env + Clock + AllocGlobal + Print + Epr
 
 // Whether the command line asks for nothing yet.
 fn is_without_lines(arguments: &Arguments) -> bool {
-    arguments.script.is_none() && !arguments.session && !arguments.recover
+    arguments.script.is_none() && !(arguments.session || arguments.recover || arguments.look)
 }
 
 // The words of the command line, the program's name first.
@@ -110,6 +110,9 @@ fn open_and_run<'a, R: Files<File = File> + Clock + AllocGlobal + Print + Eprint
     }
     if arguments.recover {
         return recover_file(rt, arguments);
+    }
+    if arguments.look {
+        return look_at_file(rt, arguments);
     }
     let _kept = kept_files(rt, arguments);
     let (file, about) = match opened(rt, arguments.file) {

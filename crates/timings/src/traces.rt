@@ -64,6 +64,9 @@ pub(crate) fn count_records<R: Files + AllocGlobal>(
         opaque: true,
         floats: false,
         order: None,
+        samples: None,
+        format: None,
+        texts: None,
     };
     let mut loading: Loading<()> = Loading::load(
         rt.alloc(),

@@ -21,6 +21,9 @@ const FIXED: Reading = Reading {
     opaque: false,
     floats: false,
     order: None,
+    samples: None,
+    format: None,
+    texts: None,
 };
 
 // Samples may be bytes without a value.
@@ -29,6 +32,9 @@ const OPAQUE: Reading = Reading {
     opaque: true,
     floats: false,
     order: None,
+    samples: None,
+    format: None,
+    texts: None,
 };
 
 // Limits that no file here meets.

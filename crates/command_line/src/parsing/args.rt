@@ -1,7 +1,7 @@
 // The arguments of the command line, one by one.
 ghost use Rattle.std.specs.Prelude.{◌≡◌, false};
 ghost use Rattle.clap.specs.Words.{rule_of};
-ghost use Rattle.command_line.specs.CommandLine.{file_rule, script_rule, out_rule, in_place_rule, on_disk_rule, fixed_rule, floats_rule, opaque_rule, order_rule, limit_rule, stop_rule, session_rule, save_at_end_rule, quiet_rule, recover_rule};
+ghost use Rattle.command_line.specs.CommandLine.{file_rule, script_rule, out_rule, in_place_rule, on_disk_rule, fixed_rule, samples_rule, format_rule, texts_rule, floats_rule, opaque_rule, order_rule, limit_rule, stop_rule, session_rule, save_at_end_rule, quiet_rule, recover_rule, look_rule};
 
 use clap::builder::ValueParser;
 use clap::{Arg, ArgAction};
@@ -72,6 +72,42 @@ pub fn fixed<'a>(alloc: Global) -> Arg<'a>
         .long("fixed")
         .action(ArgAction::SetTrue)
         .help("read each trace with the binary header's number of samples")
+}
+
+// `--samples N`: each trace has N samples, whatever the headers say.
+pub fn samples<'a>(alloc: Global) -> Arg<'a>
+    ensures rule { rule_of result ≡ samples_rule }
+    ensures local { result.global ≡ false }
+{
+    Arg::new(alloc, "samples")
+        .long("samples")
+        .value_parser(ValueParser::unsigned(0, 4294967295))
+        .value_name("N")
+        .help("read each trace with N samples, whatever the headers say")
+}
+
+// `--format CODE`: the format of the samples, whatever bytes 3225-3226 say.
+pub fn format<'a>(alloc: Global) -> Arg<'a>
+    ensures rule { rule_of result ≡ format_rule }
+    ensures local { result.global ≡ false }
+{
+    Arg::new(alloc, "format")
+        .long("format")
+        .value_parser(ValueParser::unsigned(0, 65535))
+        .value_name("CODE")
+        .help("read the samples in the format with this code, whatever bytes 3225-3226 say")
+}
+
+// `--texts N`: the number of extended textual headers, whatever bytes 3505-3506 say.
+pub fn texts<'a>(alloc: Global) -> Arg<'a>
+    ensures rule { rule_of result ≡ texts_rule }
+    ensures local { result.global ≡ false }
+{
+    Arg::new(alloc, "texts")
+        .long("texts")
+        .value_parser(ValueParser::unsigned(0, 32767))
+        .value_name("N")
+        .help("read N extended textual headers, whatever bytes 3505-3506 say")
 }
 
 // `--floats`: the samples of formats of floats have their values.
@@ -180,4 +216,15 @@ pub fn recover<'a>(alloc: Global) -> Arg<'a>
         .long("recover")
         .action(ArgAction::SetTrue)
         .help("put the old bytes back where a repair by --in-place was cut off")
+}
+
+// `--look`: what the head of the file says beside what its length says.
+pub fn look<'a>(alloc: Global) -> Arg<'a>
+    ensures rule { rule_of result ≡ look_rule }
+    ensures local { result.global ≡ false }
+{
+    Arg::new(alloc, "look")
+        .long("look")
+        .action(ArgAction::SetTrue)
+        .help("print what the head of FILE says beside what its length says, and read no trace")
 }

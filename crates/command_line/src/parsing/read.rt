@@ -17,6 +17,12 @@ pub struct Arguments<'a> {
     pub max_bytes: Option<u64>,
     /// Whether the file is read as one of fixed length.
     pub fixed: bool,
+    /// The number of samples of each trace, whatever the headers say.
+    pub samples: Option<u32>,
+    /// The code of the sample format, whatever the binary header says.
+    pub format: Option<u16>,
+    /// The number of extended textual headers, whatever the binary header says; 0 to 32767.
+    pub texts: Option<i16>,
     /// Whether samples that are floats have their values.
     pub floats: bool,
     /// Whether formats whose samples have no value here are read too.
@@ -33,4 +39,6 @@ pub struct Arguments<'a> {
     pub quiet: bool,
     /// Whether a repair of the file itself that was cut off is to be undone.
     pub recover: bool,
+    /// Whether the head of the file alone is to be shown.
+    pub look: bool,
 }

@@ -1,6 +1,6 @@
 use Rattle.std.proofs.Common.{◌≡◌, ◌∙◌, ap, sym, subst, codes, ℕ, Bool, List, Option}
 use Rattle.clap.specs.Words.{first_of, first_value, one_of, found_of}
-use Rattle.command_line.specs.CommandLine.{is_set, ReadsLimit, ReadsOrder, matched}
+use Rattle.command_line.specs.CommandLine.{is_set, ReadsLimit, ReadsCount, ReadsOrder, matched}
 use Rattle.command_line.proofs.RowLemmas.{rows_are, first_of-rows_of, one_of-rows_of}
 use Rattle.command_line.proofs.parsing.arguments.Goals as goal
 
@@ -91,3 +91,27 @@ returns-in-Some-read_matches-clause-order c =
     let same = sym (ap (first_of (codes "order")) (sym rows) ∙ first_of-rows_of (found_of c.in_ok-matches.matches) (codes "order")) in
     subst (λ (o : Option (List ℕ)). ReadsOrder o c.in-Some-read_matches.read.order) same
     (subst (ReadsOrder (first_value (found_of c.in_ok-matches.matches) (codes "order"))) (sym c.in-Some-read_matches.ensures.order) c.in-Some.ensures)
+
+pub returns-in-Some-read_matches-clause-samples : goal.returns-in-Some-read_matches-clause-samples
+returns-in-Some-read_matches-clause-samples c =
+    let rows = rows_are _ _ c.in_ok-matches.matches c.in_ok-command.ensures c.in_ok-matches.ensures.ok.2 in
+    let same = sym (ap (one_of (codes "samples")) (sym rows) ∙ one_of-rows_of (found_of c.in_ok-matches.matches) (codes "samples")) in
+    subst (λ (o : Option (List ℕ)). ReadsLimit o c.in-Some-read_matches.read.samples) same c.in-Some-read_matches.ensures.samples
+
+pub returns-in-Some-read_matches-clause-format : goal.returns-in-Some-read_matches-clause-format
+returns-in-Some-read_matches-clause-format c =
+    let rows = rows_are _ _ c.in_ok-matches.matches c.in_ok-command.ensures c.in_ok-matches.ensures.ok.2 in
+    let same = sym (ap (one_of (codes "format")) (sym rows) ∙ one_of-rows_of (found_of c.in_ok-matches.matches) (codes "format")) in
+    subst (λ (o : Option (List ℕ)). ReadsLimit o c.in-Some-read_matches.read.format) same c.in-Some-read_matches.ensures.format
+
+pub returns-in-Some-read_matches-clause-texts : goal.returns-in-Some-read_matches-clause-texts
+returns-in-Some-read_matches-clause-texts c =
+    let rows = rows_are _ _ c.in_ok-matches.matches c.in_ok-command.ensures c.in_ok-matches.ensures.ok.2 in
+    let same = sym (ap (one_of (codes "texts")) (sym rows) ∙ one_of-rows_of (found_of c.in_ok-matches.matches) (codes "texts")) in
+    subst (λ (o : Option (List ℕ)). ReadsCount o c.in-Some-read_matches.read.texts) same c.in-Some-read_matches.ensures.texts
+
+pub returns-in-Some-read_matches-clause-look : goal.returns-in-Some-read_matches-clause-look
+returns-in-Some-read_matches-clause-look c =
+    let rows = rows_are _ _ c.in_ok-matches.matches c.in_ok-command.ensures c.in_ok-matches.ensures.ok.2 in
+    let same = sym (ap (first_of (codes "look")) (sym rows) ∙ first_of-rows_of (found_of c.in_ok-matches.matches) (codes "look")) in
+    c.in-Some-read_matches.ensures.look ∙ ap is_set same

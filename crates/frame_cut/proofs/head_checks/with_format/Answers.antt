@@ -15,11 +15,11 @@ returns-in-Some-Some-clause-told c = λ all begun.
     let o = c.args.order in
     let bin = c.args.bin.now in
     let fits : FitsSigned w16 c.text_count-count.result = search rules in
-    let count : to_z w16 (of_z w16 c.text_count-count.result) ≡ text_count o bin = to_z-of_z w16 c.text_count-count.result fits ∙ c.text_count-count.ensures in
+    let count : to_z w16 (of_z w16 c.text_count-count.result) ≡ text_count c.args.reading o bin = to_z-of_z w16 c.text_count-count.result fits ∙ c.text_count-count.ensures in
     let more : Result Head LoadFault = first_fault_else (drop 7 (head_faults c.args.reading o bin all)) (head_by c.args.reading o bin all) in
-    let found : Some c.in-Some-Some.blocks ≡ blocks_for (text_count o bin) all = sym c.in-Some-Some.field-0-is ∙ c.in-Some-Some.ensures.told all begun ∙ ap (λ (x : ℤ). blocks_for x all) count in
+    let found : Some c.in-Some-Some.blocks ≡ blocks_for (text_count c.args.reading o bin) all = sym c.in-Some-Some.field-0-is ∙ c.in-Some-Some.ensures.told all begun ∙ ap (λ (x : ℤ). blocks_for x all) count in
     tells_to c.with_blocks.result _ _
-    (text_found (blocks_for (text_count o bin) all) c.in-Some-Some.blocks (TextCount (text_count o bin)) more found)
+    (text_found (blocks_for (text_count c.args.reading o bin) all) c.in-Some-Some.blocks (TextCount (text_count c.args.reading o bin)) more found)
     (c.with_blocks.ensures.told all begun.long (ap (λ (m : Option ℕ). unwrap_or m 0) found))
 
 pub returns-in-Some-None-clause-told : goal.returns-in-Some-None-clause-told
@@ -27,8 +27,8 @@ returns-in-Some-None-clause-told c = λ all begun.
     let o = c.args.order in
     let bin = c.args.bin.now in
     let fits : FitsSigned w16 c.text_count-count.result = search rules in
-    let count : to_z w16 (of_z w16 c.text_count-count.result) ≡ text_count o bin = to_z-of_z w16 c.text_count-count.result fits ∙ c.text_count-count.ensures in
+    let count : to_z w16 (of_z w16 c.text_count-count.result) ≡ text_count c.args.reading o bin = to_z-of_z w16 c.text_count-count.result fits ∙ c.text_count-count.ensures in
     let more : Result Head LoadFault = first_fault_else (drop 7 (head_faults c.args.reading o bin all)) (head_by c.args.reading o bin all) in
     sym (ap (λ (x : ℤ). let r : Result Head LoadFault = Err (TextCount x) in r) count
-    ∙ text_missing (blocks_for (text_count o bin) all) (TextCount (text_count o bin)) more
+    ∙ text_missing (blocks_for (text_count c.args.reading o bin) all) (TextCount (text_count c.args.reading o bin)) more
     (sym c.in-Some-None.field-0-is ∙ c.in-Some-None.ensures.told all begun ∙ ap (λ (x : ℤ). blocks_for x all) count))

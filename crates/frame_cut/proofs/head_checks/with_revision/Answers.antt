@@ -14,7 +14,7 @@ pub returns-in-Ok-clause-told : goal.returns-in-Ok-clause-told
 returns-in-Ok-clause-told c = λ all begun.
     let o = c.args.order in
     let bin = c.args.bin.now in
-    let code = format_code o bin in
+    let code = format_code c.args.reading o bin in
     let more : Result Head LoadFault = first_fault_else (drop 6 (head_faults c.args.reading o bin all)) (head_by c.args.reading o bin all) in
     tells_to c.with_format.result _ _
     (ap (λ (f : Result Format FormatFault). by_format f code more) (c.in-Ok.ensures ∙ ap (format_of c.args.reading.opaque c.args.reading.floats) c.format_code-code.ensures)
@@ -25,7 +25,7 @@ pub returns-in-Err-clause-told : goal.returns-in-Err-clause-told
 returns-in-Err-clause-told c = λ all begun.
     let o = c.args.order in
     let bin = c.args.bin.now in
-    let code = format_code o bin in
+    let code = format_code c.args.reading o bin in
     let more : Result Head LoadFault = first_fault_else (drop 6 (head_faults c.args.reading o bin all)) (head_by c.args.reading o bin all) in
     sym (ap (λ (f : LoadFault). let r : Result Head LoadFault = Err f in r) (c.format_refusal.ensures ∙ ap (format_refusal c.in-Err.fault) c.format_code-code.ensures)
     ∙ ap (λ (f : Result Format FormatFault). by_format f code more) (c.in-Err.ensures ∙ ap (format_of c.args.reading.opaque c.args.reading.floats) c.format_code-code.ensures)

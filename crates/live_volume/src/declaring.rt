@@ -1,0 +1,73 @@
+// What the reading of the load asked for, written into the binary header.
+ghost use Rattle.std.specs.Prelude.{◌≡◌, IsTrue, OnErr, None};
+ghost use Rattle.std.specs.List.{list_all};
+ghost use Rattle.bench_rules.specs.declared.edit.Edit.TheVariants as edits;
+ghost use Rattle.bench_rules.specs.Refused.{first_refusal};
+ghost use Rattle.bench_rules.specs.Steps.{IsAfter, Step};
+ghost use Rattle.declared_frame.specs.Written.{can_declare as can_declare_in, has_samples as has_samples_in};
+ghost use Rattle.live_volume.specs.Held.{IsReadAs};
+
+use crate::live_volume::LiveVolume;
+use bench_rules::Refusal;
+use declared_frame::{declared, fields_hold, has_samples, needs_lengths};
+
+impl LiveVolume {
+    // What the reading asks for in the binary header, or E06. Looks at no trace: the records tell
+    // the numbers of samples that the traces' headers say.
+    pub(crate) fn declare(&mut self) -> Result<(), Refusal>
+        ensures step { IsTrue self.new.agreed →
+            Step self.old.state edits.Declare result self.new.state }
+        ensures err { OnErr result (self.new.state ≡ self.old.state) }
+        ensures same { IsReadAs self.old.state self.new.state }
+        ensures agreed { IsTrue self.new.agreed → IsTrue self.old.agreed }
+        ensures loaded { self.new.loaded ≡ self.old.loaded }
+        ensures looks { self.new.looks ≡ self.old.looks }
+    {
+        if !self.can_declare() {
+            return Err(Refusal::Frame);
+        }
+        self.put_declared();
+        Ok(())
+    }
+
+    // Whether a load without the reading would cut the file into the same parts.
+    fn can_declare(&self) -> bool
+        ensures { IsTrue self.now.agreed →
+            result ≡ can_declare_in self.now.state.reading self.now.state.volume }
+    {
+        let head = self.overlay.head();
+        if !fields_hold(self.reading, head) {
+            return false;
+        }
+        !needs_lengths(self.reading, head) || self.each_has_samples()
+    }
+
+    // Whether the main header of each trace gives it the head's number of samples, or leaves it to
+    // the head.
+    fn each_has_samples(&self) -> bool
+        ensures { IsTrue self.now.agreed → result ≡ list_all
+            (has_samples_in self.now.state.volume.head) self.now.state.volume.traces }
+    {
+        let head = self.overlay.head();
+        for k in 0..self.count() {
+            if !has_samples(head, self.held(k + 1).samples_field) {
+                return false;
+            }
+        }
+        true
+    }
+
+    // What the reading asks for in the binary header, where nothing refuses it.
+    fn put_declared(&mut self)
+        requires { IsTrue self.old.agreed → first_refusal self.old.state edits.Declare ≡ None }
+        ensures after { IsTrue self.new.agreed →
+            IsAfter self.old.state edits.Declare self.new.state }
+        ensures same { IsReadAs self.old.state self.new.state }
+        ensures agreed { IsTrue self.new.agreed → IsTrue self.old.agreed }
+        ensures loaded { self.new.loaded ≡ self.old.loaded }
+        ensures looks { self.new.looks ≡ self.old.looks }
+    {
+        let new = declared(self.reading, self.overlay.head(), self.overlay.bin());
+        self.overlay.put_head(0, &new);
+    }
+}

@@ -1,0 +1,171 @@
+// Readings under which a file that is refused would be cut evenly. None is taken by itself.
+use crate::torn_file::{first_samples, is_even, read_front};
+use frame_cut::{Head, Limits, LoadFault, Reading, head_of_front};
+use script_hints::Fit;
+use std::fs;
+use std::fs::{File, OpenFile};
+use std::rt::Files;
+use text_block::TEXT_BLOCK_BYTES;
+
+// The codes of sample formats that are tried, in this order: floats of IBM and of IEEE, whole
+// numbers of 4, 2 and 1 bytes.
+const FORMATS: [u16; 5] = [1, 5, 2, 3, 8];
+
+// At most so many extended textual headers are tried.
+const TEXTS: i16 = 1000;
+
+// What is known of the file.
+#[derive(Clone, Copy)]
+struct Known<'a> {
+    front: &'a [u8],
+    size: u64,
+    reading: Reading,
+    limits: Limits,
+}
+
+/// Looks at FILE again, which was refused so, for readings that cut it evenly: other numbers of
+/// samples that its headers name, other formats, other numbers of extended textual headers.
+pub(crate) fn fits<R: Files<File = File> + AllocGlobal>(
+    rt: &R,
+    path: &str,
+    reading: Reading,
+    limits: Limits,
+    fault: LoadFault,
+) -> [Option<Fit>; 4] {
+    match found(rt, path, reading, limits, fault) {
+        Some(fits) => fits,
+        None => [None, None, None, None],
+    }
+}
+
+fn found<R: Files<File = File> + AllocGlobal>(
+    rt: &R,
+    path: &str,
+    reading: Reading,
+    limits: Limits,
+    fault: LoadFault,
+) -> Option<[Option<Fit>; 4]> {
+    let file = fs::open(rt, path).ok()?;
+    let about = file.metadata().ok()?;
+    if !about.is_file() {
+        return None;
+    }
+    let size = about.len();
+    let front = read_front(rt.alloc(), &file, size)?;
+    if front.len() as u64 > size {
+        return None;
+    }
+    let known = Known {
+        front: front.as_slice(),
+        size,
+        reading,
+        limits,
+    };
+    match fault {
+        LoadFault::UnknownFormat(_) => Some(by_format(known)),
+        LoadFault::TextCount(_) => Some([by_texts(known), None, None, None]),
+        LoadFault::Truncated(_) | LoadFault::ExtensionCount(_) | LoadFault::TooManyTraces => {
+            let head = head_under(known, reading)?;
+            let own = first_samples(&file, &head);
+            Some(by_samples(known, &head, own))
+        }
+        _ => None,
+    }
+}
+
+// The head of the file under a reading.
+fn head_under(known: Known, reading: Reading) -> Option<Head> {
+    if known.front.len() as u64 > known.size {
+        return None;
+    }
+    head_of_front(known.front, known.size, reading, known.limits).ok()?
+}
+
+// How many traces the file has where each has the head's number of samples, and they end evenly.
+fn even_traces(known: Known, head: &Head, samples: u32) -> Option<u64> {
+    let records = u64::from(head.trailer) * TEXT_BLOCK_BYTES as u64;
+    let all = known
+        .size
+        .checked_sub(records)?
+        .checked_sub(head.traces_at)?;
+    if head.extensions > 0 || !is_even(head, known.limits, all, samples) {
+        return None;
+    }
+    let length = 240 + u64::from(samples) * u64::from(head.format.width());
+    Some(all / length)
+}
+
+// The binary header's number of samples, then the first trace's own.
+fn by_samples(known: Known, head: &Head, own: Option<u32>) -> [Option<Fit>; 4] {
+    let first = samples_fit(known, head, head.samples);
+    let second = match own {
+        Some(own) if own != head.samples => samples_fit(known, head, own),
+        _ => None,
+    };
+    [first, second, None, None]
+}
+
+fn samples_fit(known: Known, head: &Head, samples: u32) -> Option<Fit> {
+    Some(Fit {
+        samples: Some(samples),
+        format: None,
+        texts: None,
+        traces: even_traces(known, head, samples)?,
+    })
+}
+
+// The first four formats under which traces of the binary header's number of samples end evenly.
+fn by_format(known: Known) -> [Option<Fit>; 4] {
+    let mut fits = [None, None, None, None];
+    let mut count = 0usize;
+    for code in FORMATS {
+        if let Some(fit) = format_fit(known, code)
+            && count < 4
+        {
+            fits[count] = Some(fit);
+            count += 1;
+        }
+    }
+    fits
+}
+
+fn format_fit(known: Known, code: u16) -> Option<Fit> {
+    let reading = Reading {
+        format: Some(code),
+        floats: true,
+        ..known.reading
+    };
+    let head = head_under(known, reading)?;
+    Some(Fit {
+        samples: None,
+        format: Some(code),
+        texts: None,
+        traces: even_traces(known, &head, head.samples)?,
+    })
+}
+
+// The least number of extended textual headers behind which traces of the binary header's number of
+// samples end evenly.
+fn by_texts(known: Known) -> Option<Fit> {
+    for texts in 0..TEXTS {
+        let fit = texts_fit(known, texts);
+        if fit.is_some() {
+            return fit;
+        }
+    }
+    None
+}
+
+fn texts_fit(known: Known, texts: i16) -> Option<Fit> {
+    let reading = Reading {
+        texts: Some(texts),
+        ..known.reading
+    };
+    let head = head_under(known, reading)?;
+    Some(Fit {
+        samples: None,
+        format: None,
+        texts: Some(texts),
+        traces: even_traces(known, &head, head.samples)?,
+    })
+}

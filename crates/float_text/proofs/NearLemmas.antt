@@ -91,11 +91,13 @@ far_past s a c C h = go (ibm_dropped (a * 2 ^ 280 / c)) (closest (a * 2 ^ 280) (
   where
     many : 128 ≤ ibm_dropped (a * 2 ^ 280 / c)
     many = let least : 535 < size (a * 2 ^ 280 / c) = size-gt (a * 2 ^ 280 / c) 535 ((le-div_iff_mul-le C).1 h) in omega arith
+
     go : (k q : ℕ) → 128 ≤ k → ibm_pack s k q ≡ None
     go k q l = pick (eqb q (2 ^ 24))
       where
         none : (j p : ℕ) → 128 ≤ j → ibm_at s j p ≡ None
         none j p m = rw (le-leb 128 j m) refl
+
         pick : (b : Bool) → (if b then ibm_at s (k + 1) (2 ^ 20) else ibm_at s k q) ≡ None
         pick true = none (k + 1) (2 ^ 20) (omega arith)
         pick false = none k q l
@@ -147,12 +149,12 @@ module _ (a c V : ℕ) (C : 0 < c) (v : HasValue (round binary64 false a c) fals
   pub below_float : (g j : ℕ) → g < 2 ^ 53 → j ≤ 2000 → V < g * 2 ^ j → a * 2 ^ 1074 < g * 2 ^ j * c
   below_float g j small low h =
       lt_of_not-le (λ (up_to : g * 2 ^ j * c ≤ a * 2 ^ 1074).
-        not-le_of_lt h (values_in_order _ _ (g * 2 ^ j) V (2 ^ 1074) (pow_pos 1074) (exact_float g j small low) v (round_mono binary64 (g * 2 ^ j) (2 ^ 1074) a c (pow_pos 1074) C up_to)))
+      not-le_of_lt h (values_in_order _ _ (g * 2 ^ j) V (2 ^ 1074) (pow_pos 1074) (exact_float g j small low) v (round_mono binary64 (g * 2 ^ j) (2 ^ 1074) a c (pow_pos 1074) C up_to)))
 
   pub above_float : (g j : ℕ) → g < 2 ^ 53 → j ≤ 2000 → g * 2 ^ j < V → g * 2 ^ j * c < a * 2 ^ 1074
   above_float g j small low h =
       lt_of_not-le (λ (up_to : a * 2 ^ 1074 ≤ g * 2 ^ j * c).
-        not-le_of_lt h (values_in_order _ _ V (g * 2 ^ j) (2 ^ 1074) (pow_pos 1074) v (exact_float g j small low) (round_mono binary64 a c (g * 2 ^ j) (2 ^ 1074) C (pow_pos 1074) up_to)))
+      not-le_of_lt h (values_in_order _ _ V (g * 2 ^ j) (2 ^ 1074) (pow_pos 1074) v (exact_float g j small low) (round_mono binary64 a c (g * 2 ^ j) (2 ^ 1074) C (pow_pos 1074) up_to)))
 
   -- ---- in units of the IBM fraction: n / u
 
@@ -179,6 +181,7 @@ module _ (a c V : ℕ) (C : 0 < c) (v : HasValue (round binary64 false a c) fals
       where
         moved : (x y z w : ℕ) → x * y * z * w ≡ x * z * (y * w)
         moved x y z w = ap (λ t. t * w) (mul_right_comm x y z) ∙ mul_assoc (x * z) y w
+
         regrouped : (x y z w : ℕ) → x * y * (z * w) ≡ x * (y * z) * w
         regrouped x y z w = sym (mul_assoc (x * y) z w) ∙ ap (λ t. t * w) (mul_assoc x y z)
 
@@ -240,7 +243,7 @@ module _ (a c V : ℕ) (C : 0 < c) (v : HasValue (round binary64 false a c) fals
             omega arith
           where
             lt_or_le_of : (x y : ℕ) → (x < y → ⊥) → y ≤ x
-            lt_or_le_of x y h = elim (order_of x y) [ | inl l ↦ absurd (h l) | inr (inl e) ↦ omega arith | inr (inr g) ↦ omega arith ]
+            lt_or_le_of x y h = elim (order_of x y) [ inl l ↦ absurd (h l) | inr (inl e) ↦ omega arith | inr (inr g) ↦ omega arith ]
 
         some : 0 < m
         some = go m less
@@ -283,7 +286,7 @@ module _ (a c V : ℕ) (C : 0 < c) (v : HasValue (round binary64 false a c) fals
             let h = 2 ^ (794 + 4 * k - 5) in
             let five : unit ≡ 2 ^ 5 * h = (let q : 794 + 4 * k ≡ 5 + (794 + 4 * k - 5) = omega arith in ap (λ x. 2 ^ x) q ∙ pow-add 2 5 (794 + 4 * k - 5)) in
             let top : V ≡ 2 ^ 20 * unit = float_is ∙ ap (λ x. x * unit) is in
-            let near = above_units (2 ^ 25 - 1) 5 (lit<  tt) (lit≤ tt) (omega (arith, top, five, pow_pos (794 + 4 * k - 5))) in
+            let near = above_units (2 ^ 25 - 1) 5 (lit< tt) (lit≤ tt) (omega (arith, top, five, pow_pos (794 + 4 * k - 5))) in
             let below : n < 2 ^ 20 * u = subst (λ x. n < x * u) is less in
             let under : n < 2 ^ 24 * w = omega (arith, below, up) in
             let close_up : 2 * (2 ^ 24 * w) < 2 * n + w = omega (arith, near, up) in

@@ -114,7 +114,7 @@ finite_is : (s : Bool) (m : ℕ) (e : ℤ) → float_is_finite (fin s m e) ≡ t
 unfolding float_is_finite
 finite_is s m e = refl
 
-sign_of_value : (v : Float) (s t : Bool) (a c : ℕ) → HasValue v s a c → HasSign t v → s ≡ t
+pub sign_of_value : (v : Float) (s t : Bool) (a c : ℕ) → HasValue v s a c → HasSign t v → s ≡ t
 unfolding HasSign
 sign_of_value nan s t a c h g = absurd h
 sign_of_value (inf r) s t a c h g = absurd h
@@ -167,6 +167,7 @@ module _ (a c b : ℕ) (C : 0 < c) (bits : b ≡ to_bits binary64 (round binary6
     where
       limit : HasValue (round binary64 false (1 * 2 ^ 1329) (2 ^ 1074)) false (1 * 2 ^ 1329) (2 ^ 1074)
       limit = exact_float 1 1329 (lit< tt) (lit≤ tt)
+
       go : (w : Float) → near ≡ w → T (le w (round binary64 false (1 * 2 ^ 1329) (2 ^ 1074))) → ⊥
       go nan e l = nan_not_below _ l
       go (inf t) e l = infinite_not_below t _ (1 * 2 ^ 1329) (2 ^ 1074) (subst (HasSign false) e near_sign) limit l
@@ -174,8 +175,10 @@ module _ (a c b : ℕ) (C : 0 < c) (bits : b ≡ to_bits binary64 (round binary6
         where
           finite : field b < 2047
           finite = finite_bits b (ap float_is_finite (bits_is ∙ e) ∙ finite_is t m k)
+
           order : T (le near (round binary64 false (1 * 2 ^ 1329) (2 ^ 1074)))
           order = subst (λ z. T (le z (round binary64 false (1 * 2 ^ 1329) (2 ^ 1074)))) (sym e) l
+
           by_field : (z : ℕ) → field b ≡ z → ⊥
           by_field zero f = let g = value_at_zero near b bits_is near_sign f in omega (arith, g.0)
           by_field (suc x) f =
@@ -189,7 +192,7 @@ module _ (a c b : ℕ) (C : 0 < c) (bits : b ≡ to_bits binary64 (round binary6
   too_large s h = far_past s a c C (not_less (λ l. large_value h (round_mono binary64 a c (1 * 2 ^ 1329) (2 ^ 1074) C (pow_pos 1074) (omega (arith, l)))))
     where
       not_less : (a * 2 ^ 280 < 2 ^ 535 * c → ⊥) → 2 ^ 535 * c ≤ a * 2 ^ 280
-      not_less n = elim (order_of (a * 2 ^ 280) (2 ^ 535 * c)) [ | inl l ↦ absurd (n l) | inr (inl e) ↦ omega arith | inr (inr g) ↦ omega arith ]
+      not_less n = elim (order_of (a * 2 ^ 280) (2 ^ 535 * c)) [ inl l ↦ absurd (n l) | inr (inl e) ↦ omega arith | inr (inr g) ↦ omega arith ]
 
   -- the main case
   module _ (k : ℕ) (from : 741 ≤ b / 2 ^ 52) (to : b / 2 ^ 52 < 1279) (low : b / 2 ^ 52 < 763 → k ≡ 0) (high : 763 ≤ b / 2 ^ 52 → k ≡ (b / 2 ^ 52 - 763) / 4) where
@@ -203,7 +206,7 @@ module _ (a c b : ℕ) (C : 0 < c) (bits : b ≡ to_bits binary64 (round binary6
     by = 795 + 4 * k - e
 
     k_is : ((e < 763) × (k ≡ 0)) ⊎ ((763 ≤ e) × (k ≡ (e - 763) / 4))
-    k_is = elim (eq-zero-or-pos (763 - e)) [ | inl z ↦ (let h : 763 ≤ e = omega arith in inr (h, high h)) | inr p ↦ (let h : e < 763 = omega arith in inl (h, low h)) ]
+    k_is = elim (eq-zero-or-pos (763 - e)) [ inl z ↦ (let h : 763 ≤ e = omega arith in inr (h, high h)) | inr p ↦ (let h : e < 763 = omega arith in inl (h, low h)) ]
 
     value : HasValue near false (digits * 2 ^ (e - 1)) (2 ^ 1074)
     value = let f : field b ≡ suc (e - 1) = omega arith in (value_at_field near b bits_is near_sign (e - 1) f (omega arith)).1

@@ -26,10 +26,10 @@ def halves_to_even(number: Fraction) -> int:
     return round(number)
 
 
-def ibm_pattern(value: float) -> Optional[int]:
-    """The nearest IBM pattern, ties to even; none past the greatest."""
-    sign = int(np.signbit(value)) << 31
-    units = Fraction(abs(value)) * 2**280
+def ibm_pattern(negative: bool, size: Fraction) -> Optional[int]:
+    """The IBM pattern nearest to a number, ties to even; none past the greatest."""
+    sign = int(negative) << 31
+    units = size * 2**280
     exponent = 0
     while units >= 16 ** (exponent + 6):
         exponent += 1
@@ -66,9 +66,9 @@ def nearest(word: str, digits: int, least: int, greatest: int) -> Optional[float
 
 def pattern_of(format: int, word: str) -> Optional[int]:
     """The pattern that a word of ``patch`` becomes; none where it is E04."""
+    if format == 1:
+        return None if word in ("nan", "inf", "-inf") else ibm_pattern(word.startswith("-"), size_of(word.lstrip("-")))
     if word in ("nan", "inf", "-inf"):
-        if format == 1:
-            return None
         value = float(word)
     elif format == 5:
         narrow = nearest(word, 24, -149, 104)
@@ -80,8 +80,6 @@ def pattern_of(format: int, word: str) -> Optional[int]:
         if wide is None:
             return None
         value = wide
-    if format == 1:
-        return ibm_pattern(value)
     if value != value:
         return 0x7FC00000 if format == 5 else 0x7FF8000000000000
     return int.from_bytes(struct.pack(">f" if format == 5 else ">d", value), "big")

@@ -132,6 +132,47 @@ def test_patched_back(tmp_path, form):
     assert out.read_bytes() == float_words.line(form, [drawn, wanted, wanted])
 
 
+def decimal_of(units):
+    """The exact decimal of a number in units of 2**-281, and how many of its digits stand behind the point."""
+    places = 281
+    while places and units % 2 == 0:
+        units, places = units // 2, places - 1
+    return units * 5**places, places
+
+
+def beside_middles(count, seed):
+    """Decimals at the middles of neighbouring IBM values, and beside them by a digit far behind, some with an exponent."""
+    draw = random.Random(seed)
+    words = []
+    while len(words) < count:
+        exponent = draw.choice([0, draw.randrange(128), draw.randrange(60, 70)])
+        fraction = draw.choice([draw.randrange(2**20, 2**24), 2**20, 2**24 - 1]) if exponent else draw.randrange(2**24)
+        number, places = decimal_of((2 * fraction + 1) << 4 * exponent)
+        more = draw.choice([0, 1, 5, 30, 300])
+        number = number * 10**more + draw.choice([-1, 0, 1])
+        places += more
+        moved = draw.choice([0, 0, draw.randrange(places + 20)])
+        digits = str(number).rjust(places - moved + 1, "0") if moved < places else str(number)
+        point = len(digits) - max(places - moved, 0)
+        power = -moved if moved <= places else -places
+        word = digits[:point] + ("." + digits[point:] if digits[point:] else "") + (f"e{power}" if power else "")
+        words.append(draw.choice(["", "-"]) + word)
+    return words
+
+
+def test_decimals_beside_middles(tmp_path):
+    """A decimal is rounded to the nearest IBM value once: also beside a middle of two, where its binary64 is that middle."""
+    words = beside_middles(20000, "middles")
+    wanted = [float_words.pattern_of(1, word) for word in words]
+    assert wanted.count(None) < 500
+    count = len(words)
+    path, out = tmp_path / "middles.sgy", tmp_path / "out.sgy"
+    path.write_bytes(float_words.line(1, [[0] * count]))
+    answers, _ = run(path, [f"patch 1 {k} {word}" for k, word in enumerate(words)], "--floats", "--out", out)
+    assert answers.splitlines() == ["refused E04 does not fit" if one is None else "ok" for one in wanted]
+    assert out.read_bytes() == float_words.line(1, [[one or 0 for one in wanted]])
+
+
 def test_kinds_of_numbers_in_a_patch(tmp_path):
     path = tmp_path / "kinds.sgy"
     path.write_bytes(float_words.line(6, [[0] * 8] * 2))

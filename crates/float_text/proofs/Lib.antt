@@ -1,2 +1,9 @@
+pub mod OrderLemmas
+pub mod LimbLemmas
+pub mod DigitLemmas
+pub mod MiddleLemmas
+pub mod SignLemmas
+pub mod NearLemmas
+pub mod PlaceLemmas
 pub mod TextLemmas
 pub mod LawLemmas

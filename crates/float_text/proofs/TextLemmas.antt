@@ -23,35 +23,13 @@ use Rattle.fast_float.specs.Text.{Parts, scan, has_digits, digits_of, tens_up, t
 use Rattle.ryu.specs.Plain.{IsPlainNumber, word_of}
 use Rattle.float_codes.specs.declared.float_format.FloatFormat.{FloatFormat}
 use Rattle.float_codes.specs.declared.float_format.FloatFormat.TheVariants.{Ibm32, Ieee32, Ieee64}
-use Rattle.float_codes.specs.Nearest.{ibm_pattern}
 use Rattle.float_text.specs.declared.reading.Reading.{Reading}
 use Rattle.float_text.specs.declared.reading.Reading.TheVariants.{Value, PastGreatest}
-use Rattle.float_text.specs.Words.{is_negative, size_of, is_decimal, reading_of, nearest_in, finite_reading, ibm_reading}
-use Rattle.float_text.specs.Texts.{text_format, shown, read_as, has_point_zero, without_point_zero, IsDecimalOf, IsTextOf}
+use Rattle.float_text.specs.Words.{is_negative, size_of, is_decimal, reading_of, nearest_in, finite_reading}
+use Rattle.float_text.proofs.SignLemmas.{HasSign, sign_round}
+use Rattle.float_text.specs.Texts.{text_format, shown, reader, has_point_zero, without_point_zero, IsDecimalOf, IsTextOf}
 
 -- ---- the sign of what was rounded
-
-HasSign : Bool → Float → Type 0
-HasSign s nan = ⊥
-HasSign s (inf t) = t ≡ s
-HasSign s (fin t m e) = t ≡ s
-
-sign_odd : (d : ℕ) (s : Bool) (q k l : ℕ) → HasSign s (odd d s q k l)
-unfolding odd HasSign
-sign_odd d s Prim.Native.Nat.zero k l = refl
-sign_odd d s (Prim.Native.Nat.suc q) k l = refl
-
-sign_either : (s b : Bool) (x : Float) → HasSign s x → HasSign s (cond b x (inf s))
-unfolding HasSign
-sign_either s true x h = h
-sign_either s false x h = refl
-
-sign_units : (f : Format) (s : Bool) (q k : ℕ) → HasSign s (units f s q k)
-unfolding units
-sign_units f s q k = sign_either s (ltb (q * 2 ^ k) (2 ^ (low f + Prim.Native.Nat.suc (emax f)))) (odd (Prim.Native.Nat.suc (prec f)) s q k (low f)) (sign_odd (Prim.Native.Nat.suc (prec f)) s q k (low f))
-
-sign_nearest : (f : Format) (s : Bool) (p : Parts) → HasSign s (nearest f s p)
-sign_nearest f s p = subst (HasSign s) (sym (round_is f s (digits_of p * 10 ^ tens_up p) (10 ^ tens_down p))) (sign_units f s _ _)
 
 number_with_sign : (s : Bool) (v : Float) → HasSign s v → NotNan v
 unfolding HasSign is_nan
@@ -63,7 +41,7 @@ rounded_number : (f : Format) (v : Float) → NotNan v → NotNan (round_to_form
 unfolding round_to_format is_nan
 rounded_number f nan n = absurd n
 rounded_number f (inf s) n = tt
-rounded_number f (fin s m e) n = number_with_sign s _ (subst (HasSign s) (sym (round_is f s (m * up e) (down e))) (sign_units f s _ _))
+rounded_number f (fin s m e) n = number_with_sign s _ (sign_round f s (m * up e) (down e))
 
 -- ---- a text begins with its sign
 
@@ -114,7 +92,7 @@ decimal_reading f s p w l =
     let parts = ap scan st.size ∙ scan_numeral-text_of p w in
     λ i. chosen f (st.no_nan i) (inf_is i) (all i) (st.sign i) (parts i)
 
-infinite_reading : (f : FloatFormat) (s : Bool) → reading_of f (sign_text s ++ codes "inf") ≡ Some (read_as f (inf s))
+infinite_reading : (f : FloatFormat) (s : Bool) → reading_of f (sign_text s ++ codes "inf") ≡ Some (Value (inf s))
 infinite_reading Ibm32 true = refl
 infinite_reading Ibm32 false = refl
 infinite_reading Ieee32 true = refl
@@ -122,22 +100,19 @@ infinite_reading Ieee32 false = refl
 infinite_reading Ieee64 true = refl
 infinite_reading Ieee64 false = refl
 
-ibm_value_read : (s : Bool) (v : Float) → float_is_finite v ≡ true → HasSign s v → ibm_reading s (ibm_pattern v) ≡ read_as Ibm32 v
-unfolding float_is_finite HasSign
-ibm_value_read s nan e h = absurd (false≢true e)
-ibm_value_read s (inf t) e h = absurd (false≢true e)
-ibm_value_read s (fin t m k) e h = ap (λ (z : Bool). ibm_reading z (ibm_pattern (fin t m k))) (sym h)
+finite_value : (s : Bool) (w v : Float) → float_is_finite v ≡ true → w ≡ v → finite_reading s w ≡ Value v
+finite_value s w v h e = ap (finite_reading s) e ∙ ap (λ (b : Bool). if b then Value v else PastGreatest s) h
 
-decimal_value : (f : FloatFormat) (s : Bool) (p : Parts) (v : Float) → float_is_finite v ≡ true → nearest (text_format f) s p ≡ v → nearest_in f s p ≡ read_as f v
-decimal_value Ibm32 s p v h e = ap (λ (x : Float). ibm_reading s (ibm_pattern x)) e ∙ ibm_value_read s v h (subst (HasSign s) e (sign_nearest binary64 s p))
-decimal_value Ieee32 s p v h e = ap (finite_reading s) e ∙ ap (λ (b : Bool). if b then Value v else PastGreatest s) h
-decimal_value Ieee64 s p v h e = ap (finite_reading s) e ∙ ap (λ (b : Bool). if b then Value v else PastGreatest s) h
+decimal_value : (f : FloatFormat) (s : Bool) (p : Parts) (v : Float) → float_is_finite v ≡ true → nearest (text_format f) s p ≡ v → nearest_in (reader f) s p ≡ Value v
+decimal_value Ibm32 s p v h e = finite_value s _ v h e
+decimal_value Ieee32 s p v h e = finite_value s _ v h e
+decimal_value Ieee64 s p v h e = finite_value s _ v h e
 
-pub text_reading : (f : FloatFormat) (v : Float) (text : List ℕ) → IsTextOf (text_format f) v text → reading_of f text ≡ Some (read_as f v)
+pub text_reading : (f : FloatFormat) (v : Float) (text : List ℕ) → IsTextOf (text_format f) v text → reading_of (reader f) text ≡ Some (Value v)
 text_reading f v text (inl h) =
     let d = h.2 in
-    ap (reading_of f) d.is ∙ decimal_reading f h.0 h.1 d.well_formed d.whole ∙ ap Some (decimal_value f h.0 h.1 v d.finite d.nearest_is)
-text_reading f v text (inr h) = ap (reading_of f) h.1.is ∙ infinite_reading f h.0 ∙ ap (λ (x : Float). Some (read_as f x)) (sym h.1.infinite)
+    ap (reading_of (reader f)) d.is ∙ decimal_reading (reader f) h.0 h.1 d.well_formed d.whole ∙ ap Some (decimal_value f h.0 h.1 v d.finite d.nearest_is)
+text_reading f v text (inr h) = ap (reading_of (reader f)) h.1.is ∙ infinite_reading (reader f) h.0 ∙ ap (λ (x : Float). Some (Value x)) (sym h.1.infinite)
 
 -- ---- the printer's texts
 
@@ -354,7 +329,7 @@ pub either_text : (f : Format) (v : Float) (text : List ℕ) (whole : Bool) → 
 either_text f v text true h = cut_kept f v text h
 either_text f v text false h = h
 
-pub nan_read : (f : FloatFormat) (v : Float) → is_nan v ≡ true → Value nan ≡ read_as f (shown f v)
+pub nan_read : (f : FloatFormat) (v : Float) → is_nan v ≡ true → Value nan ≡ Value (shown f v)
 unfolding is_nan round_to_format
 nan_read Ibm32 nan e = refl
 nan_read Ieee32 nan e = refl

@@ -1,3 +1,5 @@
+pub mod Limbs
+pub mod Sides
 pub mod Words
 pub mod Texts
 pub mod Laws

@@ -1,15 +1,14 @@
 -- Floats as text.
-use Rattle.std.specs.Prelude.{ℕ, pos, ◌≡◌, ◌+◌, ◌-◌, ◌<◌, ◌==◌, ◌&&◌, ◌⊎◌, Bool, true, false, if◌then◌else◌, List, ◌++◌, length, take, codes, bytes_eq}
+use Rattle.std.specs.Prelude.{ℕ, pos, ◌≡◌, ◌+◌, ◌-◌, ◌<◌, ◌==◌, ◌&&◌, ◌⊎◌, Bool, true, false, if◌then◌else◌, List, ◌++◌, length, take, codes, bytes_eq, Some}
 use Rattle.std.specs.Fmt.{sign_text}
 use Rattle.std.specs.Float.{Float, Format, nan, inf, fin, round_to_format, binary32, binary64, float_is_finite}
 use Rattle.std.specs.Float.Ieee.{le}
 use Rattle.fast_float.specs.Text.{Parts, scan, nearest, text_of, IsWellFormed}
 use Rattle.float_codes.specs.declared.float_format.FloatFormat.{FloatFormat}
 use Rattle.float_codes.specs.declared.float_format.FloatFormat.TheVariants.{Ibm32, Ieee32, Ieee64}
-use Rattle.float_codes.specs.Nearest.{ibm_pattern}
-use Rattle.float_text.specs.declared.reading.Reading.{Reading}
+use Rattle.float_codes.specs.Values.{float_of_bits}
 use Rattle.float_text.specs.declared.reading.Reading.TheVariants.{Value}
-use Rattle.float_text.specs.Words.{size_of, ibm_reading}
+use Rattle.float_text.specs.Words.{size_of, reading_of}
 
 -- the floats that a format's texts tell apart
 abbrev pub text_format : FloatFormat → Format
@@ -23,13 +22,16 @@ shown Ibm32 v = v
 shown Ieee32 v = round_to_format binary32 v
 shown Ieee64 v = v
 
--- What the text of such a float is read as: itself, and at IBM's the nearest value, if it is none.
-abbrev pub read_as : FloatFormat → Float → Reading
-read_as Ibm32 nan = Value nan
-read_as Ibm32 (inf s) = Value (inf s)
-read_as Ibm32 (fin s m e) = ibm_reading s (ibm_pattern (fin s m e))
-read_as Ieee32 v = Value v
-read_as Ieee64 v = Value v
+-- the format whose words tell the texts of a format apart
+abbrev pub reader : FloatFormat → FloatFormat
+reader Ibm32 = Ieee64
+reader Ieee32 = Ieee32
+reader Ieee64 = Ieee64
+
+-- The text of a float is read as the float that it shows, at IBM's as a binary64, and where the format has that value, in the format too.
+pub record ReadsBack (f : FloatFormat) (v : Float) (text : List ℕ) : Type 0 where
+  pub as_shown : reading_of (reader f) text ≡ Some (Value (shown f v))
+  pub as_sample : (b : ℕ) → v ≡ float_of_bits f b → reading_of f text ≡ Some (Value v)
 
 -- an amount of at most 2 ^ 53, up to which each whole number is a float
 abbrev pub is_up_to_whole : Float → Bool

@@ -1,11 +1,11 @@
 -- Words that write a float.
-use Rattle.std.specs.Prelude.{ℕ, ◌==◌, ◌&&◌, Bool, if◌then◌else◌, List, length, drop, slice_index, codes, Option, Some, None, bytes_eq}
+use Rattle.std.specs.Prelude.{ℕ, ◌*◌, ◌^◌, ◌==◌, ◌&&◌, Bool, if◌then◌else◌, List, length, drop, slice_index, codes, Option, Some, None, bytes_eq}
 use Rattle.std.specs.Float.{Float, nan, inf, binary32, binary64, float_is_finite}
-use Rattle.fast_float.specs.Text.{minus, Parts, scan, has_digits, nearest}
+use Rattle.fast_float.specs.Text.{minus, Parts, scan, has_digits, digits_of, tens_up, tens_down, nearest}
 use Rattle.float_codes.specs.declared.float_format.FloatFormat.{FloatFormat}
 use Rattle.float_codes.specs.declared.float_format.FloatFormat.TheVariants.{Ibm32, Ieee32, Ieee64}
 use Rattle.float_codes.specs.Values.{ibm_value}
-use Rattle.float_codes.specs.Nearest.{ibm_pattern}
+use Rattle.float_codes.specs.Nearest.{ibm_nearest}
 use Rattle.float_text.specs.declared.reading.Reading.{Reading}
 use Rattle.float_text.specs.declared.reading.Reading.TheVariants.{Value, PastGreatest}
 
@@ -31,10 +31,11 @@ abbrev pub ibm_reading : Bool → Option ℕ → Reading
 ibm_reading negative None = PastGreatest negative
 ibm_reading negative (Some b) = Value (ibm_value b)
 
--- The value of the format that is nearest to a decimal, at a tie the even one. `nearest f s p` is the float nearest to the exact fraction
--- that the decimal's digits and its exponent write. Of IBM's values it is the one nearest to the binary64 that is nearest to the decimal.
+-- The value of the format that is nearest to a decimal, at a tie the even one. The decimal is the exact fraction that its digits and its
+-- exponent write: digits_of p * 10 ^ tens_up p / 10 ^ tens_down p. `nearest f s p` is the float nearest to it, and `ibm_nearest` the IBM
+-- pattern: each rounds that fraction once.
 abbrev pub nearest_in : FloatFormat → Bool → Parts → Reading
-nearest_in Ibm32 negative p = ibm_reading negative (ibm_pattern (nearest binary64 negative p))
+nearest_in Ibm32 negative p = ibm_reading negative (ibm_nearest negative (digits_of p * 10 ^ tens_up p) (10 ^ tens_down p))
 nearest_in Ieee32 negative p = finite_reading negative (nearest binary32 negative p)
 nearest_in Ieee64 negative p = finite_reading negative (nearest binary64 negative p)
 

@@ -3,7 +3,10 @@
 #![tactic(auto)]
 
 mod floats;
+mod ibm_nearest;
+mod large_number;
 mod laws;
+mod middle;
 mod reading;
 mod shown;
 #[cfg(test)]

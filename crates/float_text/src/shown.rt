@@ -1,8 +1,7 @@
 // Floats as text: the shortest decimal that reads back as the same float.
-ghost use Rattle.std.specs.Prelude.{◌≡◌, ◌<◌, ◌≤◌, length, Some, All, IsAscii, if◌then◌else◌, true, false};
+ghost use Rattle.std.specs.Prelude.{◌≡◌, ◌<◌, ◌≤◌, length, All, IsAscii, if◌then◌else◌, true, false};
 ghost use Rattle.std.specs.Float.{NotNan};
-ghost use Rattle.float_text.specs.Words.{reading_of};
-ghost use Rattle.float_text.specs.Texts.{text_format, shown, read_as, is_up_to_whole, has_point_zero, without_point_zero, IsTextOf};
+ghost use Rattle.float_text.specs.Texts.{text_format, shown, ReadsBack, is_up_to_whole, has_point_zero, without_point_zero, IsTextOf};
 
 use fast_float::Numeral;
 use float_codes::FloatFormat;
@@ -14,7 +13,7 @@ const WHOLE: f64 = 9007199254740992.0;
 /// The value as the shortest decimal that reads back as it, at binary32 as the nearest binary32,
 /// without `.0` where its amount is at most 2 ^ 53; or `nan`, `inf`, `-inf`. Takes no memory.
 pub fn text<'a>(format: FloatFormat, value: f64, buffer: &'a mut Buffer) -> &'a str
-    ensures reads_back { reading_of format result.now ≡ Some (read_as format (shown format value)) }
+    ensures reads_back { ReadsBack format value result.now }
     ensures ascii { IsAscii result.now }
     ensures short { length result.now ≤ 25 }
     ensures some { 0 < length result.now }

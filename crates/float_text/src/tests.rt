@@ -45,3 +45,23 @@ fn words(rt: HostRuntime) {
     assert!(rt; parse(FloatFormat::Ieee64, b"+1") == None);
     assert!(rt; parse(FloatFormat::Ieee64, b"1e") == None);
 }
+
+// Decimals at the middle of two IBM values, and beside it by less than a binary64 tells.
+#[test]
+fn middles(rt: HostRuntime) {
+    let ibm = FloatFormat::Ibm32;
+    let next = 1.00000095367431640625;
+    for (word, value) in [
+        (b"1.000000476837158203125".as_slice(), 1.0),
+        (b"1.0000004768371582031250000000000001".as_slice(), next),
+        (b"-1.0000004768371582031250000000000001".as_slice(), -next),
+        (b"1.000001430511474609375".as_slice(), 1.0000019073486328125),
+        (b"-10000.014305114746093749999999999E-4".as_slice(), -next),
+        (
+            b"0.00000001000001430511474609374999999999e8".as_slice(),
+            next,
+        ),
+    ] {
+        assert!(rt; parse(ibm, word) == Some(Reading::Value(value)));
+    }
+}

@@ -3,14 +3,15 @@ ghost use Rattle.std.specs.Prelude.{◌≡◌};
 ghost use Rattle.float_text.specs.Words.{reading_of, nearest_in, finite_reading};
 
 use crate::floats::{infinite, not_a_number};
+use crate::ibm_nearest::nearest_pattern;
 use crate::reading::Reading;
 use fast_float::Numeral;
 use float_codes::FloatFormat;
 
 /// What a word writes: a decimal with a point and an exponent or without, `nan`, `inf` or `-inf`.
-/// The value is the nearest to the decimal, at a tie the even one; at IBM's format the nearest to
-/// the decimal's binary64, so that a decimal is rounded twice there. None where it is no such word:
-/// `+1`, `-nan`, `1e` and a lone point are none. Takes no memory.
+/// The value is the nearest to the decimal, at a tie the even one: it is rounded once, whatever its
+/// length. None where it is no such word: `+1`, `-nan`, `1e` and a lone point are none. Takes no
+/// memory.
 pub fn parse(format: FloatFormat, word: &[u8]) -> Option<Reading>
     ensures { result ≡ reading_of format word.now }
 {
@@ -34,8 +35,8 @@ fn nearest(format: FloatFormat, negative: bool, decimal: &Numeral) -> Reading
     ensures { result ≡ nearest_in format negative decimal.now }
 {
     match format {
-        FloatFormat::Ibm32 => match format.pattern(decimal.to_float(negative)) {
-            Some(pattern) => Reading::Value(float_codes::ibm_value(pattern as u32)),
+        FloatFormat::Ibm32 => match nearest_pattern(negative, decimal) {
+            Some(pattern) => Reading::Value(float_codes::ibm_value(pattern)),
             None => Reading::PastGreatest { negative },
         },
         FloatFormat::Ieee32 => {

@@ -5,8 +5,7 @@ use Rattle.num_order.specs.Number.{is_between}
 use Rattle.float_codes.specs.declared.float_format.FloatFormat.{FloatFormat}
 use Rattle.float_codes.specs.declared.float_format.FloatFormat.TheVariants.{Ieee64}
 use Rattle.float_codes.specs.Ranks.{value_at, no_number}
-use Rattle.float_text.specs.Words.{reading_of}
-use Rattle.float_text.specs.Texts.{shown, read_as}
+use Rattle.float_text.specs.Texts.{ReadsBack}
 use Rattle.trace_record.specs.declared.statistics.Statistics.{Statistics}
 use Rattle.bench_rules.specs.declared.float_statistics.FloatStatistics.{FloatStatistics}
 use Rattle.bench_rules.specs.declared.row.Row.{Row}
@@ -24,9 +23,10 @@ use Rattle.shown_floats.specs.declared.float_answer.FloatAnswer.TheVariants as f
 abbrev pub word_of : FloatWord → List ℕ
 word_of w = take w.length w.bytes
 
--- the word shows the float of a rank of 64 bits: it reads back as that float, and has no blank and no line feed
+-- the word shows the float of a rank of 64 bits: it reads back as that float, of a sample in the file's format, and has no blank and no line
+-- feed
 pub record ShowsRank (f : FloatFormat) (r : ℤ) (word : List ℕ) : Type 0 where
-  pub reads_back : is_between true 8 r ≡ true → reading_of f word ≡ Some (read_as f (shown f (value_at r)))
+  pub reads_back : is_between true 8 r ≡ true → ReadsBack f (value_at r) word
   pub visible : All (λ c. 32 < c) word
   pub some : 0 < length word
 

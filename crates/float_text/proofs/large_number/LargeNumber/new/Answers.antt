@@ -1,0 +1,9 @@
+use Rattle.std.proofs.Common.{arith}
+use Rattle.float_text.proofs.LimbLemmas.{no_value, word_fits}
+use Rattle.float_text.proofs.large_number.LargeNumber.new.Goals as goal
+
+pub multiply_add-requires : goal.multiply_add-requires
+multiply_add-requires c = omega (arith, word_fits c.args.number c.ranges.number.fits, no_value 19 19)
+
+pub returns : goal.returns
+returns c = omega (arith, no_value 19 19)

@@ -124,23 +124,84 @@ cp s.sgy bad.sgy; put bad.sgy 3504 fffe
 fits 'no texts' bad.sgy '--texts 0: 3 traces\n'
 cp block.sgy bad.sgy; put bad.sgy 3504 7fff
 fits 'one text' bad.sgy '--texts 1: 3 traces\n'
+cp s.sgy bad.sgy; put bad.sgy 3500 00; put bad.sgy 3224 000d; put bad.sgy 3714 0003
+fits 'a format where the traces tell another number' bad.sgy '--format 3 --samples 2: 3 traces\n'
+cp block.sgy bad.sgy; put bad.sgy 3502 0000; put bad.sgy 3504 fffe; put bad.sgy 6914 0005
+fits 'a text where they do' bad.sgy '--texts 1 --samples 2: 3 traces\n'
+cp s.sgy bad.sgy
+fits 'the fields where the reading is wrong' bad.sgy '--samples 2: 3 traces\n' --samples 9
+{ head -c 3600 s.sgy; tail -c 732 s.sgy | head -c 244; } > bad.sgy; put bad.sgy 3220 0007
+fits 'one short trace' bad.sgy '--samples 2: 1 trace\n'
 head -c 4331 s.sgy > bad.sgy
 fits 'a torn file' bad.sgy ''
+fits 'a torn file with header extensions' <(head -c 4331 x.sgy) ''
+# a pipe that has a name is not opened again: that would wait for a writer
+mkfifo named
+cp s.sgy bad.sgy; put bad.sgy 3224 000d
+cat bad.sgy > named &
+timeout 20 "$program" named --script script > answers 2> errors
+[ $? = 3 ] && tell 'a refused pipe with a name' ok || tell 'a refused pipe with a name' "$(< errors)"
+timeout 20 "$program" named --look > answers 2> errors
+[ $? = 3 ] && tell 'a look at a pipe with a name' ok || tell 'a look at a pipe with a name' "$(< errors)"
+# what is told is true: with the words that are told the file has so many traces
+for damage in '3220 0005' '3224 000d' '3504 0009' '3502 0000' '3500 00'; do
+    cp s.sgy bad.sgy
+    put bad.sgy $damage
+    [ "$damage" != '3502 0000' ] || put bad.sgy 3714 0003
+    [ "$damage" != '3500 00' ] || put bad.sgy 3224 0300
+    printf 'count\n' > script
+    "$program" bad.sgy --script script 2>&1 > answers | sed -n 's/^segywb: [^ ]* can be read with //p' > told
+    while IFS=: read -r words traces; do
+        "$program" bad.sgy $words --script script > answers 2> errors
+        [ "$(< answers)" = "traces$(sed 's/ traces*$//' <<< "$traces")" ] && tell "$damage is read $words" ok || tell "$damage is read $words" "$(cat answers errors)"
+    done < told
+done
+
+# ---- in place, in a session, and flags that are not 1
+cp s.sgy bad.sgy; put bad.sgy 3220 0005
+printf 'declare\n' > script
+expect 'a repair in place' 0 'ok\n' '' bad.sgy --samples 2 --in-place --script script
+differs 'writes the header alone' s.sgy bad.sgy ''
+cp s.sgy bad.sgy; put bad.sgy 3502 0007
+expect 'a flag of 7' 0 'ok\n' '' bad.sgy --fixed --script script --out o.sgy
+differs 'becomes 1' bad.sgy o.sgy '3504 7 1;'
+cp x.sgy bad.sgy; put bad.sgy 3220 0005
+expect 'header extensions' 0 'ok\n' '' bad.sgy --samples 2 --script script --out o.sgy
+differs 'stay' x.sgy o.sgy ''
+cp tail.sgy bad.sgy; put bad.sgy 3220 0005
+expect 'data trailer records' 0 'ok\n' '' bad.sgy --samples 2 --script script --out o.sgy
+differs 'stay too' tail.sgy o.sgy ''
+head -c 3600 t.sgy > head.sgy
+expect 'samples above 65535, little-endian' 0 'ok\n' '' head.sgy --samples 70000 --script script --out o.sgy
+differs 'stand in the wide field, lowest byte first' head.sgy o.sgy '3221 2 0;3269 0 160;3270 0 21;3271 0 1;'
+cp s.sgy bad.sgy; put bad.sgy 3224 000d
+printf 'declare\nsave\n' | "$program" bad.sgy --format 3 --session --out o.sgy > answers 2> errors
+cmp -s o.sgy s.sgy && tell 'in a session' ok || tell 'in a session' "$(cat answers errors)"
+cp s.sgy bad.sgy; put bad.sgy 3224 000d
 fits 'quietly' bad.sgy '' --quiet
 
 # ---- what the head says
-printf 'look bytes 4332\nlook order big assumed\nlook revision 1.0\nlook format 3\nlook interval 4000\nlook samples 2\nlook fixed 1\nlook texts 0\nlook extensions 0\nlook trailer 0\nlook first_trace 0\n' > head
+printf 'look bytes 4332\nlook order big assumed\nlook revision 1.0\nlook format 3\nlook interval 4000\nlook samples 2\nlook wide_samples 0\nlook fixed 1\nlook texts 0\nlook extensions 0\nlook trailer 0\nlook first_trace 0\n' > head
 expect 'the head' 0 "$(< head)\nlook trace_bytes 244\nlook traces 3 rest 0\n" '' s.sgy --look
 expect 'the head under readings' 0 "$(< head)\nlook trace_bytes 250\nlook traces 2 rest 232\n" '' s.sgy --look --samples 10 --format 8
 expect 'the head with texts' 0 "$(< head)\nlook trace_bytes 244\nlook traces none\n" '' s.sgy --look --texts 1
 expect 'the head with no format' 0 "$(< head)\nlook trace_bytes none\nlook traces none\n" '' s.sgy --look --format 13
-expect 'the head of a little-endian file' 0 'look bytes 3846\nlook order little told\nlook revision 2.0\nlook format 7\nlook interval 0\nlook samples 2\nlook fixed 1\nlook texts 0\nlook extensions 0\nlook trailer 0\nlook first_trace 0\nlook trace_bytes 246\nlook traces 1 rest 0\n' '' t.sgy --look
+expect 'the head of a little-endian file' 0 'look bytes 3846\nlook order little told\nlook revision 2.0\nlook format 7\nlook interval 0\nlook samples 2\nlook wide_samples 0\nlook fixed 1\nlook texts 0\nlook extensions 0\nlook trailer 0\nlook first_trace 0\nlook trace_bytes 246\nlook traces 1 rest 0\n' '' t.sgy --look
 "$program" untold.sgy --look --order little 2> errors | sed -n 2p > told
 [ "$(< told)" = 'look order little asked' ] && tell 'an order that is asked for' ok || tell 'an order that is asked for' "$(< told)"
 printf 'count\n' > script
 line 'a look and a script' s.sgy --look --script script
 line 'a look and a save' s.sgy --look --out o.sgy
 line 'a look and a session' s.sgy --look --session
+line 'a look and --on-disk' s.sgy --look --on-disk
+line 'a look and --max-bytes' s.sgy --look --max-bytes 5
+line 'a look and --quiet' s.sgy --look --quiet
+cp s.sgy bad.sgy; put bad.sgy 3296 02010403
+"$program" bad.sgy --look 2> errors | sed -n 2p > told
+[ "$(< told)" = 'look order big swapped' ] && tell 'swapped pairs' ok || tell 'swapped pairs' "$(< told)"
+cp x.sgy bad.sgy; put bad.sgy 3504 ffff; put bad.sgy 3528 00000001
+"$program" bad.sgy --look 2> errors | tail -n 8 | tr '\n' ' ' > told
+[ "$(< told)" = "look fixed 1 look texts -1 look extensions 1 look trailer 1 look first_trace 0 look trace_bytes 484 look traces none " ] && tell 'texts that end by themselves' ok || tell 'texts that end by themselves' "$(< told)"
 head -c 3599 s.sgy > short.sgy
 expect 'a look at a short file' 3 '' 'segywb: short.sgy: the two file headers have 3600 bytes\n' short.sgy --look
 expect 'a look at a folder' 3 '' 'segywb: --look needs a file on disk, and . is none\n' . --look

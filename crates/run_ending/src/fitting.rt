@@ -14,6 +14,9 @@ const FORMATS: [u16; 5] = [1, 5, 2, 3, 8];
 // At most so many extended textual headers are tried.
 const TEXTS: i16 = 1000;
 
+// No reading that fits.
+const NONE: [Option<Fit>; 5] = [None, None, None, None, None];
+
 // What is known of the file.
 #[derive(Clone, Copy)]
 struct Known<'a> {
@@ -31,10 +34,10 @@ pub(crate) fn fits<R: Files<File = File> + AllocGlobal>(
     reading: Reading,
     limits: Limits,
     fault: LoadFault,
-) -> [Option<Fit>; 4] {
+) -> [Option<Fit>; 5] {
     match found(rt, path, reading, limits, fault) {
         Some(fits) => fits,
-        None => [None, None, None, None],
+        None => NONE,
     }
 }
 
@@ -44,13 +47,13 @@ fn found<R: Files<File = File> + AllocGlobal>(
     reading: Reading,
     limits: Limits,
     fault: LoadFault,
-) -> Option<[Option<Fit>; 4]> {
-    let file = fs::open(rt, path).ok()?;
-    let about = file.metadata().ok()?;
-    if !about.is_file() {
+) -> Option<[Option<Fit>; 5]> {
+    // To open a pipe again would wait for a writer.
+    if !fs::metadata(rt, path).ok()?.is_file() {
         return None;
     }
-    let size = about.len();
+    let file = fs::open(rt, path).ok()?;
+    let size = file.metadata().ok()?.len();
     let front = read_front(rt.alloc(), &file, size)?;
     if front.len() as u64 > size {
         return None;
@@ -63,10 +66,17 @@ fn found<R: Files<File = File> + AllocGlobal>(
     };
     match fault {
         LoadFault::UnknownFormat(_) => Some(by_format(known)),
-        LoadFault::TextCount(_) => Some([by_texts(known), None, None, None]),
+        LoadFault::TextCount(_) => Some([by_texts(known), None, None, None, None]),
         LoadFault::Truncated(_) | LoadFault::ExtensionCount(_) | LoadFault::TooManyTraces => {
-            let head = head_under(known, reading)?;
-            let own = first_samples(&file, &head);
+            // The fields' own number, also where the reading says another.
+            let head = head_under(
+                known,
+                Reading {
+                    samples: None,
+                    ..reading
+                },
+            )?;
+            let own = first_samples(&file, &head, size);
             Some(by_samples(known, &head, own))
         }
         _ => None,
@@ -96,13 +106,13 @@ fn even_traces(known: Known, head: &Head, samples: u32) -> Option<u64> {
 }
 
 // The binary header's number of samples, then the first trace's own.
-fn by_samples(known: Known, head: &Head, own: Option<u32>) -> [Option<Fit>; 4] {
+fn by_samples(known: Known, head: &Head, own: Option<u32>) -> [Option<Fit>; 5] {
     let first = samples_fit(known, head, head.samples);
     let second = match own {
         Some(own) if own != head.samples => samples_fit(known, head, own),
         _ => None,
     };
-    [first, second, None, None]
+    [first, second, None, None, None]
 }
 
 fn samples_fit(known: Known, head: &Head, samples: u32) -> Option<Fit> {
@@ -114,17 +124,11 @@ fn samples_fit(known: Known, head: &Head, samples: u32) -> Option<Fit> {
     })
 }
 
-// The first four formats under which traces of the binary header's number of samples end evenly.
-fn by_format(known: Known) -> [Option<Fit>; 4] {
-    let mut fits = [None, None, None, None];
-    let mut count = 0usize;
-    for code in FORMATS {
-        if let Some(fit) = format_fit(known, code)
-            && count < 4
-        {
-            fits[count] = Some(fit);
-            count += 1;
-        }
+// The formats under which traces of the binary header's number of samples end evenly.
+fn by_format(known: Known) -> [Option<Fit>; 5] {
+    let mut fits = NONE;
+    for place in 0..5 {
+        fits[place] = format_fit(known, FORMATS[place]);
     }
     fits
 }
@@ -137,11 +141,16 @@ fn format_fit(known: Known, code: u16) -> Option<Fit> {
     };
     let head = head_under(known, reading)?;
     Some(Fit {
-        samples: None,
+        samples: unless_fixed(&head),
         format: Some(code),
         texts: None,
         traces: even_traces(known, &head, head.samples)?,
     })
+}
+
+// The head's number of samples, which has to be asked for where not each trace has it by the flag.
+fn unless_fixed(head: &Head) -> Option<u32> {
+    if head.fixed { None } else { Some(head.samples) }
 }
 
 // The least number of extended textual headers behind which traces of the binary header's number of
@@ -163,7 +172,7 @@ fn texts_fit(known: Known, texts: i16) -> Option<Fit> {
     };
     let head = head_under(known, reading)?;
     Some(Fit {
-        samples: None,
+        samples: unless_fixed(&head),
         format: None,
         texts: Some(texts),
         traces: even_traces(known, &head, head.samples)?,

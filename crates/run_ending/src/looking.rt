@@ -14,16 +14,21 @@ use text_block::TEXT_BLOCK_BYTES;
 /// where the answer could not be printed. No trace is read.
 pub fn look_at_file<R: Files<File = File> + Print + Eprint>(rt: &R, arguments: &Arguments) -> u8 {
     let name = arguments.file;
-    let Ok(file) = fs::open(rt, name) else {
-        let _ = eprintln!(rt; "segywb: cannot open {name}");
-        return 3;
-    };
-    let size = match file.metadata() {
+    // To open a pipe would wait for a writer.
+    let size = match fs::metadata(rt, name) {
         Ok(about) if about.is_file() => about.len(),
-        _ => {
+        Ok(_) => {
             let _ = eprintln!(rt; "segywb: --look needs a file on disk, and {name} is none");
             return 3;
         }
+        Err(_) => {
+            let _ = eprintln!(rt; "segywb: cannot open {name}");
+            return 3;
+        }
+    };
+    let Ok(file) = fs::open(rt, name) else {
+        let _ = eprintln!(rt; "segywb: cannot open {name}");
+        return 3;
     };
     let mut bin = [0u8; BINARY_HEADER_BYTES];
     if size < FILE_HEADER_BYTES as u64 || !is_read(&file, TEXT_BLOCK_BYTES as u64, &mut bin) {

@@ -37,6 +37,7 @@ pub(crate) fn tell_refused<R: Files<File = File> + AllocGlobal + Eprint>(
             file: arguments.file,
             fault,
             on_disk: arguments.on_disk,
+            reading: reading_of(arguments),
             torn: torn(rt, arguments, fault),
             fits: fits_of(rt, arguments, fault),
         };
@@ -65,9 +66,9 @@ pub(crate) fn tell_refused<R: Files<File = File> + AllocGlobal + Eprint>(
 fn notes_room(arguments: &Arguments) -> u64 {
     let script = arguments.script.unwrap_or("").len() as u64;
     let line = script.saturating_add(NOTE_ROOM);
-    // The path stands in each of the lines of a refused file, of which there are at most six.
+    // The path stands in each of the lines of a refused file, of which there are at most seven.
     line.saturating_mul(LINES)
-        .saturating_add((arguments.file.len() as u64).saturating_mul(6))
+        .saturating_add((arguments.file.len() as u64).saturating_mul(7))
 }
 
 // Readings that would cut the refused file evenly.
@@ -75,10 +76,10 @@ fn fits_of<R: Files<File = File> + AllocGlobal>(
     rt: &R,
     arguments: &Arguments,
     fault: LoadFault,
-) -> [Option<Fit>; 4] {
+) -> [Option<Fit>; 5] {
     match Limits::new(GREATEST, u32::MAX) {
         Some(limits) => fits(rt, arguments.file, reading_of(arguments), limits, fault),
-        None => [None, None, None, None],
+        None => [None, None, None, None, None],
     }
 }
 

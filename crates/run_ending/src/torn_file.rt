@@ -29,12 +29,12 @@ pub(crate) fn torn_file<R: Files<File = File> + AllocGlobal>(
     limits: Limits,
     trace: u64,
 ) -> Option<TornFile> {
-    let file = fs::open(rt, path).ok()?;
-    let about = file.metadata().ok()?;
-    if !about.is_file() {
+    // To open a pipe again would wait for a writer.
+    if !fs::metadata(rt, path).ok()?.is_file() {
         return None;
     }
-    let size = about.len();
+    let file = fs::open(rt, path).ok()?;
+    let size = file.metadata().ok()?.len();
     let front = read_front(rt.alloc(), &file, size)?;
     if front.len() as u64 > size {
         return None;
@@ -116,7 +116,7 @@ fn even_samples<F: FileExt>(file: &F, head: &Head, limits: Limits, end: u64) -> 
     if is_even(head, limits, all, head.samples) {
         return Some(head.samples);
     }
-    let own = first_samples(file, head)?;
+    let own = first_samples(file, head, end)?;
     if is_even(head, limits, all, own) {
         Some(own)
     } else {
@@ -124,10 +124,12 @@ fn even_samples<F: FileExt>(file: &F, head: &Head, limits: Limits, end: u64) -> 
     }
 }
 
-/// The number of samples that the headers of the first trace say.
-pub(crate) fn first_samples<F: FileExt>(file: &F, head: &Head) -> Option<u32> {
+/// The number of samples that the headers of the first trace say, in a file of so many bytes.
+pub(crate) fn first_samples<F: FileExt>(file: &F, head: &Head, size: u64) -> Option<u32> {
+    let left = size.checked_sub(head.traces_at)?;
+    let count = left.min(HEADERS as u64) as usize;
     let mut front = [0u8; HEADERS];
-    if !is_read(file, head.traces_at, &mut front) {
+    if count < front_length(head) || !is_read(file, head.traces_at, &mut front[..count]) {
         return None;
     }
     Some(sample_count(

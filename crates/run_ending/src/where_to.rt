@@ -68,7 +68,9 @@ fn misuse_of_recovery(arguments: &Arguments) -> Option<&'static str> {
 fn misuse_of_look(arguments: &Arguments) -> Option<&'static str> {
     let is_alone = arguments.script.is_none()
         && arguments.out.is_none()
-        && !(arguments.session || arguments.in_place || arguments.save_at_end);
+        && arguments.max_bytes.is_none()
+        && !(arguments.session || arguments.in_place || arguments.save_at_end)
+        && !(arguments.on_disk || arguments.stop || arguments.quiet);
     if is_alone {
         None
     } else {

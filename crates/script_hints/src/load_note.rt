@@ -1,7 +1,7 @@
 // What is told of a file that is refused.
 use crate::fit::Fit;
 use crate::torn_file::TornFile;
-use frame_cut::LoadFault;
+use frame_cut::{LoadFault, Reading};
 use std::fmt;
 
 /// `segywb: FILE: REFUSAL (HINT)`, one line without its line feed: why the file is refused, and
@@ -14,10 +14,12 @@ pub struct LoadNote<'a> {
     pub fault: LoadFault,
     /// Whether its bytes were to stay on disk.
     pub on_disk: bool,
+    /// How the file was asked to be read.
+    pub reading: Reading,
     /// What is seen of a file that ends inside a trace.
     pub torn: Option<TornFile>,
     /// Readings that would cut it evenly.
-    pub fits: [Option<Fit>; 4],
+    pub fits: [Option<Fit>; 5],
 }
 
 impl fmt::Display for LoadNote<'_> {
@@ -25,7 +27,11 @@ impl fmt::Display for LoadNote<'_> {
         let file = self.file;
         let fault = self.fault;
         write!(f, "segywb: {file}: {fault} (")?;
-        match (hint(fault, self.on_disk), fault, &self.torn) {
+        let text = match asked(fault, self.reading) {
+            Some(text) => Some(text),
+            None => hint(fault, self.on_disk),
+        };
+        match (text, fault, &self.torn) {
             (Some(text), _, _) => f.write_str(text)?,
             (None, LoadFault::UnknownFormat(code), _) => unknown_format(f, code)?,
             (None, LoadFault::Truncated(trace), Some(torn)) => torn.write(f, trace)?,
@@ -50,6 +56,25 @@ impl fmt::Display for LoadNote<'_> {
             }
         }
         Ok(())
+    }
+}
+
+// What is refused is what the command line asks for, and not what the file says.
+fn asked(fault: LoadFault, reading: Reading) -> Option<&'static str> {
+    match fault {
+        LoadFault::FloatFormat(_) if reading.format.is_some() => {
+            Some("as --format says; formats 1, 5 and 6 are floats")
+        }
+        LoadFault::GainFormat if reading.format.is_some() => {
+            Some("as --format says; format 4 is fixed point with gain")
+        }
+        LoadFault::UnknownFormat(_) if reading.format.is_some() => {
+            Some("as --format says; the standard has formats 1 to 12, 15 and 16")
+        }
+        LoadFault::TextCount(_) if reading.texts.is_some() => {
+            Some("as --texts says; the file has fewer bytes")
+        }
+        _ => None,
     }
 }
 

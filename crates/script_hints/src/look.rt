@@ -27,7 +27,9 @@ struct Fields {
     minor: u8,
     format: u16,
     interval: u16,
-    samples: u32,
+    short_samples: u16,
+    wide_samples: u32,
+    is_swapped: bool,
     fixed: u16,
     texts: i16,
     extensions: i32,
@@ -56,17 +58,16 @@ fn fields_of(bin: &[u8; BINARY_HEADER_BYTES], reading: Reading) -> Fields {
         None
     };
     let order = told.unwrap_or(reading.order.unwrap_or(Order::Big));
-    let wide = u32_at(order, bin, 3269 - 3201);
-    let major = u8_at(order, bin, 3501 - 3201);
-    let short = u32::from(u16_at(order, bin, 3221 - 3201));
     Fields {
         order,
         told,
-        major,
+        major: u8_at(order, bin, 3501 - 3201),
         minor: u8_at(order, bin, 3502 - 3201),
         format: u16_at(order, bin, 3225 - 3201),
         interval: u16_at(order, bin, 3217 - 3201),
-        samples: if major == 2 && wide != 0 { wide } else { short },
+        short_samples: u16_at(order, bin, 3221 - 3201),
+        wide_samples: u32_at(order, bin, 3269 - 3201),
+        is_swapped: bin[96..100] == [2, 1, 4, 3],
         fixed: u16_at(order, bin, 3503 - 3201),
         texts: i16_at(order, bin, 3505 - 3201),
         extensions: i32_at(order, bin, 3507 - 3201),
@@ -85,6 +86,7 @@ fn write_order<W: fmt::Write>(
         Order::Little => "little",
     };
     let how = match (fields.told, reading.order) {
+        _ if fields.is_swapped => "swapped",
         (Some(_), _) => "told",
         (None, Some(_)) => "asked",
         (None, None) => "assumed",
@@ -97,11 +99,10 @@ fn write_fields<W: fmt::Write>(f: &mut fmt::Formatter<W>, fields: &Fields) -> fm
     writeln!(f, "look revision {major}.{minor}")?;
     let (format, interval) = (fields.format, fields.interval);
     writeln!(f, "look format {format}\nlook interval {interval}")?;
-    let (samples, fixed, texts) = (fields.samples, fields.fixed, fields.texts);
-    writeln!(
-        f,
-        "look samples {samples}\nlook fixed {fixed}\nlook texts {texts}"
-    )?;
+    let (samples, wide) = (fields.short_samples, fields.wide_samples);
+    writeln!(f, "look samples {samples}\nlook wide_samples {wide}")?;
+    let (fixed, texts) = (fields.fixed, fields.texts);
+    writeln!(f, "look fixed {fixed}\nlook texts {texts}")?;
     let (extensions, trailer) = (fields.extensions, fields.trailer);
     writeln!(f, "look extensions {extensions}\nlook trailer {trailer}")?;
     let first_trace = fields.first_trace;
@@ -139,7 +140,12 @@ fn trace_bytes(fields: &Fields, reading: Reading) -> Option<u64> {
     } else {
         0
     };
-    let samples = u64::from(reading.samples.unwrap_or(fields.samples));
+    let written = if fields.major == 2 && fields.wide_samples != 0 {
+        fields.wide_samples
+    } else {
+        u32::from(fields.short_samples)
+    };
+    let samples = u64::from(reading.samples.unwrap_or(written));
     Some(240 * (1 + extensions) + samples * u64::from(format.width()))
 }
 

@@ -4,12 +4,13 @@ from __future__ import annotations
 
 import os
 import re
-from typing import Dict, Optional, Tuple
+from typing import Any, Dict, List, Optional, Sequence, Tuple
 
 _PARTS = {"E07": "T", "E08": "M"}
 # what arguments of `segywb.open` the program's options are; those of the first list have a value
-_VALUED = ("max-bytes", "order")
+_VALUED = ("max-bytes", "order", "samples", "format", "texts")
 _TRUE = ("fixed", "floats", "on-disk", "opaque-samples")
+_TRIED = re.compile(r"\btry: segywb .*?((?: --[a-z]+(?:-[a-z]+)*(?: (?:big|little|[0-9]+)(?![^\s;,)]))?)+)(?=[\s;,)]|$)")
 
 
 class Error(Exception):
@@ -38,7 +39,8 @@ class Refused(Error):
 class LoadRefused(Refused):
     """The file is refused (the codes ``L01`` to ``L17``). ``status`` is the program's exit status.
 
-    ``hint`` is what the program says to do, and ``arguments`` names the arguments of ``segywb.open`` for the options in it:
+    ``hint`` is what the program says to do, and ``arguments`` names the arguments of ``segywb.open`` for the options in it. ``readings`` are those
+    that the program says would fit, each as the arguments of ``segywb.open``: ``segywb.open(refusal.path, **refusal.readings[0])``.
 
     >>> refusal = LoadRefused("load refused L07 gain format", "line.sgy", 3, "with --opaque-samples the file is read all the same")
     >>> refusal.arguments
@@ -47,11 +49,14 @@ class LoadRefused(Refused):
     L07 gain format: line.sgy (with --opaque-samples the file is read all the same; in Python --opaque-samples is opaque_samples=True)
     """
 
-    def __init__(self, answer: str, path: str = "", status: Optional[int] = None, hint: str = "") -> None:
+    def __init__(
+        self, answer: str, path: str = "", status: Optional[int] = None, hint: str = "", readings: Sequence[Dict[str, Any]] = ()
+    ) -> None:
         super().__init__(answer, path)
         self.path = path
         self.status = status
         self.hint = hint
+        self.readings: List[Dict[str, Any]] = [dict(one) for one in readings]
         self._options = options(hint)
 
     @property
@@ -76,6 +81,23 @@ def hint_of(refusal: str, told: str) -> str:
     first, *more = rest.splitlines() if found else [""]
     said = [first[:-1] if first.endswith(")") else first, *(line[len("segywb: "):] for line in more if line.startswith("segywb: "))]
     return "; ".join(text for text in said if text)
+
+
+def readings_of(told: str, path: str) -> List[Dict[str, Any]]:
+    """The readings that the program says would fit a file that it refuses, as arguments of ``segywb.open``.
+
+    >>> readings_of("segywb: a.sgy: L13 (..)\\ntry: segywb a.sgy --samples 1500\\ntry: segywb a.sgy --texts 2 --order little\\n", "a.sgy")
+    [{'samples': 1500}, {'texts': 2, 'order': 'little'}]
+    """
+    found: List[Dict[str, Any]] = []
+    for words in _TRIED.findall(told.replace(path, "FILE") if path else told):
+        reading: Dict[str, Any] = {}
+        for name, value in re.findall(r"--([a-z-]+)(?: (\w+))?", words):
+            if name in _VALUED and value or name in _TRUE and not value:
+                reading[name.replace("-", "_")] = True if name in _TRUE else value if name == "order" else int(value)
+        if reading and reading not in found:
+            found.append(reading)
+    return found
 
 
 def options(hint: str) -> Tuple[Tuple[str, str], ...]:

@@ -14,6 +14,7 @@ from .errors import ProgramEnded, Refused
 from .fields import TRACE_NAMES, kind
 from .grids import Grid, Slice
 from .lines import Field, encode, field, number, position
+from .repairs import InPlace
 from .selection import positions, runs
 from .session import Batch
 
@@ -42,13 +43,15 @@ class Volume:
 
     def __init__(
         self, path: Path, fixed: bool = False, opaque_samples: bool = False, max_bytes: Optional[int] = None, order: Optional[str] = None,
-        on_disk: bool = False, floats: bool = True
+        on_disk: bool = False, floats: bool = True, samples: Optional[int] = None, format: Optional[int] = None, texts: Optional[int] = None
     ) -> None:
         floats = floats and program.knows("--floats")
         options = ["--fixed"] if fixed else []
         options += ["--floats"] if floats else []
         options += ["--opaque-samples"] if opaque_samples else []
         options += ["--order", order] if order is not None else []
+        for name, value in (("--samples", samples), ("--format", format), ("--texts", texts)):
+            options += [name, number(value)] if value is not None else []
         options += ["--max-bytes", number(_limit(path, on_disk) if max_bytes is None else max_bytes)]
         options += ["--on-disk"] if on_disk else []
         self.path = os.fspath(path)
@@ -443,6 +446,10 @@ class Volume:
         told = lines.decimals(values) if self.has_floats else list(map(str, lines.numbers(values)))
         self._edit("patch", position(trace), number(sample), *told)
 
+    def declare(self) -> None:
+        """Writes what the reading says (``samples``, ``format`` and ``texts`` of ``segywb.open``) into the binary header, so that the saved file is read without it."""
+        self._edit("declare")
+
     def resize(self, trace: int, samples: int) -> None:
         """Gives a trace that number of samples."""
         self._edit("resize", position(trace), number(samples))
@@ -598,22 +605,48 @@ class Volume:
         """Does again the steps that ``undo`` took back last, and gives their lines. A new edit leaves nothing to do again."""
         return self._engine.redo(n)
 
-    def save(self, path: Optional[Path] = None, replace: bool = False, in_place: bool = False) -> None:
-        """Writes the edited file. A file that is there is written over with ``replace`` alone.
+    def in_place(self) -> InPlace:
+        """How ``save`` writes the edits over the file itself where it is not told: whether a repair in place is possible, whether it is chosen, and why.
 
-        With ``in_place`` the changed bytes alone are written into the file itself, under a journal of the old ones; edits that move, add, take away or
-        resize traces need a new file (``SaveFailed``). ``path`` may be left out then, and else has to lead to the file.
-
-        Where ``path`` is the file itself, it is the file of this volume from then on: ``edits`` begins anew, with the names that ``map`` bound.
+        >>> import segywb
+        >>> with segywb.open("cube.sgy") as v:
+        ...     v.delete(5)
+        ...     v.in_place()
+        InPlace(possible=False, chosen=False, why="the edit 'delete 5' needs a new file: traces come, go, move or get another length")
         """
-        if not in_place:
-            if path is None:
-                raise TypeError("save needs a path, or in_place=True")
-            self._engine.save(os.fspath(path), replace)
-        elif path is None or _leads_to(path, self.path):
-            self._engine.repair()
-        else:
-            raise ValueError(f"in_place=True writes into {self.path} itself, and {os.fspath(path)} is another path")
+        return self._engine.in_place()
+
+    def save(self, path: Optional[Path] = None, replace: bool = False, in_place: Optional[bool] = None) -> None:
+        """Writes the edited file. A file that is there is written over with ``replace`` alone; without a path it is the file itself, which is written over.
+
+        A save over the file itself is a repair in place or a new file beside it, which then takes its name. In place the changed bytes alone are written,
+        under a journal of the old ones (``segywb.recover`` puts these back where it was cut off). That is chosen where the file has more than
+        1,000,000,000 bytes and no other hard link, and no edit moved, added, took away or resized traces: ``v.in_place()`` tells. ``in_place=False`` saves
+        beside in any case; with ``in_place=True`` edits that need a new file are a ``SaveFailed``.
+
+        Behind a save over the file itself it is the file of this volume: ``edits`` begins anew, with the names that ``map`` bound.
+
+        >>> import os, segywb, tempfile
+        >>> out = os.path.join(tempfile.mkdtemp(), "mended.sgy")
+        >>> with segywb.open("cube.sgy") as v:
+        ...     v.set(1, "inline", 7)
+        ...     v.save(out)
+        >>> with segywb.open(out) as v:
+        ...     v.set(2, "inline", 7)
+        ...     v.save()
+        ...     v.edits, v.get(2, "inline")
+        ([], 7)
+        """
+        own = path is None or _leads_to(path, self._engine.path)
+        if in_place and not own:
+            raise ValueError(f"in_place=True writes into {self.path} itself, and {os.fspath(path or '')} is another path")
+        if in_place:
+            self._repair()
+        elif in_place is False or not own or not (path is None or replace) or not self._engine.repaired():
+            self._engine.save(self._engine.path if path is None else os.fspath(path), replace or path is None)
+
+    def _repair(self) -> None:
+        self._engine.repair()
 
     # ---- shown
 

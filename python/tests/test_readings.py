@@ -1,0 +1,114 @@
+"""Files that are read by what they are said to be: what the program is asked for, and what it says would fit."""
+
+import json
+import pickle
+import sys
+
+import pytest
+from files import cube
+
+import segywb
+from segywb import errors, program
+
+REFUSAL = "load refused L13 truncated header 3"
+TOLD = """segywb: {path}: L13 truncated header 3 (bytes 3221-3222 say 9 samples)
+try: segywb {path} --samples 1500
+try: segywb {path} --samples 1500 --texts 2 --order little
+try: segywb {path} --fixed
+"""
+# A program that refuses a file where it is not told --samples, and else answers some lines.
+SCRIPT = """
+words = sys.argv[1:]
+if words == ['--help']:
+    print('--floats --recover --look --samples --format --texts')
+    sys.exit(0)
+import json
+open({log!r}, 'a').write(json.dumps(words) + chr(10))
+if '--look' in words:
+    print('byte 3221  samples  9' + chr(10) + 'the length says  1500')
+    sys.exit(0)
+if '--samples' not in words:
+    print({refusal!r}, flush=True)
+    sys.stderr.write({told!r}.replace('{{path}}', words[0]))
+    sys.exit(3)
+for line in sys.stdin:
+    answers = {{'count': 'traces 12', 'declare': 'ok', 'info': 'info order big revision 1.0 format 5 samples 1500 fixed yes extensions 0 blocks 2 trailer 0 traces 12 bytes 9'}}
+    print(answers.get(line.strip(), 'refused S01 unknown word'), end=chr(10) * 2, flush=True)
+"""
+
+
+@pytest.fixture
+def told(fake, tmp_path):
+    """Makes that program the one that is run; gives the words that it was run with."""
+    log = tmp_path / "log"
+    log.touch()
+    program._options.clear()
+    fake(SCRIPT.format(log=str(log), refusal=REFUSAL, told=TOLD))
+    yield lambda: [json.loads(line) for line in log.read_text().splitlines()]
+    program._options.clear()
+
+
+def test_the_refusal_names_readings(told, tmp_path):
+    path = cube(tmp_path / "it's a cube; --texts 7 try: segywb x --fixed.sgy")
+    with pytest.raises(segywb.LoadRefused) as refusal:
+        segywb.open(path)
+    got = refusal.value
+    assert got.readings == [{"samples": 1500}, {"samples": 1500, "texts": 2, "order": "little"}, {"fixed": True}]
+    again = pickle.loads(pickle.dumps(got))
+    assert again.readings == got.readings and str(again) == str(got)
+    with segywb.open(got.path, **got.readings[1]) as volume:
+        assert len(volume) == 12
+    assert told()[-1][2:] == ["--floats", "--order", "little", "--samples", "1500", "--texts", "2", "--max-bytes", str(1 << 40)]
+
+
+def test_the_reading_is_told_to_the_program(told, tmp_path):
+    path = cube(tmp_path / "cube.sgy")
+    with segywb.open(path, samples=0, format=65535, texts=0) as volume:
+        words = told()[-1]
+        for name, value in (("--samples", "0"), ("--format", "65535"), ("--texts", "0")):
+            assert words[words.index(name) + 1] == value
+        assert volume.info.samples == 1500
+        volume.declare()
+        assert volume.edits == ["declare"] and volume.undoable == 1
+        volume.restart()
+        assert volume.edits == ["declare"] and told()[-1] == words
+    with pytest.raises(TypeError):
+        segywb.open(path, samples=1.5)
+
+
+def test_nothing_is_told_where_nothing_is_said(told, tmp_path):
+    with pytest.raises(segywb.LoadRefused):
+        segywb.open(cube(tmp_path / "cube.sgy"))
+    assert not {"--samples", "--format", "--texts"} & set(told()[-1])
+
+
+def test_a_look(told, tmp_path):
+    path = cube(tmp_path / "cube.sgy")
+    assert segywb.look(path) == "byte 3221  samples  9\nthe length says  1500\n"
+    assert told()[-1] == [str(path), "--look"]
+    with pytest.raises(FileNotFoundError):
+        segywb.look(tmp_path / "none.sgy")
+
+
+@pytest.mark.parametrize(("text", "wanted"), [
+    ("", []),
+    ("segywb: a.sgy: L14 truncated trace 3 (the file ends 100 bytes inside trace 3)\n", []),
+    ("try: segywb FILE --samples 1500\n", [{"samples": 1500}]),
+    ("segywb: a.sgy: L08 (..; try: segywb a.sgy --format 5)\n", [{"format": 5}]),
+    ("try: segywb a.sgy --samples 1500\ntry: segywb a.sgy --samples 1500\n", [{"samples": 1500}]),
+    ("segywb: try: segywb a.sgy --on-disk --samples 4294967295\n", [{"on_disk": True, "samples": 4294967295}]),
+    ("try: segywb a.sgy --order --samples 7\n", [{"samples": 7}]),
+    ("try: segywb a.sgy --samples many\n", []),
+])
+def test_readings_of(text, wanted):
+    assert errors.readings_of(text, "a.sgy") == wanted
+
+
+@pytest.mark.skipif(program.knows("--samples"), reason="the program knows these readings")
+def test_an_older_program(tmp_path):
+    with pytest.raises(segywb.OptionRefused, match="--samples 3"):
+        segywb.open(cube(tmp_path / "cube.sgy"), samples=3)
+    if not program.knows("--look"):
+        with pytest.raises(segywb.OptionRefused, match="older than --look"):
+            segywb.look(cube(tmp_path / "cube.sgy"))
+    assert sys.version_info >= (3, 9)

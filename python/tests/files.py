@@ -1,5 +1,7 @@
 """Small SEG-Y files, byte by byte, without the package that is tested."""
 
+import hashlib
+import os
 import struct
 
 
@@ -96,3 +98,19 @@ def extended(path):
 def empty(path):
     """No traces."""
     return write(path, header(), binary())
+
+
+def torn(path, places):
+    """Writes into a file as a repair that is cut off: the journal beside it has the old bytes of these places, of which each has new ones."""
+    old = path.read_bytes()
+    found = os.stat(path)
+    body = b"SEGYWBJL" + struct.pack("<3Q", 1, found.st_size, found.st_ino)
+    for at, new in places:
+        body += struct.pack("<2Q", at, len(new)) + old[at:at + len(new)]
+    journal = path.with_name(f".{path.name}.segywb-journal")
+    journal.write_bytes(body + hashlib.md5(body).digest())
+    with open(path, "r+b") as file:
+        for at, new in places:
+            file.seek(at)
+            file.write(new)
+    return journal

@@ -18,6 +18,21 @@ class Step(NamedTuple):
         """The lines, one text each."""
         return decode(self.sent).split("\n")[:-1]
 
+    @property
+    def first(self) -> str:
+        """Its first line."""
+        return decode(self.sent.partition(b"\n")[0])
+
+    @property
+    def last(self) -> str:
+        """Its last line.
+
+        >>> step = Step(b"set 1 inline 7\\nset 2 inline 8\\n", 2)
+        >>> step.first, step.last
+        ('set 1 inline 7', 'set 2 inline 8')
+        """
+        return decode(self.sent[:-1].rpartition(b"\n")[2])
+
 
 class History:
     """Steps that were done, and those that were taken back."""

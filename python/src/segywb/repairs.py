@@ -36,6 +36,16 @@ class InPlace(NamedTuple):
     why: str
 
 
+def journal_of(path: bytes) -> bytes:
+    """Where the journal of a repair of a file stands.
+
+    >>> journal_of(b"/data/cube.sgy")
+    b'/data/.cube.sgy.segywb-journal'
+    """
+    folder, name = os.path.split(os.path.realpath(path))
+    return os.path.join(folder, b"." + name + b".segywb-journal")
+
+
 def judged(path: str, script: bytes) -> InPlace:
     """How these edits are saved over the file itself: in place where it is large, no trace moves, and no other name leads to the old bytes."""
     if not program.knows("--recover"):

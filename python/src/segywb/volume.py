@@ -13,6 +13,7 @@ from .engine import BATCH_LINES, Engine
 from .errors import ProgramEnded, Refused
 from .fields import TRACE_NAMES, kind
 from .grids import Grid, Slice
+from .history import Step
 from .lines import Field, encode, field, number, position
 from .repairs import InPlace
 from .selection import positions, runs
@@ -552,6 +553,17 @@ class Volume:
         """What is wrong with the headers: the faults of the file, then those of the traces."""
         return answers.faults(self._ask("faults"))
 
+    def fault_text(self) -> bytes:
+        """The faults as the program writes them, one in a line behind the line that counts them: for lists of millions that are not to become objects.
+
+        >>> import segywb
+        >>> with segywb.open("wrong_line.sgy") as v:
+        ...     v.fault_text().split(b"\\n")[:2]
+        [b'faults 4', b'F6 trace 5 first 1']
+        """
+        with closing(self._engine.stream([(b"faults\n", 1)])) as told:
+            return b"".join(told).rstrip(b"\n")
+
     def fault_counts(self) -> Dict[str, int]:
         """How many faults there are of each code."""
         return answers.fault_counts(self._ask("faults"))
@@ -586,6 +598,21 @@ class Volume:
     def edits(self) -> List[str]:
         """The accepted edits, as lines of a script: ``segywb FILE --script`` with them gives the same file."""
         return self._engine.history.lines
+
+    @property
+    def script(self) -> bytes:
+        """The accepted edits as the bytes of a script, also where the program has ended."""
+        return self._engine.history.sent().sent
+
+    @property
+    def steps(self) -> List[Step]:
+        """The steps that were accepted, the first one first: ``size`` lines each, from ``first`` to ``last``."""
+        return list(self._engine.history.done)
+
+    @property
+    def undone_steps(self) -> List[Step]:
+        """The steps that were taken back and can be done again, in the order in which ``redo`` does them."""
+        return self._engine.history.undone[::-1]
 
     @property
     def undoable(self) -> int:

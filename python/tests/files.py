@@ -95,6 +95,19 @@ def extended(path):
     return write(path, header(), binary(major=2, fixed=0, extensions=1), *made)
 
 
+def large(path, inlines=20, crosslines=96):
+    """A file of more than 1,000,000,000 bytes that takes a few megabytes of the disk: its samples, 65535 of 8 bytes in each trace, are zeros that no
+    one has written."""
+    size = 240 + 8 * 65535
+    with open(path, "wb") as file:
+        file.write(header() + binary(samples=65535, form=9))
+        for at in range(inlines * crosslines):
+            file.seek(3600 + at * size)
+            file.write(trace(at + 1, 101 + at // crosslines, 201 + at % crosslines, [], told=65535))
+        file.truncate(3600 + inlines * crosslines * size)
+    return path
+
+
 def empty(path):
     """No traces."""
     return write(path, header(), binary())

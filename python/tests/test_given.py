@@ -54,6 +54,8 @@ def test_the_refusal_names_readings(told, tmp_path):
         segywb.open(path)
     got = refusal.value
     assert got.readings == [{"samples": 1500}, {"samples": 1500, "texts": 2, "order": "little"}, {"fixed": True}]
+    assert got.hint == "bytes 3221-3222 say 9 samples" and got.arguments == ()
+    assert str(got).endswith("(bytes 3221-3222 say 9 samples; segywb.open may read it with samples=1500, or with samples=1500, texts=2, order='little', or with fixed=True)")
     again = pickle.loads(pickle.dumps(got))
     assert again.readings == got.readings and str(again) == str(got)
     with segywb.open(got.path, **got.readings[1]) as volume:

@@ -71,11 +71,22 @@ def test_enter_takes_what_is_usual(opened):
     assert os.stat(page.desk.path).st_ino == inode
 
 
-def test_a_picture_of_both_ways(opened, tmp_path):
-    page = opened("wrong_line", before="import segywb.repairs\nsegywb.repairs.IN_PLACE_ABOVE = 6599")
-    page.run(MEND)
-    ways(page)
+def test_a_gigabyte(opened, tmp_path):
+    """A file that is large in earnest: it is mended in place, and two bytes of it are others. A picture of the question is taken."""
+    page = opened(files.large(tmp_path / "survey.sgy"), "--on-disk")
+    path = page.desk.path
+    found = os.stat(path)
+    page.run("renumber 97 98 inline 101 0")
+    assert ways(page) == [REPAIR, REPLACE]
+    assert page.text("save-why") == "First stands what is usual here: the file has 1,007,082,000 bytes, more than 1,000,000,000, and no trace moves."
     page.picture("save-box", "save", tmp_path)
+    page.find("save-path").clear()
+    page.find("save-path").send_keys(str(path))
+    page.click("save-in-place")
+    page.wait(lambda: page.all("#saved"))
+    assert os.stat(path).st_ino == found.st_ino and os.stat(path).st_blocks < found.st_blocks + 1000
+    with segywb.open(path, on_disk=True) as volume:
+        assert volume.inlines()[101] == 98
 
 
 def test_a_small_file_is_replaced_first(opened):

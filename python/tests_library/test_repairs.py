@@ -140,6 +140,20 @@ def test_a_repair_that_was_cut_off(room, monkeypatch):
     assert digest(path) == digest(TOP / "examples" / "cube.sgy")
 
 
+def test_the_readings_that_a_refused_file_wants(few, tmp_path, wrapped):
+    """They stand in its hint, for a file by any name."""
+    refusing = wrapped("""
+case "$name $*" in */cube.sgy*--session*)
+    printf 'load refused L13 truncated header 3\\n'
+    printf 'segywb: %s: L13 truncated header 3 (the file ends inside it)\\ntry: segywb %s --samples 5\\ntry: segywb %s --samples 1500 --texts 0\\n' "$1" "$1" "$1" >&2
+    exit 3 ;;
+esac""")
+    library("scan", "--db", tmp_path / "lib.db", few, SEGYWB=refusing)
+    assert rows(tmp_path / "lib.db", "SELECT name, refusal, hint FROM file WHERE state = 'refused'") == [
+        ("cube.sgy", "L13", "the file ends inside it; try: segywb FILE --samples 5; try: segywb FILE --samples 1500 --texts 0")
+    ]
+
+
 def test_the_reading_goes_to_the_program(room, wrapped, tmp_path):
     """To the trial, the save and the undo, also where it is 0."""
     log = tmp_path / "log"

@@ -68,6 +68,8 @@ class LoadRefused(Refused):
         inside = [self.hint] if self.hint else []
         if self._options:
             inside.append("in Python " + ", ".join(f"{option} is {argument}" for option, argument in self._options))
+        if self.readings:
+            inside.append("segywb.open may read it with " + ", or with ".join(_called(one) for one in self.readings))
         return super().__str__() + (f" ({'; '.join(inside)})" if inside else "")
 
 
@@ -80,7 +82,17 @@ def hint_of(refusal: str, told: str) -> str:
     _, found, rest = told.rpartition(f": {refusal} (")
     first, *more = rest.splitlines() if found else [""]
     said = [first[:-1] if first.endswith(")") else first, *(line[len("segywb: "):] for line in more if line.startswith("segywb: "))]
-    return "; ".join(text for text in said if text)
+    return "; ".join(text for text in said if text and not text.startswith("try: "))
+
+
+def tries_of(told: str, path: str) -> List[str]:
+    """The words that the program says would read a file that it refuses, for a file by the name FILE.
+
+    >>> tries_of("segywb: a.sgy: L13 truncated header 3 (..)\\ntry: segywb a.sgy --samples 1500\\n", "a.sgy")
+    ['try: segywb FILE --samples 1500']
+    """
+    found = [f"try: segywb FILE{words}" for words in _TRIED.findall(told.replace(path, "FILE") if path else told)]
+    return list(dict.fromkeys(found))
 
 
 def readings_of(told: str, path: str) -> List[Dict[str, Any]]:
@@ -90,7 +102,7 @@ def readings_of(told: str, path: str) -> List[Dict[str, Any]]:
     [{'samples': 1500}, {'texts': 2, 'order': 'little'}]
     """
     found: List[Dict[str, Any]] = []
-    for words in _TRIED.findall(told.replace(path, "FILE") if path else told):
+    for words in tries_of(told, path):
         reading: Dict[str, Any] = {}
         for name, value in re.findall(r"--([a-z-]+)(?: (\w+))?", words):
             if name in _VALUED and value or name in _TRUE and not value:
@@ -114,6 +126,10 @@ def options(hint: str) -> Tuple[Tuple[str, str], ...]:
         elif name in _TRUE:
             found[f"--{name}"] = f"{argument}=True"
     return tuple(found.items())
+
+
+def _called(reading: Dict[str, Any]) -> str:
+    return ", ".join(f"{name}={value!r}" for name, value in reading.items())
 
 
 def _quoted(value: str) -> str:

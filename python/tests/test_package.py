@@ -2,7 +2,9 @@
 
 import doctest
 import importlib
+import inspect
 import os
+import pydoc
 import re
 import shutil
 import subprocess
@@ -87,17 +89,34 @@ def test_types(tmp_path):
     assert done.stdout.count("error:") == 1 and "use.py:9" in done.stdout, done.stdout
 
 
-@pytest.mark.parametrize("name", MODULES)
+def examples_of(name):
+    """Runs the examples of a module: how many failed, and how many there are."""
+    return doctest.testmod(importlib.import_module(f"segywb.{name}" if name else "segywb"), extraglobs={"segywb": segywb})
+
+
+@pytest.mark.parametrize("name", ["", *MODULES])
 def test_examples_of_modules(name, monkeypatch):
     """In a folder with the example files, as the examples of the documents."""
     monkeypatch.chdir(TOP / "examples")
-    assert doctest.testmod(importlib.import_module(f"segywb.{name}")).failed == 0
+    assert examples_of(name).failed == 0
+
+
+def test_each_public_call_has_an_example():
+    """`help` shows it: of each function of the package, and of each method and property of a volume, those of its parts too."""
+    calls = {name: getattr(segywb, name) for name in segywb.__all__ if inspect.isfunction(getattr(segywb, name))}
+    calls |= {f"tools.{name}": call for name, call in vars(segywb.tools).items() if inspect.isfunction(call) and call.__module__ == "segywb.tools"}
+    for part in segywb.Volume.__mro__[:-1]:
+        calls |= {f"Volume.{name}": call for name, call in vars(part).items() if not name.startswith("_") and (callable(call) or isinstance(call, property))}
+    assert len(calls) > 70 and {"open", "recover", "look", "Volume.get", "Volume.info", "Volume.faults", "Volume.samples"} <= set(calls)
+    assert [name for name, call in calls.items() if ">>>" not in (inspect.getdoc(call) or "")] == []
+    told = pydoc.plain(pydoc.render_doc(segywb.Volume))
+    assert all(f" {name[len('Volume.'):]}" in told for name in calls if name.startswith("Volume.")) and told.count(">>>") > 60
 
 
 def test_modules_have_examples(monkeypatch):
     monkeypatch.chdir(TOP / "examples")
-    found = [doctest.testmod(importlib.import_module(f"segywb.{name}")).attempted for name in MODULES]
-    assert sum(found) > 15
+    found = [examples_of(name).attempted for name in MODULES]
+    assert sum(found) > 100
 
 
 def blocks(document):

@@ -28,7 +28,8 @@ from .grids import Grid, Slice
 from .history import Step
 from .looks import look
 from .repairs import InPlace, Recovered, recover
-from .volume import Path, Volume
+from .lines import Path
+from .volume import Volume
 
 __version__ = "0.1.0"
 
@@ -54,7 +55,7 @@ def open(
     Three say what a file is whatever its headers say. ``samples``: each trace has so many samples. ``format``: the code of the samples, in the
     place of bytes 3225-3226. ``texts``: so many extended textual headers. ``Volume.declare`` writes them into the binary header.
 
-    >>> with open("cube.sgy") as volume:
+    >>> with segywb.open("cube.sgy") as volume:
     ...     len(volume), volume.info.samples
     (12, 5)
     """

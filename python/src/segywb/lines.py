@@ -4,12 +4,14 @@ from __future__ import annotations
 
 import numbers as kinds
 import operator
+import os
 import re
 from typing import Any, Iterable, List, Optional, Union
 
 from .fields import BinField, TraceField, binary_place, trace_place
 
 Field = Union[str, int]
+Path = Union[str, "os.PathLike[str]"]
 LONGEST = 16777216
 _MOVING = re.compile(rb"^[ \t]*((?:blank|copy|delete|move|resize|sort)[ \t][^\r\n]*)", re.M)
 

@@ -13,7 +13,7 @@ LOOK = "--look"
 def look(path: "os.PathLike[str] | str") -> str:
     """What ``segywb FILE --look`` prints: the head of a file field by field, and what its length says. The file need not be one that is read.
 
-    ``print(segywb.look("refused.sgy"))``
+    >>> print(segywb.look("refused.sgy"))  # doctest: +SKIP
     """
     name = os.path.abspath(os.fspath(path))
     try:

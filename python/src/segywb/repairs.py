@@ -88,7 +88,7 @@ def repair(path: str, options: Sequence[str], script: bytes) -> str:
 def recover(path: "os.PathLike[str] | str") -> Optional[Recovered]:
     """Puts the old bytes of a file back where a repair of it was cut off; ``None`` where none was.
 
-    >>> recover("cube.sgy")
+    >>> segywb.recover("cube.sgy")
     """
     name = os.path.abspath(os.fspath(path))
     try:

@@ -8,13 +8,27 @@ import pytest
 from files import cube
 
 import segywb
-from segywb import errors, program
+from segywb import errors, looks, program
 
 REFUSAL = "load refused L13 truncated header 3"
 TOLD = """segywb: {path}: L13 truncated header 3 (bytes 3221-3222 say 9 samples)
-try: segywb {path} --samples 1500
-try: segywb {path} --samples 1500 --texts 2 --order little
-try: segywb {path} --fixed
+segywb: {path} can be read with --samples 1500: 3 traces
+segywb: {path} can be read with --samples 1500 --texts 2 --order little: 1 trace
+segywb: {path} can be read with --format 5 --floats: 120 traces
+"""
+LOOK = """look bytes 1234567
+look order big told
+look revision 1.0
+look format 5
+look interval 2000
+look samples 1500
+look fixed 1
+look texts -1
+look extensions 0
+look trailer 0
+look first_trace 0
+look trace_bytes 6240
+look traces 197 rest 7
 """
 # A program that refuses a file where it is not told --samples, and else answers some lines.
 SCRIPT = """
@@ -25,7 +39,7 @@ if words == ['--help']:
 import json
 open({log!r}, 'a').write(json.dumps(words) + chr(10))
 if '--look' in words:
-    print('byte 3221  samples  9' + chr(10) + 'the length says  1500')
+    sys.stdout.write({look!r})
     sys.exit(0)
 if '--samples' not in words:
     print({refusal!r}, flush=True)
@@ -43,19 +57,19 @@ def told(fake, tmp_path):
     log = tmp_path / "log"
     log.touch()
     program._options.clear()
-    fake(SCRIPT.format(log=str(log), refusal=REFUSAL, told=TOLD))
+    fake(SCRIPT.format(log=str(log), refusal=REFUSAL, told=TOLD, look=LOOK))
     yield lambda: [json.loads(line) for line in log.read_text().splitlines()]
     program._options.clear()
 
 
 def test_the_refusal_names_readings(told, tmp_path):
-    path = cube(tmp_path / "it's a cube; --texts 7 try: segywb x --fixed.sgy")
+    path = cube(tmp_path / "it's a cube can be read with --texts 7: 3 traces.sgy")
     with pytest.raises(segywb.LoadRefused) as refusal:
         segywb.open(path)
     got = refusal.value
-    assert got.readings == [{"samples": 1500}, {"samples": 1500, "texts": 2, "order": "little"}, {"fixed": True}]
+    assert got.readings == [{"samples": 1500}, {"samples": 1500, "texts": 2, "order": "little"}, {"format": 5, "floats": True}]
     assert got.hint == "bytes 3221-3222 say 9 samples" and got.arguments == ()
-    assert str(got).endswith("(bytes 3221-3222 say 9 samples; segywb.open may read it with samples=1500, or with samples=1500, texts=2, order='little', or with fixed=True)")
+    assert str(got).endswith("(bytes 3221-3222 say 9 samples; segywb.open may read it with samples=1500, or with samples=1500, texts=2, order='little', or with format=5, floats=True)")
     again = pickle.loads(pickle.dumps(got))
     assert again.readings == got.readings and str(again) == str(got)
     with segywb.open(got.path, **got.readings[1]) as volume:
@@ -86,21 +100,44 @@ def test_nothing_is_told_where_nothing_is_said(told, tmp_path):
 
 def test_a_look(told, tmp_path):
     path = cube(tmp_path / "cube.sgy")
-    assert segywb.look(path) == "byte 3221  samples  9\nthe length says  1500\n"
+    assert segywb.look(path) == segywb.Look(1234567, "big", "told", "1.0", 5, 2000, 1500, True, -1, 0, 0, 0, 6240, 197, 7)
     assert told()[-1] == [str(path), "--look"]
+    segywb.look(str(path), fixed=True, order="big", samples=0, format=5, texts=2)
+    assert told()[-1][2:] == ["--fixed", "--order", "big", "--samples", "0", "--format", "5", "--texts", "2"]
     with pytest.raises(FileNotFoundError):
         segywb.look(tmp_path / "none.sgy")
+
+
+def test_a_look_at_what_is_unknown():
+    odd = LOOK.replace("trace_bytes 6240", "trace_bytes none").replace("traces 197 rest 7", "traces none").replace("big told", "little assumed") + "look more 7 8\n"
+    found = looks.read(odd)
+    assert (found.trace_bytes, found.traces, found.rest, found.order, found.by, found.samples) == (None, None, None, "little", "assumed", 1500)
+    for wrong in (LOOK.replace("look samples 1500\n", ""), LOOK.replace("big told", "big"), LOOK.replace("6240", "many"), ""):
+        with pytest.raises(segywb.ProgramEnded):
+            looks.read(wrong)
+
+
+def test_a_look_that_fails(fake, tmp_path):
+    path = cube(tmp_path / "cube.sgy")
+    for status, kind in ((3, segywb.ProgramEnded), (2, segywb.OptionRefused)):
+        program._options.clear()
+        fake(f"if sys.argv[1:] == ['--help']:\n    print('--look')\n    sys.exit(0)\nsys.stderr.write('no')\nsys.exit({status})\n")
+        with pytest.raises(kind, match="failed; status"):
+            segywb.look(path)
+    program._options.clear()
 
 
 @pytest.mark.parametrize(("text", "wanted"), [
     ("", []),
     ("segywb: a.sgy: L14 truncated trace 3 (the file ends 100 bytes inside trace 3)\n", []),
-    ("try: segywb FILE --samples 1500\n", [{"samples": 1500}]),
-    ("segywb: a.sgy: L08 (..; try: segywb a.sgy --format 5)\n", [{"format": 5}]),
-    ("try: segywb a.sgy --samples 1500\ntry: segywb a.sgy --samples 1500\n", [{"samples": 1500}]),
-    ("segywb: try: segywb a.sgy --on-disk --samples 4294967295\n", [{"on_disk": True, "samples": 4294967295}]),
-    ("try: segywb a.sgy --order --samples 7\n", [{"samples": 7}]),
-    ("try: segywb a.sgy --samples many\n", []),
+    ("segywb: a.sgy can be read with --samples 1500: 3 traces\n", [{"samples": 1500}]),
+    ("segywb: a.sgy can be read with --samples 1500: 3 traces\n" * 2, [{"samples": 1500}]),
+    ("segywb: a.sgy can be read with --on-disk --samples 4294967295: 1 trace\n", [{"on_disk": True, "samples": 4294967295}]),
+    ("segywb: b.sgy can be read with --samples 1500: 3 traces\n", []),
+    ("segywb: a.sgy can be read with --samples many: 3 traces\n", []),
+    ("segywb: a.sgy can be read with --samples: 3 traces\n", []),
+    ("segywb: a.sgy can be read with --colour 7: 3 traces\n", []),
+    ("segywb: a.sgy can be read with --samples 1500\n", []),
 ])
 def test_readings_of(text, wanted):
     assert errors.readings_of(text, "a.sgy") == wanted

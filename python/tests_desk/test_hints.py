@@ -9,6 +9,7 @@ from conftest import wait_for
 from page import Page
 from test_guard import asked
 from test_page import SOUND
+from test_given import LOOK
 from test_readings import tried
 
 from segywb import program
@@ -20,7 +21,10 @@ SCREEN = """#!{python}
 import os, subprocess, sys
 real, words = {real!r}, sys.argv[1:]
 if words == ['--help']:
-    print(subprocess.run([real, *words], capture_output=True, text=True).stdout + ' --samples --format --texts')
+    print(subprocess.run([real, *words], capture_output=True, text=True).stdout + ' --samples --format --texts --look')
+    sys.exit(0)
+if '--look' in words:
+    sys.stdout.write({look!r})
     sys.exit(0)
 given = {{}}
 for name in ('--samples', '--format', '--texts'):
@@ -31,7 +35,7 @@ for name in ('--samples', '--format', '--texts'):
 if given not in ({{'--samples': '5'}}, {{'--samples': '5', '--texts': '0'}}):
     print('load refused L13 truncated header 3', flush=True)
     told = 'segywb: ' + words[0] + ': L13 truncated header 3 (the file ends inside it)'
-    sys.stderr.write(told + ''.join(chr(10) + 'try: segywb ' + words[0] + one for one in (' --samples 5', ' --samples 1500', ' --samples 5 --texts 0')) + chr(10))
+    sys.stderr.write(told + ''.join(chr(10) + 'segywb: ' + words[0] + ' can be read with ' + one for one in ('--samples 5: 12 traces', '--samples 1500: 1 trace', '--samples 5 --texts 0: 12 traces')) + chr(10))
     sys.exit(3)
 program = subprocess.Popen([real, *words], stdin=subprocess.PIPE)
 for line in sys.stdin.buffer:
@@ -46,7 +50,7 @@ sys.exit(program.wait())
 def screened(tmp_path, monkeypatch):
     """Puts the program behind that screen."""
     path = tmp_path / "screen"
-    path.write_text(SCREEN.format(python=sys.executable, real=program.find()))
+    path.write_text(SCREEN.format(python=sys.executable, real=program.find(), look=LOOK))
     path.chmod(0o755)
     monkeypatch.setenv("SEGYWB", str(path))
     return path
@@ -70,6 +74,10 @@ def test_the_page_offers_them(screened, started, browser, tmp_path):
     assert [one.text for one in page.all("#banner button")] == [
         f"Read it with --samples 5{more} 12 traces of 5 samples" for more in ("", ", with --texts 0")
     ]
+    page.one("#look summary").click()
+    page.wait(lambda: "samples of a trace 1500" in page.text("look").replace("\t", " "))
+    assert "byte order big, told" in page.text("look").replace("\t", " ") and "bytes left behind them 7" in page.text("look").replace("\t", " ")
+    page.one("#look summary").click()
     page.picture("banner", "refused", tmp_path)
     page.all("#banner button")[1].click()
     page.wait(lambda: page.data("whole"))
@@ -100,10 +108,21 @@ def test_nothing_is_said_where_nothing_is_given(opened):
     assert not page.find("reading").is_displayed() and not page.find("declare").is_displayed()
 
 
-def test_what_is_no_declaration(opened):
-    """The number of samples of each trace is taken from the header: there is nothing to declare."""
-    page = opened("cube", "--fixed")
-    assert page.text("reading").strip() == "read with --fixed" and not page.find("declare").is_displayed()
+def test_what_can_be_declared(screened, started, monkeypatch, opened):
+    """One length for all traces too, but not the order of bytes; and nothing by a program that does not know the edit."""
+    page = opened("cube", "--samples", "5", "--fixed", "--order", "big")
+    assert page.text("reading") == "read with --fixed --order big --samples 5 Declare it in the header"
+    made = Desk(str(page.desk.path), samples=5, order="big")
+    made.load()
+    made._options.update(samples=None)
+    assert (made.reading, made.declarable) == (["--order", "big"], False)
+    made._options.update(fixed=True)
+    assert made.declarable
+    made._options.update(fixed=False, texts=0)
+    assert made.declarable
+    monkeypatch.setattr(program, "knows", lambda option: False)
+    assert not made.declarable
+    made.close()
 
 
 def test_a_reading_is_one_of_those_that_are_named(screened, started):

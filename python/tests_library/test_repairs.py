@@ -145,12 +145,12 @@ def test_the_readings_that_a_refused_file_wants(few, tmp_path, wrapped):
     refusing = wrapped("""
 case "$name $*" in */cube.sgy*--session*)
     printf 'load refused L13 truncated header 3\\n'
-    printf 'segywb: %s: L13 truncated header 3 (the file ends inside it)\\ntry: segywb %s --samples 5\\ntry: segywb %s --samples 1500 --texts 0\\n' "$1" "$1" "$1" >&2
+    printf 'segywb: %s: L13 truncated header 3 (the file ends inside it)\\nsegywb: %s can be read with --samples 5: 12 traces\\nsegywb: %s can be read with --samples 1500 --texts 0: 1 trace\\n' "$1" "$1" "$1" >&2
     exit 3 ;;
 esac""")
     library("scan", "--db", tmp_path / "lib.db", few, SEGYWB=refusing)
     assert rows(tmp_path / "lib.db", "SELECT name, refusal, hint FROM file WHERE state = 'refused'") == [
-        ("cube.sgy", "L13", "the file ends inside it; try: segywb FILE --samples 5; try: segywb FILE --samples 1500 --texts 0")
+        ("cube.sgy", "L13", "the file ends inside it; can be read with --samples 5; can be read with --samples 1500 --texts 0")
     ]
 
 

@@ -26,7 +26,7 @@ from .fields import BinField, TraceField
 from .fitting import Fit
 from .grids import Grid, Slice
 from .history import Step
-from .looks import look
+from .looks import Look, look
 from .repairs import InPlace, Recovered, recover
 from .lines import Path
 from .volume import Volume
@@ -35,7 +35,7 @@ __version__ = "0.1.0"
 
 __all__ = [
     "Answer", "BinField", "Closed", "CsvImport", "CsvRefused", "Error", "Extremes", "Fault", "FileChanged", "Fit", "FitRefused", "FloatStatistics",
-    "FloatTotals", "Geometry", "Grid", "InPlace", "Info", "LoadRefused", "OptionRefused", "PathRefused", "ProgramEnded", "ProgramNotFound", "Recovered", "Refused",
+    "FloatTotals", "Geometry", "Grid", "InPlace", "Info", "LoadRefused", "Look", "OptionRefused", "PathRefused", "ProgramEnded", "ProgramNotFound", "Recovered", "Refused",
     "RepairCutOff", "SaveFailed", "Slice", "Stanza", "Statistics", "Step", "TraceField", "Volume", "look", "open", "recover", "tools",
 ]
 

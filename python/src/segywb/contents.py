@@ -210,7 +210,7 @@ class Contents(Headers):
         self._edit("patch", position(trace), number(sample), *told)
 
     def declare(self) -> None:
-        """Writes what the reading says (``samples``, ``format`` and ``texts`` of ``segywb.open``) into the binary header, so that the saved file is read without it.
+        """Writes what the reading says (``samples``, ``format``, ``texts`` and ``fixed`` of ``segywb.open``) into the binary header, so that the saved file is read without it.
 
         >>> with segywb.open("refused.sgy", samples=1500) as v:  # doctest: +SKIP
         ...     v.declare()

@@ -10,7 +10,7 @@ _PARTS = {"E07": "T", "E08": "M"}
 # what arguments of `segywb.open` the program's options are; those of the first list have a value
 _VALUED = ("max-bytes", "order", "samples", "format", "texts")
 _TRUE = ("fixed", "floats", "on-disk", "opaque-samples")
-_TRIED = re.compile(r"\btry: segywb .*?((?: --[a-z]+(?:-[a-z]+)*(?: (?:big|little|[0-9]+)(?![^\s;,)]))?)+)(?=[\s;,)]|$)")
+_READ_WITH = re.compile(r"^segywb: FILE can be read with ((?:--.*)): [0-9]+ traces?$", re.M)
 
 
 class Error(Exception):
@@ -82,34 +82,43 @@ def hint_of(refusal: str, told: str) -> str:
     _, found, rest = told.rpartition(f": {refusal} (")
     first, *more = rest.splitlines() if found else [""]
     said = [first[:-1] if first.endswith(")") else first, *(line[len("segywb: "):] for line in more if line.startswith("segywb: "))]
-    return "; ".join(text for text in said if text and not text.startswith("try: "))
+    return "; ".join(text for text in said if text and " can be read with --" not in text)
 
 
-def tries_of(told: str, path: str) -> List[str]:
-    """The words that the program says would read a file that it refuses, for a file by the name FILE.
+def read_with(told: str, path: str) -> List[str]:
+    """The words by which the program says that a file that it refuses can be read.
 
-    >>> tries_of("segywb: a.sgy: L13 truncated header 3 (..)\\ntry: segywb a.sgy --samples 1500\\n", "a.sgy")
-    ['try: segywb FILE --samples 1500']
+    >>> read_with("segywb: a.sgy: L14 truncated trace 3 (..)\\nsegywb: a.sgy can be read with --samples 1500: 3 traces\\n", "a.sgy")
+    ['--samples 1500']
     """
-    found = [f"try: segywb FILE{words}" for words in _TRIED.findall(told.replace(path, "FILE") if path else told)]
-    return list(dict.fromkeys(found))
+    return list(dict.fromkeys(_READ_WITH.findall(told.replace(f"segywb: {path} can be", "segywb: FILE can be"))))
 
 
 def readings_of(told: str, path: str) -> List[Dict[str, Any]]:
-    """The readings that the program says would fit a file that it refuses, as arguments of ``segywb.open``.
+    """The same readings as arguments of ``segywb.open``.
 
-    >>> readings_of("segywb: a.sgy: L13 (..)\\ntry: segywb a.sgy --samples 1500\\ntry: segywb a.sgy --texts 2 --order little\\n", "a.sgy")
-    [{'samples': 1500}, {'texts': 2, 'order': 'little'}]
+    >>> readings_of("segywb: a.sgy can be read with --format 5 --floats: 120 traces\\nsegywb: a.sgy can be read with --texts 2: 1 trace\\n", "a.sgy")
+    [{'format': 5, 'floats': True}, {'texts': 2}]
     """
-    found: List[Dict[str, Any]] = []
-    for words in tries_of(told, path):
-        reading: Dict[str, Any] = {}
-        for name, value in re.findall(r"--([a-z-]+)(?: (\w+))?", words):
-            if name in _VALUED and value or name in _TRUE and not value:
-                reading[name.replace("-", "_")] = True if name in _TRUE else value if name == "order" else int(value)
-        if reading and reading not in found:
-            found.append(reading)
-    return found
+    return [reading for reading in map(_reading, read_with(told, path)) if reading]
+
+
+def _reading(words: str) -> Dict[str, Any]:
+    """Words of a command line as arguments of ``segywb.open``; none where one of them is not known here."""
+    reading: Dict[str, Any] = {}
+    coming = iter(words.split(" "))
+    for word in coming:
+        name = word[2:]
+        if name in _TRUE:
+            reading[name.replace("-", "_")] = True
+        elif name in _VALUED:
+            value = next(coming, "")
+            if name != "order" and not value.isdigit():
+                return {}
+            reading[name.replace("-", "_")] = value if name == "order" else int(value)
+        else:
+            return {}
+    return reading
 
 
 def options(hint: str) -> Tuple[Tuple[str, str], ...]:

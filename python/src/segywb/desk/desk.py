@@ -9,7 +9,7 @@ import numpy as np
 
 import segywb
 
-from .. import answers, arrays
+from .. import answers, arrays, program
 from ..errors import FileChanged, LoadRefused, OptionRefused
 from ..lines import of_script
 from ..volume import Volume
@@ -107,6 +107,10 @@ class Desk:
         told = f"{refusal.answer} ({refusal.hint})" if refusal.hint else refusal.answer
         return told, refusals.readings(self.path, self._options, refusal.readings)
 
+    def looked(self) -> List[List[str]]:
+        """What the head of the file says, and its length."""
+        return refusals.looked(self.path, self._options)
+
     def recover(self) -> None:
         """Puts the old bytes back where a repair of the file was cut off. It is opened anew then, and the edits that were accepted are done again."""
         back = segywb.recover(self.path)
@@ -136,8 +140,8 @@ class Desk:
     @property
     def declarable(self) -> bool:
         """Whether the reading says something that the edit ``declare`` can write into the binary header, and none has."""
-        said = any(self._options[name] is not None for name in refusals.DECLARED)
-        return said and not any(b"declare" in step.sent for step in self.volume.steps)
+        said = bool(refusals.words_of({name: self._options[name] for name in refusals.DECLARED}))
+        return said and program.knows("--samples") and not any(b"declare" in step.sent for step in self.volume.steps)
 
     def _opened(self) -> Volume:
         try:

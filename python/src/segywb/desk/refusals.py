@@ -13,7 +13,14 @@ OPAQUE = ("L06", "L07")  # refused for their samples alone (L06 by a program tha
 Options = Dict[str, Any]
 # What says how the bytes are read, and of this what `declare` writes into the binary header. Whether samples have values the desk finds out itself.
 READING = ("fixed", "order", "samples", "format", "texts")
-DECLARED = ("samples", "format", "texts")
+DECLARED = ("fixed", "samples", "format", "texts")
+# The names of what a look tells, as the page has them.
+LOOKED = {
+    "bytes": "bytes of the file", "order": "byte order", "revision": "revision", "format": "format of the samples", "interval": "interval, microseconds",
+    "samples": "samples of a trace", "fixed": "fixed length", "texts": "extended textual headers", "extensions": "header extensions",
+    "trailer": "data trailer records", "first_trace": "place of the first trace", "trace_bytes": "bytes of such a trace",
+    "traces": "such traces in the file", "rest": "bytes left behind them",
+}
 
 
 class Reading(NamedTuple):
@@ -65,6 +72,16 @@ def readings(path: str, options: Options, hints: Sequence[Options] = ()) -> List
         if not any(set(one.options) <= set(other) for one in found):
             tried(other)
     return found
+
+
+def looked(path: str, options: Options) -> List[List[str]]:
+    """What the head of the file says and what its length says, each with its name; nothing where the program has no look at it."""
+    try:
+        found = segywb.look(path, **{name: options[name] for name in READING if options.get(name) is not None})
+    except (Error, OSError):
+        return []
+    asked: Dict[str, Any] = {**found._asdict(), "order": f"{found.order}, {found.by}", "fixed": "yes" if found.fixed else "no"}
+    return [[text, "none" if asked[name] is None else str(asked[name])] for name, text in LOOKED.items()]
 
 
 def hinted(options: Options, hints: Sequence[Options]) -> List[Options]:

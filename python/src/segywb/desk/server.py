@@ -321,7 +321,8 @@ class Server:
             self.broken = refusal
             why, self._readings = await run(self._worker, self.desk.refused, refusal)
             offered = [{"words": one.words, "traces": one.traces, "samples": one.samples} for one in self._readings]
-            self.status = {"phase": "refused", "why": clean(why), "file": clean(self.desk.path), "readings": offered}
+            looked = await run(self._worker, self.desk.looked)
+            self.status = {"phase": "refused", "why": clean(why), "file": clean(self.desk.path), "readings": offered, "look": looked}
         except RepairCutOff as error:
             self._cut(error)
         except (Error, OSError) as error:

@@ -17,13 +17,16 @@ import * as table from "./table.js";
 
 let refusal = [];
 let told = "";
+let lookIsOpen = false;
 
 // A refused file: what the program says of it, and a button for each reading that takes it.
 function refused(status) {
   const offer = ({ words, traces, samples }) => make("button", { class: "reading", on: { click: () => read(words) } },
     `Read it ${words}`, make("span", { class: "hint" }, ` ${many(traces, "trace")} of ${many(samples, "sample")}`));
   refusal = [make("strong", {}, "The file is refused: "), make("code", {}, status.why)];
-  return [...refusal, make("p", {}, ...status.readings.map(offer), status.readings.length ? null : "No reading of the desk takes it.")];
+  return [...refusal, make("p", {}, ...status.readings.map(offer), status.readings.length ? null : "No reading of the desk takes it."),
+    status.look && status.look.length ? make("details", { id: "look", open: lookIsOpen, on: { toggle: (event) => { lookIsOpen = event.target.open; } } }, make("summary", {}, "What its head says, and its length"),
+      make("table", {}, make("tbody", {}, ...status.look.map(([name, value]) => make("tr", {}, make("th", { scope: "row" }, name), make("td", {}, value)))))) : null];
 }
 
 // A file of which a repair was cut off, and the button that undoes it.

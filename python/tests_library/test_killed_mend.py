@@ -44,32 +44,48 @@ def states(database):
     return {target: (event, before, after) for target, event, before, after in rows(database, query)}
 
 
-def test_killed_at_many_moments(wrong, tmp_path):
-    folder, database = wrong
-    old = digests(folder)
+def mended(folder):
+    """The digests that the files have once they are mended."""
     fixed = bytearray((TOP / "examples" / "cube.sgy").read_bytes())
-    new = {}
+    made = {}
     for number in range(COUNT):
         fixed[3212:3214] = number.to_bytes(2, "big")
-        new[str(folder / f"{number}.sgy")] = hashlib.sha256(fixed).hexdigest()
+        made[str(folder / f"{number}.sgy")] = hashlib.sha256(fixed).hexdigest()
+    return made
+
+
+def begun(words, database, dice):
+    """A mend that has done a few files more than the one before it."""
+    done = rows(database, "SELECT count(*) FROM trail")[0][0]
+    mend = started(*words)
+    until = time.monotonic() + 60
+    while rows(database, "SELECT count(*) FROM trail")[0][0] <= done + dice.randint(0, 30) and mend.poll() is None and time.monotonic() < until:
+        time.sleep(0.005)
+    return mend
+
+
+def old_or_new(folder, database, old, new):
+    """Each file is one of both, and the trail says which."""
+    now, trail = digests(folder), states(database)
+    for path, digest in now.items():
+        assert digest in (old[path], new[path])
+        event, before, after = trail.get(path, ("left", old[path], None))
+        assert digest == (after if event == "saved" else before) and (event == "saved") == (digest == new[path])
+
+
+def test_killed_at_many_moments(wrong, tmp_path):
+    folder, database = wrong
+    old, new = digests(folder), mended(folder)
     where = "id IN (SELECT file FROM problem WHERE code = 'F6')"
     words = ["mend", "--db", database, "--script", tmp_path / "fix.txt", "--where", where, "--over", "--apply", "--quiet"]
     dice, killed = random.Random(5), 0
-    for moment in range(MOMENTS):
-        done = rows(database, "SELECT count(*) FROM trail")[0][0]
-        mend = started(*words)
-        until = time.monotonic() + 60
-        while rows(database, "SELECT count(*) FROM trail")[0][0] <= done + dice.randint(0, 30) and mend.poll() is None and time.monotonic() < until:
-            time.sleep(0.01)
+    for _ in range(MOMENTS):
+        mend = begun(words, database, dice)
         os.kill(mend.pid, signal.SIGKILL)
         killed += mend.wait() == -signal.SIGKILL
         told = library("verify", "--db", database)
         assert " 0 are not" in told and "DIFFERS" not in told
-        now, trail = digests(folder), states(database)
-        for path, digest in now.items():
-            assert digest in (old[path], new[path])
-            event, before, after = trail.get(path, ("left", old[path], None))
-            assert digest == (after if event == "saved" else before) and (event == "saved") == (digest == new[path])
+        old_or_new(folder, database, old, new)
     assert killed >= MOMENTS - 4
     library("scan", "--db", database, "--quiet", folder)  # of a file between its save and its row the row is still the old one
     library(*words)
@@ -94,22 +110,13 @@ def programs_of(number):
 def test_killed_in_place_with_its_programs(wrong, tmp_path):
     """The mend and its programs die at once, also in the middle of a repair: each file is old, new, or one that its journal makes old again."""
     folder, database = wrong
-    old = digests(folder)
-    fixed = bytearray((TOP / "examples" / "cube.sgy").read_bytes())
-    new = {}
-    for number in range(COUNT):
-        fixed[3212:3214] = number.to_bytes(2, "big")
-        new[str(folder / f"{number}.sgy")] = hashlib.sha256(fixed).hexdigest()
+    old, new = digests(folder), mended(folder)
     where = "id IN (SELECT file FROM problem WHERE code = 'F6')"
     words = ["mend", "--db", database, "--script", tmp_path / "fix.txt", "--where", where, "--over", "--in-place", "--apply", "--quiet"]
     inodes = {path.name: path.stat().st_ino for path in folder.glob("*.sgy")}
     dice, killed, journals = random.Random(9), 0, 0
-    for moment in range(MOMENTS):
-        done = rows(database, "SELECT count(*) FROM trail")[0][0]
-        mend = started(*words)
-        until = time.monotonic() + 60
-        while rows(database, "SELECT count(*) FROM trail")[0][0] <= done + dice.randint(0, 30) and mend.poll() is None and time.monotonic() < until:
-            time.sleep(0.003)
+    for _ in range(MOMENTS):
+        mend = begun(words, database, dice)
         for number in [mend.pid, *programs_of(mend.pid)]:
             try:
                 os.kill(number, signal.SIGKILL)
@@ -123,11 +130,7 @@ def test_killed_in_place_with_its_programs(wrong, tmp_path):
             journals += 1
             segywb.recover(folder / journal.name[1:-len(".segywb-journal")])
         assert " 0 are not" in library("verify", "--db", database)
-        now, trail = digests(folder), states(database)
-        for path, digest in now.items():
-            assert digest in (old[path], new[path])
-            event, before, after = trail.get(path, ("left", old[path], None))
-            assert digest == (after if event == "saved" else before) and (event == "saved") == (digest == new[path])
+        old_or_new(folder, database, old, new)
     assert killed >= MOMENTS - 4
     print(f"{journals} kills left a journal")
     library("scan", "--db", database, "--quiet", folder)

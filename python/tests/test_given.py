@@ -5,7 +5,7 @@ import pickle
 import sys
 
 import pytest
-from files import cube
+from files import binary, cube, header
 
 import segywb
 from segywb import errors, looks, program
@@ -151,3 +151,59 @@ def test_an_older_program(tmp_path):
         with pytest.raises(segywb.OptionRefused, match="older than --look"):
             segywb.look(cube(tmp_path / "cube.sgy"))
     assert sys.version_info >= (3, 9)
+
+
+KNOWN = pytest.mark.skipif(not program.knows("--samples"), reason="the program is older than these readings")
+# What is wrong with the binary header of a cube of 12 traces of 3 samples in format 3, the refusal, and the reading that is right.
+WRONG = [
+    ({"samples": 9}, "L14", {"samples": 3}),
+    ({"form": 13}, "L08", {"format": 3}),
+    ({"blocks": 100}, "L09", {"texts": 0}),
+]
+
+
+def wrong(path, **said):
+    """A sound cube but for what its binary header says."""
+    data = bytearray(cube(path).read_bytes())
+    data[3200:3600] = binary(**{"samples": 3, "form": 3, **said})
+    path.write_bytes(data)
+    return path
+
+
+@KNOWN
+@pytest.mark.parametrize(("said", "code", "reading"), WRONG, ids=lambda one: one if isinstance(one, str) else None)
+def test_a_wrong_header_is_mended_by_its_reading(tmp_path, said, code, reading):
+    path = wrong(tmp_path / "wrong.sgy", **said)
+    with pytest.raises(segywb.LoadRefused) as refusal:
+        segywb.open(path)
+    assert refusal.value.code == code
+    assert reading in [{name: value for name, value in one.items() if name in reading} for one in refusal.value.readings]
+    with segywb.open(path, **reading) as volume:
+        assert (len(volume), volume.info.samples, volume.info.format) == (12, 3, 3)
+        volume.declare()
+        volume.save(tmp_path / "mended.sgy")
+    with segywb.open(tmp_path / "mended.sgy") as volume:
+        assert (len(volume), volume.samples(12).tolist()) == (12, [23, 24, 25])
+    (name, value), = reading.items()
+    assert segywb.look(tmp_path / "mended.sgy").rest == 0 and getattr(segywb.look(path), name) != value == getattr(segywb.look(path, **reading), name)
+
+
+@KNOWN
+def test_a_declaration_that_is_refused(tmp_path):
+    """Revision 1 has no room for more than 65535 samples of a trace."""
+    path = tmp_path / "long.sgy"
+    path.write_bytes(header() + binary(form=8, samples=7) + bytes(240 + 70000))
+    with segywb.open(path, samples=70000) as volume:
+        with pytest.raises(segywb.Refused) as refusal:
+            volume.declare()
+        assert (refusal.value.code, refusal.value.line, len(volume), volume.edits) == ("E06", "declare", 1, [])
+
+
+@KNOWN
+def test_numbers_that_no_reading_has(tmp_path):
+    path = cube(tmp_path / "cube.sgy")
+    for given in ({"samples": -1}, {"samples": 1 << 32}, {"format": 65536}, {"texts": 32768}):
+        with pytest.raises(segywb.OptionRefused):
+            segywb.open(path, **given)
+    with pytest.raises(segywb.LoadRefused):
+        segywb.open(path, format=13)

@@ -154,3 +154,31 @@ def test_a_desk_of_a_reading(screened, example):
     made.undo()
     assert made.declarable
     made.close()
+
+
+@pytest.mark.skipif(not program.knows("--samples"), reason="the program is older than these readings")
+def test_a_wrong_header_is_mended_on_the_page(started, browser, tmp_path):
+    """By the real program: the refusal, the reading, the declaration and the save."""
+    from test_given import wrong
+
+    path = wrong(tmp_path / "wrong.sgy", samples=9)
+    desk = started(path, show=True, env={"BROWSER": "true"})
+    page = Page(browser, desk)
+    browser.get(desk.url)
+    page.wait(lambda: page.find("banner").is_displayed())
+    assert "load refused L14" in page.text("banner") and page.find("look").is_displayed()
+    next(one for one in page.all("#banner button") if one.text == "Read it with --samples 3 12 traces of 3 samples").click()
+    page.wait(lambda: page.data("whole"))
+    page.step("declare")
+    page.click("save")
+    page.find("save-path").clear()
+    page.find("save-path").send_keys(str(tmp_path / "mended.sgy"))
+    page.click("save-go")
+    page.wait(lambda: page.all("#saved"))
+    made = Desk(str(tmp_path / "mended.sgy"))
+    made.load()
+    assert made.reading == [] and made.volume.info.samples == 3 and len(made.volume) == 12
+    made.close()
+    assert desk.end()[0] == 0
+    browser.get("about:blank")
+    browser.get_log("browser")

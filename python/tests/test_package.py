@@ -9,6 +9,7 @@ import re
 import shutil
 import subprocess
 import sys
+import types
 from pathlib import Path
 
 import pytest
@@ -102,12 +103,17 @@ def test_examples_of_modules(name, monkeypatch):
 
 
 def test_each_public_call_has_an_example():
-    """`help` shows it: of each function of the package, and of each method and property of a volume, those of its parts too."""
+    """`help` shows it: of each function of the package, and of each method and property of a volume and of what it answers."""
     calls = {name: getattr(segywb, name) for name in segywb.__all__ if inspect.isfunction(getattr(segywb, name))}
     calls |= {f"tools.{name}": call for name, call in vars(segywb.tools).items() if inspect.isfunction(call) and call.__module__ == "segywb.tools"}
     for part in segywb.Volume.__mro__[:-1]:
         calls |= {f"Volume.{name}": call for name, call in vars(part).items() if not name.startswith("_") and (callable(call) or isinstance(call, property))}
-    assert len(calls) > 70 and {"open", "recover", "look", "Volume.get", "Volume.info", "Volume.faults", "Volume.samples"} <= set(calls)
+    for name, kind in vars(segywb).items():
+        if name in segywb.__all__ and inspect.isclass(kind) and kind is not segywb.Volume:
+            parts = [part for part in kind.__mro__ if part.__module__.startswith("segywb")]
+            calls |= {f"{name}.{one}": call for part in parts for one, call in vars(part).items() if not one.startswith("_") and isinstance(call, (property, types.FunctionType))}
+    assert {"Grid.shape", "Fit.at", "LoadRefused.arguments", "Step.lines"} <= set(calls)
+    assert len(calls) > 85 and {"open", "recover", "look", "Volume.get", "Volume.info", "Volume.faults", "Volume.samples"} <= set(calls)
     assert [name for name, call in calls.items() if ">>>" not in (inspect.getdoc(call) or "")] == []
     told = pydoc.plain(pydoc.render_doc(segywb.Volume))
     assert all(f" {name[len('Volume.'):]}" in told for name in calls if name.startswith("Volume.")) and told.count(">>>") > 60

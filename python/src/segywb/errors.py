@@ -61,7 +61,14 @@ class LoadRefused(Refused):
 
     @property
     def arguments(self) -> Tuple[str, ...]:
-        """The arguments of ``segywb.open`` for the options that the hint names, in its order."""
+        """The arguments of ``segywb.open`` for the options that the hint names, in its order.
+
+        >>> try:
+        ...     segywb.open("wrong_floats.sgy", floats=False)
+        ... except segywb.LoadRefused as refusal:
+        ...     refusal.arguments
+        ('floats=True', 'opaque_samples=True')
+        """
         return tuple(argument for _, argument in self._options)
 
     def __str__(self) -> str:

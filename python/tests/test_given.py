@@ -100,7 +100,7 @@ def test_nothing_is_told_where_nothing_is_said(told, tmp_path):
 
 def test_a_look(told, tmp_path):
     path = cube(tmp_path / "cube.sgy")
-    assert segywb.look(path) == segywb.Look(1234567, "big", "told", "1.0", 5, 2000, 1500, True, -1, 0, 0, 0, 6240, 197, 7)
+    assert segywb.look(path) == segywb.Look(1234567, "big", "told", "1.0", 5, 2000, 1500, 1, -1, 0, 0, 0, 6240, 197, 7)
     assert told()[-1] == [str(path), "--look"]
     segywb.look(str(path), fixed=True, order="big", samples=0, format=5, texts=2)
     assert told()[-1][2:] == ["--fixed", "--order", "big", "--samples", "0", "--format", "5", "--texts", "2"]
@@ -185,7 +185,9 @@ def test_a_wrong_header_is_mended_by_its_reading(tmp_path, said, code, reading):
     with segywb.open(tmp_path / "mended.sgy") as volume:
         assert (len(volume), volume.samples(12).tolist()) == (12, [23, 24, 25])
     (name, value), = reading.items()
-    assert segywb.look(tmp_path / "mended.sgy").rest == 0 and getattr(segywb.look(path), name) != value == getattr(segywb.look(path, **reading), name)
+    before, under, after = segywb.look(path), segywb.look(path, **reading), segywb.look(tmp_path / "mended.sgy")
+    assert getattr(before, name) == getattr(under, name) != value == getattr(after, name)
+    assert before.rest != 0 and (under.traces, under.rest) == (after.traces, after.rest) == (12, 0)
 
 
 @KNOWN

@@ -40,7 +40,7 @@ class LoadRefused(Refused):
     """The file is refused (the codes ``L01`` to ``L17``). ``status`` is the program's exit status.
 
     ``hint`` is what the program says to do, and ``arguments`` names the arguments of ``segywb.open`` for the options in it. ``readings`` are those
-    that the program says would fit, each as the arguments of ``segywb.open``: ``segywb.open(refusal.path, **refusal.readings[0])``.
+    that the program says would fit, each as arguments of ``segywb.open`` beside those that were given: ``segywb.open(path, **refusal.readings[0])``.
 
     >>> refusal = LoadRefused("load refused L07 gain format", "line.sgy", 3, "with --opaque-samples the file is read all the same")
     >>> refusal.arguments

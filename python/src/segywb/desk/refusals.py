@@ -17,7 +17,7 @@ DECLARED = ("fixed", "samples", "format", "texts")
 # The names of what a look tells, as the page has them.
 LOOKED = {
     "bytes": "bytes of the file", "order": "byte order", "revision": "revision", "format": "format of the samples", "interval": "interval, microseconds",
-    "samples": "samples of a trace", "fixed": "fixed length", "texts": "extended textual headers", "extensions": "header extensions",
+    "samples": "samples of a trace", "fixed": "fixed length flag", "texts": "extended textual headers", "extensions": "header extensions",
     "trailer": "data trailer records", "first_trace": "place of the first trace", "trace_bytes": "bytes of such a trace",
     "traces": "such traces in the file", "rest": "bytes left behind them",
 }
@@ -80,7 +80,7 @@ def looked(path: str, options: Options) -> List[List[str]]:
         found = segywb.look(path, **{name: options[name] for name in READING if options.get(name) is not None})
     except (Error, OSError):
         return []
-    asked: Dict[str, Any] = {**found._asdict(), "order": f"{found.order}, {found.by}", "fixed": "yes" if found.fixed else "no"}
+    asked: Dict[str, Any] = {**found._asdict(), "order": f"{found.order}, {found.by}"}
     return [[text, "none" if asked[name] is None else str(asked[name])] for name, text in LOOKED.items()]
 
 

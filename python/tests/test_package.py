@@ -16,6 +16,7 @@ import pytest
 from conftest import HERE, TOP
 
 import segywb
+from segywb import program
 
 PACKAGE = HERE.parent
 MODULES = sorted(path.stem for path in (PACKAGE / "src" / "segywb").glob("*.py") if path.stem != "__init__")
@@ -90,9 +91,19 @@ def test_types(tmp_path):
     assert done.stdout.count("error:") == 1 and "use.py:9" in done.stdout, done.stdout
 
 
+def is_later(text):
+    """Whether an example needs a program of after this one."""
+    return not program.knows("--look") and re.search(r"refused\.sgy|segywb\.look\(|\.declare\(", text)
+
+
 def examples_of(name):
     """Runs the examples of a module: how many failed, and how many there are."""
-    return doctest.testmod(importlib.import_module(f"segywb.{name}" if name else "segywb"), extraglobs={"segywb": segywb})
+    module = importlib.import_module(f"segywb.{name}" if name else "segywb")
+    runner = doctest.DocTestRunner()
+    for test in doctest.DocTestFinder().find(module, extraglobs={"segywb": segywb}):
+        if not is_later("".join(one.source for one in test.examples)):
+            runner.run(test)
+    return runner.summarize()
 
 
 @pytest.mark.parametrize("name", ["", *MODULES])
@@ -143,6 +154,8 @@ def test_documents(document, tmp_path, monkeypatch):
     runner = doctest.DocTestRunner(optionflags=doctest.ELLIPSIS | doctest.NORMALIZE_WHITESPACE)
     told = []
     for code, line in blocks(path):
+        if is_later(code):
+            continue
         if ">>>" in code:
             test = parser.get_doctest(code, names, document, document, line)
             examples += len(test.examples)

@@ -44,8 +44,11 @@ def look(
 ) -> Look:
     """What ``segywb FILE --look`` tells of a file, also of one that is refused. The other arguments are those of ``segywb.open``.
 
-    >>> print(segywb.look("refused.sgy").rest)  # doctest: +SKIP
-    0
+    >>> told = segywb.look("cube.sgy")
+    >>> told.samples, told.trace_bytes, told.traces, told.rest
+    (5, 250, 12, 0)
+    >>> segywb.look("cube.sgy", samples=7).rest
+    206
     """
     name = os.path.abspath(os.fspath(path))
     try:

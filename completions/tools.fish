@@ -29,18 +29,25 @@ complete -c segywb-library -n '__fish_seen_subcommand_from mend' -l script -r -F
 complete -c segywb-library -n '__fish_seen_subcommand_from mend' -l where -x -d 'a condition on the table file'
 complete -c segywb-library -n '__fish_seen_subcommand_from mend' -l out -r -F -d 'save below this folder'
 complete -c segywb-library -n '__fish_seen_subcommand_from mend' -l over -d 'save over the files themselves'
+complete -c segywb-library -n '__fish_seen_subcommand_from mend' -l in-place -d 'write the changed bytes alone into them'
 complete -c segywb-library -n '__fish_seen_subcommand_from mend' -l keep -r -F -d 'keep the old bytes there'
 complete -c segywb-library -n '__fish_seen_subcommand_from mend undo' -l apply -d 'do it'
 complete -c segywb-library -n '__fish_seen_subcommand_from mend' -l dry-run -d 'write nothing'
 complete -c segywb-library -n '__fish_seen_subcommand_from mend' -l go-on -d 'save a file without its refused lines'
 complete -c segywb-library -n '__fish_seen_subcommand_from mend' -l fixed -d "read each trace with the binary header's number of samples"
 complete -c segywb-library -n '__fish_seen_subcommand_from mend' -l order -x -a 'big little' -d 'the order of bytes of a file that does not tell it'
+complete -c segywb-library -n '__fish_seen_subcommand_from mend' -l samples -x -d 'each trace has so many samples'
+complete -c segywb-library -n '__fish_seen_subcommand_from mend' -l format -x -d 'the format of the samples'
+complete -c segywb-library -n '__fish_seen_subcommand_from mend' -l texts -x -d 'so many extended textual headers'
 complete -c segywb-library -n '__fish_seen_subcommand_from undo' -l run -x -d 'the number of the mend'
 complete -c segywb-library -s h -l help -d 'print help'
 for tool in segywb-plot segywb-report segywb-desk
     complete -c $tool -l fixed -d "read each trace with the binary header's number of samples"
     complete -c $tool -l on-disk -d 'leave the bytes of the file on disk, for one larger than memory'
     complete -c $tool -l order -x -a 'big little' -d 'the order of bytes of a file that does not tell it'
+    complete -c $tool -l samples -x -d 'each trace has so many samples'
+    complete -c $tool -l format -x -d 'the format of the samples'
+    complete -c $tool -l texts -x -d 'so many extended textual headers'
     complete -c $tool -l max-bytes -x -d 'refuse files above so many bytes'
     complete -c $tool -s h -l help -d 'print help'
 end

@@ -1,5 +1,7 @@
 """Small SEG-Y files, byte by byte, without the package that is tested."""
 
+import hashlib
+import os
 import struct
 
 
@@ -93,6 +95,35 @@ def extended(path):
     return write(path, header(), binary(major=2, fixed=0, extensions=1), *made)
 
 
+def large(path, inlines=20, crosslines=96):
+    """A file of more than 1,000,000,000 bytes that takes a few megabytes of the disk: its samples, 65535 of 8 bytes in each trace, are zeros that no
+    one has written."""
+    size = 240 + 8 * 65535
+    with open(path, "wb") as file:
+        file.write(header() + binary(samples=65535, form=9))
+        for at in range(inlines * crosslines):
+            file.seek(3600 + at * size)
+            file.write(trace(at + 1, 101 + at // crosslines, 201 + at % crosslines, [], told=65535))
+        file.truncate(3600 + inlines * crosslines * size)
+    return path
+
+
 def empty(path):
     """No traces."""
     return write(path, header(), binary())
+
+
+def torn(path, places):
+    """Writes into a file as a repair that is cut off: the journal beside it has the old bytes of these places, of which each has new ones."""
+    old = path.read_bytes()
+    found = os.stat(path)
+    body = b"SEGYWBJL" + struct.pack("<3Q", 1, found.st_size, found.st_ino)
+    for at, new in places:
+        body += struct.pack("<2Q", at, len(new)) + old[at:at + len(new)]
+    journal = path.with_name(f".{path.name}.segywb-journal")
+    journal.write_bytes(body + hashlib.md5(body).digest())
+    with open(path, "r+b") as file:
+        for at, new in places:
+            file.seek(at)
+            file.write(new)
+    return journal

@@ -137,7 +137,7 @@ def test_set_many_is_whole(opened, at):
 
 
 def test_set_many_is_whole_in_a_later_batch(opened, monkeypatch):
-    monkeypatch.setattr("segywb.volume.BATCH_LINES", 4)
+    monkeypatch.setattr("segywb.headers.BATCH_LINES", 4)
     volume = opened("cube")
     with pytest.raises(segywb.Refused) as refusal:
         volume.set_many("inline", slice(None), [1, 2, 3, 4, 5, 6, 2**31, 8, 9, 10, 11, 12])

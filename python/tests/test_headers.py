@@ -107,7 +107,7 @@ def test_each_name_that_the_program_knows(opened, tmp_path):
 def test_pieces(opened, monkeypatch):
     whole = opened("cube").headers("inline", "x", "y").tolist()
     for name, number in (("GET_LINES", 5), ("WINDOW_TRACES", 5), ("WINDOW_LINES", 2)):
-        monkeypatch.setattr(f"segywb.volume.{name}", number)
+        monkeypatch.setattr(f"segywb.headers.{name}", number)
     volume = opened("cube")
     assert volume.headers("inline", "x", "y").tolist() == whole
     assert volume.headers("crossline", traces=range(12, 0, -1))["crossline"].tolist() == [204, 203, 202, 201] * 3
@@ -139,7 +139,7 @@ for line in sys.stdin:
 def test_by_table(fake, opened, monkeypatch, case, piece):
     """Where the program knows `table`, no `get` is sent."""
     fake(TABLE)
-    monkeypatch.setattr("segywb.volume.WINDOW_TRACES", piece)
+    monkeypatch.setattr("segywb.headers.WINDOW_TRACES", piece)
     volume = opened("cube")
     got = volume.headers("inline", "y", "x", traces=case[0])
     assert got.tolist() == [(6 * p, p * (1 + 2**60), p) for p in case[1]]
@@ -174,7 +174,7 @@ def test_find(opened, case):
 
 
 def test_a_refused_question_does_not_load_the_file_again(opened, monkeypatch):
-    monkeypatch.setattr("segywb.volume.WINDOW_TRACES", 1)
+    monkeypatch.setattr("segywb.headers.WINDOW_TRACES", 1)
     volume = opened("cube")
     before = volume.pid
     for call, code in (

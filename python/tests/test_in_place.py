@@ -4,10 +4,11 @@ import os
 import pathlib
 import subprocess
 
+import files
 import pytest
 
 import segywb
-from segywb import program
+from segywb import program, repairs
 
 pytestmark = pytest.mark.skipif(not program.knows("--recover"), reason="the program is older than a repair in place")
 
@@ -67,9 +68,131 @@ def test_another_path_is_refused(opened, tmp_path):
     volume = opened("cube")
     with pytest.raises(ValueError, match="is another path"):
         volume.save(tmp_path / "o.sgy", in_place=True)
-    with pytest.raises(TypeError, match="save needs a path, or in_place=True"):
-        volume.save()
     assert not (tmp_path / "o.sgy").exists()
+
+
+@pytest.fixture
+def large(monkeypatch):
+    """Each file counts as a large one, which is repaired in place where nothing is said."""
+    monkeypatch.setattr(repairs, "IN_PLACE_ABOVE", 1000)
+
+
+def saved(volume, *words, **more):
+    """Saves over the file, and whether it is the same inode as before."""
+    before = os.stat(volume.path).st_ino, pathlib.Path(volume.path).read_bytes()
+    volume.save(*words, **more)
+    assert pathlib.Path(volume.path).read_bytes() != before[1] and {line.split()[0] for line in volume.edits} <= {"map", "unmap"}
+    return os.stat(volume.path).st_ino == before[0]
+
+
+@pytest.mark.parametrize("on_disk", [False, True])
+def test_a_large_file_is_repaired_in_place(large, opened, on_disk):
+    volume = opened("cube", on_disk=on_disk)
+    for at, (words, more, stays) in enumerate([
+        ((), {}, True), ((volume.path,), {"replace": True}, True), ((), {"in_place": False}, False), ((volume.path,), {"replace": True, "in_place": False}, False),
+        ((), {"in_place": True}, True),
+    ]):
+        volume.set(1, "inline", 900 + at)
+        told = volume.in_place()
+        assert (told.possible, told.chosen) == (True, True) and "more than 1,000" in told.why
+        assert saved(volume, *words, **more) == stays
+        assert volume.get(1, "inline") == 900 + at
+        with segywb.open(volume.path) as again:
+            assert again.get(1, "inline") == 900 + at
+    volume.set(1, "inline", 7)
+    with pytest.raises(FileExistsError):
+        volume.save(volume.path)
+    assert volume.edits == ["set 1 inline 7"]
+
+
+def test_a_small_file_is_saved_beside(opened):
+    volume = opened("cube")
+    volume.set(1, "inline", 7)
+    told = volume.in_place()
+    assert (told.possible, told.chosen) == (True, False) and "6,600 bytes; in place is chosen above 1,000,000,000" in told.why
+    assert not saved(volume)
+    volume.set(1, "inline", 8)
+    assert saved(volume, in_place=True)
+
+
+def test_the_limit_is_a_gigabyte(opened, monkeypatch):
+    volume = opened("cube")
+    volume.set(1, "inline", 7)
+    monkeypatch.setattr(repairs, "IN_PLACE_ABOVE", 6600)
+    assert not volume.in_place().chosen
+    monkeypatch.setattr(repairs, "IN_PLACE_ABOVE", 6599)
+    assert volume.in_place().chosen
+
+
+@pytest.mark.parametrize("line", ["blank 13", "copy 1 2", "delete 5", "move 1 3", "sort 1 12 -inline", "  delete 5", "\tdelete 12"])
+def test_edits_that_move_traces_are_saved_beside(large, opened, line, tmp_path):
+    volume = opened("cube")
+    volume.set(1, "inline", 7)
+    volume.run([line], stop=True)
+    volume.set(2, "inline", 7)
+    told = volume.in_place()
+    assert (told.possible, told.chosen) == (False, False) and line.strip() in told.why
+    volume.save(tmp_path / "beside.sgy")
+    assert not saved(volume)
+    assert pathlib.Path(volume.path).read_bytes() == (tmp_path / "beside.sgy").read_bytes()
+    volume.set(1, "inline", 9)
+    assert saved(volume)
+
+
+def test_a_trace_of_another_length_is_saved_beside(large, opened, tmp_path):
+    volume = opened(files.varying(tmp_path / "varying.sgy"))
+    volume.resize(1, 2)
+    assert "'resize 1 2' needs a new file" in volume.in_place().why and not saved(volume)
+    volume.resize(1, 2)
+    assert not volume.in_place().possible
+    volume.undo()
+    volume.set(1, "inline", 7)
+    assert saved(volume)
+
+
+def test_words_that_move_nothing(large, opened):
+    volume = opened("cube")
+    volume.run("map move @17:4\nset 1 move 7\ntext 3 C delete 5\n# delete 5\nunmap move\npatch 1 0 7\nbin job 3\n", stop=True)
+    assert volume.in_place().chosen and saved(volume)
+
+
+def test_a_program_that_wants_a_new_file_all_the_same(large, opened, monkeypatch):
+    """The rule is by the words of the edits; where the program says otherwise nothing was written, and a new file is."""
+    monkeypatch.setattr(repairs, "moving", lambda script: None)
+    volume = opened("cube")
+    volume.delete(5)
+    assert volume.in_place().chosen
+    assert not saved(volume) and len(volume) == 11
+
+
+def test_another_hard_link_keeps_the_old_bytes(large, opened, tmp_path):
+    volume = opened("cube")
+    before = pathlib.Path(volume.path).read_bytes()
+    os.link(volume.path, tmp_path / "other.sgy")
+    with segywb.open(volume.path) as linked:
+        linked.set(1, "inline", 7)
+        told = linked.in_place()
+        assert (told.possible, told.chosen) == (True, False) and "another hard link" in told.why
+        assert not saved(linked)
+    assert (tmp_path / "other.sgy").read_bytes() == before
+
+
+def test_the_rule_of_a_file_that_another_program_changed(large, opened):
+    volume = opened("cube")
+    volume.set(1, "inline", 7)
+    os.utime(volume.path, ns=(1, 1))
+    for call in (volume.in_place, volume.save):
+        with pytest.raises(segywb.FileChanged):
+            call()
+    assert volume.edits == ["set 1 inline 7"]
+
+
+def test_an_older_program_repairs_nothing(large, opened, monkeypatch):
+    volume = opened("cube")
+    volume.set(1, "inline", 7)
+    monkeypatch.setattr(repairs.program, "knows", lambda option: False)
+    assert volume.in_place() == (False, False, "the program is older than a repair in place")
+    assert not saved(volume)
 
 
 def test_a_file_that_another_program_changed(opened):

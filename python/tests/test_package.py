@@ -2,17 +2,21 @@
 
 import doctest
 import importlib
+import inspect
 import os
+import pydoc
 import re
 import shutil
 import subprocess
 import sys
+import types
 from pathlib import Path
 
 import pytest
 from conftest import HERE, TOP
 
 import segywb
+from segywb import program
 
 PACKAGE = HERE.parent
 MODULES = sorted(path.stem for path in (PACKAGE / "src" / "segywb").glob("*.py") if path.stem != "__init__")
@@ -87,17 +91,49 @@ def test_types(tmp_path):
     assert done.stdout.count("error:") == 1 and "use.py:9" in done.stdout, done.stdout
 
 
-@pytest.mark.parametrize("name", MODULES)
+def is_later(text):
+    """Whether an example needs a program of after this one."""
+    return not program.knows("--look") and re.search(r"refused\.sgy|segywb\.look\(|\.declare\(", text)
+
+
+def examples_of(name):
+    """Runs the examples of a module: how many failed, and how many there are."""
+    module = importlib.import_module(f"segywb.{name}" if name else "segywb")
+    runner = doctest.DocTestRunner()
+    for test in doctest.DocTestFinder().find(module, extraglobs={"segywb": segywb}):
+        if not is_later("".join(one.source for one in test.examples)):
+            runner.run(test)
+    return runner.summarize()
+
+
+@pytest.mark.parametrize("name", ["", *MODULES])
 def test_examples_of_modules(name, monkeypatch):
     """In a folder with the example files, as the examples of the documents."""
     monkeypatch.chdir(TOP / "examples")
-    assert doctest.testmod(importlib.import_module(f"segywb.{name}")).failed == 0
+    assert examples_of(name).failed == 0
+
+
+def test_each_public_call_has_an_example():
+    """`help` shows it: of each function of the package, and of each method and property of a volume and of what it answers."""
+    calls = {name: getattr(segywb, name) for name in segywb.__all__ if inspect.isfunction(getattr(segywb, name))}
+    calls |= {f"tools.{name}": call for name, call in vars(segywb.tools).items() if inspect.isfunction(call) and call.__module__ == "segywb.tools"}
+    for part in segywb.Volume.__mro__[:-1]:
+        calls |= {f"Volume.{name}": call for name, call in vars(part).items() if not name.startswith("_") and (callable(call) or isinstance(call, property))}
+    for name, kind in vars(segywb).items():
+        if name in segywb.__all__ and inspect.isclass(kind) and kind is not segywb.Volume:
+            parts = [part for part in kind.__mro__ if part.__module__.startswith("segywb")]
+            calls |= {f"{name}.{one}": call for part in parts for one, call in vars(part).items() if not one.startswith("_") and isinstance(call, (property, types.FunctionType))}
+    assert {"Grid.shape", "Fit.at", "LoadRefused.arguments", "Step.lines"} <= set(calls)
+    assert len(calls) > 85 and {"open", "recover", "look", "Volume.get", "Volume.info", "Volume.faults", "Volume.samples"} <= set(calls)
+    assert [name for name, call in calls.items() if ">>>" not in (inspect.getdoc(call) or "")] == []
+    told = pydoc.plain(pydoc.render_doc(segywb.Volume))
+    assert all(f" {name[len('Volume.'):]}" in told for name in calls if name.startswith("Volume.")) and told.count(">>>") > 60
 
 
 def test_modules_have_examples(monkeypatch):
     monkeypatch.chdir(TOP / "examples")
-    found = [doctest.testmod(importlib.import_module(f"segywb.{name}")).attempted for name in MODULES]
-    assert sum(found) > 15
+    found = [examples_of(name).attempted for name in MODULES]
+    assert sum(found) > 100
 
 
 def blocks(document):
@@ -118,6 +154,8 @@ def test_documents(document, tmp_path, monkeypatch):
     runner = doctest.DocTestRunner(optionflags=doctest.ELLIPSIS | doctest.NORMALIZE_WHITESPACE)
     told = []
     for code, line in blocks(path):
+        if is_later(code):
+            continue
         if ">>>" in code:
             test = parser.get_doctest(code, names, document, document, line)
             examples += len(test.examples)

@@ -30,9 +30,11 @@ WORDS = ("--headless=new", "--no-sandbox", "--disable-gpu", "--disable-dev-shm-u
 class Started:
     """A desk that runs as a process of its own."""
 
-    def __init__(self, path, *words, env=None, show=False):
+    def __init__(self, path, *words, env=None, show=False, before=""):
+        """``before`` is Python that is run in the process first."""
         self.path = Path(path)
-        command = [sys.executable, "-m", "segywb.desk", str(path), *([] if show else ["--no-browser"]), *words]
+        begin = ["-c", f"{before}\nfrom segywb.desk.cli import main\nraise SystemExit(main())"] if before else ["-m", "segywb.desk"]
+        command = [sys.executable, *begin, str(path), *([] if show else ["--no-browser"]), *words]
         self.process = subprocess.Popen(
             command, env={**os.environ, "PYTHONPATH": str(SOURCES), **(env or {})}, stdout=subprocess.PIPE, stderr=subprocess.PIPE, text=True
         )

@@ -1,5 +1,6 @@
 """The page of a desk as a person uses it."""
 
+import os
 import time
 
 from selenium.common.exceptions import StaleElementReferenceException
@@ -141,6 +142,15 @@ class Page:
     def press(self, selector):
         """Clicks on an element by the page itself, also where it is out of sight."""
         self.js("document.querySelector(arguments[0]).click()", selector)
+
+    def picture(self, id, name, tmp_path):
+        """A picture of a part of the page, for the documents: the folder SEGYWB_PICTURES gets it. The file stands in /surveys there."""
+        self.js("""const [id, here] = arguments; document.activeElement.blur();
+            const walk = document.createTreeWalker(document.getElementById(id), NodeFilter.SHOW_TEXT);
+            while (walk.nextNode()) walk.currentNode.data = walk.currentNode.data.replaceAll(here, '/surveys');
+            for (const one of document.querySelectorAll(`#${id} input`)) one.value = one.value.replaceAll(here, '/surveys')""", id, str(tmp_path))
+        folder = os.environ.get("SEGYWB_PICTURES") or str(tmp_path.parent)
+        assert self.find(id).screenshot(f"{folder}/desk-{name}.png")
 
     def graph(self):
         """The fields of the graph with their numbers, and the numbers of their traces."""

@@ -238,7 +238,7 @@ def test_wild_numbers_leave_the_map_legible():
 
 def test_windows_of_faults(desk):
     desk.run("delete 1")
-    answer = faults.asked(desk.volume)
+    answer = desk.volume.fault_text()
     assert faults.counts(answer) == desk.volume.fault_counts()
     wanted = [one.text for one in desk.volume.faults() if one.code == "F1"]
     assert [one["text"] for one in faults.window(answer, "F1", 0, 1000)] == wanted

@@ -247,7 +247,9 @@ def test_a_save_over_another_link_of_the_file(example, tmp_path):
     made.load()
     made.run("patch 1 0 77")
     assert saving.save(made, str(link), False) == {"ask": str(link), "own": False}
-    assert saving.save(made, str(path), False) == {"ask": str(path), "own": True}
+    asked_so = saving.save(made, str(path), False)
+    assert (asked_so["ask"], asked_so["own"], asked_so["size"]) == (str(path), True, 6600)
+    assert asked_so["in_place"]["chosen"] is False and "another hard link" in asked_so["in_place"]["why"]
     answer = saving.save(made, str(link), True)
     assert answer["own"] is False and made.bring_original(0)["value"][0] == 11 and made.loaded is not made.now()
     made.close()

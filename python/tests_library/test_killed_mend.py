@@ -5,9 +5,13 @@ import os
 import random
 import signal
 import time
+from pathlib import Path
 
 import pytest
 from conftest import TOP, library, rows, settle, started
+
+import segywb
+from segywb import program
 
 COUNT, MOMENTS = 500, 20
 FIX = "renumber 5 8 inline 102 0\n"
@@ -40,32 +44,48 @@ def states(database):
     return {target: (event, before, after) for target, event, before, after in rows(database, query)}
 
 
-def test_killed_at_many_moments(wrong, tmp_path):
-    folder, database = wrong
-    old = digests(folder)
+def mended(folder):
+    """The digests that the files have once they are mended."""
     fixed = bytearray((TOP / "examples" / "cube.sgy").read_bytes())
-    new = {}
+    made = {}
     for number in range(COUNT):
         fixed[3212:3214] = number.to_bytes(2, "big")
-        new[str(folder / f"{number}.sgy")] = hashlib.sha256(fixed).hexdigest()
+        made[str(folder / f"{number}.sgy")] = hashlib.sha256(fixed).hexdigest()
+    return made
+
+
+def begun(words, database, dice):
+    """A mend that has done a few files more than the one before it."""
+    done = rows(database, "SELECT count(*) FROM trail")[0][0]
+    mend = started(*words)
+    until = time.monotonic() + 60
+    while rows(database, "SELECT count(*) FROM trail")[0][0] <= done + dice.randint(0, 30) and mend.poll() is None and time.monotonic() < until:
+        time.sleep(0.005)
+    return mend
+
+
+def old_or_new(folder, database, old, new):
+    """Each file is one of both, and the trail says which."""
+    now, trail = digests(folder), states(database)
+    for path, digest in now.items():
+        assert digest in (old[path], new[path])
+        event, before, after = trail.get(path, ("left", old[path], None))
+        assert digest == (after if event == "saved" else before) and (event == "saved") == (digest == new[path])
+
+
+def test_killed_at_many_moments(wrong, tmp_path):
+    folder, database = wrong
+    old, new = digests(folder), mended(folder)
     where = "id IN (SELECT file FROM problem WHERE code = 'F6')"
     words = ["mend", "--db", database, "--script", tmp_path / "fix.txt", "--where", where, "--over", "--apply", "--quiet"]
     dice, killed = random.Random(5), 0
-    for moment in range(MOMENTS):
-        done = rows(database, "SELECT count(*) FROM trail")[0][0]
-        mend = started(*words)
-        until = time.monotonic() + 60
-        while rows(database, "SELECT count(*) FROM trail")[0][0] <= done + dice.randint(0, 30) and mend.poll() is None and time.monotonic() < until:
-            time.sleep(0.01)
+    for _ in range(MOMENTS):
+        mend = begun(words, database, dice)
         os.kill(mend.pid, signal.SIGKILL)
         killed += mend.wait() == -signal.SIGKILL
         told = library("verify", "--db", database)
         assert " 0 are not" in told and "DIFFERS" not in told
-        now, trail = digests(folder), states(database)
-        for path, digest in now.items():
-            assert digest in (old[path], new[path])
-            event, before, after = trail.get(path, ("left", old[path], None))
-            assert digest == (after if event == "saved" else before) and (event == "saved") == (digest == new[path])
+        old_or_new(folder, database, old, new)
     assert killed >= MOMENTS - 4
     library("scan", "--db", database, "--quiet", folder)  # of a file between its save and its row the row is still the old one
     library(*words)
@@ -73,6 +93,51 @@ def test_killed_at_many_moments(wrong, tmp_path):
     assert rows(database, "SELECT count(*) FROM problem") == [(0,)]
     assert f"{COUNT} files are what the trail says, 0 are not" in library("verify", "--db", database)
     assert not [name for name in os.listdir(folder) if ".segywb-" in name]
+
+
+def programs_of(number):
+    """The numbers of a process's children."""
+    found = []
+    for task in Path(f"/proc/{number}/task").glob("*/children"):
+        try:
+            found += [int(one) for one in task.read_text().split()]
+        except OSError:
+            pass
+    return found
+
+
+@pytest.mark.skipif(not program.knows("--recover"), reason="the program is older than a repair in place")
+def test_killed_in_place_with_its_programs(wrong, tmp_path):
+    """The mend and its programs die at once, also in the middle of a repair: each file is old, new, or one that its journal makes old again."""
+    folder, database = wrong
+    old, new = digests(folder), mended(folder)
+    where = "id IN (SELECT file FROM problem WHERE code = 'F6')"
+    words = ["mend", "--db", database, "--script", tmp_path / "fix.txt", "--where", where, "--over", "--in-place", "--apply", "--quiet"]
+    inodes = {path.name: path.stat().st_ino for path in folder.glob("*.sgy")}
+    dice, killed, journals = random.Random(9), 0, 0
+    for _ in range(MOMENTS):
+        mend = begun(words, database, dice)
+        for number in [mend.pid, *programs_of(mend.pid)]:
+            try:
+                os.kill(number, signal.SIGKILL)
+            except ProcessLookupError:
+                pass
+        killed += mend.wait() == -signal.SIGKILL
+        torn = sorted(folder.glob(".*.segywb-journal"))
+        told = library("verify", "--db", database, status=1 if torn else 0)
+        assert "DIFFERS" not in told and told.count("CUT OFF") <= len(torn)
+        for journal in torn:
+            journals += 1
+            segywb.recover(folder / journal.name[1:-len(".segywb-journal")])
+        assert " 0 are not" in library("verify", "--db", database)
+        old_or_new(folder, database, old, new)
+    assert killed >= MOMENTS - 4
+    print(f"{journals} kills left a journal")
+    library("scan", "--db", database, "--quiet", folder)
+    library(*words)
+    assert digests(folder) == new
+    assert inodes == {path.name: path.stat().st_ino for path in folder.glob("*.sgy")}
+    assert f"{COUNT} files are what the trail says, 0 are not" in library("verify", "--db", database)
 
 
 def test_interrupted(wrong, tmp_path):

@@ -25,21 +25,24 @@ from .errors import (
 from .fields import BinField, TraceField
 from .fitting import Fit
 from .grids import Grid, Slice
-from .repairs import Recovered, recover
-from .volume import Path, Volume
+from .history import Step
+from .looks import Look, look
+from .repairs import InPlace, Recovered, recover
+from .lines import Path
+from .volume import Volume
 
 __version__ = "0.1.0"
 
 __all__ = [
     "Answer", "BinField", "Closed", "CsvImport", "CsvRefused", "Error", "Extremes", "Fault", "FileChanged", "Fit", "FitRefused", "FloatStatistics",
-    "FloatTotals", "Geometry", "Grid", "Info", "LoadRefused", "OptionRefused", "PathRefused", "ProgramEnded", "ProgramNotFound", "Recovered", "Refused",
-    "RepairCutOff", "SaveFailed", "Slice", "Stanza", "Statistics", "TraceField", "Volume", "open", "recover", "tools",
+    "FloatTotals", "Geometry", "Grid", "InPlace", "Info", "LoadRefused", "Look", "OptionRefused", "PathRefused", "ProgramEnded", "ProgramNotFound", "Recovered", "Refused",
+    "RepairCutOff", "SaveFailed", "Slice", "Stanza", "Statistics", "Step", "TraceField", "Volume", "look", "open", "recover", "tools",
 ]
 
 
 def open(
     path: Path, fixed: bool = False, opaque_samples: bool = False, max_bytes: Optional[int] = None, order: Optional[str] = None,
-    on_disk: bool = False, floats: bool = True
+    on_disk: bool = False, floats: bool = True, samples: Optional[int] = None, format: Optional[int] = None, texts: Optional[int] = None
 ) -> Volume:
     """Opens a SEG-Y file: ``with segywb.open("cube.sgy") as volume: ..``.
 
@@ -48,5 +51,15 @@ def open(
     (format 4, and floats without ``floats``). ``max_bytes``: the largest file that is read, and the largest that edits may make; where it is left out, edits may make one of
     1099511627776 bytes (1 TiB), in memory and on disk, and one above 4294967296 (4 GiB) is read with ``on_disk`` alone. ``order``: ``"big"`` or ``"little"``, the order of bytes of a file that
     does not tell it. ``on_disk``: leave the bytes of the file on disk, for a file larger than memory; nothing may change it until it is closed.
+
+    Three say what a file is whatever its headers say. ``samples``: each trace has so many samples. ``format``: the code of the samples, in the
+    place of bytes 3225-3226. ``texts``: so many extended textual headers. ``Volume.declare`` writes them into the binary header.
+
+    >>> with segywb.open("cube.sgy") as volume:
+    ...     len(volume), volume.info.samples
+    (12, 5)
     """
-    return Volume(path, fixed=fixed, opaque_samples=opaque_samples, max_bytes=max_bytes, order=order, on_disk=on_disk, floats=floats)
+    return Volume(
+        path, fixed=fixed, opaque_samples=opaque_samples, max_bytes=max_bytes, order=order, on_disk=on_disk, floats=floats, samples=samples,
+        format=format, texts=texts,
+    )

@@ -104,7 +104,12 @@ class Fault(NamedTuple):
 
     @property
     def meaning(self) -> str:
-        """What the code means, in words."""
+        """What the code means, in words.
+
+        >>> with segywb.open("wrong_line.sgy") as v:
+        ...     v.faults()[0].code, v.faults()[0].meaning
+        ('F6', 'inline, crossline and offset are those of an earlier trace')
+        """
         return MEANINGS.get(self.code, self.code)
 
 
@@ -117,12 +122,23 @@ class Answer(NamedTuple):
 
     @property
     def refused(self) -> Optional[Refused]:
-        """The refusal, or ``None``."""
+        """The refusal, or ``None``.
+
+        >>> with segywb.open("cube.sgy") as v:
+        ...     answer = v.run("set 99 inline 7")[0]
+        ...     answer.refused.code, answer.refused.text
+        ('E01', 'no trace 99 of 12')
+        """
         return Refused(self.text, self.line) if self.text.startswith("refused ") else None
 
     @property
     def accepted(self) -> bool:
-        """Whether the line was an edit, and accepted."""
+        """Whether the line was an edit, and accepted.
+
+        >>> with segywb.open("cube.sgy") as v:
+        ...     [answer.accepted for answer in v.run("set 1 inline 7\\ncount")]
+        [True, False]
+        """
         return self.text == "ok"
 
 

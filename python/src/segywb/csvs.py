@@ -13,7 +13,7 @@ from .lines import Field, encode, field
 from .session import Batch
 
 if TYPE_CHECKING:
-    from .volume import Volume
+    from .headers import Headers
 
 Columns = Union[str, Sequence[str], Mapping[str, Field]]
 Key = Tuple[int, ...]
@@ -112,7 +112,7 @@ class Plan(NamedTuple):
         """The lines of the script."""
         return (f"set {trace} {name} {number}" for trace, name, number in self.sets)
 
-    def do(self, volume: "Volume") -> CsvImport:
+    def do(self, volume: "Headers") -> CsvImport:
         """Does it, as one step: all or nothing."""
         if self.conflict is not None:
             raise CsvRefused(f"the key {_doubled(self.conflict)} has other values on each", self.conflict.lines[1])
@@ -126,7 +126,7 @@ class Plan(NamedTuple):
         return replace(self.told, done=True)
 
 
-def planned(volume: "Volume", text: Iterable[str], keys: Columns, values: Columns) -> Plan:
+def planned(volume: "Headers", text: Iterable[str], keys: Columns, values: Columns) -> Plan:
     """What the CSV would do to the traces. ``text`` is its lines."""
     wanted, written = columns(keys, "keys"), columns(values, "values")
     rows = list(read(text, list(wanted), list(written)))

@@ -13,7 +13,7 @@ from .answers import Answer, unexpected
 from .errors import Closed, FileChanged, LoadRefused, OptionRefused, PathRefused, ProgramEnded, Refused, SaveFailed
 from .history import History, Step
 from .lines import decode, payload, silent
-from .repairs import CHANGED, UNSETTLED, repair
+from .repairs import CHANGED, NEW_FILE, UNSETTLED, InPlace, judged, repair
 from .session import Answers, Batch, Session
 from .stream import split
 
@@ -243,6 +243,25 @@ class Engine:
 
     # ---- the save
 
+    def in_place(self) -> InPlace:
+        """How the edits are saved over the file itself."""
+        with self._lock:
+            self._open()
+            self._unchanged()
+            return judged(self.path, self.history.sent().sent)
+
+    def repaired(self) -> bool:
+        """A repair, where that is how the edits are saved over the file itself; whether it was made. Where it was not, nothing was written."""
+        if not self.in_place().chosen:
+            return False
+        try:
+            self.repair()
+        except SaveFailed as error:
+            if NEW_FILE not in error.stderr:
+                raise
+            return False
+        return True
+
     def repair(self) -> None:
         """Writes the changed bytes into the file itself, by a run of its own over the file that was opened."""
         with self._lock:
@@ -253,7 +272,7 @@ class Engine:
                 self.forget()  # the bytes under it are others now
             self._settle(self.path, False)
             if told:
-                warnings.warn(told, stacklevel=3)
+                warnings.warn(told, stacklevel=4)
 
     def save(self, path: str, replace: bool) -> None:
         """Writes the edited file, by a session of its own over the file that was opened."""

@@ -4,12 +4,13 @@ from __future__ import annotations
 
 import os
 import re
-from typing import Dict, Optional, Tuple
+from typing import Any, Dict, List, Optional, Sequence, Tuple
 
 _PARTS = {"E07": "T", "E08": "M"}
 # what arguments of `segywb.open` the program's options are; those of the first list have a value
-_VALUED = ("max-bytes", "order")
+_VALUED = ("max-bytes", "order", "samples", "format", "texts")
 _TRUE = ("fixed", "floats", "on-disk", "opaque-samples")
+_READ_WITH = re.compile(r"^segywb: FILE can be read with ((?:--.*)): [0-9]+ traces?$", re.M)
 
 
 class Error(Exception):
@@ -38,7 +39,8 @@ class Refused(Error):
 class LoadRefused(Refused):
     """The file is refused (the codes ``L01`` to ``L17``). ``status`` is the program's exit status.
 
-    ``hint`` is what the program says to do, and ``arguments`` names the arguments of ``segywb.open`` for the options in it:
+    ``hint`` is what the program says to do, and ``arguments`` names the arguments of ``segywb.open`` for the options in it. ``readings`` are those
+    that the program says would fit, each as arguments of ``segywb.open`` beside those that were given: ``segywb.open(path, **refusal.readings[0])``.
 
     >>> refusal = LoadRefused("load refused L07 gain format", "line.sgy", 3, "with --opaque-samples the file is read all the same")
     >>> refusal.arguments
@@ -47,22 +49,34 @@ class LoadRefused(Refused):
     L07 gain format: line.sgy (with --opaque-samples the file is read all the same; in Python --opaque-samples is opaque_samples=True)
     """
 
-    def __init__(self, answer: str, path: str = "", status: Optional[int] = None, hint: str = "") -> None:
+    def __init__(
+        self, answer: str, path: str = "", status: Optional[int] = None, hint: str = "", readings: Sequence[Dict[str, Any]] = ()
+    ) -> None:
         super().__init__(answer, path)
         self.path = path
         self.status = status
         self.hint = hint
+        self.readings: List[Dict[str, Any]] = [dict(one) for one in readings]
         self._options = options(hint)
 
     @property
     def arguments(self) -> Tuple[str, ...]:
-        """The arguments of ``segywb.open`` for the options that the hint names, in its order."""
+        """The arguments of ``segywb.open`` for the options that the hint names, in its order.
+
+        >>> try:
+        ...     segywb.open("wrong_floats.sgy", floats=False)
+        ... except segywb.LoadRefused as refusal:
+        ...     refusal.arguments
+        ('floats=True', 'opaque_samples=True')
+        """
         return tuple(argument for _, argument in self._options)
 
     def __str__(self) -> str:
         inside = [self.hint] if self.hint else []
         if self._options:
             inside.append("in Python " + ", ".join(f"{option} is {argument}" for option, argument in self._options))
+        if self.readings:
+            inside.append("segywb.open may read it with " + ", or with ".join(_called(one) for one in self.readings))
         return super().__str__() + (f" ({'; '.join(inside)})" if inside else "")
 
 
@@ -75,7 +89,43 @@ def hint_of(refusal: str, told: str) -> str:
     _, found, rest = told.rpartition(f": {refusal} (")
     first, *more = rest.splitlines() if found else [""]
     said = [first[:-1] if first.endswith(")") else first, *(line[len("segywb: "):] for line in more if line.startswith("segywb: "))]
-    return "; ".join(text for text in said if text)
+    return "; ".join(text for text in said if text and " can be read with --" not in text)
+
+
+def read_with(told: str, path: str) -> List[str]:
+    """The words by which the program says that a file that it refuses can be read.
+
+    >>> read_with("segywb: a.sgy: L14 truncated trace 3 (..)\\nsegywb: a.sgy can be read with --samples 1500: 3 traces\\n", "a.sgy")
+    ['--samples 1500']
+    """
+    return list(dict.fromkeys(_READ_WITH.findall(told.replace(f"segywb: {path} can be", "segywb: FILE can be"))))
+
+
+def readings_of(told: str, path: str) -> List[Dict[str, Any]]:
+    """The same readings as arguments of ``segywb.open``.
+
+    >>> readings_of("segywb: a.sgy can be read with --format 5 --floats: 120 traces\\nsegywb: a.sgy can be read with --texts 2: 1 trace\\n", "a.sgy")
+    [{'format': 5, 'floats': True}, {'texts': 2}]
+    """
+    return [reading for reading in map(_reading, read_with(told, path)) if reading]
+
+
+def _reading(words: str) -> Dict[str, Any]:
+    """Words of a command line as arguments of ``segywb.open``; none where one of them is not known here."""
+    reading: Dict[str, Any] = {}
+    coming = iter(words.split(" "))
+    for word in coming:
+        name = word[2:]
+        if name in _TRUE:
+            reading[name.replace("-", "_")] = True
+        elif name in _VALUED:
+            value = next(coming, "")
+            if name != "order" and not value.isdigit():
+                return {}
+            reading[name.replace("-", "_")] = value if name == "order" else int(value)
+        else:
+            return {}
+    return reading
 
 
 def options(hint: str) -> Tuple[Tuple[str, str], ...]:
@@ -92,6 +142,10 @@ def options(hint: str) -> Tuple[Tuple[str, str], ...]:
         elif name in _TRUE:
             found[f"--{name}"] = f"{argument}=True"
     return tuple(found.items())
+
+
+def _called(reading: Dict[str, Any]) -> str:
+    return ", ".join(f"{name}={value!r}" for name, value in reading.items())
 
 
 def _quoted(value: str) -> str:

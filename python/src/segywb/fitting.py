@@ -40,17 +40,32 @@ class Fit:
 
     @property
     def spacing(self) -> Pair:
-        """How far two neighbouring inlines, and two neighbouring crosslines, are apart along the steps."""
+        """How far two neighbouring inlines, and two neighbouring crosslines, are apart along the steps.
+
+        >>> with segywb.open("cube.sgy") as v:
+        ...     [round(one, 6) for one in v.fit().spacing]
+        [25.0, 25.0]
+        """
         return math.hypot(*self.inline_step), math.hypot(*self.crossline_step)
 
     @property
     def angle(self) -> float:
-        """The degrees from the crossline step to the inline step, counter-clockwise: 90 or -90 in a rectangular grid."""
+        """The degrees from the crossline step to the inline step, counter-clockwise: 90 or -90 in a rectangular grid.
+
+        >>> with segywb.open("cube.sgy") as v:
+        ...     round(v.fit().angle, 6)
+        90.0
+        """
         (ix, iy), (cx, cy) = self.inline_step, self.crossline_step
         return math.degrees(math.atan2(cx * iy - cy * ix, cx * ix + cy * iy))
 
     def at(self, inline: Any, crossline: Any) -> Tuple[Any, Any]:
-        """x and y of an inline and a crossline, or of arrays of them."""
+        """x and y of an inline and a crossline, or of arrays of them.
+
+        >>> with segywb.open("cube.sgy") as v:
+        ...     [round(one, 6) for one in v.fit().at(104, 201)]
+        [450000.0, 6800075.0]
+        """
         (x, y), (ix, iy), (cx, cy) = self.origin, self.inline_step, self.crossline_step
         return x + inline * ix + crossline * cx, y + inline * iy + crossline * cy
 

@@ -37,7 +37,12 @@ class Map:
 
     @property
     def shape(self) -> Tuple[int, int]:
-        """The number of inlines and of crosslines."""
+        """The number of inlines and of crosslines.
+
+        >>> with segywb.open("cube.sgy") as v:
+        ...     v.grid.shape, v.slice(0).shape
+        ((3, 4), (3, 4))
+        """
         return len(self.inlines), len(self.crosslines)
 
     def _spread(self, column: str, missing: int, dtype: str) -> Any:
@@ -66,7 +71,12 @@ class Grid(Map):
 
     @property
     def array(self) -> Any:
-        """The folds as a 2-D array; 0 where no trace lies."""
+        """The folds as a 2-D array; 0 where no trace lies.
+
+        >>> with segywb.open("wrong_line.sgy") as v:
+        ...     v.grid.inlines, v.grid.array.tolist()
+        ([101, 103], [[2, 2, 2, 2], [1, 1, 1, 1]])
+        """
         return self._spread("fold", 0, "i8")
 
     def __array__(self, dtype: Any = None, copy: Any = None) -> Any:
@@ -87,12 +97,22 @@ class Slice(Map):
 
     @property
     def traces(self) -> Any:
-        """The position of the first trace of each cell as a 2-D array; 0 where none has the sample."""
+        """The position of the first trace of each cell as a 2-D array; 0 where none has the sample.
+
+        >>> with segywb.open("wrong_line.sgy") as v:
+        ...     v.slice(0).traces.tolist()
+        [[1, 2, 3, 4], [9, 10, 11, 12]]
+        """
         return self._spread("trace", 0, "i8")
 
     @property
     def array(self) -> Any:
-        """The samples as a 2-D masked array (lists with ``None`` without numpy). Of a cell with several traces, the first one's."""
+        """The samples as a 2-D masked array (lists with ``None`` without numpy). Of a cell with several traces, the first one's.
+
+        >>> with segywb.open("wrong_line.sgy") as v:
+        ...     v.slice(0).array.tolist()
+        [[11, 12, 13, 14], [31, 32, 33, 34]]
+        """
         np = numpy()
         traces = self.traces
         if np is None:

@@ -15,8 +15,35 @@ class Step(NamedTuple):
 
     @property
     def lines(self) -> List[str]:
-        """The lines, one text each."""
+        """The lines, one text each.
+
+        >>> with segywb.open("cube.sgy") as v:
+        ...     v.set_many("inline", slice(1, 3), 7)
+        ...     v.steps[0].lines
+        ['set 1 inline 7', 'set 2 inline 7']
+        """
         return decode(self.sent).split("\n")[:-1]
+
+    @property
+    def first(self) -> str:
+        """Its first line.
+
+        >>> with segywb.open("cube.sgy") as v:
+        ...     v.set_many("inline", slice(1, 4), 7)
+        ...     v.steps[0].first
+        'set 1 inline 7'
+        """
+        return decode(self.sent.partition(b"\n")[0])
+
+    @property
+    def last(self) -> str:
+        """Its last line.
+
+        >>> step = Step(b"set 1 inline 7\\nset 2 inline 8\\n", 2)
+        >>> step.first, step.last
+        ('set 1 inline 7', 'set 2 inline 8')
+        """
+        return decode(self.sent[:-1].rpartition(b"\n")[2])
 
 
 class History:

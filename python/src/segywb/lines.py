@@ -4,12 +4,16 @@ from __future__ import annotations
 
 import numbers as kinds
 import operator
-from typing import Any, Iterable, List, Union
+import os
+import re
+from typing import Any, Iterable, List, Optional, Union
 
 from .fields import BinField, TraceField, binary_place, trace_place
 
 Field = Union[str, int]
+Path = Union[str, "os.PathLike[str]"]
 LONGEST = 16777216
+_MOVING = re.compile(rb"^[ \t]*((?:blank|copy|delete|move|resize|sort)[ \t][^\r\n]*)", re.M)
 
 
 def number(value: Any) -> str:
@@ -150,3 +154,13 @@ def of_script(script: Any) -> List[bytes]:
         if b"\n" in line:
             raise ValueError("a line of a script must not hold a line feed")
     return lines
+
+
+def moving(script: bytes) -> Optional[bytes]:
+    """The first line that moves, adds, takes away or resizes traces, or ``None``.
+
+    >>> moving(b"set 1 inline 7\\ndelete 5\\n"), moving(b"map move @17:4\\nset 1 move 7\\n")
+    (b'delete 5', None)
+    """
+    found = _MOVING.search(script)
+    return found[1] if found else None

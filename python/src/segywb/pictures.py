@@ -8,7 +8,8 @@ from typing import Any, List, Optional
 
 from .lines import Field, field
 from .thinning import thinned
-from .volume import Path, Volume
+from .lines import Path
+from .volume import Volume
 
 HEADER_PIXELS = 1200
 

@@ -7,7 +7,7 @@ import re
 import shutil
 import subprocess
 from pathlib import Path
-from typing import Dict, FrozenSet, Iterator, Tuple
+from typing import Dict, FrozenSet, Iterator, Sequence, Tuple
 
 from .errors import ProgramNotFound
 
@@ -47,3 +47,19 @@ def knows(option: str) -> bool:
         return option in _options[key]
     except (OSError, subprocess.SubprocessError):
         return False
+
+
+def run(words: Sequence[str]) -> Tuple[int, str, str]:
+    """A run to its end, also where this process is interrupted: its status, its answers and what it told."""
+    found = find()
+    try:
+        process = subprocess.Popen(
+            [found, *words], stdin=subprocess.DEVNULL, stdout=subprocess.PIPE, stderr=subprocess.PIPE, start_new_session=True
+        )
+    except OSError as error:
+        raise ProgramNotFound(f"cannot run {found}: {error}") from error
+    try:
+        answers, told = process.communicate()
+    finally:
+        process.wait()
+    return process.returncode, answers.decode("utf-8", "replace"), told.decode("utf-8", "replace").strip()

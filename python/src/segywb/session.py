@@ -11,7 +11,7 @@ import time
 from typing import IO, Generator, Iterable, Iterator, List, Optional, Sequence, Tuple
 
 from . import program
-from .errors import LoadRefused, OptionRefused, ProgramEnded, ProgramNotFound, RepairCutOff, hint_of
+from .errors import LoadRefused, OptionRefused, ProgramEnded, ProgramNotFound, RepairCutOff, hint_of, readings_of
 from .repairs import CUT_OFF
 from .stream import Splitter, split
 
@@ -203,7 +203,7 @@ class Session:
         told = self._told()
         self.kill()
         if text.startswith("load refused "):
-            return LoadRefused(text, self.path, status, hint_of(text[len("load refused "):], told))
+            return LoadRefused(text, self.path, status, hint_of(text[len("load refused "):], told), readings_of(told, self.path))
         if status == 3 and CUT_OFF in told:
             return RepairCutOff(self.path, told)
         if status == 2:

@@ -25,6 +25,9 @@ def words(arguments: Optional[List[str]]) -> Any:
     parser.add_argument("--no-browser", action="store_true", help="print the address and open no browser")
     parser.add_argument("--fixed", action="store_true", help="each trace has the binary header's number of samples, as for segywb")
     parser.add_argument("--order", choices=("big", "little"), help="the order of bytes of a file that does not tell it, as for segywb")
+    parser.add_argument("--samples", metavar="N", type=int, help="each trace has N samples, whatever the headers say, as for segywb")
+    parser.add_argument("--format", metavar="CODE", type=int, help="the format of the samples, whatever the binary header says, as for segywb")
+    parser.add_argument("--texts", metavar="N", type=int, help="N extended textual headers, whatever the binary header says, as for segywb")
     parser.add_argument("--on-disk", action="store_true", help="the bytes of FILE stay on disk, for a file larger than memory, as for segywb")
     parser.add_argument("--max-bytes", metavar="N", type=int, help="the largest file that is read or made, as for segywb")
     return parser.parse_args(arguments)
@@ -64,7 +67,8 @@ async def serve(told: Any) -> int:
     from .desk import Desk
     from .server import Server
 
-    server = Server(Desk(told.file, told.out, told.fixed, told.max_bytes, told.order, told.on_disk), secrets.token_urlsafe(24))
+    desk = Desk(told.file, told.out, told.fixed, told.max_bytes, told.order, told.on_disk, told.samples, told.format, told.texts)
+    server = Server(desk, secrets.token_urlsafe(24))
     port = await server.start(told.port)
     try:
         await opened(server, told.file)
@@ -87,12 +91,12 @@ def sendable(text: str) -> str:
 
 
 async def shown(told: Any, server: Any, address: str) -> int:
-    """Shows the page of a file that is open, or of one that is refused: there the readings that take it are offered."""
+    """Shows the page of a file that is open, or of one that is not: there what opens it is offered, a reading or a recovery."""
     ended = asyncio.Event()
     for one in (signal.SIGINT, signal.SIGTERM):
         asyncio.get_running_loop().add_signal_handler(one, ended.set)
     status = say_why(server)
-    if status != 0 and (not server.refused or told.no_browser):
+    if status != 0 and (not server.offers or told.no_browser):
         return status
     print(f"{address}\nThe address holds a key: whoever has it on this machine can use the desk. End it with Ctrl-C.", flush=True)
     if not told.no_browser:
@@ -103,16 +107,19 @@ async def shown(told: Any, server: Any, address: str) -> int:
         await server.goodbye(GOODBYE_SECONDS)
         return status
     await ended.wait()
-    return 3 if server.refused else 0
+    return 3 if server.offers else 0
 
 
 def say_why(server: Any) -> int:
     """Says on standard error why a file is not open, and gives the exit status; 0 where it is."""
-    from ..errors import OptionRefused, ProgramNotFound
+    from ..errors import OptionRefused, ProgramNotFound, RepairCutOff
 
     error = server.broken
     if error is None:
         return 0
+    if isinstance(error, RepairCutOff):
+        print(f"segywb-desk: {sendable(server.status['why'])}", file=sys.stderr, flush=True)
+        return 3
     for line in server.refused or [getattr(error, "stderr", "").strip() or str(error)]:
         print(f"segywb-desk: {sendable(line)}", file=sys.stderr, flush=True)
     return 2 if isinstance(error, OptionRefused) else 5 if isinstance(error, ProgramNotFound) else 3

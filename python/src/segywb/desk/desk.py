@@ -3,13 +3,13 @@
 from __future__ import annotations
 
 import os
-from typing import Any, Callable, Dict, List, NamedTuple, Optional, Sequence, Tuple
+from typing import Any, Callable, Dict, List, NamedTuple, Optional, Sequence, Tuple, Union
 
 import numpy as np
 
 import segywb
 
-from .. import answers, arrays
+from .. import answers, arrays, program
 from ..errors import FileChanged, LoadRefused, OptionRefused
 from ..lines import of_script
 from ..volume import Volume
@@ -56,10 +56,17 @@ class Desk:
         max_bytes: Optional[int] = None,
         order: Optional[str] = None,
         on_disk: bool = False,
+        samples: Optional[int] = None,
+        format: Optional[int] = None,
+        texts: Optional[int] = None,
     ) -> None:
         self.path = os.path.abspath(path)
         self.out = os.path.abspath(out) if out else None
-        self._options: Dict[str, Any] = {"fixed": fixed, "max_bytes": max_bytes, "order": order, "on_disk": on_disk}
+        self._options: Dict[str, Any] = {
+            "fixed": fixed, "max_bytes": max_bytes, "order": order, "on_disk": on_disk, "samples": samples, "format": format, "texts": texts,
+        }
+        self.recovered = ""
+        self._again = b""
         self.opaque = False
         self.version = 0
         self.edited: Optional[int] = None  # the version before the last edit, where that edit is the last step
@@ -85,6 +92,9 @@ class Desk:
         self._now = self._loaded = self._shot(read)
         self._shots = [self._now]
         self.version += 1
+        if self._again:
+            script, self._again = self._again, b""
+            self.run_script(script)
 
     def open(self) -> None:
         """Opens the file: a refused one is an exception."""
@@ -95,7 +105,21 @@ class Desk:
     def refused(self, refusal: LoadRefused) -> Tuple[str, List[refusals.Reading]]:
         """What the program says of the file that it refuses, and the readings that would take it."""
         told = f"{refusal.answer} ({refusal.hint})" if refusal.hint else refusal.answer
-        return told, refusals.readings(self.path, self._options)
+        return told, refusals.readings(self.path, self._options, refusal.readings)
+
+    def looked(self) -> List[List[str]]:
+        """What the head of the file says, and its length."""
+        return refusals.looked(self.path, self._options)
+
+    def recover(self) -> None:
+        """Puts the old bytes back where a repair of the file was cut off. It is opened anew then, and the edits that were accepted are done again."""
+        back = segywb.recover(self.path)
+        self.recovered = f"{back.bytes:,} old bytes in {back.pieces:,} pieces were put back" if back else "no journal was there"
+        if self._volume is not None:
+            self._again = self._volume.script
+        self.close()
+        self._volume = self._before = self.edited = None
+        self._pending = []
 
     def read_as(self, reading: refusals.Reading) -> None:
         """The file is opened by this reading from now on."""
@@ -108,6 +132,17 @@ class Desk:
         floats = self._volume is not None and self._volume.has_floats
         return refusals.words_of({**self._options, "floats": floats, "opaque_samples": self.opaque})
 
+    @property
+    def reading(self) -> List[str]:
+        """Of these options those that say how the bytes are read."""
+        return refusals.words_of({name: self._options[name] for name in refusals.READING})
+
+    @property
+    def declarable(self) -> bool:
+        """Whether the reading says something that the edit ``declare`` can write into the binary header, and none has."""
+        said = bool(refusals.words_of({name: self._options[name] for name in refusals.DECLARED}))
+        return said and program.knows("--samples") and not any(b"declare" in step.sent for step in self.volume.steps)
+
     def _opened(self) -> Volume:
         try:
             return segywb.open(self.path, opaque_samples=self.opaque, **self._options)
@@ -119,6 +154,11 @@ class Desk:
                 return segywb.open(self.path, opaque_samples=True, **self._options)
             except OptionRefused:
                 raise refusal from None
+
+    @property
+    def opened(self) -> bool:
+        """Whether the file is open, so that there may be edits."""
+        return self._volume is not None
 
     @property
     def volume(self) -> Volume:
@@ -150,6 +190,11 @@ class Desk:
         if self._original is not None:
             self._original.close()
             self._original = None
+
+    def interrupt(self) -> None:
+        """Ends the program, also while another thread waits for it."""
+        if self._volume is not None:
+            self._volume.interrupt()
 
     def close(self) -> None:
         """Ends both sessions."""
@@ -242,7 +287,7 @@ class Desk:
         self.accepted([one.line for one in got if one.accepted])
         return {"answers": [shown(one.line, one.text) for one in got], "version": self.version}
 
-    def run_script(self, script: str) -> Dict[str, Any]:
+    def run_script(self, script: Union[str, bytes]) -> Dict[str, Any]:
         """Runs a script as one step: whole, or where a line of it is refused not at all."""
         self.now()
         try:

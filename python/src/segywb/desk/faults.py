@@ -2,17 +2,10 @@
 
 from __future__ import annotations
 
-from contextlib import closing
 from typing import Any, Dict, List, Optional, Tuple
 
 from ..answers import MEANINGS, faults
 from ..volume import Volume
-
-
-def asked(volume: Volume) -> bytes:
-    """The whole answer, with a line feed in front of each line."""
-    with closing(volume._engine.stream([(b"faults\n", 1)])) as told:
-        return b"".join(told).rstrip(b"\n")
 
 
 def counts(answer: bytes) -> Dict[str, int]:
@@ -55,5 +48,5 @@ class Kept:
     def answer(self, volume: Volume, version: int) -> bytes:
         """The answer of this version."""
         if self._of is None or self._of[0] != version:
-            self._of = (version, asked(volume))
+            self._of = (version, volume.fault_text())
         return self._of[1]

@@ -3,7 +3,7 @@
 from __future__ import annotations
 
 import os
-from typing import Any, Dict, Iterator, List, NamedTuple, Optional, Tuple
+from typing import Any, Dict, Iterator, List, NamedTuple, Optional, Sequence, Tuple
 
 import segywb
 
@@ -11,6 +11,16 @@ from ..errors import Error, LoadRefused
 
 OPAQUE = ("L06", "L07")  # refused for their samples alone (L06 by a program that knows no floats): the desk reads them without the values of these
 Options = Dict[str, Any]
+# What says how the bytes are read, and of this what `declare` writes into the binary header. Whether samples have values the desk finds out itself.
+READING = ("fixed", "order", "samples", "format", "texts")
+DECLARED = ("fixed", "samples", "format", "texts")
+# The names of what a look tells, as the page has them.
+LOOKED = {
+    "bytes": "bytes of the file", "order": "byte order", "revision": "revision", "format": "format of the samples", "interval": "interval, microseconds",
+    "samples": "samples of a trace", "fixed": "fixed length flag", "texts": "extended textual headers", "extensions": "header extensions",
+    "trailer": "data trailer records", "first_trace": "place of the first trace", "trace_bytes": "bytes of such a trace",
+    "traces": "such traces in the file", "rest": "bytes left behind them",
+}
 
 
 class Reading(NamedTuple):
@@ -44,16 +54,47 @@ def words_of(options: Options) -> List[str]:
     return made
 
 
-def readings(path: str, options: Options) -> List[Reading]:
-    """The readings that take the file, those with the fewest other options first: each of them is tried, with the bytes left on disk."""
+def readings(path: str, options: Options, hints: Sequence[Options] = ()) -> List[Reading]:
+    """The readings that take the file, first those that the program has named, then those with the fewest other options: each of them is
+    tried, with the bytes left on disk."""
     found: List[Reading] = []
     if not os.path.isfile(path):
         return found
+
+    def tried(other: Options) -> None:
+        size = taken(path, {**options, **other})
+        if size is not None:
+            found.append(Reading(other, told(other), *size))
+
+    for other in hinted(options, hints):
+        tried(other)
     for other in candidates(options):
         if not any(set(one.options) <= set(other) for one in found):
-            size = taken(path, {**options, **other})
-            if size is not None:
-                found.append(Reading(other, told(other), *size))
+            tried(other)
+    return found
+
+
+def looked(path: str, options: Options) -> List[List[str]]:
+    """What the head of the file says and what its length says, each with its name; nothing where the program has no look at it."""
+    try:
+        found = segywb.look(path, **{name: options[name] for name in READING if options.get(name) is not None})
+    except (Error, OSError):
+        return []
+    asked: Dict[str, Any] = {**found._asdict(), "order": f"{found.order}, {found.by}"}
+    return [[text, "none" if asked[name] is None else str(asked[name])] for name, text in LOOKED.items()]
+
+
+def hinted(options: Options, hints: Sequence[Options]) -> List[Options]:
+    """What the program has named differs so from these options, once each.
+
+    >>> hinted({"fixed": False, "order": "big"}, [{"samples": 1500, "order": "big"}, {"floats": True}, {"samples": 1500}])
+    [{'samples': 1500}]
+    """
+    found: List[Options] = []
+    for hint in hints:
+        other = {name: value for name, value in hint.items() if name in READING and options.get(name) != value}
+        if other and other not in found:
+            found.append(other)
     return found
 
 
@@ -72,10 +113,10 @@ def candidates(options: Options) -> Iterator[Options]:
 def told(other: Options) -> str:
     """In words of the command line.
 
-    >>> told({"fixed": True, "order": None})
-    'with --fixed, without --order'
+    >>> told({"fixed": True, "order": None, "texts": 0})
+    'with --fixed, without --order, with --texts 0'
     """
-    return ", ".join(f"with {' '.join(words_of({name: value}))}" if value else f"without --{name}" for name, value in other.items())
+    return ", ".join(f"with {' '.join(words_of({name: value}))}" if words_of({name: value}) else f"without --{name}" for name, value in other.items())
 
 
 def taken(path: str, options: Options) -> Optional[Tuple[int, int]]:

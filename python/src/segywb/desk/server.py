@@ -11,7 +11,7 @@ from typing import Any, Callable, Dict, List, Optional, Tuple
 
 from aiohttp import web
 
-from ..errors import Error, FileChanged, LoadRefused, ProgramEnded, Refused
+from ..errors import Error, FileChanged, LoadRefused, ProgramEnded, Refused, RepairCutOff
 from . import fieldmaps, graphs, places, saving, tables, views
 from .desk import Desk, clean
 from .faults import Kept
@@ -125,7 +125,7 @@ class Server:
             "csv": lambda q: tables.asked(desk, q),
             "undo": lambda q: desk.undo(),
             "redo": lambda q: desk.redo(),
-            "save": lambda q: saving.save(desk, str(q["path"]), q.get("replace") is True),
+            "save": lambda q: saving.save(desk, str(q["path"]), q.get("replace") is True, saving.way(q.get("in_place"))),
         }
 
     def _answer(self) -> bytes:
@@ -146,6 +146,7 @@ class Server:
         app.router.add_get(f"{at}/edits.txt", self._script)
         app.router.add_post(f"{at}/restart", self._restart)
         app.router.add_post(f"{at}/read", self._read)
+        app.router.add_post(f"{at}/recover", self._recover)
         for name, asked in self._asked().items():
             app.router.add_get(f"{at}/ask/{name}", self._asking(asked))
         for name, told in self._told().items():
@@ -172,8 +173,7 @@ class Server:
 
     async def _script(self, request: web.Request) -> web.StreamResponse:
         """The accepted edits, also of a program that has ended."""
-        volume = self.desk.volume
-        made = volume._engine.history.sent().sent
+        made = self.desk.volume.script
         return web.Response(body=made, content_type="text/plain", charset="utf-8", headers={"Content-Disposition": 'attachment; filename="edits.txt"'})
 
     # ---- the worker
@@ -195,6 +195,9 @@ class Server:
             return web.json_response({"refused": clean(refusal.answer)}, status=409)
         except ProgramEnded as error:
             self._end(str(error))
+            return web.json_response(self.status, status=503)
+        except RepairCutOff as error:
+            self._cut(error)
             return web.json_response(self.status, status=503)
         except FileChanged as error:
             self.status = {"phase": "changed", "why": clean(str(error))}
@@ -220,6 +223,28 @@ class Server:
 
     def _end(self, why: str) -> None:
         self.status = {"phase": "ended", "why": clean(why)}
+
+    def _cut(self, error: RepairCutOff) -> None:
+        """The file holds a part of a repair: it is offered to put the old bytes back."""
+        self.broken = error
+        why = " ".join(line[len("segywb: "):] if line.startswith("segywb: ") else line for line in error.told.splitlines()) or str(error)
+        self.status = {"phase": "cut", "why": clean(why), "file": clean(self.desk.path), "edits": self.desk.opened}
+
+    async def _recover(self, request: web.Request) -> web.StreamResponse:
+        """Puts the old bytes of a file back, of which a repair was cut off, and opens it."""
+        if self.status["phase"] == "cut":
+            before, self.status = self.status, {"phase": "loading", "what": "the journal", "done": 0, "of": 0}
+            self._loading = asyncio.create_task(self._recovered(before))
+        return web.json_response(self.status)
+
+    async def _recovered(self, before: Answer) -> None:
+        try:
+            await asyncio.get_running_loop().run_in_executor(self._worker, self.desk.recover)
+        except (Error, OSError) as error:
+            self.status = {**before, "failed": clean(getattr(error, "stderr", "") or str(error))}
+            return
+        self.status = {"phase": "loading", "what": "the file", "done": 0, "of": 0}
+        await self.load()
 
     async def _restart(self, request: web.Request) -> web.StreamResponse:
         """Starts a program that has ended anew, with the accepted edits."""
@@ -296,11 +321,19 @@ class Server:
             self.broken = refusal
             why, self._readings = await run(self._worker, self.desk.refused, refusal)
             offered = [{"words": one.words, "traces": one.traces, "samples": one.samples} for one in self._readings]
-            self.status = {"phase": "refused", "why": clean(why), "file": clean(self.desk.path), "readings": offered}
+            looked = await run(self._worker, self.desk.looked)
+            self.status = {"phase": "refused", "why": clean(why), "file": clean(self.desk.path), "readings": offered, "look": looked}
+        except RepairCutOff as error:
+            self._cut(error)
         except (Error, OSError) as error:
             self.broken = error
             self._end(str(error))
         return False
+
+    @property
+    def offers(self) -> bool:
+        """Whether the file is not open, and the page offers what opens it."""
+        return self.status["phase"] in ("refused", "cut")
 
     @property
     def refused(self) -> List[str]:
@@ -333,7 +366,6 @@ class Server:
         self._stopped = True
         if self._runner is not None:
             await self._runner.cleanup()
-        if self.desk._volume is not None:
-            self.desk._volume.interrupt()
+        self.desk.interrupt()
         self._worker.shutdown(wait=True)
         self.desk.close()

@@ -9,6 +9,7 @@ import numpy as np
 from .. import answers
 from ..answers import MEANINGS
 from ..errors import Refused
+from ..history import Step
 from ..volume import Volume
 from . import maps
 from .bundles import Bundle, bundle_for, farthest
@@ -43,7 +44,7 @@ def state(desk: Desk) -> Dict[str, Any]:
     return {
         "version": desk.version, "file": clean(desk.path), "out": clean(desk.out) if desk.out else None, "opaque": desk.opaque,
         "traces": len(now.mirror), "samples": answers.info(now.told["info"]).samples,
-        "edits": sum(step.size for step in volume._engine.history.done), "undoable": volume.undoable, "redoable": volume.redoable,
+        "edits": sum(step.size for step in volume.steps), "reading": " ".join(desk.reading), "declarable": desk.declarable, "recovered": desk.recovered, "undoable": volume.undoable, "redoable": volume.redoable,
         "fields": answers.fields(now.told["fields"].split("\n")), **facts(volume),
         "numbers": numbers(now), "loaded": numbers(desk.loaded), "before": numbers(before) if before else None,
     }
@@ -320,17 +321,15 @@ def texts(desk: Desk, block: int, compare: bool) -> Dict[str, Any]:
 
 def edits(desk: Desk) -> Dict[str, Any]:
     """The steps, the last ones where there are many; and those that were taken back."""
-    history = desk.volume._engine.history
-    steps = history.done[-MOST_STEPS:]
+    done = desk.volume.steps
+    steps = done[-MOST_STEPS:]
     return {
-        "version": desk.version, "steps": [brief(step) for step in steps], "before": len(history.done) - len(steps),
-        "undone": [brief(step) for step in history.undone[::-1][:20]], "lines": sum(step.size for step in history.done),
+        "version": desk.version, "steps": [brief(step) for step in steps], "before": len(done) - len(steps),
+        "undone": [brief(step) for step in desk.volume.undone_steps[:20]], "lines": sum(step.size for step in done),
         "words": " ".join(["segywb FILE", *desk.words, "--script"]),
     }
 
 
-def brief(step: Any) -> Dict[str, Any]:
+def brief(step: Step) -> Dict[str, Any]:
     """A step by its first and its last line."""
-    first = step.sent.partition(b"\n")[0]
-    last = step.sent[:-1].rpartition(b"\n")[2]
-    return {"count": step.size, "first": first[:200].decode("utf-8", "replace"), "last": last[:200].decode("utf-8", "replace")}
+    return {"count": step.size, "first": clean(step.first[:200]), "last": clean(step.last[:200])}

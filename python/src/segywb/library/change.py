@@ -119,13 +119,13 @@ class Maker:
         back = scripts.reverse(script, numbers) if numbers is not None and any(asked) else None
         return Change(status, answers, told, begun, new.before, new.after, new.differing, new.size - begun.size, back)
 
-    def save(self, path: str, script: Script, target: str) -> Tuple[int, str]:
-        """The program's own save: its status, and what it says."""
+    def save(self, path: str, script: Script, target: Optional[str]) -> Tuple[int, str]:
+        """The program's own save: its status, and what it says. Without a target it is a repair of the file itself."""
         with tempfile.NamedTemporaryFile(prefix="segywb-script-") as file:
             file.write(script.data)
             file.flush()
             size = os.stat(path).st_size
-            words = [found().path, path, "--script", file.name, *self._options(size), *self._stop, "--quiet", "--out", target]
+            words = [found().path, path, "--script", file.name, *self._options(size), *self._stop, "--quiet", *(["--in-place"] if target is None else ["--out", target])]
             with tempfile.TemporaryFile() as errors:
                 # It is not given up where it takes long: a save that is ended is not made, and says so nowhere.
                 status = subprocess.call(words, stdin=subprocess.DEVNULL, stdout=subprocess.DEVNULL, stderr=errors, pass_fds=self._held)

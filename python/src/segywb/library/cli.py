@@ -92,11 +92,17 @@ def _mend(some: Any) -> None:
     parser.add_argument("--out", metavar="FOLDER", help="save below this folder")
     parser.add_argument("--over", action="store_true", help="save over the files themselves")
     parser.add_argument("--keep", metavar="FOLDER", help="with --over: keep the old bytes there, so that undo can take it back")
+    parser.add_argument(
+        "--in-place", action="store_true", help="with --over: write the changed bytes alone into the files themselves, where no trace moves and no length changes"
+    )
     parser.add_argument("--apply", action="store_true", help="do it; without it, or with --dry-run, what would be done is told")
     parser.add_argument("--dry-run", dest="apply", action="store_false", help="write nothing")
     parser.add_argument("--go-on", action="store_true", help="save a file without its refused lines; else a refused line leaves it as it is")
     parser.add_argument("--fixed", action="store_true", help="each trace has the binary header's number of samples, as for segywb")
     parser.add_argument("--order", choices=("big", "little"), help="the order of bytes of a file that does not tell it, as for segywb")
+    parser.add_argument("--samples", metavar="N", type=int, help="each trace has N samples, whatever the headers say, as for segywb")
+    parser.add_argument("--format", metavar="CODE", type=int, help="the format of the samples, whatever the binary header says, as for segywb")
+    parser.add_argument("--texts", metavar="N", type=int, help="N extended textual headers, whatever the binary header says, as for segywb")
     _seconds(parser)
     parser.add_argument(*JOBS, **MANY)
     parser.add_argument("--quiet", action="store_true", help="tell the summary alone")

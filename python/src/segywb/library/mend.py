@@ -17,7 +17,7 @@ from .choose import Chosen
 from .digests import Slow
 from .facts import Task, stamp
 from .names import path_of, shown, spoken, text_of
-from .script import Script, of
+from .script import Script, of, stays
 from .talk import Program
 from .trail import Trail
 
@@ -36,6 +36,7 @@ class Outcome(NamedTuple):
     event: str
     why: str
     change: Optional[Change] = None
+    in_place: bool = False
 
     def told(self, done: bool) -> str:
         """It in a line, with the answers below it."""
@@ -51,7 +52,7 @@ class Outcome(NamedTuple):
         if self.event == "saved" and self.change is not None:
             longer = self.change.longer
             size = "" if longer == 0 else f", and the file {'is' if done else 'would be'} {abs(longer):,} bytes {'longer' if longer > 0 else 'shorter'}"
-            return f"{self.change.differing:,} bytes {'changed' if done else 'would change'}{size}"
+            return f"{self.change.differing:,} bytes {'changed' if done else 'would change'}{', in place' if self.in_place else ''}{size}"
         words = {"refused": "refused, it stays as it is", "same": "nothing to change", "left": f"left: {self.why}", "failed": f"failed: {self.why}"}
         return words[self.event]
 
@@ -59,18 +60,24 @@ class Outcome(NamedTuple):
 class Plan(NamedTuple):
     """How a mend is done: its script, where it saves (``None``: over the files), where it keeps the old bytes.
 
-    With ``back`` the numbers that the script sets over are asked for, and kept.
+    With ``back`` the numbers that the script sets over are asked for, and kept. With ``in_place`` the changed bytes alone are written into
+    the files themselves, where that is possible.
     """
 
     script: Script
     folder: Optional[str]
     keep: Optional[str]
     back: bool
+    in_place: bool = False
 
     def target(self, one: Chosen) -> str:
         """Where a file is saved: over itself, or below the folder as it lies below the one that was scanned."""
         path = os.fsdecode(path_of(one.path))
         return path if self.folder is None else os.path.join(self.folder, path[one.root:].lstrip("/"))
+
+    def repairs(self, path: str, change: Change) -> bool:
+        """Whether a file is repaired in place: no trace moves, it gets no other length, and no other hard link is to keep the old bytes."""
+        return self.in_place and change.longer == 0 and stays(self.script) and os.stat(path).st_nlink == 1
 
 
 class Mend:
@@ -108,7 +115,8 @@ class Mend:
             return self._over(chosen, "failed", change.told or f"the program ended with status {change.status}", change)
         if change.after == change.before and self._plan.folder is None:
             return self._over(chosen, "same", "", change)
-        return Outcome(chosen.path, "saved", "", change) if self._trail is None else self._save(self._trail, chosen, target, change)
+        in_place = self._plan.repairs(os.fsdecode(path), change)
+        return Outcome(chosen.path, "saved", "", change, in_place) if self._trail is None else self._save(self._trail, chosen, target, change, in_place)
 
     def _left(self, path: bytes, chosen: Chosen, target: str) -> str:
         """Why a file is not even tried."""
@@ -122,12 +130,12 @@ class Mend:
             return CHANGED
         return f"there is a file {shown(target)}" if self._plan.folder is not None and os.path.lexists(target) else ""
 
-    def _save(self, trail: Trail, chosen: Chosen, target: str, change: Change) -> Outcome:
+    def _save(self, trail: Trail, chosen: Chosen, target: str, change: Change, in_place: bool) -> Outcome:
         """The save, between two rows of the trail: the first one has both digests, so that what stands there tells what was done."""
         path = os.fsdecode(path_of(chosen.path))
         if self._plan.folder is not None:
             os.makedirs(os.path.dirname(target), exist_ok=True)
-        kept = keep(self._maker, path, self._plan.keep, change) if self._plan.keep is not None else None
+        kept = keep(self._maker, path, self._plan.keep, change, in_place) if self._plan.keep is not None else None
         known = {
             "before_sha256": change.before, "after_sha256": change.after, "bytes_changed": change.differing + max(change.longer, 0), "kept": kept,
             "reverse": change.reverse.decode() if change.reverse is not None else None, "answers": change.text,
@@ -135,7 +143,7 @@ class Mend:
         name = text_of(os.fsencode(target))
         trail.add(self._number, chosen.path, name, "begun", **known)
         try:
-            status, told = self._maker.save(path, self._plan.script, target)
+            status, told = self._maker.save(path, self._plan.script, None if in_place else target)
             made = reading.digest(os.fsencode(target))
         except OSError as error:  # the row `begun` stays the last one, and is settled once the file can be read again
             return Outcome(chosen.path, "failed", f"whether it was saved is to be told by verify ({error.strerror or error})", change)
@@ -143,7 +151,7 @@ class Mend:
         trail.add(self._number, chosen.path, name, event, status=status, told=told or None, **known)
         if event == "saved" and self._again is not None:
             self._again(chosen.path)
-        return Outcome(chosen.path, event, told or f"the program ended with status {status}", change)
+        return Outcome(chosen.path, event, told or f"the program ended with status {status}", change, in_place)
 
     def _over(self, chosen: Chosen, event: str, why: str, change: Optional[Change]) -> Outcome:
         """Nothing is saved: the trail says why."""
@@ -154,12 +162,15 @@ class Mend:
         return Outcome(chosen.path, event, why, change)
 
 
-def keep(maker: Maker, path: str, folder: str, change: Change) -> str:
-    """Keeps the old bytes under their digest: a link, since a save leaves the old file where another name leads to it, or a copy."""
+def keep(maker: Maker, path: str, folder: str, change: Change, copied: bool) -> str:
+    """Keeps the old bytes under their digest: a link, since a save leaves the old file where another name leads to it, or a copy; always a copy of
+    a file that is going to be repaired in place."""
     kept = os.path.join(folder, change.before[:2], f"{change.before}.sgy")
     os.makedirs(os.path.dirname(kept), exist_ok=True)
     if reading.digest(os.fsencode(kept)) != change.before:
         try:
+            if copied:
+                raise OSError
             os.link(os.path.realpath(path), kept)  # of a link not itself, but the file that it leads to
         except OSError:
             status, told = maker.save(path, NOTHING, kept)

@@ -8,14 +8,19 @@ import sqlite3
 from contextlib import closing
 from typing import Any, Dict, Iterator, List
 
+from .. import program as programs
 from . import asking, schema, script, talk, verify
 from .change import Maker
 from .choose import Chosen, WrongCondition, chosen, one
 from .mend import Again, Mend, Outcome, Plan, clashing, counted, side_by_side, summary
 from .names import shown
 from .reading import limit_of
-from .trail import Lock, Run, Trail
+from .trail import CUT, Lock, Run, Trail
 from .words import Unwanted, source
+
+
+# How the files of a run are read, beside --fixed: each has a value.
+VALUED = ("order", "samples", "format", "texts")
 
 
 def mend(told: Any) -> int:
@@ -44,12 +49,16 @@ def _plan(told: Any) -> Plan:
         raise Unwanted("mend wants --over or --out, one of them")
     if told.keep is not None and not told.over:
         raise Unwanted("--keep is for --over: with --out the files stay as they are")
+    if told.in_place and not told.over:
+        raise Unwanted("--in-place is for --over: with --out the files stay as they are")
+    if told.in_place and not programs.knows("--recover"):
+        raise Unwanted("the program is older than a repair in place")
     with source(told.script) as file:
         made = script.of(file.read(script.MOST_BYTES + 1))
     if len(made.data) > script.MOST_BYTES:
         raise Unwanted(f"the script has more than {script.MOST_BYTES} bytes")
     folder, kept = (None if one is None else os.path.abspath(one) for one in (told.out, told.keep))
-    return Plan(made, folder, kept, told.over and kept is None and not told.go_on and script.all_sets(made))
+    return Plan(made, folder, kept, told.over and kept is None and not told.go_on and script.all_sets(made), told.in_place)
 
 
 def _taken_back(plan: Plan) -> str:
@@ -64,8 +73,14 @@ def _taken_back(plan: Plan) -> str:
 
 
 def _maker(told: Any, option: str, held: Any) -> Maker:
-    more = [*(["--fixed"] if told.fixed else []), *(["--order", told.order] if told.order else [])]
+    valued = {f"--{name}": getattr(told, name) for name in VALUED}
+    more = [*(["--fixed"] if told.fixed else []), *(word for name, value in valued.items() if value is not None for word in (name, str(value)))]
     return Maker(lambda size: [*asking.options(size, option), *more], not told.go_on, lambda size: limit_of(size, told.limit), held)
+
+
+def _options(told: Any) -> str:
+    """How a run is done, as the trail has it."""
+    return json.dumps({"fixed": told.fixed, **{name: getattr(told, name) for name in VALUED}, "go_on": told.go_on, "in_place": told.in_place})
 
 
 def _each(database: sqlite3.Connection, numbers: List[int]) -> Iterator[Chosen]:
@@ -92,7 +107,7 @@ def _applied(told: Any, plan: Plan, program: talk.Program, some: Iterator[Chosen
             trail = Trail(database)
             _settled(trail)
             maker = _maker(told, program.option, lock.descriptor)
-            options = json.dumps({"fixed": told.fixed, "order": told.order, "go_on": told.go_on})
+            options = _options(told)
             number = trail.begin(Run("mend", plan.script, told.where, options, plan.folder, plan.keep), program)
             again = Again(database, trail, number, program, told.limit) if plan.folder is None else None
             outcomes = _run(told, Mend(plan, maker, trail, number, again), some, True)
@@ -105,8 +120,9 @@ def _applied(told: Any, plan: Plan, program: talk.Program, some: Iterator[Chosen
 
 
 def _settled(trail: Trail) -> None:
+    said = {"saved": "it was saved", "left": "it is as it was", "cut": f"its repair was CUT OFF: {CUT}"}
     for path, event in trail.settle():
-        print(f"{shown(path)}: a run was killed here; {'it was saved' if event == 'saved' else 'it is as it was' if event == 'left' else 'it DIFFERS'}")
+        print(f"{shown(path)}: a run was killed here; {said.get(event, 'it DIFFERS')}")
 
 
 def verified(told: Any) -> int:
@@ -138,8 +154,10 @@ def undo(told: Any) -> int:
             trail = Trail(database)
             _settled(trail)
             run = _run_of(trail, told.run_number)
-            told.fixed, told.order, told.go_on = run["fixed"], run["order"], False
-            taken = verify.Undo(trail, _maker(told, program.option, lock.descriptor), told.run_number)
+            told.fixed, told.go_on, told.in_place = run["fixed"], False, run.get("in_place", False)
+            for name in VALUED:
+                setattr(told, name, run.get(name))
+            taken = verify.Undo(trail, _maker(told, program.option, lock.descriptor), told.run_number, told.in_place)
             steps = list(taken.steps(told.jobs or len(os.sched_getaffinity(0))))
             for step in steps:
                 print(f"{shown(step.path)}: {step.why or ('from the bytes that were kept' if step.kept else 'by the script of its old numbers')}")
@@ -167,7 +185,7 @@ def _run_of(trail: Trail, number: int) -> Dict[str, Any]:
 def _take_back(
     told: Any, database: sqlite3.Connection, trail: Trail, taken: verify.Undo, steps: List[verify.Step], program: talk.Program
 ) -> int:
-    options = json.dumps({"fixed": told.fixed, "order": told.order, "go_on": False})
+    options = _options(told)
     number = trail.begin(Run("undo", None, None, options, None, None, told.run_number), program)
     again = Again(database, trail, number, program, told.limit)
     done = 0

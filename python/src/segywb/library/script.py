@@ -5,7 +5,7 @@ from __future__ import annotations
 import hashlib
 from typing import List, NamedTuple, Optional, Tuple
 
-from ..lines import silent
+from ..lines import moving, silent
 
 MOST_BYTES = 16777216
 MOST_REVERSE = 1 << 20
@@ -36,6 +36,15 @@ def of(data: bytes) -> Script:
 def all_sets(script: Script) -> bool:
     """Whether each edit of it sets a number, so that the numbers of before take it back."""
     return len(script.data) <= MOST_REVERSE and all(_word(line) in _SETTING or _asks(line) for line in script.lines if not silent(line))
+
+
+def stays(script: Script) -> bool:
+    """Whether no line of it moves, adds, takes away or resizes traces, so that a file can be repaired in place by it.
+
+    >>> stays(of(b"set 5 inline 102\\n")), stays(of(b"# why\\ndelete 5\\n"))
+    (True, False)
+    """
+    return moving(script.data) is None
 
 
 def _word(line: bytes) -> bytes:

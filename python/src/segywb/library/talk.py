@@ -10,7 +10,7 @@ import time
 from typing import Any, Dict, Iterator, List, NamedTuple, Optional, Sequence
 
 from .. import program
-from ..errors import ProgramNotFound, hint_of
+from ..errors import ProgramNotFound, hint_of, read_with
 from .digests import Slow
 
 
@@ -159,7 +159,8 @@ class Talk:
         told = self._told()
         if text.startswith(("L01 ", "L16 ")):  # the system failed to read it, or gave no memory: nothing is said of the file
             return Trouble(f"{text} ({hint_of(text, told)})")
-        return LoadRefused(text, hint_of(text, told))
+        readings = [f"can be read with {words}" for words in read_with(told, self._name)]
+        return LoadRefused(text, "; ".join([one for one in (hint_of(text, told), *readings) if one]))
 
     def _ended(self) -> Exception:
         told = self._told().strip().replace(self._name, "it")

@@ -9,6 +9,7 @@ import sys
 import threading
 from typing import Any, Dict, List, NamedTuple, Optional, Tuple
 
+from ..repairs import journal_of
 from . import store
 from .names import path_of
 from .reading import digest
@@ -18,6 +19,7 @@ from .talk import Program
 
 _COLUMNS = ("mend", "at", "path", "target", "event", "before_sha256", "after_sha256", "bytes_changed", "status", "answers", "told", "kept", "reverse")
 _PUT = f"INSERT INTO trail ({', '.join(_COLUMNS)}) VALUES ({', '.join('?' * len(_COLUMNS))})"
+CUT = "`segywb FILE --recover` puts the old bytes back"
 _OPEN = "SELECT * FROM trail AS one WHERE event = 'begun' AND id = (SELECT max(id) FROM trail WHERE target = one.target AND mend = one.mend)"
 
 
@@ -87,7 +89,8 @@ class Trail:
             return [dict(zip(names, row)) for row in asked.fetchall()]
 
     def settle(self) -> List[Tuple[str, str]]:
-        """Saves of runs that were killed: what stands there now tells whether they were made. Each is told in the trail, by its path and event."""
+        """Saves of runs that were killed: what stands there now tells whether they were made. Each is told in the trail, by its path and event; of a
+        repair in place that was cut off ``cut``, and it is one that failed: who recovers the file brings back the bytes before it."""
         settled = []
         for row in self.rows(_OPEN):
             there = digest(path_of(row["target"]))
@@ -98,6 +101,7 @@ class Trail:
                 event, told = "left", "the run was killed before this save"
             else:
                 event, told = "failed", "the run was killed, and the file has other bytes than those before and behind the save"
-            self.add(row["mend"], row["path"], row["target"], event, told=told, **same)
-            settled.append((row["target"], event))
+            cut = event == "failed" and os.path.lexists(journal_of(path_of(row["target"])))
+            self.add(row["mend"], row["path"], row["target"], event, told=f"the run was killed, and its repair was cut off: {CUT}" if cut else told, **same)
+            settled.append((row["target"], "cut" if cut else event))
         return settled

@@ -6,13 +6,14 @@ import os
 from typing import Any, Dict, Iterator, List, NamedTuple, Optional, Tuple
 
 from ..errors import Error
+from ..repairs import journal_of
 from . import reading, script
 from .change import Maker, Moved
 from .digests import Slow
 from .mend import NOTHING, side_by_side
 from .names import path_of
 from .script import Script
-from .trail import Trail
+from .trail import CUT, Trail
 
 # The last thing that was done to each file. A file that was left, or whose mend failed before it was read, is what it was before that.
 _LAST = (
@@ -29,13 +30,14 @@ _LATER = (
 
 
 class Found(NamedTuple):
-    """A file of the trail: what it should be, and what it is. ``trouble`` says why it could not be read."""
+    """A file of the trail: what it should be, and what it is. ``trouble`` says why it could not be read, ``cut`` whether a repair was cut off."""
 
     target: str
     mend: int
     wanted: str
     is_now: Optional[str]
     trouble: str = ""
+    cut: bool = False
 
     @property
     def told(self) -> str:
@@ -44,6 +46,8 @@ class Found(NamedTuple):
             return f"could not be read: {self.trouble}"
         if self.is_now is None:
             return "is gone"
+        if self.cut:
+            return f"a repair of it was cut off: {CUT}"
         return "" if self.is_now == self.wanted else f"differs: the trail (run {self.mend}) has {self.wanted[:16]}.., the file {self.is_now[:16]}.."
 
 
@@ -66,7 +70,8 @@ def _last(trail: Trail) -> Iterator[Dict[str, Any]]:
 def _found(row: Dict[str, Any]) -> Found:
     wanted = row["after_sha256"] if row["event"] == "saved" else row["before_sha256"]
     try:
-        return Found(row["target"], row["mend"], wanted, reading.digest(path_of(row["target"])))
+        cut = os.path.lexists(journal_of(path_of(row["target"])))
+        return Found(row["target"], row["mend"], wanted, reading.digest(path_of(row["target"])), cut=cut)
     except OSError as error:
         return Found(row["target"], row["mend"], wanted, None, error.strerror or str(error))
 
@@ -85,10 +90,11 @@ class Step(NamedTuple):
 class Undo:
     """Takes a run back, file by file: only those whose bytes are still what it made of them."""
 
-    def __init__(self, trail: Trail, maker: Maker, number: int) -> None:
+    def __init__(self, trail: Trail, maker: Maker, number: int, in_place: bool = False) -> None:
         self._trail = trail
         self._maker = maker
         self._number = number
+        self._in_place = in_place
 
     def steps(self, jobs: int) -> Iterator[Step]:
         """What can be done, and what cannot. Nothing is written."""
@@ -131,7 +137,8 @@ class Undo:
             status, told = self._maker.save(_name(step.kept), NOTHING, _name(step.path))
         else:
             assert step.reverse is not None
-            status, told = self._maker.save(_name(step.path), step.reverse, _name(step.path))
+            name = _name(step.path)
+            status, told = self._maker.save(name, step.reverse, None if self._in_place and os.stat(name).st_nlink == 1 else name)
         done = reading.digest(path_of(step.path)) == step.before
         self._trail.add(run, step.path, step.path, "saved" if done else "failed", status=status, told=told or None, **known)
         return done, told

@@ -16,13 +16,31 @@ import * as table from "./table.js";
 // ---- what the server tells of itself
 
 let refusal = [];
+let told = "";
+let lookIsOpen = false;
 
 // A refused file: what the program says of it, and a button for each reading that takes it.
 function refused(status) {
   const offer = ({ words, traces, samples }) => make("button", { class: "reading", on: { click: () => read(words) } },
     `Read it ${words}`, make("span", { class: "hint" }, ` ${many(traces, "trace")} of ${many(samples, "sample")}`));
   refusal = [make("strong", {}, "The file is refused: "), make("code", {}, status.why)];
-  return [...refusal, make("p", {}, ...status.readings.map(offer), status.readings.length ? null : "No reading of the desk takes it.")];
+  return [...refusal, make("p", {}, ...status.readings.map(offer), status.readings.length ? null : "No reading of the desk takes it."),
+    status.look && status.look.length ? make("details", { id: "look", open: lookIsOpen, on: { toggle: (event) => { lookIsOpen = event.target.open; } } }, make("summary", {}, "What its head says, and its length"),
+      make("table", {}, make("tbody", {}, ...status.look.map(([name, value]) => make("tr", {}, make("th", { scope: "row" }, name), make("td", {}, value)))))) : null];
+}
+
+// A file of which a repair was cut off, and the button that undoes it.
+function cut(status) {
+  return [make("strong", {}, "A repair of this file was cut off. "), "It is neither the old file nor the edited one. The journal beside it has the old bytes. ", make("code", {}, status.why),
+    make("p", {}, make("button", { id: "recover", on: { click: recover } }, "Put the old bytes back"), make("span", { class: "hint" }, `by the journal of ${status.file}; then it is opened`),
+      status.edits ? make("a", { href: "edits.txt", download: "edits.txt" }, "Download the script") : null),
+    status.failed ? make("p", { id: "recover-said", class: "no-text" }, `Nothing was put back: ${status.failed}`) : null];
+}
+
+async function recover() {
+  at("recover").disabled = true;
+  const answer = await tell("recover", {}, "recover").catch(() => null);
+  if (answer) phase(answer);
 }
 
 async function read(words) {
@@ -36,6 +54,7 @@ const texts = {
     make("button", { id: "restart", on: { click: restart } }, "Start a new session with them"), make("a", { href: "edits.txt", download: "edits.txt" }, "Download the script")],
   changed: (status) => [make("strong", {}, `${status.why}. `), make("a", { href: "edits.txt", download: "edits.txt" }, "Download the script")],
   refused,
+  cut,
   gone: () => [...refusal, make("p", {}, make("strong", {}, "The desk has ended, or does not answer. "), "Start it again with the command segywb-desk.")],
 };
 
@@ -86,12 +105,17 @@ async function restart() {
 
 async function bar() {
   await part.state();
-  const { file, traces, edits, undoable, redoable, opaque, samples } = store.state;
+  const { file, traces, edits, undoable, redoable, opaque, samples, reading, declarable, recovered } = store.state;
   const cut = file.lastIndexOf("/") + 1;
   at("name").textContent = file.slice(cut);
   at("file").title = file;
   document.title = `${file.slice(cut)} – segywb desk`;
   at("summary").textContent = `${many(traces, "trace")} of ${many(samples, "sample")}, ${many(edits, "edit")}${opaque ? "; samples of this format have no values here" : ""}`;
+  at("reading").hidden = !reading;
+  at("reading-text").textContent = `read with ${reading}`;
+  at("declare").hidden = !declarable;
+  if (recovered && recovered !== told) command.answered(command.log("recovered"), { kind: "edit", text: recovered, more: 0 });
+  told = recovered;
   at("undo").disabled = !undoable;
   at("redo").disabled = !redoable;
   at("save").disabled = false;
@@ -135,6 +159,7 @@ async function start() {
   at("undo").addEventListener("click", () => back("undo"));
   at("redo").addEventListener("click", () => back("redo"));
   at("save").addEventListener("click", save.open);
+  at("declare").addEventListener("click", () => command.runLine("declare"));
   at("compare").addEventListener("change", () => { store.compare = at("compare").checked; refresh(); });
   document.addEventListener("keydown", keys);
   const events = new EventSource("events");

@@ -1,0 +1,274 @@
+"""The binary header, the texts, the samples and whole traces, of a ``Volume``."""
+
+from __future__ import annotations
+
+from contextlib import closing
+from typing import Any, List, Union
+
+from . import answers, arrays, lines
+from .answers import FloatStatistics, FloatTotals, Stanza, Statistics
+from .asked import FLOATS, NARROW
+from .engine import BATCH_LINES
+from .headers import Headers
+from .lines import Field, encode, number, position
+
+
+class Contents(Headers):
+    """A part of ``Volume``: all that its file holds."""
+
+    # ---- the binary header and texts
+
+    def getbin(self, name: Field) -> int:
+        """The number in the binary header.
+
+        >>> with segywb.open("cube.sgy") as v:
+        ...     v.getbin("interval"), v.getbin(segywb.BinField.Samples)
+        (4000, 5)
+        """
+        return self._value("getbin", lines.binary_field(name))
+
+    def set_bin(self, name: Field, value: int) -> None:
+        """Writes a number into the binary header.
+
+        >>> with segywb.open("cube.sgy") as v:
+        ...     v.set_bin("job", 77)
+        ...     v.getbin("job")
+        77
+        """
+        self._edit("bin", lines.binary_field(name), number(value))
+
+    @property
+    def text(self) -> List[str]:
+        """The 40 lines of the textual header, then those of the extended ones.
+
+        >>> with segywb.open("cube.sgy") as v:
+        ...     v.text[0], len(v.text)
+        ('C 1 EXAMPLE CUBE', 40)
+        """
+        return [line for block in range(self.info.blocks + 1) for line in self.lines(block)]
+
+    def text_block(self, block: int = 0) -> List[str]:
+        """The same as ``lines``.
+
+        >>> with segywb.open("cube.sgy") as v:
+        ...     v.text_block()[0]
+        'C 1 EXAMPLE CUBE'
+        """
+        return self.lines(block)
+
+    def lines(self, block: int = 0) -> List[str]:
+        """The 40 lines of a block: 0 is the textual header, 1 and up are the extended ones.
+
+        >>> with segywb.open("cube.sgy") as v:
+        ...     v.lines(0)[0], len(v.lines(0))
+        ('C 1 EXAMPLE CUBE', 40)
+        """
+        return answers.block(self._ask("lines", number(block)))
+
+    def line(self, block: int, at: int) -> str:
+        """Line ``at`` (1 to 40) of a block.
+
+        >>> with segywb.open("cube.sgy") as v:
+        ...     v.line(0, 1)
+        'C 1 EXAMPLE CUBE'
+        """
+        return answers.text(self._one("line", number(block), number(at)))
+
+    def set_text(self, at: int, text: str = "") -> None:
+        """Writes line ``at`` of the textual header.
+
+        >>> with segywb.open("cube.sgy") as v:
+        ...     v.set_text(3, "C 3 MENDED")
+        ...     v.line(0, 3)
+        'C 3 MENDED'
+        """
+        self._edit("text", number(at), *([lines.word(text)] if text else []))
+
+    def code(self, block: int = 0) -> str:
+        """``ebcdic`` or ``ascii``.
+
+        >>> with segywb.open("cube.sgy") as v:
+        ...     v.code()
+        'ebcdic'
+        """
+        return answers.name(self._one("code", number(block)), "code")
+
+    def stanzas(self) -> List[Stanza]:
+        """The stanzas of the extended textual headers.
+
+        >>> with segywb.open("cube.sgy") as v:
+        ...     v.stanzas()
+        []
+        """
+        return answers.stanzas(self._ask("stanzas"))
+
+    # ---- samples
+
+    def _kept_format(self) -> int:
+        """The sample format, which no edit changes."""
+        if self._format is None:
+            self._format = self.info.format
+        return self._format
+
+    @property
+    def has_floats(self) -> bool:
+        """Whether the samples are floats, with their values.
+
+        >>> with segywb.open("cube.sgy") as v:
+        ...     v.has_floats
+        False
+        >>> with segywb.open("wrong_floats.sgy") as v:
+        ...     v.has_floats
+        True
+        """
+        return self._asked_floats and self._kept_format() in FLOATS
+
+    @property
+    def sample_type(self) -> str:
+        """The numpy type that holds the samples: ``f4`` and ``f8`` of floats, ``u8`` of format 12, ``i8`` of all others.
+
+        >>> with segywb.open("cube.sgy") as v:
+        ...     v.sample_type
+        'i8'
+        >>> with segywb.open("wrong_floats.sgy") as v:
+        ...     v.sample_type
+        'f4'
+        """
+        if self.has_floats:
+            return "f4" if self._kept_format() == NARROW else "f8"
+        return "u8" if self._kept_format() == 12 else "i8"
+
+    def sample(self, trace: int, sample: int) -> Any:
+        """A sample of a trace: a whole number, or a float where the file has floats.
+
+        >>> with segywb.open("cube.sgy") as v:
+        ...     v.sample(1, 0)
+        11
+        >>> with segywb.open("wrong_floats.sgy") as v:
+        ...     v.sample(1, 0)
+        1.375
+        """
+        line = self._one("sample", position(trace), number(sample))
+        return answers.sample(line, self.sample_type == "f4") if self.has_floats else answers.number(line, "value")
+
+    def samples(self, trace: int) -> Any:
+        """All samples of a trace, as an array.
+
+        >>> with segywb.open("cube.sgy") as v:
+        ...     v.samples(1).tolist()
+        [11, 41, -101, 29, 0]
+        """
+        told = self.stat(trace)
+        count = told.samples if told else 0
+        first = f"sample {position(trace)} "
+        sent = ((encode("".join(f"{first}{k}\n" for k in range(at, min(at + BATCH_LINES, count)))), min(BATCH_LINES, count - at))
+                for at in range(0, count, BATCH_LINES))
+        with closing(self._engine.stream(sent)) as stream:
+            return self._numbers(b"".join(stream).replace(b"value ", b""), count)
+
+    def _numbers(self, data: bytes, count: int) -> Any:
+        """So many samples."""
+        if self.has_floats:
+            return arrays.floats(data, count, self.sample_type == "f4")
+        return arrays.parse(data, count, self.sample_type == "u8")
+
+    def stat(self, trace: int) -> Union[Statistics, FloatStatistics, None]:
+        """The samples of a trace; ``None`` where it has none. Of floats the sum is exact, and rounded once.
+
+        >>> with segywb.open("cube.sgy") as v:
+        ...     v.stat(1)
+        Statistics(least=-101, greatest=41, sum=-20, samples=5)
+        >>> with segywb.open("wrong_floats.sgy") as v:
+        ...     v.stat(1)
+        FloatStatistics(least=-12.625, greatest=5.125, sum=-2.5, samples=5, nans=0)
+        """
+        line = self._one("stat", position(trace))
+        return answers.float_statistics(line, self.sample_type == "f4") if self.has_floats else answers.statistics(line, "stat")
+
+    @property
+    def totals(self) -> Union[Statistics, FloatTotals, None]:
+        """The samples of all traces; ``None`` where there are none. Of floats there is no sum.
+
+        >>> with segywb.open("cube.sgy") as v:
+        ...     v.totals
+        Statistics(least=-103, greatest=44, sum=-114, samples=60)
+        """
+        line = self._one("totals")
+        return answers.float_totals(line, self.sample_type == "f4") if self.has_floats else answers.statistics(line, "totals")
+
+    def patch(self, trace: int, sample: int, values: Any) -> None:
+        """Writes the numbers over the samples from ``sample`` on, all or none. In a file of floats these may be floats, also of numpy.
+
+        >>> with segywb.open("cube.sgy") as v:
+        ...     v.patch(1, 3, [77, 78])
+        ...     v.samples(1).tolist()
+        [11, 41, -101, 77, 78]
+        """
+        if lines.single(values):
+            values = [values]
+        told = lines.decimals(values) if self.has_floats else list(map(str, lines.numbers(values)))
+        self._edit("patch", position(trace), number(sample), *told)
+
+    def declare(self) -> None:
+        """Writes what the reading says (``samples``, ``format``, ``texts`` and ``fixed`` of ``segywb.open``) into the binary header, so that the saved file is read without it.
+
+        >>> with segywb.open("cube.sgy", samples=5) as v:
+        ...     v.declare()
+        ...     v.edits
+        ['declare']
+        """
+        self._edit("declare")
+
+    def resize(self, trace: int, samples: int) -> None:
+        """Gives a trace that number of samples.
+
+        >>> with segywb.open("cube.sgy") as v:
+        ...     try:
+        ...         v.resize(1, 4)
+        ...     except segywb.Refused as refusal:  # each trace has as many samples as the binary header says
+        ...         refusal.code, refusal.text
+        ('E06', 'frame')
+        """
+        self._edit("resize", position(trace), number(samples))
+
+    # ---- whole traces
+
+    def blank(self, before: int) -> None:
+        """Puts a trace of zeros in front of a trace, or behind the last.
+
+        >>> with segywb.open("cube.sgy") as v:
+        ...     v.blank(1)
+        ...     len(v), v.get(1, "inline")
+        (13, 0)
+        """
+        self._edit("blank", position(before))
+
+    def copy(self, trace: int, before: int) -> None:
+        """Puts a copy of a trace in front of another, or behind the last.
+
+        >>> with segywb.open("cube.sgy") as v:
+        ...     v.copy(1, 13)
+        ...     len(v), v.get(13, "inline")
+        (13, 101)
+        """
+        self._edit("copy", position(trace), position(before))
+
+    def delete(self, trace: int) -> None:
+        """Takes a trace out.
+
+        >>> with segywb.open("twice.sgy") as v:
+        ...     v.delete(5)
+        ...     v.faults()
+        []
+        """
+        self._edit("delete", position(trace))
+
+    def move(self, trace: int, to: int) -> None:
+        """Takes a trace out and puts it in again, so that its position is ``to``.
+
+        >>> with segywb.open("cube.sgy") as v:
+        ...     v.move(12, 1)
+        ...     v.get(1, "crossline"), len(v)
+        (204, 12)
+        """
+        self._edit("move", position(trace), position(to))

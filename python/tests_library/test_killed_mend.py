@@ -1,5 +1,6 @@
 """Mends that are killed: each file is old or new, and the trail says which."""
 
+import fcntl
 import hashlib
 import os
 import random
@@ -106,6 +107,12 @@ def programs_of(number):
     return found
 
 
+def all_ended(database):
+    """Waits until the last program of a mend has ended: each holds the lock, and one that was killed may still be in a call of the system."""
+    with open(f"{database}-lock") as lock:
+        fcntl.flock(lock, fcntl.LOCK_EX)
+
+
 @pytest.mark.skipif(not program.knows("--recover"), reason="the program is older than a repair in place")
 def test_killed_in_place_with_its_programs(wrong, tmp_path):
     """The mend and its programs die at once, also in the middle of a repair: each file is old, new, or one that its journal makes old again."""
@@ -123,6 +130,7 @@ def test_killed_in_place_with_its_programs(wrong, tmp_path):
             except ProcessLookupError:
                 pass
         killed += mend.wait() == -signal.SIGKILL
+        all_ended(database)
         torn = sorted(folder.glob(".*.segywb-journal"))
         told = library("verify", "--db", database, status=1 if torn else 0)
         assert "DIFFERS" not in told and told.count("CUT OFF") <= len(torn)

@@ -105,20 +105,25 @@ def test_the_command_line(room, tmp_path):
     assert "older than a repair in place" in library(*words, SEGYWB=str(older), status=2)
 
 
-def test_a_repair_that_was_cut_off(room, monkeypatch):
+INLINES = [(at, b"f") for at in (4791, 5041, 5291, 5541)]  # the last bytes of the inlines of the traces 5 to 8, which the script makes 102
+
+
+@pytest.mark.parametrize("written", [[(4791, b"e")], INLINES[:2], INLINES], ids=["no byte", "half of them", "all of them"])
+def test_a_repair_that_was_cut_off(room, monkeypatch, written):
     """The power goes while bytes are written: the trail says so, and who recovers the file brings back what the trail has."""
     path = room.folder / "wrong_line.sgy"
     before = contents(room.folder)
 
     def cut(self, name, script, target):
         assert target is None
-        files.torn(path, [(4790, b"\0\0\0\x66")])
+        files.torn(path, written)
         raise KeyboardInterrupt
 
     with monkeypatch.context() as patch:
         patch.setattr(change.Maker, "save", cut)
         room.mend(FIX, "name = 'wrong_line.sgy'", "--over", "--in-place", "--apply", status=130)
-    assert contents(room.folder)[path] != before[path] and room.events(1) == []
+    assert (digest(path) == before[path]) == (len(written) == 1) and room.events(1) == []
+    assert (digest(path) == digest(TOP / "examples" / "cube.sgy")) == (written == INLINES)
     told = library("verify", "--db", room.db, status=1).splitlines()
     assert told == [
         f"{path}: a run was killed here; its repair was CUT OFF: `segywb FILE --recover` puts the old bytes back",
@@ -131,7 +136,7 @@ def test_a_repair_that_was_cut_off(room, monkeypatch):
     library("scan", "--db", room.db, room.folder, status=1)
     told = rows(room.db, "SELECT state, trouble FROM file WHERE name = 'wrong_line.sgy'")
     assert told[0][0] == "failed" and "an earlier repair was cut off" in told[0][1]
-    assert segywb.recover(path) == segywb.Recovered(4, 1)
+    assert segywb.recover(path) == segywb.Recovered(len(written), len(written))
     assert contents(room.folder) == before
     assert library("verify", "--db", room.db) == "1 files are what the trail says, 0 are not\n"
     settle()

@@ -95,13 +95,14 @@ class Trail:
         for row in self.rows(_OPEN):
             there = digest(path_of(row["target"]))
             same = {name: row[name] for name in ("before_sha256", "after_sha256", "bytes_changed", "kept", "reverse", "answers")}
-            if there == row["after_sha256"]:
+            if os.path.lexists(journal_of(path_of(row["target"]))):  # also where all bytes are written: who recovers it brings the old ones back
+                event, told = "cut", f"the run was killed, and its repair was cut off: {CUT}"
+            elif there == row["after_sha256"]:
                 event, told = "saved", "the run was killed behind this save"
             elif there is None or there == row["before_sha256"]:
                 event, told = "left", "the run was killed before this save"
             else:
                 event, told = "failed", "the run was killed, and the file has other bytes than those before and behind the save"
-            cut = event == "failed" and os.path.lexists(journal_of(path_of(row["target"])))
-            self.add(row["mend"], row["path"], row["target"], event, told=f"the run was killed, and its repair was cut off: {CUT}" if cut else told, **same)
-            settled.append((row["target"], "cut" if cut else event))
+            self.add(row["mend"], row["path"], row["target"], "failed" if event == "cut" else event, told=told, **same)
+            settled.append((row["target"], event))
         return settled

@@ -22,6 +22,7 @@ look revision 1.0
 look format 5
 look interval 2000
 look samples 1500
+look wide_samples 0
 look fixed 1
 look texts -1
 look extensions 0

@@ -16,7 +16,7 @@ LOOK = "--look"
 class Look(NamedTuple):
     """What the head of a file says, and what its length says.
 
-    ``order`` is ``told`` by the file, ``asked`` for or ``assumed``, which ``by`` says. What stands behind are the numbers of the fields, whatever was asked
+    ``order`` is ``told`` by the file, ``asked`` for or ``assumed``, or the constant says that pairs of bytes are ``swapped``, which ``by`` says. What stands behind are the numbers of the fields, whatever was asked
     for. A trace with the format, number of samples and number of header extensions that are asked for, or said by the fields, has ``trace_bytes``; ``traces``
     of these fill what stands behind the head, and ``rest`` bytes are left. Each is ``None`` where it cannot be told.
     """
@@ -28,6 +28,7 @@ class Look(NamedTuple):
     format: int
     interval: int
     samples: int
+    wide_samples: int
     fixed: int
     texts: int
     extensions: int
@@ -86,7 +87,7 @@ def read(answers: str) -> Look:
         traces, rest = (said["traces"][0], said["traces"][2]) if said["traces"][0] != "none" else ("none", "none")
         return Look(
             int(said["bytes"][0]), order, by, said["revision"][0], int(said["format"][0]), int(said["interval"][0]), int(said["samples"][0]),
-            int(said["fixed"][0]), int(said["texts"][0]), int(said["extensions"][0]), int(said["trailer"][0]), int(said["first_trace"][0]),
+            int(said["wide_samples"][0]), int(said["fixed"][0]), int(said["texts"][0]), int(said["extensions"][0]), int(said["trailer"][0]), int(said["first_trace"][0]),
             _known(said["trace_bytes"][0]), _known(traces), _known(rest),
         )
     except (KeyError, ValueError, IndexError):

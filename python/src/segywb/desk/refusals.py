@@ -17,7 +17,7 @@ DECLARED = ("fixed", "samples", "format", "texts")
 # The names of what a look tells, as the page has them.
 LOOKED = {
     "bytes": "bytes of the file", "order": "byte order", "revision": "revision", "format": "format of the samples", "interval": "interval, microseconds",
-    "samples": "samples of a trace", "fixed": "fixed length flag", "texts": "extended textual headers", "extensions": "header extensions",
+    "samples": "samples of a trace", "wide_samples": "samples of a trace, wide", "fixed": "fixed length flag", "texts": "extended textual headers", "extensions": "header extensions",
     "trailer": "data trailer records", "first_trace": "place of the first trace", "trace_bytes": "bytes of such a trace",
     "traces": "such traces in the file", "rest": "bytes left behind them",
 }

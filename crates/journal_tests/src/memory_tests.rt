@@ -6,7 +6,8 @@ use journal_save::{
 use std::alloc::Global;
 use std::test::Fail;
 
-// The journal of a file of one byte, 7, with inode 11 and born 7 ns after 1970 began, as Python's struct and hashlib make it.
+// The journal of a file of one byte, 7, with inode 11 and born 7 ns after 1970 began, as Python's
+// struct and hashlib make it.
 const JOURNAL: [u8; 73] = [
     83, 69, 71, 89, 87, 66, 74, 76, 2, 0, 0, 0, 0, 0, 0, 0, 1, 0, 0, 0, 0, 0, 0, 0, 11, 0, 0, 0, 0,
     0, 0, 0, 7, 0, 0, 0, 0, 0, 0, 0, 0, 0, 0, 0, 0, 0, 0, 0, 1, 0, 0, 0, 0, 0, 0, 0, 7, 54, 16, 53,

@@ -95,8 +95,8 @@ unfit() {
         else tell "$1 $way" "status $got: $(cat errors)"; fi
     done
 }
-new_one='is a new one, or has another length (a trace was inserted, copied or resized)'
-elsewhere='stood elsewhere in it (a trace was moved, sorted or deleted)'
+new_one='is a new one, or has another length (one was inserted, copied or resized)'
+elsewhere='stood elsewhere in it (one was moved, sorted or deleted)'
 unfit 'a blank trace' "trace 2 $new_one" 'blank 2'
 unfit 'a copy at the end' "trace 4 $new_one" 'copy 1 4'
 unfit 'a copy in the place of a trace' "trace 3 $new_one" 'copy 3 3' 'delete 4'
@@ -401,6 +401,213 @@ wait $running
 got=$?
 cp first.err errors
 check 'the first saves' is 0 '' whole.sgy
+
+# ---- sessions: each line `save` repairs FILE
+# ask LINE: what the session RUN answers
+ask() { echo "$1" >&"${RUN[1]}"; read -r -t 20 told <&"${RUN[0]}"; read -r -t 20 empty <&"${RUN[0]}"; }
+# begins WORD..: a session over FILE
+begins() {
+    runs=$((runs + 1))
+    coproc RUN { "$program" $own --session --in-place "$@" 2> errors; }
+    run=$RUN_PID
+}
+# ends: the session has no more lines
+ends() { eval "exec ${RUN[1]}>&-"; wait "$run"; got=$?; }
+# saves NAME FILE LINE..: FILE is, behind each `save` of these lines, what a save with --out of all lines before it is
+saves() {
+    local name=$1 file=$2 line number outcome=ok count=0
+    shift 2
+    rm -rf room
+    mkdir room
+    cp "$file" $own
+    number=$(stat -c %i $own)
+    : > before
+    begins
+    for line in "$@"; do
+        ask "$line"
+        if [ "$line" = save ]; then
+            count=$((count + 1))
+            "$program" "$file" --script before --out wanted.sgy > wanted.txt 2> wanted.err
+            { [ "$told" = "saved $(wc -c < "$file")" ] && cmp -s wanted.sgy $own && alone; } || outcome="save $count: $told, $(cmp wanted.sgy $own 2>&1)"
+        else
+            [ "$told" = ok ] || outcome="$line: $told"
+            echo "$line" >> before
+            [ $count = 0 ] || cmp -s wanted.sgy $own || outcome="$line: FILE changed"
+        fi
+    done
+    ends
+    [ $got = 0 ] && [ ! -s errors ] && [ "$(stat -c %i $own)" = "$number" ] || outcome="status $got: $(cat errors)"
+    tell "a session: $name" "$outcome"
+}
+saves 'a number, another, and the old one again' s.sgy 'set 2 @189:4 7' save 'set 2 @189:4 8' save save 'set 2 @189:4 10' save 'set 3 @189:4 1' save
+saves 'the textual header, and the old one again' s.sgy 'text 3 repaired' save "text 3 $(head -c 240 s.sgy | tail -c 80 | iconv -f EBCDIC-US -t ASCII 2> /dev/null | sed 's/ *$//')" save 'set 1 @1:4 9' save
+saves 'the binary header, and the old number again' s.sgy 'bin interval 2000' save 'set 1 @5:4 3' 'bin interval 4000' save
+saves 'traces that are where they were again' s.sgy 'set 1 inline 4' save 'move 1 3' 'set 2 inline 9' 'move 3 1' save 'set 1 inline 100' save
+saves 'a new trace that is gone again' s.sgy 'set 1 inline 4' save 'copy 1 4' 'delete 4' 'set 1 inline 100' save
+saves 'samples' s.sgy 'patch 2 0 7 8' save 'patch 2 0 3' 'patch 3 1 5' save 'patch 2 1 4' save
+saves 'runs that grow together, behind saves' s.sgy 'set 1 @17:4 9' save 'set 1 @21:4 1' 'set 1 @20:1 5' save 'set 1 @1:8 -2' save
+saves 'no edit' s.sgy save save
+for file in x.sgy t.sgy v.sgy deep.sgy ended.sgy ebcdic.sgy tail.sgy; do saves "of each framing: $file" $file 'set 1 @1:4 9' 'set 1 @240:1 1' save 'set 1 @1:4 10' save 'set 1 @1:4 9' save; done
+saves 'a file without traces' none.sgy 'text 1 none' save 'text 1 none at all' save
+
+# edits that need a new file are told, nothing is written, and the session goes on
+cp s.sgy $own
+begins
+ask 'set 1 inline 7'; ask save
+cp $own first.sgy
+outcome=ok
+for line in 'move 1 2' 'copy 1 4' 'delete 4'; do ask "$line"; [ "$told" = ok ] || outcome="$line: $told"; done
+ask save
+[ "$told" = 'refused S08 save failed after 0 bytes' ] && cmp -s first.sgy $own && alone || outcome="$told"
+ask 'move 1 2'; ask 'set 3 inline 8'; ask save
+[ "$told" = 'saved 4332' ] || outcome="then: $told"
+ends
+printf '%s\n' "$nothing_saved" "segywb: $own: trace 1 $elsewhere; that needs a new file: save with --out, without --in-place" | cmp -s - errors || outcome="told: $(cat errors)"
+[ $got = 1 ] || outcome="status $got"
+printf 'set 1 inline 7\nset 3 inline 8\n' > lines
+"$program" s.sgy --script lines --out wanted.sgy > wanted.txt
+cmp -s wanted.sgy $own && alone || outcome='FILE is another'
+tell 'a save that needs a new file, and one behind it' "$outcome"
+
+# FILE is locked for as long as the session lasts, and other changes of it are seen, also behind a save
+cp s.sgy $own
+begins
+ask 'set 1 inline 7'; ask save
+runs --script script --in-place
+check 'another repair waits' [ $got = 4 ]
+"$program" s.sgy --script script --out $own > answers 2> others
+[ "$? $(tail -n 1 others)" = "4 segywb: $own: a repair of it is under way; wait for its end" ] && tell 'and a save over FILE' ok || tell 'and a save over FILE' "$(cat others)"
+runs --script script
+check 'a query is answered' [ $got = 0 ]
+sleep 0.1
+touch $own
+cp $own first.sgy
+ask 'set 1 inline 8'; ask save
+[ "$told" = 'refused S08 save failed after 0 bytes' ] && cmp -s first.sgy $own && alone && tell 'FILE that another program touched is not written' ok || tell 'FILE that another program touched is not written' "$told"
+ends
+{ [ $got = 1 ] && grep -q '^segywb: FILE was changed by another program$' errors; } && tell 'and that is told' ok || tell 'and that is told' "status $got: $(cat errors)"
+cp s.sgy $own
+printf 'set 1 inline 7\nsave\nset 1 inline 8\nset 2 @189:4 7\n' > lines
+"$program" $own --session --in-place --save-at-end < lines > answers 2> errors
+got=$?
+printf 'set 1 inline 8\nset 2 @189:4 7\n' > lines
+"$program" s.sgy --script lines --out wanted.sgy > wanted.txt
+check 'a save at the end' is 0 '' wanted.sgy
+cp s.sgy $own
+printf 'set 2 @189:4 7\nsave\n' > lines
+"$program" $own --session --on-disk --in-place < lines > answers 2> errors
+got=$?
+[ "$(cat answers)" = "$(printf 'ok\n\nrefused S07 no out\n')" ] && is 1 '' s.sgy && tell 'on disk a line save is S07' ok || tell 'on disk a line save is S07' "status $got: $(cat answers errors)"
+printf 'set 2 @189:4 7\n' > lines
+"$program" $own --session --on-disk --in-place --save-at-end < lines > answers 2> errors
+got=$?
+check 'and the end repairs' is 0 '' whole.sgy
+cp s.sgy $own
+printf 'set 2 @189:4 7\nsave\nset 2 @189:4 8' > lines
+"$program" $own --session --in-place --save-at-end < lines > answers 2> errors
+got=$?
+check 'a last line that is cut off saves nothing' is 1 '' whole.sgy
+
+# each call fails in turn: FILE is what the last `saved` says, or is recovered to it, or what the save that a power cut may undo wrote
+printf 'set 2 @189:4 7\nsave\nset 1 @189:4 9\nset 2 @189:4 10\nsave\nset 3 @189:4 1\nsave\n' > lines
+head -n 1 lines > before
+"$program" s.sgy --script before --out held.1 > answers
+head -n 4 lines | grep set > before
+"$program" s.sgy --script before --out held.2 > answers
+grep set lines > before
+"$program" s.sgy --script before --out held.3 > answers
+cp s.sgy held.0
+# saves_in_turn CALL LEAST [VARIABLE=VALUE]..
+saves_in_turn() {
+    local call=$1 least=$2 n k last outcome=ok answer
+    for n in $(seq 80); do
+        rm -rf done room
+        mkdir room
+        cp s.sgy $own
+        runs=$((runs + 1))
+        env $library FAIL_CALL=$call FAIL_NTH=$n DONE=done "${@:3}" "$program" $own --session --in-place < lines > answers 2> errors
+        got=$?
+        [ -e done ] || break
+        last=0 k=0
+        while read -r answer; do
+            case $answer in
+                saved*) k=$((k + 1)); last=$k ;;
+                'refused S08'*' 4332 bytes') k=$((k + 1)); cmp -s held.$k $own && last=$k ;;
+                'refused S08'*) k=$((k + 1)) ;;
+            esac
+        done < answers
+        if [ -e $journal ]; then
+            "$program" $own --recover > answers 2> others || outcome="call $n: not recovered: $(cat others)"
+            { [ $last -gt 0 ] && cmp -s held.$((last - 1)) $own; } || cmp -s held.$last $own || outcome="call $n: recovered to another file"
+        else
+            cmp -s held.$last $own || outcome="call $n: FILE is not save $last: $(head -c 200 errors)"
+        fi
+        alone || outcome="call $n left $(ls -A room)"
+    done
+    [ $((n - 1)) -ge "$least" ] || outcome="only $((n - 1)) calls of $call"
+    tell "$call of a session fails in turn ${*:3}" "$outcome"
+}
+for how in '' FAIL_ALL=1 FAULT=28; do
+    saves_in_turn write 1 $how
+    saves_in_turn pread 3 $how
+    saves_in_turn pwrite 3 $how
+    saves_in_turn fsync 12 $how
+    saves_in_turn rename 3 $how
+    saves_in_turn unlink 4 $how
+    saves_in_turn fstat 3 $how
+    saves_in_turn stat 3 $how
+done
+# a save that was cut off half-way is the last
+rm -rf room
+mkdir room
+cp s.sgy $own
+env $library FAIL_CALL=pwrite FAIL_NTH=2 FAIL_ALL=1 DONE=done "$program" $own --session --in-place < lines > answers 2> errors
+got=$?
+[ "$got $(grep -c '^refused S08 save failed after 0 bytes$' answers)" = '1 2' ] && [ -e $journal ] && grep -q "^segywb: $own: an earlier save of this session did not come to its end; " errors && tell 'a save behind one that was cut off' ok || tell 'a save behind one that was cut off' "status $got: $(cat answers errors)"
+runs --recover
+check 'is not made, and a recovery gives the last one' is 0 '' held.1
+# each growth of memory is refused in turn
+outcome=ok
+for ((n = 1; n < 500; n++)); do
+    runs=$((runs + 1))
+    rm -rf room
+    mkdir room
+    cp s.sgy $own
+    env LD_PRELOAD=./refuse_growth.so REFUSE=$n REFUSE_COUNT=count "$program" $own --session --in-place < lines > answers 2> errors
+    got=$?
+    alone || outcome="growth $n left $(ls -A room)"
+    # an edit that was refused for want of memory is not in the file
+    grep -q '^refused E11' answers || case $(grep -c '^saved' answers) in
+        3) cmp -s held.3 $own || outcome="growth $n: FILE is another" ;;
+        0) cmp -s held.0 $own || outcome="growth $n: FILE is another" ;;
+        *) cmp -s held.1 $own || cmp -s held.2 $own || cmp -s held.3 $own || outcome="growth $n: FILE is another" ;;
+    esac
+    [ "$(cat count 2> /dev/null || echo 0)" -ge "$n" ] || break
+done
+[ "$n" -gt 5 ] && [ "$n" -lt 500 ] || outcome="$n growths"
+tell 'each growth of a session is refused in turn' "$outcome"
+
+# ---- a journal of a file that is gone: FILE was made anew, and got its inode
+# born_at HEX: the journal is one of a file that was made at this time, in nanoseconds since 1970, the lowest byte first
+born_at() {
+    head -c -16 kept > $journal
+    put $journal 32 "$1"
+    printf "$(md5sum < $journal | head -c 32 | sed 's/../\\x&/g')" >> $journal
+}
+leaves_journal
+cp $journal kept
+if [ "$(stat -c %W $own)" -gt 0 ] 2> /dev/null; then
+    born_at 0100000000000000
+    runs --recover
+    [ $got = 3 ] && grep -q 'it is a journal of a file that is gone, and FILE was made anew since; nothing was written$' errors && cmp -s whole.sgy $own && tell 'a journal of a file that is gone' ok || tell 'a journal of a file that is gone' "status $got: $(cat errors)"
+else
+    echo 'left out: a file whose time of birth is told, which this file system does not'
+fi
+born_at 0000000000000000
+runs --recover
+check 'a journal of a file system that did not tell when FILE was made' is 0 '' s.sgy
+rm -rf room
+mkdir room
 
 # ---- a kill at any moment of a repair and of its recovery
 { head -c 3600 s.sgy; head -c 3844 s.sgy | tail -c 244; } > large.sgy

@@ -288,8 +288,8 @@ grep -q '^segywb: FILE was changed by another program$' errors && tell 'and that
 # to FILE itself, a pipe and a device that takes nothing
 cp s.sgy own.sgy
 printf 'set 2 @189:4 7\nsave\nset 2 @189:4 8\nsave\n' > lines
-expect 'a session saves beside OUT alone' 2 '' 'segywb: --in-place is for a script; a session saves with --out\n' own.sgy --session --out own.sgy --in-place
-cmp -s s.sgy own.sgy && tell 'and FILE is as it was' ok || tell 'and FILE is as it was' 'it is not'
+expect 'in place, and --out leads to FILE' 0 'ok\n\nsaved 4332\n\nok\n\nsaved 4332\n\n' '' own.sgy --session --out own.sgy --in-place
+changed 'FILE has the last edit' s.sgy own.sgy '4036 12 10;'
 mkfifo pipe
 cat pipe > piped &
 printf 'set 2 @189:4 7\nsave\n' | "$program" s.sgy --session --out pipe > answers 2> errors

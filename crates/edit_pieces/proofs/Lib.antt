@@ -1,3 +1,4 @@
 pub mod LaidLemmas
 pub mod RunLemmas
 pub mod Law
+pub mod FurtherLemmas

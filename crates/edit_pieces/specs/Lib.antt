@@ -4,6 +4,8 @@ pub mod Pieces
 pub mod Spans
 pub mod RunsLeft
 pub mod Walks
+pub mod Further
+pub mod FurtherWalk
 pub mod PiecesLeft
 pub mod Told
 pub mod Examples

@@ -1,9 +1,6 @@
 -- What is told of a volume's edits: their pieces, or why they have none.
 use Rattle.std.specs.Prelude.{ℕ, ◌≡◌, List, Result, Ok, Err, Some, None}
 use Rattle.trace_store.specs.declared.store.TraceStore.{TraceStore}
-use Rattle.edit_overlay.specs.CountedVolume.{CountedVolume}
-use Rattle.edit_overlay.specs.Held.{volume_with, HasEnds}
-use Rattle.edit_overlay.specs.Standings.{loaded_in}
 use Rattle.edit_pieces.specs.InPlace.{unfit_of}
 use Rattle.edit_pieces.specs.Pieces.{pieces_of}
 use Rattle.edit_pieces.specs.Walks.{Walk}
@@ -13,11 +10,3 @@ use Rattle.edit_pieces.specs.declared.unfit.Unfit.{Unfit}
 abbrev pub IsTold : {T : Type 0} → List ℕ → List ℕ → TraceStore T → Result Walk Unfit → Type 0
 IsTold text bin s (Ok walk) = (unfit_of s ≡ None) × (walk.all ≡ pieces_of text bin s)
 IsTold text bin s (Err unfit) = unfit_of s ≡ Some unfit
-
--- the same of a volume, of a store that holds its traces over the loaded bytes
-pub record IsToldOf {T : Type 0} (o : CountedVolume T) (r : Result Walk Unfit) : Type 0 where
-  pub store : TraceStore T
-  pub volume : volume_with o.volume.text o.volume.bin store ≡ o.volume
-  pub loaded : loaded_in store.loaded ≡ o.loaded
-  pub ends : HasEnds store
-  pub told : IsTold o.volume.text o.volume.bin store r

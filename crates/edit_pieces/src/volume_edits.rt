@@ -2,19 +2,19 @@
 ghost use Rattle.std.specs.Prelude.{◌≡◌, ◌+◌, ◌≤◌, length, false, IfOk};
 ghost use Rattle.frame_cut.specs.Volume.{bytes_of};
 ghost use Rattle.journal_save.specs.Disk.{laid_all};
+ghost use Rattle.journal_save.specs.Walking.{IsNext};
 ghost use Rattle.edit_overlay.specs.Held.{volume_with, HasEnds};
 ghost use Rattle.edit_pieces.specs.Changes.{header_left};
 ghost use Rattle.edit_pieces.specs.Pieces.{pieces_of, ArePiecesOf};
-ghost use Rattle.edit_pieces.specs.Told.{IsTold, IsToldOf};
+ghost use Rattle.edit_pieces.specs.Told.{IsTold};
 
 use crate::change::Change;
 use crate::in_place::unfit_in;
 use crate::runs_walk::RunsWalk;
 use crate::unfit::Unfit;
 use base_file::Held;
-use edit_overlay::Overlay;
 use frame_cut::BINARY_HEADER_BYTES;
-use journal_codes::Head;
+use journal_codes::{Head, PIECE_ROOM};
 use journal_save::Edits;
 use std::marker::Model;
 use std::mem;
@@ -49,23 +49,10 @@ impl<'a, T: Copy> Model for VolumeEdits<'a, T> {
     ghost invariant = { IsWalk };
 }
 
-/// The pieces of a volume's edits, none of which was given yet. Refused where the edits did not
-/// leave the order, the number and the lengths of the traces as they were, with the first trace
-/// that is not at its place. Goes over the traces once; takes no memory, reads no bytes of the file
-/// and looks at no trace. An overlay does not show how it holds its traces: `edits_over` says more.
-pub fn edits_of<'a, T: Copy>(overlay: &'a Overlay<T>) -> Result<VolumeEdits<'a, T>, Unfit>
-    ensures law { IfOk result (λ edits. laid_all edits.all overlay.now.loaded.bytes
-        ≡ bytes_of overlay.now.volume) }
-    ensures inside { IfOk result
-        (λ edits. ArePiecesOf (length overlay.now.loaded.bytes) edits.all) }
-    ensures begun { IfOk result (λ edits. edits.left ≡ edits.all) }
-    ensures told { IsToldOf overlay.now result }
-{
-    edits_over(overlay.text(), overlay.bin(), overlay.store())
-}
-
-/// The same of a volume whose headers and traces are at hand, so that the first trace that is not
-/// at its place is told of them.
+/// The pieces of the edits of a volume with these headers and traces, none of which was given yet.
+/// Refused where the edits did not leave the order, the number and the lengths of the traces as
+/// they were, with the first trace that is not at its place. Goes over the traces once; takes no
+/// memory, reads no bytes of the file and looks at no trace.
 pub fn edits_over<'a, T: Copy>(
     text: &'a [u8; TEXT_BLOCK_BYTES],
     bin: &'a [u8; BINARY_HEADER_BYTES],
@@ -107,6 +94,29 @@ impl<'a, T: Copy> VolumeEdits<'a, T> {
             traces: RunsWalk::new(store),
         }
     }
+
+    // Begins a walk.
+    pub(crate) fn begin(&mut self)
+        ensures all { self.new.all ≡ self.old.all }
+        ensures left { self.new.left ≡ self.old.all }
+    {
+        *self = VolumeEdits::new(self.text, self.bin, self.store);
+    }
+
+    // The next piece, whose bytes begin the room, if there is one.
+    pub(crate) fn next(&mut self, room: &mut [u8]) -> Option<Head>
+        requires { length room.old ≡ PIECE_ROOM }
+        ensures all { self.new.all ≡ self.old.all }
+        ensures piece { IsNext result room.new self.old.left self.new.left }
+    {
+        if self.current.bytes.is_empty() {
+            self.current = mem::replace(&mut self.header, Change::none());
+        }
+        if self.current.bytes.is_empty() {
+            self.current = self.traces.next()?;
+        }
+        Some(self.current.give(room))
+    }
 }
 
 // A header at its place, without its bytes where the file has them there.
@@ -136,19 +146,10 @@ impl<T: Copy> Edits for VolumeEdits<'_, T> {
     ghost failed = { λ edits. false };
 
     fn rewind(&mut self) {
-        *self = VolumeEdits::new(self.text, self.bin, self.store);
+        self.begin();
     }
 
     fn next_piece(&mut self, room: &mut [u8]) -> std::io::Result<Option<Head>> {
-        if self.current.bytes.is_empty() {
-            self.current = mem::replace(&mut self.header, Change::none());
-        }
-        if self.current.bytes.is_empty() {
-            match self.traces.next() {
-                Some(change) => self.current = change,
-                None => return Ok(None),
-            }
-        }
-        Ok(Some(self.current.give(room)))
+        Ok(self.next(room))
     }
 }

@@ -1,12 +1,12 @@
 -- What a journal lists is read again.
-use Rattle.std.proofs.Common.{◌≡◌, ℕ, zero, suc, ◌+◌, ◌-◌, ◌^◌, ◌<◌, ◌≤◌, List, [], ◌∷◌, ◌++◌, length, take, drop, refl, sym, ◌∙◌, ap, subst, arith}
+use Rattle.std.proofs.Common.{◌≡◌, true, ℕ, zero, suc, ◌+◌, ◌-◌, ◌^◌, ◌<◌, ◌≤◌, List, [], ◌∷◌, ◌++◌, length, take, drop, refl, sym, ◌∙◌, ap, subst, arith}
 use Rattle.std.proofs.lemmas.List.{get_or-take, drop-take, length-append, take_at, drop_at}
 use Rattle.std.proofs.lemmas.Nat.{from_le_bytes-to_le_bytes_8}
 use Rattle.md5.specs.Md5.{md5, digest_bytes}
 use Rattle.journal_codes.specs.declared.file_facts.FileFacts.{FileFacts}
 use Rattle.journal_codes.specs.declared.journal_fault.JournalFault.{JournalFault}
-use Rattle.journal_codes.specs.declared.journal_fault.JournalFault.TheVariants.{NoJournal, OtherVersion, OtherLength, OtherFile, Broken}
-use Rattle.journal_codes.specs.Codes.{Span, number, number_in, HasFront, LacksFront, IsRefusedAs, front, piece, pieces, body, journal, Fits, AllFit, AreSmall, place_in, size_in, span_in, IsPiece, spans_from, ArePieces, without_end, IsReadAgain}
+use Rattle.journal_codes.specs.declared.journal_fault.JournalFault.TheVariants.{NoJournal, OtherVersion, OtherLength, OtherFile, OtherBirth, Broken}
+use Rattle.journal_codes.specs.Codes.{Span, number, number_in, may_be_birth, HasBirth, HasFront, LacksFront, IsRefusedAs, front, piece, pieces, body, journal, Fits, AllFit, AreSmall, place_in, size_in, span_in, IsPiece, spans_from, ArePieces, without_end, IsReadAgain}
 
 pub number_in-number : (n : ℕ) (rest : List ℕ) → n < 2 ^ 64 → number_in (number n ++ rest) ≡ n
 unfolding number_in
@@ -92,6 +92,10 @@ pub length-md5 : (m : List ℕ) → length (md5 m) ≡ 16
 unfolding md5 digest_bytes
 length-md5 m = refl
 
+-- a file is made when it is made
+same_birth : (n : ℕ) → may_be_birth n n ≡ true
+same_birth n = grind arith
+
 module _ (f : FileFacts) (ss : List Span) where
   pub length-journal : length (journal f ss) ≡ length (body f ss) + 16
   length-journal = length-append (body f ss) (md5 (body f ss)) ∙ ap (λ (n : ℕ). length (body f ss) + n) (length-md5 (body f ss))
@@ -105,11 +109,11 @@ module _ (f : FileFacts) (ss : List Span) where
   pub drop-journal : drop (length (journal f ss) - 16) (journal f ss) ≡ md5 (body f ss)
   drop-journal = drop_at (body f ss) (md5 (body f ss)) (length (journal f ss) - 16) at_end
 
-  pub drop-body : drop 32 (body f ss) ≡ pieces ss
+  pub drop-body : drop 40 (body f ss) ≡ pieces ss
   drop-body = refl
 
-  listed : drop 32 (without_end (journal f ss)) ≡ pieces ss
-  listed = ap (drop 32) without_end-journal
+  listed : drop 40 (without_end (journal f ss)) ≡ pieces ss
+  listed = ap (drop 40) without_end-journal
 
   pub read_again : AreSmall f → AllFit f ss → IsReadAgain f ss
   unfolding number_in
@@ -119,9 +123,10 @@ module _ (f : FileFacts) (ss : List Span) where
           long = omega (arith, length-journal, length-append (front f) (pieces ss));
           front = (
             refl,
-            number_in-number 1 (drop 16 (journal f ss)) (omega arith),
+            number_in-number 2 (drop 16 (journal f ss)) (omega arith),
             number_in-number f.length (drop 24 (journal f ss)) small.length,
             number_in-number f.inode (drop 32 (journal f ss)) small.inode,
+            ap (λ (n : ℕ). may_be_birth n f.birth) (number_in-number f.birth (drop 40 (journal f ss)) small.birth) ∙ same_birth f.birth,
           );
           whole = record {
             pieces = subst (λ (l : List ℕ). ArePieces f.length 0 l) (sym listed) read.0;
@@ -152,20 +157,24 @@ pub size_in-front : (bs : List ℕ) → size_in (take 16 bs) ≡ size_in bs
 size_in-front bs = ap number_in (drop-take 8 8 bs) ∙ number_in-take 8 (drop 8 bs) (omega arith)
 
 -- the front of a journal, read alone
-pub number_at-front : (k : ℕ) (bs : List ℕ) → k + 8 ≤ 32 → number_in (drop k (take 32 bs)) ≡ number_in (drop k bs)
+pub number_at-front : (k : ℕ) (bs : List ℕ) → k + 8 ≤ 40 → number_in (drop k (take 40 bs)) ≡ number_in (drop k bs)
 number_at-front k bs le =
-    let rest : 32 ≡ k + (32 - k) = omega arith in
-    ap (λ (n : ℕ). number_in (drop k (take n bs))) rest ∙ ap number_in (drop-take k (32 - k) bs) ∙ number_in-take (32 - k) (drop k bs) (omega arith)
+    let rest : 40 ≡ k + (40 - k) = omega arith in
+    ap (λ (n : ℕ). number_in (drop k (take n bs))) rest ∙ ap number_in (drop-take k (40 - k) bs) ∙ number_in-take (40 - k) (drop k bs) (omega arith)
 
-pub HasFront-front : (f : FileFacts) (bs : List ℕ) → HasFront f (take 32 bs) → HasFront f bs
+birth_at-front : (f : FileFacts) (bs : List ℕ) → HasBirth f (take 40 bs) → HasBirth f bs
+birth_at-front f bs h = ap (λ (n : ℕ). may_be_birth n f.birth) (sym (number_at-front 32 bs (omega arith))) ∙ h
+
+pub HasFront-front : (f : FileFacts) (bs : List ℕ) → HasFront f (take 40 bs) → HasFront f bs
 HasFront-front f bs front = (
   sym (number_at-front 0 bs (omega arith)) ∙ front.0,
   sym (number_at-front 8 bs (omega arith)) ∙ front.1,
   sym (number_at-front 16 bs (omega arith)) ∙ front.2,
   sym (number_at-front 24 bs (omega arith)) ∙ front.3,
+  birth_at-front f bs front.4,
 )
 
-pub LacksFront-front : (f : FileFacts) (bs : List ℕ) (fault : JournalFault) → LacksFront f (take 32 bs) fault → LacksFront f bs fault
+pub LacksFront-front : (f : FileFacts) (bs : List ℕ) (fault : JournalFault) → LacksFront f (take 40 bs) fault → LacksFront f bs fault
 LacksFront-front f bs NoJournal lacks = λ h. lacks (number_at-front 0 bs (omega arith) ∙ h)
 LacksFront-front f bs OtherVersion lacks = (sym (number_at-front 0 bs (omega arith)) ∙ lacks.0, λ h. lacks.1 (number_at-front 8 bs (omega arith) ∙ h))
 LacksFront-front f bs OtherLength lacks = (sym (number_at-front 0 bs (omega arith)) ∙ lacks.0, sym (number_at-front 8 bs (omega arith)) ∙ lacks.1, λ h. lacks.2 (number_at-front 16 bs (omega arith) ∙ h))
@@ -175,12 +184,20 @@ LacksFront-front f bs OtherFile lacks = (
   sym (number_at-front 16 bs (omega arith)) ∙ lacks.2,
   λ h. lacks.3 (number_at-front 24 bs (omega arith) ∙ h),
 )
+LacksFront-front f bs OtherBirth lacks = (
+  sym (number_at-front 0 bs (omega arith)) ∙ lacks.0,
+  sym (number_at-front 8 bs (omega arith)) ∙ lacks.1,
+  sym (number_at-front 16 bs (omega arith)) ∙ lacks.2,
+  sym (number_at-front 24 bs (omega arith)) ∙ lacks.3,
+  λ h. lacks.4 (ap (λ (n : ℕ). may_be_birth n f.birth) (number_at-front 32 bs (omega arith)) ∙ h),
+)
 LacksFront-front f bs Broken lacks = lacks
 
 -- a journal whose front lacks nothing is refused for what follows, and else for that
-pub refused_front : (f : FileFacts) (bs : List ℕ) (fault : JournalFault) → 48 ≤ length bs → LacksFront f bs fault → IsRefusedAs f bs fault
+pub refused_front : (f : FileFacts) (bs : List ℕ) (fault : JournalFault) → 56 ≤ length bs → LacksFront f bs fault → IsRefusedAs f bs fault
 refused_front f bs NoJournal long lacks = (long, lacks)
 refused_front f bs OtherVersion long lacks = (long, lacks)
 refused_front f bs OtherLength long lacks = (long, lacks)
 refused_front f bs OtherFile long lacks = (long, lacks)
+refused_front f bs OtherBirth long lacks = (long, lacks)
 refused_front f bs Broken long lacks = absurd lacks

@@ -16,6 +16,9 @@ pub enum JournalFault {
     /// It is of a file with another inode.
     #[error("it is a journal of another file")]
     OtherFile,
+    /// It is of a file that was made at another time: FILE was made anew since.
+    #[error("it is a journal of a file that is gone, and FILE was made anew since")]
+    OtherBirth,
     /// Bytes of it are missing or changed: it is too short, a piece does not end or lies outside
     /// FILE, or its digest is another.
     #[error("it is cut or rotten")]

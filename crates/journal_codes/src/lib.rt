@@ -1,9 +1,9 @@
 //! The bytes of a journal: what a file had where a repair is going to write.
 //!
-//! A journal has a front of 32 bytes (a mark, a version, and the length and the inode of the file),
-//! then its pieces (place, length, bytes), and at its end the MD5 digest of all that is before. The
-//! file's device is not in it: its number may be another one once the system has started again, and
-//! that is when a journal is needed.
+//! A journal has a front of 40 bytes (a mark, a version, and the length, the inode and the time
+//! of birth of the file), then its pieces (place, length, bytes), and at its end the MD5 digest of
+//! all that is before. The file's device is not in it: its number may be another one once the
+//! system has started again, and that is when a journal is needed.
 //!
 //! `front_of` and `head_of` write, `front_fault` and `head_in` read, and none of them
 //! takes memory. `what_is_listed_is_read` is the law of the round trip.

@@ -33,17 +33,17 @@ pub record IsPuttingBack (file from end : ℕ) (back : PutBack) (d e : Disk) : T
 abbrev pub IsReadyBack : ℕ → ℕ → Disk → Type 0
 IsReadyBack file size d = IsGuarded d.now × IsThere file size d.now
 
-start_one : (file size : ℕ) (d : Disk) (j : Option Journal) → d.now.journal ≡ j → 48 ≤ size → file ≡ length d.now.file → Has size j → IsSynced j → IsTaken (facts_of d.now) j → IsGuarded d.now
-    → (ArePieces file 0 (drop 32 (take (size - 16) (bytes_of j)))) × (listed_in j ≡ spans_from 0 (drop 32 (take (size - 16) (bytes_of j)))) × (size - 16 ≤ length (bytes_of j)) × (let s : Option Journal = j in s ≡ Some (record { bytes = bytes_of j; synced = true }))
+start_one : (file size : ℕ) (d : Disk) (j : Option Journal) → d.now.journal ≡ j → 56 ≤ size → file ≡ length d.now.file → Has size j → IsSynced j → IsTaken (facts_of d.now) j → IsGuarded d.now
+    → (ArePieces file 0 (drop 40 (take (size - 16) (bytes_of j)))) × (listed_in j ≡ spans_from 0 (drop 40 (take (size - 16) (bytes_of j)))) × (size - 16 ≤ length (bytes_of j)) × (let s : Option Journal = j in s ≡ Some (record { bytes = bytes_of j; synced = true }))
 start_one file size d None is long file_is has synced taken guarded = absurd has
 start_one file size d (Some j) is long file_is has synced taken guarded = (
-  subst (λ (n : ℕ). ArePieces n 0 (drop 32 (take (size - 16) j.bytes))) (sym file_is) (subst (λ (n : ℕ). ArePieces (length d.now.file) 0 (drop 32 (take (n - 16) j.bytes))) (sym has) taken.whole.pieces),
-  ap (λ (n : ℕ). spans_from 0 (drop 32 (take (n - 16) j.bytes))) (sym has),
+  subst (λ (n : ℕ). ArePieces n 0 (drop 40 (take (size - 16) j.bytes))) (sym file_is) (subst (λ (n : ℕ). ArePieces (length d.now.file) 0 (drop 40 (take (n - 16) j.bytes))) (sym has) taken.whole.pieces),
+  ap (λ (n : ℕ). spans_from 0 (drop 40 (take (n - 16) j.bytes))) (sym has),
   omega (arith, has),
   ap (λ b. Some (record { bytes = j.bytes; synced = b })) synced,
 )
 
-back_start : (file size : ℕ) (d : Disk) → 48 ≤ size → IsReadyBack file size d → IsPuttingBack file 32 (size - 16) (record { pieces = 0; bytes = 0 }) d d
+back_start : (file size : ℕ) (d : Disk) → 56 ≤ size → IsReadyBack file size d → IsPuttingBack file 40 (size - 16) (record { pieces = 0; bytes = 0 }) d d
 back_start file size d long ready =
     let one = start_one file size d d.now.journal refl long ready.1.0 ready.1.1 ready.0.recoverable.synced ready.0.taken ready.0 in
     let w = written_start (listed_in d.now.journal) d ready.0 in record {
@@ -54,8 +54,8 @@ back_start file size d long ready =
       shown = one.3;
     }
 
-pub back_init : (a : Option Disk) (file size : ℕ) → 48 ≤ size → Known a (IsReadyBack file size) → Over (IsPuttingBack file 32 (size - 16) (record { pieces = 0; bytes = 0 })) a a
-back_init a file size long ready = over_start (IsReadyBack file size) (IsPuttingBack file 32 (size - 16) (record { pieces = 0; bytes = 0 })) a ready (λ d r. back_start file size d long r)
+pub back_init : (a : Option Disk) (file size : ℕ) → 56 ≤ size → Known a (IsReadyBack file size) → Over (IsPuttingBack file 40 (size - 16) (record { pieces = 0; bytes = 0 })) a a
+back_init a file size long ready = over_start (IsReadyBack file size) (IsPuttingBack file 40 (size - 16) (record { pieces = 0; bytes = 0 })) a ready (λ d r. back_start file size d long r)
 
 count_on : (given : List Span) (s : Span) (back next : PutBack) → IsCount given back → next.pieces ≡ back.pieces + 1 → next.bytes ≡ back.bytes + length s.1 → IsCount (given ++ s ∷ []) next
 count_on given s back next count one more = record {

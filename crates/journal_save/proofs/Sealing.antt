@@ -6,7 +6,7 @@ use Rattle.md5.specs.declared.Md5.{Md5}
 use Rattle.journal_codes.specs.Codes.{Span, number, front, piece, body, journal, Fits, AllFit, AreSmall, IsJournal}
 use Rattle.journal_codes.specs.declared.file_facts.FileFacts.{FileFacts}
 use Rattle.journal_codes.proofs.Reading.{read_again}
-use Rattle.journal_save.specs.Disk.{Range, range_of, facts_of, laid, laid_all, IsFree, IsSame, Journal, State, Disk, StandsFor, IsDurable, IsRead, Flushes, step, Over, Known, Does, May, Turns, grown_by, with_synced, unlisted, half_unlisted, settled, same_state, created, appended, journal_synced, journal_lost, published, half_published}
+use Rattle.journal_save.specs.Disk.{Range, Identity, range_of, facts_of, laid, laid_all, IsFree, IsSame, Journal, State, Disk, StandsFor, IsDurable, IsRead, Flushes, step, Over, Known, Does, May, Turns, grown_by, with_synced, unlisted, half_unlisted, settled, same_state, created, appended, journal_synced, journal_lost, published, half_published}
 use Rattle.journal_save.specs.Saving.{ranges, listed_in, IsSynced, IsTaken, old_of, IsGuarded, IsSettled, IsSettling, WasFree, IsAsItWas, AsItWasOr, IsQuiet, Since, LeavesOnly, IsEither, IsUntouched, fresh_journal, IsMaking, IsOld, IsListing, IsGuarding}
 use Rattle.journal_save.proofs.Laid.{same_all, laid_all-push, laid_own}
 use Rattle.journal_save.proofs.Moments.{over_then, over_knows, over_map, over_known, known_both, known_map, since_none, since_step, since_more, stand_map, stands_map, guarded_stands}
@@ -257,7 +257,7 @@ pub record IsReady (rs : List Range) (d e : Disk) : Type 0 where
   pub ranges_are : ranges (listed_in e.now.beside) ≡ rs
 
 facts_same : (d e : State) → e.file ≡ d.file → e.identity ≡ d.identity → facts_of d ≡ facts_of e
-facts_same d e file identity = ap (λ (x : List ℕ). facts_of (record d { file = x })) (sym file) ∙ ap (λ (x : ℕ). facts_of (record d { file = e.file; identity = x })) (sym identity)
+facts_same d e file identity = ap (λ (x : List ℕ). facts_of (record d { file = x })) (sym file) ∙ ap (λ (x : Identity). facts_of (record d { file = e.file; identity = x })) (sym identity)
 
 ready_one : (rs : List Range) (d e : Disk) → IsListing rs d e → IsReady rs d (step journal_synced e)
 ready_one rs d e l =

@@ -99,12 +99,12 @@ module _ (file from end : ℕ) (bytes front : List ℕ) (head : Head) (long : le
 -- a walk over a journal has come to this place, and the hasher took in what is before
 pub record IsWalked (file from end : ℕ) (bytes : List ℕ) (old new : Md5) : Type 0 where
   pub seen : List ℕ
-  pub rest : seen ++ drop from (take end bytes) ≡ drop 32 (take end bytes)
+  pub rest : seen ++ drop from (take end bytes) ≡ drop 40 (take end bytes)
   pub held : (m : List ℕ) → Holds old m → Holds new (m ++ seen)
-  pub on : ArePieces file 0 (drop from (take end bytes)) → ArePieces file 0 (drop 32 (take end bytes))
-  pub back : ArePieces file 0 (drop 32 (take end bytes)) → ArePieces file 0 (drop from (take end bytes))
+  pub on : ArePieces file 0 (drop from (take end bytes)) → ArePieces file 0 (drop 40 (take end bytes))
+  pub back : ArePieces file 0 (drop 40 (take end bytes)) → ArePieces file 0 (drop from (take end bytes))
 
-pub walked_start : (file end : ℕ) (bytes : List ℕ) (hasher : Md5) → IsWalked file 32 end bytes hasher hasher
+pub walked_start : (file end : ℕ) (bytes : List ℕ) (hasher : Md5) → IsWalked file 40 end bytes hasher hasher
 walked_start file end bytes hasher = record {
   seen = [];
   rest = refl;
@@ -148,19 +148,19 @@ walked_on file from next end bytes room listed old hasher new w l is held =
 pub at_end : (from end : ℕ) (bytes : List ℕ) → end ≤ from → drop from (take end bytes) ≡ []
 at_end from end bytes le = drop_all from (take end bytes) (omega (arith, length-take end bytes))
 
-pub walked_end : (file from end : ℕ) (bytes : List ℕ) (old new : Md5) → end ≤ from → IsWalked file from end bytes old new → AreTaken file (drop 32 (take end bytes)) old new
+pub walked_end : (file from end : ℕ) (bytes : List ℕ) (old new : Md5) → end ≤ from → IsWalked file from end bytes old new → AreTaken file (drop 40 (take end bytes)) old new
 walked_end file from end bytes old new le w =
     let none = at_end from end bytes le in record {
       pieces = w.on (subst (ArePieces file 0) (sym none) (ArePieces-nil file));
       held = λ m h. subst (λ (x : List ℕ). Holds new (m ++ x)) (sym (append-nil w.seen) ∙ ap (λ (x : List ℕ). w.seen ++ x) (sym none) ∙ w.rest) (w.held m h);
     }
 
-pub walked_lost : (error : RecoverError) (file from end : ℕ) (bytes : List ℕ) (old new : Md5) → from < end → end ≤ length bytes → IsWalked file from end bytes old new → IsUnlisted error file (drop from (take end bytes)) → AreUnlisted error file (drop 32 (take end bytes))
+pub walked_lost : (error : RecoverError) (file from end : ℕ) (bytes : List ℕ) (old new : Md5) → from < end → end ≤ length bytes → IsWalked file from end bytes old new → IsUnlisted error file (drop from (take end bytes)) → AreUnlisted error file (drop 40 (take end bytes))
 walked_lost (Refused fault) file from end bytes old new lt le w lost = (lost.0, λ are. lost.1 (first_piece file (drop from (take end bytes)) (omega (arith, length_rest from end bytes le)) (w.back are)).0)
 walked_lost (Failed error) file from end bytes old new lt le w lost = tt
 
 -- the front and the end of a journal of so many bytes
-front_of : (bytes front : List ℕ) → length front ≡ 32 → IsPart 0 front bytes → front ≡ take 32 bytes
+front_of : (bytes front : List ℕ) → length front ≡ 40 → IsPart 0 front bytes → front ≡ take 40 bytes
 front_of bytes front long part = part.1 ∙ ap (λ (n : ℕ). take n bytes) long
 
 digest_at : (end : ℕ) (bytes digest : List ℕ) → end + 16 ≡ length bytes → length digest ≡ 16 → IsPart end digest bytes → digest ≡ drop end bytes
@@ -170,11 +170,11 @@ pub end_is : (end : ℕ) (bytes : List ℕ) → end + 16 ≡ length bytes → le
 end_is end bytes is = omega arith
 
 -- all of a journal was taken into a hasher
-pub journal_held : (file end : ℕ) (bytes front : List ℕ) (start old new : Md5) → end + 16 ≡ length bytes → 32 ≤ end → length front ≡ 32 → IsPart 0 front bytes → Holds start [] → ((m : List ℕ) → Holds start m → Holds old (m ++ front)) → AreTaken file (drop 32 (take end bytes)) old new → Holds new (take end bytes)
+pub journal_held : (file end : ℕ) (bytes front : List ℕ) (start old new : Md5) → end + 16 ≡ length bytes → 40 ≤ end → length front ≡ 40 → IsPart 0 front bytes → Holds start [] → ((m : List ℕ) → Holds start m → Holds old (m ++ front)) → AreTaken file (drop 40 (take end bytes)) old new → Holds new (take end bytes)
 journal_held file end bytes front start old new is le long part none first taken =
-    subst (Holds new) (ap (λ (x : List ℕ). x ++ drop 32 (take end bytes)) (front_of bytes front long part ∙ sym (take-take 32 end bytes le)) ∙ take-append-drop 32 (take end bytes)) (taken.held front (first [] none))
+    subst (Holds new) (ap (λ (x : List ℕ). x ++ drop 40 (take end bytes)) (front_of bytes front long part ∙ sym (take-take 40 end bytes le)) ∙ take-append-drop 40 (take end bytes)) (taken.held front (first [] none))
 
-module _ (facts : FileFacts) (size end : ℕ) (bytes front : List ℕ) (size_is : size ≡ length bytes) (is : end + 16 ≡ size) (le : 32 ≤ end) (long : length front ≡ 32) (part : IsPart 0 front bytes) where
+module _ (facts : FileFacts) (size end : ℕ) (bytes front : List ℕ) (size_is : size ≡ length bytes) (is : end + 16 ≡ size) (le : 40 ≤ end) (long : length front ≡ 40) (part : IsPart 0 front bytes) where
   ends : end + 16 ≡ length bytes
   ends = is ∙ size_is
 
@@ -190,11 +190,11 @@ module _ (facts : FileFacts) (size end : ℕ) (bytes front : List ℕ) (size_is 
   not_whole : (IsWhole facts bytes → ⊥) → HasFront facts front → IsRefusedAs facts bytes Broken
   not_whole no' has = inr (front_has has, no')
 
-  pub pieces_lack : (error : RecoverError) → HasFront facts front → AreUnlisted error facts.length (drop 32 (take end bytes)) → IsRefusal error facts bytes
-  pieces_lack (Refused fault) has lack = subst (IsRefusedAs facts bytes) (sym lack.0) (not_whole (λ w. lack.1 (subst (λ (n : ℕ). ArePieces facts.length 0 (drop 32 (take n bytes))) cut w.pieces)) has)
+  pub pieces_lack : (error : RecoverError) → HasFront facts front → AreUnlisted error facts.length (drop 40 (take end bytes)) → IsRefusal error facts bytes
+  pieces_lack (Refused fault) has lack = subst (IsRefusedAs facts bytes) (sym lack.0) (not_whole (λ w. lack.1 (subst (λ (n : ℕ). ArePieces facts.length 0 (drop 40 (take n bytes))) cut w.pieces)) has)
   pieces_lack (Failed error) has lack = tt
 
-  module _ (digest computed : List ℕ) (start old new : Md5) (digest_long : length digest ≡ 16) (digest_part : IsPart end digest bytes) (none : Holds start []) (first : (m : List ℕ) → Holds start m → Holds old (m ++ front)) (taken : AreTaken facts.length (drop 32 (take end bytes)) old new) (made : (m : List ℕ) → Holds new m → computed ≡ md5 m) where
+  module _ (digest computed : List ℕ) (start old new : Md5) (digest_long : length digest ≡ 16) (digest_part : IsPart end digest bytes) (none : Holds start []) (first : (m : List ℕ) → Holds start m → Holds old (m ++ front)) (taken : AreTaken facts.length (drop 40 (take end bytes)) old new) (made : (m : List ℕ) → Holds new m → computed ≡ md5 m) where
     computed_is : computed ≡ md5 (take end bytes)
     computed_is = made (take end bytes) (journal_held facts.length end bytes front start old new ends le long part none first taken)
 
@@ -206,7 +206,7 @@ module _ (facts : FileFacts) (size end : ℕ) (bytes front : List ℕ) (size_is 
       long = omega (arith, ends);
       front = front_has has;
       whole = record {
-        pieces = subst (λ (n : ℕ). ArePieces facts.length 0 (drop 32 (take n bytes))) (sym cut) taken.pieces;
+        pieces = subst (λ (n : ℕ). ArePieces facts.length 0 (drop 40 (take n bytes))) (sym cut) taken.pieces;
         digest = subst (λ (n : ℕ). drop n bytes ≡ md5 (take n bytes)) (sym cut) (sym (digest_at end bytes digest ends digest_long digest_part) ∙ same ∙ computed_is);
       };
     }

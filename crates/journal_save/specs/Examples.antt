@@ -15,7 +15,7 @@ laid_all-back = refl
 
 -- a file with no journal
 abbrev pub at_rest : State
-at_rest = record { identity = 11; file = 1 ∷ 2 ∷ 3 ∷ []; loose = []; writes = []; beside = None; journal = None; may_leave = None ∷ [] }
+at_rest = record { identity = (11, 7); file = 1 ∷ 2 ∷ 3 ∷ []; loose = []; writes = []; beside = None; journal = None; may_leave = None ∷ [] }
 
 abbrev pub note : Option Journal
 note = Some (record { bytes = 5 ∷ []; synced = true })

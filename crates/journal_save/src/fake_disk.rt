@@ -231,6 +231,7 @@ impl Disk for FakeDisk {
         FileFacts {
             length: 1,
             inode: 11,
+            birth: 7,
         }
     }
 

@@ -81,9 +81,9 @@ fn check_pieces<D: Disk>(
     requires inside { FRONT_BYTES ≤ end }
     ensures same { D.disk disk.new ≡ D.disk disk.old }
     ensures taken { OnOk result ((bytes : List ℕ) → Shows (D.disk disk.old) bytes
-        → end ≤ length bytes → AreTaken file (drop 32 (take end bytes)) hasher.old hasher.new) }
+        → end ≤ length bytes → AreTaken file (drop 40 (take end bytes)) hasher.old hasher.new) }
     ensures refused { IfErr result (λ error. (bytes : List ℕ) → Shows (D.disk disk.old) bytes
-        → end ≤ length bytes → AreUnlisted error file (drop 32 (take end bytes))) }
+        → end ≤ length bytes → AreUnlisted error file (drop 40 (take end bytes))) }
     ensures cause { MatchResult result (λ _. D.failed disk.new ≡ D.failed disk.old)
         (λ error. TellsFailure error (D.failed disk.old) (D.failed disk.new)) }
 {
@@ -106,7 +106,7 @@ pub(crate) fn check<D: Disk>(
 ) -> Result<(), RecoverError>
     requires room { length room.old ≡ PIECE_ROOM }
     ensures same { D.disk disk.new ≡ D.disk disk.old }
-    ensures long { OnOk result (48 ≤ size) }
+    ensures long { OnOk result (56 ≤ size) }
     ensures taken { OnOk result ((bytes : List ℕ) → Shows (D.disk disk.old) bytes
         → size ≡ length bytes → IsJournal facts bytes) }
     ensures refused { IfErr result (λ error. (bytes : List ℕ) → Shows (D.disk disk.old) bytes

@@ -51,7 +51,7 @@ fn put_back<D: Disk>(
     room: &mut [u8],
 ) -> Result<PutBack, RecoverError>
     requires room { length room.old ≡ PIECE_ROOM }
-    requires long { 48 ≤ size }
+    requires long { 56 ≤ size }
     requires guarded { Known (D.disk disk.old) (λ d. IsGuarded d.now × IsThere file size d.now) }
     ensures count { IfOk result (λ back. Over (λ d e. IsCount (listed_in d.now.journal) back)
         (D.disk disk.old) (D.disk disk.new)) }

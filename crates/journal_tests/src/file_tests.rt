@@ -150,3 +150,35 @@ fn nothing_is_written_past_the_end_or_behind_a_change(rt: HostRuntime) -> Result
     fs::remove_file(&rt, path)?;
     Ok(())
 }
+
+#[test]
+fn a_journal_of_a_file_that_is_gone_is_refused(rt: HostRuntime) -> Result<(), Fail> {
+    let alloc = rt.alloc();
+    let path = "gone.tmp";
+    fs::write(&rt, path, b"01##456789")?;
+    let mut room = vec![in alloc; 0; PIECE_ROOM]?;
+    let mut disk = FileDisk::open(&rt, path, None)?;
+    let facts = disk.facts();
+    // A file system that does not tell it has nothing to refuse.
+    if facts.birth < 2 {
+        fs::remove_file(&rt, path)?;
+        return Ok(());
+    }
+    let other = FileFacts {
+        birth: facts.birth ^ 1,
+        ..facts
+    };
+    fs::write(&rt, ".gone.tmp.segywb-journal", &journal(alloc, other)?)?;
+    let refused = recover(&mut disk, &mut room);
+    assert!(rt;
+        matches!(
+            refused,
+            Err(RecoverError::Refused(JournalFault::OtherBirth))
+        )
+    );
+    assert_eq!(rt; fs::read(&rt, path)?.as_slice(), b"01##456789".as_slice());
+    assert!(rt; has_journal(&rt, path)?);
+    fs::remove_file(&rt, ".gone.tmp.segywb-journal")?;
+    fs::remove_file(&rt, path)?;
+    Ok(())
+}

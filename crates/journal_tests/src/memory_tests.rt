@@ -6,11 +6,12 @@ use journal_save::{
 use std::alloc::Global;
 use std::test::Fail;
 
-// The journal of a file of one byte, 7, with inode 11, as Python's struct and hashlib make it.
-const JOURNAL: [u8; 65] = [
-    83, 69, 71, 89, 87, 66, 74, 76, 1, 0, 0, 0, 0, 0, 0, 0, 1, 0, 0, 0, 0, 0, 0, 0, 11, 0, 0, 0, 0,
-    0, 0, 0, 0, 0, 0, 0, 0, 0, 0, 0, 1, 0, 0, 0, 0, 0, 0, 0, 7, 255, 5, 98, 30, 178, 165, 97, 216,
-    223, 253, 47, 20, 210, 255, 74, 150,
+// The journal of a file of one byte, 7, with inode 11 and born 7 ns after 1970 began, as Python's
+// struct and hashlib make it.
+const JOURNAL: [u8; 73] = [
+    83, 69, 71, 89, 87, 66, 74, 76, 2, 0, 0, 0, 0, 0, 0, 0, 1, 0, 0, 0, 0, 0, 0, 0, 11, 0, 0, 0, 0,
+    0, 0, 0, 7, 0, 0, 0, 0, 0, 0, 0, 0, 0, 0, 0, 0, 0, 0, 0, 1, 0, 0, 0, 0, 0, 0, 0, 7, 54, 16, 53,
+    166, 149, 94, 229, 147, 181, 54, 96, 3, 25, 192, 15, 50,
 ];
 
 // The byte 9 is to go to place 0.
@@ -24,9 +25,9 @@ fn edits(alloc: Global) -> Result<Vec<Piece>, Fail> {
 }
 
 // A journal of these bytes, which is cut to so many of them.
-fn note(bytes: [u8; 65], count: usize) -> Note {
+fn note(bytes: [u8; 73], count: usize) -> Note {
     let mut all = [0; 80];
-    all[..65].copy_from_slice(&bytes);
+    all[..73].copy_from_slice(&bytes);
     Note {
         bytes: all,
         count,
@@ -113,8 +114,8 @@ fn a_save_that_is_cut_off_leaves_its_journal(rt: HostRuntime) -> Result<(), Fail
         )
     );
     let journal = disk.now.journal.ok_or("no journal")?;
-    assert_eq!(rt; journal.count, 65);
-    assert_eq!(rt; journal.bytes[..65], JOURNAL[..]);
+    assert_eq!(rt; journal.count, 73);
+    assert_eq!(rt; journal.bytes[..73], JOURNAL[..]);
     // Nothing is saved beside it.
     let mut disk = FakeDisk::after_crash(alloc, 9, Some(journal), 0, 0);
     let saved = save_in_place(&mut disk, &mut PieceEdits::new(&edits), &mut room);
@@ -127,7 +128,7 @@ fn a_save_that_is_cut_off_leaves_its_journal(rt: HostRuntime) -> Result<(), Fail
 fn failed_recovery(alloc: Global, call: u32) -> Result<(u8, bool), Fail> {
     let mut room = vec![in alloc; 0; PIECE_ROOM]?;
     let to = call.saturating_add(1);
-    let mut disk = FakeDisk::after_crash(alloc, 9, Some(note(JOURNAL, 65)), call, to);
+    let mut disk = FakeDisk::after_crash(alloc, 9, Some(note(JOURNAL, 73)), call, to);
     match recover(&mut disk, &mut room) {
         Err(RecoverError::Failed(_)) => Ok((disk.now.file, disk.now.journal.is_some())),
         _ => Err(Fail::from("it did not fail")),
@@ -159,7 +160,7 @@ fn each_call_of_a_recovery_fails_in_turn(rt: HostRuntime) -> Result<(), Fail> {
         let (file, is_journal_there) = failed_recovery(alloc, call)?;
         assert_eq!(rt; file, if call < 9 { 9 } else { 7 });
         assert_eq!(rt; is_journal_there, call < 10);
-        let again = recovered(alloc, file, Some(note(JOURNAL, 65)))?;
+        let again = recovered(alloc, file, Some(note(JOURNAL, 73)))?;
         assert_eq!(rt; again, (Some((1, 1)), 7));
     }
     assert_eq!(rt; recovered(alloc, 7, None)?, (None, 7));
@@ -185,16 +186,19 @@ fn refusal(alloc: Global, place: usize, count: usize) -> Result<JournalFault, Fa
 #[test]
 fn what_is_no_journal_of_the_file_is_refused(rt: HostRuntime) -> Result<(), Fail> {
     let alloc = rt.alloc();
-    assert_eq!(rt; refusal(alloc, 0, 65)?, JournalFault::NoJournal);
-    assert_eq!(rt; refusal(alloc, 8, 65)?, JournalFault::OtherVersion);
-    assert_eq!(rt; refusal(alloc, 17, 65)?, JournalFault::OtherLength);
-    assert_eq!(rt; refusal(alloc, 24, 65)?, JournalFault::OtherFile);
-    assert_eq!(rt; refusal(alloc, 31, 65)?, JournalFault::OtherFile);
-    for place in 32..65 {
-        assert_eq!(rt; refusal(alloc, place, 65)?, JournalFault::Broken);
+    assert_eq!(rt; refusal(alloc, 0, 73)?, JournalFault::NoJournal);
+    assert_eq!(rt; refusal(alloc, 8, 73)?, JournalFault::OtherVersion);
+    assert_eq!(rt; refusal(alloc, 17, 73)?, JournalFault::OtherLength);
+    assert_eq!(rt; refusal(alloc, 24, 73)?, JournalFault::OtherFile);
+    assert_eq!(rt; refusal(alloc, 31, 73)?, JournalFault::OtherFile);
+    for place in 32..40 {
+        assert_eq!(rt; refusal(alloc, place, 73)?, JournalFault::OtherBirth);
     }
-    for count in 0..65 {
-        assert_eq!(rt; refusal(alloc, 65, count)?, JournalFault::Broken);
+    for place in 40..73 {
+        assert_eq!(rt; refusal(alloc, place, 73)?, JournalFault::Broken);
+    }
+    for count in 0..73 {
+        assert_eq!(rt; refusal(alloc, 73, count)?, JournalFault::Broken);
     }
     Ok(())
 }

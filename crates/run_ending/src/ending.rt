@@ -1,5 +1,6 @@
 // How a run ends for the one who called the program: the exit status, and what standard error says.
 ghost use Rattle.std.specs.Prelude.{◌≡◌};
+ghost use Rattle.run_ending.specs.Recovering.{recovery_status};
 ghost use Rattle.run_ending.specs.Ending.{exit_status, is_unread, told, told_of_change, told_of_failed, told_of_save};
 
 use script_text::RunEnd;
@@ -21,6 +22,36 @@ pub enum SaveEnd {
     /// FILE, whose bytes stay on disk, was changed by another program while they were copied to OUT
     /// itself.
     Doubtful,
+}
+
+/// How a recovery ended.
+#[derive(Clone, Copy, Debug, PartialEq, Eq)]
+pub enum RecoveryEnd {
+    /// The old bytes are back, or no journal is there.
+    Done,
+    /// They are, and standard output did not take that.
+    NotTold,
+    /// FILE cannot be opened to be written.
+    NotOpened,
+    /// It is locked: another repair or recovery of it is at work.
+    Busy,
+    /// What stands under its journal's name is none of FILE. Nothing was written.
+    Refused,
+    /// A call failed. It may be tried again.
+    Failed,
+    /// There was no memory. Nothing was done.
+    NoMemory,
+}
+
+/// The exit status of a recovery.
+pub fn recovery_status(end: RecoveryEnd) -> u8
+    ensures { result ≡ recovery_status end }
+{
+    match end {
+        RecoveryEnd::Done => 0,
+        RecoveryEnd::NotOpened | RecoveryEnd::Refused => 3,
+        RecoveryEnd::NotTold | RecoveryEnd::Busy | RecoveryEnd::Failed | RecoveryEnd::NoMemory => 4,
+    }
 }
 
 /// What standard error says.

@@ -1,4 +1,8 @@
 // Journals of repairs that were cut off, and how such a repair is undone.
+ghost use Rattle.std.specs.Prelude.{◌≡◌};
+ghost use Rattle.run_ending.specs.Recovering.{recovery_end, IsRecoveryStatus};
+
+use crate::ending::{RecoveryEnd, recovery_status};
 use command_line::Arguments;
 use journal_codes::PIECE_ROOM;
 use journal_save::{Disk, FileDisk, OpenFault, PutBack, RecoverError, has_journal, recover};
@@ -117,22 +121,31 @@ pub(crate) fn in_repair<R: Files<File = File> + AllocGlobal>(
 pub fn recover_file<R: Files<File = File> + AllocGlobal + Print + Eprint>(
     rt: &R,
     arguments: &Arguments,
-) -> u8 {
-    let file = arguments.file;
+) -> u8
+    ensures { IsRecoveryStatus result }
+{
+    recovery_status(recovery_of(rt, arguments.file))
+}
+
+// Recovers FILE, and tells how that ended.
+fn recovery_of<R: Files<File = File> + AllocGlobal + Print + Eprint>(
+    rt: &R,
+    file: &str,
+) -> RecoveryEnd {
     let mut room = Vec::new(rt.alloc());
     if room.resize(PIECE_ROOM, 0).is_err() {
         let _ = eprintln!(rt; "segywb: out of memory");
-        return 4;
+        return RecoveryEnd::NoMemory;
     }
     let mut disk = match FileDisk::open(rt, file, None) {
         Ok(disk) => disk,
         Err(OpenFault::Busy) => {
             tell_busy(rt, file);
-            return 4;
+            return RecoveryEnd::Busy;
         }
         Err(OpenFault::Failed(error)) => {
             let _ = eprintln!(rt; "segywb: cannot open {file} to be recovered ({error})");
-            return 3;
+            return RecoveryEnd::NotOpened;
         }
     };
     // What the journal's name leads to is on the disk before the journal is read: the process that
@@ -143,9 +156,25 @@ pub fn recover_file<R: Files<File = File> + AllocGlobal + Print + Eprint>(
     };
     // A journal that never got its name is taken away too.
     let _ = disk.clear();
+    let is_told = match &back {
+        Ok(back) => tell_recovered(rt, file, *back),
+        Err(error) => {
+            tell_not_recovered(rt, file, disk.journal(), error);
+            true
+        }
+    };
+    ended(&back, is_told)
+}
+
+// How a recovery ended that was begun, of which standard output took what is told, or not.
+fn ended(back: &Result<Option<PutBack>, RecoverError>, is_told: bool) -> RecoveryEnd
+    ensures { result ≡ recovery_end back.now is_told }
+{
     match back {
-        Ok(back) => tell_recovered(rt, file, back),
-        Err(error) => tell_not_recovered(rt, file, disk.journal(), error),
+        Ok(_) if is_told => RecoveryEnd::Done,
+        Ok(_) => RecoveryEnd::NotTold,
+        Err(RecoverError::Refused(_)) => RecoveryEnd::Refused,
+        Err(RecoverError::Failed(_)) => RecoveryEnd::Failed,
     }
 }
 
@@ -157,8 +186,8 @@ pub(crate) fn tell_busy<R: Eprint>(rt: &R, file: &str) {
     );
 }
 
-// Says what was put back.
-fn tell_recovered<R: Print + Eprint>(rt: &R, file: &str, back: Option<PutBack>) -> u8 {
+// Says what was put back; whether standard output took it.
+fn tell_recovered<R: Print + Eprint>(rt: &R, file: &str, back: Option<PutBack>) -> bool {
     let told = match back {
         None => println!(rt; "{file}: no journal stands beside it"),
         Some(back) => {
@@ -166,27 +195,23 @@ fn tell_recovered<R: Print + Eprint>(rt: &R, file: &str, back: Option<PutBack>) 
             println!(rt; "{file}: {bytes} old bytes in {pieces} pieces put back")
         }
     };
-    match told {
-        Ok(()) => 0,
-        Err(_) => {
-            let _ = eprintln!(rt; "segywb: answers failed");
-            4
-        }
+    if told.is_err() {
+        let _ = eprintln!(rt; "segywb: answers failed");
+        return false;
     }
+    true
 }
 
 // Tells why nothing is put back, or not all.
-fn tell_not_recovered<R: Eprint>(rt: &R, file: &str, journal: &str, error: RecoverError) -> u8 {
+fn tell_not_recovered<R: Eprint>(rt: &R, file: &str, journal: &str, error: &RecoverError) {
     match error {
         RecoverError::Refused(fault) => {
             let _ = eprintln!(rt; "segywb: {file}: {journal}: {fault}; nothing was written");
-            3
         }
         RecoverError::Failed(error) => {
             let _ = eprintln!(rt;
                 "segywb: {file}: cannot put the old bytes back ({error}); run --recover again"
             );
-            4
         }
     }
 }

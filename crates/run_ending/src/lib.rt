@@ -8,8 +8,9 @@
 //! pipe or a device.
 //!
 //! A repair of FILE itself begins with [`journal_refusal`] and [`disk_of`], which locks it, and
-//! ends with [`finish_in_place`]; [`recover_file`] undoes one that was cut off. [`look_at_file`]
-//! tells what the head of FILE says, beside what its length says.
+//! ends with [`finish_in_place`]; those of a session are told of by [`RepairTeller`].
+//! [`recover_file`] undoes one that was cut off. [`look_at_file`] tells what the head of FILE says,
+//! beside what its length says.
 #![tactic(auto)]
 
 mod device_out;
@@ -26,12 +27,14 @@ mod torn_file;
 mod where_to;
 
 pub use crate::device_out::DeviceOut;
-pub use crate::ending::{Message, SaveEnd, exit_status, told, told_of_change};
+pub use crate::ending::{
+    Message, RecoveryEnd, SaveEnd, exit_status, recovery_status, told, told_of_change,
+};
 pub use crate::finishing::{finish, finish_told, refused_out};
 pub use crate::journals::{journal_refusal, recover_file};
 pub use crate::looking::look_at_file;
 pub use crate::out_place::OutPlace;
 pub use crate::refused::{reading_of, tell_how_to_begin};
-pub use crate::repairing::{disk_of, finish_in_place};
+pub use crate::repairing::{RepairTeller, disk_of, finish_in_place};
 pub use crate::target::Target;
 pub use crate::where_to::{OutRefusal, misuse, target_of};

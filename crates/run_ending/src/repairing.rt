@@ -7,14 +7,14 @@ use crate::finishing::{changed, is_heard, room_of, tell, tell_change};
 use crate::journals::{tell_busy, tell_cut_off};
 use crate::refused::tell_refused;
 use command_line::Arguments;
-use edit_pieces::{Repaired, Unfit};
+use edit_pieces::{Attempt, Repaired, Unfit, Watcher};
 use journal_save::{FileDisk, OpenFault, RecoverError, SaveError, has_journal};
 use safe_save::Original;
 use script_hints::Notes;
 use script_text::RunEnd;
 use std::fs::File;
 use std::io::Error;
-use std::rt::Files;
+use std::rt::{Clock, Files};
 
 /// FILE, open to be repaired, and locked for as long as it is. Where it cannot be, that is told,
 /// and the exit status is given.
@@ -71,6 +71,64 @@ pub fn finish_in_place<'a, R: Files<File = File> + AllocGlobal + Eprint>(
         tell_change(rt, arguments, original, told_of_change(end, save));
     }
     exit_status(end, save)
+}
+
+/// Tells of each repair of a session where it fails. FILE is from then on what that left: a save
+/// behind it is refused only where another program changed it.
+#[derive(Drop)]
+pub struct RepairTeller<'a, R: Files> {
+    rt: &'a R,
+    arguments: Arguments<'a>,
+}
+
+impl<'a, R: Files> RepairTeller<'a, R> {
+    /// Of the FILE of this command line.
+    pub fn new(rt: &'a R, arguments: Arguments<'a>) -> RepairTeller<'a, R> {
+        RepairTeller { rt, arguments }
+    }
+}
+
+impl<'a, R: Files<File = File> + AllocGlobal + Eprint + Clock> Watcher<FileDisk<'a, R>>
+    for RepairTeller<'a, R> {
+    fn hear(&mut self, disk: &mut FileDisk<'a, R>, attempt: Attempt) {
+        let file = self.arguments.file;
+        match attempt {
+            Attempt::Ended(repaired) => {
+                if is_touched(&repaired) {
+                    disk.renew();
+                }
+                tell_repair(
+                    self.rt,
+                    &self.arguments,
+                    repaired,
+                    disk.is_stale(),
+                    disk.journal(),
+                );
+            }
+            _ if !is_heard(self.rt, room_of(&self.arguments)) => {}
+            Attempt::NoMemory => {
+                nothing_saved(self.rt);
+                let _ = eprintln!(self.rt; "segywb: {file}: out of memory: it is as it was");
+            }
+            Attempt::Stopped => {
+                nothing_saved(self.rt);
+                let _ = eprintln!(self.rt;
+                    "segywb: {file}: an earlier save of this session did not come to its end; end \
+                     the session, and look at what that save told"
+                );
+            }
+        }
+    }
+}
+
+// Whether a repair wrote FILE.
+fn is_touched(repaired: &Repaired) -> bool {
+    match repaired {
+        Repaired::Saved => true,
+        Repaired::Failed(SaveError::Untouched(_)) => false,
+        Repaired::Failed(_) => true,
+        Repaired::NotBegun | Repaired::Unfit(_) | Repaired::Unsettled(_) => false,
+    }
 }
 
 // How the save ended, as the exit status has it.
@@ -144,24 +202,9 @@ fn nothing_saved<R: Eprint>(rt: &R) {
 
 // Tells which edits need a new file.
 fn tell_unfit<R: Eprint>(rt: &R, file: &str, why: Unfit) {
-    let then = "that needs a new file: save with --out, without --in-place";
-    match why {
-        Unfit::NewTrace(p) => {
-            let _ = eprintln!(rt;
-                "segywb: {file}: trace {p} is a new one, or has another length (a trace was \
-                 inserted, copied or resized); {then}"
-            );
-        }
-        Unfit::OtherPlace(p) => {
-            let _ = eprintln!(rt;
-                "segywb: {file}: trace {p} stood elsewhere in it (a trace was moved, sorted or \
-                 deleted); {then}"
-            );
-        }
-        Unfit::Fewer => {
-            let _ = eprintln!(rt; "segywb: {file}: traces at its end were deleted; {then}");
-        }
-    }
+    let _ = eprintln!(rt;
+        "segywb: {file}: {why}; that needs a new file: save with --out, without --in-place"
+    );
 }
 
 // Tells of a call that failed. `is_left` is whether the journal is there.

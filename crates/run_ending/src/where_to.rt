@@ -37,8 +37,8 @@ pub fn misuse<R: Files>(rt: &R, arguments: &Arguments) -> Option<&'static str> {
         _ if arguments.save_at_end && !arguments.session => {
             return Some("--save-at-end is for sessions; a script is saved at its end");
         }
-        _ if arguments.save_at_end && arguments.out.is_none() => {
-            return Some("--save-at-end needs --out");
+        _ if arguments.save_at_end && arguments.out.is_none() && !arguments.in_place => {
+            return Some("--save-at-end needs --out, or --in-place");
         }
         _ => {}
     }
@@ -52,12 +52,26 @@ pub fn misuse<R: Files>(rt: &R, arguments: &Arguments) -> Option<&'static str> {
     misuse_of_file(rt, arguments, &there)
 }
 
-// Of a recovery: it reads no script, and saves nothing.
+// Of a recovery: it loads no file, reads no script, and saves nothing. It tells of no refused line,
+// so that `--quiet` may stand beside it.
 fn misuse_of_recovery(arguments: &Arguments) -> Option<&'static str> {
-    let is_alone = arguments.script.is_none()
-        && arguments.out.is_none()
-        && !(arguments.session || arguments.in_place || arguments.save_at_end);
-    if is_alone {
+    let has_reading = arguments.fixed
+        || arguments.samples.is_some()
+        || arguments.format.is_some()
+        || arguments.texts.is_some()
+        || arguments.order.is_some()
+        || arguments.opaque
+        || arguments.floats;
+    let has_ways = arguments.on_disk
+        || arguments.max_bytes.is_some()
+        || arguments.stop
+        || arguments.look;
+    let has_work = arguments.script.is_some()
+        || arguments.out.is_some()
+        || arguments.session
+        || arguments.in_place
+        || arguments.save_at_end;
+    if !(has_reading || has_ways || has_work) {
         None
     } else {
         Some("--recover stands alone: segywb FILE --recover")
@@ -80,9 +94,6 @@ fn misuse_of_look(arguments: &Arguments) -> Option<&'static str> {
 
 // Of a repair of FILE itself.
 fn misuse_in_place<R: Files>(rt: &R, arguments: &Arguments) -> Option<&'static str> {
-    if arguments.session {
-        return Some("--in-place is for a script; a session saves with --out");
-    }
     let there = match fs::metadata(rt, arguments.file) {
         Ok(there) if there.is_file() => there,
         _ => return None,

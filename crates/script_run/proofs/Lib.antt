@@ -10,3 +10,4 @@ pub mod SessionRunLemmas
 pub mod SessionEndLemmas
 pub mod ReadAsLemmas
 pub mod InPlaceLemmas
+pub mod PlaceLemmas

@@ -2,7 +2,6 @@
 use Rattle.std.proofs.Common.{◌≡◌, ◌⊎◌, ℕ, ◌+◌, Bool, true, false, ◌&&◌, not, List, [], ◌∷◌, ◌++◌, length, Option, Some, None, Err, ap, sym, subst, inl, inr, arith, refl, ◌∙◌}
 use Rattle.std.specs.Io.KnownBytes.{Appends}
 use Rattle.safe_save.specs.Places.{IsEmpty, Holds as StandsWhere}
-use Rattle.script_text.specs.declared.session_fault.SessionFault.{SessionFault}
 use Rattle.frame_cut.specs.declared.load_fault.LoadFault.{LoadFault}
 use Rattle.bench_rules.specs.State.{State}
 use Rattle.bench_laws.specs.EditLaws.{StepsStayCut}
@@ -20,7 +19,9 @@ use Rattle.script_run.specs.Runs.{printed_text}
 use Rattle.script_run.specs.Ends.{IsTold}
 use Rattle.script_run.proofs.ScratchLemmas.{scratch, stays_cut, session_keeps, volume_steps}
 use Rattle.script_run.proofs.FullAnswerLemmas.{session_full, plain_at_load}
-use Rattle.script_run.specs.Sessions.{IsSaved, Standing, standing, SessionDevices, RefusesSession, VolumeStep, AnswersLines, SessionThrough, SessionStops, SessionLosesAnswer, Session}
+use Rattle.script_run.specs.Places.{Place, Follows}
+use Rattle.frame_cut.specs.Volume.{bytes_of}
+use Rattle.script_run.specs.Sessions.{Standing, standing, SessionDevices, RefusesSession, VolumeStep, AnswersLines, SessionThrough, SessionStops, SessionLosesAnswer, Session}
 use Rattle.script_run.specs.SessionLineRuns.{Answered, AnswersTo}
 
 -- what is said of a session over a volume in memory
@@ -43,10 +44,9 @@ pub stands_where : (old begun written new : Option (List ℕ)) (bytes : List ℕ
 stands_where None begun written new bytes empty all holds = tt
 stands_where (Some x) begun written new bytes empty all holds = holds ∙ written_is begun written bytes empty all
 
--- a save that failed left what stood there, or all bytes
-pub left_by_failed : (old : Option (List ℕ)) (bytes : List ℕ) (fault : SessionFault) (new : Option (List ℕ)) → IsSaved old bytes (Err fault) new → (new ≡ old) ⊎ StandsWhere old (Some bytes) new
-left_by_failed old bytes fault new (inl (nowhere, same)) = inl same
-left_by_failed old bytes fault new (inr (taken, is, either)) = either
+-- it is a place for the volume that was loaded
+pub follows_loaded : (place : Place) (loaded bytes : List ℕ) → loaded ≡ bytes → Follows place loaded → Follows place bytes
+follows_loaded place loaded bytes same f = subst (λ (l : List ℕ). Follows place l) same f
 
 -- a save is asked for at the end, and the last line is whole
 pub asked_at_end : (save is_cut_off : Bool) → (save && not is_cut_off) ≡ true → (save ≡ true) × (is_cut_off ≡ false)
@@ -60,11 +60,12 @@ load_end on_disk options old new fault result refuses (inl told) = subst (λ r. 
 load_end on_disk options old new fault result refuses (inr (written, is, part)) = subst (λ r. Session on_disk options old new r) (sym is) (inl (fault, refuses, part))
 
 module _ (stay : StepsStayCut) (on_disk : Bool) (options : Options) (old new : SessionDevices) (start : State) (end : Standing)
-    (loaded : Loads old.reader new.reader options.reading options.limits on_disk start) where
+    (loaded : Loads old.reader new.reader options.reading options.limits on_disk start) (follows : Follows old.out (bytes_of start.volume)) where
   lines_of : (printed : List Printed) (done : Answered (standing start old.out) end old.script printed) → AnswersLines on_disk options old new done.lines printed end
   lines_of printed done = record {
     start = start;
     loaded = loaded;
+    follows = follows;
     given = done.given;
     steps = done.steps;
     from_scratch = scratch VolumeStep (session_keeps stay) options.reading options.limits on_disk start end.state done.lines printed loaded.cut loaded.reading_is loaded.limits_are loaded.place_is (volume_steps (standing start old.out) end done.lines printed done.steps);

@@ -12,6 +12,13 @@ use Rattle.script_words.specs.Words.{without_return}
 use Rattle.script_run.specs.Input.{SessionLine}
 use Rattle.script_run.specs.Laws.{SessionIsRun, IsNoSave, OutIsLastSave}
 use Rattle.script_run.specs.Runs.{LineStep}
+use Rattle.std.specs.Prelude.{Option, if◌then◌else◌}
+use Rattle.journal_save.specs.Disk.{Range, Disk}
+use Rattle.frame_cut.specs.Volume.{bytes_of}
+use Rattle.edit_pieces.specs.declared.attempt.Attempt.{Attempt}
+use Rattle.edit_pieces.specs.declared.attempt.Attempt.TheVariants.{Stopped, NoMemory, Ended}
+use Rattle.edit_pieces.specs.declared.repaired.Repaired.TheVariants.{NotBegun, Saved, Unfit, Unsettled, Failed}
+use Rattle.script_run.specs.Places.{Place, Elsewhere, Itself, IsSaved, answer_of, is_written_though}
 use Rattle.script_run.specs.Sessions.{Standing, WordStep, EndedStep, AnswerStep, with_empty_line}
 
 -- a line of a script, and nothing saved
@@ -46,12 +53,35 @@ session_is_run old new (l ∷ ls) (p ∷ ps) (mid, (answer, step, is), rest) (wi
 
 -- ---- what stands under OUT
 
+fault_is : (a b : SessionFault) → (let r : Result ℕ SessionFault = Err a in r ≡ Err b) → a ≡ b
+fault_is a b e = cc
+
+-- each failed attempt at a repair is answered as a failed save
+fails : (attempt : Attempt) (n : ℕ) (fault : SessionFault) → Err fault ≡ answer_of attempt n → (taken : ℕ) × (fault ≡ SaveFailed taken)
+fails Stopped n fault e = (0, fault_is _ _ e)
+fails NoMemory n fault e = (0, fault_is _ _ e)
+fails (Ended NotBegun) n fault e = (0, fault_is _ _ e)
+fails (Ended Saved) n fault e = cc
+fails (Ended (Unfit why)) n fault e = (0, fault_is _ _ e)
+fails (Ended (Unsettled error)) n fault e = (0, fault_is _ _ e)
+fails (Ended (Failed error)) n fault e = (if is_written_though error then n else 0, fault_is _ _ e)
+
+-- a save that was refused for want of a place leaves what was there
+kept_by_save : (old new : Place) (bytes : List ℕ) (fault : SessionFault) → ((taken : ℕ) → fault ≡ SaveFailed taken → ⊥) → IsSaved old bytes (Err fault) new → new ≡ old
+kept_by_save (Elsewhere old) (Elsewhere new) bytes fault none (inl (nowhere, kept)) = ap Elsewhere kept
+kept_by_save (Elsewhere old) (Elsewhere new) bytes fault none (inr (taken, failed, either)) = absurd (none taken failed)
+kept_by_save (Elsewhere old) (Itself again written e) bytes fault none saved = absurd saved
+kept_by_save (Itself loaded written d) (Elsewhere new) bytes fault none saved = absurd saved
+kept_by_save (Itself loaded written d) (Itself again more e) bytes fault none (same, inl (is, wrote, kept)) =
+    ap (λ (l : List ℕ). Itself l more e) same ∙ ap (λ (rs : List Range). Itself loaded rs e) wrote ∙ ap (λ (o : Option Disk). Itself loaded written o) kept
+kept_by_save (Itself loaded written d) (Itself again more e) bytes fault none (same, inr (attempt, is, tries)) =
+    let failed = fails attempt (length bytes) fault is in absurd (none failed.0 failed.1)
+
 kept_by_word : (word : SessionWord) (old new : Standing) (line : List ℕ) (p answer : Printed) → IsNoSave p → p ≡ with_empty_line answer
     → WordStep word old line answer new → new.out ≡ old.out
 kept_by_word Save old new line p answer none is (Ok bytes, saved, told, same) = absurd (none.0 bytes (is ∙ ap with_empty_line told))
-kept_by_word Save old new line p answer none is (Err fault, inl (nowhere, kept), told, same) = kept
-kept_by_word Save old new line p answer none is (Err fault, inr (taken, failed, either), told, same) =
-    absurd (none.1 taken (is ∙ ap with_empty_line (told ∙ ap (λ (f : SessionFault). session_reply (Err f)) failed)))
+kept_by_word Save old new line p answer none is (Err fault, saved, told, same) =
+    kept_by_save old.out new.out (bytes_of old.state.volume) fault (λ taken failed. none.1 taken (is ∙ ap with_empty_line (told ∙ ap (λ (f : SessionFault). session_reply (Err f)) failed))) saved
 kept_by_word SaveWithMore old new line p answer none is step = ap (λ (s : Standing). s.out) step.1
 kept_by_word Other old new line p answer none is step = step.1
 

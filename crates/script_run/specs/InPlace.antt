@@ -1,5 +1,5 @@
 -- A run behind whose last line FILE itself is repaired.
-use Rattle.std.specs.Prelude.{◌≡◌, Bool, true, false, List, [], ℕ, Option, Result, Ok, Err, MatchResult, ⊤}
+use Rattle.std.specs.Prelude.{◌≡◌, ◌⊎◌, Bool, true, false, List, [], ℕ, Option, Result, Ok, Err, MatchResult, ⊤}
 use Rattle.frame_cut.specs.Volume.{bytes_of}
 use Rattle.bench_rules.specs.State.{State}
 use Rattle.journal_codes.specs.Codes.{Span}
@@ -42,6 +42,14 @@ ComesOfFailure Saved failed = ⊤
 ComesOfFailure (Unfit why) failed = ⊤
 ComesOfFailure (Unsettled error) failed = failed ≡ true
 ComesOfFailure (Failed error) failed = failed ≡ true
+
+-- nor where only a walk over its pieces may have failed
+abbrev pub IsCauseOf : Repaired → (disk edits : Bool) → Type 0
+IsCauseOf NotBegun disk edits = ⊤
+IsCauseOf Saved disk edits = ⊤
+IsCauseOf (Unfit why) disk edits = ⊤
+IsCauseOf (Unsettled error) disk edits = disk ≡ true
+IsCauseOf (Failed error) disk edits = (disk ≡ true) ⊎ (edits ≡ true)
 
 -- the reader of the volume, that of the script and the writer of the answers; nothing else is written
 abbrev pub reading_devices : Device → Device → Device → Devices

@@ -9,5 +9,6 @@ pub mod Sessions
 pub mod OnDisk
 pub mod Input
 pub mod InPlace
+pub mod Places
 pub mod NextLine
 pub mod SessionLineRuns

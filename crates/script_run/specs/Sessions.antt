@@ -5,10 +5,9 @@ use Rattle.frame_cut.specs.Cuts.{IsCut}
 use Rattle.frame_cut.specs.Volume.{bytes_of}
 use Rattle.bench_rules.specs.State.{State}
 use Rattle.device_io.specs.Failures.{one_more}
-use Rattle.safe_save.specs.Places.{Holds as StandsWhere}
 use Rattle.script_words.specs.declared.line_fault.LineFault.TheVariants.{Words, TooLarge, OutOfMemory}
 use Rattle.script_text.specs.declared.session_fault.SessionFault.{SessionFault}
-use Rattle.script_text.specs.declared.session_fault.SessionFault.TheVariants.{CutOff, NoOut, SaveFailed}
+use Rattle.script_text.specs.declared.session_fault.SessionFault.TheVariants.{CutOff}
 use Rattle.script_words.specs.declared.session_words.SessionWord.{SessionWord}
 use Rattle.script_words.specs.declared.session_words.SessionWord.TheVariants.{Save, SaveWithMore, Other}
 use Rattle.script_words.specs.SessionWords.{session_word_of}
@@ -20,6 +19,7 @@ use Rattle.script_text.specs.Replies.{Printed, fault_reply, session_reply}
 use Rattle.script_text.specs.Texts.{IsFullLines}
 use Rattle.script_words.specs.Words.{without_return}
 use Rattle.script_run.specs.declared.options.Options.{Options}
+use Rattle.script_run.specs.Places.{Place, Follows, IsSaved}
 use Rattle.script_text.specs.declared.run_end.RunEnd.{RunEnd}
 use Rattle.script_text.specs.declared.run_end.RunEnd.TheVariants as ends
 use Rattle.script_run.specs.Loading.{Loads, IsLoadRefused}
@@ -30,22 +30,14 @@ use Rattle.script_run.specs.FromScratch.{ScratchSteps, saved}
 
 -- ---- a save
 
--- a volume under edits, and what stands under OUT, where that is known
+-- a volume under edits, and where its saves go
 pub record Standing : Type 0 where
   pub state : State
-  pub out : Option (List ℕ)
+  pub out : Place
 
--- this volume, with these bytes under OUT
-abbrev pub standing : State → Option (List ℕ) → Standing
+-- this volume, and this place for its saves
+abbrev pub standing : State → Place → Standing
 standing state out = record { state = state; out = out }
-
--- what a save of these bytes tells, and what stands under OUT behind it: at `Ok` these bytes, all of them, which are so many; at S07 and S08
--- what stood there, or, where only a power cut may undo it, these bytes
-abbrev pub IsSaved : Option (List ℕ) → List ℕ → Result ℕ SessionFault → Option (List ℕ) → Type 0
-IsSaved old bytes (Ok number) new = (number ≡ length bytes) × StandsWhere old (Some bytes) new
-IsSaved old bytes (Err fault) new =
-    ((fault ≡ NoOut) × (new ≡ old))
-    ⊎ ((taken : ℕ) × (fault ≡ SaveFailed taken) × ((new ≡ old) ⊎ StandsWhere old (Some bytes) new))
 
 -- a save with what it prints: it leaves the volume as it is
 abbrev pub SaveStep : Standing → Printed → Standing → Type 0
@@ -84,9 +76,9 @@ SessionStep old line printed new = (answer : Printed) × AnswerStep old line ans
 abbrev pub SessionSteps : Standing → List SessionLine → List Printed → Standing → Type 0
 SessionSteps old lines printed new = StepsBy SessionStep old lines printed new
 
--- a line with what is printed for it, whatever stands under OUT
+-- a line with what is printed for it, wherever the saves go
 abbrev pub VolumeStep : State → SessionLine → Printed → State → Type 0
-VolumeStep old line printed new = (before : Option (List ℕ)) × (after : Option (List ℕ)) × SessionStep (standing old before) line printed (standing new after)
+VolumeStep old line printed new = (before : Place) × (after : Place) × SessionStep (standing old before) line printed (standing new after)
 
 -- an answer is lines none of which is empty, with an empty line behind them
 pub record IsAnswer (printed : List ℕ) : Type 0 where
@@ -111,15 +103,15 @@ AllLines known lines = IfSome known (λ bytes. session_lines bytes ≡ lines)
 
 -- ---- the ends
 
--- the readers of the volume and of the lines, the writer of the answers, and what stands under OUT
+-- the readers of the volume and of the lines, the writer of the answers, and where the saves go: OUT, or FILE itself
 pub record SessionDevices : Type 0 where
   pub reader : Device
   pub script : Device
   pub answers : Device
-  pub out : Option (List ℕ)
+  pub out : Place
 
 -- these, of a session
-abbrev pub session_devices : Device → Device → Device → Option (List ℕ) → SessionDevices
+abbrev pub session_devices : Device → Device → Device → Place → SessionDevices
 session_devices reader script answers out = record { reader = reader; script = script; answers = answers; out = out }
 
 -- the volume is refused: no line is read, and OUT is as it was
@@ -132,6 +124,7 @@ pub record RefusesSession (options : Options) (old new : SessionDevices) (fault 
 pub record AnswersLines (on_disk : Bool) (options : Options) (old new : SessionDevices) (lines : List SessionLine) (printed : List Printed) (end : Standing) : Type 0 where
   pub start : State
   pub loaded : Loads old.reader new.reader options.reading options.limits on_disk start
+  pub follows : Follows old.out (bytes_of start.volume)
   pub given : FirstLines old.script.bytes lines
   pub steps : SessionSteps (standing start old.out) lines printed end
   pub from_scratch : ScratchSteps VolumeStep options.reading options.limits on_disk (saved start) lines printed (saved end.state)
@@ -192,10 +185,10 @@ pub record SessionLosesScript (on_disk : Bool) (options : Options) (old new : Se
   pub reason : IsBroken fault old.script new.script lines
   pub out_is : new.out ≡ end.out
 
--- what stands under OUT behind the last line: where a save is asked for there, and the last line is not cut off, what is held; else what the last
--- save left
-abbrev pub EndsWith : Bool → Standing → Option (List ℕ) → Type 0
-EndsWith true end out = StandsWhere end.out (Some (bytes_of end.state.volume)) out
+-- where the saves go is, behind the last line, what a save of what is held makes of it, where one is asked for there, and the last line is not cut
+-- off; else what the last save left
+abbrev pub EndsWith : Bool → Standing → Place → Type 0
+EndsWith true end out = (number : ℕ) × IsSaved end.out (bytes_of end.state.volume) (Ok number) out
 EndsWith false end out = out ≡ end.out
 
 -- what a session does, from before it to its end, where the bytes of the volume are in memory or stay on disk
@@ -216,4 +209,4 @@ Session on_disk options old new (ends.Answers written) =
 Session on_disk options old new (ends.Save fault) = ⊥
 Session on_disk options old new (ends.SaveAtEnd refused) =
     (end : Standing) × SessionThrough on_disk options old new refused false end × IsTrue options.save
-    × ((new.out ≡ end.out) ⊎ StandsWhere end.out (Some (bytes_of end.state.volume)) new.out)
+    × ((fault : SessionFault) × IsSaved end.out (bytes_of end.state.volume) (Err fault) new.out)

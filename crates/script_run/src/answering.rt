@@ -17,12 +17,11 @@ use crate::line_read::LineRead;
 use crate::next::Next;
 use crate::read_ahead::ReadAhead;
 use crate::running::run_line;
-use crate::saving::save_now;
+use crate::saves::Saves;
 use crate::session_lines::SessionLines;
 use crate::told::{Told, write_reply};
 use bench_core::Bench;
 use device_io::{Sink, Source, WriteFault};
-use safe_save::SavePlace;
 use script_text::{OutBuffer, Reply, ScriptFault, SessionFault};
 use script_words::{LineFault, SessionWord, session_word, strip_return};
 use std::alloc::Global;
@@ -30,7 +29,7 @@ use std::io::{Read, Write};
 
 /// Answers the lines of the reader in order, and writes the whole answer to each, with an empty
 /// line behind it, before the next is read.
-pub(crate) fn answer_lines<S: Read, A: Write, P: SavePlace>(
+pub(crate) fn answer_lines<S: Read, A: Write, P: Saves>(
     alloc: Global,
     bench: &mut Bench,
     script: &mut Source<S>,
@@ -39,8 +38,8 @@ pub(crate) fn answer_lines<S: Read, A: Write, P: SavePlace>(
     stop: bool,
 ) -> SessionLines
     ensures lines { IsTrue bench.new.agreed →
-        AnswersTo (standing bench.old.state (P.stands place.old))
-        (standing bench.new.state (P.stands place.new)) stop
+        AnswersTo (standing bench.old.state (P.place place.old bench.old.loaded))
+        (standing bench.new.state (P.place place.new bench.new.loaded)) stop
         (device_of S.remaining script.old) (device_of S.remaining script.new)
         (device_of A.contents answers.old) (device_of A.contents answers.new) result }
     ensures same { IsReadAs bench.old.state bench.new.state }
@@ -107,7 +106,7 @@ fn broken(fault: ScriptFault, written: u64) -> SessionLines
 }
 
 // Answers one line, and writes the answer with an empty line behind it.
-fn answer<A: Write, P: SavePlace>(
+fn answer<A: Write, P: Saves>(
     alloc: Global,
     bench: &mut Bench,
     place: &mut P,
@@ -118,9 +117,9 @@ fn answer<A: Write, P: SavePlace>(
 ) -> Result<Told, WriteFault>
     ensures line { IsTrue bench.new.agreed → (printed : Printed)
         × ((text : List ℕ) → Holds line.now text →
-        SessionStep (standing bench.old.state (P.stands place.old))
+        SessionStep (standing bench.old.state (P.place place.old bench.old.loaded))
         (line_of text has_end) printed
-        (standing bench.new.state (P.stands place.new)))
+        (standing bench.new.state (P.place place.new bench.new.loaded)))
         × IsWritten (device_of A.contents answers.old) (device_of A.contents answers.new)
         printed result }
     ensures same { IsReadAs bench.old.state bench.new.state }
@@ -132,7 +131,7 @@ fn answer<A: Write, P: SavePlace>(
 }
 
 // The reply to one line. The last one, where it lacks its line feed, is not run.
-fn reply_to<P: SavePlace>(
+fn reply_to<P: Saves>(
     alloc: Global,
     bench: &mut Bench,
     place: &mut P,
@@ -140,8 +139,9 @@ fn reply_to<P: SavePlace>(
     has_end: bool,
 ) -> Reply
     ensures step { IsTrue bench.new.agreed → (text : List ℕ) → Holds line.now text →
-        AnswerStep (standing bench.old.state (P.stands place.old)) (line_of text has_end)
-        (printed_of result) (standing bench.new.state (P.stands place.new)) }
+        AnswerStep (standing bench.old.state (P.place place.old bench.old.loaded))
+        (line_of text has_end)
+        (printed_of result) (standing bench.new.state (P.place place.new bench.new.loaded)) }
     ensures same { IsReadAs bench.old.state bench.new.state }
     ensures agreed { IsTrue bench.new.agreed → IsTrue bench.old.agreed }
     ensures loaded { bench.new.loaded ≡ bench.old.loaded }
@@ -156,21 +156,16 @@ fn reply_to<P: SavePlace>(
 }
 
 // The reply to a line that was read whole.
-fn reply_to_text<P: SavePlace>(
-    alloc: Global,
-    bench: &mut Bench,
-    place: &mut P,
-    line: &[u8],
-) -> Reply
+fn reply_to_text<P: Saves>(alloc: Global, bench: &mut Bench, place: &mut P, line: &[u8]) -> Reply
     ensures step { IsTrue bench.new.agreed → WordStep (session_word_of line.now)
-        (standing bench.old.state (P.stands place.old)) line.now
-        (printed_of result) (standing bench.new.state (P.stands place.new)) }
+        (standing bench.old.state (P.place place.old bench.old.loaded)) line.now
+        (printed_of result) (standing bench.new.state (P.place place.new bench.new.loaded)) }
     ensures same { IsReadAs bench.old.state bench.new.state }
     ensures agreed { IsTrue bench.new.agreed → IsTrue bench.old.agreed }
     ensures loaded { bench.new.loaded ≡ bench.old.loaded }
 {
     match session_word(line) {
-        SessionWord::Save => Reply::Session(save_now(alloc, bench, place)),
+        SessionWord::Save => Reply::Session(place.save(alloc, bench)),
         SessionWord::SaveWithMore => Reply::Fault(LineFault::Words),
         SessionWord::Other => run_line(alloc, bench, line),
     }

@@ -15,6 +15,7 @@ use crate::disk_run::close_volume;
 use crate::lines_end::LinesEnd;
 use crate::on_disk::load_on_disk;
 use crate::options::Options;
+use crate::repairing::{edits_of, repair_by};
 use crate::running::run_lines;
 use crate::script::read_script;
 use crate::whole_run::{load, tell};
@@ -22,9 +23,9 @@ use bench_core::Bench;
 use bench_laws::steps_stay_cut;
 use device_io::{Sink, Source};
 use edit_overlay::PassFault;
-use edit_pieces::{Repaired, edits_of};
+use edit_pieces::Repaired;
 use journal_codes::PIECE_ROOM;
-use journal_save::{Disk, save_in_place, settle};
+use journal_save::Disk;
 use script_hints::Notes;
 use script_text::{RunEnd, load_fault_line, script_fault_line};
 use std::alloc::Global;
@@ -144,16 +145,9 @@ fn repaired<D: Disk>(bench: &Bench, disk: &mut D, room: &mut [u8], is_asked: boo
     if !is_asked {
         return Repaired::NotBegun;
     }
-    let mut edits = match edits_of(bench.volume().overlay()) {
-        Ok(edits) => edits,
-        Err(why) => return Repaired::Unfit(why),
-    };
-    if let Err(error) = settle(disk) {
-        return Repaired::Unsettled(error);
-    }
-    match save_in_place(disk, &mut edits, room) {
-        Ok(()) => Repaired::Saved,
-        Err(error) => Repaired::Failed(error),
+    match edits_of(bench) {
+        Ok(mut edits) => repair_by(disk, &mut edits, room),
+        Err(why) => Repaired::Unfit(why),
     }
 }
 

@@ -5,7 +5,8 @@
 //! line `save`. Both answer by
 //! [`RunEnd`], which is the whole report of a run. [`run_on_disk`] and [`session_on_disk`] do the
 //! same over a file whose bytes stay on disk, and give the volume back beside the end.
-//! [`run_in_place`] and [`run_on_disk_in_place`] repair FILE itself behind the last line. They take
+//! [`run_in_place`] and [`run_on_disk_in_place`] repair FILE itself behind the last line, and so
+//! does a session whose saves go to [`InPlace`]; those of [`Outside`] go to OUT. They take
 //! memory for the volume and for lines, and tell want of it as L16, P03 or E11; to print a reply
 //! takes none. Lines count from 1, those that print nothing too; traces count from 1.
 #![tactic(auto)]
@@ -22,10 +23,13 @@ mod next;
 mod on_disk;
 mod options;
 mod read_ahead;
+mod repairing;
 mod running;
+mod saves;
 mod saving;
 mod script;
 mod session_lines;
+mod session_repairs;
 mod told;
 mod whole_run;
 mod whole_session;
@@ -37,6 +41,8 @@ pub use crate::laws::{
 };
 pub use crate::on_disk::{load_on_disk, run_on_disk, session_on_disk};
 pub use crate::options::Options;
+pub use crate::saves::{Outside, Saves};
+pub use crate::session_repairs::InPlace;
 pub use crate::whole_run::{refuse_load, run, run_loaded};
 pub use crate::whole_session::{session, session_loaded};
 pub use bench_core::Bench;

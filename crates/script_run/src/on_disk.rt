@@ -1,5 +1,5 @@
 // Runs and sessions over a file that stays on disk.
-ghost use Rattle.std.specs.Prelude.{◌≡◌, length, true, Err, IsTrue, IfOk, IfErr, OnErr};
+ghost use Rattle.std.specs.Prelude.{◌≡◌, List, ℕ, length, true, Err, IsTrue, IfOk, IfErr, OnErr};
 ghost use Rattle.field_map.specs.Binding.{geometry_at_load};
 ghost use Rattle.frame_cut.specs.Cuts.{IsCut};
 ghost use Rattle.frame_cut.specs.Volume.{bytes_of};
@@ -13,12 +13,12 @@ ghost use Rattle.script_run.specs.OnDisk.{unread, read_whole, RefusesPass};
 
 use crate::disk_run::DiskRun;
 use crate::options::Options;
+use crate::saves::Saves;
 use crate::whole_run::{run_loaded, tell};
 use crate::whole_session::session_loaded;
 use bench_core::Bench;
 use device_io::{Sink, Source};
 use edit_overlay::PassFault;
-use safe_save::SavePlace;
 use script_hints::Notes;
 use script_text::{RunEnd, load_fault_line};
 use std::alloc::Global;
@@ -70,7 +70,7 @@ pub fn run_on_disk<S: Read, A: Write, O: Write>(
 
 /// Answers the lines of a reader over a file that stays on disk, as
 /// [`session`](crate::session) does, and with what is said of [`run_on_disk`].
-pub fn session_on_disk<S: Read, A: Write, P: SavePlace>(
+pub fn session_on_disk<S: Read, A: Write, P: Saves>(
     alloc: Global,
     file: File,
     size: u64,
@@ -81,15 +81,16 @@ pub fn session_on_disk<S: Read, A: Write, P: SavePlace>(
 ) -> DiskRun
     ensures session { IfOk result.volume (λ volume. IsTrue volume.agreed → Session true options
         (session_devices (unread volume.loaded) (device_of S.remaining script.old)
-        (device_of A.contents answers.old) (P.stands place.old))
+        (device_of A.contents answers.old) (P.place place.old volume.loaded))
         (session_devices read_whole (device_of S.remaining script.new)
-        (device_of A.contents answers.new) (P.stands place.new))
+        (device_of A.contents answers.new) (P.place place.new volume.loaded))
         result.end) }
     ensures size { IfOk result.volume (λ volume. length volume.loaded ≡ size) }
     ensures refused { IfErr result.volume (RefusesPass size options
         (device_of S.remaining script.old) (device_of S.remaining script.new)
         (device_of A.contents answers.old) (device_of A.contents answers.new) result.end) }
-    ensures unsaved { OnErr result.volume (P.stands place.new ≡ P.stands place.old) }
+    ensures unsaved { OnErr result.volume ((loaded : List ℕ) →
+        P.place place.new loaded ≡ P.place place.old loaded) }
 {
     match load_on_disk(alloc, file, size, options) {
         Ok(mut bench) => {

@@ -1,8 +1,8 @@
-// The saves of a session.
+// The saves of a session to OUT.
 ghost use Rattle.std.specs.Prelude.{◌≡◌, length, IsTrue};
 ghost use Rattle.std.specs.Io.KnownBytes.{Appends};
 ghost use Rattle.frame_cut.specs.Volume.{bytes_of};
-ghost use Rattle.script_run.specs.Sessions.{IsSaved};
+ghost use Rattle.script_run.specs.Places.{SavesElsewhere};
 
 use bench_core::Bench;
 use bench_rules::{Answer, Query};
@@ -19,7 +19,7 @@ pub(crate) fn save_now<P: SavePlace>(
     bench: &mut Bench,
     place: &mut P,
 ) -> Result<u64, SessionFault>
-    ensures saved { IsTrue bench.new.agreed → IsSaved (P.stands place.old)
+    ensures saved { IsTrue bench.new.agreed → SavesElsewhere (P.stands place.old)
         (bytes_of bench.old.state.volume) result (P.stands place.new) }
     ensures state { bench.new.state ≡ bench.old.state }
     ensures agreed { IsTrue bench.new.agreed → IsTrue bench.old.agreed }

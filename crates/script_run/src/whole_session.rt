@@ -1,5 +1,6 @@
 // A session over a volume: a line is read, answered, and only then the next one read.
 ghost use Rattle.std.specs.Prelude.{◌≡◌, ◌&&◌, not, false, IsTrue, ℕ, List};
+ghost use Rattle.frame_cut.specs.Volume.{bytes_of};
 ghost use Rattle.live_volume.specs.Held.{IsReadAs};
 ghost use Rattle.script_text.specs.Devices.{Device, device_of};
 ghost use Rattle.script_run.specs.Loading.{Loads};
@@ -7,20 +8,20 @@ ghost use Rattle.script_run.specs.Sessions.{session_devices, Session};
 
 use crate::answering::answer_lines;
 use crate::options::Options;
-use crate::saving::save_now;
+use crate::saves::Saves;
 use crate::session_lines::SessionLines;
 use crate::whole_run::{load, tell};
 use bench_core::Bench;
 use bench_laws::steps_stay_cut;
 use device_io::{Sink, Source};
-use safe_save::SavePlace;
 use script_text::{RunEnd, load_fault_line, script_fault_line};
 use std::alloc::Global;
 use std::io::{Read, Write};
 
 /// A session over a volume: loads the volume, and answers the lines of `script` one by one. A line
-/// `save` saves what is held then to `place`, by which all that is there is replaced; behind the
-/// last line it is saved only where `options.save` asks for it.
+/// `save` saves what is held then to `place`: OUT is replaced ([`Outside`](crate::Outside)), or
+/// FILE itself is repaired ([`InPlace`](crate::InPlace)); behind the last line it is saved only
+/// where `options.save` asks for it.
 ///
 /// Each line is answered as a line of a script is, and an empty line is written behind its answer,
 /// also where that is nothing; no answer has an empty line. The answer and the empty line are on
@@ -33,8 +34,9 @@ use std::io::{Read, Write};
 /// refused line is the last. Where a read of the lines fails, `script refused P01 read failed` is
 /// written; a line that had begun is not run. In each case the place holds what stood at the last
 /// line `save` that was answered by `saved`, and at S08 either that or, where a power cut may undo
-/// it, what is held. Takes memory for the volume and the longest line.
-pub fn session<R: Read, S: Read, A: Write, P: SavePlace>(
+/// it, what is held; or FILE's journal gives that back. Takes memory for the volume and the longest
+/// line.
+pub fn session<R: Read, S: Read, A: Write, P: Saves>(
     alloc: Global,
     reader: &mut Source<R>,
     script: &mut Source<S>,
@@ -42,13 +44,13 @@ pub fn session<R: Read, S: Read, A: Write, P: SavePlace>(
     place: &mut P,
     options: Options,
 ) -> RunEnd
-    ensures { Session false options
+    ensures { (loaded : List ℕ) × Session false options
         (session_devices (device_of R.remaining reader.old)
         (device_of S.remaining script.old)
-        (device_of A.contents answers.old) (P.stands place.old))
+        (device_of A.contents answers.old) (P.place place.old loaded))
         (session_devices (device_of R.remaining reader.new)
         (device_of S.remaining script.new)
-        (device_of A.contents answers.new) (P.stands place.new))
+        (device_of A.contents answers.new) (P.place place.new loaded))
         result }
 {
     match load(alloc, reader, options) {
@@ -65,7 +67,7 @@ pub fn session<R: Read, S: Read, A: Write, P: SavePlace>(
 
 /// What follows the load: answers the lines, and saves the volume where that is asked for. The
 /// volume is lent, as to [`run_loaded`](crate::run_loaded).
-pub fn session_loaded<S: Read, A: Write, P: SavePlace>(
+pub fn session_loaded<S: Read, A: Write, P: Saves>(
     alloc: Global,
     bench: &mut Bench,
     script: &mut Source<S>,
@@ -75,18 +77,21 @@ pub fn session_loaded<S: Read, A: Write, P: SavePlace>(
 ) -> RunEnd
     ensures session { (before after : Device) →
         Loads before after options.reading options.limits bench.old.state.on_disk
-        bench.old.state → IsTrue bench.new.agreed → Session bench.old.state.on_disk options
+        bench.old.state → bench.old.loaded ≡ bytes_of bench.old.state.volume →
+        IsTrue bench.new.agreed → Session bench.old.state.on_disk options
         (session_devices before (device_of S.remaining script.old)
-        (device_of A.contents answers.old) (P.stands place.old))
+        (device_of A.contents answers.old) (P.place place.old bench.old.loaded))
         (session_devices after (device_of S.remaining script.new)
-        (device_of A.contents answers.new) (P.stands place.new))
+        (device_of A.contents answers.new) (P.place place.new bench.new.loaded))
         result }
     ensures same { IsReadAs bench.old.state bench.new.state }
     ensures agreed { IsTrue bench.new.agreed → IsTrue bench.old.agreed }
     ensures loaded { bench.new.loaded ≡ bench.old.loaded }
 {
-    // The law by which each line is answered as from scratch, for the proof.
+    // The laws by which each line is answered as from scratch, and by which the place is one for
+    // this volume, for the proof.
     steps_stay_cut();
+    place.follows();
     match answer_lines(alloc, bench, script, answers, place, options.stop) {
         SessionLines::Stopped { line } => RunEnd::Stopped { line },
         SessionLines::Answers { written } => RunEnd::Answers { written },
@@ -105,7 +110,7 @@ pub fn session_loaded<S: Read, A: Write, P: SavePlace>(
             if !is_asked(options.save, is_cut_off) {
                 return RunEnd::Done { refused };
             }
-            match save_now(alloc, bench, place) {
+            match place.save_at_end(alloc, bench) {
                 Ok(_bytes) => RunEnd::Done { refused },
                 Err(_fault) => RunEnd::SaveAtEnd { refused },
             }

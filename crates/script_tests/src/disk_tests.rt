@@ -5,7 +5,7 @@ use edit_overlay::ReadFault;
 use frame_cut::LoadFault;
 use safe_save::MemoryPlace;
 use script_hints::Notes;
-use script_run::{Bench, RunEnd, load_on_disk, run_loaded, run_on_disk, session_on_disk};
+use script_run::{Bench, Outside, RunEnd, load_on_disk, run_loaded, run_on_disk, session_on_disk};
 use std::alloc::Global;
 use std::fs;
 use std::fs::File;
@@ -149,7 +149,9 @@ fn session_end(
 ) -> Result<RunEnd, Fail> {
     let options = options(false, false)?;
     let lines = &mut Source::new(StepReader::new(b"count\n", 4096, u64::MAX));
-    let place = &mut MemoryPlace::new(alloc);
+    let place = &mut Outside {
+        place: MemoryPlace::new(alloc),
+    };
     Ok(session_on_disk(alloc, file, size, lines, answers, place, options).close())
 }
 

@@ -2,7 +2,7 @@
 use crate::tests::{Told, Wanted, is_told, options, put, sample_file};
 use device_io::{Sink, Source, StepReader};
 use safe_save::MemoryPlace;
-use script_run::{Options, RunEnd, session};
+use script_run::{Options, Outside, RunEnd, session};
 use script_text::ScriptFault;
 use std::alloc::Global;
 use std::test::Fail;
@@ -13,24 +13,25 @@ fn answers_over(
     alloc: Global,
     reader: StepReader,
     options: Options,
-    mut place: MemoryPlace,
+    place: MemoryPlace,
     wanted: Wanted,
 ) -> Result<bool, Fail> {
     let file = sample_file(alloc)?;
     let mut volume = Source::new(StepReader::new(file.as_slice(), 1000, u64::MAX));
     let mut answers = Sink::new(Vec::new(alloc));
+    let mut out = Outside { place };
     let end = session(
         alloc,
         &mut volume,
         &mut Source::new(reader),
         &mut answers,
-        &mut place,
+        &mut out,
         options,
     );
     let told = Told {
         end,
         answers: answers.into_inner(),
-        saved: place.bytes,
+        saved: out.place.bytes,
     };
     Ok(is_told(&told, wanted))
 }

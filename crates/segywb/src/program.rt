@@ -8,16 +8,16 @@ use frame_cut::{Limits, LoadFault};
 use journal_codes::PIECE_ROOM;
 use journal_save::Disk;
 use run_ending::{
-    OutPlace, Target, disk_of, finish, finish_in_place, finish_told, journal_refusal, look_at_file,
-    misuse, reading_of, recover_file, refused_out, target_of, tell_how_to_begin,
+    OutPlace, RepairTeller, Target, disk_of, finish, finish_in_place, finish_told, journal_refusal,
+    look_at_file, misuse, reading_of, recover_file, refused_out, target_of, tell_how_to_begin,
 };
 use safe_save::{
     BoundedFile, Original, Save, answers_limit, hold_standard_streams, keep_from_clearing,
 };
 use script_hints::Notes;
 use script_run::{
-    Options, RepairRun, RunEnd, refuse_load, run, run_in_place, run_on_disk, run_on_disk_in_place,
-    session, session_on_disk,
+    InPlace, Options, Outside, RepairRun, RunEnd, Saves, refuse_load, run, run_in_place,
+    run_on_disk, run_on_disk_in_place, session, session_on_disk,
 };
 use std::fs::{File, Metadata, OpenFile};
 use std::io::{BufWriter, Read, Write};
@@ -134,6 +134,7 @@ fn open_and_run<'a, R: Files<File = File> + Clock + AllocGlobal + Print + Eprint
         Some(lines) if arguments.in_place => {
             repair(rt, arguments, original, is_large, volume, lines)
         }
+        None if arguments.in_place => repair_at_saves(rt, arguments, original, is_large, volume),
         lines => open_out_and_run(rt, arguments, original, is_large, volume, lines),
     }
 }
@@ -279,20 +280,56 @@ fn session_over<'a, R: Files<File = File> + Clock + AllocGlobal + Print + Eprint
 ) -> u8
     requires { IfSome arguments.now.max_bytes (λ n. n ≤ 1099511627776) }
 {
-    let mut place = OutPlace::new(rt, *arguments, original);
+    let mut out = Outside {
+        place: OutPlace::new(rt, *arguments, original),
+    };
+    let end = session_to(rt, arguments, original, volume, &mut out);
+    finish_told(rt, arguments, out.place.original(), end)
+}
+
+// Answers a session on standard input over the file, whose saves repair FILE itself.
+fn repair_at_saves<'a, R: Files<File = File> + Clock + AllocGlobal + Print + Eprint + Input>(
+    rt: &'a R,
+    arguments: &Arguments<'a>,
+    original: Option<Original<'a>>,
+    is_large: bool,
+    volume: Volume<R::File>,
+) -> u8
+    requires { IfSome arguments.now.max_bytes (λ n. n ≤ 1099511627776) }
+{
+    let disk = match disk_of(rt, arguments, original) {
+        Ok(disk) => disk,
+        Err(status) => return status,
+    };
+    if is_large {
+        return too_large(rt, arguments);
+    }
+    let teller = RepairTeller::new(rt, *arguments);
+    let mut own = InPlace::new(rt.alloc(), disk, teller, arguments.on_disk);
+    let end = session_to(rt, arguments, original, volume, &mut own);
+    finish_told(rt, arguments, own.disk.original(), end)
+}
+
+// Answers a session on standard input over the file, whose saves go to this place.
+fn session_to<R: Files<File = File> + AllocGlobal + Print + Input, P: Saves>(
+    rt: &R,
+    arguments: &Arguments,
+    original: Option<Original>,
+    volume: Volume<R::File>,
+    place: &mut P,
+) -> RunEnd
+    requires { IfSome arguments.now.max_bytes (λ n. n ≤ 1099511627776) }
+{
     let options = options(arguments, original.is_some());
     let script = &mut Source::new(rt.reader());
     let answers = &mut Sink::new(BoundedFile::new(io::writer(rt), answers_limit(rt)));
     let alloc = rt.alloc();
-    let end = match volume {
-        Volume::Memory(mut volume) => {
-            session(alloc, &mut volume, script, answers, &mut place, options)
-        }
+    match volume {
+        Volume::Memory(mut volume) => session(alloc, &mut volume, script, answers, place, options),
         Volume::Disk(volume, bytes) => {
-            session_on_disk(alloc, volume, bytes, script, answers, &mut place, options).close()
+            session_on_disk(alloc, volume, bytes, script, answers, place, options).close()
         }
-    };
-    finish_told(rt, arguments, place.original(), end)
+    }
 }
 
 // Runs the script over the file, and repairs FILE itself.

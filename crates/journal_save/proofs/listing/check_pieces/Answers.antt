@@ -8,7 +8,7 @@ use Rattle.journal_save.proofs.listing.check_pieces.Goals as goal
 pub returns-in_err-listed-clause-refused : goal.returns-in_err-listed-clause-refused
 returns-in_err-listed-clause-refused g c =
     let p = err_from_is_err_and c.from_residual.result c.from_residual.ensures.1 in
-    if_err (λ error. (bytes : List ℕ) → Shows (g.D.Disk.disk c.args.disk.now) bytes → c.args.end ≤ length bytes → AreUnlisted error c.args.file (drop 32 (take c.args.end bytes))) c.from_residual.result c.in_err-listed.field-0.0 (rw p.2 at p.1) (λ bytes shows le.
+    if_err (λ error. (bytes : List ℕ) → Shows (g.D.Disk.disk c.args.disk.now) bytes → c.args.end ≤ length bytes → AreUnlisted error c.args.file (drop 40 (take c.args.end bytes))) c.from_residual.result c.in_err-listed.field-0.0 (rw p.2 at p.1) (λ bytes shows le.
     walked_lost c.in_err-listed.field-0.0 c.args.file c.pieces.from c.args.end bytes c.args.hasher.now c.pieces.hasher (omega arith) le (c.pieces.invariant.walked bytes shows le) (c.in_err-listed.ensures.refused bytes (shows_again _ _ bytes c.pieces.invariant.same shows) le))
 
 pub pieces-preserved : goal.pieces-preserved

@@ -13,7 +13,7 @@ use Rattle.script_run.proofs.answering.answer_lines.Goals.{then-told+else-stop, 
 pub lines-init : goal.lines-init
 lines-init g c =
     rw c.new-ahead.ensures (
-      λ sure. none_yet (standing c.args.bench.now.state (g.P.SavePlace.stands c.args.place.now)) _ _ c.args.stop (device_of g.A.Write.contents c.args.answers.now) (none_taken (g.S.Read.remaining c.args.script.now.inner))
+      λ sure. none_yet (standing c.args.bench.now.state (g.P.Saves.place c.args.place.now c.args.bench.now.loaded)) _ _ c.args.stop (device_of g.A.Write.contents c.args.answers.now) (none_taken (g.S.Read.remaining c.args.script.now.inner))
           (stays (g.A.Write.contents c.args.answers.now.inner)),
       refl,
       omega arith,
@@ -29,19 +29,19 @@ returns-in-End-clause-lines g c = λ sure.
 
 pub returns-then-stop-clause-lines : goal.returns-then-stop-clause-lines
 returns-then-stop-clause-lines g c = λ sure.
-    stops _ (device_of g.S.Read.remaining c.args.script.now) _ _ c.in-Line.ensures.next.0 c.in-Line.has_end _ _ _ _ _ _ _ (standing c.answer.new.bench.state (g.P.SavePlace.stands c.answer.new.place)) (c.in-Ok.ensures.line sure).0 (c.lines.invariant.0 (c.in-Ok.ensures.agreed sure)) c.in-Line.ensures.next.1
+    stops _ (device_of g.S.Read.remaining c.args.script.now) _ _ c.in-Line.ensures.next.0 c.in-Line.has_end _ _ _ _ _ _ _ (standing c.answer.new.bench.state (g.P.Saves.place c.answer.new.place c.answer.new.bench.loaded)) (c.in-Ok.ensures.line sure).0 (c.lines.invariant.0 (c.in-Ok.ensures.agreed sure)) c.in-Line.ensures.next.1
     ((c.in-Ok.ensures.line sure).1 c.in-Line.ensures.next.0 c.in-Line.ensures.next.2) _ (c.in-Ok.ensures.line sure).2.0 (sym (c.in-Ok.ensures.line sure).2.2 ∙ c.if-told.true) c.if-stop.true
 
 pub returns-in-Err-clause-lines : goal.returns-in-Err-clause-lines
 returns-in-Err-clause-lines g c = λ sure.
-    breaks_off _ (device_of g.S.Read.remaining c.args.script.now) _ _ c.in-Line.ensures.next.0 c.in-Line.has_end _ _ _ _ _ _ _ (standing c.answer.new.bench.state (g.P.SavePlace.stands c.answer.new.place)) (c.in-Err.ensures.line sure).0 (c.lines.invariant.0 (c.in-Err.ensures.agreed sure)) c.in-Line.ensures.next.1
+    breaks_off _ (device_of g.S.Read.remaining c.args.script.now) _ _ c.in-Line.ensures.next.0 c.in-Line.has_end _ _ _ _ _ _ _ (standing c.answer.new.bench.state (g.P.Saves.place c.answer.new.place c.answer.new.bench.loaded)) (c.in-Err.ensures.line sure).0 (c.lines.invariant.0 (c.in-Err.ensures.agreed sure)) c.in-Line.ensures.next.1
     ((c.in-Err.ensures.line sure).1 c.in-Line.ensures.next.0 c.in-Line.ensures.next.2) _ (c.in-Err.ensures.line sure).2.0 c.saturating_add.result (c.in-Err.ensures.line sure).2.2
     (omega (arith, c.saturating_add.ensures, (c.in-Err.ensures.line sure).2.1))
 
 pub lines-preserved : goal.lines-preserved
 lines-preserved g c = elim c.if-told.branch [
   | then-told+else-stop w ↦ (
-    λ sure. one_more _ (device_of g.S.Read.remaining c.args.script.now) _ _ c.in-Line.ensures.next.0 c.in-Line.has_end _ _ _ _ _ _ _ (standing c.answer.new.bench.state (g.P.SavePlace.stands c.answer.new.place)) (c.in-Ok.ensures.line sure).0 (c.lines.invariant.0 (c.in-Ok.ensures.agreed sure)) c.in-Line.ensures.next.1
+    λ sure. one_more _ (device_of g.S.Read.remaining c.args.script.now) _ _ c.in-Line.ensures.next.0 c.in-Line.has_end _ _ _ _ _ _ _ (standing c.answer.new.bench.state (g.P.Saves.place c.answer.new.place c.answer.new.bench.loaded)) (c.in-Ok.ensures.line sure).0 (c.lines.invariant.0 (c.in-Ok.ensures.agreed sure)) c.in-Line.ensures.next.1
         ((c.in-Ok.ensures.line sure).1 c.in-Line.ensures.next.0 c.in-Line.ensures.next.2) _ c.if-told.refused c.saturating_add-written.result (c.in-Ok.ensures.line sure).2.0
         (one_refused _ _ _ (sym (c.in-Ok.ensures.line sure).2.2 ∙ w.if-told.true) w.refused-is)
         (omega (arith, c.saturating_add-written.ensures, (c.in-Ok.ensures.line sure).2.1)) (λ s. absurd (not_both c.args.stop s w.if-stop.false)) c.if-not-has_end.false,
@@ -52,7 +52,7 @@ lines-preserved g c = elim c.if-told.branch [
     c.in-Ok.ensures.loaded ∙ c.lines.invariant.5,
   )
   | else-told w ↦ (
-    λ sure. one_more _ (device_of g.S.Read.remaining c.args.script.now) _ _ c.in-Line.ensures.next.0 c.in-Line.has_end _ _ _ _ _ _ _ (standing c.answer.new.bench.state (g.P.SavePlace.stands c.answer.new.place)) (c.in-Ok.ensures.line sure).0 (c.lines.invariant.0 (c.in-Ok.ensures.agreed sure)) c.in-Line.ensures.next.1
+    λ sure. one_more _ (device_of g.S.Read.remaining c.args.script.now) _ _ c.in-Line.ensures.next.0 c.in-Line.has_end _ _ _ _ _ _ _ (standing c.answer.new.bench.state (g.P.Saves.place c.answer.new.place c.answer.new.bench.loaded)) (c.in-Ok.ensures.line sure).0 (c.lines.invariant.0 (c.in-Ok.ensures.agreed sure)) c.in-Line.ensures.next.1
         ((c.in-Ok.ensures.line sure).1 c.in-Line.ensures.next.0 c.in-Line.ensures.next.2) _ c.if-told.refused c.saturating_add-written.result (c.in-Ok.ensures.line sure).2.0
         (none_refused _ _ _ (sym (c.in-Ok.ensures.line sure).2.2 ∙ w.if-told.false) w.refused-is)
         (omega (arith, c.saturating_add-written.ensures, (c.in-Ok.ensures.line sure).2.1)) (λ s. sym (c.in-Ok.ensures.line sure).2.2 ∙ w.if-told.false) c.if-not-has_end.false,
@@ -82,11 +82,11 @@ returns-clause-lines g c = λ sure.
 pub returns-then-not-has_end-clause-lines : goal.returns-then-not-has_end-clause-lines
 returns-then-not-has_end-clause-lines g c = λ sure. rw c.cut_short.ensures (elim c.if-told.branch [
   | then-told+else-stop w ↦
-      cut_short _ (device_of g.S.Read.remaining c.args.script.now) _ _ c.in-Line.ensures.next.0 c.in-Line.has_end _ _ _ _ _ _ _ (standing c.answer.new.bench.state (g.P.SavePlace.stands c.answer.new.place)) (c.in-Ok.ensures.line sure).0 (c.lines.invariant.0 (c.in-Ok.ensures.agreed sure)) c.in-Line.ensures.next.1
+      cut_short _ (device_of g.S.Read.remaining c.args.script.now) _ _ c.in-Line.ensures.next.0 c.in-Line.has_end _ _ _ _ _ _ _ (standing c.answer.new.bench.state (g.P.Saves.place c.answer.new.place c.answer.new.bench.loaded)) (c.in-Ok.ensures.line sure).0 (c.lines.invariant.0 (c.in-Ok.ensures.agreed sure)) c.in-Line.ensures.next.1
       ((c.in-Ok.ensures.line sure).1 c.in-Line.ensures.next.0 c.in-Line.ensures.next.2) (device_of g.S.Read.remaining c.next_line.new.source) _ c.if-told.refused (c.in-Ok.ensures.line sure).2.0
       (one_refused _ _ _ (sym (c.in-Ok.ensures.line sure).2.2 ∙ w.if-told.true) w.refused-is) (λ s. absurd (not_both c.args.stop s w.if-stop.false)) c.if-not-has_end.true (c.in-Line.ensures.next.3 c.if-not-has_end.true) (c.in-Line.ensures.failures ∙ c.lines.invariant.1)
   | else-told w ↦
-      cut_short _ (device_of g.S.Read.remaining c.args.script.now) _ _ c.in-Line.ensures.next.0 c.in-Line.has_end _ _ _ _ _ _ _ (standing c.answer.new.bench.state (g.P.SavePlace.stands c.answer.new.place)) (c.in-Ok.ensures.line sure).0 (c.lines.invariant.0 (c.in-Ok.ensures.agreed sure)) c.in-Line.ensures.next.1
+      cut_short _ (device_of g.S.Read.remaining c.args.script.now) _ _ c.in-Line.ensures.next.0 c.in-Line.has_end _ _ _ _ _ _ _ (standing c.answer.new.bench.state (g.P.Saves.place c.answer.new.place c.answer.new.bench.loaded)) (c.in-Ok.ensures.line sure).0 (c.lines.invariant.0 (c.in-Ok.ensures.agreed sure)) c.in-Line.ensures.next.1
       ((c.in-Ok.ensures.line sure).1 c.in-Line.ensures.next.0 c.in-Line.ensures.next.2) (device_of g.S.Read.remaining c.next_line.new.source) _ c.if-told.refused (c.in-Ok.ensures.line sure).2.0
       (none_refused _ _ _ (sym (c.in-Ok.ensures.line sure).2.2 ∙ w.if-told.false) w.refused-is) (λ s. sym (c.in-Ok.ensures.line sure).2.2 ∙ w.if-told.false) c.if-not-has_end.true (c.in-Line.ensures.next.3 c.if-not-has_end.true) (c.in-Line.ensures.failures ∙ c.lines.invariant.1)
 ])

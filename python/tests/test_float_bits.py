@@ -163,14 +163,15 @@ def beside_middles(count, seed):
 def test_decimals_beside_middles(tmp_path):
     """A decimal is rounded to the nearest IBM value once: also beside a middle of two, where its binary64 is that middle."""
     words = beside_middles(20000, "middles")
-    wanted = [float_words.pattern_of(1, word) for word in words]
-    assert wanted.count(None) < 500
-    count = len(words)
+    patterns = [float_words.pattern_of(1, word) for word in words]
+    wanted = [one for one in patterns if one is not None]
+    past = [word for word, one in zip(words, patterns) if one is None]
     path, out = tmp_path / "middles.sgy", tmp_path / "out.sgy"
-    path.write_bytes(float_words.line(1, [[0] * count]))
-    answers, _ = run(path, [f"patch 1 {k} {word}" for k, word in enumerate(words)], "--floats", "--out", out)
-    assert answers.splitlines() == ["refused E04 does not fit" if one is None else "ok" for one in wanted]
-    assert out.read_bytes() == float_words.line(1, [[one or 0 for one in wanted]])
+    path.write_bytes(float_words.line(1, [[0] * len(wanted)]))
+    all_fit = " ".join(word for word, one in zip(words, patterns) if one is not None)
+    answers, _ = run(path, [f"patch 1 0 {all_fit}", *(f"patch 1 0 {word}" for word in past)], "--floats", "--out", out)
+    assert answers.splitlines() == ["ok"] + ["refused E04 does not fit"] * len(past)
+    assert out.read_bytes() == float_words.line(1, [wanted])
 
 
 def test_kinds_of_numbers_in_a_patch(tmp_path):

@@ -121,11 +121,11 @@ fn write_length<W: fmt::Write>(
     };
     writeln!(f, "look trace_bytes {length}")?;
     match bytes_of_traces(size, fields, reading) {
-        Some(all) => {
+        Some(all) if length > 0 => {
             let (traces, rest) = (all / length, all % length);
             writeln!(f, "look traces {traces} rest {rest}")
         }
-        None => f.write_str("look traces none\n"),
+        _ => f.write_str("look traces none\n"),
     }
 }
 

@@ -543,6 +543,9 @@ fn options(arguments: &Arguments, is_one_limit: bool) -> Options
       opaque = arguments.now.opaque;
       floats = arguments.now.floats;
       order = arguments.now.order;
+      samples = arguments.now.samples;
+      format = arguments.now.format;
+      texts = arguments.now.texts;
     } }
     ensures bytes { result.limits.bytes ≡ unwrap_or arguments.now.max_bytes
         (usual_limit (arguments.now.on_disk || is_one_limit)) }

@@ -125,9 +125,9 @@ fits 'no texts' bad.sgy '--texts 0: 3 traces\n'
 cp block.sgy bad.sgy; put bad.sgy 3504 7fff
 fits 'one text' bad.sgy '--texts 1: 3 traces\n'
 cp s.sgy bad.sgy; put bad.sgy 3500 00; put bad.sgy 3224 000d; put bad.sgy 3714 0003
-fits 'a format where the traces tell another number' bad.sgy '--format 3 --samples 2: 3 traces\n'
+fits 'a format where the traces tell another number' bad.sgy '--samples 2 --format 3: 3 traces\n'
 cp block.sgy bad.sgy; put bad.sgy 3502 0000; put bad.sgy 3504 fffe; put bad.sgy 6914 0005
-fits 'a text where they do' bad.sgy '--texts 1 --samples 2: 3 traces\n'
+fits 'a text where they do' bad.sgy '--samples 2 --texts 1: 3 traces\n'
 cp s.sgy bad.sgy
 fits 'the fields where the reading is wrong' bad.sgy '--samples 2: 3 traces\n' --samples 9
 { head -c 3600 s.sgy; tail -c 732 s.sgy | head -c 244; } > bad.sgy; put bad.sgy 3220 0007
@@ -200,7 +200,7 @@ cp s.sgy bad.sgy; put bad.sgy 3296 02010403
 "$program" bad.sgy --look 2> errors | sed -n 2p > told
 [ "$(< told)" = 'look order big swapped' ] && tell 'swapped pairs' ok || tell 'swapped pairs' "$(< told)"
 cp x.sgy bad.sgy; put bad.sgy 3504 ffff; put bad.sgy 3528 00000001
-"$program" bad.sgy --look 2> errors | tail -n 8 | tr '\n' ' ' > told
+"$program" bad.sgy --look 2> errors | tail -n 7 | tr '\n' ' ' > told
 [ "$(< told)" = "look fixed 1 look texts -1 look extensions 1 look trailer 1 look first_trace 0 look trace_bytes 484 look traces none " ] && tell 'texts that end by themselves' ok || tell 'texts that end by themselves' "$(< told)"
 head -c 3599 s.sgy > short.sgy
 expect 'a look at a short file' 3 '' 'segywb: short.sgy: the two file headers have 3600 bytes\n' short.sgy --look

@@ -101,7 +101,7 @@ def test_nothing_is_told_where_nothing_is_said(told, tmp_path):
 
 def test_a_look(told, tmp_path):
     path = cube(tmp_path / "cube.sgy")
-    assert segywb.look(path) == segywb.Look(1234567, "big", "told", "1.0", 5, 2000, 1500, 1, -1, 0, 0, 0, 6240, 197, 7)
+    assert segywb.look(path) == segywb.Look(1234567, "big", "told", "1.0", 5, 2000, 1500, 0, 1, -1, 0, 0, 0, 6240, 197, 7)
     assert told()[-1] == [str(path), "--look"]
     segywb.look(str(path), fixed=True, order="big", samples=0, format=5, texts=2)
     assert told()[-1][2:] == ["--fixed", "--order", "big", "--samples", "0", "--format", "5", "--texts", "2"]

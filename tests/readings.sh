@@ -136,12 +136,12 @@ head -c 4331 s.sgy > bad.sgy
 fits 'a torn file' bad.sgy ''
 fits 'a torn file with header extensions' <(head -c 4331 x.sgy) ''
 # a pipe that has a name is not opened again: that would wait for a writer
-mkfifo named
+mkfifo refused.pipe
 cp s.sgy bad.sgy; put bad.sgy 3224 000d
-cat bad.sgy > named &
-timeout 20 "$program" named --script script > answers 2> errors
+cat bad.sgy > refused.pipe &
+timeout 20 "$program" refused.pipe --script script > answers 2> errors
 [ $? = 3 ] && tell 'a refused pipe with a name' ok || tell 'a refused pipe with a name' "$(< errors)"
-timeout 20 "$program" named --look > answers 2> errors
+timeout 20 "$program" refused.pipe --look > answers 2> errors
 [ $? = 3 ] && tell 'a look at a pipe with a name' ok || tell 'a look at a pipe with a name' "$(< errors)"
 # what is told is true: with the words that are told the file has so many traces
 for damage in '3220 0005' '3224 000d' '3504 0009' '3502 0000' '3500 00'; do

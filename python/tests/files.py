@@ -117,7 +117,7 @@ def torn(path, places):
     """Writes into a file as a repair that is cut off: the journal beside it has the old bytes of these places, of which each has new ones."""
     old = path.read_bytes()
     found = os.stat(path)
-    body = b"SEGYWBJL" + struct.pack("<3Q", 1, found.st_size, found.st_ino)
+    body = b"SEGYWBJL" + struct.pack("<4Q", 2, found.st_size, found.st_ino, 0)
     for at, new in places:
         body += struct.pack("<2Q", at, len(new)) + old[at:at + len(new)]
     journal = path.with_name(f".{path.name}.segywb-journal")

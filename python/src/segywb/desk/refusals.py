@@ -17,8 +17,8 @@ DECLARED = ("fixed", "samples", "format", "texts")
 # The names of what a look tells, as the page has them.
 LOOKED = {
     "bytes": "bytes of the file", "order": "byte order", "revision": "revision", "format": "format of the samples", "interval": "interval, microseconds",
-    "samples": "samples of a trace", "wide_samples": "samples of a trace, wide", "fixed": "fixed length flag", "texts": "extended textual headers", "extensions": "header extensions",
-    "trailer": "data trailer records", "first_trace": "place of the first trace", "trace_bytes": "bytes of such a trace",
+    "samples": "samples of a trace", "wide_samples": "samples of a trace, wide", "fixed": "fixed length flag", "texts": "extended textual headers",
+    "extensions": "header extensions", "trailer": "data trailer records", "first_trace": "place of the first trace", "trace_bytes": "bytes of such a trace",
     "traces": "such traces in the file", "rest": "bytes left behind them",
 }
 
@@ -71,7 +71,9 @@ def readings(path: str, options: Options, hints: Sequence[Options] = ()) -> List
     for other in candidates(options):
         if not any(set(one.options) <= set(other) for one in found):
             tried(other)
-    return found
+    # a number that is the binary header's own is asked for by --fixed alone
+    fixed = [one for one in found if one.options == {"fixed": True}]
+    return [one for one in found if list(one.options) != ["samples"] or not any((one.traces, one.samples) == (other.traces, other.samples) for other in fixed)]
 
 
 def looked(path: str, options: Options) -> List[List[str]]:

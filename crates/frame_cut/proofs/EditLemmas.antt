@@ -1,5 +1,5 @@
 -- What edits do to a file that is cut: it stays cut, and its bytes are spliced.
-use Rattle.std.proofs.Common.{◌≡◌, ℕ, zero, suc, ◌+◌, ◌*◌, ◌<◌, ◌≤◌, List, [], ◌∷◌, ◌++◌, length, take, drop, set, get_or, refl, sym, ap, ◌∙◌, arith, append_assoc, Some, Ok, All, Option, append-nil, subst}
+use Rattle.std.proofs.Common.{◌≡◌, ℕ, zero, suc, ◌+◌, ◌*◌, ◌<◌, ◌≤◌, List, [], ◌∷◌, ◌++◌, length, take, drop, set, get_or, refl, sym, ap, ◌∙◌, arith, append_assoc, Some, Ok, All, Option, append-nil, subst, inl, Bool}
 use Rattle.std.specs.List.{concat}
 use Rattle.std.proofs.lemmas.List.{length-append, length-set, drop_all, length-take, length-take-le, length-drop, take-append-drop, take-append-le, drop-append-le, set-get_or}
 use Rattle.std.proofs.lemmas.List.Elements.{All-set, All-take, All-drop, All-append, All-cons, All-get_or, recursion_from_All}
@@ -11,7 +11,8 @@ use Rattle.frame_cut.specs.Splice.{splice}
 use Rattle.frame_cut.specs.Volume.{Volume, front_of, behind_traces, bytes_of, start_of}
 use Rattle.frame_cut.specs.Heads.{head_of, traces_at}
 use Rattle.frame_cut.specs.Frames.{trace_length, front_length}
-use Rattle.frame_cut.specs.Cuts.{IsTrace, IsCut}
+use Rattle.frame_cut.specs.Parts.{untailed}
+use Rattle.frame_cut.specs.Cuts.{IsTrace, IsTail, IsCut}
 use Rattle.frame_cut.proofs.HeadFrontLemmas.{has_head, head_of-front}
 use Rattle.frame_cut.proofs.OneCutLemmas.{trace_length-append, IsBlock, length-blocks}
 
@@ -34,30 +35,35 @@ trace_length-front h t u lt lu e =
 grouped : (v : Volume) → bytes_of v ≡ v.text ++ v.bin ++ (concat v.blocks ++ (concat v.traces ++ behind_traces v))
 grouped v = append_assoc (front_of v) (concat v.traces) (behind_traces v) ∙ append_assoc (v.text ++ v.bin) (concat v.blocks) (concat v.traces ++ behind_traces v)
 
--- a file that is cut stays cut under its head with other whole traces and another textual header, within the limits
-pub recut : (reading : Reading) (l : Limits) (v : Volume) (text : List ℕ) (ts : List (List ℕ)) → IsCut (bytes_of v) reading l v → length text ≡ 3200 → All (IsTrace v.head) ts → length ts ≤ l.traces
-    → length (bytes_of (record v { text = text; traces = ts })) ≤ l.bytes → IsCut (bytes_of (record v { text = text; traces = ts })) reading l (record v { text = text; traces = ts })
-recut reading l v text ts cut len all few small =
-    let w : Volume = record v { text = text; traces = ts } in
+-- a file that is cut stays cut under its head with other whole traces, another textual header and another tail, within the limits
+pub recut_with : (reading : Reading) (l : Limits) (v : Volume) (text : List ℕ) (ts : List (List ℕ)) (tail : List ℕ) → IsCut (bytes_of v) reading l v → length text ≡ 3200 → All (IsTrace v.head) ts → length ts ≤ l.traces → IsTail reading v.head tail
+    → length (bytes_of (record v { text = text; traces = ts; tail = tail })) ≤ l.bytes → IsCut (bytes_of (record v { text = text; traces = ts; tail = tail })) reading l (record v { text = text; traces = ts; tail = tail })
+recut_with reading l v text ts left cut len all few is small =
+    let w : Volume = record v { text = text; traces = ts; tail = left } in
     let p = cut.parts in
     let front : length (concat v.blocks) ≡ 3200 * v.head.blocks = length-blocks v.blocks (recursion_from_All IsBlock v.blocks p.blocks.whole) ∙ ap (λ (n : ℕ). 3200 * n) p.blocks.count in
     let tail : length (concat v.trailer) ≡ 3200 * v.head.trailer = length-blocks v.trailer (recursion_from_All IsBlock v.trailer p.trailer.whole) ∙ ap (λ (n : ℕ). 3200 * n) p.trailer.count in
-    let room : 3200 * v.head.trailer ≤ length (concat ts ++ behind_traces v) = omega (arith, length-append (concat ts) (behind_traces v), length-append v.tail (concat v.trailer)) in
+    let room : 3200 * v.head.trailer ≤ length (concat ts ++ behind_traces w) = omega (arith, length-append (concat ts) (behind_traces w), length-append left (concat v.trailer)) in
     let old : head_of (v.text ++ v.bin ++ (concat v.blocks ++ (concat v.traces ++ behind_traces v))) reading l ≡ Ok v.head = ap (λ (s : List ℕ). head_of s reading l) (sym (grouped v)) ∙ p.head in
-    let fits : length (text ++ v.bin ++ (concat v.blocks ++ (concat ts ++ behind_traces v))) ≤ l.bytes = omega (arith, ap (λ (s : List ℕ). length s) (grouped w), small) in
+    let fits : length (text ++ v.bin ++ (concat v.blocks ++ (concat ts ++ behind_traces w))) ≤ l.bytes = omega (arith, ap (λ (s : List ℕ). length s) (grouped w), small) in
     record {
       joined = refl;
       parts = record {
-        head = ap (λ (s : List ℕ). head_of s reading l) (grouped w) ∙ head_of-front reading l v.head v.text text v.bin (concat v.blocks) (concat v.traces ++ behind_traces v) (concat ts ++ behind_traces v) p.text len p.bin front room fits old;
+        head = ap (λ (s : List ℕ). head_of s reading l) (grouped w) ∙ head_of-front reading l v.head v.text text v.bin (concat v.blocks) (concat v.traces ++ behind_traces v) (concat ts ++ behind_traces w) p.text len p.bin front room fits old;
         text = len;
         bin = p.bin;
         blocks = p.blocks;
         traces = all;
         few = few;
-        tail = p.tail;
+        tail = is;
         trailer = p.trailer;
       };
     }
+
+-- with the same tail
+recut : (reading : Reading) (l : Limits) (v : Volume) (text : List ℕ) (ts : List (List ℕ)) → IsCut (bytes_of v) reading l v → length text ≡ 3200 → All (IsTrace v.head) ts → length ts ≤ l.traces
+    → length (bytes_of (record v { text = text; traces = ts })) ≤ l.bytes → IsCut (bytes_of (record v { text = text; traces = ts })) reading l (record v { text = text; traces = ts })
+recut reading l v text ts cut len all few small = recut_with reading l v text ts v.tail cut len all few cut.parts.tail small
 
 -- ---- the bytes are spliced
 
@@ -219,6 +225,20 @@ cut_with_text reading l v text cut len =
     let old : length (front_of v) ≡ length v.text + length v.bin + length (concat v.blocks) = length-append (v.text ++ v.bin) (concat v.blocks) ∙ ap (λ (n : ℕ). n + length (concat v.blocks)) (length-append v.text v.bin) in
     let new : length (front_of (record v { text = text })) ≡ length text + length v.bin + length (concat v.blocks) = length-append (text ++ v.bin) (concat v.blocks) ∙ ap (λ (n : ℕ). n + length (concat v.blocks)) (length-append text v.bin) in
     recut reading l v text v.traces cut len cut.parts.traces cut.parts.few (omega (arith, length-bytes v, length-bytes (record v { text = text }), within reading l v cut, cut.parts.text))
+
+-- the tail taken away
+pub cut_untailed : (reading : Reading) (l : Limits) (v : Volume) → IsCut (bytes_of v) reading l v → IsCut (bytes_of (untailed v)) reading l (untailed v)
+cut_untailed reading l v cut =
+    let less : length (behind_traces (untailed v)) ≤ length (behind_traces v) = omega (arith, length-append v.tail (concat v.trailer)) in
+    recut_with reading l v v.text v.traces [] cut cut.parts.text cut.parts.traces cut.parts.few (inl refl) (omega (arith, less, length-bytes v, length-bytes (untailed v), within reading l v cut))
+
+-- whether a reading keeps a tail does not count where there is none
+pub cut_without : (file : List ℕ) (reading : Reading) (l : Limits) (v : Volume) (keeps : Bool) → IsCut file reading l v → v.tail ≡ [] → IsCut file (record reading { tail = keeps }) l v
+unfolding head_of
+cut_without file reading l v keeps cut none = record {
+  joined = cut.joined;
+  parts = record { head = cut.parts.head; text = cut.parts.text; bin = cut.parts.bin; blocks = cut.parts.blocks; traces = cut.parts.traces; few = cut.parts.few; tail = inl none; trailer = cut.parts.trailer };
+}
 
 -- ---- both at once
 

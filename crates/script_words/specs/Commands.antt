@@ -17,7 +17,7 @@ use Rattle.script_words.specs.declared.line_fault.LineFault.TheVariants.{Unknown
 use Rattle.script_words.specs.Words.{words_of, behind_word, text_behind_word, is_note}
 use Rattle.script_words.specs.Numbers.{number_of, position_of}
 use Rattle.float_codes.specs.declared.float_format.FloatFormat.{FloatFormat}
-use Rattle.script_words.specs.Readers.{Reader, name_of, field_of, target_of, alone, one, two, three, five, one_and_text, two_and_numbers}
+use Rattle.script_words.specs.Readers.{Reader, name_of, field_of, target_of, alone, one, two, three, five, one_and_text, two_and_numbers, tail_of}
 use Rattle.script_words.specs.HeaderCommands.{header_commands}
 
 -- ---- the commands
@@ -41,6 +41,10 @@ read_getbin = one field_of (λ field. Ask (queries.GetBin field))
 -- `declare`
 abbrev pub read_declare : Reader Command
 read_declare = alone (Apply edits.Declare)
+
+-- `drop tail`
+abbrev pub read_drop : Reader Command
+read_drop = one tail_of (λ _. Apply edits.DropTail)
 
 -- `text L TEXT`: the text is what stands behind L in the rest of the line, further blanks included
 abbrev pub read_text : List ℕ → Reader Command
@@ -122,6 +126,7 @@ commands floats rest =
     ∷ (codes "bin", read_bin)
     ∷ (codes "getbin", read_getbin)
     ∷ (codes "declare", read_declare)
+    ∷ (codes "drop", read_drop)
     ∷ (codes "text", read_text rest)
     ∷ (codes "line", read_line)
     ∷ (codes "lines", read_lines)
@@ -202,6 +207,7 @@ abbrev pub EditHoldsMemory : Edit → Type 0
 EditHoldsMemory (edits.Set p field x) = IsName field
 EditHoldsMemory (edits.SetBin field x) = IsName field
 EditHoldsMemory edits.Declare = ⊥
+EditHoldsMemory edits.DropTail = ⊥
 EditHoldsMemory (edits.SetText q text) = Unit {0}
 EditHoldsMemory (edits.Map name field) = Unit {0}
 EditHoldsMemory (edits.Unmap name) = Unit {0}

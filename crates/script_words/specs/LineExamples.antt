@@ -51,6 +51,20 @@ pub line-unknown : line_result None (codes "grids") ≡ Err Unknown
 unfolding is_utf8 chars encode_utf8
 line-unknown = refl
 
+-- ---- the tail
+
+pub line-drop : line_result None (codes "drop tail") ≡ Ok (Some (Apply edits.DropTail))
+unfolding is_utf8 chars encode_utf8
+line-drop = refl
+
+pub line-drop-other : line_result None (codes "drop 1") ≡ Err Number
+unfolding is_utf8 chars encode_utf8
+line-drop-other = refl
+
+pub line-drop-alone : line_result None (codes "drop") ≡ Err Words
+unfolding is_utf8 chars encode_utf8
+line-drop-alone = refl
+
 -- ---- edits of numbers of samples, and of a field of many traces
 
 pub line-resize : line_result None (codes "resize 2 65536") ≡ Ok (Some (Apply (edits.Resize 2 (pos 65536))))

@@ -34,6 +34,10 @@ abbrev pub quantity_of : List ℕ → Option Quantity
 quantity_of word = lookup (bytes_eq word)
     ((codes "inline", Inline) ∷ (codes "crossline", Crossline) ∷ (codes "offset", Offset) ∷ (codes "x", X) ∷ (codes "y", Y) ∷ [])
 
+-- what can be dropped: the word `tail`
+abbrev pub tail_of : List ℕ → Option (List ℕ)
+tail_of word = if bytes_eq word (codes "tail") then Some word else None
+
 -- an operand: a number where the word begins with a digit, `-` or `+`, else a field
 abbrev pub operand_of : List ℕ → Option Operand
 operand_of word = if is_to_be_number word then option_map operands.Number (number_of word) else option_map operands.Field (field_of word)

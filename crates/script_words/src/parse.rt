@@ -3,7 +3,7 @@ ghost use Rattle.std.specs.Prelude.{◌≡◌, ◌≢◌, ◌∷◌, [], length,
 ghost use Rattle.script_words.specs.Words.{words_of};
 ghost use Rattle.script_words.specs.declared.command.Command.TheVariants.{Ask as ask};
 ghost use Rattle.script_words.specs.Readers.{alone};
-ghost use Rattle.script_words.specs.Commands.{command_of, read_set, read_get, read_bin, read_getbin, read_declare, read_text, read_line, read_lines, read_code, read_map, read_unmap, read_sample, IsRead, IsParsed};
+ghost use Rattle.script_words.specs.Commands.{command_of, read_set, read_get, read_bin, read_getbin, read_declare, read_drop, read_text, read_line, read_lines, read_code, read_map, read_unmap, read_sample, IsRead, IsParsed};
 
 use crate::command::Command;
 use crate::fields::{field, target, text_of};
@@ -58,6 +58,7 @@ fn command(
         "bin" => bin(alloc, words),
         "getbin" => getbin(alloc, words),
         "declare" => declare(words),
+        "drop" => drop_tail(words),
         "text" => text(alloc, words),
         "line" => line(words),
         "lines" => lines(words),
@@ -123,6 +124,16 @@ fn declare(mut words: Words) -> Result<Command, LineFault>
         return Err(LineFault::Words);
     }
     Ok(Command::Apply(Edit::Declare))
+}
+
+fn drop_tail(words: Words) -> Result<Command, LineFault>
+    ensures { result ≡ read_drop (words_of words.entry) }
+{
+    let what = one(words).ok_or(LineFault::Words)?;
+    if what != "tail" {
+        return Err(LineFault::Number);
+    }
+    Ok(Command::Apply(Edit::DropTail))
 }
 
 fn text(alloc: Global, mut words: Words) -> Result<Command, LineFault>

@@ -9,8 +9,8 @@ ghost use Rattle.bench_rules.specs.State.{State};
 
 use bench_rules::{Answer, AskFault, Field, Info, Items, Text, binary_value, place_in_binary};
 use edit_overlay::Overlay;
-use frame_cut::Reading;
 use field_map::FieldMap;
+use frame_cut::Reading;
 use std::alloc::Global;
 use trace_record::PackedRecord;
 

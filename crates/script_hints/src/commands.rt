@@ -48,7 +48,7 @@ pub static COMMANDS: [&str; 41] = [
 // Their forms, in the same order. They are searched: a `match` of so many texts takes minutes to
 // prove.
 static FORMS: [&str; 41] = [
-    "set P FIELD NUMBER",
+    "set P [Q] FIELD NUMBER",
     "get P FIELD",
     "bin FIELD NUMBER",
     "getbin FIELD",

@@ -98,6 +98,16 @@ three a b c command (v ∷ w ∷ []) = Err Words
 three a b c command (w ∷ []) = Err Words
 three a b c command [] = Err Words
 
+-- four words; the third, which may want memory, is read last
+abbrev pub four : {A B C D E : Type 0} → (List ℕ → Option A) → (List ℕ → Option B) → (List ℕ → Option C) → (List ℕ → Option D) → (A → B → C → D → E) → Reader E
+four a b c d command (t ∷ u ∷ v ∷ w ∷ []) =
+    ok_or (option_and_then (λ i. option_and_then (λ j. option_and_then (λ l. option_map (λ k. command i j k l) (c v)) (d w)) (b u)) (a t)) Number
+four a b c d command (s ∷ t ∷ u ∷ v ∷ w ∷ words) = Err Words
+four a b c d command (u ∷ v ∷ w ∷ []) = Err Words
+four a b c d command (v ∷ w ∷ []) = Err Words
+four a b c d command (w ∷ []) = Err Words
+four a b c d command [] = Err Words
+
 -- five words; the third, which may want memory, is read last
 abbrev pub five : {A B C D E F : Type 0} → (List ℕ → Option A) → (List ℕ → Option B) → (List ℕ → Option C) → (List ℕ → Option D) → (List ℕ → Option E) → (A → B → C → D → E → F) → Reader F
 five a b c d e command (s ∷ t ∷ u ∷ v ∷ w ∷ []) =

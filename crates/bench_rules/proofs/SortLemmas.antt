@@ -14,7 +14,7 @@ use Rattle.frame_cut.specs.Cuts.{IsTrace, IsCut}
 use Rattle.frame_cut.specs.Splice.{splice}
 use Rattle.frame_cut.specs.Traces.{count_of, trace_at}
 use Rattle.frame_cut.specs.Volume.{Volume, front_of, behind_traces, bytes_of}
-use Rattle.frame_cut.proofs.EditLemmas.{recut, splice_inside, length-bytes}
+use Rattle.frame_cut.proofs.EditLemmas.{recut_with, splice_inside, length-bytes}
 use Rattle.frame_cut.proofs.HeadFrontLemmas.{has_head}
 use Rattle.bench_rules.specs.ManyTraces.{each_of, positions}
 use Rattle.bench_rules.specs.Sorted.{are_in_front, put_in_order, in_order, with_order, with_traces_as}
@@ -91,7 +91,7 @@ cut_permuted reading l v ts cut same =
     let count : length ts ≡ length v.traces = length_permutation v.traces ts same in
     let long : length (concat ts) ≡ length (concat v.traces) = length-concat ts ∙ (sum_by-IsPermutation (λ (t : List ℕ). length t) v.traces ts same ∙ sym (length-concat v.traces)) in
     let small : length (bytes_of v) ≤ l.bytes = (has_head (bytes_of v) reading l v.head cut.parts.head).small in
-    recut reading l v v.text ts cut cut.parts.text all (omega (arith, count, cut.parts.few)) (omega (arith, length-bytes v, length-bytes w, long, small))
+    recut_with reading l v v.text ts v.tail cut cut.parts.text all (omega (arith, count, cut.parts.few)) cut.parts.tail (omega (arith, length-bytes v, length-bytes w, long, small))
 
 module _ (v : Volume) (a b : ℕ) (order : List ℕ) (low : 1 ≤ a) (high : a ≤ b) (last : b ≤ count_of v) (same : IsPermutation (positions a b) order) where
   abbrev front : List (List ℕ)

@@ -9,6 +9,7 @@ use Rattle.frame_cut.specs.declared.reading.Reading.{Reading}
 use Rattle.frame_cut.specs.Cuts.{IsCut}
 use Rattle.frame_cut.specs.Layout.{bytes_at, pieces, volume_at, AreTracesOf}
 use Rattle.frame_cut.specs.Traces.{trace_at}
+use Rattle.frame_cut.specs.Volume.{Volume, bytes_of}
 use Rattle.trace_store.specs.declared.store.TraceStore.{TraceStore}
 use Rattle.trace_store.specs.Slots.{bytes_under}
 use Rattle.trace_store.specs.Stores.{payloads_of, traces_of}
@@ -34,6 +35,19 @@ just_cut l file reading limits h es n standing front back cut laid most loaded h
       few = rw extents few;
       so_far = none ∙ rw none refl;
     }
+
+-- the parts of the same file under the same head, at the same places
+cut_of : (file loaded : List ℕ) (h g : Head) (es fs : List Extent) (n m : ℕ) → loaded ≡ file → g ≡ h → fs ≡ es → m ≡ n → volume_at loaded g fs m ≡ volume_at file h es n
+cut_of file loaded h g es fs n m e f k l =
+    ap (λ (b : List ℕ). volume_at b g fs m) e ∙ (ap (λ (x : Head). volume_at file x fs m) f ∙ (ap (λ (xs : List Extent). volume_at file h xs m) k ∙ ap (λ (i : ℕ). volume_at file h es i) l))
+
+pub cut_again : (file : List ℕ) (reading : Reading) (limits : Limits) (loaded : List ℕ) (g : Head) (fs : List Extent) (m : ℕ) (h : Head) (es : List Extent) (n : ℕ) → loaded ≡ file → g ≡ h → fs ≡ es → m ≡ n
+    → IsCut file reading limits (volume_at file h es n) → IsCut file reading limits (volume_at loaded g fs m)
+cut_again file reading limits loaded g fs m h es n e f k l cut = subst (λ (v : Volume). IsCut file reading limits v) (sym (cut_of file loaded h g es fs n m e f k l)) cut
+
+pub loaded_again : (file : List ℕ) (reading : Reading) (limits : Limits) (loaded : List ℕ) (g : Head) (fs : List Extent) (m : ℕ) (h : Head) (es : List Extent) (n : ℕ) → loaded ≡ file → g ≡ h → fs ≡ es → m ≡ n
+    → IsCut file reading limits (volume_at file h es n) → loaded ≡ bytes_of (volume_at loaded g fs m)
+loaded_again file reading limits loaded g fs m h es n e f k l cut = e ∙ sym (cut_again file reading limits loaded g fs m h es n e f k l cut).joined
 
 -- the trace behind the first n
 pub extent-shown : (file : List ℕ) (h : Head) (es : List Extent) (k n m : ℕ) (e : Extent) → n < length es → m ≡ n → e ≡ get_or es n e → bytes_at file e ≡ trace_at (volume_at file h es k) (m + 1)

@@ -133,13 +133,16 @@ impl<T: Copy> Passing<T> {
             self.size,
             self.at,
         );
-        match read {
-            Ok(Some(length)) => self.next = length,
-            Ok(None) => {
+        let next = match read {
+            Ok(next) => next,
+            Err(fault) => return Err(fault),
+        };
+        match next {
+            Some(length) => self.next = length,
+            None => {
                 self.tail = left;
                 return Ok(false);
             }
-            Err(fault) => return Err(fault),
         }
         self.looks = self.looks.saturating_add(1);
         Ok(true)

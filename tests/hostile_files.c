@@ -438,7 +438,8 @@ static int run(char *program, long number, byte *bytes) {
         printf(" samples %lld format %lld texts %lld%s: ", (long long)file.samples_reading, (long long)file.format_reading, (long long)file.texts_reading, way == DECLARES ? ", declared" : way == DROPS ? ", dropped" : "");
         say_end(&ended);
         printf(saved.bytes ? ", saved %zu bytes" : ", nothing saved", saved.length);
-        printf("; wanted %s", wanted);
+        for (char *at = wanted; *at; at++) if (*at == '\n') *at = ';';
+        printf("; wanted %s\n", wanted);
     }
     count_as(is_accepted ? "accepted" : text);
     free(saved.bytes);

@@ -245,7 +245,8 @@ keeps() {
         elif [ "$got $(< answers)" != "3 load refused L14 truncated trace $((traces + 1))" ]; then outcome="without --tail, status $got: $(< answers)"
         elif [ "$traces" = 0 ]; then ! grep -q -e --tail errors || outcome="told: $(< errors)"
         else
-            [[ $told == *--tail* && " $(sed 's/.*--tail//' <<< "$told" | tr -c '0-9\n' ' ') " == *" $traces "*" $bytes "* ]] || outcome="told: $(< errors)"
+            [[ $told == *" --tail: $traces trace"* ]] || outcome="told: $(< errors)"
+            grep -q "ends $bytes bytes\? inside trace $((traces + 1))" errors || outcome="told: $(< errors)"
             [ "$(grep -c -e --tail errors)" = 1 ] || outcome="told: $(< errors)"
             "$program" "$file" "$@" $place --script script --quiet > answers 2> errors
             [ ! -s errors ] || outcome="told quietly: $(< errors)"

@@ -15,7 +15,7 @@ KNOWN = pytest.mark.skipif(not program.knows("--tail"), reason="the program is o
 REFUSAL = "load refused L14 truncated trace 3"
 TOLD = """segywb: {path}: L14 truncated trace 3 (the file ends 100 bytes inside trace 3)
 segywb: {path} can be read with --samples 7: 2 traces
-segywb: {path} can be read with --tail: 2 traces, and 100 bytes behind them
+segywb: {path} can be read with --tail: 2 traces, and what stands behind as bytes of no trace
 """
 # A program that refuses a file where it is not told --tail, and else answers some lines, over a file of so many bytes.
 SCRIPT = """
@@ -65,8 +65,8 @@ def test_the_refusal_names_it_last(kept, tmp_path):
 
 
 @pytest.mark.parametrize("text", [
-    "can be read with --tail: 2 traces, and 243 bytes behind them", "can be read with --tail: 1 trace and 1 byte behind it", "can be read with --tail: 2 traces",
-    "can be read with --tail: 2 traces; 243 bytes behind them", "can be read with --tail: 2 traces (and 243 bytes behind them)",
+    "can be read with --tail: 2 traces, and what stands behind as bytes of no trace", "can be read with --tail: 1 trace, and what stands behind as bytes of no trace",
+    "can be read with --tail: 2 traces", "can be read with --tail: 2 traces; 243 bytes behind them", "can be read with --tail: 2 traces (and 243 bytes behind them)",
 ])
 def test_the_words_of_the_hint(text):
     assert errors.readings_of(f"segywb: a.sgy {text}\n", "a.sgy") == [{"tail": True}]

@@ -28,7 +28,7 @@ if '--look' in words:
 if '--tail' not in words:
     print('load refused L14 truncated trace 13', flush=True)
     told = 'segywb: ' + words[0]
-    sys.stderr.write(told + ': L14 truncated trace 13 (the file ends 243 bytes inside trace 13)' + chr(10) + told + ' can be read with --tail: 12 traces, and 243 bytes behind them' + chr(10))
+    sys.stderr.write(told + ': L14 truncated trace 13 (the file ends 243 bytes inside trace 13)' + chr(10) + told + ' can be read with --tail: 12 traces, and what stands behind as bytes of no trace' + chr(10))
     sys.exit(3)
 words.remove('--tail')
 program = subprocess.Popen([real, *words], stdin=subprocess.PIPE, stdout=subprocess.PIPE)

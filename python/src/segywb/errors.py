@@ -97,7 +97,7 @@ def read_with(told: str, path: str) -> List[str]:
 
     >>> read_with("segywb: a.sgy: L14 truncated trace 3 (..)\\nsegywb: a.sgy can be read with --samples 1500: 3 traces\\n", "a.sgy")
     ['--samples 1500']
-    >>> read_with("segywb: a.sgy can be read with --tail: 2 traces, and 243 bytes behind them\\n", "a.sgy")
+    >>> read_with("segywb: a.sgy can be read with --tail: 2 traces, and what stands behind as bytes of no trace\\n", "a.sgy")
     ['--tail']
     """
     return list(dict.fromkeys(_READ_WITH.findall(told.replace(f"segywb: {path} can be", "segywb: FILE can be"))))
@@ -108,7 +108,7 @@ def readings_of(told: str, path: str) -> List[Dict[str, Any]]:
 
     >>> readings_of("segywb: a.sgy can be read with --format 5 --floats: 120 traces\\nsegywb: a.sgy can be read with --texts 2: 1 trace\\n", "a.sgy")
     [{'format': 5, 'floats': True}, {'texts': 2}]
-    >>> readings_of("segywb: a.sgy can be read with --tail: 1 trace, and 1 byte behind it\\n", "a.sgy")
+    >>> readings_of("segywb: a.sgy can be read with --tail: 1 trace, and what stands behind as bytes of no trace\\n", "a.sgy")
     [{'tail': True}]
     """
     return [reading for reading in map(_reading, read_with(told, path)) if reading]

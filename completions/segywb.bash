@@ -7,7 +7,7 @@ _segywb() {
         --order) mapfile -t COMPREPLY < <(compgen -W 'big little' -- "$word") ;;
         *)
             if [[ $word == -* ]]; then
-                mapfile -t COMPREPLY < <(compgen -W '--script --session --save-at-end --out --in-place --recover --on-disk --fixed --samples --format --texts --look --floats --opaque-samples --order --max-bytes --stop --quiet --help --version' -- "$word")
+                mapfile -t COMPREPLY < <(compgen -W '--script --session --save-at-end --out --in-place --recover --on-disk --fixed --samples --format --texts --tail --look --floats --opaque-samples --order --max-bytes --stop --quiet --help --version' -- "$word")
             else
                 compopt -o filenames 2> /dev/null
                 mapfile -t COMPREPLY < <(compgen -f -- "$word")

@@ -10,6 +10,7 @@ complete -c segywb -l fixed -d "read each trace with the binary header's number 
 complete -c segywb -l samples -x -d 'read each trace with so many samples'
 complete -c segywb -l format -x -a '1 2 3 5 6 7 8 9 10 11 12 15 16' -d 'read the samples in the format with this code'
 complete -c segywb -l texts -x -d 'read so many extended textual headers'
+complete -c segywb -l tail -d 'keep what is less than a trace behind the last one'
 complete -c segywb -l look -d 'print what the head says beside what the length says'
 complete -c segywb -l floats -d 'read floats too, with their values'
 complete -c segywb -l opaque-samples -d 'read formats without values too, their samples as bytes'

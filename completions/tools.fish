@@ -39,6 +39,7 @@ complete -c segywb-library -n '__fish_seen_subcommand_from mend' -l order -x -a 
 complete -c segywb-library -n '__fish_seen_subcommand_from mend' -l samples -x -d 'each trace has so many samples'
 complete -c segywb-library -n '__fish_seen_subcommand_from mend' -l format -x -d 'the format of the samples'
 complete -c segywb-library -n '__fish_seen_subcommand_from mend' -l texts -x -d 'so many extended textual headers'
+complete -c segywb-library -n '__fish_seen_subcommand_from mend' -l tail -d 'keep what is less than a trace behind the last one'
 complete -c segywb-library -n '__fish_seen_subcommand_from undo' -l run -x -d 'the number of the mend'
 complete -c segywb-library -s h -l help -d 'print help'
 for tool in segywb-plot segywb-report segywb-desk
@@ -48,6 +49,7 @@ for tool in segywb-plot segywb-report segywb-desk
     complete -c $tool -l samples -x -d 'each trace has so many samples'
     complete -c $tool -l format -x -d 'the format of the samples'
     complete -c $tool -l texts -x -d 'so many extended textual headers'
+    complete -c $tool -l tail -d 'keep what is less than a trace behind the last one'
     complete -c $tool -l max-bytes -x -d 'refuse files above so many bytes'
     complete -c $tool -s h -l help -d 'print help'
 end

@@ -2,6 +2,7 @@
 # Files that are cut at each length (of a long text, a trailer and a long trace, at some lengths and all near the ends), and files
 # whose headers name counts that they do not hold: each is refused by the name that the definitions give, or accepted, and then
 # saved byte for byte.
+# Under --tail those that are cut in their traces are read too, with the whole traces in front of the cut.
 # usage: tests/cuts.sh [PROGRAM]
 . "$(dirname "$0")/sweeps.sh"
 . "$here/framed.sh"
@@ -12,6 +13,11 @@ refused() {
     local name=$1 file=$2 first=$3 last=$4 text=$5
     shift 5
     sweep "$file cut, $name, to" "$first" "$last" "$@" make bad.sgy "$file:%" saves o.sgy may refused 3 "=load refused $text" - - -- "$program" bad.sgy --script count --out o.sgy
+}
+
+# kept FILE FIRST LAST TRACES [step N]: FILE cut to FIRST to LAST bytes has so many traces under --tail, and is saved as it is
+kept() {
+    sweep "$1 cut, with --tail, to" "$2" "$3" "${@:5}" make bad.sgy "$1:%" saves o.sgy may accepted 0 "=traces $4" - "$1:%" -- "$program" bad.sgy --tail --script count --out o.sgy
 }
 
 # accepted FILE LENGTH TRACES: FILE cut to so many bytes has so many traces, and is saved as it is
@@ -30,6 +36,12 @@ cuts() {
             refused "more than $from" "$file" $((from + 1)) $((from + 600)) "L14 truncated trace $p"
             refused "between" "$file" $((from + 601)) $((end - 1)) "L14 truncated trace $p" step 331
             refused "less than $end" "$file" $((end - 50)) $((end - 1)) "L14 truncated trace $p"
+        fi
+        if [ $((end - from)) -lt 1000 ]; then kept "$file" "$from" $((end - 1)) $((p - 1))
+        else
+            kept "$file" "$from" $((from + 250)) $((p - 1))
+            kept "$file" $((from + 251)) $((end - 1)) $((p - 1)) step 977
+            kept "$file" $((end - 20)) $((end - 1)) $((p - 1))
         fi
         accepted "$file" "$end" $p
         from=$end

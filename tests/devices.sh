@@ -121,11 +121,30 @@ on=("$program" s.sgy --script script --out o.sgy)
 is_left=$(find . -name '.*segywb-*')
 [ -z "$is_left" ] && tell 'no new file is left' ok || tell 'no new file is left' "$is_left"
 
+# ---- bytes of no trace behind the last one are read, and saved, as all others
+{ cat s.sgy; head -c 7 s.sgy; } > more.sgy
+{ cat whole.sgy; head -c 7 s.sgy; } > whole_more.sgy
+for place in '' --on-disk; do
+    on=("$program" more.sgy --tail $place --script script --out o.sgy)
+    once "bytes of no trace $place" saves o.sgy may whole 0 whole.txt - whole_more.sgy -- "${on[@]}"
+    failing saved $EIO whole.txt whole_more.sgy
+    sweep "the save of bytes of no trace $place fails at" $((bytes - 3)) $((bytes + 6)) "${torn[@]}" -- $library DEVICE=saved HOLDS=% "${on[@]}"
+    sweep "the save of bytes of no trace $place has just room" $((bytes + 7)) $((bytes + 8)) saves o.sgy may whole 0 whole.txt - whole_more.sgy -- $library DEVICE=saved HOLDS=% "${on[@]}"
+done
+on=("$program" more.sgy --tail --script script --out o.sgy)
+refused=(saves o.sgy may L01 3 '=load refused L01 read failed' - -)
+sweep 'a file with bytes of no trace fails at read' $((bytes - 3)) $((bytes + 8)) "${refused[@]}" -- $library DEVICE=more.sgy STEP=1 FAIL_CALL=% "${on[@]}"
+sweep 'a file with bytes of no trace fails behind its end' $((bytes + 9)) $((bytes + 9)) saves o.sgy may whole 0 whole.txt - whole_more.sgy -- $library DEVICE=more.sgy STEP=1 FAIL_CALL=% "${on[@]}"
+printf 'set 2 @189:4 7\nget 2 @189:4\ndrop tail\n' > dropped
+"$program" s.sgy --script dropped > dropped.txt
+once 'bytes of no trace that are taken away' saves o.sgy may whole 0 dropped.txt - whole.sgy -- "$program" more.sgy --tail --script dropped --out o.sgy
+on=("$program" s.sgy --script script --out o.sgy)
+
 # ---- the answers: to each line of a long script, and to a list that is longer than the program's buffers
 for _ in 1 2 3; do
     printf '%s\n' info count 'map mine @17:4' 'set 2 mine 7' 'get 2 mine' 'set 4 inline 7' fields 'copy 1 2' grid 'patch 2 0 7 8' 'slice 1' 'move 4 1'
     printf '%s\n' 'table 1 3 inline x' 'find 1 3 crossline 22 30' 'extremes 1 2' 'lines 0' 'table 1 9 inline' 'compute 1 3 offset inline * 2' 'compute 1 3 offset 7 / delay' 'sort 1 3 -crossline' 'sort 1 3 nine'
-    printf '%s\n' 'line 0 1' sett 'text 1 C LINE' 'line 0 1' 'unmap mine' 'get 2 mine' 'blank 2' faults histogram 'delete 2' 'delete 2' totals 'range x'
+    printf '%s\n' 'line 0 1' sett 'text 1 C LINE' 'line 0 1' 'unmap mine' 'get 2 mine' 'drop tail' 'drop head' drop 'blank 2' faults histogram 'delete 2' 'delete 2' totals 'range x'
 done > long
 echo 'header 2' >> long
 "$program" s.sgy --script long --out long.sgy > long.txt

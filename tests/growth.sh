@@ -22,7 +22,7 @@ last=0
 # may_want LINE: whether this line may be answered E11: its command takes memory, or to be read it does (names, texts, numbers)
 may_want() {
     case $1 in
-        count | info | totals | sample* | geometry* | stat\ * | fold* | range* | code* | delete*) return 1 ;;
+        count | info | totals | sample* | geometry* | stat\ * | fold* | range* | code* | delete* | drop*) return 1 ;;
         get*@* | bin*@*) return 1 ;;
         'lines 9') return 1 ;; # there is no such block
     esac
@@ -168,6 +168,22 @@ grows 'another number of floats' wide.sgy 'resize 2 5' 'stat 2' 'patch 2 0 nan i
 grows 'words that are no floats' f.sgy 'patch 1 0 1 +1' 'patch 1 0 1e 2' 'patch 9 0 1.5' 'patch 1 9 1.5' 'slice 0'
 option=("${@:2}")
 first=$before
+
+# ---- bytes of no trace behind the last one: they are kept, and taken away, without memory
+before=$first
+first=1
+option+=(--tail)
+{ cat s.sgy; head -c 239 x.sgy; } > more.sgy
+{ head -c 4084 tail.sgy; head -c 400 x.sgy; tail -c 6400 tail.sgy; } > records.sgy
+all=('patch 1 0 7' 'set 1 inline 7' 'copy 1 2' 'drop tail' 'blank 1' 'move 1 2' 'drop tail' 'delete 3' declare 'drop head' "${queries[@]}")
+grows 'bytes of no trace' more.sgy 'drop tail' info 'drop tail' info
+grows 'bytes of no trace among edits' more.sgy "${all[@]}"
+grows 'bytes of no trace in front of data trailer records' records.sgy "${all[@]}"
+grows 'bytes of no trace that stay' records.sgy 'set 1 inline 7' 'blank 1' info declare
+grows 'nothing behind the last trace' s.sgy 'drop tail' info 'set 1 inline 7'
+option=("${@:2}")
+first=$before
+grows 'drop tail without the reading' s.sgy 'drop tail' info 'drop tail' 'set 1 inline 7'
 
 # ---- long scripts: edits and queries at random
 random_lines() { # SEED NUMBER: into the array `all`

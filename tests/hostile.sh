@@ -1,6 +1,6 @@
 #!/usr/bin/env bash
 # 2000 hostile files, made from a seed: torn ones, ones with a tail, and ones whose headers say what is not there. No run ends by a
-# signal or takes too long, each refusal is the one that the manual names, and each file that is accepted is saved byte for byte.
+# signal or takes too long, each refusal is the one that the manual names, and each file that is accepted is told by `info` and saved byte for byte.
 # Prints the number of each refusal. SEED=N makes others.
 # usage: tests/hostile.sh [PROGRAM]
 . "$(dirname "$0")/sweeps.sh"
@@ -15,7 +15,7 @@ bases=(s.sgy s.sgy x.sgy x.sgy t.sgy untold.sgy deep.sgy deep.sgy ended.sgy ebcd
 runs=$number
 sort told | grep -v '^FAILED' | tr '\n' ' '
 echo
-for code in L02 L03 L04 L05 L06 L07 L08 L09 L10 L11 L12 L13 L14 L17 accepted declared undeclared; do
+for code in L02 L03 L04 L05 L06 L07 L08 L09 L10 L11 L12 L13 L14 L17 accepted declared undeclared tailed dropped; do
     if grep -q "^$code " told; then tell "some files are $code" ok; else tell "some files are $code" 'none is'; fi
 done
 

@@ -1,9 +1,10 @@
 /* Makes hostile SEG-Y files and runs the program on each: it loads the file, answers queries and saves it.
    usage: hostile_files PROGRAM SEED NUMBER FILE..
    Each of the NUMBER variants is one of the FILEs, cut, with a tail, or with bytes changed where the frame is steered, as the
-   numbers drawn from SEED say; --fixed, --samples, --format, --texts, --floats, --opaque-samples and --order are drawn too. Whether it is refused, with which text, and the
-   number of its traces are worked out here a second time, from the manual's words. A file that is refused gives that text alone and saves nothing; of one that is accepted no query
-   is refused, and it is saved byte for byte; or the line `declare` is, with what the manual says of it: done, where a load without the readings that it writes gives the same parts.
+   numbers drawn from SEED say; --fixed, --samples, --format, --texts, --tail, --floats, --opaque-samples and --order are drawn too. Whether it is refused, with which text, and what `info` says of it,
+   the bytes of no trace under --tail too, are worked out here a second time, from the manual's words. A file that is refused gives that text alone and saves nothing; of one that is accepted no query
+   is refused, and it is saved byte for byte; or the line `declare` is, with what the manual says of it: done, where a load without the readings that it writes gives the same parts; or `drop tail`,
+   behind which the bytes of no trace are not saved.
    Prints the variants that went otherwise, and how often each refusal came. */
 #include "run_program.h"
 #include <stdint.h>
@@ -27,16 +28,16 @@ static uint64_t draw(uint64_t below) {
 struct volume {
     const byte *bytes;
     size_t length, most;
-    int little, fixed_reading, floats_reading, opaque_reading;
+    int little, fixed_reading, floats_reading, opaque_reading, tail_reading;
     const char *order; /* that is asked for, or NULL */
     int is_opaque; /* its samples have no values */
     int64_t samples_reading, format_reading, texts_reading; /* that are asked for, or -1 */
 };
 
-/* The parts of a file that is accepted, with a number for where the traces begin. */
+/* The parts of a file that is accepted, with a number for where the traces begin, and the bytes of no trace behind them. */
 struct parts {
-    int little, major;
-    uint64_t traces, starts, samples, format, blocks, extensions, trailer;
+    int little, major, fixed;
+    uint64_t traces, starts, samples, format, blocks, extensions, trailer, tail;
 };
 
 static uint64_t field(const struct volume *file, size_t place, int size) {
@@ -109,23 +110,27 @@ struct frame {
     uint64_t samples;
 };
 
-/* The traces between two places: their number, or the refusal of the first that is torn or names too many extensions. */
+/* The traces between two places: their number, or the refusal of the first that is torn or names too many extensions. Under --tail what is torn is no trace. */
 static void judge_traces(const struct volume *file, struct frame frame, uint64_t at, uint64_t end, char *text, struct parts *parts) {
     unsigned long trace = 0;
-    parts->starts = 0;
+    parts->starts = parts->tail = 0;
     while (at < end) {
         uint64_t left = end - at, extensions = frame.extensions, samples = 0, named;
-        trace++;
-        if (left < 240 || (extensions && left < 480)) { sprintf(text, "L14 truncated trace %lu", trace); return; }
-        if (extensions && (named = field(file, at + 240 + 156, 2))) {
-            if (named > extensions) { sprintf(text, "L13 extension count trace %lu", trace); return; }
+        int is_torn = left < 240 || (extensions && left < 480);
+        if (!is_torn && extensions && (named = field(file, at + 240 + 156, 2))) {
+            if (named > extensions) { sprintf(text, "L13 extension count trace %lu", trace + 1); return; }
             extensions = named;
         }
-        if (!frame.fixed && frame.extensions) samples = field(file, at + 240 + 136, 4);
-        if (!frame.fixed && !samples) samples = field(file, at + 114, 2);
-        if (!samples || frame.fixed) samples = frame.samples;
-        samples = 240 * (1 + extensions) + frame.width * samples;
-        if (left < samples) { sprintf(text, "L14 truncated trace %lu", trace); return; }
+        if (!is_torn) {
+            if (!frame.fixed && frame.extensions) samples = field(file, at + 240 + 136, 4);
+            if (!frame.fixed && !samples) samples = field(file, at + 114, 2);
+            if (!samples || frame.fixed) samples = frame.samples;
+            samples = 240 * (1 + extensions) + frame.width * samples;
+            is_torn = left < samples;
+        }
+        if (is_torn && file->tail_reading) { parts->tail = left; break; }
+        if (is_torn) { sprintf(text, "L14 truncated trace %lu", trace + 1); return; }
+        trace++;
         at += samples;
         parts->starts = parts->starts * 1000003 + at;
     }
@@ -171,7 +176,7 @@ static void judge(struct volume *file, char *text, struct parts *parts) {
     if (!frame.samples) frame.samples = field(file, 3220, 2);
     if (file->samples_reading >= 0) frame.samples = file->samples_reading;
     frame.fixed = file->fixed_reading || file->samples_reading >= 0 || (major && field(file, 3502, 2));
-    parts->little = file->little, parts->major = major, parts->samples = frame.samples, parts->format = format;
+    parts->little = file->little, parts->major = major, parts->fixed = frame.fixed, parts->samples = frame.samples, parts->format = format;
     parts->blocks = blocks, parts->extensions = frame.extensions, parts->trailer = trailer;
     judge_traces(file, frame, 3600 + 3200 * blocks, file->length - 3200 * trailer, text, parts);
 }
@@ -301,8 +306,16 @@ static char **reading_words(const struct volume *file, char **word, char room[3]
     return word;
 }
 
-/* Writes what the manual says that `declare` writes; whether a load without the readings then gives the same parts. */
+/* Takes the bytes of no trace out of a file of so many bytes; how many are left. */
+static size_t drop_tail(byte *bytes, size_t length, const struct parts *parts) {
+    size_t behind = 3200 * parts->trailer;
+    memmove(bytes + length - behind - parts->tail, bytes + length - behind, behind);
+    return length - parts->tail;
+}
+
+/* Writes what the manual says that `declare` writes; whether a load without the readings, of what is left without the bytes of no trace, then gives the same parts. */
 static int declare(const struct volume *file, const struct parts *parts, byte *bytes) {
+    static byte left[MOST_BYTES + 5000];
     struct volume plain = *file;
     struct parts again;
     char text[80];
@@ -314,16 +327,18 @@ static int declare(const struct volume *file, const struct parts *parts, byte *b
     if (file->format_reading >= 0) write_number(bytes + 3224, 2, file->format_reading, parts->little);
     if ((file->samples_reading >= 0 || file->fixed_reading) && parts->major) write_number(bytes + 3502, 2, 1, parts->little);
     if (file->texts_reading >= 0 && parts->major) write_number(bytes + 3504, 2, file->texts_reading, parts->little);
-    plain.bytes = bytes;
+    memcpy(left, bytes, file->length);
+    plain.bytes = left;
+    plain.length = drop_tail(left, file->length, parts);
     plain.samples_reading = plain.format_reading = plain.texts_reading = -1;
-    plain.fixed_reading = 0;
+    plain.fixed_reading = plain.tail_reading = 0;
     judge(&plain, text, &again);
     return text[0] == 't' && again.traces == parts->traces && again.starts == parts->starts && again.samples == parts->samples && again.format == parts->format
         && again.blocks == parts->blocks && again.extensions == parts->extensions && again.trailer == parts->trailer;
 }
 
 /* ---- the runs */
-static struct { char code[12]; long met; } met[20];
+static struct { char code[12]; long met; } met[24];
 
 static void count_as(const char *text) {
     int at;
@@ -331,6 +346,15 @@ static void count_as(const char *text) {
     for (at = 0; met[at].met && strncmp(met[at].code, text, length); at++);
     strncpy(met[at].code, text, length);
     met[at].met++;
+}
+
+/* What `info` answers, with so many bytes and so many of no trace. */
+static void info_of(const struct volume *file, const struct parts *parts, size_t length, uint64_t tail, char *line) {
+    line += sprintf(line, "info order %s revision %d.%d format %d samples %llu fixed %s extensions %d blocks %d trailer %d traces %llu bytes %zu", parts->little ? "little" : "big", parts->major,
+        file->bytes[3501], (int)parts->format, (unsigned long long)parts->samples, parts->fixed ? "yes" : "no", (int)parts->extensions, (int)parts->blocks, (int)parts->trailer,
+        (unsigned long long)parts->traces, length);
+    if (file->tail_reading) line += sprintf(line, " tail %llu", (unsigned long long)tail);
+    strcpy(line, "\n");
 }
 
 /* The queries: those of traces where there are traces, from the first to the last of them, and those of values where samples have them. */
@@ -356,14 +380,16 @@ static const char *told_beside(const char *text) {
 static int run(char *program, long number, byte *bytes) {
     extern char **environ;
     const char *told;
-    static byte declared[MOST_BYTES + 5000];
-    struct volume file = {bytes, vary(bytes), 4294967296, 0, draw(4) == 0, draw(3) == 0, draw(3) == 0, NULL, 0, -1, -1, -1};
+    static byte wanted_bytes[MOST_BYTES + 5000];
+    struct volume file = {bytes, vary(bytes), 4294967296, 0, draw(4) == 0, draw(3) == 0, draw(3) == 0, draw(3) == 0, NULL, 0, -1, -1, -1};
     struct parts parts;
-    char text[80], wanted[100], limit[30], numbers[3][20];
-    char *words[21] = {program, "variant.sgy", "--script", "queries", "--out", "saved.sgy", "--max-bytes", limit}, **word = words + 8;
+    size_t length;
+    char text[80], wanted[400], limit[30], numbers[3][20];
+    char *words[22] = {program, "variant.sgy", "--script", "queries", "--out", "saved.sgy", "--max-bytes", limit}, **word = words + 8;
     struct ended ended;
     struct text saved;
-    int well, is_accepted, declares, is_refused = 0;
+    int well, is_accepted, way, is_refused = 0;
+    enum { DECLARES = 1, DROPS };
     draw_readings(&file);
     if (draw(20) == 0 && file.length > 2) file.most = file.length - 2 + draw(4);
     sprintf(limit, "%zu", file.most);
@@ -371,20 +397,32 @@ static int run(char *program, long number, byte *bytes) {
     if (file.fixed_reading) *word++ = "--fixed";
     if (file.floats_reading) *word++ = "--floats";
     if (file.opaque_reading) *word++ = "--opaque-samples";
+    if (file.tail_reading) *word++ = "--tail";
     if (file.order) *word++ = "--order", *word++ = (char *)file.order;
     word = reading_words(&file, word, numbers);
     judge(&file, text, &parts);
     is_accepted = text[0] == 't';
-    memcpy(declared, bytes, file.length);
-    declares = draw(2) && is_accepted;
+    memcpy(wanted_bytes, bytes, file.length);
+    length = file.length;
+    way = is_accepted ? (int)draw(5) : -1;
     ask(text, file.is_opaque);
-    if (declares) {
-        is_refused = !declare(&file, &parts, declared);
-        if (is_refused) memcpy(declared, bytes, file.length);
+    sprintf(wanted, is_accepted ? "%s\n" : "load refused %s\n", text);
+    if (way == DECLARES || way == DROPS + 1) {
+        way = DECLARES;
+        is_refused = !declare(&file, &parts, wanted_bytes);
+        if (is_refused) memcpy(wanted_bytes, bytes, file.length);
         write_path("queries", "declare\n", 8);
         strcpy(wanted, is_refused ? "refused E06 frame\n" : "ok\n");
         count_as(is_refused ? "undeclared" : "declared");
-    } else sprintf(wanted, is_accepted ? "%s\n" : "load refused %s\n", text);
+    } else if (way == DROPS) {
+        length = drop_tail(wanted_bytes, length, &parts);
+        write_path("queries", "drop tail\ninfo\ndrop tail\n", 25);
+        strcpy(wanted, "ok\n");
+        info_of(&file, &parts, length, 0, wanted + 3);
+        strcat(wanted, "ok\n");
+        if (length != file.length) count_as("dropped");
+    } else if (is_accepted) info_of(&file, &parts, length, parts.tail, strchr(wanted, 0));
+    if (is_accepted && parts.tail) count_as("tailed");
     write_path("variant.sgy", bytes, file.length);
     unlink("saved.sgy");
     ended = run_program(words, environ);
@@ -393,14 +431,15 @@ static int run(char *program, long number, byte *bytes) {
     well = ended.status == (is_accepted ? is_refused : 3) && ended.errors.length == strlen(told) && !memcmp(ended.errors.bytes, told, strlen(told))
         && ended.answers.length >= strlen(wanted) && !memcmp(ended.answers.bytes, wanted, strlen(wanted))
         && (is_accepted || ended.answers.length == strlen(wanted))
-        && (is_accepted ? saved.bytes && saved.length == file.length && !memcmp(saved.bytes, declared, file.length) : !saved.bytes);
+        && (is_accepted ? saved.bytes && saved.length == length && !memcmp(saved.bytes, wanted_bytes, length) : !saved.bytes);
     if (!well) {
-        printf("FAILED variant %ld of %zu bytes, limit %s%s%s%s%s%s,", number, file.length, limit, file.fixed_reading ? ", fixed" : "", file.floats_reading ? ", floats" : "", file.opaque_reading ? ", opaque" : "",
-            file.order ? ", " : "", file.order ? file.order : "");
-        printf(" samples %lld format %lld texts %lld%s: ", (long long)file.samples_reading, (long long)file.format_reading, (long long)file.texts_reading, declares ? ", declared" : "");
+        printf("FAILED variant %ld of %zu bytes, limit %s%s%s%s%s%s%s,", number, file.length, limit, file.fixed_reading ? ", fixed" : "", file.floats_reading ? ", floats" : "", file.opaque_reading ? ", opaque" : "",
+            file.tail_reading ? ", tail" : "", file.order ? ", " : "", file.order ? file.order : "");
+        printf(" samples %lld format %lld texts %lld%s: ", (long long)file.samples_reading, (long long)file.format_reading, (long long)file.texts_reading, way == DECLARES ? ", declared" : way == DROPS ? ", dropped" : "");
         say_end(&ended);
         printf(saved.bytes ? ", saved %zu bytes" : ", nothing saved", saved.length);
-        printf("; wanted %s", wanted);
+        for (char *at = wanted; *at; at++) if (*at == '\n') *at = ';';
+        printf("; wanted %s\n", wanted);
     }
     count_as(is_accepted ? "accepted" : text);
     free(saved.bytes);

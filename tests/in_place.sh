@@ -63,6 +63,12 @@ printf 'copy 3 4\ndelete 4\nset 2 inline 4\n' > script
 repairs 'a trace that is gone again' s.sgy
 printf 'set 1 @1:4 9\nset 1 @240:1 1\n' > script
 for file in x.sgy t.sgy v.sgy deep.sgy ended.sgy ebcdic.sgy tail.sgy; do repairs "of each framing: $file" $file; done
+# bytes of no trace behind the last one stay where they are, and are no place of a repair
+{ head -c 4084 tail.sgy; zeros 400; tail -c 6400 tail.sgy; } > more.sgy
+{ cat s.sgy; zeros 7; } > longer.sgy
+for file in more.sgy longer.sgy; do repairs "bytes of no trace: $file" $file --tail; done
+printf 'drop tail\nset 1 @1:4 9\ndrop tail\n' > script
+for file in s.sgy tail.sgy; do repairs "drop tail of $file, which has none" $file --tail; repairs "drop tail of $file without the reading" $file; done
 printf 'text 1 none\n' > script
 repairs 'a file without traces' none.sgy
 printf 'set 1 @1:4 9\n' > script
@@ -96,6 +102,7 @@ unfit() {
     done
 }
 new_one='is a new one, or has another length (one was inserted, copied or resized)'
+at_its_end='traces at its end were deleted, or its tail was dropped'
 elsewhere='stood elsewhere in it (one was moved, sorted or deleted)'
 unfit 'a blank trace' "trace 2 $new_one" 'blank 2'
 unfit 'a copy at the end' "trace 4 $new_one" 'copy 1 4'
@@ -103,14 +110,24 @@ unfit 'a copy in the place of a trace' "trace 3 $new_one" 'copy 3 3' 'delete 4'
 unfit 'a trace that moved' "trace 1 $elsewhere" 'move 3 1'
 unfit 'traces that were sorted' "trace 1 $elsewhere" 'set 1 inline 99' 'sort 1 3 inline'
 unfit 'a trace that was deleted' "trace 2 $elsewhere" 'delete 2'
-unfit 'the last trace was deleted' 'traces at its end were deleted' 'delete 3'
-unfit 'all traces were deleted' 'traces at its end were deleted' 'delete 1' 'delete 1' 'delete 1'
+unfit 'the last trace was deleted' "$at_its_end" 'delete 3'
+unfit 'all traces were deleted' "$at_its_end" 'delete 1' 'delete 1' 'delete 1'
 cp s.sgy $own
 put $own 3502 0000
 cp $own varying.sgy
 printf 'resize 2 3\n' > lines
 runs --script lines --in-place
 check 'a resized trace' is 4 "$nothing_saved" varying.sgy
+cp s.sgy $own
+printf 'set 1 inline 7\ndrop tail\n' > lines
+for file in more.sgy longer.sgy; do
+    for way in '' --on-disk; do
+        cp $file $own
+        runs --tail $way --script lines --in-place
+        check "bytes of no trace that went: $file $way" is 4 "$nothing_saved" $file
+        check "and how they are told: $file $way" [ "$(sed -n 2p errors)" = "segywb: $own: $at_its_end; that needs a new file: save with --out, without --in-place" ]
+    done
+done
 cp s.sgy $own
 printf 'set 2 inline 7\nbogus\nmove 1 2\n' > lines
 runs --script lines --stop --in-place

@@ -45,8 +45,18 @@ for file in f1.sgy f5.sgy f6.sgy; do
     alike "floats of $file" $file --floats
     alike "opaque floats of $file" $file --opaque-samples
 done
+printf '%s\n' info 'set 1 inline 7' 'blank 2' 'resize 1 3' 'move 2 1' declare stanzas totals grid info 'drop head' > script
+{ cat s.sgy; zeros 239; } > s.more.sgy
+{ cat v.sgy; zeros 1; } > v.more.sgy
+for file in torn.sgy s.more.sgy v.more.sgy s.sgy; do alike "bytes of no trace, of $file" $file --tail; done
+alike 'bytes of no trace, and no such reading' s.more.sgy
+alike 'bytes of no trace above the limit' s.more.sgy --tail --max-bytes 4570
+alike 'bytes of no trace at the limit' s.more.sgy --tail --max-bytes 4571
+printf '%s\n' 'drop tail' info 'blank 4' 'drop tail' info >> script
+for file in torn.sgy s.more.sgy v.more.sgy s.sgy; do alike "bytes of no trace that are taken away, of $file" $file --tail; done
 : > script
 alike 'nothing is changed' v.sgy
+alike 'nothing is changed, with bytes of no trace' v.more.sgy --tail
 
 # ---- each worked example, with the option
 printf '#!/bin/sh\ncase " $* " in *" --help "*|*" --version "*) exec "%s" "$@" ;; esac\nfor word in "$@"; do [ ! -f "$word" ] || { exec "%s" "$@" --on-disk; }; break; done\nexec "%s" "$@"\n' \

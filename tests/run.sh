@@ -32,7 +32,7 @@ tell() {
 # refusals_told: standard error tells the refusals among the answers, in order, the first 20; what else it has goes to the file `others`
 refusals_told() {
     sed -nE 's/^(load )?refused //p' answers | head -n 20 > refusals
-    sed -E '/^segywb: [^:]*(:[0-9]+)?: [LES][0-9][0-9] /d; /^segywb: \.\. and [0-9]+ more refused lines?$/d; /^segywb: saved without [0-9]+ refused lines?; /d; /^segywb: .* can be read with --[a-z0-9 -]*: [0-9]+ traces?$/d' errors > others
+    sed -E '/^segywb: [^:]*(:[0-9]+)?: [LES][0-9][0-9] /d; /^segywb: \.\. and [0-9]+ more refused lines?$/d; /^segywb: saved without [0-9]+ refused lines?; /d; /^segywb: .* can be read with --[a-z0-9 -]*: [0-9]+ traces?$/d; /^segywb: .* can be read with .*--tail: /d' errors > others
     sed -nE 's/^segywb: [^:]*(:[0-9]+)?: ([LES][0-9][0-9] [^:(]*[^:( ]).*/\2/p' errors | cmp -s - refusals
 }
 

@@ -262,7 +262,7 @@ misused 'in place, and FILE is SCRIPT' '--in-place, and FILE is SCRIPT itself' s
 misused 'in place, and FILE is SCRIPT by a link' '--in-place, and FILE is SCRIPT itself' link --script hard --in-place
 misused 'in place, a session, and another OUT' '--in-place repairs FILE itself, and --out names another file' s.sgy --session --in-place --out room/o.sgy
 misused 'a save at the end, and nowhere' '--save-at-end needs --out, or --in-place' s.sgy --session --save-at-end
-for words in '--script script' --session '--out o.sgy' --in-place --save-at-end --on-disk --fixed --floats --opaque-samples '--order big' '--samples 4' '--format 3' '--texts 1' '--max-bytes 9' --look --stop; do misused "a recovery with $words" '--recover stands alone: segywb FILE --recover' s.sgy --recover $words; done
+for words in '--script script' --session '--out o.sgy' --in-place --save-at-end --on-disk --fixed --floats --opaque-samples '--order big' '--samples 4' '--format 3' '--texts 1' --tail '--max-bytes 9' --look --stop; do misused "a recovery with $words" '--recover stands alone: segywb FILE --recover' s.sgy --recover $words; done
 rm -f link hard
 "$program" s.sgy --script /dev/stdin --out script < script > answers 2> errors
 got=$?

@@ -93,6 +93,13 @@ as_a_run 'headers with an extension' x.sgy
 printf 'delete 1\nblank 1\ncopy 2 4\nmove 1 3\npatch 1 0 5 6\nrenumber 1 3 inline 100 5\ninlines\nget 1 inline\nsample 1 1\nbogus\ntotals\nrange x\n' > lines
 as_a_run 'traces' s.sgy
 as_a_run 'under --fixed' s.sgy --fixed
+{ cat s.sgy; zeros 100; } > more.sgy
+printf 'info\nset 1 inline 5\ndeclare\ncopy 1 4\ninfo\ndrop\ndrop head\ndrop tail tail\ndrop tail\ninfo\ndrop tail\nblank 1\ninfo\n' > lines
+as_a_run 'bytes of no trace' more.sgy --tail
+as_a_run 'and none' s.sgy --tail
+as_a_run 'and none without the reading' s.sgy
+printf 'info\nset 1 inline 5\ndeclare\ncopy 1 4\ninfo\n' > lines
+as_a_run 'bytes of no trace that stay' more.sgy --tail
 
 # ---- the answer is there before the next line is read
 mkfifo in out

@@ -42,6 +42,7 @@ def whole_file(v):
     yield "info", (
         f"info order {i.order} revision {i.revision} format {i.format} samples {i.samples} fixed {'yes' if i.fixed else 'no'} "
         f"extensions {i.extensions} blocks {i.blocks} trailer {i.trailer} traces {i.traces} bytes {i.bytes}"
+        + ("" if i.tail is None else f" tail {i.tail}")
     )
     yield "count", f"traces {len(v)}"
     yield "fields", listed("fields", (f"field {name} {place}" for name, place in v.fields().items()))

@@ -93,7 +93,7 @@ def test_types(tmp_path):
 
 def is_later(text):
     """Whether an example needs a program of after this one."""
-    return not program.knows("--look") and re.search(r"refused\.sgy|segywb\.look\(|\.declare\(", text)
+    return not program.knows("--tail") and re.search(r"refused\.sgy|cut\.sgy|tail=|drop_tail\(", text)
 
 
 def examples_of(name):

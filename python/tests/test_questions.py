@@ -15,7 +15,7 @@ EXAMPLES = sorted(path.stem for path in (TOP / "examples").glob("*.sgy"))
 MADE = [files.varying, files.stanzas, files.extended, files.empty, *(lambda path, form=form: files.odd_floats(path, form) for form in (1, 5, 6))]
 METHODS = {
     "set": "set", "renumber": "renumber", "compute": "compute", "sort": "sort", "get": "get", "map": "map", "unmap": "unmap", "fields": "fields", "bin": "set_bin",
-    "declare": "declare", "getbin": "getbin", "text": "set_text", "line": "line", "code": "code", "stanzas": "stanzas", "sample": "sample",
+    "declare": "declare", "drop": "drop_tail", "getbin": "getbin", "text": "set_text", "line": "line", "code": "code", "stanzas": "stanzas", "sample": "sample",
     "patch": "patch", "resize": "resize", "blank": "blank", "copy": "copy", "delete": "delete", "move": "move", "count": "count",
     "info": "info", "geometry": "geometry", "stat": "stat", "totals": "totals", "range": "range", "fold": "fold", "grid": "grid",
     "inlines": "inlines", "crosslines": "crosslines", "histogram": "histogram", "slice": "slice", "faults": "faults",
@@ -23,10 +23,10 @@ METHODS = {
 }
 
 
-def told(volume, path, edits=()):
+def told(volume, path, edits=(), options=()):
     """Compares all that Python shows with one run of the program."""
     pairs = retell.everything(volume)
-    answers, status = run(path, [*edits, *(question for question, _ in pairs)], "--floats")
+    answers, status = run(path, [*edits, *(question for question, _ in pairs)], "--floats", *options)
     assert answers == "".join(f"{line}\n" for line in ["ok"] * len(edits) + [answer for _, answer in pairs])
     assert status == 0
 

@@ -95,6 +95,8 @@ def test_options_that_are_asked_for(fake, opened, tmp_path):
     fake(f"open({str(tmp_path / 'words')!r}, 'w').write(' '.join(sys.argv[2:]))\n" + ECHO)
     opened("survey", fixed=True, opaque_samples=True, max_bytes=10**6, order="big", on_disk=True)
     assert (tmp_path / "words").read_text() == "--session --fixed --opaque-samples --order big --max-bytes 1000000 --on-disk"
+    opened("survey", tail=True, max_bytes=10**6)
+    assert (tmp_path / "words").read_text() == "--session --tail --max-bytes 1000000"
 
 
 @pytest.mark.parametrize("size", [2**32, 2**32 + 1])

@@ -139,7 +139,7 @@ def test_a_reading_is_one_of_those_that_are_named(screened, started):
 def test_hints_that_are_not_of_the_reading(example):
     """The desk finds out itself whether samples have values, and tries each reading that it offers."""
     path = str(example("cube"))
-    options = {"fixed": False, "order": None, "max_bytes": None, "on_disk": False, "samples": None, "format": None, "texts": None}
+    options = {"fixed": False, "order": None, "max_bytes": None, "on_disk": False, "samples": None, "format": None, "texts": None, "tail": False}
     assert refusals.hinted(options, [{"floats": True}, {"opaque_samples": True}, {"on_disk": True}, {}]) == []
     found = refusals.readings(path, options, [{"order": "little"}, {"order": "big", "fixed": True}])
     assert [one.words for one in found] == ["with --order big, with --fixed", "with --fixed", "with --order big"]

@@ -31,7 +31,7 @@ def test_in_place(room):
     digests = before[room.folder / "wrong_line.sgy"], digest(room.folder / "wrong_line.sgy")
     assert rows(room.db, query, str(room.folder / "wrong_line.sgy")) == [("begun", *digests, 4, None, "ok\nfaults 0"), ("saved", *digests, 4, 0, "ok\nfaults 0")]
     options = json.loads(rows(room.db, "SELECT options FROM mend")[0][0])
-    assert options == {"fixed": False, "order": None, "samples": None, "format": None, "texts": None, "go_on": False, "in_place": True}
+    assert options == {"fixed": False, "order": None, "samples": None, "format": None, "texts": None, "tail": False, "go_on": False, "in_place": True}
     assert library("verify", "--db", room.db) == "2 files are what the trail says, 0 are not\n"
     assert rows(room.db, f"SELECT count(*) FROM problem JOIN file ON file.id = file WHERE {WRONG}") == [(0,)]
     kept = list(room.keep.rglob("*.sgy"))

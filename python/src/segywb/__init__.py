@@ -42,7 +42,8 @@ __all__ = [
 
 def open(
     path: Path, fixed: bool = False, opaque_samples: bool = False, max_bytes: Optional[int] = None, order: Optional[str] = None,
-    on_disk: bool = False, floats: bool = True, samples: Optional[int] = None, format: Optional[int] = None, texts: Optional[int] = None
+    on_disk: bool = False, floats: bool = True, samples: Optional[int] = None, format: Optional[int] = None, texts: Optional[int] = None,
+    tail: bool = False
 ) -> Volume:
     """Opens a SEG-Y file: ``with segywb.open("cube.sgy") as volume: ..``.
 
@@ -54,6 +55,8 @@ def open(
 
     Three say what a file is whatever its headers say. ``samples``: each trace has so many samples. ``format``: the code of the samples, in the
     place of bytes 3225-3226. ``texts``: so many extended textual headers. ``Volume.declare`` writes them into the binary header.
+    ``tail``: what stands behind the last whole trace, and is less than a trace, is kept as bytes of no trace, where the file is refused without it (L14);
+    ``Volume.drop_tail`` takes them away.
 
     >>> with segywb.open("cube.sgy") as volume:
     ...     len(volume), volume.info.samples
@@ -61,5 +64,5 @@ def open(
     """
     return Volume(
         path, fixed=fixed, opaque_samples=opaque_samples, max_bytes=max_bytes, order=order, on_disk=on_disk, floats=floats, samples=samples,
-        format=format, texts=texts,
+        format=format, texts=texts, tail=tail,
     )

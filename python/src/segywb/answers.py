@@ -25,7 +25,8 @@ MEANINGS: Dict[str, str] = {
 
 
 class Info(NamedTuple):
-    """What the file is."""
+    """What the file is. ``tail`` is the number of bytes of no trace behind the last one, which are counted in ``bytes`` too; ``None`` where ``tail`` was
+    not asked for."""
 
     order: str
     revision: str
@@ -37,6 +38,7 @@ class Info(NamedTuple):
     trailer: int
     traces: int
     bytes: int
+    tail: Optional[int] = None
 
 
 class Geometry(NamedTuple):
@@ -289,8 +291,11 @@ def info(line: str) -> Info:
     """
     >>> info("info order big revision 1.0 format 3 samples 2 fixed yes extensions 0 blocks 0 trailer 0 traces 3 bytes 4332").traces
     3
+    >>> info("info order big revision 1.0 format 3 samples 2 fixed yes extensions 0 blocks 0 trailer 0 traces 3 bytes 4335 tail 3").tail
+    3
     """
-    got = pairs(words(line, "info"), Info._fields)
+    said = words(line, "info")
+    got = pairs(said, Info._fields if "tail" in said[0::2] else Info._fields[:-1])
     return Info(got[0], got[1], int(got[2]), int(got[3]), got[4] == "yes", *map(int, got[5:]))
 
 

@@ -219,6 +219,22 @@ class Contents(Headers):
         """
         self._edit("declare")
 
+    def drop_tail(self) -> None:
+        """Takes away the bytes of no trace that ``tail=True`` of ``segywb.open`` keeps behind the last trace; nothing changes where there are none.
+
+        >>> import tempfile
+        >>> from pathlib import Path
+        >>> cut = Path(tempfile.mkdtemp(), "cut.sgy")
+        >>> told = cut.write_bytes(Path("cube.sgy").read_bytes()[:-7])  # the last of its 12 traces lacks 7 bytes
+        >>> with segywb.open(cut, tail=True) as v:
+        ...     len(v), v.info.tail
+        ...     v.drop_tail()
+        ...     len(v), v.info.tail, v.edits
+        (11, 243)
+        (11, 0, ['drop tail'])
+        """
+        self._edit("drop", "tail")
+
     def resize(self, trace: int, samples: int) -> None:
         """Gives a trace that number of samples.
 

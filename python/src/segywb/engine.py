@@ -9,10 +9,10 @@ import warnings
 from contextlib import closing, contextmanager
 from typing import Iterable, Iterator, List, NamedTuple, Optional, Sequence
 
-from .answers import Answer, unexpected
+from .answers import Answer, info, unexpected
 from .errors import Closed, FileChanged, LoadRefused, OptionRefused, PathRefused, ProgramEnded, Refused, SaveFailed
 from .history import History, Step
-from .lines import decode, payload, silent
+from .lines import decode, dropping, moving, payload, silent
 from .repairs import CHANGED, NEW_FILE, UNSETTLED, InPlace, judged, repair
 from .session import Answers, Batch, Session
 from .stream import split
@@ -248,7 +248,12 @@ class Engine:
         with self._lock:
             self._open()
             self._unchanged()
-            return judged(self.path, self.history.sent().sent)
+            script = self.history.sent().sent
+            return judged(self.path, script, self._is_shorter(script))
+
+    def _is_shorter(self, script: bytes) -> bool:
+        """Whether these edits, which leave each trace its length, took bytes of no trace away."""
+        return moving(script) is None and dropping(script) and info(self.ask(b"info")[0]).bytes != self._stamp.size
 
     def repaired(self) -> bool:
         """A repair, where that is how the edits are saved over the file itself; whether it was made. Where it was not, nothing was written."""

@@ -9,8 +9,8 @@ from typing import Any, Dict, List, Optional, Sequence, Tuple
 _PARTS = {"E07": "T", "E08": "M"}
 # what arguments of `segywb.open` the program's options are; those of the first list have a value
 _VALUED = ("max-bytes", "order", "samples", "format", "texts")
-_TRUE = ("fixed", "floats", "on-disk", "opaque-samples")
-_READ_WITH = re.compile(r"^segywb: FILE can be read with ((?:--.*)): [0-9]+ traces?$", re.M)
+_TRUE = ("fixed", "floats", "on-disk", "opaque-samples", "tail")
+_READ_WITH = re.compile(r"^segywb: FILE can be read with ((?:--.*)): [0-9]+ traces?(?:[ ,;(].*)?$", re.M)
 
 
 class Error(Exception):
@@ -97,6 +97,8 @@ def read_with(told: str, path: str) -> List[str]:
 
     >>> read_with("segywb: a.sgy: L14 truncated trace 3 (..)\\nsegywb: a.sgy can be read with --samples 1500: 3 traces\\n", "a.sgy")
     ['--samples 1500']
+    >>> read_with("segywb: a.sgy can be read with --tail: 2 traces, and what stands behind as bytes of no trace\\n", "a.sgy")
+    ['--tail']
     """
     return list(dict.fromkeys(_READ_WITH.findall(told.replace(f"segywb: {path} can be", "segywb: FILE can be"))))
 
@@ -106,6 +108,8 @@ def readings_of(told: str, path: str) -> List[Dict[str, Any]]:
 
     >>> readings_of("segywb: a.sgy can be read with --format 5 --floats: 120 traces\\nsegywb: a.sgy can be read with --texts 2: 1 trace\\n", "a.sgy")
     [{'format': 5, 'floats': True}, {'texts': 2}]
+    >>> readings_of("segywb: a.sgy can be read with --tail: 1 trace, and what stands behind as bytes of no trace\\n", "a.sgy")
+    [{'tail': True}]
     """
     return [reading for reading in map(_reading, read_with(told, path)) if reading]
 

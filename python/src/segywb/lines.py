@@ -14,6 +14,7 @@ Field = Union[str, int]
 Path = Union[str, "os.PathLike[str]"]
 LONGEST = 16777216
 _MOVING = re.compile(rb"^[ \t]*((?:blank|copy|delete|move|resize|sort)[ \t][^\r\n]*)", re.M)
+_DROPPING = re.compile(rb"^[ \t]*drop[ \t]", re.M)
 
 
 def number(value: Any) -> str:
@@ -164,3 +165,12 @@ def moving(script: bytes) -> Optional[bytes]:
     """
     found = _MOVING.search(script)
     return found[1] if found else None
+
+
+def dropping(script: bytes) -> bool:
+    """Whether a line takes the bytes of no trace away, where there are any.
+
+    >>> dropping(b"set 1 inline 7\\n drop tail\\n"), dropping(b"map drop @17:4\\nset 1 drop 7\\n")
+    (True, False)
+    """
+    return bool(_DROPPING.search(script))

@@ -41,7 +41,7 @@ class Look(NamedTuple):
 
 def look(
     path: Path, fixed: bool = False, order: Optional[str] = None, samples: Optional[int] = None, format: Optional[int] = None,
-    texts: Optional[int] = None
+    texts: Optional[int] = None, tail: bool = False
 ) -> Look:
     """What ``segywb FILE --look`` tells of a file, also of one that is refused. The other arguments are those of ``segywb.open``.
 
@@ -63,6 +63,7 @@ def look(
     options += ["--order", order] if order is not None else []
     for option, value in (("--samples", samples), ("--format", format), ("--texts", texts)):
         options += [option, number(value)] if value is not None else []
+    options += ["--tail"] if tail else []
     status, answers, told = program.run([name, LOOK, *options])
     if status != 0:
         raise (OptionRefused if status == 2 else ProgramEnded)(f"the look at {name} failed", status, told)

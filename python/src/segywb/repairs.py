@@ -46,13 +46,16 @@ def journal_of(path: bytes) -> bytes:
     return os.path.join(folder, b"." + name + b".segywb-journal")
 
 
-def judged(path: str, script: bytes) -> InPlace:
-    """How these edits are saved over the file itself: in place where it is large, no trace moves, and no other name leads to the old bytes."""
+def judged(path: str, script: bytes, shorter: bool = False) -> InPlace:
+    """How these edits are saved over the file itself: in place where it is large, no trace moves, and no other name leads to the old bytes. ``shorter``:
+    they took bytes of no trace away."""
     if not program.knows("--recover"):
         return InPlace(False, False, "the program is older than a repair in place")
     line = moving(script)
     if line is not None:
         return InPlace(False, False, f"the edit {decode(line[:40])!r} needs a new file: traces come, go, move or get another length")
+    if shorter:
+        return InPlace(False, False, "the edit 'drop tail' needs a new file: the bytes behind the last trace go")
     if len(script) > LONGEST:
         return InPlace(False, False, f"the edits have {len(script):,} bytes, more than the {LONGEST:,} of a script")
     found = os.stat(path)

@@ -29,7 +29,8 @@ class Volume(Reports):
 
     def __init__(
         self, path: Path, fixed: bool = False, opaque_samples: bool = False, max_bytes: Optional[int] = None, order: Optional[str] = None,
-        on_disk: bool = False, floats: bool = True, samples: Optional[int] = None, format: Optional[int] = None, texts: Optional[int] = None
+        on_disk: bool = False, floats: bool = True, samples: Optional[int] = None, format: Optional[int] = None, texts: Optional[int] = None,
+        tail: bool = False
     ) -> None:
         floats = floats and program.knows("--floats")
         options = ["--fixed"] if fixed else []
@@ -38,6 +39,7 @@ class Volume(Reports):
         options += ["--order", order] if order is not None else []
         for name, value in (("--samples", samples), ("--format", format), ("--texts", texts)):
             options += [name, number(value)] if value is not None else []
+        options += ["--tail"] if tail else []
         options += ["--max-bytes", number(_limit(path, on_disk) if max_bytes is None else max_bytes)]
         options += ["--on-disk"] if on_disk else []
         self.path = os.fspath(path)

@@ -28,6 +28,7 @@ def words(arguments: Optional[List[str]]) -> Any:
     parser.add_argument("--samples", metavar="N", type=int, help="each trace has N samples, whatever the headers say, as for segywb")
     parser.add_argument("--format", metavar="CODE", type=int, help="the format of the samples, whatever the binary header says, as for segywb")
     parser.add_argument("--texts", metavar="N", type=int, help="N extended textual headers, whatever the binary header says, as for segywb")
+    parser.add_argument("--tail", action="store_true", help="what is less than a trace behind the last one is kept as bytes of no trace, as for segywb")
     parser.add_argument("--on-disk", action="store_true", help="the bytes of FILE stay on disk, for a file larger than memory, as for segywb")
     parser.add_argument("--max-bytes", metavar="N", type=int, help="the largest file that is read or made, as for segywb")
     return parser.parse_args(arguments)
@@ -67,7 +68,7 @@ async def serve(told: Any) -> int:
     from .desk import Desk
     from .server import Server
 
-    desk = Desk(told.file, told.out, told.fixed, told.max_bytes, told.order, told.on_disk, told.samples, told.format, told.texts)
+    desk = Desk(told.file, told.out, told.fixed, told.max_bytes, told.order, told.on_disk, told.samples, told.format, told.texts, told.tail)
     server = Server(desk, secrets.token_urlsafe(24))
     port = await server.start(told.port)
     try:

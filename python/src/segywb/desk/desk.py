@@ -59,11 +59,13 @@ class Desk:
         samples: Optional[int] = None,
         format: Optional[int] = None,
         texts: Optional[int] = None,
+        tail: bool = False,
     ) -> None:
         self.path = os.path.abspath(path)
         self.out = os.path.abspath(out) if out else None
         self._options: Dict[str, Any] = {
             "fixed": fixed, "max_bytes": max_bytes, "order": order, "on_disk": on_disk, "samples": samples, "format": format, "texts": texts,
+            "tail": tail,
         }
         self.recovered = ""
         self._again = b""

@@ -12,7 +12,7 @@ from ..errors import Error, LoadRefused
 OPAQUE = ("L06", "L07")  # refused for their samples alone (L06 by a program that knows no floats): the desk reads them without the values of these
 Options = Dict[str, Any]
 # What says how the bytes are read, and of this what `declare` writes into the binary header. Whether samples have values the desk finds out itself.
-READING = ("fixed", "order", "samples", "format", "texts")
+READING = ("fixed", "order", "samples", "format", "texts", "tail")
 DECLARED = ("fixed", "samples", "format", "texts")
 # The names of what a look tells, as the page has them.
 LOOKED = {
@@ -24,12 +24,14 @@ LOOKED = {
 
 
 class Reading(NamedTuple):
-    """A reading that takes the file: what differs from the one that was asked for, in words of the command line, and what it finds."""
+    """A reading that takes the file: what differs from the one that was asked for, in words of the command line, and what it finds. ``tail`` is the
+    number of bytes of no trace behind the last one."""
 
     options: Options
     words: str
     traces: int
     samples: int
+    tail: int = 0
 
     @property
     def told(self) -> str:
@@ -37,8 +39,11 @@ class Reading(NamedTuple):
 
         >>> Reading({"fixed": True}, "with --fixed", 1, 5).told
         'with --fixed it is read: 1 trace, 5 samples each'
+        >>> Reading({"tail": True}, "with --tail", 11, 5, 243).told
+        'with --tail it is read: 11 traces, 5 samples each, and 243 bytes behind the last'
         """
-        return f"{self.words} it is read: {self.traces} trace{'' if self.traces == 1 else 's'}, {self.samples} samples each"
+        behind = f", and {self.tail} byte{'' if self.tail == 1 else 's'} behind the last" if self.tail else ""
+        return f"{self.words} it is read: {self.traces} trace{'' if self.traces == 1 else 's'}, {self.samples} samples each{behind}"
 
 
 def words_of(options: Options) -> List[str]:
@@ -56,7 +61,7 @@ def words_of(options: Options) -> List[str]:
 
 def readings(path: str, options: Options, hints: Sequence[Options] = ()) -> List[Reading]:
     """The readings that take the file, first those that the program has named, then those with the fewest other options: each of them is
-    tried, with the bytes left on disk."""
+    tried, with the bytes left on disk. The one that leaves bytes behind the last trace comes last: those that fit the whole file may be meant."""
     found: List[Reading] = []
     if not os.path.isfile(path):
         return found
@@ -73,7 +78,8 @@ def readings(path: str, options: Options, hints: Sequence[Options] = ()) -> List
             tried(other)
     # a number that is the binary header's own is asked for by --fixed alone
     fixed = [one for one in found if one.options == {"fixed": True}]
-    return [one for one in found if list(one.options) != ["samples"] or not any((one.traces, one.samples) == (other.traces, other.samples) for other in fixed)]
+    found = [one for one in found if list(one.options) != ["samples"] or not any((one.traces, one.samples) == (other.traces, other.samples) for other in fixed)]
+    return sorted(found, key=lambda one: "tail" in one.options)
 
 
 def looked(path: str, options: Options) -> List[List[str]]:
@@ -121,13 +127,14 @@ def told(other: Options) -> str:
     return ", ".join(f"with {' '.join(words_of({name: value}))}" if words_of({name: value}) else f"without --{name}" for name, value in other.items())
 
 
-def taken(path: str, options: Options) -> Optional[Tuple[int, int]]:
-    """The traces and the samples of a trace that a reading finds, or nothing where the file is refused again."""
+def taken(path: str, options: Options) -> Optional[Tuple[int, int, int]]:
+    """The traces, the samples of a trace and the bytes of no trace that a reading finds, or nothing where the file is refused again."""
     for opaque in (False, True):
         asked: Options = {**options, "opaque_samples": opaque, "on_disk": True}
         try:
             with segywb.open(path, **asked) as volume:
-                return len(volume), volume.info.samples
+                info = volume.info
+                return info.traces, info.samples, info.tail or 0
         except LoadRefused as refusal:
             if refusal.code not in OPAQUE:
                 return None

@@ -320,7 +320,7 @@ class Server:
         except LoadRefused as refusal:
             self.broken = refusal
             why, self._readings = await run(self._worker, self.desk.refused, refusal)
-            offered = [{"words": one.words, "traces": one.traces, "samples": one.samples} for one in self._readings]
+            offered = [{"words": one.words, "traces": one.traces, "samples": one.samples, "tail": one.tail} for one in self._readings]
             looked = await run(self._worker, self.desk.looked)
             self.status = {"phase": "refused", "why": clean(why), "file": clean(self.desk.path), "readings": offered, "look": looked}
         except RepairCutOff as error:

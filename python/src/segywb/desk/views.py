@@ -41,9 +41,10 @@ def state(desk: Desk) -> Dict[str, Any]:
     """The file, its numbers now, as loaded and before the last step, and what can be taken back."""
     now, before = desk.now(), desk.before
     volume = desk.volume
+    info = answers.info(now.told["info"])
     return {
         "version": desk.version, "file": clean(desk.path), "out": clean(desk.out) if desk.out else None, "opaque": desk.opaque,
-        "traces": len(now.mirror), "samples": answers.info(now.told["info"]).samples,
+        "traces": len(now.mirror), "samples": info.samples, "tail": info.tail or 0,
         "edits": sum(step.size for step in volume.steps), "reading": " ".join(desk.reading), "declarable": desk.declarable, "recovered": desk.recovered, "undoable": volume.undoable, "redoable": volume.redoable,
         "fields": answers.fields(now.told["fields"].split("\n")), **facts(volume),
         "numbers": numbers(now), "loaded": numbers(desk.loaded), "before": numbers(before) if before else None,
@@ -66,6 +67,7 @@ def numbers(shot: Shot) -> List[List[str]]:
         ["format", f"{info.format} ({FORMATS.get(info.format, 'unknown')})"], ["byte order", info.order], ["revision", info.revision],
         ["fixed length", "yes" if info.fixed else "no"], ["header extensions", str(info.extensions)],
         ["extended textual headers", str(info.blocks)], ["data trailer records", str(info.trailer)],
+        *([["bytes behind the last trace", str(info.tail)]] if info.tail is not None else []),
     ]
     for which in RANGES:
         found = span(shot.told[f"range {which}"])

@@ -103,6 +103,7 @@ def _mend(some: Any) -> None:
     parser.add_argument("--samples", metavar="N", type=int, help="each trace has N samples, whatever the headers say, as for segywb")
     parser.add_argument("--format", metavar="CODE", type=int, help="the format of the samples, whatever the binary header says, as for segywb")
     parser.add_argument("--texts", metavar="N", type=int, help="N extended textual headers, whatever the binary header says, as for segywb")
+    parser.add_argument("--tail", action="store_true", help="what is less than a trace behind the last one is kept as bytes of no trace, as for segywb")
     _seconds(parser)
     parser.add_argument(*JOBS, **MANY)
     parser.add_argument("--quiet", action="store_true", help="tell the summary alone")

@@ -19,7 +19,8 @@ from .trail import CUT, Lock, Run, Trail
 from .words import Unwanted, source
 
 
-# How the files of a run are read, beside --fixed: each has a value.
+# How the files of a run are read: options without a value, and those with one.
+PLAIN = ("fixed", "tail")
 VALUED = ("order", "samples", "format", "texts")
 
 
@@ -74,13 +75,13 @@ def _taken_back(plan: Plan) -> str:
 
 def _maker(told: Any, option: str, held: Any) -> Maker:
     valued = {f"--{name}": getattr(told, name) for name in VALUED}
-    more = [*(["--fixed"] if told.fixed else []), *(word for name, value in valued.items() if value is not None for word in (name, str(value)))]
+    more = [*(f"--{name}" for name in PLAIN if getattr(told, name)), *(word for name, value in valued.items() if value is not None for word in (name, str(value)))]
     return Maker(lambda size: [*asking.options(size, option), *more], not told.go_on, lambda size: limit_of(size, told.limit), held)
 
 
 def _options(told: Any) -> str:
     """How a run is done, as the trail has it."""
-    return json.dumps({"fixed": told.fixed, **{name: getattr(told, name) for name in VALUED}, "go_on": told.go_on, "in_place": told.in_place})
+    return json.dumps({**{name: getattr(told, name) for name in (*PLAIN, *VALUED)}, "go_on": told.go_on, "in_place": told.in_place})
 
 
 def _each(database: sqlite3.Connection, numbers: List[int]) -> Iterator[Chosen]:
@@ -154,8 +155,8 @@ def undo(told: Any) -> int:
             trail = Trail(database)
             _settled(trail)
             run = _run_of(trail, told.run_number)
-            told.fixed, told.go_on, told.in_place = run["fixed"], False, run.get("in_place", False)
-            for name in VALUED:
+            told.go_on, told.in_place = False, run.get("in_place", False)
+            for name in (*PLAIN, *VALUED):  # a run of before has no row of the later ones
                 setattr(told, name, run.get(name))
             taken = verify.Undo(trail, _maker(told, program.option, lock.descriptor), told.run_number, told.in_place)
             steps = list(taken.steps(told.jobs or len(os.sched_getaffinity(0))))

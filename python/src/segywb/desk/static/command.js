@@ -103,7 +103,8 @@ function candidates(kind) {
   if (kind === "NAME") return bound;
   if (kind === "PLACE") return [...Object.entries(store.bound).map(([name, place]) => ({ word: place, what: name })), ...names.map((one) => ({ word: one.place, what: one.told }))];
   if (kind === "BINARY") return binary.map((one) => ({ word: one.name, what: one.told }));
-  return kind === "WHICH" ? WHICH.map((word) => ({ word, what: "" })) : [];
+  if (kind === "WHICH") return WHICH.map((word) => ({ word, what: "" }));
+  return /^[a-z]+$/.test(kind ?? "") ? [{ word: kind, what: "" }] : []; // the word itself, as of `drop tail`
 }
 
 function typed() {

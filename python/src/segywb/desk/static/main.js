@@ -21,8 +21,8 @@ let lookIsOpen = false;
 
 // A refused file: what the program says of it, and a button for each reading that takes it.
 function refused(status) {
-  const offer = ({ words, traces, samples }) => make("button", { class: "reading", on: { click: () => read(words) } },
-    `Read it ${words}`, make("span", { class: "hint" }, ` ${many(traces, "trace")} of ${many(samples, "sample")}`));
+  const offer = ({ words, traces, samples, tail }) => make("button", { class: "reading", on: { click: () => read(words) } },
+    `Read it ${words}`, make("span", { class: "hint" }, ` ${many(traces, "trace")} of ${many(samples, "sample")}${tail ? `, and ${many(tail, "byte")} behind the last` : ""}`));
   refusal = [make("strong", {}, "The file is refused: "), make("code", {}, status.why)];
   return [...refusal, make("p", {}, ...status.readings.map(offer), status.readings.length ? null : "No reading of the desk takes it."),
     status.look && status.look.length ? make("details", { id: "look", open: lookIsOpen, on: { toggle: (event) => { lookIsOpen = event.target.open; } } }, make("summary", {}, "What its head says, and its length"),
@@ -105,7 +105,7 @@ async function restart() {
 
 async function bar() {
   await part.state();
-  const { file, traces, edits, undoable, redoable, opaque, samples, reading, declarable, recovered } = store.state;
+  const { file, traces, edits, undoable, redoable, opaque, samples, tail, reading, declarable, recovered } = store.state;
   const cut = file.lastIndexOf("/") + 1;
   at("name").textContent = file.slice(cut);
   at("file").title = file;
@@ -114,6 +114,8 @@ async function bar() {
   at("reading").hidden = !reading;
   at("reading-text").textContent = `read with ${reading}`;
   at("declare").hidden = !declarable;
+  at("drop").hidden = !tail;
+  at("drop").textContent = `Take ${many(tail, "byte")} behind the last trace away`;
   if (recovered && recovered !== told) command.answered(command.log("recovered"), { kind: "edit", text: recovered, more: 0 });
   told = recovered;
   at("undo").disabled = !undoable;
@@ -160,6 +162,7 @@ async function start() {
   at("redo").addEventListener("click", () => back("redo"));
   at("save").addEventListener("click", save.open);
   at("declare").addEventListener("click", () => command.runLine("declare"));
+  at("drop").addEventListener("click", () => command.runLine("drop tail"));
   at("compare").addEventListener("change", () => { store.compare = at("compare").checked; refresh(); });
   document.addEventListener("keydown", keys);
   const events = new EventSource("events");

@@ -26,7 +26,7 @@ unfolding is_utf8 chars encode_utf8
 line-table_none = refl
 
 -- 65 fields are too many, also where one of them is no place
-pub table-many : read_table (codes "1" ∷ codes "3" ∷ codes "@1" ∷ replicate 64 (codes "offset")) ≡ Err Words
+pub table-many : read_table 9 (codes "1" ∷ codes "3" ∷ codes "@1" ∷ replicate 64 (codes "offset")) ≡ Err Words
 table-many = refl
 
 pub line-table_place : line_result None 9 (codes "table 1 3 offset @189") ≡ Err Number
@@ -74,7 +74,7 @@ pub steps-sign : steps_of (codes "^" ∷ codes "2" ∷ []) ≡ None
 steps-sign = refl
 
 -- nine operations are too many
-pub compute-nine : read_compute (codes "1" ∷ codes "3" ∷ codes "offset" ∷ codes "1" ∷ replicate 18 (codes "+")) ≡ Err Words
+pub compute-nine : read_compute 9 (codes "1" ∷ codes "3" ∷ codes "offset" ∷ codes "1" ∷ replicate 18 (codes "+")) ≡ Err Words
 compute-nine = refl
 
 -- ---- traces in order

@@ -60,8 +60,8 @@ impl<T: Copy> Overlay<T> {
     ghost use Rattle.edit_overlay.specs.Standings.{is_sure, loaded_in};
 
     /// An overlay of the store of a loaded file, with its headers, the number of bytes of no trace
-    /// behind the last one, and how often traces were looked at: for one that loads a file. Takes no
-    /// memory.
+    /// behind the last one, and how often traces were looked at: for one that loads a file. Takes
+    /// no memory.
     pub fn new(
         text: [u8; TEXT_BLOCK_BYTES],
         bin: [u8; BINARY_HEADER_BYTES],

@@ -21,8 +21,8 @@ use text_block::TEXT_BLOCK_BYTES;
 use trace_store::TraceStore;
 use trace_view::TraceView;
 
-// Writes the headers, then the blocks and the traces of the store, so many bytes of no trace and the
-// data trailer records.
+// Writes the headers, then the blocks and the traces of the store, so many bytes of no trace and
+// the data trailer records.
 pub fn write_volume<W: Write, T: Copy>(
     writer: &mut Sink<W>,
     text: &[u8; TEXT_BLOCK_BYTES],

@@ -17,9 +17,9 @@ use text_block::TEXT_BLOCK_BYTES;
 /// is refused: the traces' part of the file ends inside its front (L14), its first header extension
 /// names too many of them (L13), the traces' part ends inside it (L14), or it is one more than the
 /// limit (L15), in this order. Under a reading that keeps a tail L14 does not come: the bytes of a
-/// trace that is not whole are of no trace. Looks at the traces' headers, never at their samples. Takes memory
-/// for the list of the traces' places alone, never in step with a number that the file names; where
-/// that is refused the file is refused with L16.
+/// trace that is not whole are of no trace. Looks at the traces' headers, never at their samples.
+/// Takes memory for the list of the traces' places alone, never in step with a number that the file
+/// names; where that is refused the file is refused with L16.
 pub fn cut(alloc: Global, bytes: &[u8], reading: Reading, limits: Limits) -> Result<Cut, LoadFault>
     ensures ok { IfOk result
         (λ cut. IsCut bytes.now reading limits (volume_at bytes.now cut.0 cut.1 cut.2)) }

@@ -22,9 +22,9 @@ use std::str;
 ///
 /// Words are separated by blanks and tabs. A line that is not UTF-8 is S04, a first word that is no
 /// command S01, too few or too many words S02, and a word that has to be a number, a place, a kind
-/// of value or an operator and is none S03; the first of these that holds is told. Where the
-/// samples are floats, of the format that comes first, their values are decimals; `last` is a trace,
-/// and `end` where one is put in, by the number of traces. Takes memory only where the command holds a text, a name or a list, and is E11 where that was refused.
+/// of value or an operator and is none S03; the first is told. Values of floats, whose format comes
+/// first, are decimals; `last` is the last of so many traces, and `end` one more. Takes memory only
+/// where the command holds a text, a name or a list, and is E11 without.
 pub fn parse_line(
     alloc: Global,
     floats: Option<FloatFormat>,

@@ -100,10 +100,10 @@ impl<T: Copy> Passing<T> {
         self.store.head
     }
 
-    /// Reads the next trace, which is shown then, and counts one look more; false behind the last
-    /// one, also where less than a trace is left and the reading keeps that, and then no look. Takes memory where the trace is longer than those before. Refused:
-    /// L01 where a read failed or the file ends in it, L13 to L15 for the first reason that the
-    /// bytes give, L16 where no memory was. Then none is shown.
+    /// Reads the next trace, which is shown then, and counts one look; false behind the last one,
+    /// or where the reading keeps what is less than a trace, and then no look. Takes memory for a
+    /// longer trace than before. Refused: L01 where a read failed or the file ends in it, L13 to
+    /// L15 for the first reason that the bytes give, L16 where no memory was; none is shown then.
     pub fn next_trace(&mut self) -> Result<bool, LoadFault>
         ensures same { self.new ≡ with_shown self.old self.new.read self.new.shown self.new.tail
             self.new.looks }
@@ -190,9 +190,9 @@ impl<T: Copy> Passing<T> {
         PassFault::of(fault, self.store.loaded)
     }
 
-    /// The overlay of the file, once each trace has its payload: the bytes of no trace and the data
-    /// trailer records are read, and that the file ends behind them. Takes memory for the records. Refused with L01 where a read failed, or
-    /// the file has fewer bytes or more, and with L16 where no memory was.
+    /// The overlay of the file, once each trace has its payload: the tail and the data trailer
+    /// records are read, and that the file ends there. Takes memory for the records. Refused with
+    /// L01 where a read failed, or the file has fewer bytes or more, with L16 where no memory was.
     pub fn finish(self, alloc: Global) -> Result<Overlay<T>, PassFault>
         requires { HasAllTraces self }
         ensures cut { IfOk result

@@ -1,5 +1,5 @@
 // The lines that are printed for answers.
-ghost use Rattle.std.specs.Prelude.{◌≡◌, ◌≤◌, ◌++◌, [], Some, length, codes};
+ghost use Rattle.std.specs.Prelude.{◌≡◌, ◌≤◌, ◌+◌, ◌++◌, [], Some, length, codes};
 ghost use Rattle.script_text.specs.AnswerTexts.{answer_text, ranks_text, info_text, order_text, yes_or_no, code_text, tail_text};
 ghost use Rattle.script_text.specs.Devices.{device_of};
 ghost use Rattle.script_text.specs.Printing.{Pushes};
@@ -154,13 +154,12 @@ fn push_info(line: &mut TextBuffer, info: Info)
 
 // How many bytes are of no trace, where that is told.
 fn push_tail(line: &mut TextBuffer, tail: Option<u64>)
-    requires { length line.old ≤ 600 }
+    requires { length line.old ≤ 500 }
     ensures text { line.new ≡ line.old ++ tail_text tail }
-    ensures short { length line.new ≤ length line.old + 26 }
+    ensures short { length line.new ≤ length line.old + 46 }
 {
     if let Some(bytes) = tail {
-        line.push(b" tail ");
-        line.push_number(bytes);
+        line.push_numbered(b" tail ", bytes);
     }
 }
 

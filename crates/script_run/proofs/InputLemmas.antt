@@ -7,7 +7,7 @@ use Rattle.std.proofs.lemmas.Bool.{eq-eqb}
 use Rattle.std.specs.Io.KnownBytes.{Consumes, IsAtEnd}
 use Rattle.script_words.specs.Words.{is_line_feed}
 use Rattle.script_run.proofs.LineEndLemmas.{cut_in_part, part_in_front, last_part}
-use Rattle.script_run.specs.Input.{SessionLine, ended, cut_off, line_of, session_lines, left_of, TakesLine, TakesLines, TakesFront, KeepsTaken, Held, Holds, nothing_held, IsFront}
+use Rattle.script_run.specs.Input.{SessionLine, ended, cut_off, session_lines, left_of, TakesLine, TakesLines, TakesFront, KeepsTaken, Held, Holds, nothing_held, IsFront}
 
 -- ---- a slice
 

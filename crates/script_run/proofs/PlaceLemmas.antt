@@ -8,7 +8,7 @@ use Rattle.journal_save.specs.Saving.{ranges}
 use Rattle.journal_save.proofs.Laid.{same_all}
 use Rattle.edit_pieces.specs.Further.{range_at}
 use Rattle.edit_pieces.specs.declared.attempt.Attempt.{Attempt}
-use Rattle.edit_pieces.specs.declared.attempt.Attempt.TheVariants.{Stopped, NoMemory, Ended}
+use Rattle.edit_pieces.specs.declared.attempt.Attempt.TheVariants.{Ended}
 use Rattle.edit_pieces.specs.declared.repaired.Repaired.{Repaired}
 use Rattle.edit_pieces.specs.declared.repaired.Repaired.TheVariants.{NotBegun, Saved, Unfit, Unsettled, Failed}
 use Rattle.edit_pieces.proofs.FurtherLemmas.{written-same}

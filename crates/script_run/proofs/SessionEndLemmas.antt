@@ -1,5 +1,5 @@
 -- The ends of a session, from those of its lines.
-use Rattle.std.proofs.Common.{◌≡◌, ◌⊎◌, ℕ, ◌+◌, Bool, true, false, ◌&&◌, not, List, [], ◌∷◌, ◌++◌, length, Option, Some, None, Err, ap, sym, subst, inl, inr, arith, refl, ◌∙◌}
+use Rattle.std.proofs.Common.{◌≡◌, ◌⊎◌, ℕ, ◌+◌, Bool, true, false, ◌&&◌, not, List, [], ◌∷◌, ◌++◌, length, Option, Some, None, ap, sym, subst, inl, inr, arith, refl, ◌∙◌}
 use Rattle.std.specs.Io.KnownBytes.{Appends}
 use Rattle.safe_save.specs.Places.{IsEmpty, Holds as StandsWhere}
 use Rattle.frame_cut.specs.declared.load_fault.LoadFault.{LoadFault}

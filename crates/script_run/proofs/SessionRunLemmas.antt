@@ -1,6 +1,5 @@
 -- A session is the run of its lines, with an empty line behind each answer.
-use Rattle.std.proofs.Common.{◌≡◌, ◌≢◌, ◌≤◌, ℕ, List, [], ◌∷◌, length, Bool, true, false, Result, Ok, Err, refl, ap, ap₂, subst, sym, ◌∙◌, inl, inr, arith}
-use Rattle.bench_rules.specs.State.{State}
+use Rattle.std.proofs.Common.{◌≡◌, ◌≤◌, ℕ, List, [], ◌∷◌, length, Bool, true, false, Result, Ok, Err, refl, ap, ap₂, ◌∙◌, inl, inr, arith}
 use Rattle.script_words.specs.declared.line_fault.LineFault.TheVariants.{OutOfMemory}
 use Rattle.script_text.specs.declared.session_fault.SessionFault.{SessionFault}
 use Rattle.script_text.specs.declared.session_fault.SessionFault.TheVariants.{SaveFailed}
@@ -77,7 +76,7 @@ kept_by_save (Itself loaded written was_stopped d) (Itself again more is_stopped
     ∙ ap (λ (rs : List Range). Itself loaded rs is_stopped e) wrote
     ∙ ap (λ (b : Bool). Itself loaded written b e) stays
     ∙ ap (λ (o : Option Disk). Itself loaded written was_stopped o) kept
-kept_by_save (Itself loaded written was_stopped d) (Itself again more is_stopped e) bytes fault none (same, inr (attempt, is, tries)) =
+kept_by_save (Itself loaded written was_stopped d) (Itself again more is_stopped e) bytes fault none (same, inr (attempt, is, stops, tries)) =
     let failed = fails attempt (length bytes) fault is in absurd (none failed.0 failed.1)
 
 kept_by_word : (word : SessionWord) (old new : Standing) (line : List ℕ) (p answer : Printed) → IsNoSave p → p ≡ with_empty_line answer

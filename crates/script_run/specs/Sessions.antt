@@ -1,5 +1,5 @@
 -- A session: the lines of a reader are answered one by one, with an empty line behind each answer.
-use Rattle.std.specs.Prelude.{◌≡◌, ◌⊎◌, ℕ, ◌<◌, ◌≤◌, ◌+◌, ⊤, Bool, true, false, IsTrue, not, ◌&&◌, List, [], ◌∷◌, ◌++◌, length, take, codes, Option, Some, None, IfSome, Result, Ok, Err}
+use Rattle.std.specs.Prelude.{◌≡◌, ◌⊎◌, ℕ, ◌<◌, ◌≤◌, ◌+◌, ⊤, Bool, true, false, IsTrue, not, ◌&&◌, List, [], ◌∷◌, ◌++◌, length, take, codes, Option, IfSome, Result, Ok, Err}
 use Rattle.frame_cut.specs.declared.load_fault.LoadFault.{LoadFault}
 use Rattle.frame_cut.specs.Cuts.{IsCut}
 use Rattle.frame_cut.specs.Volume.{bytes_of}

@@ -1,4 +1,4 @@
-use Rattle.std.proofs.Common.{◌≡◌, true, Bool, List, ℕ, subst, sym}
+use Rattle.std.proofs.Common.{true, Bool, List, ℕ, subst, sym}
 use Rattle.frame_cut.specs.Volume.{bytes_of}
 use Rattle.script_run.specs.InPlace.{Repairs}
 use Rattle.script_run.proofs.PlaceLemmas.{cause_of}

@@ -13,7 +13,7 @@ use Rattle.frame_cut.specs.Volume.{Volume, bytes_of}
 use Rattle.bench_rules.specs.KeptSlices.{Cache, kept_numbers, kept_of, is_from, IsRight}
 use Rattle.time_slice.proofs.CacheLemmas.{numbers_after_forgotten}
 use Rattle.bench_rules.specs.declared.edit.Edit.{Edit}
-use Rattle.bench_rules.specs.declared.edit.Edit.TheVariants.{Set, SetBin, Declare, SetText, Map, Unmap, Patch, Blank, Copy, Delete, Move, Resize, Renumber, Compute, Sort}
+use Rattle.bench_rules.specs.declared.edit.Edit.TheVariants.{Set, SetBin, Declare, DropTail, SetText, Map, Unmap, Patch, Blank, Copy, Delete, Move, Resize, Renumber, Compute, Sort}
 use Rattle.bench_rules.specs.declared.refusal.Refusal.{Refusal}
 use Rattle.bench_rules.specs.declared.query.Query.{Query}
 use Rattle.bench_rules.specs.declared.query.Query.TheVariants.{Count, Info, Get, GetBin, Line, Code, Stanzas, Fields, Sample, Geometry, Stat, Fold, Grid, Inlines, Crosslines, Histogram, Range, Totals, Slice, Faults, Lines, Table, Find, Header, Extremes}
@@ -111,6 +111,7 @@ numbers_follow old new (Set p f x) cache cut none after = by (place_in_trace old
         ∙ numbers_if b cache)
 numbers_follow old new (SetBin f x) cache cut none after = refl
 numbers_follow old new Declare cache cut none after = refl
+numbers_follow old new DropTail cache cut none after = refl
 numbers_follow old new (SetText q text) cache cut none after = refl
 numbers_follow old new (Map name field) cache cut none after = numbers_unless (is_geometry name) cache
 numbers_follow old new (Unmap name) cache cut none after = refl
@@ -159,6 +160,7 @@ right_part s edit moved cache all = by edit
     by (Set p f x) = if_not moved
     by (SetBin f x) = all
     by Declare = all
+    by DropTail = all
     by (SetText q text) = all
     by (Map name field) = if_not (is_geometry name)
     by (Unmap name) = all

@@ -5,7 +5,7 @@ use Rattle.field_map.specs.Binding.{is_geometry}
 use Rattle.frame_cut.specs.Traces.{trace_of}
 use Rattle.bench_rules.specs.KeptSlices.{Cache, cache_after_change}
 use Rattle.bench_rules.specs.declared.edit.Edit.{Edit}
-use Rattle.bench_rules.specs.declared.edit.Edit.TheVariants.{Set, SetBin, Declare, SetText, Map, Unmap, Patch, Blank, Copy, Delete, Move, Resize, Renumber, Compute, Sort}
+use Rattle.bench_rules.specs.declared.edit.Edit.TheVariants.{Set, SetBin, Declare, DropTail, SetText, Map, Unmap, Patch, Blank, Copy, Delete, Move, Resize, Renumber, Compute, Sort}
 use Rattle.bench_rules.specs.Kept.{cell_of}
 use Rattle.bench_rules.specs.State.{State}
 use Rattle.live_volume.specs.Held.{any_moves}
@@ -28,6 +28,7 @@ has_moved old (Renumber a b field first step) new = any_moves old new a b
 has_moved old (Compute a b field source steps) new = any_moves old new a b
 has_moved old (SetBin field x) new = false
 has_moved old Declare new = false
+has_moved old DropTail new = false
 has_moved old (SetText q text) new = false
 has_moved old (Map name field) new = false
 has_moved old (Unmap name) new = false
@@ -45,6 +46,7 @@ abbrev pub entries_after : Bool → Edit → Cache → Cache
 entries_after moved (Set p field x) cache = if moved then [] else cache
 entries_after moved (SetBin field x) cache = cache
 entries_after moved Declare cache = cache
+entries_after moved DropTail cache = cache
 entries_after moved (SetText q text) cache = cache
 entries_after moved (Map name field) cache = if is_geometry name then [] else cache
 entries_after moved (Unmap name) cache = cache

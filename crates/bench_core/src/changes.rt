@@ -79,7 +79,11 @@ pub fn follow(slices: &mut SliceCache, edit: &Edit, moved: bool)
     ensures capacity { slices.new.capacity ≡ slices.old.capacity }
 {
     match edit {
-        Edit::SetBin(_, _) | Edit::Declare | Edit::SetText(_, _) | Edit::Unmap(_) => {}
+        Edit::SetBin(_, _)
+        | Edit::Declare
+        | Edit::DropTail
+        | Edit::SetText(_, _)
+        | Edit::Unmap(_) => {}
         Edit::Set(_, _, _) | Edit::Renumber { .. } | Edit::Compute { .. } => {
             if moved {
                 slices.clear();

@@ -5,12 +5,12 @@ use Rattle.field_map.specs.declared.place.Place.{Place}
 use Rattle.frame_cut.specs.Cuts.{IsCut}
 use Rattle.frame_cut.specs.Volume.{Volume}
 use Rattle.frame_cut.specs.Traces.{trace_at, with_trace}
-use Rattle.bench_rules.specs.declared.edit.Edit.TheVariants.{Set, SetBin, Declare, SetText, Map, Unmap, Patch, Blank, Copy, Delete, Move, Resize, Renumber, Compute, Sort}
+use Rattle.bench_rules.specs.declared.edit.Edit.TheVariants.{Set, SetBin, Declare, DropTail, SetText, Map, Unmap, Patch, Blank, Copy, Delete, Move, Resize, Renumber, Compute, Sort}
 use Rattle.bench_laws.specs.EditLaws.{StaysCut}
 use Rattle.bench_rules.specs.Places.{place_in_trace, place_in_binary}
 use Rattle.bench_rules.specs.Refused.{with_value}
 use Rattle.bench_rules.specs.After.{bytes_after}
-use Rattle.frame_cut.specs.Parts.{with_inserted, without, with_moved}
+use Rattle.frame_cut.specs.Parts.{untailed, with_inserted, without, with_moved}
 use Rattle.bench_rules.specs.WholeTraces.{blank_trace}
 use Rattle.bench_rules.proofs.AcceptedLemmas.{patch_accepted}
 use Rattle.bench_rules.proofs.PatchLemmas.{with_samples}
@@ -20,7 +20,7 @@ use Rattle.bench_rules.proofs.ResizeLemmas.{resize_done}
 use Rattle.bench_rules.proofs.SetLemmas.{accepted, is_after}
 use Rattle.bench_rules.proofs.HeaderEditLemmas.{same_refused, same_after, no_place, bin_accepted, with_binary, bin_is_after, text_accepted, with_text, text_is_after, no_bin_place}
 use Rattle.declared_frame.specs.Written.{with_declared}
-use Rattle.bench_rules.proofs.DeclareLemmas.{declare_is_after}
+use Rattle.bench_rules.proofs.DeclareLemmas.{declare_is_after, drop_tail_is_after}
 use Rattle.bench_rules.specs.Sorted.{in_order, with_order}
 use Rattle.bench_rules.proofs.ComputeLemmas.{compute_accepted}
 use Rattle.bench_rules.proofs.SortedLemmas.{sort_accepted, sort_done}
@@ -44,6 +44,7 @@ stays_cut s (SetBin f x) cut none = by (place_in_binary f) refl
         let v : Volume = with_binary s.volume place x in
         (v, (bin_is_after s f place x e cut (bin_accepted s f place x e none)).volume, refl)
 stays_cut s Declare cut none = (with_declared s.reading s.volume, (declare_is_after s cut).volume, refl)
+stays_cut s DropTail cut none = (untailed s.volume, (drop_tail_is_after s cut).volume, refl)
 stays_cut s (SetText q text) cut none = (with_text s.volume q text, (text_is_after s q text cut (text_accepted s q text none)).volume, refl)
 stays_cut s (Map name field) cut none = (s.volume, cut, refl)
 stays_cut s (Unmap name) cut none = (s.volume, cut, refl)

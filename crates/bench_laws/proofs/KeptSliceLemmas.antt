@@ -10,10 +10,11 @@ use Rattle.field_map.proofs.GeometryLemmas.{place-bound, place-removed}
 use Rattle.frame_cut.specs.declared.file_head.Head.{Head}
 use Rattle.frame_cut.specs.Cuts.{IsTrace}
 use Rattle.frame_cut.specs.Traces.{trace_at, with_trace}
+use Rattle.frame_cut.specs.Parts.{untailed}
 use Rattle.frame_cut.specs.Volume.{Volume}
 use Rattle.bench_rules.specs.KeptSlices.{is_from}
 use Rattle.bench_rules.specs.Slices.{slice_of}
-use Rattle.bench_rules.specs.declared.edit.Edit.TheVariants.{Set, SetBin, Declare, SetText, Map, Unmap, Patch, Blank, Copy, Delete, Move, Resize, Renumber, Compute, Sort}
+use Rattle.bench_rules.specs.declared.edit.Edit.TheVariants.{Set, SetBin, Declare, DropTail, SetText, Map, Unmap, Patch, Blank, Copy, Delete, Move, Resize, Renumber, Compute, Sort}
 use Rattle.bench_laws.specs.KeptLaws.{KeptSlicesStay}
 use Rattle.bench_rules.specs.Places.{place_in_binary, place_in_trace}
 use Rattle.bench_rules.specs.Reports.{slice_in}
@@ -21,7 +22,7 @@ use Rattle.bench_rules.specs.State.{State}
 use Rattle.bench_rules.proofs.AcceptedLemmas.{unless_so, patch_accepted}
 use Rattle.bench_rules.proofs.HeaderEditLemmas.{no_bin_place, no_map_place, no_fault, with_binary, bin_accepted, bin_is_after, with_text, text_accepted, text_is_after}
 use Rattle.declared_frame.specs.Written.{with_declared}
-use Rattle.bench_rules.proofs.DeclareLemmas.{declare_is_after}
+use Rattle.bench_rules.proofs.DeclareLemmas.{declare_is_after, drop_tail_is_after}
 use Rattle.bench_rules.proofs.PatchLemmas.{with_samples}
 use Rattle.bench_rules.proofs.SetLemmas.{whole_trace}
 use Rattle.bench_laws.proofs.SliceRowLemmas.{slice_of-set, slice_of-bound, front_of-patched, sample_of-patched, bound_value-front}
@@ -61,6 +62,9 @@ kept_slices_stay old new (SetBin f x) kept k cut has none after any = by (place_
 kept_slices_stay old new Declare kept k cut has none after any =
     let w : Volume = with_declared old.reading old.volume in
     slice_after old new k w (one_volume old new Declare w after (declare_is_after old cut).volume) after.fields
+kept_slices_stay old new DropTail kept k cut has none after any =
+    let w : Volume = untailed old.volume in
+    slice_after old new k w (one_volume old new DropTail w after (drop_tail_is_after old cut).volume) after.fields
 kept_slices_stay old new (SetText q text) kept k cut has none after any =
     let w : Volume = with_text old.volume q text in
     slice_after old new k w (one_volume old new (SetText q text) w after (text_is_after old q text cut (text_accepted old q text none)).volume) after.fields

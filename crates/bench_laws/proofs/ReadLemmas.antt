@@ -161,6 +161,7 @@ silent : (s : State) (edit : Edit) → Silent (first_refusal s edit)
 silent s (edits.Set p f x) = either (no_trace s.volume p) _ (no_trace_silent s.volume p) (set_silent s.volume.head (trace_at s.volume p) (place_in_trace s.fields f) x)
 silent s (edits.SetBin f x) = set_bin_silent (place_in_binary f) x
 silent s edits.Declare = choose (can_declare s.reading s.volume) None _ tt refl
+silent s edits.DropTail = tt
 silent s (edits.SetText q text) = text_silent s.volume.text q text
 silent s (edits.Map name f) = map_silent s name (place_in_trace s.fields f)
 silent s (edits.Unmap name) = mapped refusals.Map (unbind_fault s.fields name) (λ fault. refl)

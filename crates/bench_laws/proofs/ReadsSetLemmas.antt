@@ -109,6 +109,7 @@ leaves v p t first = record {
   text = refl;
   bin = refl;
   blocks = refl;
+  tail = refl;
   trailer = refl;
   count = length-set v.traces (p - 1) t;
   traces = λ q low other. get_or-set_other v.traces (p - 1) (q - 1) t [] (λ same. other (omega arith));

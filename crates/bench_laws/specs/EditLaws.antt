@@ -65,6 +65,7 @@ pub record LeavesOthers (old new : Volume) (p : ℕ) : Type 0 where
   pub text : new.text ≡ old.text
   pub bin : new.bin ≡ old.bin
   pub blocks : new.blocks ≡ old.blocks
+  pub tail : new.tail ≡ old.tail
   pub trailer : new.trailer ≡ old.trailer
   pub count : count_of new ≡ count_of old
   pub traces : (q : ℕ) → 0 < q → q ≢ p → trace_at new q ≡ trace_at old q

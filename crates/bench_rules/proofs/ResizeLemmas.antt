@@ -11,7 +11,7 @@ use Rattle.frame_cut.specs.declared.file_head.Head.{Head}
 use Rattle.frame_cut.specs.Cuts.{IsTrace, IsCut}
 use Rattle.frame_cut.specs.Traces.{count_of, trace_at, with_trace}
 use Rattle.frame_cut.specs.Volume.{Volume, bytes_of}
-use Rattle.frame_cut.proofs.EditLemmas.{recut}
+use Rattle.frame_cut.proofs.EditLemmas.{recut_with}
 use Rattle.frame_cut.proofs.HeadFrontLemmas.{has_head}
 use Rattle.trace_view.specs.Values.{samples_at}
 use Rattle.bench_rules.specs.declared.edit.Edit.TheVariants.{Resize}
@@ -132,8 +132,8 @@ resize_done s p m w u cut none e is =
     let f = resize_fits s p m u cut none e in
     let bytes_are : bytes_of made ≡ bytes_after_resize v p (nat_abs m) = bytes_with_trace v p u a.place.first a.place.last ∙ rw e refl in
     let again : IsCut (bytes_of made) s.reading s.limits made =
-    recut s.reading s.limits v v.text made.traces cut cut.parts.text (All-set (IsTrace v.head) v.traces (p - 1) u f.whole cut.parts.traces)
-    (omega (arith, cut.parts.few, length-set v.traces (p - 1) u)) f.limit in
+    recut_with s.reading s.limits v v.text made.traces v.tail cut cut.parts.text (All-set (IsTrace v.head) v.traces (p - 1) u f.whole cut.parts.traces)
+    (omega (arith, cut.parts.few, length-set v.traces (p - 1) u)) cut.parts.tail f.limit in
     record {
       volume = subst (λ (x : Volume). IsCut (bytes_after_resize v p (nat_abs m)) s.reading s.limits x) (sym is)
           (subst (λ (file : List ℕ). IsCut file s.reading s.limits made) bytes_are again);

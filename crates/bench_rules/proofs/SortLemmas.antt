@@ -13,8 +13,8 @@ use Rattle.frame_cut.specs.declared.reading.Reading.{Reading}
 use Rattle.frame_cut.specs.Cuts.{IsTrace, IsCut}
 use Rattle.frame_cut.specs.Splice.{splice}
 use Rattle.frame_cut.specs.Traces.{count_of, trace_at}
-use Rattle.frame_cut.specs.Volume.{Volume, front_of, bytes_of}
-use Rattle.frame_cut.proofs.EditLemmas.{recut, splice_inside, length-bytes}
+use Rattle.frame_cut.specs.Volume.{Volume, front_of, behind_traces, bytes_of}
+use Rattle.frame_cut.proofs.EditLemmas.{recut_with, splice_inside, length-bytes}
 use Rattle.frame_cut.proofs.HeadFrontLemmas.{has_head}
 use Rattle.bench_rules.specs.ManyTraces.{each_of, positions}
 use Rattle.bench_rules.specs.Sorted.{are_in_front, put_in_order, in_order, with_order, with_traces_as}
@@ -91,7 +91,7 @@ cut_permuted reading l v ts cut same =
     let count : length ts ≡ length v.traces = length_permutation v.traces ts same in
     let long : length (concat ts) ≡ length (concat v.traces) = length-concat ts ∙ (sum_by-IsPermutation (λ (t : List ℕ). length t) v.traces ts same ∙ sym (length-concat v.traces)) in
     let small : length (bytes_of v) ≤ l.bytes = (has_head (bytes_of v) reading l v.head cut.parts.head).small in
-    recut reading l v v.text ts cut cut.parts.text all (omega (arith, count, cut.parts.few)) (omega (arith, length-bytes v, length-bytes w, long, small))
+    recut_with reading l v v.text ts v.tail cut cut.parts.text all (omega (arith, count, cut.parts.few)) cut.parts.tail (omega (arith, length-bytes v, length-bytes w, long, small))
 
 module _ (v : Volume) (a b : ℕ) (order : List ℕ) (low : 1 ≤ a) (high : a ≤ b) (last : b ≤ count_of v) (same : IsPermutation (positions a b) order) where
   abbrev front : List (List ℕ)
@@ -130,11 +130,11 @@ module _ (v : Volume) (a b : ℕ) (order : List ℕ) (low : 1 ≤ a) (high : a �
   length-new : length (concat new) ≡ length (concat middle)
   length-new = length-concat new ∙ (sum_by-IsPermutation (λ (t : List ℕ). length t) middle new middle-permutes ∙ sym (length-concat middle))
 
-  old-bytes : bytes_of v ≡ lead ++ (concat middle ++ (concat behind ++ concat v.trailer))
-  old-bytes = ap (λ ts. front_of v ++ concat ts ++ concat v.trailer) whole ∙ joined (front_of v) front middle behind (concat v.trailer)
+  old-bytes : bytes_of v ≡ lead ++ (concat middle ++ (concat behind ++ behind_traces v))
+  old-bytes = ap (λ ts. front_of v ++ concat ts ++ behind_traces v) whole ∙ joined (front_of v) front middle behind (behind_traces v)
 
-  new-bytes : bytes_of sorted ≡ lead ++ (concat new ++ (concat behind ++ concat v.trailer))
-  new-bytes = ap (λ ts. front_of v ++ concat ts ++ concat v.trailer) (append_assoc (take (a - 1) v.traces) (map (trace_at v) order) (drop b v.traces)) ∙ joined (front_of v) front new behind (concat v.trailer)
+  new-bytes : bytes_of sorted ≡ lead ++ (concat new ++ (concat behind ++ behind_traces v))
+  new-bytes = ap (λ ts. front_of v ++ concat ts ++ behind_traces v) (append_assoc (take (a - 1) v.traces) (map (trace_at v) order) (drop b v.traces)) ∙ joined (front_of v) front new behind (behind_traces v)
 
   first-at : trace_start v a ≡ length lead
   first-at = sym (length-append (front_of v) (concat (take (a - 1) v.traces)))
@@ -163,7 +163,7 @@ module _ (v : Volume) (a b : ℕ) (order : List ℕ) (low : 1 ≤ a) (high : a �
       let n : ℕ = trace_start v (b + 1) - trace_start v a in
       let size : n ≡ length (concat middle) = omega (arith, first-at, behind-at) in
       let at : trace_start v a ≡ length lead + 0 = omega (arith, first-at) in
-      let rest : List ℕ = concat behind ++ concat v.trailer in
+      let rest : List ℕ = concat behind ++ behind_traces v in
       let none : drop (0 + length (concat middle)) (concat middle) ≡ [] = drop_all (0 + length (concat middle)) (concat middle) (omega arith) in
       let all : splice (concat middle) 0 (length (concat middle)) (concat new) ≡ concat new = ap (λ s. concat new ++ s) none ∙ append-nil (concat new) in
       new-bytes

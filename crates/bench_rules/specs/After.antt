@@ -7,10 +7,11 @@ use Rattle.field_map.specs.declared.place.Place.{Place}
 use Rattle.field_map.specs.Pairs.{Pairs, bound, unbound}
 use Rattle.text_block.specs.Blocks.{code_of}
 use Rattle.text_block.specs.Lines.{encoded_line}
+use Rattle.frame_cut.specs.Parts.{untailed}
 use Rattle.frame_cut.specs.Splice.{splice}
 use Rattle.frame_cut.specs.Volume.{Volume, bytes_of}
 use Rattle.bench_rules.specs.declared.edit.Edit.{Edit}
-use Rattle.bench_rules.specs.declared.edit.Edit.TheVariants.{Set, SetBin, Declare, SetText, Map, Unmap, Patch, Blank, Copy, Delete, Move, Resize, Renumber, Compute, Sort}
+use Rattle.bench_rules.specs.declared.edit.Edit.TheVariants.{Set, SetBin, Declare, DropTail, SetText, Map, Unmap, Patch, Blank, Copy, Delete, Move, Resize, Renumber, Compute, Sort}
 use Rattle.bench_rules.specs.Places.{place_in_trace, place_in_binary}
 use Rattle.bench_rules.specs.Computed.{formula_of}
 use Rattle.bench_rules.specs.ComputedBytes.{bytes_after_compute}
@@ -30,6 +31,7 @@ abbrev pub bytes_after : State → Edit → List ℕ
 bytes_after s (Set p field x) = option_map_or (λ place. put_in_trace s.volume p place x (bytes_of s.volume)) (place_in_trace s.fields field) (bytes_of s.volume)
 bytes_after s (SetBin field x) = option_map_or (λ place. put_in_binary s.volume place x (bytes_of s.volume)) (place_in_binary field) (bytes_of s.volume)
 bytes_after s Declare = bytes_of (with_declared s.reading s.volume)
+bytes_after s DropTail = bytes_of (untailed s.volume)
 bytes_after s (SetText q text) = splice (bytes_of s.volume) (80 * (q - 1)) 80 (encoded_line (code_of s.volume.text) (chars text))
 bytes_after s (Map name field) = bytes_of s.volume
 bytes_after s (Unmap name) = bytes_of s.volume
@@ -50,6 +52,7 @@ fields_after fields (Unmap name) = unbound fields name
 fields_after fields (Set p field x) = fields
 fields_after fields (SetBin field x) = fields
 fields_after fields Declare = fields
+fields_after fields DropTail = fields
 fields_after fields (SetText q text) = fields
 fields_after fields (Patch p k values) = fields
 fields_after fields (Blank p) = fields

@@ -18,6 +18,7 @@ use Rattle.bench_rules.specs.declared.query.Query.TheVariants as queries
 use Rattle.bench_rules.specs.declared.answer.Answer.{Answer}
 use Rattle.bench_rules.specs.declared.answer.Answer.TheVariants as answers
 use Rattle.bench_rules.specs.declared.ask_fault.AskFault.{AskFault}
+use Rattle.bench_rules.specs.declared.info.Info.{Info}
 use Rattle.bench_rules.specs.declared.ask_fault.AskFault.TheVariants.{NoTrace, NoField, NoPlace, NoSample, NoValues, OutOfMemory}
 use Rattle.bench_rules.specs.FloatStatistics.{stat_of}
 use Rattle.bench_rules.specs.Places.{place_in_trace, place_in_binary, is_in_binary}
@@ -111,10 +112,19 @@ found_answer v a b low high (Some place) = or_fault (found_of v place low high a
 abbrev pub lines_answer : Option (List ℕ) → Reply
 lines_answer block = or_fault block NoPlace (λ t. answers.Lines (map (shown_line t) (range_with_len 1 40)))
 
+-- what the file is: with the number of bytes of no trace where the reading keeps them
+abbrev pub info_of : State → Info
+info_of s = record {
+  head = s.volume.head;
+  traces = count_of s.volume;
+  bytes = length (bytes_of s.volume);
+  tail = if s.reading.tail then Some (length s.volume.tail) else None;
+}
+
 -- the answer, or the first refusal
 abbrev pub answer : State → Query → Reply
 answer s queries.Count = Ok (answers.Count (count_of s.volume))
-answer s queries.Info = Ok (answers.Info (record { head = s.volume.head; traces = count_of s.volume; bytes = length (bytes_of s.volume) }))
+answer s queries.Info = Ok (answers.Info (info_of s))
 answer s (queries.Get p field) = of_trace s.volume p (λ t. trace_value s.volume.head t (place_in_trace s.fields field))
 answer s (queries.GetBin field) = binary_value s.volume (place_in_binary field)
 answer s (queries.Line b q) = line_answer (block_of s.volume b) q

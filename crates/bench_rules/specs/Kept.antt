@@ -11,7 +11,7 @@ use Rattle.frame_cut.specs.Traces.{trace_at}
 use Rattle.trace_record.specs.OfTrace.{bound_value}
 use Rattle.bench_rules.specs.KeptSlices.{is_from}
 use Rattle.bench_rules.specs.declared.edit.Edit.{Edit}
-use Rattle.bench_rules.specs.declared.edit.Edit.TheVariants.{Set, SetBin, Declare, SetText, Map, Unmap, Patch, Blank, Copy, Delete, Move, Resize, Renumber, Compute, Sort}
+use Rattle.bench_rules.specs.declared.edit.Edit.TheVariants.{Set, SetBin, Declare, DropTail, SetText, Map, Unmap, Patch, Blank, Copy, Delete, Move, Resize, Renumber, Compute, Sort}
 use Rattle.bench_rules.specs.declared.query.Query.{Query}
 use Rattle.bench_rules.specs.declared.query.Query.TheVariants.{Count, Info, Get, GetBin, Line, Lines, Code, Stanzas, Fields, Sample, Geometry, Stat, Fold, Grid, Inlines, Crosslines, Histogram, Range, Totals, Slice, Faults, Table, Find, Header, Extremes}
 use Rattle.bench_rules.specs.Computed.{Formula, formula_of, computed_numbers}
@@ -96,6 +96,7 @@ abbrev pub kept_after_edit : State → Edit → List ℕ → List ℕ
 kept_after_edit s (Set p field x) kept = kept_after_set s.volume.head s.fields (trace_at s.volume p) (place_in_trace s.fields field) x kept
 kept_after_edit s (SetBin field x) kept = kept
 kept_after_edit s Declare kept = kept
+kept_after_edit s DropTail kept = kept
 kept_after_edit s (SetText q text) kept = kept
 kept_after_edit s (Map name field) kept = if is_geometry name then [] else kept
 kept_after_edit s (Unmap name) kept = kept

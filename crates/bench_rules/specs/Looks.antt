@@ -61,6 +61,7 @@ abbrev pub edit_looks : State → Edit → ℕ
 edit_looks s (edits.Set p field x) = put_looks s.fields (place_in_trace s.fields field) (trace_looks s.volume p 2)
 edit_looks s (edits.SetBin field x) = 0
 edit_looks s edits.Declare = 0
+edit_looks s edits.DropTail = 0
 edit_looks s (edits.SetText q text) = 0
 edit_looks s (edits.Map name field) = looks_at (place_in_trace s.fields field) (if is_geometry name then count_of s.volume else 0)
 edit_looks s (edits.Unmap name) = 0

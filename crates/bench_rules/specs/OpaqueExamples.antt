@@ -16,7 +16,7 @@ use Rattle.bench_rules.specs.State.{State}
 
 -- one trace with one IBM float, in little-endian order that is asked for
 abbrev volume_untold : Volume
-volume_untold = record { head = head_untold; text = replicate 3200 0x40; bin = bin_untold; blocks = []; traces = trace_untold ∷ []; trailer = [] }
+volume_untold = record { head = head_untold; text = replicate 3200 0x40; bin = bin_untold; blocks = []; traces = trace_untold ∷ []; tail = []; trailer = [] }
 
 abbrev untold : State
 untold = record { volume = volume_untold; fields = geometry_at_load; reading = record as_opaque { order = Some Little }; limits = wide_limits; on_disk = false }

@@ -18,7 +18,7 @@ use Rattle.frame_cut.specs.Traces.{count_of, is_trace, trace_at}
 use Rattle.frame_cut.specs.Volume.{Volume, bytes_of}
 use Rattle.declared_frame.specs.Written.{can_declare}
 use Rattle.bench_rules.specs.declared.edit.Edit.{Edit}
-use Rattle.bench_rules.specs.declared.edit.Edit.TheVariants.{Set, SetBin, Declare, SetText, Map, Unmap, Patch, Blank, Copy, Delete, Move, Resize, Renumber, Compute, Sort}
+use Rattle.bench_rules.specs.declared.edit.Edit.TheVariants.{Set, SetBin, Declare, DropTail, SetText, Map, Unmap, Patch, Blank, Copy, Delete, Move, Resize, Renumber, Compute, Sort}
 use Rattle.bench_rules.specs.declared.refusal.Refusal.{Refusal}
 use Rattle.bench_rules.specs.declared.refusal.Refusal.TheVariants as refusals
 use Rattle.bench_rules.specs.Places.{place_in_trace, place_in_binary, is_in_binary, touches_frame}
@@ -123,7 +123,7 @@ sort_refusal v a b (Some places) = if is_none (table_of v places a b) then Some 
 
 -- ---- every edit
 
--- the refusal of the reading that is written into the file: a load without it would give other parts
+-- the refusal of the reading that is written into the file: a load of it, without its tail, would give other parts without the reading
 abbrev pub declare_refusal : Reading → Volume → Option Refusal
 declare_refusal reading v = if can_declare reading v then None else Some refusals.Frame
 
@@ -132,6 +132,7 @@ abbrev pub first_refusal : State → Edit → Option Refusal
 first_refusal s (Set p field x) = option_or (no_trace s.volume p) (set_refusal s.volume.head (trace_at s.volume p) (place_in_trace s.fields field) x)
 first_refusal s (SetBin field x) = set_bin_refusal (place_in_binary field) x
 first_refusal s Declare = declare_refusal s.reading s.volume
+first_refusal s DropTail = None
 first_refusal s (SetText q text) = text_refusal s.volume.text q text
 first_refusal s (Map name field) = map_refusal s name (place_in_trace s.fields field)
 first_refusal s (Unmap name) = option_map (λ fault. refusals.Map fault) (unbind_fault s.fields name)

@@ -2,7 +2,7 @@
 use Rattle.std.specs.Prelude.{◌≡◌, ◌⊎◌, ◌<◌, List, [], ◌∷◌, Option, Some, None, Result, Ok, Err}
 use Rattle.frame_cut.specs.Cuts.{IsCut}
 use Rattle.bench_rules.specs.declared.edit.Edit.{Edit}
-use Rattle.bench_rules.specs.declared.edit.Edit.TheVariants.{Set, SetBin, Declare, SetText, Map, Unmap, Patch, Blank, Copy, Delete, Move, Resize, Renumber, Compute, Sort}
+use Rattle.bench_rules.specs.declared.edit.Edit.TheVariants.{Set, SetBin, Declare, DropTail, SetText, Map, Unmap, Patch, Blank, Copy, Delete, Move, Resize, Renumber, Compute, Sort}
 use Rattle.bench_rules.specs.declared.refusal.Refusal.{Refusal}
 use Rattle.bench_rules.specs.declared.refusal.Refusal.TheVariants.{OutOfMemory}
 use Rattle.bench_rules.specs.After.{bytes_after, fields_after}
@@ -16,6 +16,7 @@ abbrev pub TakesMemory : Edit → Type 0
 TakesMemory (Set p field x) = Unit {0}
 TakesMemory (SetBin field x) = ⊥
 TakesMemory Declare = ⊥
+TakesMemory DropTail = ⊥
 TakesMemory (SetText q text) = ⊥
 TakesMemory (Map name field) = Unit {0}
 TakesMemory (Unmap name) = ⊥

@@ -19,6 +19,9 @@ pub enum Edit {
     /// extended textual headers. Refused: E06 where a load without the reading would then give
     /// other parts. Takes no memory.
     Declare,
+    /// The bytes of no trace behind the last one taken away, where there are any. Never refused.
+    /// Takes no memory.
+    DropTail,
     /// `SetText(q, text)`: the text as line q of the textual header, in its code, with blanks up to
     /// 80 characters. Refused, in this order: E03, E07.
     SetText(u32, Text),

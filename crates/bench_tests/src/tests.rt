@@ -341,6 +341,7 @@ fn a_set_under_a_fixed_length_moves_no_end(rt: HostRuntime) -> Result<(), Fail> 
             samples: None,
             format: None,
             texts: None,
+            tail: false,
         },
         &[(3503, 0)],
         &mut |bench: &mut Bench| set_the_length(&rt, alloc, bench),

@@ -48,6 +48,10 @@ format_rule = record (new_rule (codes "format")) { long = Some (codes "format");
 abbrev pub texts_rule : Rule
 texts_rule = record (new_rule (codes "texts")) { long = Some (codes "texts"); parser = Some (vp.Unsigned 0 32767); value_names = 1 }
 
+-- the flag `--tail`
+abbrev pub tail_rule : Rule
+tail_rule = record (new_rule (codes "tail")) { long = Some (codes "tail"); action = Some SetTrue }
+
 -- the flag `--floats`
 abbrev pub floats_rule : Rule
 floats_rule = record (new_rule (codes "floats")) { long = Some (codes "floats"); action = Some SetTrue }
@@ -93,9 +97,9 @@ look_rule = record (new_rule (codes "look")) { long = Some (codes "look"); actio
 abbrev pub titled : App
 titled = on_top (λ s. record s { has_version = true; args_override_self = true }) (new_app (codes "segywb"))
 
--- `segywb FILE [--script S] [--session] [--save-at-end] [--out O] [--in-place] [--on-disk] [--fixed] [--samples N] [--format N] [--texts N] [--floats] [--opaque-samples] [--order O] [--max-bytes N] [--stop] [--quiet] [--recover] [--look]`
+-- `segywb FILE [--script S] [--session] [--save-at-end] [--out O] [--in-place] [--on-disk] [--fixed] [--samples N] [--format N] [--texts N] [--tail] [--floats] [--opaque-samples] [--order O] [--max-bytes N] [--stop] [--quiet] [--recover] [--look]`
 unfoldable pub segywb : App
-segywb = with_rule (with_rule (with_rule (with_rule (with_rule (with_rule (with_rule (with_rule (with_rule (with_rule (with_rule (with_rule (with_rule (with_rule (with_rule (with_rule (with_rule (with_rule (with_rule titled file_rule) script_rule) out_rule) in_place_rule) on_disk_rule) fixed_rule) samples_rule) format_rule) texts_rule) floats_rule) opaque_rule) order_rule) limit_rule) stop_rule) session_rule) save_at_end_rule) quiet_rule) recover_rule) look_rule
+segywb = with_rule (with_rule (with_rule (with_rule (with_rule (with_rule (with_rule (with_rule (with_rule (with_rule (with_rule (with_rule (with_rule (with_rule (with_rule (with_rule (with_rule (with_rule (with_rule (with_rule titled file_rule) script_rule) out_rule) in_place_rule) on_disk_rule) fixed_rule) samples_rule) format_rule) texts_rule) tail_rule) floats_rule) opaque_rule) order_rule) limit_rule) stop_rule) session_rule) save_at_end_rule) quiet_rule) recover_rule) look_rule
 
 -- what clap matches for the words
 abbrev pub matched : List (List ℕ) → List Row

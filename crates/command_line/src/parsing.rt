@@ -66,6 +66,7 @@ fn command<'a>(alloc: Global) -> Result<Command<'a>, AllocError>
         .arg(args::samples(alloc))?
         .arg(args::format(alloc))?
         .arg(args::texts(alloc))?
+        .arg(args::tail(alloc))?
         .arg(args::floats(alloc))?
         .arg(args::opaque(alloc))?
         .arg(args::order(alloc))?
@@ -187,6 +188,8 @@ fn read_matches<'a>(matches: &ArgMatches<'a>, order: Option<Order>) -> Option<Ar
         (λ a. ReadsLimit (one_text (found_of matches.now) (codes "format")) a.format) }
     ensures texts { IfSome result
         (λ a. ReadsCount (one_text (found_of matches.now) (codes "texts")) a.texts) }
+    ensures tail { IfSome result
+        (λ a. a.tail ≡ is_set (first_value (found_of matches.now) (codes "tail"))) }
     ensures floats { IfSome result
         (λ a. a.floats ≡ is_set (first_value (found_of matches.now) (codes "floats"))) }
     ensures opaque { IfSome result
@@ -215,6 +218,7 @@ fn read_matches<'a>(matches: &ArgMatches<'a>, order: Option<Order>) -> Option<Ar
     let samples = samples(matches)?;
     let format = format(matches)?;
     let texts = texts(matches)?;
+    let tail = is_set(matches, "tail");
     let floats = is_set(matches, "floats");
     let opaque = is_set(matches, "opaque-samples");
     let stop = is_set(matches, "stop");
@@ -234,6 +238,7 @@ fn read_matches<'a>(matches: &ArgMatches<'a>, order: Option<Order>) -> Option<Ar
         samples,
         format,
         texts,
+        tail,
         floats,
         opaque,
         order,
@@ -247,8 +252,8 @@ fn read_matches<'a>(matches: &ArgMatches<'a>, order: Option<Order>) -> Option<Ar
 }
 
 /// What the words of a command line say, the program's name first: `FILE --script S [--out O]
-/// [--in-place] [--on-disk] [--fixed] [--samples N] [--format CODE] [--texts N] [--floats]
-/// [--opaque-samples] [--order big|little] [--max-bytes N] [--stop] [--quiet]`, or
+/// [--in-place] [--on-disk] [--fixed] [--samples N] [--format CODE] [--texts N] [--tail]
+/// [--floats] [--opaque-samples] [--order big|little] [--max-bytes N] [--stop] [--quiet]`, or
 /// `FILE --session [--save-at-end]` with the same options but `--script`, or `FILE --recover`, or
 /// `FILE --look`. The number of samples is 0 to 4294967295, CODE 0 to 65535, the number of texts 0
 /// to 32767, and that of bytes 1 to 1099511627776. An option may stand more than once, and the last
@@ -284,6 +289,9 @@ pub fn arguments<'a>(alloc: Global, words: &'a [String]) -> Result<Arguments<'a>
     ensures texts { IfOk result
         (λ a. ReadsCount (one_of (codes "texts") (matched (map string_bytes words.now)))
         a.texts) }
+    ensures tail { IfOk result
+        (λ a. a.tail
+        ≡ is_set (first_of (codes "tail") (matched (map string_bytes words.now)))) }
     ensures floats { IfOk result
         (λ a. a.floats
         ≡ is_set (first_of (codes "floats") (matched (map string_bytes words.now)))) }

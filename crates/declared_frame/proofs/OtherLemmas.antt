@@ -21,11 +21,14 @@ use Rattle.frame_cut.specs.Frames.{extension_count, extension_samples, header_un
 use Rattle.frame_cut.specs.declared.load_fault.LoadFault.{LoadFault}
 use Rattle.frame_cut.specs.declared.load_fault.LoadFault.TheVariants.{TextCount}
 use Rattle.frame_cut.specs.Heads.{head_of, head_by, head_faults, file_faults, first_fault_else, blocks_for, blocks_in, blocks_to_end, blocks_of}
+use Rattle.frame_cut.specs.Parts.{untailed}
 use Rattle.frame_cut.specs.Volume.{Volume, bytes_of}
+use Rattle.frame_cut.proofs.EditLemmas.{cut_untailed, cut_without}
+use Rattle.declared_frame.specs.Laws.{UndeclaredIsOther}
 use Rattle.declared_frame.specs.Written.{with_declared, as_declared, can_declare, holds_samples, holds_texts, holds_lengths, has_samples, declared, AreNumbers, AreSameParts}
 use Rattle.declared_frame.proofs.StaysLemmas.{declared_by, major_left, stays_cut}
 use Rattle.declared_frame.proofs.ValueLemmas.{short_said}
-use Rattle.declared_frame.proofs.PartLemmas.{Known, known, rest_of, grouped, order_kept, no_extensions, flag_unset}
+use Rattle.declared_frame.proofs.PartLemmas.{tailless, Known, known, rest_of, grouped, order_kept, no_extensions, flag_unset}
 use Rattle.declared_frame.proofs.ReadLemmas.{head_of-is, head_fields}
 
 -- ---- the number of samples
@@ -185,9 +188,9 @@ other_lengths reading l v w o e =
     let all : list_all (has_samples v.head) v.traces ≡ true = all_own v.head v.traces fixed none (recursion_from_All (IsTrace v.head) v.traces o.cut.parts.traces) (recursion_from_All (IsTrace (record v.head { fixed = false })) v.traces own) in
     absurd cc
 
-pub undeclared_is_other : (reading : Reading) (l : Limits) (v w : Volume) → AreNumbers reading → IsCut (bytes_of v) reading l v → can_declare reading v ≡ false
+other_parts : (reading : Reading) (l : Limits) (v w : Volume) → IsCut (bytes_of v) reading l v → can_declare reading v ≡ false
     → IsCut (bytes_of (with_declared reading v)) (as_declared reading) l w → AreSameParts (with_declared reading v) w → ⊥
-undeclared_is_other reading l v w numbers cut can again same =
+other_parts reading l v w cut can again same =
     by (holds_samples v.head reading.samples) (holds_texts v.head reading.texts) (holds_lengths reading v) refl refl refl can
   where
     o : Other reading l v w
@@ -198,3 +201,7 @@ undeclared_is_other reading l v w numbers cut can again same =
     by true false c x y z e = other_texts reading l v w o y
     by true true false x y z e = other_lengths reading l v w o z
     by true true true x y z e = absurd cc
+
+pub undeclared_is_other : UndeclaredIsOther
+undeclared_is_other reading l v w numbers cut can again same =
+    other_parts (tailless reading) l (untailed v) w (cut_without (bytes_of (untailed v)) reading l (untailed v) false (cut_untailed reading l v cut) refl) can again same

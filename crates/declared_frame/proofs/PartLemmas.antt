@@ -16,7 +16,10 @@ use Rattle.frame_cut.specs.BinaryHeader.{asks_fixed, bin_bytes, order_of, major_
 use Rattle.frame_cut.specs.Cuts.{IsCut, IsTrace, AreBlocks}
 use Rattle.frame_cut.specs.Frames.{extension_count, extension_samples, header_unsigned, length_with, or_else, sample_count, samples_by, trace_length, front_length}
 use Rattle.frame_cut.specs.Heads.{head_of, head_by, blocks_in}
-use Rattle.frame_cut.specs.Volume.{Volume, bytes_of}
+use Rattle.frame_cut.specs.Parts.{untailed}
+use Rattle.frame_cut.specs.Volume.{Volume, behind_traces, bytes_of}
+use Rattle.frame_cut.proofs.EditLemmas.{cut_untailed, cut_without}
+use Rattle.declared_frame.specs.Laws.{DeclaredIsRead}
 use Rattle.declared_frame.specs.Written.{with_declared, as_declared, can_declare, holds_samples, holds_texts, holds_lengths, has_samples, declared, AreNumbers, AreSameParts}
 use Rattle.declared_frame.proofs.WindowLemmas.{written}
 use Rattle.declared_frame.proofs.StaysLemmas.{declared_by, major_left, order_left, stays_cut, length-declared}
@@ -29,10 +32,10 @@ grouped_parts : (a b c d e : List ℕ) → a ++ b ++ c ++ d ++ e ≡ a ++ b ++ (
 grouped_parts a b c d e = simp append_assoc
 
 abbrev pub rest_of : Volume → List ℕ
-rest_of v = concat v.blocks ++ concat v.traces ++ concat v.trailer
+rest_of v = concat v.blocks ++ concat v.traces ++ behind_traces v
 
 pub grouped : (v : Volume) → bytes_of v ≡ v.text ++ v.bin ++ rest_of v
-grouped v = grouped_parts v.text v.bin (concat v.blocks) (concat v.traces) (concat v.trailer)
+grouped v = grouped_parts v.text v.bin (concat v.blocks) (concat v.traces) (behind_traces v)
 
 -- the head of a volume that is cut, by its fields
 pub record Known (reading : Reading) (l : Limits) (v : Volume) : Type 0 where
@@ -144,9 +147,10 @@ traces_are reading l v cut holds = by (asks_fixed reading) (eqb v.head.major 0) 
 abbrev declared_volume : Reading → Volume → Volume
 declared_volume reading v = record (with_declared reading v) { head = record v.head { fixed = is_flag_set (order_of reading v.bin) (declared reading v.head v.bin) } }
 
-pub declared_is_read : (reading : Reading) (l : Limits) (v : Volume) → AreNumbers reading → IsCut (bytes_of v) reading l v → can_declare reading v ≡ true
+-- where there is no tail
+read_without : (reading : Reading) (l : Limits) (v : Volume) → v.tail ≡ [] → AreNumbers reading → IsCut (bytes_of v) reading l v → can_declare reading v ≡ true
     → (w : Volume) × IsCut (bytes_of (with_declared reading v)) (as_declared reading) l w × AreSameParts (with_declared reading v) w
-declared_is_read reading l v numbers cut can =
+read_without reading l v none numbers cut can =
     let both = and_parts (holds_samples v.head reading.samples && holds_texts v.head reading.texts) (holds_lengths reading v) can in
     let fields = and_parts (holds_samples v.head reading.samples) (holds_texts v.head reading.texts) both.0 in
     let w : Volume = declared_volume reading v in
@@ -170,8 +174,20 @@ declared_is_read reading l v numbers cut can =
           blocks = p.blocks;
           traces = traces_are reading l v cut both.1;
           few = p.few;
+          tail = inl none;
           trailer = p.trailer;
         };
       },
-      record { head = refl; text = refl; blocks = refl; traces = refl; trailer = refl },
+      record { head = refl; text = refl; blocks = refl; traces = refl; tail = refl; trailer = refl },
     )
+
+-- a reading that keeps no tail, and the same numbers
+abbrev pub tailless : Reading → Reading
+tailless reading = record reading { tail = false }
+
+pub same_numbers : (reading : Reading) → AreNumbers reading → AreNumbers (tailless reading)
+same_numbers reading n = record { samples = n.samples; format = n.format; texts = n.texts }
+
+pub declared_is_read : DeclaredIsRead
+declared_is_read reading l v numbers cut can =
+    read_without (tailless reading) l (untailed v) refl (same_numbers reading numbers) (cut_without (bytes_of (untailed v)) reading l (untailed v) false (cut_untailed reading l v cut) refl) can

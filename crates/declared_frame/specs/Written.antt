@@ -62,9 +62,9 @@ with_declared reading v = record v { bin = declared reading v.head v.bin }
 
 -- ---- when the file says it by itself then
 
--- the reading without what was written: the order of bytes and the formats without values that are asked for stay
+-- the reading without what was written, and without a tail: the order of bytes and the formats without values that are asked for stay
 abbrev pub as_declared : Reading → Reading
-as_declared reading = record reading { fixed = false; samples = None; format = None; texts = None }
+as_declared reading = record reading { fixed = false; samples = None; format = None; texts = None; tail = false }
 
 -- the fields hold the number of samples: above 65535 only those of revision 2 do
 abbrev pub holds_samples : Head → Option ℕ → Bool
@@ -84,7 +84,7 @@ has_samples h t = or_else (header_unsigned h 0 115 2 t) h.samples == h.samples
 abbrev pub holds_lengths : Reading → Volume → Bool
 holds_lengths reading v = not (asks_fixed reading) || not (v.head.major == 0) || list_all (has_samples v.head) v.traces
 
--- the file with that binary header is cut into the same parts without the reading
+-- the file with that binary header, without its tail, is cut into the same parts without the reading
 abbrev pub can_declare : Reading → Volume → Bool
 can_declare reading v = holds_samples v.head reading.samples && holds_texts v.head reading.texts && holds_lengths reading v
 
@@ -100,4 +100,5 @@ pub record AreSameParts (v w : Volume) : Type 0 where
   pub text : w.text ≡ v.text
   pub blocks : w.blocks ≡ v.blocks
   pub traces : w.traces ≡ v.traces
+  pub tail : w.tail ≡ v.tail
   pub trailer : w.trailer ≡ v.trailer

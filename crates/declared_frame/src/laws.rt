@@ -6,12 +6,13 @@ pub fn declared_stays_cut()
     ensures { DeclaredStaysCut }
 {}
 
-/// Where a reading can be declared, a load without it cuts the file into the same parts.
+/// Where a reading can be declared, a load without it cuts the file, without its tail, into the
+/// same parts.
 pub fn declared_is_read()
     ensures { DeclaredIsRead }
 {}
 
-/// Where it cannot, no load without it cuts the file into the same parts.
+/// Where it cannot, no load without it cuts the file without its tail into the same parts.
 pub fn undeclared_is_other()
     ensures { UndeclaredIsOther }
 {}

@@ -35,14 +35,14 @@ module _ {T : Type 0} where
   stands_over s t over = subst (λ (l : HeldBytes). Falls s.loaded.standing l.standing) (sym over.loaded) (Falls-refl s.loaded.standing)
 
 module _ {T : Type 0} where
-  other_traces : (text bin : List ℕ) (s t : TraceStore T) → IsOver s t → volume_with text bin t ≡ record (volume_with text bin s) { traces = traces_of t }
-  other_traces text bin s t over = rw (over.head, over.loaded) refl
+  other_traces : (text bin : List ℕ) (k : ℕ) (s t : TraceStore T) → IsOver s t → volume_with text bin k t ≡ record (volume_with text bin k s) { traces = traces_of t }
+  other_traces text bin k s t over = rw (over.head, over.loaded) refl
 
 module _ {T : Type 0} where
   pub held_again : (o : Inside T) (t : TraceStore T) (n : ℕ) → IsHeld o → IsOver o.laid.store t → n + total (traces_of o.laid.store) ≡ o.length + total (traces_of t) → IsHeld (record o { laid = record { store = t; prepared = None }; length = n })
   held_again o t n held over sum =
-      let v : Volume = volume_with o.text o.bin o.laid.store in
-      let e : length (bytes_of (volume_with o.text o.bin t)) ≡ length (bytes_of (record v { traces = traces_of t })) = ap (λ (w : Volume). length (bytes_of w)) (other_traces o.text o.bin o.laid.store t over) in
+      let v : Volume = volume_with o.text o.bin o.tail o.laid.store in
+      let e : length (bytes_of (volume_with o.text o.bin o.tail t)) ≡ length (bytes_of (record v { traces = traces_of t })) = ap (λ (w : Volume). length (bytes_of w)) (other_traces o.text o.bin o.tail o.laid.store t over) in
       record {
         ends = record {
           front = rw over.head held.ends.front;
@@ -58,15 +58,15 @@ module _ {T : Type 0} where
 
 -- the same overlay, of which only the room for more grew
 module _ {T : Type 0} where
-  same_traces : (text bin : List ℕ) (s t : TraceStore T) → IsOver s t → IsSame s t → volume_with text bin t ≡ volume_with text bin s
-  same_traces text bin s t over same = other_traces text bin s t over ∙ ap (λ (ts : List (List ℕ)). record (volume_with text bin s) { traces = ts }) same.traces
+  same_traces : (text bin : List ℕ) (k : ℕ) (s t : TraceStore T) → IsOver s t → IsSame s t → volume_with text bin k t ≡ volume_with text bin k s
+  same_traces text bin k s t over same = other_traces text bin k s t over ∙ ap (λ (ts : List (List ℕ)). record (volume_with text bin k s) { traces = ts }) same.traces
 
 module _ {T : Type 0} where
   pub shown_kept : (o : Inside T) (t : TraceStore T) → IsOver o.laid.store t → IsSame o.laid.store t → looked_of (record o { laid = record o.laid { store = t } }) ≡ looked_of o
   shown_kept o t over same =
-      let v = same_traces o.text o.bin o.laid.store t over same in
-      let s : Volume = volume_with o.text o.bin o.laid.store in
-      let w : volume_ahead o.text o.bin t o.laid.prepared ≡ volume_ahead o.text o.bin o.laid.store o.laid.prepared =
+      let v = same_traces o.text o.bin o.tail o.laid.store t over same in
+      let s : Volume = volume_with o.text o.bin o.tail o.laid.store in
+      let w : volume_ahead o.text o.bin o.tail t o.laid.prepared ≡ volume_ahead o.text o.bin o.tail o.laid.store o.laid.prepared =
       ap (λ (x : Volume). record x { traces = traces_ahead t o.laid.prepared }) v ∙ ap (λ (ts : List (List ℕ)). record s { traces = ts }) (ahead_kept o.laid.store t o.laid.prepared same) in
       let first : looked_of (record o { laid = record o.laid { store = t } }) ≡ record (looked_of (record o { laid = record o.laid { store = t } })) { volume = s } = ap (λ (x : Volume). record (looked_of (record o { laid = record o.laid { store = t } })) { volume = x }) v in
       let second : record (looked_of (record o { laid = record o.laid { store = t } })) { volume = s } ≡ record (looked_of o) { payloads = payloads_of t; payloads_prepared = payloads_ahead (payloads_of t) o.laid.prepared; loaded = loaded_in t.loaded; agreed = is_sure t.loaded.standing } =
@@ -91,12 +91,12 @@ module _ {T : Type 0} (o : Inside T) (t : TraceStore T) (reread : IsReread o.lai
   pub same_reread : IsSame o.laid.store t
   same_reread = same_fetched o.laid.store t reread.head reread.order reread.slots reread.loaded
 
-  volume_reread : volume_with o.text o.bin t ≡ volume_with o.text o.bin o.laid.store
+  volume_reread : volume_with o.text o.bin o.tail t ≡ volume_with o.text o.bin o.tail o.laid.store
   volume_reread = rw (reread.head, reread.order, reread.slots, reread.loaded.bytes) refl
 
-  ahead_reread : volume_ahead o.text o.bin t o.laid.prepared ≡ volume_ahead o.text o.bin o.laid.store o.laid.prepared
+  ahead_reread : volume_ahead o.text o.bin o.tail t o.laid.prepared ≡ volume_ahead o.text o.bin o.tail o.laid.store o.laid.prepared
   ahead_reread =
-      let s : Volume = volume_with o.text o.bin o.laid.store in
+      let s : Volume = volume_with o.text o.bin o.tail o.laid.store in
       ap (λ (x : Volume). record x { traces = traces_ahead t o.laid.prepared }) volume_reread ∙ ap (λ (ts : List (List ℕ)). record s { traces = ts }) (ahead_kept o.laid.store t o.laid.prepared same_reread)
 
   -- the overlay is held still

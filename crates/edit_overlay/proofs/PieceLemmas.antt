@@ -32,12 +32,12 @@ get_or-pieces file (e ∷ es) zero d x l = refl
 get_or-pieces file (e ∷ es) (suc i) d x l = get_or-pieces file es i d x (omega arith)
 
 -- each extent ends inside the file
-pub all_inside : (file : List ℕ) (h : Head) (es : List Extent) → AreTracesOf file h es → All (λ e. e.start + e.length ≤ length file) es
-all_inside file h es laid k d l = let r = inside h.traces_at es (length file - 3200 * h.trailer) k d laid.laid l in omega arith
+pub all_inside : (file : List ℕ) (h : Head) (es : List Extent) (n : ℕ) → AreTracesOf file h es n → All (λ e. e.start + e.length ≤ length file) es
+all_inside file h es n laid k d l = let r = inside h.traces_at es (length file - 3200 * h.trailer - n) k d laid.laid l in omega arith
 
 -- and has a whole trace, where the file is cut so
-pub all_whole : (file : List ℕ) (reading : Reading) (limits : Limits) (h : Head) (es : List Extent) → IsCut file reading limits (volume_at file h es) → All (λ e. IsTrace h (bytes_at file e)) es
-all_whole file reading limits h es cut k d l =
+pub all_whole : (file : List ℕ) (reading : Reading) (limits : Limits) (h : Head) (es : List Extent) (n : ℕ) → IsCut file reading limits (volume_at file h es n) → All (λ e. IsTrace h (bytes_at file e)) es
+all_whole file reading limits h es n cut k d l =
     subst (λ (t : List ℕ). IsTrace h t) (get_or-pieces file es k d [] l) (All-get_or (IsTrace h) (pieces file es) k [] (omega (arith, length-map es (λ (e : Extent). bytes_at file e))) cut.parts.traces)
 
 -- n bytes of more are n

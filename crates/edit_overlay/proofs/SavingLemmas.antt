@@ -22,7 +22,8 @@ use Rattle.edit_overlay.specs.declared.waiting.Waiting.{Waiting}
 use Rattle.frame_cut.specs.declared.extent.Extent.{Extent}
 use Rattle.frame_cut.specs.declared.file_head.Head.{Head}
 use Rattle.frame_cut.specs.Frames.{front_length}
-use Rattle.frame_cut.specs.Layout.{bytes_at}
+use Rattle.frame_cut.specs.Heads.{blocks_of}
+use Rattle.frame_cut.specs.Layout.{bytes_at, tail_at}
 use Rattle.frame_cut.specs.Volume.{bytes_of}
 use Rattle.frame_cut.proofs.BlockLemmas.{concat-blocks_of}
 use Rattle.edit_overlay.specs.Held.{HasEnds, volume_with, IsReread}
@@ -342,29 +343,38 @@ headers_come old mid new text bin file n w f g =
     comes_on old new new begin at (progress file w) (text ++ bin) (slice_range file w.from w.to) (comes_on old mid new begin (record { written = n; waits = [] }) at text bin f g) (waits_first new file w)
 
 -- the parts of a save are the bytes of the volume
-module _ {T : Type 0} where
-  pub parts_joined : (text bin : List ℕ) (s : TraceStore T) → HasEnds s
-      → (((text ++ bin) ++ slice_range s.loaded.bytes 3600 s.head.traces_at) ++ concat (traces_of s)) ++ slice_range s.loaded.bytes (length s.loaded.bytes - 3200 * s.head.trailer) (length s.loaded.bytes) ≡ bytes_of (volume_with text bin s)
-  parts_joined text bin s ends =
-      let file : List ℕ = s.loaded.bytes in
-      let tail : ℕ = length file - 3200 * s.head.trailer in
-      let front : s.head.traces_at - 3600 ≡ 3200 * s.head.blocks = omega (arith, ends.front) in
-      let back : length file - tail ≡ 3200 * s.head.trailer = omega (arith, ends.whole) in
-      rw (front, back, ← concat-blocks_of s.head.blocks (drop 3600 file), ← concat-blocks_of s.head.trailer (drop tail file)) refl
+module _ {T : Type 0} (text bin : List ℕ) (n : ℕ) (s : TraceStore T) (ends : HasEnds s n) where
+  -- what stands behind the traces
+  abbrev pub behind_range : List ℕ
+  behind_range = slice_range s.loaded.bytes (length s.loaded.bytes - 3200 * s.head.trailer - n) (length s.loaded.bytes)
 
--- how long they are together, and the first of them
-module _ {T : Type 0} (text bin : List ℕ) (s : TraceStore T) (ends : HasEnds s) where
-  pub parts-length : length (bytes_of (volume_with text bin s)) ≡ length text + length bin + (s.head.traces_at - 3600) + length (concat (traces_of s)) + 3200 * s.head.trailer
+  behind_joined : behind_range ≡ tail_at s.loaded.bytes s.head n ++ concat (blocks_of s.head.trailer (drop (length s.loaded.bytes - 3200 * s.head.trailer) s.loaded.bytes))
+  behind_joined =
+      let file : List ℕ = s.loaded.bytes in
+      let end : ℕ = length file - 3200 * s.head.trailer in
+      let tail : end - (end - n) ≡ n = omega (arith, ends.whole) in
+      let back : length file - end ≡ 3200 * s.head.trailer = omega (arith, ends.whole) in
+      sym (range_joined file (end - n) end (length file) (omega arith) (omega arith))
+      ∙ (ap (λ (k : ℕ). take k (drop (end - n) file) ++ slice_range file end (length file)) tail
+      ∙ ap (λ (xs : List ℕ). tail_at file s.head n ++ xs) (ap (λ (k : ℕ). take k (drop end file)) back ∙ sym (concat-blocks_of s.head.trailer (drop end file))))
+
+  pub parts_joined : (((text ++ bin) ++ slice_range s.loaded.bytes 3600 s.head.traces_at) ++ concat (traces_of s)) ++ behind_range ≡ bytes_of (volume_with text bin n s)
+  parts_joined =
+      let front : s.head.traces_at - 3600 ≡ 3200 * s.head.blocks = omega (arith, ends.front) in
+      rw (behind_joined, front, ← concat-blocks_of s.head.blocks (drop 3600 s.loaded.bytes)) refl
+
+  -- how long they are together, and the first of them
+  pub parts-length : length (bytes_of (volume_with text bin n s)) ≡ length text + length bin + (s.head.traces_at - 3600) + length (concat (traces_of s)) + (n + 3200 * s.head.trailer)
   parts-length =
       let file : List ℕ = s.loaded.bytes in
-      let tail : ℕ = length file - 3200 * s.head.trailer in
+      let tail : ℕ = length file - 3200 * s.head.trailer - n in
       let front : List ℕ = slice_range file 3600 s.head.traces_at in
       let back : List ℕ = slice_range file tail (length file) in
       omega (
         arith,
         ends.whole,
         ends.front,
-        ap (λ (x : List ℕ). length x) (parts_joined text bin s ends),
+        ap (λ (x : List ℕ). length x) parts_joined,
         length-append (((text ++ bin) ++ front) ++ concat (traces_of s)) back,
         length-append ((text ++ bin) ++ front) (concat (traces_of s)),
         length-append (text ++ bin) front,
@@ -375,19 +385,19 @@ module _ {T : Type 0} (text bin : List ℕ) (s : TraceStore T) (ends : HasEnds s
         length-drop tail file,
       )
 
-  pub front_all : IsFront ((((text ++ bin) ++ slice_range s.loaded.bytes 3600 s.head.traces_at) ++ concat (traces_of s)) ++ slice_range s.loaded.bytes (length s.loaded.bytes - 3200 * s.head.trailer) (length s.loaded.bytes)) (bytes_of (volume_with text bin s))
-  front_all = ([], append-nil _ ∙ parts_joined text bin s ends)
+  pub front_all : IsFront ((((text ++ bin) ++ slice_range s.loaded.bytes 3600 s.head.traces_at) ++ concat (traces_of s)) ++ behind_range) (bytes_of (volume_with text bin n s))
+  front_all = ([], append-nil _ ∙ parts_joined)
 
-  pub front_traces : IsFront (((text ++ bin) ++ slice_range s.loaded.bytes 3600 s.head.traces_at) ++ concat (traces_of s)) (bytes_of (volume_with text bin s))
-  front_traces = shorter_front (((text ++ bin) ++ slice_range s.loaded.bytes 3600 s.head.traces_at) ++ concat (traces_of s)) (slice_range s.loaded.bytes (length s.loaded.bytes - 3200 * s.head.trailer) (length s.loaded.bytes)) (bytes_of (volume_with text bin s)) front_all
+  pub front_traces : IsFront (((text ++ bin) ++ slice_range s.loaded.bytes 3600 s.head.traces_at) ++ concat (traces_of s)) (bytes_of (volume_with text bin n s))
+  front_traces = shorter_front (((text ++ bin) ++ slice_range s.loaded.bytes 3600 s.head.traces_at) ++ concat (traces_of s)) behind_range (bytes_of (volume_with text bin n s)) front_all
 
-  pub front_headers : IsFront (text ++ bin) (bytes_of (volume_with text bin s))
+  pub front_headers : IsFront (text ++ bin) (bytes_of (volume_with text bin n s))
   front_headers =
       let front : List ℕ = slice_range s.loaded.bytes 3600 s.head.traces_at in
-      shorter_front (text ++ bin) front (bytes_of (volume_with text bin s)) (shorter_front ((text ++ bin) ++ front) (concat (traces_of s)) (bytes_of (volume_with text bin s)) front_traces)
+      shorter_front (text ++ bin) front (bytes_of (volume_with text bin n s)) (shorter_front ((text ++ bin) ++ front) (concat (traces_of s)) (bytes_of (volume_with text bin n s)) front_traces)
 
-  pub front_text : IsFront text (bytes_of (volume_with text bin s))
-  front_text = shorter_front text bin (bytes_of (volume_with text bin s)) front_headers
+  pub front_text : IsFront text (bytes_of (volume_with text bin n s))
+  front_text = shorter_front text bin (bytes_of (volume_with text bin n s)) front_headers
 
 pub on_ok : {T E A B : Type 0} (r : Result T E) → (A → B) → OnOk r A → OnOk r B
 on_ok (Ok x) f a = f a

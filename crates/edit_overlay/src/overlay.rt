@@ -9,7 +9,7 @@ ghost use Rattle.edit_overlay.specs.CountedVolume.{with_prepared, with_table, wi
 ghost use Rattle.trace_store.specs.Stores.{payloads_moved, payloads_of};
 ghost use Rattle.trace_store.specs.Swapped.{with_places_swapped, with_swapped, ArePlaces};
 ghost use Rattle.std.specs.List.{insert, remove};
-ghost use Rattle.frame_cut.specs.Parts.{block_of, trailer_of, with_line, with_header_bytes, with_each, with_inserted, without, with_moved};
+ghost use Rattle.frame_cut.specs.Parts.{block_of, trailer_of, with_line, untailed, with_header_bytes, with_each, with_inserted, without, with_moved};
 ghost use Rattle.edit_overlay.specs.Saving.{CountsSaveFailure, Saves};
 
 use crate::bytes::{array_at, overwrite};
@@ -34,6 +34,9 @@ pub struct Overlay<T: Copy> {
     text: [u8; TEXT_BLOCK_BYTES],
     bin: [u8; BINARY_HEADER_BYTES],
     laid: Laid<T>,
+
+    // How many bytes of no trace stand behind the last trace.
+    tail: u64,
     length: u64,
     looks: u64,
 }
@@ -56,20 +59,22 @@ impl<T: Copy> Overlay<T> {
     ghost use Rattle.edit_overlay.specs.Looks.{EndsLooked};
     ghost use Rattle.edit_overlay.specs.Standings.{is_sure, loaded_in};
 
-    /// An overlay of the store of a loaded file, with its headers, and how often traces were looked
-    /// at: for one that loads a file. Takes no memory.
+    /// An overlay of the store of a loaded file, with its headers, the number of bytes of no trace
+    /// behind the last one, and how often traces were looked at: for one that loads a file. Takes
+    /// no memory.
     pub fn new(
         text: [u8; TEXT_BLOCK_BYTES],
         bin: [u8; BINARY_HEADER_BYTES],
+        tail: u64,
         store: TraceStore<T>,
         looks: u64,
     ) -> Overlay<T>
-        requires ends { HasEnds store }
-        requires joined { bytes_of (volume_with text bin store) ≡ store.loaded.bytes }
+        requires ends { HasEnds store tail }
+        requires joined { bytes_of (volume_with text bin tail store) ≡ store.loaded.bytes }
         ensures { result ≡ record {
-          volume = volume_with text bin store;
+          volume = volume_with text bin tail store;
           prepared = volume_with text
-              bin store;
+              bin tail store;
           looks = looks;
           payloads = payloads_of store;
           payloads_prepared = payloads_of store;
@@ -85,6 +90,7 @@ impl<T: Copy> Overlay<T> {
                 store,
                 prepared: None,
             },
+            tail,
             length,
             looks,
         }
@@ -99,10 +105,10 @@ impl<T: Copy> Overlay<T> {
 
     /// The traces, with the loaded bytes that they lie over. Takes no memory and looks at no trace.
     pub fn store(&self) -> &TraceStore<T>
-        ensures volume { volume_with self.now.volume.text self.now.volume.bin result.now
-            ≡ self.now.volume }
+        ensures volume { volume_with self.now.volume.text self.now.volume.bin
+            (length self.now.volume.tail) result.now ≡ self.now.volume }
         ensures loaded { loaded_in result.now.loaded ≡ self.now.loaded }
-        ensures ends { HasEnds result.now }
+        ensures ends { HasEnds result.now (length self.now.volume.tail) }
     {
         &self.laid.store
     }
@@ -264,6 +270,22 @@ impl<T: Copy> Overlay<T> {
         let start = length - TEXT_BLOCK_BYTES * self.laid.store.head.trailer as usize;
         let at = start + TEXT_BLOCK_BYTES * (j as usize - 1);
         Some(array_at(self.laid.store.loaded.edge(at as u64, TEXT_BLOCK_BYTES), 0))
+    }
+
+    /// The number of bytes of no trace behind the last one. Takes no memory.
+    pub fn tail(&self) -> u64
+        ensures { result ≡ length self.now.volume.tail }
+    {
+        self.tail
+    }
+
+    /// Takes the bytes of no trace behind the last one away, where there are any. Takes no memory.
+    pub fn drop_tail(&mut self)
+        ensures { self.new ≡ with_volume self.old (untailed self.old.volume) }
+    {
+        self.length -= self.tail;
+        self.tail = 0;
+        self.laid.prepared = None;
     }
 
     /// Writes line q of the textual header, from 1 to 40. Takes no memory.
@@ -561,6 +583,12 @@ impl<T: Copy> Overlay<T> {
     {
         // Read for the proof alone, which learns that the file's length fits 64 bits.
         let _length = self.length;
-        write_volume(writer, &self.text, &self.bin, &mut self.laid.store)
+        write_volume(
+            writer,
+            &self.text,
+            &self.bin,
+            self.tail,
+            &mut self.laid.store,
+        )
     }
 }

@@ -21,18 +21,21 @@ use text_block::TEXT_BLOCK_BYTES;
 use trace_store::TraceStore;
 use trace_view::TraceView;
 
-// Writes the headers, then the blocks, the traces and the data trailer records of the store.
+// Writes the headers, then the blocks and the traces of the store, so many bytes of no trace and
+// the data trailer records.
 pub fn write_volume<W: Write, T: Copy>(
     writer: &mut Sink<W>,
     text: &[u8; TEXT_BLOCK_BYTES],
     bin: &[u8; BINARY_HEADER_BYTES],
+    tail: u64,
     store: &mut TraceStore<T>,
 ) -> Result<(), SaveFault>
-    requires ends { HasEnds store.old }
-    requires small { length (bytes_of (volume_with text.now bin.now store.old)) < 2 ^ 64 }
+    requires ends { HasEnds store.old tail }
+    requires small { length (bytes_of (volume_with text.now bin.now tail store.old)) < 2 ^ 64 }
     ensures same { IsReread store.old store.new }
     ensures saved { IsSure store.new.loaded.standing → Saves (W.contents writer.old.inner)
-        (W.contents writer.new.inner) (bytes_of (volume_with text.now bin.now store.old)) result }
+        (W.contents writer.new.inner) (bytes_of (volume_with text.now bin.now tail store.old))
+        result }
     ensures read { IfErr result (λ fault. IsSome fault.read →
         IsTrue (is_on_disk store.old.loaded.standing)) }
     ensures failures { CountsSaveFailure result writer.old.failures writer.new.failures }
@@ -46,9 +49,9 @@ pub fn write_volume<W: Write, T: Copy>(
         written,
     };
     let end = store.loaded.length() as usize;
-    let tail = end - TEXT_BLOCK_BYTES * store.head.trailer as usize;
+    let behind = end - TEXT_BLOCK_BYTES * store.head.trailer as usize - tail as usize;
     write_traces(writer, store, &mut waiting)?;
-    write_range(writer, store, &mut waiting, tail, end)?;
+    write_range(writer, store, &mut waiting, behind, end)?;
     flush(writer, store, &mut waiting)
 }
 

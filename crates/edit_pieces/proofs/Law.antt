@@ -6,6 +6,7 @@ use Rattle.journal_codes.specs.Codes.{Span}
 use Rattle.journal_save.specs.Disk.{laid_all}
 use Rattle.journal_save.proofs.Laid.{laid_all-append}
 use Rattle.frame_cut.specs.Heads.{blocks_of}
+use Rattle.frame_cut.specs.Layout.{tail_at}
 use Rattle.frame_cut.specs.Volume.{bytes_of}
 use Rattle.frame_cut.proofs.BlockLemmas.{concat-blocks_of}
 use Rattle.trace_store.specs.declared.store.TraceStore.{TraceStore}
@@ -32,7 +33,7 @@ headers-laid text bin file t b h =
     ∙ ap (λ (l : List ℕ). text ++ (bin ++ l)) (drop-drop 400 3200 file)
     ∙ sym (append_assoc text bin (drop 3600 file))
 
-module _ {T : Type 0} (text bin : List ℕ) (s : TraceStore T) (ends : HasEnds s) (t : length text ≡ 3200) (b : length bin ≡ 400) where
+module _ {T : Type 0} (text bin : List ℕ) (n : ℕ) (s : TraceStore T) (ends : HasEnds s n) (t : length text ≡ 3200) (b : length bin ≡ 400) where
   abbrev file : List ℕ
   file = s.loaded.bytes
 
@@ -43,12 +44,12 @@ module _ {T : Type 0} (text bin : List ℕ) (s : TraceStore T) (ends : HasEnds s
   blocks-joined : (text ++ bin) ++ drop 3600 file ≡ front ++ drop s.head.traces_at file
   blocks-joined =
       let blocks : List ℕ = concat (blocks_of s.head.blocks (drop 3600 file)) in
-      let n : ℕ = 3200 * s.head.blocks in
-      let at : 3600 + n ≡ s.head.traces_at = sym ends.front in
+      let size : ℕ = 3200 * s.head.blocks in
+      let at : 3600 + size ≡ s.head.traces_at = sym ends.front in
       let split : drop 3600 file ≡ blocks ++ drop s.head.traces_at file =
-      sym (take-append-drop n (drop 3600 file))
-      ∙ ap (λ (l : List ℕ). l ++ drop n (drop 3600 file)) (sym (concat-blocks_of s.head.blocks (drop 3600 file)))
-      ∙ ap (λ (l : List ℕ). blocks ++ l) (drop-drop n 3600 file ∙ ap (λ (k : ℕ). drop k file) at) in
+      sym (take-append-drop size (drop 3600 file))
+      ∙ ap (λ (l : List ℕ). l ++ drop size (drop 3600 file)) (sym (concat-blocks_of s.head.blocks (drop 3600 file)))
+      ∙ ap (λ (l : List ℕ). blocks ++ l) (drop-drop size 3600 file ∙ ap (λ (k : ℕ). drop k file) at) in
       ap (λ (l : List ℕ). (text ++ bin) ++ l) split
       ∙ sym (append_assoc (text ++ bin) blocks (drop s.head.traces_at file))
 
@@ -69,29 +70,40 @@ module _ {T : Type 0} (text bin : List ℕ) (s : TraceStore T) (ends : HasEnds s
         length-drop 3600 file,
       )
 
-  abbrev end : ℕ
-  end = length file - 3200 * s.head.trailer
+  abbrev records : ℕ
+  records = length file - 3200 * s.head.trailer
 
-  trailer-joined : drop end file ≡ concat (blocks_of s.head.trailer (drop end file))
-  trailer-joined =
-      let short : length (drop end file) ≤ 3200 * s.head.trailer = omega (arith, length-drop end file) in
-      sym (take_all (3200 * s.head.trailer) (drop end file) short) ∙ sym (concat-blocks_of s.head.trailer (drop end file))
+  abbrev end : ℕ
+  end = records - n
+
+  -- the tail and the data trailer records
+  abbrev behind : List ℕ
+  behind = tail_at file s.head n ++ concat (blocks_of s.head.trailer (drop records file))
+
+  behind-joined : drop end file ≡ behind
+  behind-joined =
+      let short : length (drop records file) ≤ 3200 * s.head.trailer = omega (arith, length-drop records file) in
+      let place : end + n ≡ records = omega (arith, ends.whole) in
+      let last : drop n (drop end file) ≡ concat (blocks_of s.head.trailer (drop records file)) =
+      drop-drop n end file ∙ ap (λ (k : ℕ). drop k file) place
+      ∙ sym (take_all (3200 * s.head.trailer) (drop records file) short) ∙ sym (concat-blocks_of s.head.trailer (drop records file)) in
+      sym (take-append-drop n (drop end file)) ∙ ap (λ (l : List ℕ). tail_at file s.head n ++ l) last
 
   abbrev runs : List Span
   runs = flat_map runs_in (layers_of s)
 
-  parts-joined : front ++ (concat (traces_of s) ++ concat (blocks_of s.head.trailer (drop end file))) ≡ bytes_of (volume_with text bin s)
-  parts-joined = sym (append_assoc front (concat (traces_of s)) (concat (blocks_of s.head.trailer (drop end file))))
+  parts-joined : front ++ (concat (traces_of s) ++ behind) ≡ bytes_of (volume_with text bin n s)
+  parts-joined = sym (append_assoc front (concat (traces_of s)) behind)
 
-  runs-laid : unfit_of s ≡ None → laid_all runs (front ++ drop s.head.traces_at file) ≡ bytes_of (volume_with text bin s)
+  runs-laid : unfit_of n s ≡ None → laid_all runs (front ++ drop s.head.traces_at file) ≡ bytes_of (volume_with text bin n s)
   runs-laid fits =
       let over = over-ids s.loaded s.head s.slots s.order.ids s.sound.held in
       laid-traces file s.head.traces_at 1 end front (layers_of s) front-length over fits
       ∙ ap (λ (ts : List (List ℕ)). front ++ (concat ts ++ drop end file)) (sym (shown-ids file s.slots s.order.ids))
-      ∙ ap (λ (l : List ℕ). front ++ (concat (traces_of s) ++ l)) trailer-joined
+      ∙ ap (λ (l : List ℕ). front ++ (concat (traces_of s) ++ l)) behind-joined
       ∙ parts-joined
 
-  changes-laid : unfit_of s ≡ None → laid_all (changes_of text bin s) file ≡ bytes_of (volume_with text bin s)
+  changes-laid : unfit_of n s ≡ None → laid_all (changes_of text bin s) file ≡ bytes_of (volume_with text bin n s)
   changes-laid fits =
       let whole : 3600 ≤ length file = omega (arith, ends.front, ends.whole) in
       laid_all-append (header_change 0 text file) (header_change 3200 bin file ++ runs) file
@@ -99,7 +111,7 @@ module _ {T : Type 0} (text bin : List ℕ) (s : TraceStore T) (ends : HasEnds s
       ∙ ap (λ (f : List ℕ). laid_all runs f) (headers-laid text bin file t b whole ∙ blocks-joined)
       ∙ runs-laid fits
 
-  pub law : unfit_of s ≡ None → laid_all (pieces_of text bin s) s.loaded.bytes ≡ bytes_of (volume_with text bin s)
+  pub law : unfit_of n s ≡ None → laid_all (pieces_of text bin s) s.loaded.bytes ≡ bytes_of (volume_with text bin n s)
   law fits = laid-pieces (changes_of text bin s) file ∙ changes-laid fits
 
   pub inside : ArePiecesOf (length s.loaded.bytes) (pieces_of text bin s)

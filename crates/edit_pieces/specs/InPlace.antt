@@ -20,6 +20,6 @@ abbrev pub unfit_from : (at p end : ℕ) → List Layered → Option Unfit
 unfit_from at p end [] = if at == end then None else Some Fewer
 unfit_from at p end (l ∷ ls) = option_or (misplaced at p (extent_of l.base)) (unfit_from (at + size_of l.base) (p + 1) end ls)
 
--- why the traces of a store do not lie one behind the other from where the file's traces begin to its data trailer records
-abbrev pub unfit_of : {T : Type 0} → TraceStore T → Option Unfit
-unfit_of s = unfit_from s.head.traces_at 1 (length s.loaded.bytes - TEXT_BLOCK_BYTES * s.head.trailer) (layers_of s)
+-- why the traces of a store do not lie one behind the other from where the file's traces begin to so many bytes in front of its data trailer records
+abbrev pub unfit_of : {T : Type 0} → ℕ → TraceStore T → Option Unfit
+unfit_of n s = unfit_from s.head.traces_at 1 (length s.loaded.bytes - TEXT_BLOCK_BYTES * s.head.trailer - n) (layers_of s)

@@ -19,7 +19,8 @@ walk_of e = record {
 
 -- what holds of a walk between two calls
 pub record IsWalk {T : Type 0} (e : Inside T) : Type 0 where
-  pub ends : HasEnds e.store.now
+  -- the file headers and the bytes in front of the traces are there
+  pub ends : HasEnds e.store.now 0
   pub text : length e.text.now ≡ TEXT_BLOCK_BYTES
   pub bin : length e.bin.now ≡ BINARY_HEADER_BYTES
   pub current : IsBounded e.current

@@ -7,6 +7,6 @@ use Rattle.edit_pieces.specs.Walks.{Walk}
 use Rattle.edit_pieces.specs.declared.unfit.Unfit.{Unfit}
 
 -- each trace of the store is at its place, and the pieces are those of its changes; or else why one is not
-abbrev pub IsTold : {T : Type 0} → List ℕ → List ℕ → TraceStore T → Result Walk Unfit → Type 0
-IsTold text bin s (Ok walk) = (unfit_of s ≡ None) × (walk.all ≡ pieces_of text bin s)
-IsTold text bin s (Err unfit) = unfit_of s ≡ Some unfit
+abbrev pub IsTold : {T : Type 0} → List ℕ → List ℕ → ℕ → TraceStore T → Result Walk Unfit → Type 0
+IsTold text bin n s (Ok walk) = (unfit_of n s ≡ None) × (walk.all ≡ pieces_of text bin s)
+IsTold text bin n s (Err unfit) = unfit_of n s ≡ Some unfit

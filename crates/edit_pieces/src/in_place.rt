@@ -10,12 +10,14 @@ use frame_cut::Extent;
 use text_block::TEXT_BLOCK_BYTES;
 use trace_store::TraceStore;
 
-// Why the traces are not where they were, if they are not. Takes each from its slot.
-pub(crate) fn unfit_in<T: Copy>(store: &TraceStore<T>) -> Option<Unfit>
-    requires { HasEnds store.now }
-    ensures { result ≡ unfit_of store.now }
+// Why the traces, and so many bytes of no trace behind them, are not where they were, if they are
+// not. Takes each trace from its slot.
+pub(crate) fn unfit_in<T: Copy>(tail: u64, store: &TraceStore<T>) -> Option<Unfit>
+    requires { HasEnds store.now tail }
+    ensures { result ≡ unfit_of tail store.now }
 {
-    let end = store.loaded.length() - TEXT_BLOCK_BYTES as u64 * store.head.trailer as u64;
+    let records = TEXT_BLOCK_BYTES as u64 * store.head.trailer as u64;
+    let end = store.loaded.length() - records - tail;
     let mut at = store.head.traces_at;
     let mut p: u32 = 0;
     let mut ids = store.order.ids();

@@ -12,7 +12,7 @@ pub enum Unfit {
     #[error("trace {0} stood elsewhere in it (one was moved, sorted or deleted)")]
     OtherPlace(u32),
     /// Each trace is at its place, but the last one does not end where the file's traces do: traces
-    /// at the end were deleted.
-    #[error("traces at its end were deleted")]
+    /// at the end were deleted, or the bytes of no trace behind them were dropped.
+    #[error("traces at its end were deleted, or its tail was dropped")]
     Fewer,
 }

@@ -49,24 +49,26 @@ impl<'a, T: Copy> Model for VolumeEdits<'a, T> {
     ghost invariant = { IsWalk };
 }
 
-/// The pieces of the edits of a volume with these headers and traces, none of which was given yet.
-/// Refused where the edits did not leave the order, the number and the lengths of the traces as
-/// they were, with the first trace that is not at its place. Goes over the traces once; takes no
+/// The pieces of the edits of a volume with these headers, traces and so many bytes of no trace
+/// behind them, none of which was given yet. Refused where the edits did not leave the order, the
+/// number and the lengths of the traces, or those bytes, as they were, with the first trace that is
+/// not at its place. Goes over the traces once; takes no
 /// memory, reads no bytes of the file and looks at no trace.
 pub fn edits_over<'a, T: Copy>(
     text: &'a [u8; TEXT_BLOCK_BYTES],
     bin: &'a [u8; BINARY_HEADER_BYTES],
+    tail: u64,
     store: &'a TraceStore<T>,
 ) -> Result<VolumeEdits<'a, T>, Unfit>
-    requires { HasEnds store.now }
+    requires { HasEnds store.now tail }
     ensures law { IfOk result (λ edits. laid_all edits.all store.now.loaded.bytes
-        ≡ bytes_of (volume_with text.now bin.now store.now)) }
+        ≡ bytes_of (volume_with text.now bin.now tail store.now)) }
     ensures inside { IfOk result
         (λ edits. ArePiecesOf (length store.now.loaded.bytes) edits.all) }
     ensures begun { IfOk result (λ edits. edits.left ≡ edits.all) }
-    ensures told { IsTold text.now bin.now store.now result }
+    ensures told { IsTold text.now bin.now tail store.now result }
 {
-    match unfit_in(store) {
+    match unfit_in(tail, store) {
         Some(unfit) => Err(unfit),
         None => Ok(VolumeEdits::new(text, bin, store)),
     }
@@ -79,7 +81,7 @@ impl<'a, T: Copy> VolumeEdits<'a, T> {
         bin: &'a [u8; BINARY_HEADER_BYTES],
         store: &'a TraceStore<T>,
     ) -> VolumeEdits<'a, T>
-        requires { HasEnds store.now }
+        requires { HasEnds store.now 0 }
         ensures { result ≡ record {
           all = pieces_of text.now bin.now store.now;
           left = pieces_of text.now bin.now store.now;

@@ -12,7 +12,7 @@ use Rattle.frame_cut.specs.declared.load_fault.LoadFault.{LoadFault}
 use Rattle.frame_cut.specs.declared.load_fault.LoadFault.TheVariants.{PairSwapped, OtherOrder, Revision, FloatFormat, GainFormat, UnknownFormat, TextCount, Extensions, Trailer, FirstTrace}
 use Rattle.std.proofs.lemmas.List.{length-append, length-take, drop-drop, drop_at, take-append-drop}
 use Rattle.frame_cut.specs.Splice.{splice}
-use Rattle.frame_cut.specs.Volume.{Volume, bytes_of}
+use Rattle.frame_cut.specs.Volume.{Volume, behind_traces, bytes_of}
 use Rattle.frame_cut.specs.Cuts.{IsCut}
 use Rattle.frame_cut.proofs.BlockLemmas.{slice-append}
 use Rattle.frame_cut.proofs.HeadFrontLemmas.{head_of-bin}
@@ -162,8 +162,8 @@ head_from-same reading bin other rest s =
 grouped_parts : (a b c d e : List ℕ) → a ++ b ++ c ++ d ++ e ≡ a ++ b ++ (c ++ d ++ e)
 grouped_parts a b c d e = simp append_assoc
 
-grouped : (v : Volume) → bytes_of v ≡ v.text ++ v.bin ++ (concat v.blocks ++ concat v.traces ++ concat v.trailer)
-grouped v = grouped_parts v.text v.bin (concat v.blocks) (concat v.traces) (concat v.trailer)
+grouped : (v : Volume) → bytes_of v ≡ v.text ++ v.bin ++ (concat v.blocks ++ concat v.traces ++ behind_traces v)
+grouped v = grouped_parts v.text v.bin (concat v.blocks) (concat v.traces) (behind_traces v)
 
 -- another binary header that says the same of the frame
 pub cut_with_bin : (reading : Reading) (l : Limits) (v : Volume) (bin : List ℕ) → IsCut (bytes_of v) reading l v → length bin ≡ 400 → SameUnder reading v.bin bin
@@ -171,15 +171,15 @@ pub cut_with_bin : (reading : Reading) (l : Limits) (v : Volume) (bin : List ℕ
 cut_with_bin reading l v bin cut len same =
     let w : Volume = record v { bin = bin } in
     let p = cut.parts in
-    let rest : List ℕ = concat v.blocks ++ concat v.traces ++ concat v.trailer in
+    let rest : List ℕ = concat v.blocks ++ concat v.traces ++ behind_traces v in
     let old : head_of (v.text ++ v.bin ++ rest) reading l ≡ Ok v.head = ap (λ (s : List ℕ). head_of s reading l) (sym (grouped v)) ∙ p.head in
     let new : head_of (bytes_of w) reading l ≡ Ok v.head = ap (λ (s : List ℕ). head_of s reading l) (grouped w) ∙ head_of-bin reading l v.head v.text v.bin bin rest p.text p.bin len (head_from-same reading v.bin bin rest same) old in
-    record { joined = refl; parts = record { head = new; text = p.text; bin = len; blocks = p.blocks; traces = p.traces; few = p.few; trailer = p.trailer } }
+    record { joined = refl; parts = record { head = new; text = p.text; bin = len; blocks = p.blocks; traces = p.traces; few = p.few; tail = p.tail; trailer = p.trailer } }
 
 -- bytes spliced inside the binary header are spliced inside the file, 3200 bytes further
 pub bytes_with_bin : (v : Volume) (a n : ℕ) (new : List ℕ) → length v.text ≡ 3200 → a + n ≤ length v.bin → bytes_of (record v { bin = splice v.bin a n new }) ≡ splice (bytes_of v) (3200 + a) n new
 bytes_with_bin v a n new len h =
-    let rest : List ℕ = concat v.blocks ++ concat v.traces ++ concat v.trailer in
+    let rest : List ℕ = concat v.blocks ++ concat v.traces ++ behind_traces v in
     let old : bytes_of v ≡ v.text ++ (v.bin ++ rest) = grouped v ∙ append_assoc v.text v.bin rest in
     let w : Volume = record v { bin = splice v.bin a n new } in
     let new_is : bytes_of w ≡ v.text ++ (splice v.bin a n new ++ rest) = grouped w ∙ append_assoc v.text (splice v.bin a n new) rest in

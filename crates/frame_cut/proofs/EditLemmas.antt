@@ -1,5 +1,5 @@
 -- What edits do to a file that is cut: it stays cut, and its bytes are spliced.
-use Rattle.std.proofs.Common.{◌≡◌, ℕ, zero, suc, ◌+◌, ◌*◌, ◌<◌, ◌≤◌, List, [], ◌∷◌, ◌++◌, length, take, drop, set, get_or, refl, sym, ap, ◌∙◌, arith, append_assoc, Some, Ok, All, Option, append-nil, subst}
+use Rattle.std.proofs.Common.{◌≡◌, ℕ, zero, suc, ◌+◌, ◌*◌, ◌<◌, ◌≤◌, List, [], ◌∷◌, ◌++◌, length, take, drop, set, get_or, refl, sym, ap, ◌∙◌, arith, append_assoc, Some, Ok, All, Option, append-nil, subst, inl, Bool}
 use Rattle.std.specs.List.{concat}
 use Rattle.std.proofs.lemmas.List.{length-append, length-set, drop_all, length-take, length-take-le, length-drop, take-append-drop, take-append-le, drop-append-le, set-get_or}
 use Rattle.std.proofs.lemmas.List.Elements.{All-set, All-take, All-drop, All-append, All-cons, All-get_or, recursion_from_All}
@@ -8,10 +8,11 @@ use Rattle.frame_cut.specs.declared.file_head.Head.{Head}
 use Rattle.frame_cut.specs.declared.limits.Limits.{Limits}
 use Rattle.frame_cut.specs.declared.reading.Reading.{Reading}
 use Rattle.frame_cut.specs.Splice.{splice}
-use Rattle.frame_cut.specs.Volume.{Volume, front_of, bytes_of, start_of}
+use Rattle.frame_cut.specs.Volume.{Volume, front_of, behind_traces, bytes_of, start_of}
 use Rattle.frame_cut.specs.Heads.{head_of, traces_at}
 use Rattle.frame_cut.specs.Frames.{trace_length, front_length}
-use Rattle.frame_cut.specs.Cuts.{IsTrace, IsCut}
+use Rattle.frame_cut.specs.Parts.{untailed}
+use Rattle.frame_cut.specs.Cuts.{IsTrace, IsTail, IsCut}
 use Rattle.frame_cut.proofs.HeadFrontLemmas.{has_head, head_of-front}
 use Rattle.frame_cut.proofs.OneCutLemmas.{trace_length-append, IsBlock, length-blocks}
 
@@ -31,32 +32,38 @@ trace_length-front h t u lt lu e =
 
 -- ---- other traces, or another textual header
 
-grouped : (v : Volume) → bytes_of v ≡ v.text ++ v.bin ++ (concat v.blocks ++ (concat v.traces ++ concat v.trailer))
-grouped v = append_assoc (front_of v) (concat v.traces) (concat v.trailer) ∙ append_assoc (v.text ++ v.bin) (concat v.blocks) (concat v.traces ++ concat v.trailer)
+grouped : (v : Volume) → bytes_of v ≡ v.text ++ v.bin ++ (concat v.blocks ++ (concat v.traces ++ behind_traces v))
+grouped v = append_assoc (front_of v) (concat v.traces) (behind_traces v) ∙ append_assoc (v.text ++ v.bin) (concat v.blocks) (concat v.traces ++ behind_traces v)
 
--- a file that is cut stays cut under its head with other whole traces and another textual header, within the limits
-pub recut : (reading : Reading) (l : Limits) (v : Volume) (text : List ℕ) (ts : List (List ℕ)) → IsCut (bytes_of v) reading l v → length text ≡ 3200 → All (IsTrace v.head) ts → length ts ≤ l.traces
-    → length (bytes_of (record v { text = text; traces = ts })) ≤ l.bytes → IsCut (bytes_of (record v { text = text; traces = ts })) reading l (record v { text = text; traces = ts })
-recut reading l v text ts cut len all few small =
-    let w : Volume = record v { text = text; traces = ts } in
+-- a file that is cut stays cut under its head with other whole traces, another textual header and another tail, within the limits
+pub recut_with : (reading : Reading) (l : Limits) (v : Volume) (text : List ℕ) (ts : List (List ℕ)) (tail : List ℕ) → IsCut (bytes_of v) reading l v → length text ≡ 3200 → All (IsTrace v.head) ts → length ts ≤ l.traces → IsTail reading v.head tail
+    → length (bytes_of (record v { text = text; traces = ts; tail = tail })) ≤ l.bytes → IsCut (bytes_of (record v { text = text; traces = ts; tail = tail })) reading l (record v { text = text; traces = ts; tail = tail })
+recut_with reading l v text ts left cut len all few is small =
+    let w : Volume = record v { text = text; traces = ts; tail = left } in
     let p = cut.parts in
     let front : length (concat v.blocks) ≡ 3200 * v.head.blocks = length-blocks v.blocks (recursion_from_All IsBlock v.blocks p.blocks.whole) ∙ ap (λ (n : ℕ). 3200 * n) p.blocks.count in
     let tail : length (concat v.trailer) ≡ 3200 * v.head.trailer = length-blocks v.trailer (recursion_from_All IsBlock v.trailer p.trailer.whole) ∙ ap (λ (n : ℕ). 3200 * n) p.trailer.count in
-    let room : 3200 * v.head.trailer ≤ length (concat ts ++ concat v.trailer) = omega (arith, length-append (concat ts) (concat v.trailer)) in
-    let old : head_of (v.text ++ v.bin ++ (concat v.blocks ++ (concat v.traces ++ concat v.trailer))) reading l ≡ Ok v.head = ap (λ (s : List ℕ). head_of s reading l) (sym (grouped v)) ∙ p.head in
-    let fits : length (text ++ v.bin ++ (concat v.blocks ++ (concat ts ++ concat v.trailer))) ≤ l.bytes = omega (arith, ap (λ (s : List ℕ). length s) (grouped w), small) in
+    let room : 3200 * v.head.trailer ≤ length (concat ts ++ behind_traces w) = omega (arith, length-append (concat ts) (behind_traces w), length-append left (concat v.trailer)) in
+    let old : head_of (v.text ++ v.bin ++ (concat v.blocks ++ (concat v.traces ++ behind_traces v))) reading l ≡ Ok v.head = ap (λ (s : List ℕ). head_of s reading l) (sym (grouped v)) ∙ p.head in
+    let fits : length (text ++ v.bin ++ (concat v.blocks ++ (concat ts ++ behind_traces w))) ≤ l.bytes = omega (arith, ap (λ (s : List ℕ). length s) (grouped w), small) in
     record {
       joined = refl;
       parts = record {
-        head = ap (λ (s : List ℕ). head_of s reading l) (grouped w) ∙ head_of-front reading l v.head v.text text v.bin (concat v.blocks) (concat v.traces ++ concat v.trailer) (concat ts ++ concat v.trailer) p.text len p.bin front room fits old;
+        head = ap (λ (s : List ℕ). head_of s reading l) (grouped w) ∙ head_of-front reading l v.head v.text text v.bin (concat v.blocks) (concat v.traces ++ behind_traces v) (concat ts ++ behind_traces w) p.text len p.bin front room fits old;
         text = len;
         bin = p.bin;
         blocks = p.blocks;
         traces = all;
         few = few;
+        tail = is;
         trailer = p.trailer;
       };
     }
+
+-- with the same tail
+recut : (reading : Reading) (l : Limits) (v : Volume) (text : List ℕ) (ts : List (List ℕ)) → IsCut (bytes_of v) reading l v → length text ≡ 3200 → All (IsTrace v.head) ts → length ts ≤ l.traces
+    → length (bytes_of (record v { text = text; traces = ts })) ≤ l.bytes → IsCut (bytes_of (record v { text = text; traces = ts })) reading l (record v { text = text; traces = ts })
+recut reading l v text ts cut len all few small = recut_with reading l v text ts v.tail cut len all few cut.parts.tail small
 
 -- ---- the bytes are spliced
 
@@ -102,15 +109,15 @@ regrouped_run : (f b u m t : List ℕ) → f ++ (b ++ (u ++ m)) ++ t ≡ f ++ b 
 regrouped_run f b u m t = simp append_assoc
 
 -- the bytes with a run u of bytes behind those in front of trace p
-with_run : (v : Volume) (p : ℕ) (ts : List (List ℕ)) (u more : List ℕ) → concat ts ≡ concat (take p v.traces) ++ (u ++ more) → bytes_of (record v { traces = ts }) ≡ before v p ++ (u ++ (more ++ concat v.trailer))
+with_run : (v : Volume) (p : ℕ) (ts : List (List ℕ)) (u more : List ℕ) → concat ts ≡ concat (take p v.traces) ++ (u ++ more) → bytes_of (record v { traces = ts }) ≡ before v p ++ (u ++ (more ++ behind_traces v))
 with_run v p ts u more e =
-    ap (λ (s : List ℕ). front_of v ++ s ++ concat v.trailer) e ∙ regrouped_run (front_of v) (concat (take p v.traces)) u more (concat v.trailer)
+    ap (λ (s : List ℕ). front_of v ++ s ++ behind_traces v) e ∙ regrouped_run (front_of v) (concat (take p v.traces)) u more (behind_traces v)
 
 -- bytes u where u' stood: a splice
-spliced : (v : Volume) (p a n : ℕ) (u new more : List ℕ) → a + n ≤ length u → splice (before v p ++ (u ++ (more ++ concat v.trailer))) (start_of v p + a) n new ≡ before v p ++ (splice u a n new ++ (more ++ concat v.trailer))
+spliced : (v : Volume) (p a n : ℕ) (u new more : List ℕ) → a + n ≤ length u → splice (before v p ++ (u ++ (more ++ behind_traces v))) (start_of v p + a) n new ≡ before v p ++ (splice u a n new ++ (more ++ behind_traces v))
 spliced v p a n u new more h =
-    ap (λ (i : ℕ). splice (before v p ++ (u ++ (more ++ concat v.trailer))) (i + a) n new) (sym (length-before v p))
-    ∙ splice_inside (before v p) u (more ++ concat v.trailer) a n new h
+    ap (λ (i : ℕ). splice (before v p ++ (u ++ (more ++ behind_traces v))) (i + a) n new) (sym (length-before v p))
+    ∙ splice_inside (before v p) u (more ++ behind_traces v) a n new h
 
 -- bytes spliced inside trace p, counted from 0
 pub bytes_with_splice : (v : Volume) (p a n : ℕ) (new : List ℕ) → p < length v.traces → a + n ≤ length (get_or v.traces p [])
@@ -129,7 +136,7 @@ bytes_with_inserted v p u =
     let old : concat v.traces ≡ concat (take p v.traces) ++ ([] ++ more) = ap (λ (s : List (List ℕ)). concat s) (sym (take-append-drop p v.traces)) ∙ concat-append (take p v.traces) (drop p v.traces) in
     let at : start_of v p + 0 ≡ start_of v p = omega arith in
     with_run v p (take p v.traces ++ u ∷ drop p v.traces) u more (concat-append (take p v.traces) (u ∷ drop p v.traces))
-    ∙ ap (λ (s : List ℕ). before v p ++ (s ++ (more ++ concat v.trailer))) (sym (append-nil u))
+    ∙ ap (λ (s : List ℕ). before v p ++ (s ++ (more ++ behind_traces v))) (sym (append-nil u))
     ∙ sym (spliced v p 0 0 [] u more (omega arith))
     ∙ ap (λ (s : List ℕ). splice s (start_of v p + 0) 0 u) (sym (with_run v p v.traces [] more old))
     ∙ ap (λ (i : ℕ). splice (bytes_of v) i 0 u) at
@@ -142,7 +149,7 @@ bytes_with_removed v p h =
     let at : start_of v p + 0 ≡ start_of v p = omega arith in
     let none : splice t 0 (length t) [] ≡ [] = drop_all (0 + length t) t (omega arith) in
     with_run v p (take p v.traces ++ drop (suc p) v.traces) [] more (concat-append (take p v.traces) (drop (suc p) v.traces))
-    ∙ ap (λ (s : List ℕ). before v p ++ (s ++ (more ++ concat v.trailer))) (sym none)
+    ∙ ap (λ (s : List ℕ). before v p ++ (s ++ (more ++ behind_traces v))) (sym none)
     ∙ sym (spliced v p 0 (length t) t [] more (omega arith))
     ∙ ap (λ (s : List ℕ). splice s (start_of v p + 0) (length t) []) (sym (with_run v p v.traces t more (concat-split v.traces p h)))
     ∙ ap (λ (i : ℕ). splice (bytes_of v) i (length t) []) at
@@ -150,8 +157,8 @@ bytes_with_removed v p h =
 -- ---- and the file stays cut
 
 -- how long a file is
-pub length-bytes : (v : Volume) → length (bytes_of v) ≡ length (front_of v) + length (concat v.traces) + length (concat v.trailer)
-length-bytes v = length-append (front_of v ++ concat v.traces) (concat v.trailer) ∙ ap (λ (n : ℕ). n + length (concat v.trailer)) (length-append (front_of v) (concat v.traces))
+pub length-bytes : (v : Volume) → length (bytes_of v) ≡ length (front_of v) + length (concat v.traces) + length (behind_traces v)
+length-bytes v = length-append (front_of v ++ concat v.traces) (behind_traces v) ∙ ap (λ (n : ℕ). n + length (behind_traces v)) (length-append (front_of v) (concat v.traces))
 
 -- a file that is cut is within the limit
 within : (reading : Reading) (l : Limits) (v : Volume) → IsCut (bytes_of v) reading l v → length (bytes_of v) ≤ l.bytes
@@ -204,10 +211,10 @@ cut_with_removed reading l v p cut h =
 -- bytes spliced inside the textual header
 pub bytes_with_text : (v : Volume) (a n : ℕ) (new : List ℕ) → a + n ≤ length v.text → bytes_of (record v { text = splice v.text a n new }) ≡ splice (bytes_of v) a n new
 bytes_with_text v a n new h =
-    let more : List ℕ = v.bin ++ (concat v.blocks ++ (concat v.traces ++ concat v.trailer)) in
-    let old : bytes_of v ≡ v.text ++ more = grouped v ∙ append_assoc v.text v.bin (concat v.blocks ++ (concat v.traces ++ concat v.trailer)) in
+    let more : List ℕ = v.bin ++ (concat v.blocks ++ (concat v.traces ++ behind_traces v)) in
+    let old : bytes_of v ≡ v.text ++ more = grouped v ∙ append_assoc v.text v.bin (concat v.blocks ++ (concat v.traces ++ behind_traces v)) in
     let w : Volume = record v { text = splice v.text a n new } in
-    let new_is : bytes_of w ≡ splice v.text a n new ++ more = grouped w ∙ append_assoc (splice v.text a n new) v.bin (concat v.blocks ++ (concat v.traces ++ concat v.trailer)) in
+    let new_is : bytes_of w ≡ splice v.text a n new ++ more = grouped w ∙ append_assoc (splice v.text a n new) v.bin (concat v.blocks ++ (concat v.traces ++ behind_traces v)) in
     let at : 0 + a ≡ a = omega arith in
     new_is ∙ sym (splice_inside [] v.text more a n new h) ∙ ap (λ (s : List ℕ). splice s (0 + a) n new) (sym old) ∙ ap (λ (i : ℕ). splice (bytes_of v) i n new) at
 
@@ -218,6 +225,20 @@ cut_with_text reading l v text cut len =
     let old : length (front_of v) ≡ length v.text + length v.bin + length (concat v.blocks) = length-append (v.text ++ v.bin) (concat v.blocks) ∙ ap (λ (n : ℕ). n + length (concat v.blocks)) (length-append v.text v.bin) in
     let new : length (front_of (record v { text = text })) ≡ length text + length v.bin + length (concat v.blocks) = length-append (text ++ v.bin) (concat v.blocks) ∙ ap (λ (n : ℕ). n + length (concat v.blocks)) (length-append text v.bin) in
     recut reading l v text v.traces cut len cut.parts.traces cut.parts.few (omega (arith, length-bytes v, length-bytes (record v { text = text }), within reading l v cut, cut.parts.text))
+
+-- the tail taken away
+pub cut_untailed : (reading : Reading) (l : Limits) (v : Volume) → IsCut (bytes_of v) reading l v → IsCut (bytes_of (untailed v)) reading l (untailed v)
+cut_untailed reading l v cut =
+    let less : length (behind_traces (untailed v)) ≤ length (behind_traces v) = omega (arith, length-append v.tail (concat v.trailer)) in
+    recut_with reading l v v.text v.traces [] cut cut.parts.text cut.parts.traces cut.parts.few (inl refl) (omega (arith, less, length-bytes v, length-bytes (untailed v), within reading l v cut))
+
+-- whether a reading keeps a tail does not count where there is none
+pub cut_without : (file : List ℕ) (reading : Reading) (l : Limits) (v : Volume) (keeps : Bool) → IsCut file reading l v → v.tail ≡ [] → IsCut file (record reading { tail = keeps }) l v
+unfolding head_of
+cut_without file reading l v keeps cut none = record {
+  joined = cut.joined;
+  parts = record { head = cut.parts.head; text = cut.parts.text; bin = cut.parts.bin; blocks = cut.parts.blocks; traces = cut.parts.traces; few = cut.parts.few; tail = inl none; trailer = cut.parts.trailer };
+}
 
 -- ---- both at once
 

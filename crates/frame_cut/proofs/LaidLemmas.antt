@@ -1,5 +1,5 @@
 -- Traces that lie one behind the other, and the parts of a file whose traces lie so.
-use Rattle.std.proofs.Common.{◌≡◌, ℕ, zero, suc, ◌+◌, ◌*◌, ◌-◌, ◌<◌, ◌≤◌, List, [], ◌∷◌, ◌++◌, length, take, drop, refl, sym, ap, ◌∙◌, arith, All, Ok, Err, Result, Bool, true, false, cond, ltb, leb, eqb, Option, Some, None, subst, inl, inr, ◌⊎◌}
+use Rattle.std.proofs.Common.{◌≡◌, ℕ, zero, suc, ◌+◌, ◌*◌, ◌-◌, ◌<◌, ◌≤◌, List, [], ◌∷◌, ◌++◌, length, take, drop, refl, sym, ap, ◌∙◌, append_assoc, arith, All, Ok, Err, Result, ◌&&◌, Bool, true, false, cond, ltb, leb, eqb, Option, Some, None, subst, inl, inr, ◌⊎◌}
 use Rattle.std.specs.Prelude.{option_map}
 use Rattle.sample_codes.specs.Formats.{width}
 use Rattle.std.specs.List.{concat}
@@ -12,13 +12,13 @@ use Rattle.frame_cut.specs.declared.limits.Limits.{Limits}
 use Rattle.frame_cut.specs.declared.reading.Reading.{Reading}
 use Rattle.frame_cut.specs.declared.load_fault.LoadFault.{LoadFault}
 use Rattle.frame_cut.specs.Volume.{Volume, front_of, bytes_of}
-use Rattle.frame_cut.specs.Layout.{bytes_at, pieces, AreContiguous, AreTracesOf, volume_at}
+use Rattle.frame_cut.specs.Layout.{bytes_at, pieces, tail_at, AreContiguous, AreTracesOf, volume_at}
 use Rattle.frame_cut.specs.Heads.{head_of, blocks_of}
 use Rattle.frame_cut.specs.declared.load_fault.LoadFault.TheVariants.{Truncated, TooManyTraces, ExtensionCount, OutOfMemory}
 use Rattle.frame_cut.specs.Frames.{trace_length, front_length, sample_count, count_within, header_unsigned}
 use Rattle.frame_cut.specs.Laws.{CutOrRefused}
-use Rattle.frame_cut.specs.Walk.{traces_end, left_at, AreWhole, StopsAt}
-use Rattle.frame_cut.specs.Cuts.{IsTrace, AreParts, IsCut, IsStuck, IsRefused, trace_refusal, refusal_by_length}
+use Rattle.frame_cut.specs.Walk.{traces_end, left_at, AreWhole, EndsAt, StopsAt}
+use Rattle.frame_cut.specs.Cuts.{IsTrace, IsTail, AreParts, IsCut, IsStuck, IsRefused, is_torn, trace_refusal, refusal_by_length}
 use Rattle.std.proofs.lemmas.Bool.{cases_lt, ltb-false}
 use Rattle.frame_cut.proofs.BlockLemmas.{concat-blocks_of, whole-blocks_of, length-blocks_of}
 use Rattle.frame_cut.proofs.HeadFrontLemmas.{has_head}
@@ -81,18 +81,29 @@ tail-laid file records le =
     ∙ take_all (length file) file (omega arith)
 
 -- the front and the traces up to a place
-pub front-pieces : (file : List ℕ) (h : Head) (es : List Extent) (at : ℕ) → h.traces_at ≡ 3600 + 3200 * h.blocks → AreContiguous h.traces_at es at → front_of (volume_at file h es) ++ concat (pieces file es) ≡ take at file
-front-pieces file h es at first laid =
+pub front-pieces : (file : List ℕ) (h : Head) (es : List Extent) (n at : ℕ) → h.traces_at ≡ 3600 + 3200 * h.blocks → AreContiguous h.traces_at es at → front_of (volume_at file h es n) ++ concat (pieces file es) ≡ take at file
+front-pieces file h es n at first laid =
     ap (λ (s : List ℕ). s ++ concat (pieces file es)) (front-laid file h.blocks ∙ ap (λ (n : ℕ). take n file) (sym first))
     ∙ ap (λ (s : List ℕ). take h.traces_at file ++ s) (concat-pieces file h.traces_at es at laid)
     ∙ take-between file h.traces_at at (laid-le h.traces_at es at laid)
 
 -- the parts of a laid file joined are the file
-pub joined-laid : (file : List ℕ) (h : Head) (es : List Extent) → AreTracesOf file h es → bytes_of (volume_at file h es) ≡ file
-joined-laid file h es a =
+pub joined-laid : (file : List ℕ) (h : Head) (es : List Extent) (n : ℕ) → AreTracesOf file h es n → bytes_of (volume_at file h es n) ≡ file
+joined-laid file h es n a =
     let records : 3200 * h.trailer ≤ length file = omega (arith, a.whole) in
-    ap (λ (s : List ℕ). s ++ concat (blocks_of h.trailer (drop (length file - 3200 * h.trailer) file))) (front-pieces file h es (length file - 3200 * h.trailer) a.front a.laid)
+    let at : ℕ = length file - 3200 * h.trailer - n in
+    let whole : at + n ≡ length file - 3200 * h.trailer = omega (arith, a.whole) in
+    let back : List ℕ = concat (blocks_of h.trailer (drop (length file - 3200 * h.trailer) file)) in
+    ap (λ (s : List ℕ). s ++ (tail_at file h n ++ back)) (front-pieces file h es n at a.front a.laid)
+    ∙ sym (append_assoc (take at file) (tail_at file h n) back)
+    ∙ ap (λ (s : List ℕ). s ++ back) (sym (take-add at n file) ∙ ap (λ (k : ℕ). take k file) whole)
     ∙ tail-laid file h.trailer records
+
+-- so many bytes as are left at a place are those that are left there
+pub tail-left : (file : List ℕ) (h : Head) (at : ℕ) → at ≤ traces_end file h → tail_at file h (traces_end file h - at) ≡ left_at file h at
+tail-left file h at le =
+    let back : length file - 3200 * h.trailer - (traces_end file h - at) ≡ at = omega arith in
+    ap (λ (i : ℕ). take (traces_end file h - at) (drop i file)) back
 
 -- ---- one trace more
 
@@ -172,8 +183,8 @@ step-le file h l p at n le e len =
 
 -- ---- the end of the walk
 
-parts_of : (file : List ℕ) (reading : Reading) (l : Limits) (h : Head) (es : List Extent) (at : ℕ) → head_of file reading l ≡ Ok h → AreWhole file h l es at → AreParts file reading l (volume_at file h es)
-parts_of file reading l h es at e w =
+parts_of : (file : List ℕ) (reading : Reading) (l : Limits) (h : Head) (es : List Extent) (n at : ℕ) → head_of file reading l ≡ Ok h → AreWhole file h l es at → IsTail reading h (tail_at file h n) → AreParts file reading l (volume_at file h es n)
+parts_of file reading l h es n at e w tail =
     let k = has_head file reading l h e in
     let room : length (drop 3600 file) ≡ length file - 3600 = length-drop 3600 file in
     let records : length (drop (traces_end file h) file) ≡ length file - traces_end file h = length-drop (traces_end file h) file in
@@ -184,39 +195,65 @@ parts_of file reading l h es at e w =
       blocks = record { count = length-blocks_of h.blocks (drop 3600 file); whole = All-from_recursion IsBlock (blocks_of h.blocks (drop 3600 file)) (whole-blocks_of h.blocks (drop 3600 file) (omega (arith, k.whole))) };
       traces = w.traces;
       few = omega (arith, w.few, length-map es (bytes_at file));
+      tail = tail;
       trailer = record { count = length-blocks_of h.trailer (drop (traces_end file h) file); whole = All-from_recursion IsBlock (blocks_of h.trailer (drop (traces_end file h) file)) (whole-blocks_of h.trailer (drop (traces_end file h) file) (omega (arith, k.whole))) };
     }
 
-pub laid_from : (file : List ℕ) (reading : Reading) (l : Limits) (h : Head) (es : List Extent) → head_of file reading l ≡ Ok h → AreWhole file h l es (traces_end file h) → AreTracesOf file h es
-laid_from file reading l h es e w =
+pub laid_from : (file : List ℕ) (reading : Reading) (l : Limits) (h : Head) (es : List Extent) (n at : ℕ) → head_of file reading l ≡ Ok h → EndsAt file reading h l es at → n ≡ traces_end file h - at → AreTracesOf file h es n
+laid_from file reading l h es n at e w is =
     let k = has_head file reading l h e in
-    record { front = k.first; laid = w.laid; whole = omega (arith, k.whole, k.first) }
+    let le = laid-le h.traces_at es at w.whole.laid in
+    let place : at ≡ length file - 3200 * h.trailer - n = omega (arith, w.inside, is) in
+    record { front = k.first; laid = subst (AreContiguous h.traces_at es) place w.whole.laid; whole = omega (arith, k.whole, k.first, le, w.inside, is) }
 
--- all traces are whole: the file is cut
-pub cut_from : (file : List ℕ) (reading : Reading) (l : Limits) (h : Head) (es : List Extent) → head_of file reading l ≡ Ok h → AreWhole file h l es (traces_end file h) → IsCut file reading l (volume_at file h es)
-cut_from file reading l h es e w = record { joined = joined-laid file h es (laid_from file reading l h es e w); parts = parts_of file reading l h es (traces_end file h) e w }
+-- all traces are whole, and what is left is a tail that is kept: the file is cut
+pub cut_from : (file : List ℕ) (reading : Reading) (l : Limits) (h : Head) (es : List Extent) (n at : ℕ) → head_of file reading l ≡ Ok h → EndsAt file reading h l es at → n ≡ traces_end file h - at → IsCut file reading l (volume_at file h es n)
+cut_from file reading l h es n at e w is =
+    let bytes : left_at file h at ≡ tail_at file h n = sym (tail-left file h at w.inside) ∙ ap (tail_at file h) (sym is) in
+    let tail : IsTail reading h (tail_at file h n) = subst (λ (s : List ℕ). IsTail reading h s) bytes w.tail in
+    record { joined = joined-laid file h es n (laid_from file reading l h es n at e w is); parts = parts_of file reading l h es n at e w.whole tail }
 
 -- the walk stops: the file is refused
-pub refused_from : (file : List ℕ) (reading : Reading) (l : Limits) (h : Head) (es : List Extent) (at : ℕ) (fault : LoadFault) → head_of file reading l ≡ Ok h → StopsAt file h l es at fault → IsRefused file reading l fault
+pub refused_from : (file : List ℕ) (reading : Reading) (l : Limits) (h : Head) (es : List Extent) (at : ℕ) (fault : LoadFault) → head_of file reading l ≡ Ok h → StopsAt file reading h l es at fault → IsRefused file reading l fault
 refused_from file reading l h es at fault e s =
     let k = has_head file reading l h e in
-    let v : Volume = volume_at file h es in
+    let v : Volume = volume_at file h es 0 in
     let number : length (pieces file es) ≡ length es = length-map es (bytes_at file) in
-    let front : front_of v ++ concat (pieces file es) ≡ take at file = front-pieces file h es at k.first s.whole.laid in
-    let joined : front_of v ++ concat v.traces ++ left_at file h at ++ concat v.trailer ≡ file =
-    ap (λ (b : List ℕ). b ++ left_at file h at ++ concat v.trailer) front
+    let front : front_of v ++ concat (pieces file es) ≡ take at file = front-pieces file h es 0 at k.first s.whole.laid in
+    let joined : front_of v ++ concat v.traces ++ (left_at file h at ++ concat v.trailer) ≡ file =
+    ap (λ (b : List ℕ). b ++ (left_at file h at ++ concat v.trailer)) front
+    ∙ sym (append_assoc (take at file) (left_at file h at) (concat v.trailer))
     ∙ ap (λ (b : List ℕ). b ++ concat v.trailer) (take-between file at (traces_end file h) (omega (arith, s.some)))
     ∙ tail-laid file h.trailer (omega (arith, k.whole)) in
     let some : 0 < length (left_at file h at) = omega (arith, s.some, length-take (traces_end file h - at) (drop at file), length-drop at file) in
     let refused : trace_refusal h l (length (pieces file es) + 1) (left_at file h at) ≡ Some fault = ap (λ (n : ℕ). trace_refusal h l (n + 1) (left_at file h at)) number ∙ s.refused in
-    let stuck : IsStuck file reading l v (left_at file h at) fault = record { joined = joined; parts = parts_of file reading l h es at e s.whole; some = some; refused = refused } in
+    let stuck : IsStuck file reading l v (left_at file h at) fault = record { joined = joined; parts = parts_of file reading l h es 0 at e s.whole (inl refl); untailed = refl; unkept = s.unkept; some = some; refused = refused } in
     inr (v, left_at file h at, stuck)
 
 -- what the walk says of a file that it does not cut
-pub stopped : (file : List ℕ) (reading : Reading) (l : Limits) (h : Head) (fault : LoadFault) → head_of file reading l ≡ Ok h → (fault ≡ OutOfMemory) ⊎ ((es : List Extent) × (at : ℕ) × StopsAt file h l es at fault)
+pub stopped : (file : List ℕ) (reading : Reading) (l : Limits) (h : Head) (fault : LoadFault) → head_of file reading l ≡ Ok h → (fault ≡ OutOfMemory) ⊎ ((es : List Extent) × (at : ℕ) × StopsAt file reading h l es at fault)
     → (fault ≡ OutOfMemory) ⊎ IsRefused file reading l fault
 stopped file reading l h fault e (inl none) = inl none
 stopped file reading l h fault e (inr (es, at, s)) = inr (refused_from file reading l h es at fault e s)
+
+-- where no bytes are left
+pub nothing_left : (file : List ℕ) (h : Head) (at : ℕ) → at ≡ traces_end file h → left_at file h at ≡ []
+nothing_left file h at last =
+    let none : traces_end file h - at ≡ 0 = omega (arith, last) in
+    ap (λ (n : ℕ). take n (drop at file)) none
+
+-- the traces end where the data trailer records begin
+pub ends_there : (file : List ℕ) (reading : Reading) (l : Limits) (h : Head) (es : List Extent) (at : ℕ) → AreWhole file h l es at → at ≡ traces_end file h → EndsAt file reading h l es at
+ends_there file reading l h es at w last = record { whole = w; inside = omega (arith, last); tail = inl (nothing_left file h at last) }
+
+both_true : (a b : Bool) → (a && b) ≡ true → (a ≡ true) × (b ≡ true)
+both_true true true e = (refl, refl)
+both_true true false e = absurd cc
+both_true false b e = absurd cc
+
+-- or in front of less than a trace, which the reading keeps
+pub ends_torn : (file : List ℕ) (reading : Reading) (l : Limits) (h : Head) (es : List Extent) (at : ℕ) → AreWhole file h l es at → at ≤ traces_end file h → (reading.tail && is_torn h (left_at file h at)) ≡ true → EndsAt file reading h l es at
+ends_torn file reading l h es at w le kept = record { whole = w; inside = le; tail = inr (both_true reading.tail (is_torn h (left_at file h at)) kept) }
 
 -- ---- each file is cut or refused
 
@@ -232,12 +269,18 @@ length_when_passed h l p rest None e passed = absurd (never (ltb (length rest) (
 length_when_passed h l p rest (Some n) e passed = (n, e)
 
 whole_to_end : (file : List ℕ) (reading : Reading) (l : Limits) (h : Head) (es : List Extent) (at : ℕ) → head_of file reading l ≡ Ok h → AreWhole file h l es at → at ≡ traces_end file h → Outcome file reading l
-whole_to_end file reading l h es at e w last = inl (volume_at file h es, cut_from file reading l h es e (subst (AreWhole file h l es) last w))
+whole_to_end file reading l h es at e w last = inl (volume_at file h es (traces_end file h - at), cut_from file reading l h es (traces_end file h - at) at e (ends_there file reading l h es at w last) refl)
+
+-- a trace that is refused is a tail, or refuses the file
+at_refused : (file : List ℕ) (reading : Reading) (l : Limits) (h : Head) (es : List Extent) (at : ℕ) (fault : LoadFault) (b : Bool) → head_of file reading l ≡ Ok h → AreWhole file h l es at → at < traces_end file h → trace_refusal h l (length es + 1) (left_at file h at) ≡ Some fault
+    → (reading.tail && is_torn h (left_at file h at)) ≡ b → Outcome file reading l
+at_refused file reading l h es at fault true e w some found kept = inl (volume_at file h es (traces_end file h - at), cut_from file reading l h es (traces_end file h - at) at e (ends_torn file reading l h es at w (omega (arith, some)) kept) refl)
+at_refused file reading l h es at fault false e w some found kept = inr (fault, refused_from file reading l h es at fault e (record { whole = w; some = some; unkept = kept; refused = found }))
 
 -- what a trace is found to be decides, where the rest of the walk decides
 at_trace : (file : List ℕ) (reading : Reading) (l : Limits) (h : Head) (es : List Extent) (at : ℕ) (o : Option LoadFault) → head_of file reading l ≡ Ok h → AreWhole file h l es at → at < traces_end file h → trace_refusal h l (length es + 1) (left_at file h at) ≡ o
     → ((n : ℕ) → AreWhole file h l (es ++ record { start = at; length = n } ∷ []) (at + n) → at + n ≤ traces_end file h → 240 ≤ n → Outcome file reading l) → Outcome file reading l
-at_trace file reading l h es at (Some fault) e w some found more = inr (fault, refused_from file reading l h es at fault e (record { whole = w; some = some; refused = found }))
+at_trace file reading l h es at (Some fault) e w some found more = at_refused file reading l h es at fault (reading.tail && is_torn h (left_at file h at)) e w some found refl
 at_trace file reading l h es at None e w some found more =
     let len = length_when_passed h l (length es + 1) (left_at file h at) (trace_length h (left_at file h at)) refl found in
     let le = step-le file h l (length es + 1) at len.0 (omega (arith, some)) found len.1 in

@@ -1,5 +1,5 @@
 -- A file is cut in one way at most.
-use Rattle.std.proofs.Common.{◌≡◌, ℕ, ◌+◌, ◌*◌, ◌<◌, ◌≤◌, Bool, true, false, cond, eqb, List, [], ◌∷◌, ◌++◌, length, take, drop, Some, None, Result, Ok, Err, refl, sym, ap, subst, ◌∙◌, append_assoc, arith, ◌⊎◌, inl, inr}
+use Rattle.std.proofs.Common.{IsTrue, IsFalse, ◌&&◌, ◌||◌, ltb, Option, ◌≡◌, ℕ, ◌+◌, ◌*◌, ◌<◌, ◌≤◌, Bool, true, false, cond, eqb, List, [], ◌∷◌, ◌++◌, length, take, drop, Some, None, Result, Ok, Err, refl, sym, ap, subst, ◌∙◌, append_assoc, arith, ◌⊎◌, inl, inr}
 use Rattle.std.specs.List.{concat, AllByRecursion}
 use Rattle.std.proofs.lemmas.List.{length-append, take_at, drop_at, append-nil}
 use Rattle.std.proofs.lemmas.List.Elements.{recursion_from_All}
@@ -12,7 +12,8 @@ use Rattle.frame_cut.specs.declared.reading.Reading.{Reading}
 use Rattle.frame_cut.specs.declared.load_fault.LoadFault.{LoadFault}
 use Rattle.frame_cut.specs.Volume.{Volume, front_of, bytes_of}
 use Rattle.frame_cut.specs.Frames.{count_within, extension_count, sample_count, trace_length, front_length}
-use Rattle.frame_cut.specs.Cuts.{IsTrace, AreParts, IsStuck, trace_refusal}
+use Rattle.frame_cut.specs.declared.load_fault.LoadFault.TheVariants.{Truncated}
+use Rattle.frame_cut.specs.Cuts.{IsTrace, IsTail, AreParts, IsStuck, is_longer, is_torn, refusal_by_length, trace_refusal}
 use Rattle.frame_cut.proofs.BlockLemmas.{slice-append}
 use Rattle.frame_cut.specs.Heads.{head_of}
 use Rattle.frame_cut.specs.Laws.{AtMostOneCut, AtMostOneStuck, NotCutAndStuck, AtMostOneRefusal, NotCutAndRefused}
@@ -129,21 +130,30 @@ same_traces h l p a b (t ∷ ts) (u ∷ us) xs ys is js ea eb la lb sx sy e =
 ok_is : (a b : Head) → let ra : Result Head LoadFault = Ok a in let rb : Result Head LoadFault = Ok b in ra ≡ rb → a ≡ b
 ok_is a b e = cc
 
-same_volume : (v w : Volume) → v.head ≡ w.head → v.text ≡ w.text → v.bin ≡ w.bin → v.blocks ≡ w.blocks → v.traces ≡ w.traces → v.trailer ≡ w.trailer → v ≡ w
-same_volume v w head text bin blocks traces tail =
+same_volume : (v w : Volume) → v.head ≡ w.head → v.text ≡ w.text → v.bin ≡ w.bin → v.blocks ≡ w.blocks → v.traces ≡ w.traces → v.tail ≡ w.tail → v.trailer ≡ w.trailer → v ≡ w
+same_volume v w head text bin blocks traces tail trailer =
     ap (λ (x : Head). record v { head = x }) head
     ∙ ap (λ (x : List ℕ). record v { head = w.head; text = x }) text
     ∙ ap (λ (x : List ℕ). record v { head = w.head; text = w.text; bin = x }) bin
     ∙ ap (λ (x : List (List ℕ)). record v { head = w.head; text = w.text; bin = w.bin; blocks = x }) blocks
     ∙ ap (λ (x : List (List ℕ)). record v { head = w.head; text = w.text; bin = w.bin; blocks = w.blocks; traces = x }) traces
-    ∙ ap (λ (x : List (List ℕ)). record w { trailer = x }) tail
+    ∙ ap (λ (x : List ℕ). record w { tail = x; trailer = v.trailer }) tail
+    ∙ ap (λ (x : List (List ℕ)). record w { trailer = x }) trailer
 
--- the bytes of parts with more between the traces and the trailer records
+-- the bytes of parts with these between the traces and the trailer records, in the place of a tail
 abbrev joined_with : Volume → List ℕ → List ℕ
-joined_with v xs = front_of v ++ concat v.traces ++ xs ++ concat v.trailer
+joined_with v xs = bytes_of (record v { tail = xs })
+
+-- the same parts with these in the place of a tail
+abbrev with_tail : Volume → List ℕ → Volume
+with_tail v xs = record v { tail = xs }
+
+-- the part in front of the trailer records
+grouped_tail : (a b c d : List ℕ) → a ++ b ++ (c ++ d) ≡ a ++ b ++ c ++ d
+grouped_tail a b c d = simp append_assoc
 
 one : (file : List ℕ) (reading : Reading) (l : Limits) (v w : Volume) (xs ys : List ℕ) → AreParts file reading l v → AreParts file reading l w
-    → joined_with v xs ≡ file → joined_with w ys ≡ file → Stops v.head l (length v.traces + 1) xs → Stops w.head l (length w.traces + 1) ys → (v ≡ w) × (xs ≡ ys)
+    → joined_with v xs ≡ file → joined_with w ys ≡ file → Stops v.head l (length v.traces + 1) xs → Stops w.head l (length w.traces + 1) ys → (with_tail v xs ≡ with_tail w ys) × (xs ≡ ys)
 one file reading l v w xs ys p q ev ew sx sy =
     let heads : v.head ≡ w.head = ok_is v.head w.head (sym p.head ∙ q.head) in
     let tail_v : AllByRecursion IsBlock v.trailer = recursion_from_All IsBlock v.trailer p.trailer.whole in
@@ -151,7 +161,7 @@ one file reading l v w xs ys p q ev ew sx sy =
     let tail_count : length v.trailer ≡ length w.trailer = p.trailer.count ∙ ap (λ (h : Head). h.trailer) heads ∙ sym q.trailer.count in
     let block_count : length v.blocks ≡ length w.blocks = p.blocks.count ∙ ap (λ (h : Head). h.blocks) heads ∙ sym q.blocks.count in
     let tail_length : length (concat v.trailer) ≡ length (concat w.trailer) = omega (arith, length-blocks v.trailer tail_v, length-blocks w.trailer tail_w, tail_count) in
-    let ends = append_same_end (front_of v ++ concat v.traces ++ xs) (concat v.trailer) (front_of w ++ concat w.traces ++ ys) (concat w.trailer) tail_length (ev ∙ sym ew) in
+    let ends = append_same_end (front_of v ++ concat v.traces ++ xs) (concat v.trailer) (front_of w ++ concat w.traces ++ ys) (concat w.trailer) tail_length (sym (grouped_tail (front_of v) (concat v.traces) xs (concat v.trailer)) ∙ ev ∙ sym ew ∙ grouped_tail (front_of w) (concat w.traces) ys (concat w.trailer)) in
     let tails = same_blocks v.trailer w.trailer [] [] tail_v tail_w tail_count (ap (λ (s : List ℕ). s ++ []) ends.1) in
     let parts = sym (regroup v.text v.bin (concat v.blocks) (concat v.traces) xs) ∙ ends.0 ∙ regroup w.text w.bin (concat w.blocks) (concat w.traces) ys in
     let texts = append_same v.text (v.bin ++ (concat v.blocks ++ (concat v.traces ++ xs))) w.text (w.bin ++ (concat w.blocks ++ (concat w.traces ++ ys))) (p.text ∙ sym q.text) parts in
@@ -161,26 +171,63 @@ one file reading l v w xs ys p q ev ew sx sy =
     let traces_w : AllByRecursion (IsTrace v.head) w.traces = subst (λ (h : Head). AllByRecursion (IsTrace h) w.traces) (sym heads) (recursion_from_All (IsTrace w.head) w.traces q.traces) in
     let stops_w : Stops v.head l (length w.traces + 1) ys = subst (λ (h : Head). Stops h l (length w.traces + 1) ys) (sym heads) sy in
     let traces = same_traces v.head l 1 (length v.traces + 1) (length w.traces + 1) v.traces w.traces xs ys traces_v traces_w (omega arith) (omega arith) (omega (arith, p.few)) (omega (arith, q.few)) sx stops_w blocks.1 in
-    (same_volume v w heads texts.0 bins.0 blocks.0 traces.0 tails.0, traces.1)
+    (same_volume (with_tail v xs) (with_tail w ys) heads texts.0 bins.0 blocks.0 traces.0 traces.1 tails.0, traces.1)
 
-with_nothing : (v : Volume) → joined_with v [] ≡ bytes_of v
-with_nothing v = ap (λ (s : List ℕ). s ++ concat v.trailer) (append-nil (front_of v ++ concat v.traces))
+-- ---- what stands behind the last trace
+
+both_not : (a b : Bool) → IsTrue a → IsTrue b → IsFalse (a && b) → ⊥
+both_not true true s t f = absurd cc
+both_not true false s t f = absurd cc
+both_not false b s t f = absurd cc
+
+-- less than a trace, whatever its number and the limit: its front is not there, or it is not
+torn_by : (h : Head) (l : Limits) (p : ℕ) (rest : List ℕ) (b : Bool) (o : Option ℕ) → IsTrue (b || is_longer o (length rest)) → cond b (Some (Truncated p)) (refusal_by_length l p (length rest) o) ≡ Some (Truncated p)
+torn_by h l p rest true o t = refl
+torn_by h l p rest false None t = absurd cc
+torn_by h l p rest false (Some n) t = rw t refl
+
+pub torn_refused : (h : Head) (l : Limits) (p : ℕ) (rest : List ℕ) → IsTrue (is_torn h rest) → trace_refusal h l p rest ≡ Some (Truncated p)
+torn_refused h l p rest t = torn_by h l p rest (ltb (length rest) (front_length h)) (trace_length h rest) t
+
+some_bytes : (xs : List ℕ) → (xs ≡ []) ⊎ (0 < length xs)
+some_bytes [] = inl refl
+some_bytes (x ∷ xs) = inr (omega arith)
+
+-- no trace begins in a tail
+tail_stops : (reading : Reading) (h : Head) (l : Limits) (p : ℕ) (tail : List ℕ) → IsTail reading h tail → Stops h l p tail
+tail_stops reading h l p tail (inl none) = inl none
+tail_stops reading h l p tail (inr (kept, torn)) = elim (some_bytes tail) [
+  | inl none ↦ inl none
+  | inr some ↦ inr (Truncated p, some, torn_refused h l p tail torn)
+]
 
 pub at_most_one_cut : AtMostOneCut
 at_most_one_cut file reading l v w p q =
-    (one file reading l v w [] [] p.parts q.parts (with_nothing v ∙ p.joined) (with_nothing w ∙ q.joined) (inl refl) (inl refl)).0
+    (one file reading l v w v.tail w.tail p.parts q.parts p.joined q.joined (tail_stops reading v.head l (length v.traces + 1) v.tail p.parts.tail) (tail_stops reading w.head l (length w.traces + 1) w.tail q.parts.tail)).0
+
+-- where there is no tail
+no_tail : (v : Volume) (xs : List ℕ) → v.tail ≡ [] → record (with_tail v xs) { tail = [] } ≡ v
+no_tail v xs none = ap (λ (t : List ℕ). with_tail v t) (sym none)
 
 pub at_most_one_stuck : AtMostOneStuck
 at_most_one_stuck file reading l v w xs ys a b p q =
     let same = one file reading l v w xs ys p.parts q.parts p.joined q.joined (inr (a, p.some, p.refused)) (inr (b, q.some, q.refused)) in
-    let refused : Some a ≡ Some b = sym p.refused ∙ ap (λ (u : Volume). trace_refusal u.head l (length u.traces + 1) xs) same.0 ∙ ap (trace_refusal w.head l (length w.traces + 1)) same.1 ∙ q.refused in
-    (same.0, same.1, cc)
+    let volumes : v ≡ w = sym (no_tail v xs p.untailed) ∙ ap (λ (u : Volume). record u { tail = [] }) same.0 ∙ no_tail w ys q.untailed in
+    let refused : Some a ≡ Some b = sym p.refused ∙ ap (λ (u : Volume). trace_refusal u.head l (length u.traces + 1) xs) volumes ∙ ap (trace_refusal w.head l (length w.traces + 1)) same.1 ∙ q.refused in
+    (volumes, same.1, cc)
+
+-- a tail that is kept does not stop a walk
+kept_not : (reading : Reading) (g h : Head) (tail rest : List ℕ) → g ≡ h → tail ≡ rest → 0 < length rest → IsTail reading g tail → IsFalse (reading.tail && is_torn h rest) → ⊥
+kept_not reading g h tail rest e same some (inl none) unkept =
+    let nothing : length rest ≡ 0 = ap (λ (s : List ℕ). length s) (sym same ∙ none) in absurd (omega (arith, some, nothing))
+kept_not reading g h tail rest e same some (inr (kept, torn)) unkept =
+    let t : IsTrue (is_torn h rest) = subst (λ (k : Head). IsTrue (is_torn k rest)) e (subst (λ (s : List ℕ). IsTrue (is_torn g s)) same torn) in
+    both_not reading.tail (is_torn h rest) kept t unkept
 
 pub not_cut_and_stuck : NotCutAndStuck
 not_cut_and_stuck file reading l v w rest fault p q =
-    let same = one file reading l v w [] rest p.parts q.parts (with_nothing v ∙ p.joined) q.joined (inl refl) (inr (fault, q.some, q.refused)) in
-    let none : 0 ≡ length rest = ap (λ (s : List ℕ). length s) same.1 in
-    absurd (omega (arith, q.some, none))
+    let same = one file reading l v w v.tail rest p.parts q.parts p.joined q.joined (tail_stops reading v.head l (length v.traces + 1) v.tail p.parts.tail) (inr (fault, q.some, q.refused)) in
+    kept_not reading v.head w.head v.tail rest (ap (λ (u : Volume). u.head) same.0) same.1 q.some p.parts.tail q.unkept
 
 -- ---- refusals
 

@@ -1,5 +1,5 @@
 -- A file is cut into its parts, or its traces stop at one that is refused.
-use Rattle.std.specs.Prelude.{ℕ, ◌≡◌, ◌+◌, ◌<◌, ◌≤◌, ◌⊎◌, ◌++◌, nat_lt, List, length, All, Option, Some, None, Ok, Err, if◌then◌else◌}
+use Rattle.std.specs.Prelude.{ℕ, ◌≡◌, ◌+◌, ◌<◌, ◌≤◌, ◌⊎◌, ◌&&◌, ◌||◌, ◌++◌, nat_lt, Bool, false, IsTrue, IsFalse, List, [], length, All, Option, Some, None, Ok, Err, if◌then◌else◌}
 use Rattle.std.specs.List.{concat}
 use Rattle.frame_cut.specs.declared.file_head.Head.{Head}
 use Rattle.frame_cut.specs.declared.limits.Limits.{Limits}
@@ -17,6 +17,19 @@ pub record IsTrace (h : Head) (t : List ℕ) : Type 0 where
   pub whole : front_length h ≤ length t
   pub exact : trace_length h t ≡ Some (length t)
 
+-- whether the length is there, and so many bytes are less
+abbrev pub is_longer : Option ℕ → ℕ → Bool
+is_longer None left = false
+is_longer (Some n) left = nat_lt left n
+
+-- whether the bytes are less than a trace: they end in its front, or before the length that its headers give it
+abbrev pub is_torn : Head → List ℕ → Bool
+is_torn h rest = nat_lt (length rest) (front_length h) || is_longer (trace_length h rest) (length rest)
+
+-- what may stand behind the last trace: nothing, or under a reading that keeps it less than a trace
+abbrev pub IsTail : Reading → Head → List ℕ → Type 0
+IsTail reading h tail = (tail ≡ []) ⊎ (IsTrue reading.tail × IsTrue (is_torn h tail))
+
 -- so many blocks of 3200 bytes
 pub record AreBlocks (n : ℕ) (blocks : List (List ℕ)) : Type 0 where
   pub count : length blocks ≡ n
@@ -30,6 +43,7 @@ pub record AreParts (file : List ℕ) (reading : Reading) (limits : Limits) (v :
   pub blocks : AreBlocks v.head.blocks v.blocks
   pub traces : All (λ t. IsTrace v.head t) v.traces
   pub few : length v.traces ≤ limits.traces
+  pub tail : IsTail reading v.head v.tail
   pub trailer : AreBlocks v.head.trailer v.trailer
 
 -- the parts are the whole file
@@ -49,10 +63,12 @@ trace_refusal h limits p rest =
     if nat_lt (length rest) (front_length h) then Some (Truncated p)
     else refusal_by_length limits p (length rest) (trace_length h rest)
 
--- the traces before these bytes are whole, and the next one is refused
+-- the traces before these bytes are whole, and the next one is refused; the reading does not keep the bytes as a tail
 pub record IsStuck (file : List ℕ) (reading : Reading) (limits : Limits) (v : Volume) (rest : List ℕ) (fault : LoadFault) : Type 0 where
-  pub joined : front_of v ++ concat v.traces ++ rest ++ concat v.trailer ≡ file
+  pub joined : front_of v ++ concat v.traces ++ (rest ++ concat v.trailer) ≡ file
   pub parts : AreParts file reading limits v
+  pub untailed : v.tail ≡ []
+  pub unkept : IsFalse (reading.tail && is_torn v.head rest)
   pub some : 0 < length rest
   pub refused : trace_refusal v.head limits (length v.traces + 1) rest ≡ Some fault
 

@@ -45,7 +45,7 @@ LengthByFront = (h : Head) (t u : List ℕ) → front_length h ≤ length t → 
 
 -- the parts of a file whose traces are laid one behind the other, joined, are the file
 abbrev pub LaidIsJoined : Type 0
-LaidIsJoined = (file : List ℕ) (h : Head) (extents : List Extent) → AreTracesOf file h extents → bytes_of (volume_at file h extents) ≡ file
+LaidIsJoined = (file : List ℕ) (h : Head) (extents : List Extent) (n : ℕ) → AreTracesOf file h extents n → bytes_of (volume_at file h extents n) ≡ file
 
 -- a file stays cut, under the same head, where bytes are spliced inside trace p (counted from 0) that leave it its length
 abbrev pub SpliceStaysCut : Type 0

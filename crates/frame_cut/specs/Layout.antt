@@ -20,21 +20,27 @@ abbrev pub AreContiguous : ℕ → List Extent → ℕ → Type 0
 AreContiguous start [] end = start ≡ end
 AreContiguous start (e ∷ es) end = (e.start ≡ start) × AreContiguous (start + e.length) es end
 
--- the parts of a file with this head whose traces lie at these extents
-abbrev pub volume_at : List ℕ → Head → List Extent → Volume
-volume_at file h extents = record {
+-- so many bytes in front of the data trailer records
+abbrev pub tail_at : List ℕ → Head → ℕ → List ℕ
+tail_at file h n = take n (drop (length file - TEXT_BLOCK_BYTES * h.trailer - n) file)
+
+-- the parts of a file with this head whose traces lie at these extents, with so many bytes of no trace behind them
+abbrev pub volume_at : List ℕ → Head → List Extent → ℕ → Volume
+volume_at file h extents n = record {
   head = h;
   text = take TEXT_BLOCK_BYTES file;
   bin = take BINARY_HEADER_BYTES (drop TEXT_BLOCK_BYTES file);
   blocks = blocks_of h.blocks (drop FILE_HEADER_BYTES file);
   traces = pieces file extents;
+  tail = tail_at file h n;
   trailer = blocks_of h.trailer (drop (length file - TEXT_BLOCK_BYTES * h.trailer) file);
 }
 
--- the traces lie one behind the other from the head's place of the first trace up to the data trailer records
-pub record AreTracesOf (file : List ℕ) (h : Head) (extents : List Extent) : Type 0 where
+-- the traces lie one behind the other from the head's place of the first trace, and behind them so many bytes of no trace up
+-- to the data trailer records
+pub record AreTracesOf (file : List ℕ) (h : Head) (extents : List Extent) (n : ℕ) : Type 0 where
   -- the first trace stands behind the extended textual headers
   pub front : h.traces_at ≡ FILE_HEADER_BYTES + TEXT_BLOCK_BYTES * h.blocks
-  pub laid : AreContiguous h.traces_at extents (length file - TEXT_BLOCK_BYTES * h.trailer)
-  -- the bytes in front of the first trace and the data trailer records are there
-  pub whole : h.traces_at + TEXT_BLOCK_BYTES * h.trailer ≤ length file
+  pub laid : AreContiguous h.traces_at extents (length file - TEXT_BLOCK_BYTES * h.trailer - n)
+  -- the bytes in front of the first trace, those of no trace and the data trailer records are there
+  pub whole : h.traces_at + n + TEXT_BLOCK_BYTES * h.trailer ≤ length file

@@ -37,6 +37,10 @@ with_each v a at size bytes = record v { traces = put_each_at v.traces (a - 1) a
 abbrev pub with_inserted : Volume → ℕ → List ℕ → Volume
 with_inserted v p t = record v { traces = insert v.traces (p - 1) t }
 
+-- the volume without the bytes of no trace behind the last one
+abbrev pub untailed : Volume → Volume
+untailed v = record v { tail = [] }
+
 -- the volume without trace p
 abbrev pub without : Volume → ℕ → Volume
 without v p = record v { traces = remove v.traces (p - 1) }

@@ -163,13 +163,13 @@ abbrev pub head_untold : Head
 head_untold = record { order = Little; major = 0; minor = 0; format = Opaque IbmFloat32; samples = 1; fixed = false; extensions = 0; blocks = 0; trailer = 0; traces_at = 3600 }
 
 abbrev pub volume_plain : Volume
-volume_plain = record { head = head_plain; text = text_plain; bin = bin_plain; blocks = []; traces = trace_plain_1 ∷ trace_plain_2 ∷ trace_plain_3 ∷ []; trailer = [] }
+volume_plain = record { head = head_plain; text = text_plain; bin = bin_plain; blocks = []; traces = trace_plain_1 ∷ trace_plain_2 ∷ trace_plain_3 ∷ []; tail = []; trailer = [] }
 
 abbrev pub volume_extended : Volume
-volume_extended = record { head = head_extended; text = text_plain; bin = bin_extended; blocks = []; traces = trace_extended ∷ []; trailer = [] }
+volume_extended = record { head = head_extended; text = text_plain; bin = bin_extended; blocks = []; traces = trace_extended ∷ []; tail = []; trailer = [] }
 
 abbrev pub volume_counted : Volume
-volume_counted = record { head = head_counted; text = text_plain; bin = bin_counted; blocks = []; traces = trace_counted ∷ []; trailer = [] }
+volume_counted = record { head = head_counted; text = text_plain; bin = bin_counted; blocks = []; traces = trace_counted ∷ []; tail = []; trailer = [] }
 
 abbrev pub volume_trailed : Volume
-volume_trailed = record { head = record head_extended { trailer = 2 }; text = text_plain; bin = bin_trailed; blocks = []; traces = trace_extended ∷ []; trailer = tail_trailed }
+volume_trailed = record { head = record head_extended { trailer = 2 }; text = text_plain; bin = bin_trailed; blocks = []; traces = trace_extended ∷ []; tail = []; trailer = tail_trailed }

@@ -14,6 +14,8 @@ pub record Volume : Type 0 where
   pub blocks : List (List ℕ)
   -- each trace with its headers and samples
   pub traces : List (List ℕ)
+  -- bytes of no trace: less than one, behind the last
+  pub tail : List ℕ
   -- the data trailer records
   pub trailer : List (List ℕ)
 
@@ -21,9 +23,13 @@ pub record Volume : Type 0 where
 abbrev pub front_of : Volume → List ℕ
 front_of v = v.text ++ v.bin ++ concat v.blocks
 
+-- the bytes behind the traces
+abbrev pub behind_traces : Volume → List ℕ
+behind_traces v = v.tail ++ concat v.trailer
+
 -- the file's bytes: its parts, one after another
 abbrev pub bytes_of : Volume → List ℕ
-bytes_of v = front_of v ++ concat v.traces ++ concat v.trailer
+bytes_of v = front_of v ++ concat v.traces ++ behind_traces v
 
 -- where a trace begins, traces counted from 0: behind the front and the traces before it
 abbrev pub start_of : Volume → ℕ → ℕ

@@ -193,7 +193,8 @@ fn with_blocks(
     requires whole { length bin.now ≡ BINARY_HEADER_BYTES }
     requires inside { TEXT_BLOCK_BYTES * blocks ≤ left }
     requires format { format ≡ format_in reading order bin.now }
-    ensures told { (all : List ℕ) → length all ≡ left → blocks ≡ blocks_in reading order bin.now all →
+    ensures told { (all : List ℕ) → length all ≡ left →
+        blocks ≡ blocks_in reading order bin.now all →
         Tells result (first_fault_else (drop 7 (head_faults reading order bin.now all))
         (head_by reading order bin.now all)) }
     ensures known { IfOk result (λ head. IsSome head) }

@@ -1,7 +1,8 @@
 //! One SEG-Y file (revisions 0, 1 and 2.0) cut into its parts: the head that its binary header
 //! gives, and where each trace lies. `head` and `cut` answer these, or why the file has none: the
 //! first of L02 to L12 and L17 that holds of its head, else L13, L14 or L15 of the first trace that
-//! is refused. A `Reading` says what is asked for beside the file's own bytes. `front_length`,
+//! is refused. A `Reading` says what is asked for beside the file's own bytes. `keeps` tells what a
+//! reading takes for no trace. `front_length`,
 //! `trace_length`, `extension_count` and `sample_count` tell of one trace, `extensions_by` and
 //! `samples_by` of the numbers that its headers say. The calls that are named for a law do nothing:
 //! their contract is the law.
@@ -42,4 +43,4 @@ pub use crate::limits::Limits;
 pub use crate::load_fault::LoadFault;
 pub use crate::reading::Reading;
 pub use crate::sizes::{BINARY_HEADER_BYTES, FILE_HEADER_BYTES};
-pub use crate::walk::length_of_next;
+pub use crate::walk::{keeps, length_of_next};

@@ -1,33 +1,37 @@
 // The walk over the traces of a file: where each one lies, or why one is refused.
-ghost use Rattle.std.specs.Prelude.{◌≡◌, ◌+◌, ◌*◌, ◌<◌, ◌≤◌, ◌↔◌, ◌⊎◌, ℕ, List, [], true, length, Some, None, IfOk, IfErr, IsSome, IfSome};
+ghost use Rattle.std.specs.Prelude.{◌≡◌, ◌+◌, ◌*◌, ◌<◌, ◌≤◌, ◌&&◌, ◌↔◌, ◌⊎◌, ℕ, List, [], true, length, Some, None, IfOk, IfErr, IsSome, IfSome};
 ghost use Rattle.std.specs.Option.{ForSome};
 ghost use Rattle.frame_cut.specs.declared.extent.Extent.{Extent};
 ghost use Rattle.frame_cut.specs.Frames.{trace_length as trace_length_of, front_length as front_length_of};
-ghost use Rattle.frame_cut.specs.Cuts.{trace_refusal};
+ghost use Rattle.frame_cut.specs.declared.file_head.Head.{Head};
+ghost use Rattle.frame_cut.specs.declared.limits.Limits.{Limits};
+ghost use Rattle.frame_cut.specs.Cuts.{is_torn, trace_refusal};
 ghost use Rattle.frame_cut.specs.Fronts.{BeginsWith};
-ghost use Rattle.frame_cut.specs.Walk.{AreWhole, StopsAt, IsFixedLength, traces_end};
+ghost use Rattle.frame_cut.specs.Walk.{AreWhole, EndsAt, StopsAt, IsFixedLength};
 
 use crate::extent::Extent;
 use crate::file_head::Head;
 use crate::frames::{front_length, length_with, trace_length};
 use crate::limits::Limits;
 use crate::load_fault::LoadFault;
+use crate::reading::Reading;
 use std::alloc::{AllocError, Global};
 use text_block::TEXT_BLOCK_BYTES;
 
-// Where the traces of a file with this head lie.
+// Where the traces of a file with this head lie, and where the last of them ends.
 pub(crate) fn walk(
     alloc: Global,
     head: &Head,
+    reading: Reading,
     limits: Limits,
     bytes: &[u8],
-) -> Result<Vec<Extent>, LoadFault>
+) -> Result<(Vec<Extent>, usize), LoadFault>
     requires { head.now.traces_at + TEXT_BLOCK_BYTES * head.now.trailer ≤ length bytes.now }
-    ensures whole { IfOk result (λ extents.
-        AreWhole bytes.now head.now limits extents.items (traces_end bytes.now head.now)) }
+    ensures ends { IfOk result (λ walked.
+        EndsAt bytes.now reading head.now limits walked.0.items walked.1) }
     ensures stops { IfErr result (λ fault. (fault ≡ LoadFault.OutOfMemory)
         ⊎ ((extents : List Extent) × (at : ℕ) ×
-        StopsAt bytes.now head.now limits extents at fault)) }
+        StopsAt bytes.now reading head.now limits extents at fault)) }
 {
     let end = bytes.len() - TEXT_BLOCK_BYTES * head.trailer as usize;
     let mut at = head.traces_at as usize;
@@ -40,6 +44,7 @@ pub(crate) fn walk(
         let left = (end - at) as u64;
         let length = match next_length(head, fixed, limits, trace, &bytes[at..end], left) {
             Ok(length) => length,
+            Err(fault) if keeps(reading, fault) => return Ok((extents, at)),
             Err(fault) => return Err(fault),
         };
         let extent = Extent {
@@ -51,7 +56,17 @@ pub(crate) fn walk(
         }
         at += length as usize;
     }
-    Ok(extents)
+    Ok((extents, at))
+}
+
+/// Whether the reading keeps what is left where a trace is refused for this reason: less than a
+/// trace (L14), which is a tail then. Takes no memory.
+pub fn keeps(reading: Reading, fault: LoadFault) -> bool
+    ensures { (head : Head) → (limits : Limits) → (p : ℕ) → (rest : List ℕ) →
+        trace_refusal head limits p rest ≡ Some fault →
+        result ≡ (reading.tail && is_torn head rest) }
+{
+    reading.tail && matches!(fault, LoadFault::Truncated(_))
 }
 
 // The length of every trace, where it is one whatever their headers say.

@@ -15,7 +15,7 @@ use Rattle.frame_cut.specs.declared.file_head.Head.{Head}
 use Rattle.frame_cut.specs.declared.limits.Limits.{Limits}
 use Rattle.frame_cut.specs.declared.reading.Reading.{Reading}
 use Rattle.frame_cut.specs.Cuts.{IsTrace, IsCut}
-use Rattle.frame_cut.specs.Parts.{put_each_at, with_header_bytes, with_inserted, with_line, with_moved, without}
+use Rattle.frame_cut.specs.Parts.{untailed, put_each_at, with_header_bytes, with_inserted, with_line, with_moved, without}
 use Rattle.frame_cut.specs.Splice.{splice}
 use Rattle.frame_cut.specs.Traces.{count_of, trace_at, with_trace}
 use Rattle.frame_cut.specs.Volume.{Volume, bytes_of, front_of}
@@ -317,6 +317,17 @@ frame_header limits v at new f room =
       few = f.few;
       small = omega (arith, f.small, length-bytes v, length-bytes w, front_long v, front_long w, same);
     }
+
+-- without its tail
+pub frame_untailed : (limits : Limits) (v : Volume) → HasFrame limits v → HasFrame limits (untailed v)
+frame_untailed limits v f = record {
+  text = f.text;
+  bin = f.bin;
+  blocks = f.blocks;
+  trailer = f.trailer;
+  few = f.few;
+  small = omega (arith, f.small, length-bytes v, length-bytes (untailed v), length-append v.tail (concat v.trailer));
+}
 
 -- ---- a file that is cut
 

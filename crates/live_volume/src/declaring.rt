@@ -1,4 +1,5 @@
-// What the reading of the load asked for, written into the binary header.
+// What the reading of the load asked for, written into the binary header, and the bytes of no trace
+// that it keeps taken away.
 ghost use Rattle.std.specs.Prelude.{◌≡◌, IsTrue, OnErr, None};
 ghost use Rattle.std.specs.List.{list_all};
 ghost use Rattle.bench_rules.specs.declared.edit.Edit.TheVariants as edits;
@@ -28,6 +29,18 @@ impl LiveVolume {
         }
         self.put_declared();
         Ok(())
+    }
+
+    // The bytes of no trace behind the last one taken away, where there are any.
+    pub(crate) fn drop_tail(&mut self)
+        ensures after { IsTrue self.new.agreed →
+            IsAfter self.old.state edits.DropTail self.new.state }
+        ensures same { IsReadAs self.old.state self.new.state }
+        ensures agreed { IsTrue self.new.agreed → IsTrue self.old.agreed }
+        ensures loaded { self.new.loaded ≡ self.old.loaded }
+        ensures looks { self.new.looks ≡ self.old.looks }
+    {
+        self.overlay.drop_tail();
     }
 
     // Whether a load without the reading would cut the file into the same parts.

@@ -141,6 +141,10 @@ impl LiveVolume {
             Edit::Set(p, field, value) => self.set_field(alloc, *p, field, *value),
             Edit::SetBin(field, value) => self.set_bin(field, *value),
             Edit::Declare => self.declare(),
+            Edit::DropTail => {
+                self.drop_tail();
+                Ok(())
+            }
             Edit::SetText(q, text) => self.set_text(*q, text),
             Edit::Map(name, field) => self.bind(alloc, name, field),
             Edit::Unmap(name) => self.unbind(name),
@@ -453,7 +457,7 @@ impl LiveVolume {
     {
         match query {
             Query::Count => Ok(count_answer(&self.overlay)),
-            Query::Info => Ok(info_answer(&self.overlay)),
+            Query::Info => Ok(info_answer(&self.overlay, self.reading)),
             Query::Get(p, field) => get_answer(&mut self.overlay, &self.fields, *p, field),
             Query::GetBin(field) => get_bin_answer(&self.overlay, field),
             Query::Line(b, q) => line_answer(alloc, &self.overlay, *b, *q),

@@ -1,9 +1,8 @@
-// Readings under which a file that is refused would be cut evenly. None is taken by itself.
-use crate::torn_file::{first_samples, is_even, read_front};
+// Readings under which a file that is refused would be cut. None is taken by itself.
+use crate::torn_file::{Front, first_samples, front_of_file, is_even};
 use frame_cut::{Head, Limits, LoadFault, Reading, head_of_front};
 use script_hints::Fit;
-use std::fs;
-use std::fs::{File, OpenFile};
+use std::fs::File;
 use std::rt::Files;
 use text_block::TEXT_BLOCK_BYTES;
 
@@ -27,7 +26,8 @@ struct Known<'a> {
 }
 
 /// Looks at FILE again, which was refused so, for readings that cut it evenly: other numbers of
-/// samples that its headers name, other formats, other numbers of extended textual headers.
+/// samples that its headers name, other formats, other numbers of extended textual headers; and for
+/// a file that ends inside a trace the reading that keeps the bytes of that one.
 pub(crate) fn fits<R: Files<File = File> + AllocGlobal>(
     rt: &R,
     path: &str,
@@ -48,18 +48,9 @@ fn found<R: Files<File = File> + AllocGlobal>(
     limits: Limits,
     fault: LoadFault,
 ) -> Option<[Option<Fit>; 5]> {
-    // To open a pipe again would wait for a writer.
-    if !fs::metadata(rt, path).ok()?.is_file() {
-        return None;
-    }
-    let file = fs::open(rt, path).ok()?;
-    let size = file.metadata().ok()?.len();
-    let front = read_front(rt.alloc(), &file, size)?;
-    if front.len() as u64 > size {
-        return None;
-    }
+    let Front { file, size, bytes } = front_of_file(rt, path)?;
     let known = Known {
-        front: front.as_slice(),
+        front: bytes.as_slice(),
         size,
         reading,
         limits,
@@ -67,20 +58,28 @@ fn found<R: Files<File = File> + AllocGlobal>(
     match fault {
         LoadFault::UnknownFormat(_) => Some(by_format(known)),
         LoadFault::TextCount(_) => Some([by_texts(known), None, None, None, None]),
-        LoadFault::Truncated(_) | LoadFault::ExtensionCount(_) | LoadFault::TooManyTraces => {
-            // The fields' own number, also where the reading says another.
-            let head = head_under(
-                known,
-                Reading {
-                    samples: None,
-                    ..reading
-                },
-            )?;
-            let own = first_samples(&file, &head, size);
-            Some(by_samples(known, &head, own))
+        LoadFault::Truncated(trace) => {
+            let [first, second, _, _, _] = by_samples(known, &file);
+            Some([first, second, tail_fit(trace), None, None])
         }
+        LoadFault::ExtensionCount(_) | LoadFault::TooManyTraces => Some(by_samples(known, &file)),
         _ => None,
     }
+}
+
+// What stands in front of the trace that is not whole, where there is a trace.
+fn tail_fit(trace: u64) -> Option<Fit> {
+    let traces = trace.checked_sub(1)?;
+    if traces == 0 {
+        return None;
+    }
+    Some(Fit {
+        samples: None,
+        format: None,
+        texts: None,
+        tail: true,
+        traces,
+    })
 }
 
 // The head of the file under a reading.
@@ -105,11 +104,19 @@ fn even_traces(known: Known, head: &Head, samples: u32) -> Option<u64> {
     Some(all / length)
 }
 
-// The binary header's number of samples, then the first trace's own.
-fn by_samples(known: Known, head: &Head, own: Option<u32>) -> [Option<Fit>; 5] {
-    let first = samples_fit(known, head, head.samples);
-    let second = match own {
-        Some(own) if own != head.samples => samples_fit(known, head, own),
+// The binary header's number of samples, also where the reading says another, then the first
+// trace's own.
+fn by_samples(known: Known, file: &File) -> [Option<Fit>; 5] {
+    let fields = Reading {
+        samples: None,
+        ..known.reading
+    };
+    let Some(head) = head_under(known, fields) else {
+        return NONE;
+    };
+    let first = samples_fit(known, &head, head.samples);
+    let second = match first_samples(file, &head, known.size) {
+        Some(own) if own != head.samples => samples_fit(known, &head, own),
         _ => None,
     };
     [first, second, None, None, None]
@@ -120,6 +127,7 @@ fn samples_fit(known: Known, head: &Head, samples: u32) -> Option<Fit> {
         samples: Some(samples),
         format: None,
         texts: None,
+        tail: false,
         traces: even_traces(known, head, samples)?,
     })
 }
@@ -144,6 +152,7 @@ fn format_fit(known: Known, code: u16) -> Option<Fit> {
         samples: unless_fixed(&head),
         format: Some(code),
         texts: None,
+        tail: false,
         traces: even_traces(known, &head, head.samples)?,
     })
 }
@@ -175,6 +184,7 @@ fn texts_fit(known: Known, texts: i16) -> Option<Fit> {
         samples: unless_fixed(&head),
         format: None,
         texts: Some(texts),
+        tail: false,
         traces: even_traces(known, &head, head.samples)?,
     })
 }

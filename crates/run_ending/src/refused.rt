@@ -108,6 +108,7 @@ pub fn reading_of(arguments: &Arguments) -> Reading
       samples = arguments.now.samples;
       format = arguments.now.format;
       texts = arguments.now.texts;
+      tail = arguments.now.tail;
     } }
 {
     Reading {
@@ -118,6 +119,7 @@ pub fn reading_of(arguments: &Arguments) -> Reading
         samples: arguments.samples,
         format: arguments.format,
         texts: arguments.texts,
+        tail: arguments.tail,
     }
 }
 

@@ -1,4 +1,6 @@
 // What is seen of a file that ends inside a trace, for whoever has to find out why.
+ghost use Rattle.std.specs.Prelude.{◌≤◌, length, IfSome};
+
 use frame_cut::{
     FILE_HEADER_BYTES, Head, Limits, Reading, front_length, head_of_front, length_of_next,
     sample_count,
@@ -20,6 +22,14 @@ const TRACES: u64 = 1_000_000;
 // The main header of a trace with its first extension.
 const HEADERS: usize = 480;
 
+/// A file that was opened again, how many bytes it has, and the first of them.
+#[derive(Drop)]
+pub(crate) struct Front {
+    pub file: File,
+    pub size: u64,
+    pub bytes: Vec<u8>,
+}
+
 /// Looks at FILE again, which ends inside this trace. `None` where no more is to be said: it is no
 /// file on disk, or another one by now, or the trace lies far behind.
 pub(crate) fn torn_file<R: Files<File = File> + AllocGlobal>(
@@ -29,17 +39,8 @@ pub(crate) fn torn_file<R: Files<File = File> + AllocGlobal>(
     limits: Limits,
     trace: u64,
 ) -> Option<TornFile> {
-    // To open a pipe again would wait for a writer.
-    if !fs::metadata(rt, path).ok()?.is_file() {
-        return None;
-    }
-    let file = fs::open(rt, path).ok()?;
-    let size = file.metadata().ok()?.len();
-    let front = read_front(rt.alloc(), &file, size)?;
-    if front.len() as u64 > size {
-        return None;
-    }
-    let head = head_of_front(front.as_slice(), size, reading, limits).ok()??;
+    let Front { file, size, bytes } = front_of_file(rt, path)?;
+    let head = head_of_front(bytes.as_slice(), size, reading, limits).ok()??;
     let records = u64::from(head.trailer) * TEXT_BLOCK_BYTES as u64;
     let end = size.checked_sub(records)?;
     let at = trace_at(&file, &head, limits, end, trace)?;
@@ -52,8 +53,29 @@ pub(crate) fn torn_file<R: Files<File = File> + AllocGlobal>(
     })
 }
 
-/// The first bytes of the file.
-pub(crate) fn read_front<F: FileExt>(alloc: Global, file: &F, size: u64) -> Option<Vec<u8>> {
+/// FILE, opened again, with its size and its first bytes. `None` where it is no file on disk, or
+/// cannot be read.
+pub(crate) fn front_of_file<R: Files<File = File> + AllocGlobal>(
+    rt: &R,
+    path: &str,
+) -> Option<Front>
+    ensures { IfSome result (λ front. length front.bytes.items ≤ front.size) }
+{
+    // To open a pipe again would wait for a writer.
+    if !fs::metadata(rt, path).ok()?.is_file() {
+        return None;
+    }
+    let file = fs::open(rt, path).ok()?;
+    let size = file.metadata().ok()?.len();
+    let bytes = read_front(rt.alloc(), &file, size)?;
+    if bytes.len() as u64 > size {
+        return None;
+    }
+    Some(Front { file, size, bytes })
+}
+
+// The first bytes of the file.
+fn read_front<F: FileExt>(alloc: Global, file: &F, size: u64) -> Option<Vec<u8>> {
     let most = size.min(FRONT) as usize;
     let mut front = Vec::new(alloc);
     front.resize(most, 0).ok()?;

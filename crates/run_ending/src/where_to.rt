@@ -59,6 +59,7 @@ fn misuse_of_recovery(arguments: &Arguments) -> Option<&'static str> {
         || arguments.samples.is_some()
         || arguments.format.is_some()
         || arguments.texts.is_some()
+        || arguments.tail
         || arguments.order.is_some()
         || arguments.opaque
         || arguments.floats;

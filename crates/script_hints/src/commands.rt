@@ -1,12 +1,13 @@
 // The commands and their forms.
 
 /// The first words of the commands.
-pub static COMMANDS: [&str; 40] = [
+pub static COMMANDS: [&str; 41] = [
     "set",
     "get",
     "bin",
     "getbin",
     "declare",
+    "drop",
     "text",
     "line",
     "lines",
@@ -46,12 +47,13 @@ pub static COMMANDS: [&str; 40] = [
 
 // Their forms, in the same order. They are searched: a `match` of so many texts takes minutes to
 // prove.
-static FORMS: [&str; 40] = [
-    "set P FIELD NUMBER",
+static FORMS: [&str; 41] = [
+    "set P [Q] FIELD NUMBER",
     "get P FIELD",
     "bin FIELD NUMBER",
     "getbin FIELD",
     "declare",
+    "drop tail",
     "text L TEXT",
     "line B L",
     "lines B",

@@ -1,6 +1,6 @@
 use std::fmt;
 
-/// A reading under which a file that is refused is cut evenly.
+/// A reading under which a file that is refused is cut: evenly, but for one that keeps a tail.
 #[derive(Clone, Copy, Debug, PartialEq, Eq)]
 pub struct Fit {
     /// The number of samples of each trace, where that is what is asked for.
@@ -9,6 +9,8 @@ pub struct Fit {
     pub format: Option<u16>,
     /// The number of extended textual headers, where that is.
     pub texts: Option<i16>,
+    /// Whether what stands behind the last whole trace has to be kept as bytes of no trace.
+    pub tail: bool,
     /// How many traces the file has then.
     pub traces: u64,
 }
@@ -33,8 +35,15 @@ impl Fit {
         if let Some(texts) = self.texts {
             write!(f, " --texts {texts}")?;
         }
+        if self.tail {
+            f.write_str(" --tail")?;
+        }
         let traces = self.traces;
         let word = if traces == 1 { "trace" } else { "traces" };
-        write!(f, ": {traces} {word}")
+        write!(f, ": {traces} {word}")?;
+        if self.tail {
+            f.write_str(", and what stands behind as bytes of no trace")?;
+        }
+        Ok(())
     }
 }

@@ -18,7 +18,7 @@ pub struct LoadNote<'a> {
     pub reading: Reading,
     /// What is seen of a file that ends inside a trace.
     pub torn: Option<TornFile>,
-    /// Readings that would cut it evenly.
+    /// Readings that would cut it.
     pub fits: [Option<Fit>; 5],
 }
 

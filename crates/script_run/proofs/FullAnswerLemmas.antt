@@ -61,6 +61,7 @@ fields_plain s (edits.Unmap name) e h = plain_unbound s.fields name h
 fields_plain s (edits.Set p field x) e h = h
 fields_plain s (edits.SetBin field x) e h = h
 fields_plain s edits.Declare e h = h
+fields_plain s edits.DropTail e h = h
 fields_plain s (edits.SetText q text) e h = h
 fields_plain s (edits.Patch p k values) e h = h
 fields_plain s (edits.Blank p) e h = h

@@ -70,11 +70,14 @@ fails (Ended (Failed error)) n fault e = (if is_written_though error then n else
 kept_by_save : (old new : Place) (bytes : List ℕ) (fault : SessionFault) → ((taken : ℕ) → fault ≡ SaveFailed taken → ⊥) → IsSaved old bytes (Err fault) new → new ≡ old
 kept_by_save (Elsewhere old) (Elsewhere new) bytes fault none (inl (nowhere, kept)) = ap Elsewhere kept
 kept_by_save (Elsewhere old) (Elsewhere new) bytes fault none (inr (taken, failed, either)) = absurd (none taken failed)
-kept_by_save (Elsewhere old) (Itself again written e) bytes fault none saved = absurd saved
-kept_by_save (Itself loaded written d) (Elsewhere new) bytes fault none saved = absurd saved
-kept_by_save (Itself loaded written d) (Itself again more e) bytes fault none (same, inl (is, wrote, kept)) =
-    ap (λ (l : List ℕ). Itself l more e) same ∙ ap (λ (rs : List Range). Itself loaded rs e) wrote ∙ ap (λ (o : Option Disk). Itself loaded written o) kept
-kept_by_save (Itself loaded written d) (Itself again more e) bytes fault none (same, inr (attempt, is, tries)) =
+kept_by_save (Elsewhere old) (Itself again written is_stopped e) bytes fault none saved = absurd saved
+kept_by_save (Itself loaded written was_stopped d) (Elsewhere new) bytes fault none saved = absurd saved
+kept_by_save (Itself loaded written was_stopped d) (Itself again more is_stopped e) bytes fault none (same, inl (is, wrote, stays, kept)) =
+    ap (λ (l : List ℕ). Itself l more is_stopped e) same
+    ∙ ap (λ (rs : List Range). Itself loaded rs is_stopped e) wrote
+    ∙ ap (λ (b : Bool). Itself loaded written b e) stays
+    ∙ ap (λ (o : Option Disk). Itself loaded written was_stopped o) kept
+kept_by_save (Itself loaded written was_stopped d) (Itself again more is_stopped e) bytes fault none (same, inr (attempt, is, tries)) =
     let failed = fails attempt (length bytes) fault is in absurd (none failed.0 failed.1)
 
 kept_by_word : (word : SessionWord) (old new : Standing) (line : List ℕ) (p answer : Printed) → IsNoSave p → p ≡ with_empty_line answer

@@ -1,6 +1,7 @@
 -- What holds of lines whatever they are.
 use Rattle.std.specs.Prelude.{◌≡◌, ◌≢◌, ℕ, ◌≤◌, ⊤, true, List, [], ◌∷◌, ◌++◌, length, map, Option, Some, None, Result, Ok, Err}
 use Rattle.frame_cut.specs.Cuts.{IsCut}
+use Rattle.frame_cut.specs.Traces.{count_of}
 use Rattle.frame_cut.specs.Volume.{bytes_of}
 use Rattle.bench_rules.specs.declared.edit.Edit.{Edit}
 use Rattle.bench_rules.specs.declared.query.Query.{Query}
@@ -56,10 +57,10 @@ pub record Reached : Type 0 where
 abbrev pub at_start : State → Reached
 at_start s = record { state = s; replied = none_yet }
 
--- a line, read as the format of the volume's samples has it, comes behind those before it, and all edits from the start on lead to the volume behind it
+-- a line, read as the format of the volume's samples and the number of its traces have it, comes behind those before it, and all edits from the start on lead to the volume behind it
 abbrev pub AddsLine : State → Reached → List ℕ → Printed → Reached → Type 0
 AddsLine start old line printed new =
-    (read : Result (Option Command) LineFault) × IsParsed (float_format old.state.volume.head.format) line read
+    (read : Result (Option Command) LineFault) × IsParsed (float_format old.state.volume.head.format) (count_of old.state.volume) line read
     × AddsEdit read printed old.replied new.replied × Steps start new.replied.edits new.replied.replies new.state
 
 -- the edits of these lines, in order, each with the reply that is printed for it, lead from one volume to another

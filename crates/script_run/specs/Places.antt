@@ -12,16 +12,16 @@ use Rattle.script_text.specs.declared.session_fault.SessionFault.{SessionFault}
 use Rattle.script_text.specs.declared.session_fault.SessionFault.TheVariants.{NoOut, SaveFailed}
 use Rattle.script_run.specs.InPlace.{Repairs}
 
--- OUT, of which it may be known what stands there; or FILE itself, which has the bytes that were loaded but where earlier repairs wrote, and of
--- which it may be known what is there, and what a crash leaves
+-- OUT, of which it may be known what stands there; or FILE itself, which has the bytes that were loaded but where earlier repairs wrote, whose
+-- saves may be stopped, and of which it may be known what is there, and what a crash leaves
 pub data Place : Type 0 where
   Elsewhere : Option (List ℕ) → Place
-  Itself : List ℕ → List Range → Option Disk → Place
+  Itself : List ℕ → List Range → (is_stopped : Bool) → Option Disk → Place
 
 -- it is a place for a volume of these bytes
 abbrev pub Follows : Place → List ℕ → Type 0
 Follows (Elsewhere known) bytes = ⊤
-Follows (Itself loaded written d) bytes = loaded ≡ bytes
+Follows (Itself loaded written is_stopped d) bytes = loaded ≡ bytes
 
 -- ---- OUT
 
@@ -56,6 +56,32 @@ is_written Stopped = false
 is_written NoMemory = false
 is_written (Ended repaired) = is_written_by repaired
 
+-- whether no save may follow one that failed so: it was cut off, or a power cut may undo it
+abbrev pub is_last_fault : SaveError → Bool
+is_last_fault (Untouched error) = false
+is_last_fault (Undone error) = false
+is_last_fault (Interrupted error again) = true
+is_last_fault (NotSettled error) = true
+
+-- and behind a repair
+abbrev pub is_last_repair : Repaired → Bool
+is_last_repair NotBegun = false
+is_last_repair Saved = false
+is_last_repair (Unfit why) = false
+is_last_repair (Unsettled error) = false
+is_last_repair (Failed error) = is_last_fault error
+
+-- and behind an attempt at one
+abbrev pub is_last : Attempt → Bool
+is_last Stopped = false
+is_last NoMemory = false
+is_last (Ended repaired) = is_last_repair repaired
+
+-- where saves are stopped, an attempt does nothing, and they stay so; else they are stopped behind the last
+abbrev pub Stops : (was_stopped : Bool) → Attempt → (is_stopped : Bool) → Type 0
+Stops true attempt is_stopped = (attempt ≡ Stopped) × (is_stopped ≡ true)
+Stops false attempt is_stopped = is_stopped ≡ is_last attempt
+
 -- what a repair tells of a volume of so many bytes: S08 with all of them, where only a power cut may undo it, and else with none
 abbrev pub answer_to : Repaired → ℕ → Result ℕ SessionFault
 answer_to NotBegun n = Err (SaveFailed 0)
@@ -87,16 +113,16 @@ abbrev pub Tries : List ℕ → List Range → Option Disk → List ℕ → Atte
 Tries loaded old d bytes attempt new e = WritesAt (is_written attempt) loaded old bytes new × Repairing loaded old d bytes attempt e
 
 -- a save of these bytes in FILE itself: S07 where that is for the end alone, or an attempt, and what it tells
-abbrev pub SavesItself : List ℕ → List Range → Option Disk → List ℕ → Result ℕ SessionFault → List Range → Option Disk → Type 0
-SavesItself loaded old d bytes result new e =
-    ((result ≡ Err NoOut) × (new ≡ old) × (e ≡ d))
-    ⊎ ((attempt : Attempt) × (result ≡ answer_of attempt (length bytes)) × Tries loaded old d bytes attempt new e)
+abbrev pub SavesItself : List ℕ → List Range → Bool → Option Disk → List ℕ → Result ℕ SessionFault → List Range → Bool → Option Disk → Type 0
+SavesItself loaded old was_stopped d bytes result new is_stopped e =
+    ((result ≡ Err NoOut) × (new ≡ old) × (is_stopped ≡ was_stopped) × (e ≡ d))
+    ⊎ ((attempt : Attempt) × (result ≡ answer_of attempt (length bytes)) × Stops was_stopped attempt is_stopped × Tries loaded old d bytes attempt new e)
 
 -- ---- both
 
 -- what a save of these bytes tells, and what it does to the place
 abbrev pub IsSaved : Place → List ℕ → Result ℕ SessionFault → Place → Type 0
 IsSaved (Elsewhere old) bytes result (Elsewhere new) = SavesElsewhere old bytes result new
-IsSaved (Elsewhere old) bytes result (Itself again written e) = ⊥
-IsSaved (Itself loaded written d) bytes result (Elsewhere new) = ⊥
-IsSaved (Itself loaded written d) bytes result (Itself again more e) = (again ≡ loaded) × SavesItself loaded written d bytes result more e
+IsSaved (Elsewhere old) bytes result (Itself again written is_stopped e) = ⊥
+IsSaved (Itself loaded written was_stopped d) bytes result (Elsewhere new) = ⊥
+IsSaved (Itself loaded written was_stopped d) bytes result (Itself again more is_stopped e) = (again ≡ loaded) × SavesItself loaded written was_stopped d bytes result more is_stopped e

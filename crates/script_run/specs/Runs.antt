@@ -9,6 +9,7 @@ use Rattle.bench_rules.specs.declared.query.Query.{Query}
 use Rattle.bench_rules.specs.declared.query.Query.TheVariants as queries
 use Rattle.bench_rules.specs.declared.ask_fault.AskFault.TheVariants.{OutOfMemory}
 use Rattle.float_codes.specs.declared.float_format.FloatFormat.{FloatFormat}
+use Rattle.frame_cut.specs.Traces.{count_of}
 use Rattle.shown_floats.specs.declared.float_answer.FloatAnswer.{FloatAnswer}
 use Rattle.shown_floats.specs.Shows.{Shows, IsSlice, IsOther}
 use Rattle.script_words.specs.declared.command.Command.{Command}
@@ -56,7 +57,7 @@ ReadStep old (Err fault) printed new = (printed ≡ fault_reply fault) × (new �
 -- a line with what it prints
 abbrev pub LineStep : State → List ℕ → Printed → State → Type 0
 LineStep old line printed new =
-    (read : Result (Option Command) LineFault) × IsParsed (float_format old.volume.head.format) line read × ReadStep old read printed new
+    (read : Result (Option Command) LineFault) × IsParsed (float_format old.volume.head.format) (count_of old.volume) line read × ReadStep old read printed new
 
 module _ {S L : Type 0} where
   -- lines one after another, each by such a step, with what each prints

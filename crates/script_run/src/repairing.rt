@@ -18,7 +18,12 @@ pub(crate) fn edits_of(bench: &Bench) -> Result<VolumeEdits<'_, PackedRecord>, U
     ensures begun { IfOk result (λ edits. edits.left ≡ edits.all) }
 {
     let overlay = bench.volume().overlay();
-    edits_over(overlay.text(), overlay.bin(), overlay.store())
+    edits_over(
+        overlay.text(),
+        overlay.bin(),
+        overlay.tail(),
+        overlay.store(),
+    )
 }
 
 /// The bytes that were loaded.

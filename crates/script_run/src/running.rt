@@ -102,7 +102,8 @@ pub(crate) fn run_line(alloc: Global, bench: &mut Bench, line: &[u8]) -> Reply
     ensures agreed { IsTrue bench.new.agreed → IsTrue bench.old.agreed }
     ensures loaded { bench.new.loaded ≡ bench.old.loaded }
 {
-    match parse_line(alloc, bench.float_format(), line) {
+    let traces = bench.volume().count();
+    match parse_line(alloc, bench.float_format(), traces, line) {
         Ok(None) => Reply::Silent,
         Ok(Some(command)) => run_command(alloc, bench, &command),
         Err(fault) => Reply::Fault(fault),

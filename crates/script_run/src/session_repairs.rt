@@ -1,11 +1,12 @@
 // The saves of a session that repair FILE itself.
-ghost use Rattle.std.specs.Prelude.{◌≡◌, ◌||◌, Bool, List, ℕ, length, map, IfOk};
+ghost use Rattle.std.specs.Prelude.{◌≡◌, ◌||◌, Bool, List, ℕ, length, map, IfOk, IsTrue};
 ghost use Rattle.frame_cut.specs.Volume.{bytes_of};
 ghost use Rattle.journal_save.specs.Disk.{laid_all, IsSame};
 ghost use Rattle.journal_save.specs.Saving.{ranges};
 ghost use Rattle.edit_pieces.specs.Further.{range_at};
 ghost use Rattle.edit_pieces.specs.declared.attempt.Attempt.{Attempt as AttemptOf};
-ghost use Rattle.script_run.specs.Places.{answer_of, is_written, Itself, Repairing, Tries};
+ghost use Rattle.edit_pieces.specs.declared.attempt.Attempt.TheVariants.{Stopped};
+ghost use Rattle.script_run.specs.Places.{answer_of, is_last, is_written, Itself, Repairing, Stops, Tries};
 
 use crate::repairing::{base_of, edits_of, repair_by};
 use crate::saves::Saves;
@@ -53,6 +54,7 @@ impl<D: Disk, W: Watcher<D>> InPlace<D, W> {
     fn repair(&mut self, alloc: Global, bench: &Bench) -> Result<u64, SessionFault>
         ensures { (attempt : AttemptOf)
             × (result ≡ answer_of attempt (length (bytes_of bench.now.state.volume)))
+            × Stops self.old.is_stopped attempt self.new.is_stopped
             × Tries bench.now.loaded (map range_at self.old.written.items) (D.disk self.old.disk)
             (bytes_of bench.now.state.volume) attempt (map range_at self.new.written.items)
             (D.disk self.new.disk) }
@@ -69,7 +71,9 @@ impl<D: Disk, W: Watcher<D>> InPlace<D, W> {
 
     // Repairs FILE.
     fn attempt(&mut self, alloc: Global, bench: &Bench) -> Attempt
-        ensures { Tries bench.now.loaded (map range_at self.old.written.items)
+        ensures stops { IsTrue self.old.is_stopped → result ≡ Stopped }
+        ensures stays { self.new.is_stopped ≡ self.old.is_stopped }
+        ensures tries { Tries bench.now.loaded (map range_at self.old.written.items)
             (D.disk self.old.disk) (bytes_of bench.now.state.volume) result
             (map range_at self.new.written.items) (D.disk self.new.disk) }
     {
@@ -82,7 +86,7 @@ impl<D: Disk, W: Watcher<D>> InPlace<D, W> {
 
 impl<D: Disk, W: Watcher<D>> Saves for InPlace<D, W> {
     ghost place = { λ own loaded.
-        Itself loaded (map range_at own.written.items) (D.disk own.disk) };
+        Itself loaded (map range_at own.written.items) own.is_stopped (D.disk own.disk) };
 
     fn follows(&self) {}
 
@@ -114,7 +118,9 @@ fn answer_of(attempt: &Attempt, bytes: u64) -> Result<u64, SessionFault>
 }
 
 // Whether no save may follow: FILE holds a part of the edits, or its journal may still be there.
-fn is_last(attempt: &Attempt) -> bool {
+fn is_last(attempt: &Attempt) -> bool
+    ensures { result ≡ is_last attempt.now }
+{
     matches!(
         attempt,
         Attempt::Ended(Repaired::Failed(SaveError::Interrupted(..) | SaveError::NotSettled(_)))

@@ -122,7 +122,7 @@ fn is_read(
 pub(crate) fn reads(alloc: Global, line: &[u8], is_wanted: &mut dyn FnMut(&Command) -> bool) -> bool
     requires { IsAlwaysCallable is_wanted.now }
 {
-    is_read(&parse_line(alloc, None, line), is_wanted)
+    is_read(&parse_line(alloc, None, 9, line), is_wanted)
 }
 
 // Whether the command is a set of trace 7, by a value at bytes 157 and 158 of its first extension.
@@ -197,7 +197,7 @@ fn reads_reports(rt: HostRuntime) {
 
 // Whether a line is no command for this reason.
 pub(crate) fn refuses(alloc: Global, line: &[u8], fault: LineFault) -> bool {
-    parse_line(alloc, None, line).err() == Some(fault)
+    parse_line(alloc, None, 9, line).err() == Some(fault)
 }
 
 #[test]

@@ -27,7 +27,7 @@ use Rattle.bench_rules.specs.declared.answer.Answer.TheVariants as answers
 use Rattle.script_text.specs.Texts.{with_blanks, list_lines, place_text, extension_text, sign_letter, is_plain, is_full_line, IsFullLines}
 use Rattle.script_text.specs.ReportTexts.{fraction_text, location_text, statistics_text, range_text, cell_text, numbered_text, fold_count_text, row_text, of_trace_text, fault_text}
 use Rattle.script_text.specs.HeaderTexts.{table_row_text, found_text, number_text, four_numbers, extremes_text}
-use Rattle.script_text.specs.AnswerTexts.{order_text, yes_or_no, info_text, code_text, stanza_text, field_text, shown_text, ranks_text}
+use Rattle.script_text.specs.AnswerTexts.{order_text, yes_or_no, info_text, code_text, stanza_text, field_text, shown_text, ranks_text, tail_text}
 use Rattle.script_text.specs.FullLines.{AnswersAreFullLines}
 use Rattle.script_text.proofs.FullLineLemmas.{plain_both, plain_decimal, full_decimal, plain_signed, plain_numbers, plain_first, plain_joined, Plain, no_word, word, plain_words, full_joined, words_line, one_line, lines_behind, each_full, some_full}
 
@@ -80,7 +80,12 @@ full_info i =
     (word (codes " blocks ") refl (word (decimal i.head.blocks) (plain_decimal i.head.blocks)
     (word (codes " trailer ") refl (word (decimal i.head.trailer) (plain_decimal i.head.trailer)
     (word (codes " traces ") refl (word (decimal i.traces) (plain_decimal i.traces)
-    (word (codes " bytes ") refl (word (decimal i.bytes) (plain_decimal i.bytes) no_word)))))))))))))))))))))
+    (word (codes " bytes ") refl (word (decimal i.bytes) (plain_decimal i.bytes)
+    (word (tail_text i.tail) (plain_tail i.tail) no_word))))))))))))))))))))))
+  where
+    plain_tail : (t : Option ℕ) → is_plain (tail_text t) ≡ true
+    plain_tail None = refl
+    plain_tail (Some n) = plain_both (codes " tail ") (decimal n) refl (plain_decimal n)
 
 -- ---- lines
 

@@ -25,7 +25,12 @@ order_text Little = codes "little"
 abbrev pub yes_or_no : Bool → List ℕ
 yes_or_no b = if b then codes "yes" else codes "no"
 
--- a file's head, its number of traces and its length
+-- how many bytes are of no trace, where that is told
+abbrev pub tail_text : Option ℕ → List ℕ
+tail_text None = []
+tail_text (Some n) = codes " tail " ++ decimal n
+
+-- a file's head, its number of traces, its length, and how much of it is of no trace
 abbrev pub info_text : Info → List ℕ
 info_text i =
     codes "info order " ++ order_text i.head.order
@@ -38,6 +43,7 @@ info_text i =
     ++ codes " trailer " ++ decimal i.head.trailer
     ++ codes " traces " ++ decimal i.traces
     ++ codes " bytes " ++ decimal i.bytes
+    ++ tail_text i.tail
 
 -- the code of a block
 abbrev pub code_text : Code → List ℕ

@@ -1,6 +1,6 @@
 // The lines that are printed for answers.
-ghost use Rattle.std.specs.Prelude.{◌≡◌, ◌≤◌, ◌++◌, [], Some, length, codes};
-ghost use Rattle.script_text.specs.AnswerTexts.{answer_text, ranks_text, info_text, order_text, yes_or_no, code_text};
+ghost use Rattle.std.specs.Prelude.{◌≡◌, ◌≤◌, ◌+◌, ◌++◌, [], Some, length, codes};
+ghost use Rattle.script_text.specs.AnswerTexts.{answer_text, ranks_text, info_text, order_text, yes_or_no, code_text, tail_text};
 ghost use Rattle.script_text.specs.Devices.{device_of};
 ghost use Rattle.script_text.specs.Printing.{Pushes};
 ghost use Rattle.script_text.specs.Texts.{with_line_end};
@@ -149,6 +149,18 @@ fn push_info(line: &mut TextBuffer, info: Info)
     line.push_number(info.traces);
     line.push(b" bytes ");
     line.push_number(info.bytes);
+    push_tail(line, info.tail);
+}
+
+// How many bytes are of no trace, where that is told.
+fn push_tail(line: &mut TextBuffer, tail: Option<u64>)
+    requires { length line.old ≤ 500 }
+    ensures text { line.new ≡ line.old ++ tail_text tail }
+    ensures short { length line.new ≤ length line.old + 46 }
+{
+    if let Some(bytes) = tail {
+        line.push_numbered(b" tail ", bytes);
+    }
 }
 
 fn order(order: Order) -> &'static [u8]

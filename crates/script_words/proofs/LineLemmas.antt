@@ -26,27 +26,27 @@ says_by_words line u = rw (is_utf8-from_IsUtf8 line u) refl
 -- ---- what a line gives, by its words
 
 -- a line that is no text
-pub no_text : (floats : Option FloatFormat) (line : List ℕ) → (IsUtf8 line → ⊥) → IsParsed floats line (Err NotText)
-no_text floats line h = elim (is_utf8 line) as (λ b. is_utf8 line ≡ b → IsParsed floats line (Err NotText)) [
+pub no_text : (floats : Option FloatFormat) (traces : ℕ) (line : List ℕ) → (IsUtf8 line → ⊥) → IsParsed floats traces line (Err NotText)
+no_text floats traces line h = elim (is_utf8 line) as (λ b. is_utf8 line ≡ b → IsParsed floats traces line (Err NotText)) [
   | true ↦ λ t. absurd (h (IsUtf8-from_is_utf8 line t))
   | false ↦ λ f. inl (rw f refl)
 ] refl
 
 -- a line that is text
-by_words : (floats : Option FloatFormat) (line : List ℕ) → IsUtf8 line → line_result floats line ≡ words_result floats line (words_of line)
-by_words floats line u = rw (is_utf8-from_IsUtf8 line u) refl
+by_words : (floats : Option FloatFormat) (traces : ℕ) (line : List ℕ) → IsUtf8 line → line_result floats traces line ≡ words_result floats traces line (words_of line)
+by_words floats traces line u = rw (is_utf8-from_IsUtf8 line u) refl
 
-pub no_words : (floats : Option FloatFormat) (line : List ℕ) → IsUtf8 line → words_of line ≡ [] → IsParsed floats line (Ok None)
-no_words floats line u e = inl (sym (by_words floats line u ∙ rw e refl))
+pub no_words : (floats : Option FloatFormat) (traces : ℕ) (line : List ℕ) → IsUtf8 line → words_of line ≡ [] → IsParsed floats traces line (Ok None)
+no_words floats traces line u e = inl (sym (by_words floats traces line u ∙ rw e refl))
 
-module _ (floats : Option FloatFormat) (line word rest : List ℕ) (ws : List (List ℕ)) (u : IsUtf8 line) (words : words_of line ≡ word ∷ ws) where
-  pub note : is_note word ≡ true → IsParsed floats line (Ok None)
-  note n = inl (sym (by_words floats line u ∙ rw (words, n) refl))
+module _ (floats : Option FloatFormat) (traces : ℕ) (line word rest : List ℕ) (ws : List (List ℕ)) (u : IsUtf8 line) (words : words_of line ≡ word ∷ ws) where
+  pub note : is_note word ≡ true → IsParsed floats traces line (Ok None)
+  note n = inl (sym (by_words floats traces line u ∙ rw (words, n) refl))
 
-  read_as : is_note word ≡ false → rest ≡ behind_word line → line_result floats line ≡ some_command (command_of floats word rest)
-  read_as n is = by_words floats line u ∙ rw (words, n, is) refl
+  read_as : is_note word ≡ false → rest ≡ behind_word line → line_result floats traces line ≡ some_command (command_of floats traces word rest)
+  read_as n is = by_words floats traces line u ∙ rw (words, n, is) refl
 
-  spoken_ok : (expected : Result Command LineFault) (command : Command) → line_result floats line ≡ some_command expected → IsRead expected (Ok command) → IsParsed floats line (Ok (Some command))
+  spoken_ok : (expected : Result Command LineFault) (command : Command) → line_result floats traces line ≡ some_command expected → IsRead expected (Ok command) → IsParsed floats traces line (Ok (Some command))
   spoken_ok expected command e (inl h) = inl (let same : some_command expected ≡ Ok (Some command) = ap some_command (sym h) in sym (e ∙ same))
   spoken_ok expected command e (inr h) = absurd cc
 
@@ -54,7 +54,7 @@ module _ (floats : Option FloatFormat) (line word rest : List ℕ) (ws : List (L
   takes_memory (Ok command) h = h
   takes_memory (Err fault) h = absurd h
 
-  spoken_err : (expected : Result Command LineFault) (fault : LineFault) (r : Result (Option Command) LineFault) → line_result floats line ≡ some_command expected → IsErrAnd r (λ x. x ≡ fault) → IsRead expected (Err fault) → IsParsed floats line r
+  spoken_err : (expected : Result Command LineFault) (fault : LineFault) (r : Result (Option Command) LineFault) → line_result floats traces line ≡ some_command expected → IsErrAnd r (λ x. x ≡ fault) → IsRead expected (Err fault) → IsParsed floats traces line r
   spoken_err expected fault (Ok c) e is h = absurd is
   spoken_err expected fault (Err x) e is (inl h) =
       let same : some_command expected ≡ Err fault = ap some_command (sym h) in
@@ -63,8 +63,8 @@ module _ (floats : Option FloatFormat) (line word rest : List ℕ) (ws : List (L
       let same : fault ≡ OutOfMemory = cc in
       inr (ap (λ (k : LineFault). let r : Result (Option Command) LineFault = Err k in r) (is ∙ same), subst LineTakesMemory (sym e) (takes_memory expected h.1))
 
-  pub read_ok : (command : Command) → is_note word ≡ false → rest ≡ behind_word line → IsRead (command_of floats word rest) (Ok command) → IsParsed floats line (Ok (Some command))
-  read_ok command n is h = spoken_ok (command_of floats word rest) command (read_as n is) h
+  pub read_ok : (command : Command) → is_note word ≡ false → rest ≡ behind_word line → IsRead (command_of floats traces word rest) (Ok command) → IsParsed floats traces line (Ok (Some command))
+  read_ok command n is h = spoken_ok (command_of floats traces word rest) command (read_as n is) h
 
-  pub read_err : (fault : LineFault) (r : Result (Option Command) LineFault) → is_note word ≡ false → rest ≡ behind_word line → IsErrAnd r (λ x. x ≡ fault) → IsRead (command_of floats word rest) (Err fault) → IsParsed floats line r
-  read_err fault r n is e h = spoken_err (command_of floats word rest) fault r (read_as n is) e h
+  pub read_err : (fault : LineFault) (r : Result (Option Command) LineFault) → is_note word ≡ false → rest ≡ behind_word line → IsErrAnd r (λ x. x ≡ fault) → IsRead (command_of floats traces word rest) (Err fault) → IsParsed floats traces line r
+  read_err fault r n is e h = spoken_err (command_of floats traces word rest) fault r (read_as n is) e h

@@ -11,7 +11,7 @@ use Rattle.script_words.specs.declared.command.Command.{Command}
 use Rattle.script_words.specs.declared.command.Command.TheVariants.{Apply}
 use Rattle.script_words.specs.declared.line_fault.LineFault.{LineFault}
 use Rattle.script_words.specs.declared.line_fault.LineFault.TheVariants.{Number, OutOfMemory}
-use Rattle.script_words.specs.Numbers.{position_of}
+use Rattle.script_words.specs.Numbers.{trace_of}
 use Rattle.script_words.specs.Readers.{field_of, operand_of, operator_of, fields_of, steps_of}
 use Rattle.script_words.specs.HeaderCommands.{is_step_count, read_compute}
 use Rattle.script_words.specs.Commands.{IsFieldRead, IsOperandRead, IsListRead, IsRead}
@@ -128,9 +128,9 @@ step_count n count is few even =
     grind (arith, nat_tests)
 
 -- the words of a computation
-pub read_is : (ws : List (List ℕ)) (t u v w : List ℕ) (rest : List (List ℕ)) (a b : ℕ) → ws ≡ t ∷ u ∷ v ∷ w ∷ rest → is_step_count (length rest) ≡ true
-    → position_of t ≡ Some a → position_of u ≡ Some b → read_compute ws ≡ computed a b (field_of v) (operand_of w) (steps_of rest)
-read_is ws t u v w rest a b words fits from to = rw (words, fits, from, to) refl
+pub read_is : (traces : ℕ) (ws : List (List ℕ)) (t u v w : List ℕ) (rest : List (List ℕ)) (a b : ℕ) → ws ≡ t ∷ u ∷ v ∷ w ∷ rest → is_step_count (length rest) ≡ true
+    → trace_of traces t ≡ Some a → trace_of traces u ≡ Some b → read_compute traces ws ≡ computed a b (field_of v) (operand_of w) (steps_of rest)
+read_is traces ws t u v w rest a b words fits from to = rw (words, fits, from, to) refl
 
 module _ (a b : ℕ) where
   pub no_field : (o : Option Field) (p : Option Operand) (q : Option Steps) → is_some o ≡ false → IsRead (computed a b o p q) (Err Number)

@@ -8,9 +8,9 @@ use Rattle.script_words.specs.declared.command.Command.{Command}
 use Rattle.script_words.specs.declared.command.Command.TheVariants.{Apply, Ask}
 use Rattle.script_words.specs.declared.line_fault.LineFault.{LineFault}
 use Rattle.script_words.specs.declared.line_fault.LineFault.TheVariants.{Number, OutOfMemory}
-use Rattle.script_words.specs.Readers.{field_of, target_of, five}
-use Rattle.script_words.specs.Commands.{read_set, read_get, read_map, read_bin, read_getbin, IsFieldRead, IsName, HoldsMemory, CommandTakesMemory, IsRead}
-use Rattle.script_words.specs.Numbers.{position_of, number_of}
+use Rattle.script_words.specs.Readers.{field_of, target_of, four, five}
+use Rattle.script_words.specs.Commands.{read_set_one, read_get, read_map, read_bin, read_getbin, IsFieldRead, IsName, HoldsMemory, CommandTakesMemory, IsRead}
+use Rattle.script_words.specs.Numbers.{trace_of, number_of}
 
 -- a command of a field: S03 where the word is none
 module _ (expected : Option Field → Result Command LineFault) (make : Field → Command) (none : expected None ≡ Err Number) (some : (f : Field) → expected (Some f) ≡ Ok (make f)) where
@@ -55,27 +55,27 @@ module _ (ws : List (List ℕ)) (v at : List ℕ) (words : ws ≡ v ∷ at ∷ [
   pub map_lost : (f : Field) (r : Read) → IsErrAnd r (λ e. e ≡ OutOfMemory) → IsFieldRead (target_of at) (Ok f) → IsRead (read_map ws) r
   map_lost f r is h = lost (read_map ws) (Apply (edits.Map v f)) r is (record {}) (map_ok f h)
 
-module _ (ws : List (List ℕ)) (v at : List ℕ) (p : ℕ) (words : ws ≡ v ∷ at ∷ []) (position : position_of v ≡ Some p) where
-  pub get_ok : (f : Field) → IsFieldRead (field_of at) (Ok f) → IsRead (read_get ws) (Ok (Ask (queries.Get p f)))
+module _ (traces : ℕ) (ws : List (List ℕ)) (v at : List ℕ) (p : ℕ) (words : ws ≡ v ∷ at ∷ []) (position : trace_of traces v ≡ Some p) where
+  pub get_ok : (f : Field) → IsFieldRead (field_of at) (Ok f) → IsRead (read_get traces ws) (Ok (Ask (queries.Get p f)))
   get_ok f h = rw (words, position) (field_ok (λ o. ok_or (option_map (λ f. Ask (queries.Get p f)) o) Number) (λ f. Ask (queries.Get p f)) refl (λ f. refl) (field_of at) f h)
 
-  pub get_err : (fault : LineFault) (r : Read) → IsErrAnd r (λ e. e ≡ fault) → IsFieldRead (field_of at) (Err fault) → IsRead (read_get ws) r
+  pub get_err : (fault : LineFault) (r : Read) → IsErrAnd r (λ e. e ≡ fault) → IsFieldRead (field_of at) (Err fault) → IsRead (read_get traces ws) r
   get_err fault r is h = rw (words, position) (field_err (λ o. ok_or (option_map (λ f. Ask (queries.Get p f)) o) Number) (λ f. Ask (queries.Get p f)) refl (λ f. refl) (λ f n. n) (field_of at) fault r is h)
 
-module _ (ws : List (List ℕ)) (v at w : List ℕ) (p : ℕ) (x : ℤ) (words : ws ≡ v ∷ at ∷ w ∷ []) (position : position_of v ≡ Some p) (number : number_of w ≡ Some x) where
+module _ (traces : ℕ) (ws : List (List ℕ)) (v at w : List ℕ) (p : ℕ) (x : ℤ) (words : ws ≡ v ∷ at ∷ w ∷ []) (position : trace_of traces v ≡ Some p) (number : number_of w ≡ Some x) where
   abbrev set_expected : Option Field → Read
   set_expected o = ok_or (option_and_then (λ f. Some (Apply (edits.Set p f x))) o) Number
 
-  pub set_ok : (f : Field) → IsFieldRead (field_of at) (Ok f) → IsRead (read_set ws) (Ok (Apply (edits.Set p f x)))
+  pub set_ok : (f : Field) → IsFieldRead (field_of at) (Ok f) → IsRead (read_set_one traces ws) (Ok (Apply (edits.Set p f x)))
   set_ok f h = rw (words, position, number) (field_ok set_expected (λ f. Apply (edits.Set p f x)) refl (λ f. refl) (field_of at) f h)
 
-  pub set_err : (fault : LineFault) (r : Read) → IsErrAnd r (λ e. e ≡ fault) → IsFieldRead (field_of at) (Err fault) → IsRead (read_set ws) r
+  pub set_err : (fault : LineFault) (r : Read) → IsErrAnd r (λ e. e ≡ fault) → IsFieldRead (field_of at) (Err fault) → IsRead (read_set_one traces ws) r
   set_err fault r is h = rw (words, position, number) (field_err set_expected (λ f. Apply (edits.Set p f x)) refl (λ f. refl) (λ f n. n) (field_of at) fault r is h)
 
 -- the number of a `set` is none, whatever its field is
-pub set_no_number : (ws : List (List ℕ)) (v at w : List ℕ) (p : ℕ) → ws ≡ v ∷ at ∷ w ∷ [] → position_of v ≡ Some p → number_of w ≡ None → (r : Read) → IsErrAnd r (λ e. e ≡ Number)
-    → IsRead (read_set ws) r
-set_no_number ws v at w p words position none r is = rw (words, position, none) (by (field_of at) r is)
+pub set_no_number : (traces : ℕ) (ws : List (List ℕ)) (v at w : List ℕ) (p : ℕ) → ws ≡ v ∷ at ∷ w ∷ [] → trace_of traces v ≡ Some p → number_of w ≡ None → (r : Read) → IsErrAnd r (λ e. e ≡ Number)
+    → IsRead (read_set_one traces ws) r
+set_no_number traces ws v at w p words position none r is = rw (words, position, none) (by (field_of at) r is)
   where
     by : (o : Option Field) (r : Read) → IsErrAnd r (λ e. e ≡ Number) → IsRead (ok_or (option_and_then (λ (f : Field). None) o) Number) r
     by o (Ok command) is = absurd is
@@ -100,16 +100,29 @@ module _ (ws : List (List ℕ)) (at : List ℕ) (words : ws ≡ at ∷ []) where
   getbin_err fault r is h = rw words (field_err (λ o. ok_or (option_map (λ f. Ask (queries.GetBin f)) o) Number) (λ f. Ask (queries.GetBin f)) refl (λ f. refl) (λ f n. n) (field_of at) fault r is h)
 
 -- a command of two positions, a field and two numbers
-module _ (make : ℕ → ℕ → Field → ℤ → ℤ → Command) (ws : List (List ℕ)) (s t at v w : List ℕ) (a b : ℕ) (x y : ℤ) (words : ws ≡ s ∷ t ∷ at ∷ v ∷ w ∷ []) (from : position_of s ≡ Some a) (to : position_of t ≡ Some b)
+module _ (make : ℕ → ℕ → Field → ℤ → ℤ → Command) (traces : ℕ) (ws : List (List ℕ)) (s t at v w : List ℕ) (a b : ℕ) (x y : ℤ) (words : ws ≡ s ∷ t ∷ at ∷ v ∷ w ∷ []) (from : trace_of traces s ≡ Some a) (to : trace_of traces t ≡ Some b)
     (first : number_of v ≡ Some x) (second : number_of w ≡ Some y) where
   abbrev five_expected : Option Field → Read
   five_expected o = ok_or (option_map (λ f. make a b f x y) o) Number
 
-  pub five_ok : (f : Field) → IsFieldRead (field_of at) (Ok f) → IsRead (five position_of position_of field_of number_of number_of make ws) (Ok (make a b f x y))
+  pub five_ok : (f : Field) → IsFieldRead (field_of at) (Ok f) → IsRead (five (trace_of traces) (trace_of traces) field_of number_of number_of make ws) (Ok (make a b f x y))
   five_ok f h = rw (words, from, to, first, second) (field_ok five_expected (λ f. make a b f x y) refl (λ f. refl) (field_of at) f h)
 
   pub five_err : ((f : Field) → IsName f → HoldsMemory (make a b f x y)) → (fault : LineFault) (r : Read) → IsErrAnd r (λ e. e ≡ fault) → IsFieldRead (field_of at) (Err fault)
-      → IsRead (five position_of position_of field_of number_of number_of make ws) r
+      → IsRead (five (trace_of traces) (trace_of traces) field_of number_of number_of make ws) r
   five_err holds fault r is h = rw (words, from, to, first, second) (field_err five_expected (λ f. make a b f x y) refl (λ f. refl) holds (field_of at) fault r is h)
+
+-- a command of two traces, a field and a number
+module _ (make : ℕ → ℕ → Field → ℤ → Command) (traces : ℕ) (ws : List (List ℕ)) (s t at v : List ℕ) (a b : ℕ) (x : ℤ) (words : ws ≡ s ∷ t ∷ at ∷ v ∷ []) (from : trace_of traces s ≡ Some a) (to : trace_of traces t ≡ Some b)
+    (first : number_of v ≡ Some x) where
+  abbrev four_expected : Option Field → Read
+  four_expected o = ok_or (option_map (λ f. make a b f x) o) Number
+
+  pub four_ok : (f : Field) → IsFieldRead (field_of at) (Ok f) → IsRead (four (trace_of traces) (trace_of traces) field_of number_of make ws) (Ok (make a b f x))
+  four_ok f h = rw (words, from, to, first) (field_ok four_expected (λ f. make a b f x) refl (λ f. refl) (field_of at) f h)
+
+  pub four_err : ((f : Field) → IsName f → HoldsMemory (make a b f x)) → (fault : LineFault) (r : Read) → IsErrAnd r (λ e. e ≡ fault) → IsFieldRead (field_of at) (Err fault)
+      → IsRead (four (trace_of traces) (trace_of traces) field_of number_of make ws) r
+  four_err holds fault r is h = rw (words, from, to, first) (field_err four_expected (λ f. make a b f x) refl (λ f. refl) holds (field_of at) fault r is h)
 
 -- ---- a text that found no memory

@@ -1,5 +1,5 @@
 -- The command of a line.
-use Rattle.std.specs.Prelude.{◌≡◌, ◌⊎◌, ℕ, not, List, [], ◌∷◌, bytes_eq, codes, Option, Some, None, Result, Ok, Err, if◌then◌else◌}
+use Rattle.std.specs.Prelude.{◌≡◌, ◌⊎◌, ◌==◌, ℕ, pos, length, not, List, [], ◌∷◌, bytes_eq, codes, Option, Some, None, Result, Ok, Err, if◌then◌else◌}
 use Rattle.std.specs.Str.{is_utf8}
 use Rattle.std.specs.Map.{lookup}
 use Rattle.bench_rules.specs.declared.field.Field.{Field}
@@ -15,20 +15,28 @@ use Rattle.script_words.specs.declared.command.Command.TheVariants.{Apply, Ask}
 use Rattle.script_words.specs.declared.line_fault.LineFault.{LineFault}
 use Rattle.script_words.specs.declared.line_fault.LineFault.TheVariants.{Unknown, Number, NotText, OutOfMemory}
 use Rattle.script_words.specs.Words.{words_of, behind_word, text_behind_word, is_note}
-use Rattle.script_words.specs.Numbers.{number_of, position_of}
+use Rattle.script_words.specs.Numbers.{number_of, position_of, trace_of, new_place_of}
 use Rattle.float_codes.specs.declared.float_format.FloatFormat.{FloatFormat}
-use Rattle.script_words.specs.Readers.{Reader, name_of, field_of, target_of, alone, one, two, three, five, one_and_text, two_and_numbers}
+use Rattle.script_words.specs.Readers.{Reader, name_of, field_of, target_of, alone, one, two, three, four, five, one_and_text, two_and_numbers, tail_of}
 use Rattle.script_words.specs.HeaderCommands.{header_commands}
 
 -- ---- the commands
 
 -- `set P FIELD NUMBER`
-abbrev pub read_set : Reader Command
-read_set = three position_of field_of number_of (λ p field value. Apply (edits.Set p field value))
+abbrev pub read_set_one : ℕ → Reader Command
+read_set_one traces = three (trace_of traces) field_of number_of (λ p field value. Apply (edits.Set p field value))
+
+-- `set P Q FIELD NUMBER`: the same number in each, as one that is counted up by 0
+abbrev pub read_set_each : ℕ → Reader Command
+read_set_each traces = four (trace_of traces) (trace_of traces) field_of number_of (λ a b field value. Apply (edits.Renumber a b field value (pos 0)))
+
+-- either, by the number of words
+abbrev pub read_set : ℕ → Reader Command
+read_set traces words = if length words == 4 then read_set_each traces words else read_set_one traces words
 
 -- `get P FIELD`
-abbrev pub read_get : Reader Command
-read_get = two position_of field_of (λ p field. Ask (queries.Get p field))
+abbrev pub read_get : ℕ → Reader Command
+read_get traces = two (trace_of traces) field_of (λ p field. Ask (queries.Get p field))
 
 -- `bin FIELD NUMBER`
 abbrev pub read_bin : Reader Command
@@ -41,6 +49,10 @@ read_getbin = one field_of (λ field. Ask (queries.GetBin field))
 -- `declare`
 abbrev pub read_declare : Reader Command
 read_declare = alone (Apply edits.Declare)
+
+-- `drop tail`
+abbrev pub read_drop : Reader Command
+read_drop = one tail_of (λ _. Apply edits.DropTail)
 
 -- `text L TEXT`: the text is what stands behind L in the rest of the line, further blanks included
 abbrev pub read_text : List ℕ → Reader Command
@@ -83,45 +95,47 @@ abbrev pub read_info : Reader Command
 read_info = alone (Ask queries.Info)
 
 -- `sample P K`
-abbrev pub read_sample : Reader Command
-read_sample = two position_of position_of (λ p k. Ask (queries.Sample p k))
+abbrev pub read_sample : ℕ → Reader Command
+read_sample traces = two (trace_of traces) position_of (λ p k. Ask (queries.Sample p k))
 
 -- `patch P K NUMBER ..`; the format of samples that are floats comes first
-abbrev pub read_patch : Option FloatFormat → Reader Command
-read_patch floats = two_and_numbers floats position_of position_of (λ p k values. Apply (edits.Patch p k values))
+abbrev pub read_patch : Option FloatFormat → ℕ → Reader Command
+read_patch floats traces = two_and_numbers floats (trace_of traces) position_of (λ p k values. Apply (edits.Patch p k values))
 
 -- `blank P`
-abbrev pub read_blank : Reader Command
-read_blank = one position_of (λ p. Apply (edits.Blank p))
+abbrev pub read_blank : ℕ → Reader Command
+read_blank traces = one (new_place_of traces) (λ p. Apply (edits.Blank p))
 
 -- `copy Q P`
-abbrev pub read_copy : Reader Command
-read_copy = two position_of position_of (λ q p. Apply (edits.Copy q p))
+abbrev pub read_copy : ℕ → Reader Command
+read_copy traces = two (trace_of traces) (new_place_of traces) (λ q p. Apply (edits.Copy q p))
 
 -- `delete P`
-abbrev pub read_delete : Reader Command
-read_delete = one position_of (λ p. Apply (edits.Delete p))
+abbrev pub read_delete : ℕ → Reader Command
+read_delete traces = one (trace_of traces) (λ p. Apply (edits.Delete p))
 
 -- `move P Q`
-abbrev pub read_move : Reader Command
-read_move = two position_of position_of (λ a b. Apply (edits.Move a b))
+abbrev pub read_move : ℕ → Reader Command
+read_move traces = two (trace_of traces) (trace_of traces) (λ a b. Apply (edits.Move a b))
 
 -- `resize P NUMBER`
-abbrev pub read_resize : Reader Command
-read_resize = two position_of number_of (λ p count. Apply (edits.Resize p count))
+abbrev pub read_resize : ℕ → Reader Command
+read_resize traces = two (trace_of traces) number_of (λ p count. Apply (edits.Resize p count))
 
 -- `renumber P Q FIELD NUMBER NUMBER`
-abbrev pub read_renumber : Reader Command
-read_renumber = five position_of position_of field_of number_of number_of (λ a b field first step. Apply (edits.Renumber a b field first step))
+abbrev pub read_renumber : ℕ → Reader Command
+read_renumber traces = five (trace_of traces) (trace_of traces) field_of number_of number_of (λ a b field first step. Apply (edits.Renumber a b field first step))
 
--- each command's word with what reads the words behind it, which stand in this rest of the line; the format of samples that are floats comes first
-abbrev pub commands : Option FloatFormat → List ℕ → List (List ℕ × Reader Command)
-commands floats rest =
-    (codes "set", read_set)
-    ∷ (codes "get", read_get)
+-- each command's word with what reads the words behind it, which stand in this rest of the line; the format of samples that are floats comes first,
+-- and then the number of traces, as it is in front of the line
+abbrev pub commands : Option FloatFormat → ℕ → List ℕ → List (List ℕ × Reader Command)
+commands floats traces rest =
+    (codes "set", read_set traces)
+    ∷ (codes "get", read_get traces)
     ∷ (codes "bin", read_bin)
     ∷ (codes "getbin", read_getbin)
     ∷ (codes "declare", read_declare)
+    ∷ (codes "drop", read_drop)
     ∷ (codes "text", read_text rest)
     ∷ (codes "line", read_line)
     ∷ (codes "lines", read_lines)
@@ -132,15 +146,15 @@ commands floats rest =
     ∷ (codes "fields", read_fields)
     ∷ (codes "count", read_count)
     ∷ (codes "info", read_info)
-    ∷ (codes "sample", read_sample)
-    ∷ (codes "patch", read_patch floats)
-    ∷ (codes "blank", read_blank)
-    ∷ (codes "copy", read_copy)
-    ∷ (codes "delete", read_delete)
-    ∷ (codes "move", read_move)
-    ∷ (codes "resize", read_resize)
-    ∷ (codes "renumber", read_renumber)
-    ∷ header_commands
+    ∷ (codes "sample", read_sample traces)
+    ∷ (codes "patch", read_patch floats traces)
+    ∷ (codes "blank", read_blank traces)
+    ∷ (codes "copy", read_copy traces)
+    ∷ (codes "delete", read_delete traces)
+    ∷ (codes "move", read_move traces)
+    ∷ (codes "resize", read_resize traces)
+    ∷ (codes "renumber", read_renumber traces)
+    ∷ header_commands traces
 
 -- the reader's command, where the word has a reader
 abbrev pub read_by : {C : Type 0} → Option (Reader C) → List (List ℕ) → Result C LineFault
@@ -148,8 +162,8 @@ read_by None words = Err Unknown
 read_by (Some reader) words = reader words
 
 -- the command of a first word and of what stands behind it
-abbrev pub command_of : Option FloatFormat → List ℕ → List ℕ → Result Command LineFault
-command_of floats word rest = read_by (lookup (bytes_eq word) (commands floats rest)) (words_of rest)
+abbrev pub command_of : Option FloatFormat → ℕ → List ℕ → List ℕ → Result Command LineFault
+command_of floats traces word rest = read_by (lookup (bytes_eq word) (commands floats traces rest)) (words_of rest)
 
 -- a command that was read
 abbrev pub some_command : {C : Type 0} → Result C LineFault → Result (Option C) LineFault
@@ -163,12 +177,12 @@ words_by command line [] = Ok None
 words_by command line (word ∷ words) = if is_note word then Ok None else some_command (command word (behind_word line))
 
 -- what a line with these words gives: nothing, a command, or the first fault
-abbrev pub words_result : Option FloatFormat → List ℕ → List (List ℕ) → Result (Option Command) LineFault
-words_result floats line words = words_by (command_of floats) line words
+abbrev pub words_result : Option FloatFormat → ℕ → List ℕ → List (List ℕ) → Result (Option Command) LineFault
+words_result floats traces line words = words_by (command_of floats traces) line words
 
 -- what a line gives: nothing, a command, or the first fault
-abbrev pub line_result : Option FloatFormat → List ℕ → Result (Option Command) LineFault
-line_result floats line = if not (is_utf8 line) then Err NotText else words_result floats line (words_of line)
+abbrev pub line_result : Option FloatFormat → ℕ → List ℕ → Result (Option Command) LineFault
+line_result floats traces line = if not (is_utf8 line) then Err NotText else words_result floats traces line (words_of line)
 
 -- ---- want of memory
 
@@ -202,6 +216,7 @@ abbrev pub EditHoldsMemory : Edit → Type 0
 EditHoldsMemory (edits.Set p field x) = IsName field
 EditHoldsMemory (edits.SetBin field x) = IsName field
 EditHoldsMemory edits.Declare = ⊥
+EditHoldsMemory edits.DropTail = ⊥
 EditHoldsMemory (edits.SetText q text) = Unit {0}
 EditHoldsMemory (edits.Map name field) = Unit {0}
 EditHoldsMemory (edits.Unmap name) = Unit {0}
@@ -264,5 +279,5 @@ abbrev pub IsRead : Result Command LineFault → Result Command LineFault → Ty
 IsRead expected result = (result ≡ expected) ⊎ ((result ≡ Err OutOfMemory) × CommandTakesMemory expected)
 
 -- what is read from a line: what it gives, or want of memory where its command holds a text or a list
-abbrev pub IsParsed : Option FloatFormat → List ℕ → Result (Option Command) LineFault → Type 0
-IsParsed floats line result = (result ≡ line_result floats line) ⊎ ((result ≡ Err OutOfMemory) × LineTakesMemory (line_result floats line))
+abbrev pub IsParsed : Option FloatFormat → ℕ → List ℕ → Result (Option Command) LineFault → Type 0
+IsParsed floats traces line result = (result ≡ line_result floats traces line) ⊎ ((result ≡ Err OutOfMemory) × LineTakesMemory (line_result floats traces line))

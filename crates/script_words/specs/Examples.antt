@@ -30,20 +30,20 @@ place-extension = refl
 pub place-late_dot : place_of_word (codes "@189:4.1") ≡ None
 place-late_dot = refl
 
-pub line-set : line_result None (codes "\tset\t2  @0189:4 -100 ") ≡ Ok (Some (Apply (edits.Set 2 (fields.Place (signed_at 189 4)) (negsuc 99))))
+pub line-set : line_result None 9 (codes "\tset\t2  @0189:4 -100 ") ≡ Ok (Some (Apply (edits.Set 2 (fields.Place (signed_at 189 4)) (negsuc 99))))
 unfolding is_utf8 chars encode_utf8
 line-set = refl
 
-pub line-note : line_result None (codes " # set 1") ≡ Ok None
+pub line-note : line_result None 9 (codes " # set 1") ≡ Ok None
 unfolding is_utf8 chars encode_utf8
 line-note = refl
 
 -- too few words are told before a word that is no number
-pub line-few : line_result None (codes "set a @189:4") ≡ Err Words
+pub line-few : line_result None 9 (codes "set a @189:4") ≡ Err Words
 unfolding is_utf8 chars encode_utf8
 line-few = refl
 
 -- a note is told as no text before it is a note
-pub line-no_text : line_result None (codes "# note " ++ 0xFF ∷ []) ≡ Err NotText
+pub line-no_text : line_result None 9 (codes "# note " ++ 0xFF ∷ []) ≡ Err NotText
 unfolding is_utf8 chars encode_utf8
 line-no_text = refl

@@ -7,7 +7,7 @@ use Rattle.bench_rules.specs.declared.field.Field.{Field}
 use Rattle.bench_rules.specs.ManyTraces.{each_of}
 use Rattle.script_words.specs.declared.command.Command.{Command}
 use Rattle.script_words.specs.declared.command.Command.TheVariants.{Apply, Ask}
-use Rattle.script_words.specs.Numbers.{number_of, position_of}
+use Rattle.script_words.specs.Numbers.{number_of, trace_of}
 use Rattle.script_words.specs.Readers.{Reader, field_of, operand_of, fields_of, steps_of, one, two, five, two_and_list, four_and_list}
 use Rattle.script_words.specs.ReportCommands.{report_commands}
 
@@ -16,28 +16,28 @@ abbrev pub is_field_count : ℕ → Bool
 is_field_count n = nat_le 1 n && nat_le n 64
 
 -- `table P Q FIELD ..`
-abbrev pub read_table : Reader Command
-read_table = two_and_list position_of position_of is_field_count fields_of (λ a b fields. Ask (queries.Table a b fields))
+abbrev pub read_table : ℕ → Reader Command
+read_table traces = two_and_list (trace_of traces) (trace_of traces) is_field_count fields_of (λ a b fields. Ask (queries.Table a b fields))
 
 -- `find P Q FIELD NUMBER NUMBER`
-abbrev pub read_find : Reader Command
-read_find = five position_of position_of field_of number_of number_of (λ a b field low high. Ask (queries.Find a b field low high))
+abbrev pub read_find : ℕ → Reader Command
+read_find traces = five (trace_of traces) (trace_of traces) field_of number_of number_of (λ a b field low high. Ask (queries.Find a b field low high))
 
 -- `header P`
-abbrev pub read_header : Reader Command
-read_header = one position_of (λ p. Ask (queries.Header p))
+abbrev pub read_header : ℕ → Reader Command
+read_header traces = one (trace_of traces) (λ p. Ask (queries.Header p))
 
 -- `extremes P Q`
-abbrev pub read_extremes : Reader Command
-read_extremes = two position_of position_of (λ a b. Ask (queries.Extremes a b))
+abbrev pub read_extremes : ℕ → Reader Command
+read_extremes traces = two (trace_of traces) (trace_of traces) (λ a b. Ask (queries.Extremes a b))
 
 -- up to 8 operations, of two words each
 abbrev pub is_step_count : ℕ → Bool
 is_step_count n = nat_le n 16 && n % 2 == 0
 
 -- `compute P Q FIELD SOURCE [OP OPERAND] ..`
-abbrev pub read_compute : Reader Command
-read_compute = four_and_list position_of position_of field_of operand_of is_step_count steps_of (λ a b field source steps. Apply (edits.Compute a b field source steps))
+abbrev pub read_compute : ℕ → Reader Command
+read_compute traces = four_and_list (trace_of traces) (trace_of traces) field_of operand_of is_step_count steps_of (λ a b field source steps. Apply (edits.Compute a b field source steps))
 
 -- the numbers of the word's field are to fall: `-` stands in front of it; `-` alone is a name
 abbrev pub is_falling : List ℕ → Bool
@@ -60,16 +60,16 @@ abbrev pub is_key_count : ℕ → Bool
 is_key_count n = nat_le 1 n && nat_le n 8
 
 -- `sort P Q FIELD ..`
-abbrev pub read_sort : Reader Command
-read_sort = two_and_list position_of position_of is_key_count sort_keys_of (λ a b keys. Apply (edits.Sort a b keys.0 keys.1))
+abbrev pub read_sort : ℕ → Reader Command
+read_sort traces = two_and_list (trace_of traces) (trace_of traces) is_key_count sort_keys_of (λ a b keys. Apply (edits.Sort a b keys.0 keys.1))
 
 -- each word of these commands with what reads the words behind it, and then those of the reports
-abbrev pub header_commands : List (List ℕ × Reader Command)
-header_commands =
-    (codes "table", read_table)
-    ∷ (codes "find", read_find)
-    ∷ (codes "header", read_header)
-    ∷ (codes "extremes", read_extremes)
-    ∷ (codes "compute", read_compute)
-    ∷ (codes "sort", read_sort)
-    ∷ report_commands
+abbrev pub header_commands : ℕ → List (List ℕ × Reader Command)
+header_commands traces =
+    (codes "table", read_table traces)
+    ∷ (codes "find", read_find traces)
+    ∷ (codes "header", read_header traces)
+    ∷ (codes "extremes", read_extremes traces)
+    ∷ (codes "compute", read_compute traces)
+    ∷ (codes "sort", read_sort traces)
+    ∷ report_commands traces

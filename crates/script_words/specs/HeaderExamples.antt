@@ -17,48 +17,48 @@ use Rattle.script_words.specs.Commands.{line_result}
 -- ---- queries
 
 -- a field may stand twice
-pub line-table : line_result None (codes "table 1 3 offset @189:4 offset") ≡ Ok (Some (Ask (queries.Table 1 3 (fields.Name (codes "offset") ∷ fields.Place (signed_at 189 4) ∷ fields.Name (codes "offset") ∷ []))))
+pub line-table : line_result None 9 (codes "table 1 3 offset @189:4 offset") ≡ Ok (Some (Ask (queries.Table 1 3 (fields.Name (codes "offset") ∷ fields.Place (signed_at 189 4) ∷ fields.Name (codes "offset") ∷ []))))
 unfolding is_utf8 chars encode_utf8
 line-table = refl
 
-pub line-table_none : line_result None (codes "table 1 3") ≡ Err Words
+pub line-table_none : line_result None 9 (codes "table 1 3") ≡ Err Words
 unfolding is_utf8 chars encode_utf8
 line-table_none = refl
 
 -- 65 fields are too many, also where one of them is no place
-pub table-many : read_table (codes "1" ∷ codes "3" ∷ codes "@1" ∷ replicate 64 (codes "offset")) ≡ Err Words
+pub table-many : read_table 9 (codes "1" ∷ codes "3" ∷ codes "@1" ∷ replicate 64 (codes "offset")) ≡ Err Words
 table-many = refl
 
-pub line-table_place : line_result None (codes "table 1 3 offset @189") ≡ Err Number
+pub line-table_place : line_result None 9 (codes "table 1 3 offset @189") ≡ Err Number
 unfolding is_utf8 chars encode_utf8
 line-table_place = refl
 
-pub line-find : line_result None (codes "find 1 3 offset -5 5") ≡ Ok (Some (Ask (queries.Find 1 3 (fields.Name (codes "offset")) (negsuc 4) (pos 5))))
+pub line-find : line_result None 9 (codes "find 1 3 offset -5 5") ≡ Ok (Some (Ask (queries.Find 1 3 (fields.Name (codes "offset")) (negsuc 4) (pos 5))))
 unfolding is_utf8 chars encode_utf8
 line-find = refl
 
-pub line-header : line_result None (codes "header 2") ≡ Ok (Some (Ask (queries.Header 2)))
+pub line-header : line_result None 9 (codes "header 2") ≡ Ok (Some (Ask (queries.Header 2)))
 unfolding is_utf8 chars encode_utf8
 line-header = refl
 
-pub line-extremes : line_result None (codes "extremes 1 3") ≡ Ok (Some (Ask (queries.Extremes 1 3)))
+pub line-extremes : line_result None 9 (codes "extremes 1 3") ≡ Ok (Some (Ask (queries.Extremes 1 3)))
 unfolding is_utf8 chars encode_utf8
 line-extremes = refl
 
-pub line-lines : line_result None (codes "lines 0") ≡ Ok (Some (Ask (queries.Lines 0)))
+pub line-lines : line_result None 9 (codes "lines 0") ≡ Ok (Some (Ask (queries.Lines 0)))
 unfolding is_utf8 chars encode_utf8
 line-lines = refl
 
 -- ---- computed fields
 
-pub line-compute : line_result None (codes "compute 1 3 offset sx + -5 / @189:4")
+pub line-compute : line_result None 9 (codes "compute 1 3 offset sx + -5 / @189:4")
     ≡ Ok (Some (Apply (edits.Compute 1 3 (fields.Name (codes "offset")) (operands.Field (fields.Name (codes "sx")))
     ((Plus, operands.Number (negsuc 4)) ∷ (Over, operands.Field (fields.Place (signed_at 189 4))) ∷ []))))
 unfolding is_utf8 chars encode_utf8
 line-compute = refl
 
 -- an operator without an operand, in front of a word that is no number
-pub line-compute_odd : line_result None (codes "compute 1 3 offset 5x +") ≡ Err Words
+pub line-compute_odd : line_result None 9 (codes "compute 1 3 offset 5x +") ≡ Err Words
 unfolding is_utf8 chars encode_utf8
 line-compute_odd = refl
 
@@ -74,20 +74,20 @@ pub steps-sign : steps_of (codes "^" ∷ codes "2" ∷ []) ≡ None
 steps-sign = refl
 
 -- nine operations are too many
-pub compute-nine : read_compute (codes "1" ∷ codes "3" ∷ codes "offset" ∷ codes "1" ∷ replicate 18 (codes "+")) ≡ Err Words
+pub compute-nine : read_compute 9 (codes "1" ∷ codes "3" ∷ codes "offset" ∷ codes "1" ∷ replicate 18 (codes "+")) ≡ Err Words
 compute-nine = refl
 
 -- ---- traces in order
 
-pub line-sort : line_result None (codes "sort 1 3 inline -@189:4") ≡ Ok (Some (Apply (edits.Sort 1 3 (fields.Name (codes "inline") ∷ fields.Place (signed_at 189 4) ∷ []) (false ∷ true ∷ []))))
+pub line-sort : line_result None 9 (codes "sort 1 3 inline -@189:4") ≡ Ok (Some (Apply (edits.Sort 1 3 (fields.Name (codes "inline") ∷ fields.Place (signed_at 189 4) ∷ []) (false ∷ true ∷ []))))
 unfolding is_utf8 chars encode_utf8
 line-sort = refl
 
 -- a `-` alone is a name
-pub line-sort_minus : line_result None (codes "sort 1 3 -") ≡ Ok (Some (Apply (edits.Sort 1 3 (fields.Name (codes "-") ∷ []) (false ∷ []))))
+pub line-sort_minus : line_result None 9 (codes "sort 1 3 -") ≡ Ok (Some (Apply (edits.Sort 1 3 (fields.Name (codes "-") ∷ []) (false ∷ []))))
 unfolding is_utf8 chars encode_utf8
 line-sort_minus = refl
 
-pub line-sort_nothing : line_result None (codes "sort 1 3") ≡ Err Words
+pub line-sort_nothing : line_result None 9 (codes "sort 1 3") ≡ Err Words
 unfolding is_utf8 chars encode_utf8
 line-sort_nothing = refl

@@ -34,6 +34,10 @@ abbrev pub quantity_of : List ℕ → Option Quantity
 quantity_of word = lookup (bytes_eq word)
     ((codes "inline", Inline) ∷ (codes "crossline", Crossline) ∷ (codes "offset", Offset) ∷ (codes "x", X) ∷ (codes "y", Y) ∷ [])
 
+-- what can be dropped: the word `tail`
+abbrev pub tail_of : List ℕ → Option (List ℕ)
+tail_of word = if bytes_eq word (codes "tail") then Some word else None
+
 -- an operand: a number where the word begins with a digit, `-` or `+`, else a field
 abbrev pub operand_of : List ℕ → Option Operand
 operand_of word = if is_to_be_number word then option_map operands.Number (number_of word) else option_map operands.Field (field_of word)
@@ -93,6 +97,16 @@ three a b c command (t ∷ u ∷ v ∷ w ∷ words) = Err Words
 three a b c command (v ∷ w ∷ []) = Err Words
 three a b c command (w ∷ []) = Err Words
 three a b c command [] = Err Words
+
+-- four words; the third, which may want memory, is read last
+abbrev pub four : {A B C D E : Type 0} → (List ℕ → Option A) → (List ℕ → Option B) → (List ℕ → Option C) → (List ℕ → Option D) → (A → B → C → D → E) → Reader E
+four a b c d command (t ∷ u ∷ v ∷ w ∷ []) =
+    ok_or (option_and_then (λ i. option_and_then (λ j. option_and_then (λ l. option_map (λ k. command i j k l) (c v)) (d w)) (b u)) (a t)) Number
+four a b c d command (s ∷ t ∷ u ∷ v ∷ w ∷ words) = Err Words
+four a b c d command (u ∷ v ∷ w ∷ []) = Err Words
+four a b c d command (v ∷ w ∷ []) = Err Words
+four a b c d command (w ∷ []) = Err Words
+four a b c d command [] = Err Words
 
 -- five words; the third, which may want memory, is read last
 abbrev pub five : {A B C D E F : Type 0} → (List ℕ → Option A) → (List ℕ → Option B) → (List ℕ → Option C) → (List ℕ → Option D) → (List ℕ → Option E) → (A → B → C → D → E → F) → Reader F

@@ -3,16 +3,16 @@ use Rattle.std.specs.Prelude.{ℕ, List, [], ◌∷◌, codes}
 use Rattle.bench_rules.specs.declared.query.Query.TheVariants as queries
 use Rattle.script_words.specs.declared.command.Command.{Command}
 use Rattle.script_words.specs.declared.command.Command.TheVariants.{Ask}
-use Rattle.script_words.specs.Numbers.{number_of, position_of}
+use Rattle.script_words.specs.Numbers.{number_of, position_of, trace_of}
 use Rattle.script_words.specs.Readers.{Reader, quantity_of, alone, one, two}
 
 -- `geometry P`
-abbrev pub read_geometry : Reader Command
-read_geometry = one position_of (λ p. Ask (queries.Geometry p))
+abbrev pub read_geometry : ℕ → Reader Command
+read_geometry traces = one (trace_of traces) (λ p. Ask (queries.Geometry p))
 
 -- `stat P`
-abbrev pub read_stat : Reader Command
-read_stat = one position_of (λ p. Ask (queries.Stat p))
+abbrev pub read_stat : ℕ → Reader Command
+read_stat traces = one (trace_of traces) (λ p. Ask (queries.Stat p))
 
 -- `fold NUMBER NUMBER`
 abbrev pub read_fold : Reader Command
@@ -51,10 +51,10 @@ abbrev pub read_faults : Reader Command
 read_faults = alone (Ask queries.Faults)
 
 -- each report's word with what reads the words behind it
-abbrev pub report_commands : List (List ℕ × Reader Command)
-report_commands =
-    (codes "geometry", read_geometry)
-    ∷ (codes "stat", read_stat)
+abbrev pub report_commands : ℕ → List (List ℕ × Reader Command)
+report_commands traces =
+    (codes "geometry", read_geometry traces)
+    ∷ (codes "stat", read_stat traces)
     ∷ (codes "fold", read_fold)
     ∷ (codes "grid", read_grid)
     ∷ (codes "inlines", read_inlines)

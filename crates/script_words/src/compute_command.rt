@@ -8,13 +8,13 @@ ghost use Rattle.script_words.specs.Commands.{IsOperandRead, IsListRead, IsRead}
 use crate::command::Command;
 use crate::fields::{field, is_field};
 use crate::line_fault::LineFault;
-use crate::numbers::{is_number_like, number, position};
+use crate::numbers::{is_number_like, number, trace};
 use crate::words::{Words, number_of_words};
 use bench_rules::{Edit, Items, Operand, Operator};
 use std::alloc::Global;
 
-pub(crate) fn compute(alloc: Global, mut words: Words) -> Result<Command, LineFault>
-    ensures { IsRead (read_compute (words_of words.entry)) result }
+pub(crate) fn compute(alloc: Global, traces: u32, mut words: Words) -> Result<Command, LineFault>
+    ensures { IsRead (read_compute traces (words_of words.entry)) result }
 {
     let a = words.next().ok_or(LineFault::Words)?;
     let b = words.next().ok_or(LineFault::Words)?;
@@ -25,8 +25,8 @@ pub(crate) fn compute(alloc: Global, mut words: Words) -> Result<Command, LineFa
     if count == 17 || count % 2 != 0 {
         return Err(LineFault::Words);
     }
-    let a = position(a).ok_or(LineFault::Number)?;
-    let b = position(b).ok_or(LineFault::Number)?;
+    let a = trace(traces, a).ok_or(LineFault::Number)?;
+    let b = trace(traces, b).ok_or(LineFault::Number)?;
     // S03 of any word comes before E11.
     if !is_field(at) || !is_operand(source) {
         return Err(LineFault::Number);

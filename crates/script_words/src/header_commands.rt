@@ -10,7 +10,7 @@ use crate::command::Command;
 use crate::compute_command::compute;
 use crate::fields::{field, is_field};
 use crate::line_fault::LineFault;
-use crate::numbers::{number, position};
+use crate::numbers::{number, trace};
 use crate::parse::{five, one, two};
 use crate::report_commands::report;
 use crate::sort_command::sort;
@@ -19,23 +19,28 @@ use bench_rules::{Field, Items, Query};
 use std::alloc::Global;
 
 // The command of such a word and of the words behind it, or that of a report; S01 for any other.
-pub(crate) fn of_headers(alloc: Global, word: &str, words: Words) -> Result<Command, LineFault>
-    ensures { IsRead (read_by (lookup (bytes_eq word.now) header_commands)
+pub(crate) fn of_headers(
+    alloc: Global,
+    traces: u32,
+    word: &str,
+    words: Words,
+) -> Result<Command, LineFault>
+    ensures { IsRead (read_by (lookup (bytes_eq word.now) (header_commands traces))
         (words_of words.entry)) result }
 {
     match word {
-        "table" => table(alloc, words),
-        "find" => find(alloc, words),
-        "header" => header(words),
-        "extremes" => extremes(words),
-        "compute" => compute(alloc, words),
-        "sort" => sort(alloc, words),
-        _ => report(word, words),
+        "table" => table(alloc, traces, words),
+        "find" => find(alloc, traces, words),
+        "header" => header(traces, words),
+        "extremes" => extremes(traces, words),
+        "compute" => compute(alloc, traces, words),
+        "sort" => sort(alloc, traces, words),
+        _ => report(traces, word, words),
     }
 }
 
-fn table(alloc: Global, mut words: Words) -> Result<Command, LineFault>
-    ensures { IsRead (read_table (words_of words.entry)) result }
+fn table(alloc: Global, traces: u32, mut words: Words) -> Result<Command, LineFault>
+    ensures { IsRead (read_table traces (words_of words.entry)) result }
 {
     let a = words.next().ok_or(LineFault::Words)?;
     let b = words.next().ok_or(LineFault::Words)?;
@@ -44,38 +49,38 @@ fn table(alloc: Global, mut words: Words) -> Result<Command, LineFault>
     if count == 0 || count == 65 {
         return Err(LineFault::Words);
     }
-    let a = position(a).ok_or(LineFault::Number)?;
-    let b = position(b).ok_or(LineFault::Number)?;
+    let a = trace(traces, a).ok_or(LineFault::Number)?;
+    let b = trace(traces, b).ok_or(LineFault::Number)?;
     let fields = fields(alloc, rest)?;
     Ok(Command::Ask(Query::Table(a, b, fields)))
 }
 
-fn find(alloc: Global, words: Words) -> Result<Command, LineFault>
-    ensures { IsRead (read_find (words_of words.entry)) result }
+fn find(alloc: Global, traces: u32, words: Words) -> Result<Command, LineFault>
+    ensures { IsRead (read_find traces (words_of words.entry)) result }
 {
     let (a, b, at, low, high) = five(words).ok_or(LineFault::Words)?;
-    let a = position(a).ok_or(LineFault::Number)?;
-    let b = position(b).ok_or(LineFault::Number)?;
+    let a = trace(traces, a).ok_or(LineFault::Number)?;
+    let b = trace(traces, b).ok_or(LineFault::Number)?;
     let low = number(low).ok_or(LineFault::Number)?;
     let high = number(high).ok_or(LineFault::Number)?;
     let at = field(alloc, at)?;
     Ok(Command::Ask(Query::Find(a, b, at, low, high)))
 }
 
-fn header(words: Words) -> Result<Command, LineFault>
-    ensures { result ≡ read_header (words_of words.entry) }
+fn header(traces: u32, words: Words) -> Result<Command, LineFault>
+    ensures { result ≡ read_header traces (words_of words.entry) }
 {
     let p = one(words).ok_or(LineFault::Words)?;
-    let p = position(p).ok_or(LineFault::Number)?;
+    let p = trace(traces, p).ok_or(LineFault::Number)?;
     Ok(Command::Ask(Query::Header(p)))
 }
 
-fn extremes(words: Words) -> Result<Command, LineFault>
-    ensures { result ≡ read_extremes (words_of words.entry) }
+fn extremes(traces: u32, words: Words) -> Result<Command, LineFault>
+    ensures { result ≡ read_extremes traces (words_of words.entry) }
 {
     let (a, b) = two(words).ok_or(LineFault::Words)?;
-    let a = position(a).ok_or(LineFault::Number)?;
-    let b = position(b).ok_or(LineFault::Number)?;
+    let a = trace(traces, a).ok_or(LineFault::Number)?;
+    let b = trace(traces, b).ok_or(LineFault::Number)?;
     Ok(Command::Ask(Query::Extremes(a, b)))
 }
 

@@ -1,6 +1,6 @@
 // Words that are numbers.
 ghost use Rattle.std.specs.Prelude.{◌≡◌, ◌≤◌, ◌^◌, neg_ℤ, pos};
-ghost use Rattle.script_words.specs.Numbers.{natural_up_to, number_of, sample_number, rank_read as rank_of_reading, position_of, is_to_be_number};
+ghost use Rattle.script_words.specs.Numbers.{natural_up_to, number_of, sample_number, rank_read as rank_of_reading, position_of, trace_of, new_place_of, is_to_be_number};
 
 use float_codes::FloatFormat;
 use float_text::Reading;
@@ -69,6 +69,28 @@ pub(crate) fn position(word: &str) -> Option<u32>
         return None;
     }
     Some(value as u32)
+}
+
+/// The trace that a word is: a position, or for `last` the number of traces.
+pub(crate) fn trace(traces: u32, word: &str) -> Option<u32>
+    ensures { result ≡ trace_of traces word.now }
+{
+    if word == "last" {
+        Some(traces)
+    } else {
+        position(word)
+    }
+}
+
+/// Where a trace is to be put in: in front of a trace, or at `end`, behind the last.
+pub(crate) fn new_place(traces: u32, word: &str) -> Option<u32>
+    ensures { result ≡ new_place_of traces word.now }
+{
+    if word == "end" {
+        Some(traces.saturating_add(1))
+    } else {
+        trace(traces, word)
+    }
 }
 
 /// Whether the word is to be a number: it begins with a digit, `-` or `+`.

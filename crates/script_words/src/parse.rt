@@ -3,15 +3,15 @@ ghost use Rattle.std.specs.Prelude.{◌≡◌, ◌≢◌, ◌∷◌, [], length,
 ghost use Rattle.script_words.specs.Words.{words_of};
 ghost use Rattle.script_words.specs.declared.command.Command.TheVariants.{Ask as ask};
 ghost use Rattle.script_words.specs.Readers.{alone};
-ghost use Rattle.script_words.specs.Commands.{command_of, read_set, read_get, read_bin, read_getbin, read_declare, read_text, read_line, read_lines, read_code, read_map, read_unmap, read_sample, IsRead, IsParsed};
+ghost use Rattle.script_words.specs.Commands.{command_of, read_set, read_set_one, read_get, read_bin, read_getbin, read_declare, read_drop, read_text, read_line, read_lines, read_code, read_map, read_unmap, read_sample, IsRead, IsParsed};
 
 use crate::command::Command;
 use crate::fields::{field, target, text_of};
 use crate::header_commands::of_headers;
 use crate::line_fault::LineFault;
-use crate::numbers::{number, position};
-use crate::trace_commands::{blank, copy, delete, move_trace, patch, renumber, resize};
-use crate::words::Words;
+use crate::numbers::{number, position, trace};
+use crate::trace_commands::{blank, copy, delete, move_trace, patch, renumber, resize, set_each};
+use crate::words::{Words, number_of_words};
 use bench_rules::{Edit, Query};
 use float_codes::FloatFormat;
 use std::alloc::Global;
@@ -22,15 +22,16 @@ use std::str;
 ///
 /// Words are separated by blanks and tabs. A line that is not UTF-8 is S04, a first word that is no
 /// command S01, too few or too many words S02, and a word that has to be a number, a place, a kind
-/// of value or an operator and is none S03; the first of these that holds is told. Where the
-/// samples are floats, of the format that comes first, their values are decimals. Takes memory only
-/// where the command holds a text, a name or a list, and is E11 where that was refused.
+/// of value or an operator and is none S03; the first is told. Values of floats, whose format comes
+/// first, are decimals; `last` is the last of so many traces, and `end` one more. Takes memory only
+/// where the command holds a text, a name or a list, and is E11 without.
 pub fn parse_line(
     alloc: Global,
     floats: Option<FloatFormat>,
+    traces: u32,
     line: &[u8],
 ) -> Result<Option<Command>, LineFault>
-    ensures { IsParsed floats line.now result }
+    ensures { IsParsed floats traces line.now result }
 {
     let Ok(text) = str::from_utf8(line) else {
         return Err(LineFault::NotText);
@@ -39,7 +40,7 @@ pub fn parse_line(
     match words.next() {
         None => Ok(None),
         Some(word) if word.as_bytes().starts_with(b"#") => Ok(None),
-        Some(word) => Ok(Some(command(alloc, floats, word, words)?)),
+        Some(word) => Ok(Some(command(alloc, floats, traces, word, words)?)),
     }
 }
 
@@ -47,17 +48,19 @@ pub fn parse_line(
 fn command(
     alloc: Global,
     floats: Option<FloatFormat>,
+    traces: u32,
     word: &str,
     words: Words,
 ) -> Result<Command, LineFault>
-    ensures { IsRead (command_of floats word.now words.entry) result }
+    ensures { IsRead (command_of floats traces word.now words.entry) result }
 {
     match word {
-        "set" => set(alloc, words),
-        "get" => get(alloc, words),
+        "set" => set(alloc, traces, words),
+        "get" => get(alloc, traces, words),
         "bin" => bin(alloc, words),
         "getbin" => getbin(alloc, words),
         "declare" => declare(words),
+        "drop" => drop_tail(words),
         "text" => text(alloc, words),
         "line" => line(words),
         "lines" => lines(words),
@@ -68,33 +71,43 @@ fn command(
         "fields" => query_alone(words, Query::Fields),
         "count" => query_alone(words, Query::Count),
         "info" => query_alone(words, Query::Info),
-        "sample" => sample(words),
-        "patch" => patch(alloc, floats, words),
-        "blank" => blank(words),
-        "copy" => copy(words),
-        "delete" => delete(words),
-        "move" => move_trace(words),
-        "resize" => resize(words),
-        "renumber" => renumber(alloc, words),
-        _ => of_headers(alloc, word, words),
+        "sample" => sample(traces, words),
+        "patch" => patch(alloc, floats, traces, words),
+        "blank" => blank(traces, words),
+        "copy" => copy(traces, words),
+        "delete" => delete(traces, words),
+        "move" => move_trace(traces, words),
+        "resize" => resize(traces, words),
+        "renumber" => renumber(alloc, traces, words),
+        _ => of_headers(alloc, traces, word, words),
     }
 }
 
-fn set(alloc: Global, words: Words) -> Result<Command, LineFault>
-    ensures { IsRead (read_set (words_of words.entry)) result }
+fn set(alloc: Global, traces: u32, words: Words) -> Result<Command, LineFault>
+    ensures { IsRead (read_set traces (words_of words.entry)) result }
+{
+    if number_of_words(words.rest(), 5) == 4 {
+        set_each(alloc, traces, words)
+    } else {
+        set_one(alloc, traces, words)
+    }
+}
+
+fn set_one(alloc: Global, traces: u32, words: Words) -> Result<Command, LineFault>
+    ensures { IsRead (read_set_one traces (words_of words.entry)) result }
 {
     let (p, at, value) = three(words).ok_or(LineFault::Words)?;
-    let p = position(p).ok_or(LineFault::Number)?;
+    let p = trace(traces, p).ok_or(LineFault::Number)?;
     let value = number(value).ok_or(LineFault::Number)?;
     let at = field(alloc, at)?;
     Ok(Command::Apply(Edit::Set(p, at, value)))
 }
 
-fn get(alloc: Global, words: Words) -> Result<Command, LineFault>
-    ensures { IsRead (read_get (words_of words.entry)) result }
+fn get(alloc: Global, traces: u32, words: Words) -> Result<Command, LineFault>
+    ensures { IsRead (read_get traces (words_of words.entry)) result }
 {
     let (p, at) = two(words).ok_or(LineFault::Words)?;
-    let p = position(p).ok_or(LineFault::Number)?;
+    let p = trace(traces, p).ok_or(LineFault::Number)?;
     let at = field(alloc, at)?;
     Ok(Command::Ask(Query::Get(p, at)))
 }
@@ -123,6 +136,16 @@ fn declare(mut words: Words) -> Result<Command, LineFault>
         return Err(LineFault::Words);
     }
     Ok(Command::Apply(Edit::Declare))
+}
+
+fn drop_tail(words: Words) -> Result<Command, LineFault>
+    ensures { result ≡ read_drop (words_of words.entry) }
+{
+    let what = one(words).ok_or(LineFault::Words)?;
+    if what != "tail" {
+        return Err(LineFault::Number);
+    }
+    Ok(Command::Apply(Edit::DropTail))
 }
 
 fn text(alloc: Global, mut words: Words) -> Result<Command, LineFault>
@@ -177,11 +200,11 @@ fn unmap(alloc: Global, words: Words) -> Result<Command, LineFault>
     Ok(Command::Apply(Edit::Unmap(name)))
 }
 
-fn sample(words: Words) -> Result<Command, LineFault>
-    ensures { result ≡ read_sample (words_of words.entry) }
+fn sample(traces: u32, words: Words) -> Result<Command, LineFault>
+    ensures { result ≡ read_sample traces (words_of words.entry) }
 {
     let (p, k) = two(words).ok_or(LineFault::Words)?;
-    let p = position(p).ok_or(LineFault::Number)?;
+    let p = trace(traces, p).ok_or(LineFault::Number)?;
     let k = position(k).ok_or(LineFault::Number)?;
     Ok(Command::Ask(Query::Sample(p, k)))
 }
@@ -229,6 +252,19 @@ fn three(mut words: Words) -> Option<(&str, &str, &str)>
     match words.next() {
         Some(_) => None,
         None => Some(three),
+    }
+}
+
+// The four words, where they are four.
+pub(crate) fn four(mut words: Words) -> Option<(&str, &str, &str, &str)>
+    ensures none { IfNone result (length (words_of words.entry) ≢ 4) }
+    ensures some { IfSome result (λ t. words_of words.entry
+        ≡ t.0.now ∷ t.1.now ∷ t.2.now ∷ t.3.now ∷ []) }
+{
+    let four = (words.next()?, words.next()?, words.next()?, words.next()?);
+    match words.next() {
+        Some(_) => None,
+        None => Some(four),
     }
 }
 

@@ -8,19 +8,20 @@ ghost use Rattle.script_words.specs.Commands.{read_by};
 
 use crate::command::Command;
 use crate::line_fault::LineFault;
-use crate::numbers::{number, position};
+use crate::numbers::{number, position, trace};
 use crate::parse::{one, query_alone, two};
 use crate::words::Words;
 use bench_rules::Query;
 use range_stats::Quantity;
 
 // The query of a report's word and of the words behind it; S01 for any other word.
-pub(crate) fn report(word: &str, words: Words) -> Result<Command, LineFault>
-    ensures { result ≡ read_by (lookup (bytes_eq word.now) report_commands) (words_of words.entry) }
+pub(crate) fn report(traces: u32, word: &str, words: Words) -> Result<Command, LineFault>
+    ensures { result ≡ read_by (lookup (bytes_eq word.now) (report_commands traces))
+        (words_of words.entry) }
 {
     match word {
-        "geometry" => geometry(words),
-        "stat" => stat(words),
+        "geometry" => geometry(traces, words),
+        "stat" => stat(traces, words),
         "fold" => fold(words),
         "grid" => query_alone(words, Query::Grid),
         "inlines" => query_alone(words, Query::Inlines),
@@ -34,19 +35,19 @@ pub(crate) fn report(word: &str, words: Words) -> Result<Command, LineFault>
     }
 }
 
-fn geometry(words: Words) -> Result<Command, LineFault>
-    ensures { result ≡ read_geometry (words_of words.entry) }
+fn geometry(traces: u32, words: Words) -> Result<Command, LineFault>
+    ensures { result ≡ read_geometry traces (words_of words.entry) }
 {
     let p = one(words).ok_or(LineFault::Words)?;
-    let p = position(p).ok_or(LineFault::Number)?;
+    let p = trace(traces, p).ok_or(LineFault::Number)?;
     Ok(Command::Ask(Query::Geometry(p)))
 }
 
-fn stat(words: Words) -> Result<Command, LineFault>
-    ensures { result ≡ read_stat (words_of words.entry) }
+fn stat(traces: u32, words: Words) -> Result<Command, LineFault>
+    ensures { result ≡ read_stat traces (words_of words.entry) }
 {
     let p = one(words).ok_or(LineFault::Words)?;
-    let p = position(p).ok_or(LineFault::Number)?;
+    let p = trace(traces, p).ok_or(LineFault::Number)?;
     Ok(Command::Ask(Query::Stat(p)))
 }
 

@@ -8,13 +8,13 @@ ghost use Rattle.script_words.specs.Commands.{IsListRead, IsRead};
 use crate::command::Command;
 use crate::fields::{field, is_field};
 use crate::line_fault::LineFault;
-use crate::numbers::position;
+use crate::numbers::trace;
 use crate::words::{Words, number_of_words};
 use bench_rules::{Edit, Field, Items};
 use std::alloc::Global;
 
-pub(crate) fn sort(alloc: Global, mut words: Words) -> Result<Command, LineFault>
-    ensures { IsRead (read_sort (words_of words.entry)) result }
+pub(crate) fn sort(alloc: Global, traces: u32, mut words: Words) -> Result<Command, LineFault>
+    ensures { IsRead (read_sort traces (words_of words.entry)) result }
 {
     let a = words.next().ok_or(LineFault::Words)?;
     let b = words.next().ok_or(LineFault::Words)?;
@@ -23,8 +23,8 @@ pub(crate) fn sort(alloc: Global, mut words: Words) -> Result<Command, LineFault
     if count == 0 || count == 9 {
         return Err(LineFault::Words);
     }
-    let a = position(a).ok_or(LineFault::Number)?;
-    let b = position(b).ok_or(LineFault::Number)?;
+    let a = trace(traces, a).ok_or(LineFault::Number)?;
+    let b = trace(traces, b).ok_or(LineFault::Number)?;
     let fields = sorted_fields(alloc, rest)?;
     let falling = falling(alloc, rest)?;
     Ok(Command::Apply(Edit::Sort {

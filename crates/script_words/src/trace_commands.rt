@@ -3,13 +3,13 @@ ghost use Rattle.std.specs.Prelude.{◌≡◌, is_some, if◌then◌else◌};
 ghost use Rattle.script_words.specs.declared.line_fault.LineFault.TheVariants.{OutOfMemory as no_memory, Number as no_number};
 ghost use Rattle.script_words.specs.Words.{words_of};
 ghost use Rattle.script_words.specs.Readers.{numbers_of};
-ghost use Rattle.script_words.specs.Commands.{read_patch, read_blank, read_copy, read_delete, read_move, read_resize, read_renumber, IsListRead, IsRead};
+ghost use Rattle.script_words.specs.Commands.{read_patch, read_blank, read_copy, read_delete, read_move, read_resize, read_renumber, read_set_each, IsListRead, IsRead};
 
 use crate::command::Command;
 use crate::fields::field;
 use crate::line_fault::LineFault;
-use crate::numbers::{number, position, sample};
-use crate::parse::{five, one, two};
+use crate::numbers::{new_place, number, position, sample, trace};
+use crate::parse::{five, four, one, two};
 use crate::words::Words;
 use bench_rules::{Edit, Items};
 use float_codes::FloatFormat;
@@ -20,9 +20,10 @@ use std::alloc::Global;
 pub(crate) fn patch(
     alloc: Global,
     floats: Option<FloatFormat>,
+    traces: u32,
     mut words: Words,
 ) -> Result<Command, LineFault>
-    ensures { IsRead (read_patch floats (words_of words.entry)) result }
+    ensures { IsRead (read_patch floats traces (words_of words.entry)) result }
 {
     let p = words.next().ok_or(LineFault::Words)?;
     let k = words.next().ok_or(LineFault::Words)?;
@@ -30,61 +31,61 @@ pub(crate) fn patch(
     if words.next().is_none() {
         return Err(LineFault::Words);
     }
-    let p = position(p).ok_or(LineFault::Number)?;
+    let p = trace(traces, p).ok_or(LineFault::Number)?;
     let k = position(k).ok_or(LineFault::Number)?;
     let values = numbers(alloc, floats, values)?;
     Ok(Command::Apply(Edit::Patch(p, k, values)))
 }
 
-pub(crate) fn blank(words: Words) -> Result<Command, LineFault>
-    ensures { result ≡ read_blank (words_of words.entry) }
+pub(crate) fn blank(traces: u32, words: Words) -> Result<Command, LineFault>
+    ensures { result ≡ read_blank traces (words_of words.entry) }
 {
     let p = one(words).ok_or(LineFault::Words)?;
-    let p = position(p).ok_or(LineFault::Number)?;
+    let p = new_place(traces, p).ok_or(LineFault::Number)?;
     Ok(Command::Apply(Edit::Blank(p)))
 }
 
-pub(crate) fn copy(words: Words) -> Result<Command, LineFault>
-    ensures { result ≡ read_copy (words_of words.entry) }
+pub(crate) fn copy(traces: u32, words: Words) -> Result<Command, LineFault>
+    ensures { result ≡ read_copy traces (words_of words.entry) }
 {
     let (q, p) = two(words).ok_or(LineFault::Words)?;
-    let q = position(q).ok_or(LineFault::Number)?;
-    let p = position(p).ok_or(LineFault::Number)?;
+    let q = trace(traces, q).ok_or(LineFault::Number)?;
+    let p = new_place(traces, p).ok_or(LineFault::Number)?;
     Ok(Command::Apply(Edit::Copy(q, p)))
 }
 
-pub(crate) fn delete(words: Words) -> Result<Command, LineFault>
-    ensures { result ≡ read_delete (words_of words.entry) }
+pub(crate) fn delete(traces: u32, words: Words) -> Result<Command, LineFault>
+    ensures { result ≡ read_delete traces (words_of words.entry) }
 {
     let p = one(words).ok_or(LineFault::Words)?;
-    let p = position(p).ok_or(LineFault::Number)?;
+    let p = trace(traces, p).ok_or(LineFault::Number)?;
     Ok(Command::Apply(Edit::Delete(p)))
 }
 
-pub(crate) fn move_trace(words: Words) -> Result<Command, LineFault>
-    ensures { result ≡ read_move (words_of words.entry) }
+pub(crate) fn move_trace(traces: u32, words: Words) -> Result<Command, LineFault>
+    ensures { result ≡ read_move traces (words_of words.entry) }
 {
     let (a, b) = two(words).ok_or(LineFault::Words)?;
-    let a = position(a).ok_or(LineFault::Number)?;
-    let b = position(b).ok_or(LineFault::Number)?;
+    let a = trace(traces, a).ok_or(LineFault::Number)?;
+    let b = trace(traces, b).ok_or(LineFault::Number)?;
     Ok(Command::Apply(Edit::Move(a, b)))
 }
 
-pub(crate) fn resize(words: Words) -> Result<Command, LineFault>
-    ensures { result ≡ read_resize (words_of words.entry) }
+pub(crate) fn resize(traces: u32, words: Words) -> Result<Command, LineFault>
+    ensures { result ≡ read_resize traces (words_of words.entry) }
 {
     let (p, count) = two(words).ok_or(LineFault::Words)?;
-    let p = position(p).ok_or(LineFault::Number)?;
+    let p = trace(traces, p).ok_or(LineFault::Number)?;
     let count = number(count).ok_or(LineFault::Number)?;
     Ok(Command::Apply(Edit::Resize(p, count)))
 }
 
-pub(crate) fn renumber(alloc: Global, words: Words) -> Result<Command, LineFault>
-    ensures { IsRead (read_renumber (words_of words.entry)) result }
+pub(crate) fn renumber(alloc: Global, traces: u32, words: Words) -> Result<Command, LineFault>
+    ensures { IsRead (read_renumber traces (words_of words.entry)) result }
 {
     let (a, b, at, first, step) = five(words).ok_or(LineFault::Words)?;
-    let a = position(a).ok_or(LineFault::Number)?;
-    let b = position(b).ok_or(LineFault::Number)?;
+    let a = trace(traces, a).ok_or(LineFault::Number)?;
+    let b = trace(traces, b).ok_or(LineFault::Number)?;
     let first = number(first).ok_or(LineFault::Number)?;
     let step = number(step).ok_or(LineFault::Number)?;
     let at = field(alloc, at)?;
@@ -94,6 +95,23 @@ pub(crate) fn renumber(alloc: Global, words: Words) -> Result<Command, LineFault
         field: at,
         first_value: first,
         step,
+    }))
+}
+
+pub(crate) fn set_each(alloc: Global, traces: u32, words: Words) -> Result<Command, LineFault>
+    ensures { IsRead (read_set_each traces (words_of words.entry)) result }
+{
+    let (a, b, at, value) = four(words).ok_or(LineFault::Words)?;
+    let a = trace(traces, a).ok_or(LineFault::Number)?;
+    let b = trace(traces, b).ok_or(LineFault::Number)?;
+    let value = number(value).ok_or(LineFault::Number)?;
+    let at = field(alloc, at)?;
+    Ok(Command::Apply(Edit::Renumber {
+        first_trace: a,
+        last_trace: b,
+        field: at,
+        first_value: value,
+        step: 0,
     }))
 }
 

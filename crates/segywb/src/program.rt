@@ -546,6 +546,7 @@ fn options(arguments: &Arguments, is_one_limit: bool) -> Options
       samples = arguments.now.samples;
       format = arguments.now.format;
       texts = arguments.now.texts;
+      tail = arguments.now.tail;
     } }
     ensures bytes { result.limits.bytes ≡ unwrap_or arguments.now.max_bytes
         (usual_limit (arguments.now.on_disk || is_one_limit)) }

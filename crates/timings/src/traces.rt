@@ -67,6 +67,7 @@ pub(crate) fn count_records<R: Files + AllocGlobal>(
         samples: None,
         format: None,
         texts: None,
+        tail: false,
     };
     let mut loading: Loading<()> = Loading::load(
         rt.alloc(),

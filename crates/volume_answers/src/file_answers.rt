@@ -10,6 +10,7 @@ ghost use Rattle.bench_rules.specs.State.{State};
 use bench_rules::{Answer, AskFault, Field, Info, Items, Text, binary_value, place_in_binary};
 use edit_overlay::Overlay;
 use field_map::FieldMap;
+use frame_cut::Reading;
 use std::alloc::Global;
 use trace_record::PackedRecord;
 
@@ -20,14 +21,16 @@ pub fn count_answer(overlay: &Overlay<PackedRecord>) -> Answer
     Answer::Count(overlay.count())
 }
 
-/// What the file is. Takes no memory.
-pub fn info_answer(overlay: &Overlay<PackedRecord>) -> Answer
-    ensures { (s : State) → s.volume ≡ overlay.now.volume → Ok result ≡ answer s queries.Info }
+/// What the file that is read so is. Takes no memory.
+pub fn info_answer(overlay: &Overlay<PackedRecord>, reading: Reading) -> Answer
+    ensures { (s : State) → s.volume ≡ overlay.now.volume → s.reading ≡ reading →
+        Ok result ≡ answer s queries.Info }
 {
     Answer::Info(Info {
         head: overlay.head(),
         traces: overlay.count(),
         bytes: overlay.length(),
+        tail: reading.tail.then(|| overlay.tail()),
     })
 }
 

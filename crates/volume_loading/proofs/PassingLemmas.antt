@@ -1,5 +1,5 @@
 -- What holds of a file between the calls that pass it.
-use Rattle.std.proofs.Common.{◌≡◌, ℕ, ◌+◌, ◌*◌, ◌-◌, ◌<◌, ◌≤◌, ◌⊎◌, List, [], ◌∷◌, ◌++◌, length, take, drop, get_or, refl, sym, ap, ◌∙◌, subst, arith, inl, inr, All, Result, Ok, true}
+use Rattle.std.proofs.Common.{◌≡◌, ℕ, zero, suc, ◌+◌, ◌*◌, ◌-◌, ◌<◌, ◌≤◌, ◌⊎◌, List, [], ◌∷◌, ◌++◌, length, take, drop, get_or, refl, sym, ap, ◌∙◌, subst, arith, inl, inr, All, Result, Ok, true}
 use Rattle.std.proofs.lemmas.List.{drop-drop, get_or_push, length-drop, length-map, length_push, length-take, length-take-le, map-append, take-take}
 use Rattle.std.proofs.lemmas.List.Elements.{All-get_or, All-nil}
 use Rattle.std.proofs.lemmas.List.Edits.{insert_end}
@@ -10,13 +10,13 @@ use Rattle.frame_cut.specs.declared.file_head.Head.{Head}
 use Rattle.frame_cut.specs.declared.limits.Limits.{Limits}
 use Rattle.frame_cut.specs.declared.reading.Reading.{Reading}
 use Rattle.frame_cut.specs.declared.load_fault.LoadFault.{LoadFault}
-use Rattle.frame_cut.specs.Cuts.{IsCut, IsTrace, trace_refusal}
+use Rattle.frame_cut.specs.Cuts.{IsCut, IsTail, IsTrace, trace_refusal}
 use Rattle.frame_cut.specs.Fronts.{BeginsWith}
-use Rattle.frame_cut.specs.Layout.{bytes_at, pieces, volume_at, AreTracesOf}
+use Rattle.frame_cut.specs.Layout.{bytes_at, pieces, tail_at, volume_at, AreTracesOf}
 use Rattle.frame_cut.specs.Volume.{Volume, bytes_of}
-use Rattle.frame_cut.specs.Walk.{left_at, traces_end, AreWhole}
+use Rattle.frame_cut.specs.Walk.{left_at, traces_end, AreWhole, EndsAt}
 use Rattle.frame_cut.proofs.HeadFrontLemmas.{has_head}
-use Rattle.frame_cut.proofs.LaidLemmas.{cut_from, laid_from, joined-laid, refused_from, step-le, whole-push}
+use Rattle.frame_cut.proofs.LaidLemmas.{cut_from, ends_there, laid_from, joined-laid, refused_from, step-le, whole-push}
 use Rattle.trace_store.specs.declared.store.TraceStore.{TraceStore}
 use Rattle.trace_store.specs.Grown.{HasMore}
 use Rattle.trace_store.specs.Stores.{traces_of}
@@ -35,6 +35,11 @@ use Rattle.volume_loading.proofs.PassLemmas.{begins_less, some_file}
 pub front_kept : (front old new : List ℕ) → front ≡ take (length front) old → take (length old) new ≡ old → front ≡ take (length front) new
 front_kept front old new is begins =
     is ∙ (ap (take (length front)) (sym begins) ∙ take-take (length front) (length old) new (omega (arith, ap length is, length-take (length front) old)))
+
+-- a number is 0, or more
+some_or_none : (n : ℕ) → (n ≡ 0) ⊎ (0 < n)
+some_or_none zero = inl refl
+some_or_none (suc n) = inr (omega arith)
 
 -- ---- the last of the traces
 
@@ -88,7 +93,7 @@ module _ {T : Type 0} where
       (subst (λ (ts : List (List ℕ)). HasLengthAt file s.head limits (length ts + 1) at n) (sym traces) is)
 
   pub passed_on : (p : Inside T) (s : TraceStore T) (w : WindowBytes) (n k : ℕ) → IsPassing p → HasMore p.store s → IsNextOf s.loaded.bytes p.at w.bytes → length s.loaded.bytes ≤ p.size → n ≤ length w.bytes → p.at + n + 3200 * p.store.head.trailer ≤ p.size
-      → (0 < n → (file : List ℕ) → BeginsWith s.loaded.bytes p.size file → HasLengthAt file p.store.head p.limits (length (traces_of p.store) + 1) p.at n) → IsPassing (record p { store = s; window = w; next = n; looks = k })
+      → (0 < n → (file : List ℕ) → BeginsWith s.loaded.bytes p.size file → HasLengthAt file p.store.head p.limits (length (traces_of p.store) + 1) p.at n) → IsPassing (record p { store = s; window = w; next = n; tail = 0; looks = k })
   passed_on p s w n k passing more next within short fits told = record {
     extents = passing.extents;
     walked = λ file begun. walked_on file p.reading p.limits p.store s passing.extents p.at more.head more.traces (passing.walked file (begins_less p.store.loaded.bytes s.loaded.bytes p.size file more.loaded.begins begun));
@@ -100,7 +105,31 @@ module _ {T : Type 0} where
     long = passing.long ∙ ap (λ (h : Head). h.traces_at) (sym more.head);
     shown = short;
     fits = omega (arith, fits, ap (λ (h : Head). h.trailer) more.head);
+    ended = λ some. absurd (omega (arith, some));
+    kept = λ some. absurd (omega (arith, some));
     trace = λ some file begun. length_kept file p.limits p.store s p.at n more.head more.traces (told some file begun);
+  }
+
+  -- bytes of no trace
+  tail_kept : (file : List ℕ) (reading : Reading) (s t : TraceStore T) (at : ℕ) → t.head ≡ s.head → IsTail reading s.head (left_at file s.head at) → IsTail reading t.head (left_at file t.head at)
+  tail_kept file reading s t at head is = subst (λ (h : Head). IsTail reading h (left_at file h at)) (sym head) is
+
+  pub passed_tail : (p : Inside T) (s : TraceStore T) (w : WindowBytes) (n : ℕ) → IsPassing p → HasMore p.store s → IsNextOf s.loaded.bytes p.at w.bytes → length s.loaded.bytes ≤ p.size → p.at + n + 3200 * p.store.head.trailer ≡ p.size
+      → ((file : List ℕ) → BeginsWith s.loaded.bytes p.size file → IsTail p.reading p.store.head (left_at file p.store.head p.at)) → IsPassing (record p { store = s; window = w; next = 0; tail = n })
+  passed_tail p s w n passing more next within all told = record {
+    extents = passing.extents;
+    walked = λ file begun. walked_on file p.reading p.limits p.store s passing.extents p.at more.head more.traces (passing.walked file (begins_less p.store.loaded.bytes s.loaded.bytes p.size file more.loaded.begins begun));
+    standing = more.loaded.standing ∙ passing.standing;
+    within = within;
+    next = next;
+    room = omega (arith, passing.room, ap (λ (h : Head). h.trailer) more.head);
+    front = front_kept p.front.items p.store.loaded.bytes s.loaded.bytes passing.front more.loaded.begins;
+    long = passing.long ∙ ap (λ (h : Head). h.traces_at) (sym more.head);
+    shown = omega arith;
+    fits = omega (arith, passing.room, ap (λ (h : Head). h.trailer) more.head);
+    ended = λ _. (refl, omega (arith, all, ap (λ (h : Head). h.trailer) more.head));
+    kept = λ _ file begun. tail_kept file p.reading p.store s p.at more.head (told file begun);
+    trace = λ some. absurd (omega (arith, some));
   }
 
   -- ---- a refusal
@@ -109,7 +138,7 @@ module _ {T : Type 0} where
   number_of file s es is = ap length is ∙ length-map es (bytes_at file)
 
   pub trace_fault : (p : Inside T) (s : TraceStore T) (fault : LoadFault) → IsPassing p → HasMore p.store s → length s.loaded.bytes ≤ p.size → p.at + 3200 * p.store.head.trailer < p.size
-      → IsFaultOfPass fault ⊎ IsTraceFault s.loaded.bytes p.size p.store.head p.limits (length (traces_of p.store) + 1) p.at fault → IsPassFault p.size p.reading p.limits s.loaded.bytes fault
+      → IsFaultOfPass fault ⊎ IsTraceFault s.loaded.bytes p.size p.reading p.store.head p.limits (length (traces_of p.store) + 1) p.at fault → IsPassFault p.size p.reading p.limits s.loaded.bytes fault
   trace_fault p s fault passing more within some (inl (inl failed)) = inl failed
   trace_fault p s fault passing more within some (inl (inr memory)) = inr (inl memory)
   trace_fault p s fault passing more within some (inr told) = inr (inr (
@@ -120,7 +149,8 @@ module _ {T : Type 0} where
         refused_from file p.reading p.limits h passing.extents p.at fault w.head (record {
           whole = w.whole;
           some = omega (arith, some, begun.long);
-          refused = ap (λ (i : ℕ). trace_refusal h p.limits (i + 1) (left_at file h p.at)) (sym (number_of file p.store passing.extents w.traces)) ∙ told file begun;
+          unkept = (told file begun).1;
+          refused = ap (λ (i : ℕ). trace_refusal h p.limits (i + 1) (left_at file h p.at)) (sym (number_of file p.store passing.extents w.traces)) ∙ (told file begun).0;
         }),
   ))
 
@@ -179,14 +209,16 @@ module _ {T : Type 0} where
         long = passing.long ∙ ap (λ (h : Head). h.traces_at) (sym head);
         shown = omega arith;
         fits = omega (arith, passing.fits, ap (λ (h : Head). h.trailer) head);
+        ended = λ tail. absurd (omega (arith, some, (passing.ended tail).0));
+        kept = λ tail. absurd (omega (arith, some, (passing.ended tail).0));
         trace = λ none. absurd (omega (arith, none));
       }
 
   -- ---- the start
 
   pub passing_begun : (p : Inside T) (h : Head) (read : List ℕ) → IsHeadOf read p.size p.reading p.limits h → length read ≤ p.size → take (length read) p.store.loaded.bytes ≡ read → p.store.head ≡ h → p.store.loaded.standing ≡ OnDisk true → length p.store.loaded.bytes ≤ p.size
-      → IsNextOf p.store.loaded.bytes h.traces_at p.window.bytes → p.front.items ≡ take h.traces_at p.store.loaded.bytes → traces_of p.store ≡ [] → p.at ≡ h.traces_at → p.next ≡ 0 → IsPassing p
-  passing_begun p h read told within begins head standing inside next front none at zero_next =
+      → IsNextOf p.store.loaded.bytes h.traces_at p.window.bytes → p.front.items ≡ take h.traces_at p.store.loaded.bytes → traces_of p.store ≡ [] → p.at ≡ h.traces_at → p.next ≡ 0 → p.tail ≡ 0 → IsPassing p
+  passing_begun p h read told within begins head standing inside next front none at zero_next zero_tail =
       let room = head_room read p.size p.reading p.limits h within told in
       let trailer : p.store.head.trailer ≡ h.trailer = ap (λ (x : Head). x.trailer) head in
       let place : p.store.head.traces_at ≡ h.traces_at = ap (λ (x : Head). x.traces_at) head in
@@ -206,6 +238,8 @@ module _ {T : Type 0} where
         long = long ∙ sym place;
         shown = omega (arith, zero_next);
         fits = omega (arith, room.0, trailer, at, zero_next);
+        ended = λ some. absurd (omega (arith, some, zero_tail));
+        kept = λ some. absurd (omega (arith, some, zero_tail));
         trace = λ some. absurd (omega (arith, some, zero_next));
       }
 
@@ -239,27 +273,45 @@ module _ {T : Type 0} where
       let first : p.front.items ≡ take (length p.front.items) s.loaded.bytes = front_kept p.front.items p.store.loaded.bytes s.loaded.bytes passing.front settled.begins in
       is ∙ (ap (λ (xs : List ℕ). take n (drop at xs)) same ∙ sym (slice_grown p.front.items s.loaded.bytes at n (sym first) (omega (arith, inside, headers_there p passing))))
 
-  module _ (p : Inside T) (s : TraceStore T) (passing : IsPassing p) (settled : IsSettled p s) (end : p.at + 3200 * p.store.head.trailer ≡ p.size) where
+  module _ (p : Inside T) (s : TraceStore T) (passing : IsPassing p) (settled : IsSettled p s) (end : p.at + p.tail + 3200 * p.store.head.trailer ≡ p.size) where
+    begun : BeginsWith p.store.loaded.bytes p.size s.loaded.bytes
+    begun = record { begins = settled.begins; long = settled.all }
+
     walked_whole : IsWalked s.loaded.bytes p.reading p.limits s passing.extents p.at
-    walked_whole = walked_on s.loaded.bytes p.reading p.limits p.store s passing.extents p.at settled.head settled.traces (passing.walked s.loaded.bytes (record { begins = settled.begins; long = settled.all }))
+    walked_whole = walked_on s.loaded.bytes p.reading p.limits p.store s passing.extents p.at settled.head settled.traces (passing.walked s.loaded.bytes begun)
 
-    whole_to_end : AreWhole s.loaded.bytes s.head p.limits passing.extents (traces_end s.loaded.bytes s.head)
-    whole_to_end =
-        let last : p.at ≡ traces_end s.loaded.bytes s.head = omega (arith, end, settled.all, ap (λ (h : Head). h.trailer) settled.head) in
-        subst (AreWhole s.loaded.bytes s.head p.limits passing.extents) last walked_whole.whole
+    records_at : p.tail ≡ traces_end s.loaded.bytes s.head - p.at
+    records_at = omega (arith, end, settled.all, ap (λ (h : Head). h.trailer) settled.head)
 
-    pub laid_whole : AreTracesOf s.loaded.bytes s.head passing.extents
-    laid_whole = laid_from s.loaded.bytes p.reading p.limits s.head passing.extents walked_whole.head whole_to_end
+    inside_end : p.at ≤ traces_end s.loaded.bytes s.head
+    inside_end = omega (arith, end, settled.all, ap (λ (h : Head). h.trailer) settled.head)
+
+    whole_to_end : EndsAt s.loaded.bytes p.reading s.head p.limits passing.extents p.at
+    whole_to_end = elim (some_or_none p.tail) [
+      | inl none ↦ ends_there s.loaded.bytes p.reading p.limits s.head passing.extents p.at walked_whole.whole (omega (arith, none, records_at, inside_end))
+      | inr some ↦ record {
+        whole = walked_whole.whole;
+        inside = inside_end;
+        tail = tail_kept s.loaded.bytes p.reading p.store s p.at settled.head (passing.kept some s.loaded.bytes begun);
+      }
+    ]
+
+    pub laid_whole : AreTracesOf s.loaded.bytes s.head passing.extents p.tail
+    laid_whole = laid_from s.loaded.bytes p.reading p.limits s.head passing.extents p.tail p.at walked_whole.head whole_to_end records_at
 
     -- its parts are those of the file
-    volume_whole : (text bin : List ℕ) → text ≡ take 3200 s.loaded.bytes → bin ≡ take 400 (drop 3200 s.loaded.bytes) → volume_with text bin s ≡ volume_at s.loaded.bytes s.head passing.extents
+    volume_whole : (text bin : List ℕ) → text ≡ take 3200 s.loaded.bytes → bin ≡ take 400 (drop 3200 s.loaded.bytes) → volume_with text bin p.tail s ≡ volume_at s.loaded.bytes s.head passing.extents p.tail
     volume_whole text bin front behind = rw (front, behind, walked_whole.traces) refl
 
-    pub joined_whole : (text bin : List ℕ) → text ≡ take 3200 s.loaded.bytes → bin ≡ take 400 (drop 3200 s.loaded.bytes) → bytes_of (volume_with text bin s) ≡ s.loaded.bytes
-    joined_whole text bin front behind = ap (λ (v : Volume). bytes_of v) (volume_whole text bin front behind) ∙ joined-laid s.loaded.bytes s.head passing.extents laid_whole
+    pub joined_whole : (text bin : List ℕ) → text ≡ take 3200 s.loaded.bytes → bin ≡ take 400 (drop 3200 s.loaded.bytes) → bytes_of (volume_with text bin p.tail s) ≡ s.loaded.bytes
+    joined_whole text bin front behind = ap (λ (v : Volume). bytes_of v) (volume_whole text bin front behind) ∙ joined-laid s.loaded.bytes s.head passing.extents p.tail laid_whole
 
-    pub cut_whole : (text bin : List ℕ) → text ≡ take 3200 s.loaded.bytes → bin ≡ take 400 (drop 3200 s.loaded.bytes) → IsCut (bytes_of (volume_with text bin s)) p.reading p.limits (volume_with text bin s)
+    pub cut_whole : (text bin : List ℕ) → text ≡ take 3200 s.loaded.bytes → bin ≡ take 400 (drop 3200 s.loaded.bytes) → IsCut (bytes_of (volume_with text bin p.tail s)) p.reading p.limits (volume_with text bin p.tail s)
     cut_whole text bin front behind =
-        let cut : IsCut s.loaded.bytes p.reading p.limits (volume_at s.loaded.bytes s.head passing.extents) = cut_from s.loaded.bytes p.reading p.limits s.head passing.extents walked_whole.head whole_to_end in
-        subst (λ (file : List ℕ). IsCut file p.reading p.limits (volume_with text bin s)) (sym (joined_whole text bin front behind))
+        let cut : IsCut s.loaded.bytes p.reading p.limits (volume_at s.loaded.bytes s.head passing.extents p.tail) = cut_from s.loaded.bytes p.reading p.limits s.head passing.extents p.tail p.at walked_whole.head whole_to_end records_at in
+        subst (λ (file : List ℕ). IsCut file p.reading p.limits (volume_with text bin p.tail s)) (sym (joined_whole text bin front behind))
         (subst (λ (v : Volume). IsCut s.loaded.bytes p.reading p.limits v) (sym (volume_whole text bin front behind)) cut)
+
+    -- how many bytes of no trace it has
+    pub tail_whole : length (tail_at s.loaded.bytes s.head p.tail) ≡ p.tail
+    tail_whole = omega (arith, end, settled.all, ap (λ (h : Head). h.trailer) settled.head, length-take p.tail (drop (length s.loaded.bytes - 3200 * s.head.trailer - p.tail) s.loaded.bytes), length-drop (length s.loaded.bytes - 3200 * s.head.trailer - p.tail) s.loaded.bytes)

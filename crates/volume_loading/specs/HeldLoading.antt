@@ -12,7 +12,7 @@ use Rattle.volume_loading.specs.declared.loading.Loading.TheInside.{Inside}
 -- what is shown: the parts of the file
 abbrev pub loaded_of : {T : Type 0} → Inside T → LoadedVolume T
 loaded_of l = record {
-  volume = volume_at l.store.loaded.bytes l.store.head l.extents.items;
+  volume = volume_at l.store.loaded.bytes l.store.head l.extents.items l.tail;
   payloads = payloads_of l.store;
   looks = l.looks;
   loaded = loaded_in l.store.loaded;
@@ -25,8 +25,8 @@ pub record IsLoading {T : Type 0} (l : Inside T) : Type 0 where
   pub in_memory : IsInMemory l.store.loaded.standing
   pub front : l.store.loaded.front ≡ length l.store.loaded.bytes
   pub back : l.store.loaded.back ≡ length l.store.loaded.bytes
-  pub joined : bytes_of (volume_at l.store.loaded.bytes l.store.head l.extents.items) ≡ l.store.loaded.bytes
-  pub laid : AreTracesOf l.store.loaded.bytes l.store.head l.extents.items
+  pub joined : bytes_of (volume_at l.store.loaded.bytes l.store.head l.extents.items l.tail) ≡ l.store.loaded.bytes
+  pub laid : AreTracesOf l.store.loaded.bytes l.store.head l.extents.items l.tail
   pub inside : All (λ e. e.start + e.length ≤ length l.store.loaded.bytes) l.extents.items
   pub whole : All (λ e. IsTrace l.store.head (bytes_at l.store.loaded.bytes e)) l.extents.items
   pub few : length l.extents.items < 2 ^ 32

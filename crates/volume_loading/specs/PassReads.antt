@@ -1,10 +1,10 @@
 -- What the bytes that were read of a file of so many bytes tell of each file which begins with them.
-use Rattle.std.specs.Prelude.{ℕ, ◌≡◌, List, Some, None, Ok, Err}
+use Rattle.std.specs.Prelude.{ℕ, ◌≡◌, ◌&&◌, IsFalse, List, Some, None, Ok, Err}
 use Rattle.frame_cut.specs.declared.file_head.Head.{Head}
 use Rattle.frame_cut.specs.declared.limits.Limits.{Limits}
 use Rattle.frame_cut.specs.declared.reading.Reading.{Reading}
 use Rattle.frame_cut.specs.declared.load_fault.LoadFault.{LoadFault}
-use Rattle.frame_cut.specs.Cuts.{trace_refusal}
+use Rattle.frame_cut.specs.Cuts.{is_torn, trace_refusal}
 use Rattle.frame_cut.specs.Frames.{trace_length}
 use Rattle.frame_cut.specs.Fronts.{BeginsWith}
 use Rattle.frame_cut.specs.Heads.{head_of}
@@ -18,9 +18,10 @@ IsHeadOf read size reading limits h = (file : List ℕ) → BeginsWith read size
 abbrev pub IsHeadFault : List ℕ → ℕ → Reading → Limits → LoadFault → Type 0
 IsHeadFault read size reading limits fault = (file : List ℕ) → BeginsWith read size file → head_of file reading limits ≡ Err fault
 
--- why trace p, which begins at this place, is refused
-abbrev pub IsTraceFault : List ℕ → ℕ → Head → Limits → ℕ → ℕ → LoadFault → Type 0
-IsTraceFault read size h limits p at fault = (file : List ℕ) → BeginsWith read size file → trace_refusal h limits p (left_at file h at) ≡ Some fault
+-- why trace p, which begins at this place, is refused, where the reading does not keep it as a tail
+abbrev pub IsTraceFault : List ℕ → ℕ → Reading → Head → Limits → ℕ → ℕ → LoadFault → Type 0
+IsTraceFault read size reading h limits p at fault = (file : List ℕ) → BeginsWith read size file →
+    (trace_refusal h limits p (left_at file h at) ≡ Some fault) × IsFalse (reading.tail && is_torn h (left_at file h at))
 
 -- trace p of this file, which begins at this place, is not refused, and has this length
 pub record HasLengthAt (file : List ℕ) (h : Head) (limits : Limits) (p at n : ℕ) : Type 0 where

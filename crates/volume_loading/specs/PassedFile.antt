@@ -12,8 +12,8 @@ use Rattle.frame_cut.specs.Volume.{bytes_of}
 use Rattle.edit_overlay.specs.CountedVolume.{CountedVolume}
 
 -- what is shown of it: its head, how it is read and within which limits, how many bytes it has, those that were read so far,
--- where the next trace begins, the traces so far with their payloads, the trace that is shown, no bytes where none is, and how
--- often one was
+-- where the next trace begins, the traces so far with their payloads, the trace that is shown, no bytes where none is, how
+-- many bytes of no trace stand there, once that is known, and how often a trace was shown
 pub record PassedFile (T : Type 0) : Type 0 where
   pub head : Head
   pub reading : Reading
@@ -24,12 +24,13 @@ pub record PassedFile (T : Type 0) : Type 0 where
   pub traces : List (List ℕ)
   pub payloads : List T
   pub shown : List ℕ
+  pub tail : ℕ
   pub looks : ℕ
 
 module _ {T : Type 0} where
-  -- the same where these bytes were read and this trace is shown, after so many looks
-  abbrev pub with_shown : PassedFile T → List ℕ → List ℕ → ℕ → PassedFile T
-  with_shown p read shown looks = record p { read = read; shown = shown; looks = looks }
+  -- the same where these bytes were read and this trace is shown, or so many bytes of no trace stand there, after so many looks
+  abbrev pub with_shown : PassedFile T → List ℕ → List ℕ → ℕ → ℕ → PassedFile T
+  with_shown p read shown tail looks = record p { read = read; shown = shown; tail = tail; looks = looks }
 
   -- the same with the trace that is shown behind the others, with this payload
   abbrev pub with_passed : PassedFile T → T → PassedFile T
@@ -44,9 +45,9 @@ module _ {T : Type 0} where
   abbrev pub HasShownInside : PassedFile T → Type 0
   HasShownInside p = (0 < length p.shown) × (p.at + length p.shown ≤ p.size)
 
-  -- behind the last trace: nothing is left but the data trailer records
+  -- behind the last trace: nothing is left but bytes of no trace and the data trailer records
   abbrev pub HasAllTraces : PassedFile T → Type 0
-  HasAllTraces p = p.at + TEXT_BLOCK_BYTES * p.head.trailer ≡ p.size
+  HasAllTraces p = p.at + p.tail + TEXT_BLOCK_BYTES * p.head.trailer ≡ p.size
 
 -- more was read behind these bytes, or nothing
 abbrev pub HasReadOn : List ℕ → List ℕ → Type 0
@@ -60,6 +61,7 @@ pub record IsBegun {T : Type 0} (n : ℕ) (how : Reading) (within : Limits) (p :
   pub traces : p.traces ≡ []
   pub payloads : p.payloads ≡ []
   pub shown : p.shown ≡ []
+  pub tail : p.tail ≡ 0
   pub looks : p.looks ≡ 0
 
 -- the overlay has the traces and payloads of the file that was passed: it is made of all bytes that were read, which are on
@@ -67,6 +69,7 @@ pub record IsBegun {T : Type 0} (n : ℕ) (how : Reading) (within : Limits) (p :
 pub record IsPassed {T : Type 0} (p : PassedFile T) (o : CountedVolume T) : Type 0 where
   pub head : o.volume.head ≡ p.head
   pub traces : o.volume.traces ≡ p.traces
+  pub tail : length o.volume.tail ≡ p.tail
   pub prepared : o.prepared ≡ o.volume
   pub payloads : o.payloads ≡ p.payloads
   pub payloads_prepared : o.payloads_prepared ≡ p.payloads

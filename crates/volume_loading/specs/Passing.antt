@@ -9,7 +9,8 @@ use Rattle.frame_cut.specs.declared.reading.Reading.{Reading}
 use Rattle.frame_cut.specs.Fronts.{BeginsWith}
 use Rattle.frame_cut.specs.Heads.{head_of}
 use Rattle.frame_cut.specs.Layout.{pieces}
-use Rattle.frame_cut.specs.Walk.{AreWhole}
+use Rattle.frame_cut.specs.Cuts.{IsTail}
+use Rattle.frame_cut.specs.Walk.{left_at, AreWhole}
 use Rattle.trace_store.specs.declared.store.TraceStore.{TraceStore}
 use Rattle.trace_store.specs.Stores.{payloads_of, traces_of}
 use Rattle.trace_store.specs.Windows.{IsNextOf}
@@ -29,6 +30,7 @@ passed_of p = record {
   traces = traces_of p.store;
   payloads = payloads_of p.store;
   shown = take p.next p.window.bytes;
+  tail = p.tail;
   looks = p.looks;
 }
 
@@ -50,5 +52,8 @@ pub record IsPassing {T : Type 0} (p : Inside T) : Type 0 where
   pub long : length p.front.items ≡ p.store.head.traces_at
   pub shown : p.next ≤ length p.window.bytes
   pub fits : p.at + p.next + TEXT_BLOCK_BYTES * p.store.head.trailer ≤ p.size
+  -- where bytes of no trace stand behind the last one, nothing is shown, and they are less than a trace, which the reading keeps
+  pub ended : 0 < p.tail → (p.next ≡ 0) × (p.at + p.tail + TEXT_BLOCK_BYTES * p.store.head.trailer ≡ p.size)
+  pub kept : 0 < p.tail → (file : List ℕ) → BeginsWith p.store.loaded.bytes p.size file → IsTail p.reading p.store.head (left_at file p.store.head p.at)
   pub trace : 0 < p.next → (file : List ℕ) → BeginsWith p.store.loaded.bytes p.size file
       → HasLengthAt file p.store.head p.limits (length (traces_of p.store) + 1) p.at p.next

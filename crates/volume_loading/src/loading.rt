@@ -27,6 +27,7 @@ use trace_view::TraceView;
 pub struct Loading<T: Copy> {
     store: TraceStore<T>,
     extents: Vec<Extent>,
+    tail: u64,
     looks: u64,
 }
 
@@ -98,6 +99,7 @@ impl<T: Copy> Loading<T> {
         // Read for the proof alone, which learns that the traces can be counted in 32 bits.
         let _most = limits.traces();
         let head = cut.head();
+        let tail = cut.tail();
         let extents = cut.into_extents();
         let Ok(store) = TraceStore::new(alloc, bytes, head, extents.len()) else {
             return Err(LoadFault::OutOfMemory);
@@ -105,6 +107,7 @@ impl<T: Copy> Loading<T> {
         Ok(Loading {
             store,
             extents,
+            tail,
             looks: 0,
         })
     }
@@ -173,6 +176,6 @@ impl<T: Copy> Loading<T> {
         let bytes = self.store.loaded.bytes();
         let text = *array_at::<TEXT_BLOCK_BYTES>(bytes, 0);
         let bin = *array_at::<BINARY_HEADER_BYTES>(bytes, TEXT_BLOCK_BYTES);
-        Overlay::new(text, bin, self.store, self.looks)
+        Overlay::new(text, bin, self.tail, self.store, self.looks)
     }
 }

@@ -1,8 +1,8 @@
 // The reads of a pass over a file: what stands in front of its traces, each trace, and what stands
 // behind them.
-ghost use Rattle.std.specs.Prelude.{ℕ, ◌≡◌, ◌⊎◌, ◌+◌, ◌*◌, ◌<◌, ◌≤◌, List, length, take, drop, Some, Ok, Err, IfErr, IfOk, OnOk};
+ghost use Rattle.std.specs.Prelude.{ℕ, ◌≡◌, ◌⊎◌, ◌+◌, ◌*◌, ◌<◌, ◌≤◌, List, length, take, drop, None, Some, Ok, Err, IfErr, IfOk, IfSome, OnOk};
 ghost use Rattle.base_file.specs.HeldBytes.{HasGrown};
-ghost use Rattle.frame_cut.specs.Cuts.{trace_refusal};
+ghost use Rattle.frame_cut.specs.Cuts.{IsTail, trace_refusal};
 ghost use Rattle.frame_cut.specs.Fronts.{BeginsWith};
 ghost use Rattle.frame_cut.specs.Heads.{head_of};
 ghost use Rattle.frame_cut.specs.Walk.{left_at};
@@ -12,7 +12,9 @@ ghost use Rattle.trace_store.specs.Windows.{IsFaultOfPass, IsNextOf};
 ghost use Rattle.volume_loading.specs.PassReads.{HasLengthAt, IsHeadOf, IsHeadFault, IsTraceFault};
 
 use base_file::Held;
-use frame_cut::{Head, Limits, LoadFault, Reading, front_length, head_of_front, length_of_next};
+use frame_cut::{
+    Head, Limits, LoadFault, Reading, front_length, head_of_front, keeps, length_of_next,
+};
 use std::alloc::Global;
 use text_block::TEXT_BLOCK_BYTES;
 use trace_store::{TraceStore, Window};
@@ -77,27 +79,33 @@ pub fn read_front(
 }
 
 // Reads the trace that begins at a place, in front of the data trailer records: how long it is.
-// Takes memory. Refused as `Window::hold`, and for the first reason that the bytes give.
+// None where what is left there is less than a trace, and the reading keeps it. Takes memory.
+// Refused as `Window::hold`, and for the first reason that the bytes give.
 pub fn next_whole<T: Copy>(
     store: &mut TraceStore<T>,
     window: &mut Window,
+    reading: Reading,
     limits: Limits,
     size: u64,
     at: u64,
-) -> Result<u64, LoadFault>
+) -> Result<Option<u64>, LoadFault>
     requires next { IsNextOf store.old.loaded.bytes at window.old.bytes }
     requires within { length store.old.loaded.bytes ≤ size }
     requires some { at + TEXT_BLOCK_BYTES * store.old.head.trailer < size }
     ensures grown { HasMore store.old store.new }
     ensures next { IsNextOf store.new.loaded.bytes at window.new.bytes }
     ensures within { length store.new.loaded.bytes ≤ size }
-    ensures there { IfOk result (λ n. n ≤ length window.new.bytes) }
-    ensures fits { IfOk result (λ n. at + n + TEXT_BLOCK_BYTES * store.old.head.trailer ≤ size) }
-    ensures whole { IfOk result (λ n. (file : List ℕ) →
+    ensures there { IfOk result (λ next. IfSome next (λ n. n ≤ length window.new.bytes)) }
+    ensures fits { IfOk result (λ next. IfSome next
+        (λ n. at + n + TEXT_BLOCK_BYTES * store.old.head.trailer ≤ size)) }
+    ensures whole { IfOk result (λ next. IfSome next (λ n. (file : List ℕ) →
         BeginsWith store.new.loaded.bytes size file → HasLengthAt file store.old.head limits
-        (length (traces_of store.old) + 1) at n) }
+        (length (traces_of store.old) + 1) at n)) }
+    ensures kept { IfOk result (λ next. next ≡ None → (file : List ℕ) →
+        BeginsWith store.new.loaded.bytes size file →
+        IsTail reading store.old.head (left_at file store.old.head at)) }
     ensures refused { IfErr result (λ fault. IsFaultOfPass fault ⊎
-        IsTraceFault store.new.loaded.bytes size store.old.head limits
+        IsTraceFault store.new.loaded.bytes size reading store.old.head limits
         (length (traces_of store.old) + 1) at fault) }
 {
     let left = size - at - TEXT_BLOCK_BYTES as u64 * u64::from(store.head.trailer);
@@ -106,10 +114,36 @@ pub fn next_whole<T: Copy>(
     store.hold(window, front, size)?;
     let length = match length_of_next(&store.head, limits, p, window.front(front), left) {
         Ok(length) => length,
+        Err(fault) if keeps(reading, fault) => return Ok(None),
         Err(fault) => return Err(fault),
     };
     store.hold(window, length as usize, size)?;
-    Ok(length)
+    Ok(Some(length))
+}
+
+// Reads n bytes on and takes them, a block at a time. Takes memory for a block at most. Refused as
+// `Window::hold`.
+pub fn skip_bytes<T: Copy>(
+    store: &mut TraceStore<T>,
+    window: &mut Window,
+    size: u64,
+    n: u64,
+) -> Result<(), LoadFault>
+    requires within { length store.old.loaded.bytes ≤ size }
+    ensures grown { HasMore store.old store.new }
+    ensures next { OnOk result ((at : ℕ) → IsNextOf store.old.loaded.bytes at window.old.bytes →
+        IsNextOf store.new.loaded.bytes (at + n) window.new.bytes) }
+    ensures within { length store.new.loaded.bytes ≤ size }
+    ensures fault { IfErr result IsFaultOfPass }
+{
+    let mut left = n;
+    'blocks: while left > 0 {
+        let block = left.min(LEAST);
+        store.hold(window, block as usize, size)?;
+        window.skip(block as usize);
+        left -= block;
+    }
+    Ok(())
 }
 
 // Reads the bytes behind the traces, up to the end of the file. Takes memory. Refused as

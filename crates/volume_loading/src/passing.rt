@@ -7,7 +7,7 @@ ghost use Rattle.trace_view.specs.Shown.{head_of, bytes_of as shown_bytes};
 ghost use Rattle.edit_overlay.specs.CountedVolume.{one_more};
 ghost use Rattle.volume_loading.specs.PassedFile.{with_passed, with_shown, HasAllTraces, HasShownInside, HasReadOn, IsBegun, IsPassed, IsPassFault};
 
-use crate::pass_reads::{last_bytes, next_whole, read_front, read_head};
+use crate::pass_reads::{last_bytes, next_whole, read_front, read_head, skip_bytes};
 use base_file::Held;
 use edit_overlay::{Overlay, PassFault, array_at};
 use frame_cut::{BINARY_HEADER_BYTES, Extent, Head, Limits, LoadFault, Reading};
@@ -34,9 +34,11 @@ pub struct Passing<T: Copy> {
     limits: Limits,
     size: u64,
 
-    // Where the next trace begins, and how long it is where it is shown, else 0.
+    // Where the next trace begins, and how long it is where it is shown, else 0; how many bytes of
+    // no trace stand there instead, once that is known.
     at: u64,
     next: u64,
+    tail: u64,
     looks: u64,
 }
 
@@ -86,6 +88,7 @@ impl<T: Copy> Passing<T> {
             size,
             at: head.traces_at,
             next: 0,
+            tail: 0,
             looks: 0,
         })
     }
@@ -97,12 +100,13 @@ impl<T: Copy> Passing<T> {
         self.store.head
     }
 
-    /// Reads the next trace, which is shown then, and counts one look more; false behind the last
-    /// one, and then no look. Takes memory where the trace is longer than those before. Refused:
-    /// L01 where a read failed or the file ends in it, L13 to L15 for the first reason that the
-    /// bytes give, L16 where no memory was. Then none is shown.
+    /// Reads the next trace, which is shown then, and counts one look; false behind the last one,
+    /// or where the reading keeps what is less than a trace, and then no look. Takes memory for a
+    /// longer trace than before. Refused: L01 where a read failed or the file ends in it, L13 to
+    /// L15 for the first reason that the bytes give, L16 where no memory was; none is shown then.
     pub fn next_trace(&mut self) -> Result<bool, LoadFault>
-        ensures same { self.new ≡ with_shown self.old self.new.read self.new.shown self.new.looks }
+        ensures same { self.new ≡ with_shown self.old self.new.read self.new.shown self.new.tail
+            self.new.looks }
         ensures on { HasReadOn self.old.read self.new.read }
         ensures trace { IfOk result (λ more. IsTrue more → IsTrace self.new.head self.new.shown) }
         ensures inside { IfOk result (λ more. IsTrue more → HasShownInside self.new) }
@@ -115,20 +119,30 @@ impl<T: Copy> Passing<T> {
         ensures failed { OnErr result (self.new.looks ≡ self.old.looks) }
     {
         self.next = 0;
-        let left = self.size - self.at;
-        if left == TEXT_BLOCK_BYTES as u64 * u64::from(self.store.head.trailer) {
+        self.tail = 0;
+        let records = TEXT_BLOCK_BYTES as u64 * u64::from(self.store.head.trailer);
+        let left = self.size - self.at - records;
+        if left == 0 {
             return Ok(false);
         }
         let read = next_whole(
             &mut self.store,
             &mut self.window,
+            self.reading,
             self.limits,
             self.size,
             self.at,
         );
-        match read {
-            Ok(length) => self.next = length,
+        let next = match read {
+            Ok(next) => next,
             Err(fault) => return Err(fault),
+        };
+        match next {
+            Some(length) => self.next = length,
+            None => {
+                self.tail = left;
+                return Ok(false);
+            }
         }
         self.looks = self.looks.saturating_add(1);
         Ok(true)
@@ -176,9 +190,9 @@ impl<T: Copy> Passing<T> {
         PassFault::of(fault, self.store.loaded)
     }
 
-    /// The overlay of the file, once each trace has its payload: the data trailer records are read,
-    /// and that the file ends behind them. Takes memory. Refused with L01 where a read failed, or
-    /// the file has fewer bytes or more, and with L16 where no memory was.
+    /// The overlay of the file, once each trace has its payload: the tail and the data trailer
+    /// records are read, and that the file ends there. Takes memory for the records. Refused with
+    /// L01 where a read failed, or the file has fewer bytes or more, with L16 where no memory was.
     pub fn finish(self, alloc: Global) -> Result<Overlay<T>, PassFault>
         requires { HasAllTraces self }
         ensures cut { IfOk result
@@ -190,13 +204,18 @@ impl<T: Copy> Passing<T> {
     {
         let mut store = self.store;
         let mut window = self.window;
-        let back = match last_bytes(alloc, &mut store, &mut window, self.size, self.at) {
+        let records = self.at + self.tail;
+        match skip_bytes(&mut store, &mut window, self.size, self.tail) {
+            Ok(()) => {}
+            Err(fault) => return Err(PassFault::of(fault, store.loaded)),
+        }
+        let back = match last_bytes(alloc, &mut store, &mut window, self.size, records) {
             Ok(back) => back,
             Err(fault) => return Err(PassFault::of(fault, store.loaded)),
         };
         let text = *array_at::<TEXT_BLOCK_BYTES>(self.front.as_slice(), 0);
         let bin = *array_at::<BINARY_HEADER_BYTES>(self.front.as_slice(), TEXT_BLOCK_BYTES);
         let store = store.settle(window.into_room(), self.front, back);
-        Ok(Overlay::new(text, bin, store, self.looks))
+        Ok(Overlay::new(text, bin, self.tail, store, self.looks))
     }
 }

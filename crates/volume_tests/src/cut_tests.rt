@@ -24,6 +24,7 @@ const FIXED: Reading = Reading {
     samples: None,
     format: None,
     texts: None,
+    tail: false,
 };
 
 // Samples may be bytes without a value.
@@ -35,6 +36,7 @@ const OPAQUE: Reading = Reading {
     samples: None,
     format: None,
     texts: None,
+    tail: false,
 };
 
 // Limits that no file here meets.

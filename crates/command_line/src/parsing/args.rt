@@ -1,7 +1,7 @@
 // The arguments of the command line, one by one.
 ghost use Rattle.std.specs.Prelude.{◌≡◌, false};
 ghost use Rattle.clap.specs.Words.{rule_of};
-ghost use Rattle.command_line.specs.CommandLine.{file_rule, script_rule, out_rule, in_place_rule, on_disk_rule, fixed_rule, samples_rule, format_rule, texts_rule, floats_rule, opaque_rule, order_rule, limit_rule, stop_rule, session_rule, save_at_end_rule, quiet_rule, recover_rule, look_rule};
+ghost use Rattle.command_line.specs.CommandLine.{file_rule, script_rule, out_rule, in_place_rule, on_disk_rule, fixed_rule, samples_rule, format_rule, texts_rule, tail_rule, floats_rule, opaque_rule, order_rule, limit_rule, stop_rule, session_rule, save_at_end_rule, quiet_rule, recover_rule, look_rule};
 
 use clap::builder::ValueParser;
 use clap::{Arg, ArgAction};
@@ -108,6 +108,17 @@ pub fn texts<'a>(alloc: Global) -> Arg<'a>
         .value_parser(ValueParser::unsigned(0, 32767))
         .value_name("N")
         .help("read N extended textual headers, whatever bytes 3505-3506 say")
+}
+
+// `--tail`: what is less than a trace, behind the last one, is kept as bytes of no trace.
+pub fn tail<'a>(alloc: Global) -> Arg<'a>
+    ensures rule { rule_of result ≡ tail_rule }
+    ensures local { result.global ≡ false }
+{
+    Arg::new(alloc, "tail")
+        .long("tail")
+        .action(ArgAction::SetTrue)
+        .help("keep what stands behind the last whole trace as bytes of no trace")
 }
 
 // `--floats`: the samples of formats of floats have their values.

@@ -23,6 +23,8 @@ pub struct Arguments<'a> {
     pub format: Option<u16>,
     /// The number of extended textual headers, whatever the binary header says; 0 to 32767.
     pub texts: Option<i16>,
+    /// Whether what is less than a trace, behind the last one, is kept as bytes of no trace.
+    pub tail: bool,
     /// Whether samples that are floats have their values.
     pub floats: bool,
     /// Whether formats whose samples have no value here are read too.

@@ -22,7 +22,7 @@ def words() -> Dict[str, Any]:
     """All that the page asks for.
 
     >>> [one["usage"] for one in words()["commands"] if one["word"] == "set"]
-    ['set P FIELD NUMBER']
+    ['set P [Q] FIELD NUMBER']
     """
     return {
         "commands": [{"word": usage.split()[0], "usage": usage, "told": told} for usage, told in rows("command")],

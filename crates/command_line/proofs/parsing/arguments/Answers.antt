@@ -37,6 +37,12 @@ returns-in-Some-read_matches-clause-fixed c =
     let same = sym (ap (first_of (codes "fixed")) (sym rows) ∙ first_of-rows_of (found_of c.in_ok-matches.matches) (codes "fixed")) in
     c.in-Some-read_matches.ensures.fixed ∙ ap is_set same
 
+pub returns-in-Some-read_matches-clause-tail : goal.returns-in-Some-read_matches-clause-tail
+returns-in-Some-read_matches-clause-tail c =
+    let rows = rows_are _ _ c.in_ok-matches.matches c.in_ok-command.ensures c.in_ok-matches.ensures.ok.2 in
+    let same = sym (ap (first_of (codes "tail")) (sym rows) ∙ first_of-rows_of (found_of c.in_ok-matches.matches) (codes "tail")) in
+    c.in-Some-read_matches.ensures.tail ∙ ap is_set same
+
 pub returns-in-Some-read_matches-clause-floats : goal.returns-in-Some-read_matches-clause-floats
 returns-in-Some-read_matches-clause-floats c =
     let rows = rows_are _ _ c.in_ok-matches.matches c.in_ok-command.ensures c.in_ok-matches.ensures.ok.2 in

@@ -21,7 +21,7 @@ returns-in_err-write_part-clause-saved g c =
     let text : List ℕ = c.args.text.now in
     let bin : List ℕ = c.args.bin.now in
     let p = err_from_is_err_and c.from_residual.result c.from_residual.ensures.1 in
-    λ _. refused_save c.from_residual.result c.in_err-write_part.field-0.0 _ _ _ begin [] text (bytes_of (volume_with text bin s)) (rw p.2 at p.1) (front_text text bin s c.requires.ends) (nothing _ _) c.in_err-write_part.ensures.saved
+    λ _. refused_save c.from_residual.result c.in_err-write_part.field-0.0 _ _ _ begin [] text (bytes_of (volume_with text bin c.args.tail s)) (rw p.2 at p.1) (front_text text bin c.args.tail s c.requires.ends) (nothing _ _) c.in_err-write_part.ensures.saved
 
 pub returns-in_err-write_part-clause-read : goal.returns-in_err-write_part-clause-read
 returns-in_err-write_part-clause-read g c =
@@ -41,7 +41,7 @@ returns-in_err-write_part-2-clause-saved g c =
     let w_1 : Option (List ℕ) = g.W.Write.contents c.write_part.new.writer.inner in
     let come : Comes w_0 w_1 begin (record { written = c.write_part.new.written; waits = [] }) text = c.in_ok-write_part.ensures.saved in
     let p = err_from_is_err_and c.from_residual-in_err-write_part-2.result c.from_residual-in_err-write_part-2.ensures.1 in
-    λ _. refused_save c.from_residual-in_err-write_part-2.result c.in_err-write_part-2.field-0.0 w_0 w_1 _ _ text bin (bytes_of (volume_with text bin s)) (rw p.2 at p.1) (front_headers text bin s c.requires.ends) come c.in_err-write_part-2.ensures.saved
+    λ _. refused_save c.from_residual-in_err-write_part-2.result c.in_err-write_part-2.field-0.0 w_0 w_1 _ _ text bin (bytes_of (volume_with text bin c.args.tail s)) (rw p.2 at p.1) (front_headers text bin c.args.tail s c.requires.ends) come c.in_err-write_part-2.ensures.saved
 
 pub returns-in_err-write_part-2-clause-read : goal.returns-in_err-write_part-2-clause-read
 returns-in_err-write_part-2-clause-read g c =
@@ -51,7 +51,7 @@ returns-in_err-write_part-2-clause-read g c =
 
 pub write_traces-requires-clause-small : goal.write_traces-requires-clause-small
 write_traces-requires-clause-small g c =
-    omega (arith, c.requires.small, c.requires.ends.front, parts-length c.args.text.now c.args.bin.now c.args.store.now c.requires.ends, c.in_ok-write_part.ensures.count, c.in_ok-write_part-2.ensures.count)
+    omega (arith, c.requires.small, c.requires.ends.front, parts-length c.args.text.now c.args.bin.now c.args.tail c.args.store.now c.requires.ends, c.in_ok-write_part.ensures.count, c.in_ok-write_part-2.ensures.count)
 
 pub returns-in_err-write_traces-clause-saved : goal.returns-in_err-write_traces-clause-saved
 returns-in_err-write_traces-clause-saved g c =
@@ -66,7 +66,7 @@ returns-in_err-write_traces-clause-saved g c =
     let blocks : List ℕ = slice_range file 3600 s.head.traces_at in
     let come : Comes w_0 w_2 begin (progress file ready) ((text ++ bin) ++ blocks) = headers_come w_0 w_1 w_2 text bin file c.write_part.new.written ready c.in_ok-write_part.ensures.saved c.in_ok-write_part-2.ensures.saved in
     let p = err_from_is_err_and c.from_residual-in_err-write_traces.result c.from_residual-in_err-write_traces.ensures.1 in
-    λ sure. refused_save c.from_residual-in_err-write_traces.result c.in_err-write_traces.field-0.0 w_0 w_2 _ (progress file ready) ((text ++ bin) ++ blocks) (concat (traces_of s)) (bytes_of (volume_with text bin s)) (rw p.2 at p.1) (front_traces text bin s c.requires.ends) come (c.in_err-write_traces.ensures.saved sure)
+    λ sure. refused_save c.from_residual-in_err-write_traces.result c.in_err-write_traces.field-0.0 w_0 w_2 _ (progress file ready) ((text ++ bin) ++ blocks) (concat (traces_of s)) (bytes_of (volume_with text bin c.args.tail s)) (rw p.2 at p.1) (front_traces text bin c.args.tail s c.requires.ends) come (c.in_err-write_traces.ensures.saved sure)
 
 pub returns-in_err-write_traces-clause-read : goal.returns-in_err-write_traces-clause-read
 returns-in_err-write_traces-clause-read g c =
@@ -82,7 +82,7 @@ write_range-requires-clause-range_inside g c = omega (arith, c.length-end.ensure
 
 pub write_range-requires-clause-small : goal.write_range-requires-clause-small
 write_range-requires-clause-small g c =
-    omega (arith, c.requires.small, c.requires.ends.front, parts-length c.args.text.now c.args.bin.now c.args.store.now c.requires.ends, c.in_ok-write_part.ensures.count, c.in_ok-write_part-2.ensures.count, c.in_ok-write_traces.ensures.count)
+    omega (arith, c.requires.small, c.requires.ends.front, parts-length c.args.text.now c.args.bin.now c.args.tail c.args.store.now c.requires.ends, c.in_ok-write_part.ensures.count, c.in_ok-write_part-2.ensures.count, c.in_ok-write_traces.ensures.count)
 
 pub returns-in_err-write_range-clause-same : goal.returns-in_err-write_range-clause-same
 returns-in_err-write_range-clause-same g c = IsReread-trans c.args.store.now c.write_traces.new.store c.write_range.new.store c.in_ok-write_traces.ensures.same c.in_err-write_range.ensures.same
@@ -101,14 +101,14 @@ returns-in_err-write_range-clause-saved g c =
     let at : Progress = progress file c.write_traces.new.waiting in
     let blocks : List ℕ = slice_range file 3600 s.head.traces_at in
     let traces : List ℕ = concat (traces_of s) in
-    let tail : ℕ = length file - 3200 * s.head.trailer in
+    let tail : ℕ = length file - 3200 * s.head.trailer - c.args.tail in
     let same = c.in_ok-write_traces.ensures.same in
     let come : Comes w_0 w_2 begin (progress file ready) ((text ++ bin) ++ blocks) = headers_come w_0 w_1 w_2 text bin file c.write_part.new.written ready c.in_ok-write_part.ensures.saved c.in_ok-write_part-2.ensures.saved in
     let p = err_from_is_err_and c.from_residual-in_err-write_range.result c.from_residual-in_err-write_range.ensures.1 in
     λ sure.
-    refused_save c.from_residual-in_err-write_range.result c.in_err-write_range.field-0.0 w_0 w_3 _ at (((text ++ bin) ++ blocks) ++ traces) (slice_range file tail (length file)) (bytes_of (volume_with text bin s)) (rw p.2 at p.1) (front_all text bin s c.requires.ends)
+    refused_save c.from_residual-in_err-write_range.result c.in_err-write_range.field-0.0 w_0 w_3 _ at (((text ++ bin) ++ blocks) ++ traces) (slice_range file tail (length file)) (bytes_of (volume_with text bin c.args.tail s)) (rw p.2 at p.1) (front_all text bin c.args.tail s c.requires.ends)
     (comes_on w_0 w_2 w_3 begin (progress file ready) at ((text ++ bin) ++ blocks) traces come (c.in_ok-write_traces.ensures.saved (sure_then c.write_traces.new.store c.write_range.new.store c.in_err-write_range.ensures.same sure)))
-    (stops_over w_3 _ file c.write_traces.new.store.loaded.bytes c.write_traces.new.waiting (slice_range c.write_traces.new.store.loaded.bytes (c.length-end.result - 3200 * s.head.trailer) c.length-end.result) (slice_range file tail (length file)) c.in_err-write_range.field-0.0 same.loaded.bytes (rw (same.loaded.bytes, c.length-end.ensures) refl) (c.in_err-write_range.ensures.saved sure))
+    (stops_over w_3 _ file c.write_traces.new.store.loaded.bytes c.write_traces.new.waiting (slice_range c.write_traces.new.store.loaded.bytes (c.length-end.result - 3200 * s.head.trailer - c.args.tail) c.length-end.result) (slice_range file tail (length file)) c.in_err-write_range.field-0.0 same.loaded.bytes (rw (same.loaded.bytes, c.length-end.ensures) refl) (c.in_err-write_range.ensures.saved sure))
 
 pub returns-in_err-write_range-clause-read : goal.returns-in_err-write_range-clause-read
 returns-in_err-write_range-clause-read g c =
@@ -120,7 +120,7 @@ flush-requires-clause-inside g c = rw c.in_ok-write_range.ensures.same.loaded.by
 
 pub flush-requires-clause-small : goal.flush-requires-clause-small
 flush-requires-clause-small g c =
-    omega (arith, c.requires.small, c.requires.ends.front, c.requires.ends.whole, parts-length c.args.text.now c.args.bin.now c.args.store.now c.requires.ends, c.length-end.ensures, c.in_ok-write_part.ensures.count, c.in_ok-write_part-2.ensures.count, c.in_ok-write_traces.ensures.count, c.in_ok-write_range.ensures.count)
+    omega (arith, c.requires.small, c.requires.ends.front, c.requires.ends.whole, parts-length c.args.text.now c.args.bin.now c.args.tail c.args.store.now c.requires.ends, c.length-end.ensures, c.in_ok-write_part.ensures.count, c.in_ok-write_part-2.ensures.count, c.in_ok-write_traces.ensures.count, c.in_ok-write_range.ensures.count)
 
 pub returns-clause-same : goal.returns-clause-same
 returns-clause-same g c =
@@ -143,7 +143,7 @@ returns-clause-saved g c =
     let end : Progress = progress file c.flush.new.waiting in
     let blocks : List ℕ = slice_range file 3600 s.head.traces_at in
     let traces : List ℕ = concat (traces_of s) in
-    let records : List ℕ = slice_range file (length file - 3200 * s.head.trailer) (length file) in
+    let records : List ℕ = slice_range file (length file - 3200 * s.head.trailer - c.args.tail) (length file) in
     let first : IsReread s c.write_traces.new.store = c.in_ok-write_traces.ensures.same in
     let second : IsReread c.write_traces.new.store c.write_range.new.store = c.in_ok-write_range.ensures.same in
     let same : c.write_range.new.store.loaded.bytes ≡ file = second.loaded.bytes ∙ first.loaded.bytes in
@@ -152,8 +152,8 @@ returns-clause-saved g c =
     let sure_4 : IsSure c.write_range.new.store.loaded.standing = sure_then c.write_range.new.store c.flush.new.store c.flush.ensures.same sure in
     let sure_3 : IsSure c.write_traces.new.store.loaded.standing = sure_then c.write_traces.new.store c.write_range.new.store second sure_4 in
     let come_3 : Comes w_0 w_3 begin at (((text ++ bin) ++ blocks) ++ traces) = comes_on w_0 w_2 w_3 begin (progress file ready) at ((text ++ bin) ++ blocks) traces come (c.in_ok-write_traces.ensures.saved sure_3) in
-    let come_4 : Comes w_3 w_4 at last records = comes_over w_3 w_4 file c.write_traces.new.store.loaded.bytes c.write_traces.new.waiting c.write_range.new.waiting (slice_range c.write_traces.new.store.loaded.bytes (c.length-end.result - 3200 * s.head.trailer) c.length-end.result) records first.loaded.bytes (rw (first.loaded.bytes, c.length-end.ensures) refl) (c.in_ok-write_range.ensures.saved sure_4) in
-    ended_save c.flush.result w_0 w_4 _ last end ((((text ++ bin) ++ blocks) ++ traces) ++ records) (bytes_of (volume_with text bin s)) (parts_joined text bin s c.requires.ends)
+    let come_4 : Comes w_3 w_4 at last records = comes_over w_3 w_4 file c.write_traces.new.store.loaded.bytes c.write_traces.new.waiting c.write_range.new.waiting (slice_range c.write_traces.new.store.loaded.bytes (c.length-end.result - 3200 * s.head.trailer - c.args.tail) c.length-end.result) records first.loaded.bytes (rw (first.loaded.bytes, c.length-end.ensures) refl) (c.in_ok-write_range.ensures.saved sure_4) in
+    ended_save c.flush.result w_0 w_4 _ last end ((((text ++ bin) ++ blocks) ++ traces) ++ records) (bytes_of (volume_with text bin c.args.tail s)) (parts_joined text bin c.args.tail s c.requires.ends)
     (comes_on w_0 w_3 w_4 begin at last (((text ++ bin) ++ blocks) ++ traces) records come_3 come_4)
     (goes_over c.flush.result w_4 _ file c.write_range.new.store.loaded.bytes c.write_range.new.waiting c.flush.new.waiting [] [] same refl (c.flush.ensures.saved sure))
     (on_ok c.flush.result (empty_waits file c.flush.new.waiting) c.flush.ensures.empty)

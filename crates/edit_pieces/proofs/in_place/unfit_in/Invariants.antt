@@ -8,7 +8,7 @@ use Rattle.edit_pieces.proofs.in_place.unfit_in.Given as goal
 abbrev pub invariant-traces : goal.invariant-traces
 invariant-traces g l =
     ((goal.iterator-traces g).can_next l.ids × (goal.iterator-traces g).is_finite l.ids)
-    × ((unfit_of l.store ≡ unfit_from l.at (l.p + 1) l.end (map (layers_under l.store.slots) l.ids))
+    × ((unfit_of l.tail l.store ≡ unfit_from l.at (l.p + 1) l.end (map (layers_under l.store.slots) l.ids))
     × (AreHeld l.store.loaded l.store.head l.ids l.store.slots
     × ((l.p + length l.ids < 2 ^ 32)
     × (l.at ≤ length l.store.loaded.bytes))))

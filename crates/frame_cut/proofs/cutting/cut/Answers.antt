@@ -1,4 +1,5 @@
-use Rattle.std.proofs.Common.{sym, arith, inl, inr}
+use Rattle.std.proofs.Common.{◌≡◌, ◌-◌, ◌*◌, length, sym, arith, inl, inr}
+use Rattle.frame_cut.specs.Walk.{traces_end}
 use Rattle.frame_cut.proofs.HeadFrontLemmas.{has_head}
 use Rattle.frame_cut.proofs.LaidLemmas.{cut_from, laid_from, stopped}
 use Rattle.frame_cut.proofs.cutting.cut.Goals as goal
@@ -11,15 +12,20 @@ walk-requires c =
 pub returns-in-Err-clause-refused : goal.returns-in-Err-clause-refused
 returns-in-Err-clause-refused c = inr (inl (sym c.in-Err.ensures))
 
+pub overflow_sub-end : goal.overflow_sub-end
+overflow_sub-end c =
+    let k = has_head c.args.bytes.now c.args.reading c.args.limits c.in-Ok.head (sym c.in-Ok.ensures) in
+    omega (arith, k.whole)
+
 pub returns-in-Ok-walk-clause-ok : goal.returns-in-Ok-walk-clause-ok
 returns-in-Ok-walk-clause-ok c =
     rw c.new.ensures
-    (cut_from c.args.bytes.now c.args.reading c.args.limits c.in-Ok.head c.in-Ok-walk.extents.items (sym c.in-Ok.ensures) c.in-Ok-walk.ensures.whole)
+    (cut_from c.args.bytes.now c.args.reading c.args.limits c.in-Ok.head c.in-Ok-walk.extents.items _ c.in-Ok-walk.at (sym c.in-Ok.ensures) c.in-Ok-walk.ensures.ends (omega arith))
 
 pub returns-in-Ok-walk-clause-laid : goal.returns-in-Ok-walk-clause-laid
 returns-in-Ok-walk-clause-laid c =
     rw c.new.ensures
-    (laid_from c.args.bytes.now c.args.reading c.args.limits c.in-Ok.head c.in-Ok-walk.extents.items (sym c.in-Ok.ensures) c.in-Ok-walk.ensures.whole)
+    (laid_from c.args.bytes.now c.args.reading c.args.limits c.in-Ok.head c.in-Ok-walk.extents.items _ c.in-Ok-walk.at (sym c.in-Ok.ensures) c.in-Ok-walk.ensures.ends (omega arith))
 
 pub returns-in-Err-walk-clause-refused : goal.returns-in-Err-walk-clause-refused
 returns-in-Err-walk-clause-refused c = stopped c.args.bytes.now c.args.reading c.args.limits c.in-Ok.head c.in-Err-walk.fault (sym c.in-Ok.ensures) c.in-Err-walk.ensures.stops

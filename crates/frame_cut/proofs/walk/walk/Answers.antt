@@ -1,9 +1,9 @@
-use Rattle.std.proofs.Common.{◌∙◌, ◌≡◌, ◌+◌, ◌++◌, ◌∷◌, [], sym, ap, ℕ, List, arith, rules, subst, length, None}
+use Rattle.std.proofs.Common.{◌∙◌, ◌≡◌, ◌+◌, ◌&&◌, ◌++◌, ◌∷◌, [], sym, ap, ℕ, List, arith, rules, subst, length, None, Some, true, false, inr}
 use Rattle.frame_cut.specs.declared.extent.Extent.{Extent}
 use Rattle.frame_cut.specs.Walk.{AreWhole, left_at}
-use Rattle.frame_cut.specs.Cuts.{trace_refusal}
+use Rattle.frame_cut.specs.Cuts.{is_torn, trace_refusal}
 use Rattle.frame_cut.proofs.FrontLemmas.{left_begins}
-use Rattle.frame_cut.proofs.LaidLemmas.{whole-push, step-le}
+use Rattle.frame_cut.proofs.LaidLemmas.{ends_torn, whole-push, step-le}
 use Rattle.frame_cut.proofs.walk.walk.Goals as goal
 
 pub traces-preserved : goal.traces-preserved
@@ -18,3 +18,31 @@ traces-preserved c =
     let whole : AreWhole c.args.bytes.now c.args.head.now c.args.limits c.push.new.self.items (c.traces.at + c.in-Ok-next_length.length) =
     subst (λ (es : List Extent). AreWhole c.args.bytes.now c.args.head.now c.args.limits es (c.traces.at + c.in-Ok-next_length.length)) (sym items) step in
     (whole, le.0, c.traces.invariant.2, c.traces.invariant.3)
+
+-- what is left is less than a trace, which the reading keeps
+pub returns-in-Err-clause-ends : goal.returns-in-Err-clause-ends
+returns-in-Err-clause-ends c =
+    let left : List ℕ = left_at c.args.bytes.now c.args.head.now c.traces.at in
+    let refused : trace_refusal c.args.head.now c.args.limits (c.len.result + 1) left ≡ Some c.in-Err.fault = c.in-Err.ensures.refused left (left_begins c.args.bytes.now c.args.head.now c.traces.at) in
+    let told : c.keeps.result ≡ (c.args.reading.tail && is_torn c.args.head.now left) = c.keeps.ensures c.args.head.now c.args.limits (c.len.result + 1) left refused in
+    let kept : c.keeps.result ≡ true = c.if-keeps.true in
+    ends_torn c.args.bytes.now c.args.reading c.args.limits c.args.head.now c.traces.extents.items c.traces.at c.traces.invariant.0 c.traces.invariant.1 (sym told ∙ kept)
+
+-- or a trace is refused
+pub returns-in-Err-2-clause-stops : goal.returns-in-Err-2-clause-stops
+returns-in-Err-2-clause-stops c =
+    let left : List ℕ = left_at c.args.bytes.now c.args.head.now c.traces.at in
+    let refused : trace_refusal c.args.head.now c.args.limits (c.len.result + 1) left ≡ Some c.in-Err.fault = c.in-Err.ensures.refused left (left_begins c.args.bytes.now c.args.head.now c.traces.at) in
+    let number : c.len.result ≡ length c.traces.extents.items = omega (arith, c.len.ensures) in
+    let told : c.keeps.result ≡ (c.args.reading.tail && is_torn c.args.head.now left) = c.keeps.ensures c.args.head.now c.args.limits (c.len.result + 1) left refused in
+    let unkept : c.keeps.result ≡ false = c.if-keeps.false in
+    inr (
+      c.traces.extents.items,
+      c.traces.at,
+      record {
+        whole = c.traces.invariant.0;
+        some = omega (arith, c.traces-test.true, c.traces.invariant.2);
+        unkept = sym told ∙ unkept;
+        refused = ap (λ (n : ℕ). trace_refusal c.args.head.now c.args.limits (n + 1) left) (sym number) ∙ refused;
+      },
+    )

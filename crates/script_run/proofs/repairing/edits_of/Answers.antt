@@ -10,8 +10,9 @@ returns-clause-law c =
     let o = c.overlay-overlay.result.now in
     let s = c.store.result.now in
     let from : s.loaded.bytes ≡ c.args.bench.now.loaded = ap (λ l. l.bytes) c.store.ensures.loaded ∙ c.overlay-overlay.ensures.loaded ∙ ap (λ v. v.loaded) c.volume.ensures in
-    let to : bytes_of (volume_with c.text.result.now c.bin.result.now s) ≡ bytes_of c.args.bench.now.state.volume =
-    ap₂ (λ (t : List ℕ) (b : List ℕ). bytes_of (volume_with t b s)) c.text.ensures c.bin.ensures
+    let to : bytes_of (volume_with c.text.result.now c.bin.result.now c.tail.result s) ≡ bytes_of c.args.bench.now.state.volume =
+    ap₂ (λ (t : List ℕ) (b : List ℕ). bytes_of (volume_with t b c.tail.result s)) c.text.ensures c.bin.ensures
+    ∙ ap (λ (n : ℕ). bytes_of (volume_with c.overlay-overlay.result.now.volume.text c.overlay-overlay.result.now.volume.bin n s)) c.tail.ensures
     ∙ ap bytes_of (c.store.ensures.volume ∙ c.overlay-overlay.ensures.volume ∙ ap (λ v. v.state.volume) c.volume.ensures) in
-    if_ok_map (λ edits. laid_all edits.all s.loaded.bytes ≡ bytes_of (volume_with c.text.result.now c.bin.result.now s)) (λ edits. laid_all edits.all c.args.bench.now.loaded ≡ bytes_of c.args.bench.now.state.volume) _ c.edits_over.ensures.law
+    if_ok_map (λ edits. laid_all edits.all s.loaded.bytes ≡ bytes_of (volume_with c.text.result.now c.bin.result.now c.tail.result s)) (λ edits. laid_all edits.all c.args.bench.now.loaded ≡ bytes_of c.args.bench.now.state.volume) _ c.edits_over.ensures.law
     (λ edits law. law_of edits.all s.loaded.bytes c.args.bench.now.loaded _ (bytes_of c.args.bench.now.state.volume) from to law)

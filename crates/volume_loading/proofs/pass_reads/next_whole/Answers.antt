@@ -1,10 +1,10 @@
 use Rattle.std.proofs.Common.{◌+◌, length, inr, arith}
 use Rattle.trace_store.specs.Stores.{traces_of}
-use Rattle.volume_loading.proofs.PassLemmas.{length_at, refused_at, IsFrontAt}
+use Rattle.volume_loading.proofs.PassLemmas.{length_at, refused_at, tail_at, IsFrontAt}
 use Rattle.volume_loading.proofs.pass_reads.next_whole.Goals as goal
 
-pub returns-in-Err-clause-refused : goal.returns-in-Err-clause-refused
-returns-in-Err-clause-refused g c =
+pub returns-in-Err-clause-kept : goal.returns-in-Err-clause-kept
+returns-in-Err-clause-kept g c = λ _.
     let s = c.args.store.now in
     let next = c.hold.ensures.next c.args.at c.requires.next in
     let is : IsFrontAt c.hold.new.self.loaded.bytes c.args.size s.head (length (traces_of s) + 1) c.args.at c.hold.new.window.bytes c.hold.new.self.head _ _ c.front.result.now c.min-front.result = record {
@@ -16,7 +16,22 @@ returns-in-Err-clause-refused g c =
       there = c.in_ok-hold.ensures.there;
       fits = omega (arith, c.min-front.ensures);
     } in
-    inr (refused_at c.hold.new.self.loaded.bytes c.args.size s.head c.args.limits (length (traces_of s) + 1) c.args.at c.hold.new.window.bytes c.hold.new.self.head _ _ c.front.result.now c.min-front.result is c.in-Err.fault c.in-Err.ensures.refused)
+    tail_at c.hold.new.self.loaded.bytes c.args.size s.head c.args.limits (length (traces_of s) + 1) c.args.at c.hold.new.window.bytes c.hold.new.self.head _ _ c.front.result.now c.min-front.result is c.args.reading c.in-Err.fault c.keeps.result c.in-Err.ensures.refused c.keeps.ensures c.if-keeps.true
+
+pub returns-in-Err-2-clause-refused : goal.returns-in-Err-2-clause-refused
+returns-in-Err-2-clause-refused g c =
+    let s = c.args.store.now in
+    let next = c.hold.ensures.next c.args.at c.requires.next in
+    let is : IsFrontAt c.hold.new.self.loaded.bytes c.args.size s.head (length (traces_of s) + 1) c.args.at c.hold.new.window.bytes c.hold.new.self.head _ _ c.front.result.now c.min-front.result = record {
+      head = c.hold.ensures.grown.head;
+      number = omega (arith, c.from-p.ensures, c.count.ensures.traces);
+      rest = omega (arith, c.from.ensures);
+      shown = c.front.ensures;
+      is_next = next;
+      there = c.in_ok-hold.ensures.there;
+      fits = omega (arith, c.min-front.ensures);
+    } in
+    inr (refused_at c.hold.new.self.loaded.bytes c.args.size s.head c.args.limits (length (traces_of s) + 1) c.args.at c.hold.new.window.bytes c.hold.new.self.head _ _ c.front.result.now c.min-front.result is c.args.reading c.in-Err.fault c.keeps.result c.in-Err.ensures.refused c.keeps.ensures c.if-keeps.false)
 
 pub returns-clause-whole : goal.returns-clause-whole
 returns-clause-whole g c =

@@ -10,7 +10,7 @@ overflow_sub-self g c =
     let ts : List (List ℕ) = traces_of c.self.inside.laid.store in
     let there : c.args.p - 1 < length ts = omega (arith, c.requires.first, c.requires.last, ap (λ o. length o.volume.traces) c.self.view_is) in
     let gone : c.length_of-gone.result ≡ length (get_or ts (c.args.p - 1) []) = c.length_of-gone.ensures in
-    omega (arith, gone, trace-within (volume_with c.self.inside.text c.self.inside.bin c.self.inside.laid.store) (c.args.p - 1) there, c.self.invariant.length)
+    omega (arith, gone, trace-within (volume_with c.self.inside.text c.self.inside.bin c.self.inside.tail c.self.inside.laid.store) (c.args.p - 1) there, c.self.invariant.length)
 
 pub invariant_of-self : goal.invariant_of-self
 invariant_of-self g c =
@@ -18,4 +18,4 @@ invariant_of-self g c =
     let there : c.args.p - 1 < length ts = omega (arith, c.requires.first, c.requires.last, ap (λ o. length o.volume.traces) c.self.view_is) in
     let gone : c.length_of-gone.result ≡ length (get_or ts (c.args.p - 1) []) = c.length_of-gone.ensures in
     held_again c.self.inside c.delete-payload.new.self _ c.self.invariant (record { head = c.delete-payload.ensures.head; loaded = c.delete-payload.ensures.loaded })
-    (omega (arith, gone, trace-within (volume_with c.self.inside.text c.self.inside.bin c.self.inside.laid.store) (c.args.p - 1) there, c.self.invariant.length, ap total c.delete-payload.ensures.traces, total-remove ts (c.args.p - 1) there))
+    (omega (arith, gone, trace-within (volume_with c.self.inside.text c.self.inside.bin c.self.inside.tail c.self.inside.laid.store) (c.args.p - 1) there, c.self.invariant.length, ap total c.delete-payload.ensures.traces, total-remove ts (c.args.p - 1) there))

@@ -27,7 +27,7 @@ returns-clause-overlay g c =
     let all : length (payloads_of l.store) ≡ length (pieces file l.extents.items) = rw (← c.self.view_is) at c.requires in
     let text : c.array_at-text.result.now ≡ take 3200 file = c.array_at-text.ensures ∙ ap (λ (s : List ℕ). take 3200 s) c.bytes-bytes.ensures in
     let bin : c.array_at-bin.result.now ≡ take 400 (drop 3200 file) = c.array_at-bin.ensures ∙ ap (λ (s : List ℕ). take 400 (drop 3200 s)) c.bytes-bytes.ensures in
-    let parts : volume_with c.array_at-text.result.now c.array_at-bin.result.now l.store ≡ volume_at file l.store.head l.extents.items = parts-loaded l c.array_at-text.result.now c.array_at-bin.result.now c.self.invariant all text bin in
+    let parts : volume_with c.array_at-text.result.now c.array_at-bin.result.now l.tail l.store ≡ volume_at file l.store.head l.extents.items l.tail = parts-loaded l c.array_at-text.result.now c.array_at-bin.result.now c.self.invariant all text bin in
     c.new.ensures ∙ rw (parts, ← c.self.view_is) refl
 
 pub returns-clause-bytes : goal.returns-clause-bytes
@@ -37,5 +37,5 @@ returns-clause-bytes g c =
     let all : length (payloads_of l.store) ≡ length (pieces file l.extents.items) = rw (← c.self.view_is) at c.requires in
     let text : c.array_at-text.result.now ≡ take 3200 file = c.array_at-text.ensures ∙ ap (λ (s : List ℕ). take 3200 s) c.bytes-bytes.ensures in
     let bin : c.array_at-bin.result.now ≡ take 400 (drop 3200 file) = c.array_at-bin.ensures ∙ ap (λ (s : List ℕ). take 400 (drop 3200 s)) c.bytes-bytes.ensures in
-    let parts : volume_with c.array_at-text.result.now c.array_at-bin.result.now l.store ≡ volume_at file l.store.head l.extents.items = parts-loaded l c.array_at-text.result.now c.array_at-bin.result.now c.self.invariant all text bin in
+    let parts : volume_with c.array_at-text.result.now c.array_at-bin.result.now l.tail l.store ≡ volume_at file l.store.head l.extents.items l.tail = parts-loaded l c.array_at-text.result.now c.array_at-bin.result.now c.self.invariant all text bin in
     rw c.new.ensures (sym (ap (λ (v : Volume). bytes_of v) parts ∙ c.self.invariant.joined))

@@ -14,5 +14,5 @@ returns g c =
     let asked : length (payloads_of l.store) < length (pieces l.store.loaded.bytes l.extents.items) = rw (← c.self.view_is) at c.requires in
     let short : n < length l.extents.items = omega (arith, asked, c.count.ensures.payloads, length-map l.extents.items (λ (e : Extent). bytes_at l.store.loaded.bytes e)) in (
       c.view_loaded.ensures.head ∙ ap (λ o. o.volume.head) c.self.view_is,
-      c.view_loaded.ensures.bytes ∙ (extent-shown l.store.loaded.bytes l.store.head l.extents.items n _ c.index-extent.result.now short (sym c.count.ensures.payloads) c.index-extent.ensures ∙ ap (λ o. trace_at o.volume (length o.payloads + 1)) c.self.view_is),
+      c.view_loaded.ensures.bytes ∙ (extent-shown l.store.loaded.bytes l.store.head l.extents.items l.tail n _ c.index-extent.result.now short (sym c.count.ensures.payloads) c.index-extent.ensures ∙ ap (λ o. trace_at o.volume (length o.payloads + 1)) c.self.view_is),
     )

@@ -17,4 +17,4 @@ invariant_of-result g c =
     let begins = ap (take (length c.read_head.new.held.bytes)) bytes ∙ c.read_front.ensures.grown.begins in
     let next = subst (λ (read : List ℕ). IsNextOf read h.traces_at c.read_front.new.window.bytes) (sym bytes) c.in-Ok-read_front.ensures.next in
     let front = c.in-Ok-read_front.ensures.front ∙ ap (take h.traces_at) (sym bytes) in
-    passing_begun _ h c.read_head.new.held.bytes c.in-Ok.ensures.head c.read_head.ensures.within begins c.over.ensures.head standing (omega (arith, ap length bytes, c.read_front.ensures.within)) next front c.over.ensures.traces refl refl
+    passing_begun _ h c.read_head.new.held.bytes c.in-Ok.ensures.head c.read_head.ensures.within begins c.over.ensures.head standing (omega (arith, ap length bytes, c.read_front.ensures.within)) next front c.over.ensures.traces refl refl refl

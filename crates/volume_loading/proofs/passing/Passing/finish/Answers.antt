@@ -3,7 +3,8 @@ use Rattle.std.proofs.lemmas.List.{length-drop}
 use Rattle.base_file.specs.HeldBytes.{IsInMemory}
 use Rattle.frame_cut.specs.declared.file_head.Head.{Head}
 use Rattle.edit_overlay.specs.Standings.{is_on_disk, is_sure}
-use Rattle.volume_loading.proofs.PassingLemmas.{cut_whole, header_settled, headers_there, joined_whole, laid_whole, settled_of}
+use Rattle.volume_loading.proofs.PassingLemmas.{cut_whole, header_settled, headers_there, joined_whole, laid_whole, settled_of, tail_whole}
+use Rattle.volume_loading.proofs.PassLemmas.{more_again}
 use Rattle.volume_loading.proofs.passing.Passing.finish.Goals as goal
 
 pub array_at-text-requires : goal.array_at-text-requires
@@ -16,33 +17,34 @@ pub settle-store-requires-clause-back : goal.settle-store-requires-clause-back
 settle-store-requires-clause-back g c =
     let p = c.self.inside in
     let file = c.last_bytes.new.store.loaded.bytes in
-    let back = c.in-Ok.ensures.back in
-    let place : p.at ≡ length file - length c.in-Ok.back.items = omega (arith, ap length back, length-drop p.at file, c.in-Ok.ensures.all, c.self.invariant.room) in
+    let back = c.in-Ok-last_bytes.ensures.back in
+    let end : p.at + p.tail + 3200 * p.store.head.trailer ≡ p.size = rw (← c.self.view_is) at c.requires in
+    let place : p.at + p.tail ≡ length file - length c.in-Ok-last_bytes.back.items = omega (arith, ap length back, length-drop (p.at + p.tail) file, c.in-Ok-last_bytes.ensures.all, end) in
     back ∙ ap (λ (i : ℕ). drop i file) place
 
 pub new-requires-clause-ends : goal.new-requires-clause-ends
 new-requires-clause-ends g c =
     let p = c.self.inside in
     let kept = c.settle-store.ensures in
-    let settled = settled_of p c.last_bytes.new.store c.settle-store.result c.last_bytes.ensures.grown c.in-Ok.ensures.all kept.head kept.bytes kept.traces in
-    let end : p.at + 3200 * p.store.head.trailer ≡ p.size = rw (← c.self.view_is) at c.requires in
+    let settled = settled_of p c.last_bytes.new.store c.settle-store.result (more_again p.store c.skip_bytes.new.store c.last_bytes.new.store c.skip_bytes.ensures.grown c.last_bytes.ensures.grown) c.in-Ok-last_bytes.ensures.all kept.head kept.bytes kept.traces in
+    let end : p.at + p.tail + 3200 * p.store.head.trailer ≡ p.size = rw (← c.self.view_is) at c.requires in
     let laid = laid_whole p c.settle-store.result c.self.invariant settled end in
-    let standing = c.last_bytes.ensures.grown.loaded.standing ∙ c.self.invariant.standing in
+    let standing = c.last_bytes.ensures.grown.loaded.standing ∙ (c.skip_bytes.ensures.grown.loaded.standing ∙ c.self.invariant.standing) in
     let behind = λ (inside : IsInMemory c.last_bytes.new.store.loaded.standing). subst IsInMemory standing inside in
     let trailer = ap (λ (h : Head). h.trailer) settled.head in
     record {
       front = laid.front;
       whole = laid.whole;
       front_kept = omega (arith, kept.front behind, c.self.invariant.long, ap (λ (h : Head). h.traces_at) settled.head);
-      back_kept = omega (arith, kept.back behind, ap length c.in-Ok.ensures.back, length-drop p.at c.last_bytes.new.store.loaded.bytes, c.in-Ok.ensures.all, end, trailer);
+      back_kept = omega (arith, kept.back behind, ap length c.in-Ok-last_bytes.ensures.back, length-drop (p.at + p.tail) c.last_bytes.new.store.loaded.bytes, c.in-Ok-last_bytes.ensures.all, end, trailer);
     }
 
 pub new-requires-clause-joined : goal.new-requires-clause-joined
 new-requires-clause-joined g c =
     let p = c.self.inside in
     let kept = c.settle-store.ensures in
-    let settled = settled_of p c.last_bytes.new.store c.settle-store.result c.last_bytes.ensures.grown c.in-Ok.ensures.all kept.head kept.bytes kept.traces in
-    let end : p.at + 3200 * p.store.head.trailer ≡ p.size = rw (← c.self.view_is) at c.requires in
+    let settled = settled_of p c.last_bytes.new.store c.settle-store.result (more_again p.store c.skip_bytes.new.store c.last_bytes.new.store c.skip_bytes.ensures.grown c.last_bytes.ensures.grown) c.in-Ok-last_bytes.ensures.all kept.head kept.bytes kept.traces in
+    let end : p.at + p.tail + 3200 * p.store.head.trailer ≡ p.size = rw (← c.self.view_is) at c.requires in
     let text = header_settled p c.settle-store.result c.array_at-text.result.now c.as_slice.result.now 0 3200 c.self.invariant settled c.as_slice.ensures.value (omega arith) c.array_at-text.ensures in
     let bin = header_settled p c.settle-store.result c.array_at-bin.result.now c.as_slice-2.result.now 3200 400 c.self.invariant settled c.as_slice-2.ensures.value (omega arith) c.array_at-bin.ensures in
     joined_whole p c.settle-store.result c.self.invariant settled end c.array_at-text.result.now c.array_at-bin.result.now text bin
@@ -51,8 +53,8 @@ pub returns-clause-cut : goal.returns-clause-cut
 returns-clause-cut g c =
     let p = c.self.inside in
     let kept = c.settle-store.ensures in
-    let settled = settled_of p c.last_bytes.new.store c.settle-store.result c.last_bytes.ensures.grown c.in-Ok.ensures.all kept.head kept.bytes kept.traces in
-    let end : p.at + 3200 * p.store.head.trailer ≡ p.size = rw (← c.self.view_is) at c.requires in
+    let settled = settled_of p c.last_bytes.new.store c.settle-store.result (more_again p.store c.skip_bytes.new.store c.last_bytes.new.store c.skip_bytes.ensures.grown c.last_bytes.ensures.grown) c.in-Ok-last_bytes.ensures.all kept.head kept.bytes kept.traces in
+    let end : p.at + p.tail + 3200 * p.store.head.trailer ≡ p.size = rw (← c.self.view_is) at c.requires in
     let text = header_settled p c.settle-store.result c.array_at-text.result.now c.as_slice.result.now 0 3200 c.self.invariant settled c.as_slice.ensures.value (omega arith) c.array_at-text.ensures in
     let bin = header_settled p c.settle-store.result c.array_at-bin.result.now c.as_slice-2.result.now 3200 400 c.self.invariant settled c.as_slice-2.ensures.value (omega arith) c.array_at-bin.ensures in
     let cut = cut_whole p c.settle-store.result c.self.invariant settled end c.array_at-text.result.now c.array_at-bin.result.now text bin in
@@ -62,8 +64,8 @@ pub returns-clause-size : goal.returns-clause-size
 returns-clause-size g c =
     let p = c.self.inside in
     let kept = c.settle-store.ensures in
-    let settled = settled_of p c.last_bytes.new.store c.settle-store.result c.last_bytes.ensures.grown c.in-Ok.ensures.all kept.head kept.bytes kept.traces in
-    let end : p.at + 3200 * p.store.head.trailer ≡ p.size = rw (← c.self.view_is) at c.requires in
+    let settled = settled_of p c.last_bytes.new.store c.settle-store.result (more_again p.store c.skip_bytes.new.store c.last_bytes.new.store c.skip_bytes.ensures.grown c.last_bytes.ensures.grown) c.in-Ok-last_bytes.ensures.all kept.head kept.bytes kept.traces in
+    let end : p.at + p.tail + 3200 * p.store.head.trailer ≡ p.size = rw (← c.self.view_is) at c.requires in
     let text = header_settled p c.settle-store.result c.array_at-text.result.now c.as_slice.result.now 0 3200 c.self.invariant settled c.as_slice.ensures.value (omega arith) c.array_at-text.ensures in
     let bin = header_settled p c.settle-store.result c.array_at-bin.result.now c.as_slice-2.result.now 3200 400 c.self.invariant settled c.as_slice-2.ensures.value (omega arith) c.array_at-bin.ensures in
     let joined = joined_whole p c.settle-store.result c.self.invariant settled end c.array_at-text.result.now c.array_at-bin.result.now text bin in
@@ -73,16 +75,17 @@ pub returns-clause-passed : goal.returns-clause-passed
 returns-clause-passed g c =
     let p = c.self.inside in
     let kept = c.settle-store.ensures in
-    let settled = settled_of p c.last_bytes.new.store c.settle-store.result c.last_bytes.ensures.grown c.in-Ok.ensures.all kept.head kept.bytes kept.traces in
-    let end : p.at + 3200 * p.store.head.trailer ≡ p.size = rw (← c.self.view_is) at c.requires in
+    let settled = settled_of p c.last_bytes.new.store c.settle-store.result (more_again p.store c.skip_bytes.new.store c.last_bytes.new.store c.skip_bytes.ensures.grown c.last_bytes.ensures.grown) c.in-Ok-last_bytes.ensures.all kept.head kept.bytes kept.traces in
+    let end : p.at + p.tail + 3200 * p.store.head.trailer ≡ p.size = rw (← c.self.view_is) at c.requires in
     let text = header_settled p c.settle-store.result c.array_at-text.result.now c.as_slice.result.now 0 3200 c.self.invariant settled c.as_slice.ensures.value (omega arith) c.array_at-text.ensures in
     let bin = header_settled p c.settle-store.result c.array_at-bin.result.now c.as_slice-2.result.now 3200 400 c.self.invariant settled c.as_slice-2.ensures.value (omega arith) c.array_at-bin.ensures in
     let joined = joined_whole p c.settle-store.result c.self.invariant settled end c.array_at-text.result.now c.array_at-bin.result.now text bin in
-    let more = c.last_bytes.ensures.grown in
+    let more = more_again p.store c.skip_bytes.new.store c.last_bytes.new.store c.skip_bytes.ensures.grown c.last_bytes.ensures.grown in
     let standing = kept.standing ∙ (more.loaded.standing ∙ c.self.invariant.standing) in
     rw (← c.self.view_is, c.new.ensures) (record {
       head = settled.head;
       traces = settled.traces;
+      tail = tail_whole p c.settle-store.result c.self.invariant settled end;
       prepared = refl;
       payloads = kept.payloads ∙ more.payloads;
       payloads_prepared = kept.payloads ∙ more.payloads;

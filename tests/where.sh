@@ -113,13 +113,14 @@ top=$(cd "$here/.." && pwd)
 forms | while read -r word rest; do
     if [ -n "$rest" ]; then echo "$word"; else echo "$word 1"; fi
 done > script
-"$program" s.sgy --script script > answers 2> errors
-{ forms | head -n 20; } > wanted
-sed -n 's/.*(the form is \(.*\))$/\1/p' errors | cmp -s - wanted && tell 'the forms of the manual' ok || tell 'the forms of the manual' "$(diff <(sed -n 's/.*(the form is \(.*\))$/\1/p' errors) wanted | head -n 5)"
-tail -n +21 script > more; mv more script
-"$program" s.sgy --script script > answers 2> errors
-{ forms | tail -n +21; } > wanted
-sed -n 's/.*(the form is \(.*\))$/\1/p' errors | cmp -s - wanted && tell 'the other forms' ok || tell 'the other forms' "$(diff <(sed -n 's/.*(the form is \(.*\))$/\1/p' errors) wanted | head -n 5)"
+forms > wanted
+# the first 20 refused lines of a run are told
+for first in 1 21 41; do
+    sed -n "$first,$((first + 19))p" script > part
+    "$program" s.sgy --script part > answers 2> errors
+    sed -n 's/.*(the form is \(.*\))$/\1/p' errors
+done > shown
+cmp -s shown wanted && tell 'the forms of the manual' ok || tell 'the forms of the manual' "$(diff shown wanted | head -n 5)"
 
 # ---- the numbers of lines, and how many are told
 printf '# a note\n\ncount\nget 9 x\n\n  sett\n' > script

@@ -288,7 +288,7 @@ static size_t vary(byte *bytes) {
 
 /* Draws the readings of a file. */
 static void draw_readings(struct volume *file) {
-    static const int formats[] = {1, 2, 3, 3, 3, 5, 7, 8, 13, 300};
+    static const int formats[] = {1, 2, 3, 3, 3, 4, 5, 7, 8, 13, 300};
     if (draw(5) == 0) file->samples_reading = draw(3) ? (int64_t)draw(8) : (int64_t)(any_number() & 0xffffffff);
     if (draw(5) == 0) file->format_reading = formats[draw(sizeof formats / sizeof *formats)];
     if (draw(5) == 0) file->texts_reading = draw(4) ? (int64_t)draw(4) : (int64_t)draw(32768);

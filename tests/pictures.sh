@@ -103,6 +103,16 @@ runs 'a page of samples with a gain, unasked' 3 $'gain.sgy: load refused L07 gai
 has 'names the option' errors 'with --opaque-samples the file is read all the same'
 runs 'a page under the other order' 3 'cube.sgy: load refused L08' segywb-report --no-pictures --order little cube.sgy x.html
 
+# a file that is cut off: what stands behind its last whole trace
+printf 'drop tail\n' > drop.txt
+runs 'a page of a file that is cut off' 0 '' segywb-report --no-pictures --tail torn.sgy page.html
+has 'its whole traces' page.html '<tr><th scope="row">traces</th><td>9</td></tr>'
+has 'and what stands behind' page.html '<tr><th scope="row">bytes behind the last trace</th><td>150</td></tr>'
+runs 'a page of it before and after' 0 '' segywb-report --no-pictures --tail torn.sgy page.html drop.txt
+has 'which takes it away' page.html '<tr class="differs"><th scope="row">bytes behind the last trace</th><td>150</td><td>0</td></tr>'
+runs 'a page of a file that is not' 0 '' segywb-report --no-pictures cube.sgy page.html
+lacks 'says nothing of it' page.html 'behind the last trace'
+
 # refusals
 rm -f x.html
 runs 'a refused file' 3 'torn.sgy: load refused L14 truncated trace 10' segywb-report --no-pictures torn.sgy x.html
@@ -188,6 +198,7 @@ drawn 'a survey of one line' 1200x900 '' slice 1 survey.sgy
 printf 'delete 3\ndelete 2\n' > script
 drawn 'a survey of one trace' 1200x900 '' --script script fold survey.sgy
 drawn 'the position of one trace' 400x300 '' --size 400x300 --script script coordinates survey.sgy
+drawn 'a file that is cut off' 1200x900 '' --tail slice 1 torn.sgy
 runs 'a picture of a refused file' 3 'torn.sgy: load refused L14 truncated trace 10' segywb-plot fold torn.sgy y.png
 absent 'is not made' y.png
 

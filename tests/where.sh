@@ -53,6 +53,9 @@ told 'too many words' 'count 1' 'S02 words: count 1 (the form is count)'
 told 'too few words of a search' 'find 1 3 inline 7' 'S02 words: find 1 3 inline 7 (the form is find P Q FIELD LOW HIGH)'
 told 'a table without fields' 'table 1 3' 'S02 words: table 1 3 (the form is table P Q FIELD ..)'
 told 'a table of too many fields' "table 1 3$(printf ' x%.0s' $(seq 65))" "S02 words: table 1 3$(printf ' x%.0s' $(seq 25)) .. (a table has at most 64 fields)"
+told 'drop alone' 'drop' 'S02 words: drop (the form is drop tail)'
+told 'drop of something else' 'drop head' 'S03 number: drop head (the form is drop tail)'
+told 'a near word of drop' 'dorp tail' 'S01 unknown word: dorp tail (did you mean drop?)'
 told 'words in another order' 'set inline 1 7' 'S03 number: set inline 1 7 (the form is set P [Q] FIELD NUMBER)'
 told 'a place that is none' 'get 1 @189' 'S03 number: get 1 @189 (a place is @BYTE:SIZE, as @189:4)'
 told 'a place without its sign' 'map shot 17:4' 'S03 number: map shot 17:4 (FIELD is a place, as @189:4, or a name, as source_x)'
@@ -110,13 +113,14 @@ top=$(cd "$here/.." && pwd)
 forms | while read -r word rest; do
     if [ -n "$rest" ]; then echo "$word"; else echo "$word 1"; fi
 done > script
-"$program" s.sgy --script script > answers 2> errors
-{ forms | head -n 20; } > wanted
-sed -n 's/.*(the form is \(.*\))$/\1/p' errors | cmp -s - wanted && tell 'the forms of the manual' ok || tell 'the forms of the manual' "$(diff <(sed -n 's/.*(the form is \(.*\))$/\1/p' errors) wanted | head -n 5)"
-tail -n +21 script > more; mv more script
-"$program" s.sgy --script script > answers 2> errors
-{ forms | tail -n +21; } > wanted
-sed -n 's/.*(the form is \(.*\))$/\1/p' errors | cmp -s - wanted && tell 'the other forms' ok || tell 'the other forms' "$(diff <(sed -n 's/.*(the form is \(.*\))$/\1/p' errors) wanted | head -n 5)"
+forms > wanted
+# the first 20 refused lines of a run are told
+for first in 1 21 41; do
+    sed -n "$first,$((first + 19))p" script > part
+    "$program" s.sgy --script part > answers 2> errors
+    sed -n 's/.*(the form is \(.*\))$/\1/p' errors
+done > shown
+cmp -s shown wanted && tell 'the forms of the manual' ok || tell 'the forms of the manual' "$(diff shown wanted | head -n 5)"
 
 # ---- the numbers of lines, and how many are told
 printf '# a note\n\ncount\nget 9 x\n\n  sett\n' > script

@@ -7,6 +7,7 @@ import files
 import pytest
 from conftest import run, wait_for
 from page import Page
+from selenium.webdriver.common.keys import Keys
 from test_guard import asked
 from test_page import SOUND
 from test_readings import tried
@@ -115,6 +116,12 @@ def test_the_page_offers_it(screened, started, browser):
     page.wait(lambda: page.data("whole"))
     assert page.map() == SOUND and page.text("reading") == "read with --tail Take 243 bytes behind the last trace away"
     assert page.find("drop").is_displayed() and not page.find("declare").is_displayed()
+    line = page.find("line")
+    line.send_keys("drop ")
+    page.wait(lambda: [one.text for one in page.all("#choices .word")] == ["tail"])
+    line.send_keys(Keys.TAB)
+    assert line.get_attribute("value") == "drop tail " and page.text("usage").startswith("drop tail")
+    line.clear()
     page.tab("edits")
     page.wait(lambda: "No edits yet" in page.text("panel"))
     page.step("drop")

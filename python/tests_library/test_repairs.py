@@ -173,3 +173,50 @@ words=(); while [ $# -gt 0 ]; do case $1 in --samples|--format|--texts) shift 2 
     assert digest(room.folder / "wrong_line.sgy") == digest(TOP / "examples" / "wrong_line.sgy")
     said = [line for line in log.read_text().splitlines() if "/proc/self/fd/" not in line.split(" --out ")[0].split(" ")[0]]
     assert len(said) == 4 and all("--samples 5 --format 3 --texts 0" in line for line in said)
+
+
+@pytest.mark.skipif(not program.knows("--tail"), reason="the program is older than this reading")
+def test_what_stands_behind_the_last_trace(few, tmp_path):
+    """It is told by the scan, taken away by a mend, and put back by its undo, which reads as the mend did."""
+    whole = (few / "cube.sgy").read_bytes()
+    (few / "zeros.sgy").write_bytes(whole + bytes(100))
+    (few / "torn.sgy").write_bytes(whole[:-7])
+    settle()
+    database, keep, script = tmp_path / "lib.db", tmp_path / "keep", tmp_path / "drop.txt"
+    library("scan", "--db", database, few)
+    query = "SELECT name, state, trailing_bytes, traces FROM file WHERE name IN ('zeros.sgy', 'torn.sgy') ORDER BY name"
+    refused = [("torn.sgy", "refused", 243, None), ("zeros.sgy", "refused", 100, None)]
+    assert rows(database, query) == refused
+    assert all(hint.endswith("can be read with --tail") for hint, in rows(database, "SELECT hint FROM file WHERE refusal = 'L14'"))
+    script.write_text("drop tail\nset 1 inline 7\n")
+    words = ["mend", "--db", database, "--script", script, "--where", "refusal = 'L14'", "--over", "--in-place", "--keep", keep, "--apply"]
+    assert "2 refused" in library(*words, status=1)
+    before = contents(few)
+    told = library(*words, "--tail")
+    assert "in place" not in told and "2 were mended" in told
+    assert (few / "zeros.sgy").stat().st_size == len(whole) and (few / "torn.sgy").stat().st_size == len(whole) - 250
+    with segywb.open(few / "torn.sgy") as volume:
+        assert (len(volume), volume.get(1, "inline")) == (11, 7)
+    assert rows(database, query) == [("torn.sgy", "read", None, 11), ("zeros.sgy", "read", None, 12)]
+    assert library("verify", "--db", database) == "2 files are what the trail says, 0 are not\n"
+    assert [json.loads(one)["tail"] for one, in rows(database, "SELECT options FROM mend ORDER BY id")] == [False, True]
+    library("undo", "--db", database, "--run", "2", "--apply")
+    assert contents(few) == before and rows(database, query) == refused
+    assert [json.loads(one)["tail"] for one, in rows(database, "SELECT options FROM mend ORDER BY id")] == [False, True, True]
+
+
+@pytest.mark.skipif(not program.knows("--tail"), reason="the program is older than this reading")
+def test_what_stands_behind_the_last_trace_may_stay(few, tmp_path):
+    """A file is mended in place, with the bytes behind its last trace, and by the script of the old numbers taken back."""
+    data = (few / "cube.sgy").read_bytes()[:-7]
+    (few / "torn.sgy").write_bytes(data)
+    settle()
+    database, script, inode = tmp_path / "lib.db", tmp_path / "set.txt", (few / "torn.sgy").stat().st_ino
+    library("scan", "--db", database, few)
+    script.write_text("set 1 inline 7\n")
+    told = library("mend", "--db", database, "--script", script, "--where", "name = 'torn.sgy'", "--over", "--in-place", "--apply", "--tail")
+    assert "All edits set numbers" in told and "in place" in told
+    now = (few / "torn.sgy").read_bytes()
+    assert len(now) == len(data) and now != data and now[3600 + 11 * 250:] == data[3600 + 11 * 250:]
+    library("undo", "--db", database, "--run", "1", "--apply")
+    assert (few / "torn.sgy").read_bytes() == data and (few / "torn.sgy").stat().st_ino == inode

@@ -88,13 +88,18 @@ def _crew(told: Any) -> Any:
 
 
 def merge(told: Any) -> int:
-    """Joins databases of parts."""
+    """Joins databases of parts. The status is 1 where the scan of one did not come to its end: files lack then."""
+    lacking = 0
     with schema.opened(schema.create, told.db) as database:
         for part in told.parts:
-            files, others, trail = merged(database, part)
+            one = merged(database, part)
+            lacking += not one.ended
+            trail = f"; its trail of {one.trail:,} rows stays there" if one.trail else ""
             if not told.quiet:
-                print(f"{part}: {files:,} files of SEG-Y and {others:,} others" + (f"; its trail of {trail:,} rows stays there" if trail else ""))
-    return 0
+                print(f"{part}: {one.files:,} files of SEG-Y and {one.others:,} others{trail}")
+            if not one.ended:
+                print(f"segywb-library: {part}: its last scan did not come to its end: go on with it, and merge once more", file=sys.stderr)
+    return 1 if lacking else 0
 
 
 # ---- report

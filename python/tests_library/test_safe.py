@@ -88,6 +88,18 @@ def test_bytes_that_are_not_those_of_the_scan(room):
     assert contents(room.folder) == before
 
 
+def test_times_alone(room):
+    """A file whose times have changed and whose bytes have not is what was chosen; where its script has been there it is done."""
+    words = ["--over", "--apply", "--keep", room.keep]
+    os.utime(room.folder / "twice.sgy")
+    settle()
+    assert "1 were mended" in mend(room, "delete 5\n", "name = 'twice.sgy'", *words)
+    os.utime(room.folder / "twice.sgy")
+    settle()
+    assert "1 done before" in mend(room, "delete 5\n", "name = 'twice.sgy'", *words)
+    assert digest(room.folder / "twice.sgy") == digest(CUBE)
+
+
 def test_a_file_that_could_not_be_read(room, wrapped):
     """The last scan could not: it is left, and that is said."""
     failing = wrapped('case $name in */wrong_line.sgy) kill -11 $$ ;; esac')
@@ -188,9 +200,6 @@ def test_killed_and_gone_on_with(copies, tmp_path, words):
         mend.send_signal(signal.SIGKILL)
         killed += mend.wait() == -signal.SIGKILL
     assert killed >= 5
-    if words:
-        settle()
-        library("scan", "--db", database, "--quiet", copies)  # a link that a killed run has made changes the times of a file
     told = library(*line)
     assert " 0 refused, 0 with nothing to change, 0 left, 0 failed" in told
     for number in range(COUNT):

@@ -10,7 +10,7 @@ from typing import Any, List, Tuple
 from . import schema, talk
 from .crew import Crew
 from .merge import merged
-from .names import absolute
+from .names import absolute, shown, text_of
 from .progress import Progress
 from .report import Report, write_page, write_table
 from .scan import Scan, own_files, summary, troubled
@@ -38,12 +38,20 @@ def scan(told: Any) -> int:
                 one.begin(walk.folders, program)
                 counts = one.run(iter(walk))
                 one.sweep(walk.folders, walk.unlisted)
+                if counts.gone:
+                    _warn_of_empty(walk.empty)
             one.end()
         finally:
             one.close()
     if not told.quiet:
         print(summary(counts))
     return 1 if troubled(counts) else 0
+
+
+def _warn_of_empty(folders: List[bytes]) -> None:
+    for folder in folders:
+        empty = f"{shown(text_of(folder))}: it is empty, and the files that it had count as gone"
+        print(f"segywb-library: {empty}; is its disk mounted?", file=sys.stderr)
 
 
 def _check(told: Any) -> None:

@@ -91,8 +91,10 @@ class Mend:
         if event:
             return self._over(chosen, event, why, None)
         change = self._maker.trial(os.fsdecode(path), self._plan.script, self._plan.back)
-        if change.stamp != chosen.stamp or change.before != chosen.sha256:
+        if change.before != chosen.sha256:
             return self._over(chosen, "left", CHANGED, None)
+        if self._is_done(chosen, target):
+            return self._over(chosen, "done", _done_by(chosen), None)
         if change.after is None and change.status in (REFUSED, LOAD_REFUSED):
             return self._over(chosen, "refused", "", change)
         if change.after is None:
@@ -118,16 +120,18 @@ class Mend:
             return "left", error.strerror or str(error)
         if chosen.sha256 is None:
             return "left", UNREAD
-        if not stat.S_ISREG(seen.st_mode) or stamp(seen) != chosen.stamp:
-            return "left", CHANGED
-        if chosen.done is not None and not self._plan.twice and self._is_there(chosen, target):
-            return "done", f"run {chosen.done.run} has done it already (--twice does it once more)"
+        if not stat.S_ISREG(seen.st_mode) or seen.st_size != chosen.stamp.size:
+            return "left", CHANGED  # where times alone have changed, as by a link, the digest of the trial says more
+        if stamp(seen) == chosen.stamp and self._is_done(chosen, target):
+            return "done", _done_by(chosen)
         there = self._plan.folder is not None and os.path.lexists(target)
         return ("left", f"there is a file {shown(target)}") if there else ("", "")
 
-    def _is_there(self, chosen: Chosen, target: str) -> bool:
-        """Whether what an earlier run has made is there: over the file itself its digest tells that."""
-        return chosen.done is not None and (self._plan.folder is None or reading.digest(os.fsencode(target)) == chosen.done.after)
+    def _is_done(self, chosen: Chosen, target: str) -> bool:
+        """Whether an earlier run has done it, and what it made is there: over the file itself its digest tells that."""
+        if chosen.done is None or self._plan.twice:
+            return False
+        return self._plan.folder is None or reading.digest(os.fsencode(target)) == chosen.done.after
 
     def _save(self, trail: Trail, chosen: Chosen, target: str, change: Change, in_place: bool) -> Outcome:
         """The save, between two rows of the trail: the first one has both digests, so that what stands there tells what was done."""
@@ -163,6 +167,10 @@ class Mend:
             told = why or "; ".join(refused[:SHOWN_ANSWERS]) or (change.told if change is not None else "") or None
             self._trail.add(self._number, chosen.path, self._plan.target_text(chosen), "left" if event == "done" else event, told=told, **known)
         return Outcome(chosen.path, event, why, change)
+
+
+def _done_by(chosen: Chosen) -> str:
+    return f"run {chosen.done.run if chosen.done else 0} has done it already (--twice does it once more)"
 
 
 def made_of(target: bytes, wanted: str, status: int, told: str) -> Tuple[str, str]:

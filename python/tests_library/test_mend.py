@@ -332,6 +332,18 @@ def test_the_report_has_the_mends(room, tmp_path):
     assert "float_line.sgy" in (tmp_path / "page.html").read_text() and "<td>mend</td>" in (tmp_path / "page.html").read_text()
 
 
+def test_the_report_tells_what_was_not_done(room, tmp_path):
+    """Refused and left files with the reason; what an earlier run has done is no trouble."""
+    room.mend("delete 12\n", "name IN ('cube.sgy', 'survey.sgy')", "--over", "--apply", status=1)
+    room.mend("delete 12\n", "name = 'cube.sgy'", "--over", "--apply")
+    library("report", "--db", room.db, "--out", tmp_path / "page.html")
+    text = (tmp_path / "page.html").read_text()
+    assert "<summary>refused, left or failed: 1 files</summary>" in text and "line 1, delete 12" in text
+    number = '<td class="number">{}</td>'.format
+    for saved, done, refused in ((1, 0, 1), (0, 1, 0)):
+        assert "".join(map(number, (saved, 0, done, 0, refused, 0))) in text
+
+
 def test_a_disk_that_does_not_tell_what_was_saved(room, monkeypatch):
     """The trail stays open there, and verify closes it."""
     from segywb.library import mend

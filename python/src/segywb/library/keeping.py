@@ -1,4 +1,4 @@
-"""Old bytes are kept under their digest, and folders are on the disk before anything stands on them."""
+"""Old bytes are kept under their digest, and folders are on the disk before they are needed."""
 
 from __future__ import annotations
 
@@ -17,7 +17,10 @@ NOTHING = of(b"")
 
 
 class Kept:
-    """Old bytes of a file: the text of their path, and the stamp that the file has by now, since a link changes its times."""
+    """Old bytes of a file: the text of their path, and the stamp that the file has by now.
+
+    A link changes its times.
+    """
 
     def __init__(self, path: str, now: Stamp) -> None:
         self.path = path
@@ -27,8 +30,9 @@ class Kept:
 def keep(maker: Maker, path: str, folder: str, change: Change, copied: bool) -> Kept:
     """Keeps the old bytes of a file in a folder, under their digest.
 
-    By a link, since a save leaves the old file where another name leads to it, or else by a copy; always by a copy of a file that is
-    going to be repaired in place. Refused where the bytes are not those of the trial (``Moved``).
+    By a link, since a save leaves the old file where another name leads to it, or else by a copy;
+    always by a copy of a file that is going to be repaired in place. Refused where the bytes are
+    not those of the trial (``Moved``).
     """
     kept = os.path.join(folder, change.before[:2], f"{change.before}.sgy")
     made_durable(os.path.dirname(kept))
@@ -59,7 +63,10 @@ def _kept(maker: Maker, path: str, kept: str, change: Change, copied: bool) -> S
 
 
 def made_durable(folder: str) -> None:
-    """Makes a folder with those above it, all of them on the disk: a power cut takes none of them away with what is saved in it."""
+    """Makes a folder with those above it, all of them on the disk.
+
+    So a power cut takes none of them away with what is saved in it.
+    """
     missing: List[str] = []
     above = os.path.abspath(folder)
     while not os.path.isdir(above):

@@ -14,7 +14,7 @@ SHARE = 0.02
 FAR = 0.5
 TICKS = 6
 LEAST_PIXELS = 3.0
-# Colours that are told apart by those who see red and green alike (Okabe and Ito); folders beyond them are grey.
+# Colours that those who see red and green alike tell apart (Okabe and Ito); other folders are grey.
 COLOURS = ("#0072b2", "#d55e00", "#009e73", "#cc79a7", "#e69f00", "#56b4e9")
 REST = "#888888"
 
@@ -37,11 +37,13 @@ class Window(NamedTuple):
 
     def holds(self, points: Sequence[Point]) -> bool:
         """Whether all corners lie in it."""
-        return all(self.low_x <= x <= self.high_x and self.low_y <= y <= self.high_y for x, y in points)
+        return all(
+            self.low_x <= x <= self.high_x and self.low_y <= y <= self.high_y for x, y in points
+        )
 
 
 def window(outlines: Sequence[Outline]) -> Window:
-    """The least part of the plane with all outlines in it, but those that lie far off from nearly all others.
+    """The least part of the plane with all outlines in it but those far off from nearly all others.
 
     >>> near = [Outline("a", "", [(n, 0.0), (n + 10.0, 5.0)]) for n in range(60)]
     >>> window([*near, Outline("zero", "", [(-10.0**6, 0.0)])])
@@ -51,8 +53,8 @@ def window(outlines: Sequence[Outline]) -> Window:
     low_x, high_x = _span([x for x, _ in corners])
     low_y, high_y = _span([y for _, y in corners])
     wide = Window(low_x, low_y, high_x, high_y)
-    inside = [point for one in outlines if wide.holds(one.points) for point in one.points] or corners
-    xs, ys = [x for x, _ in inside], [y for _, y in inside]
+    inside = [point for one in outlines if wide.holds(one.points) for point in one.points]
+    xs, ys = [x for x, _ in inside or corners], [y for _, y in inside or corners]
     return Window(min(xs), min(ys), max(xs), max(ys))
 
 
@@ -74,11 +76,12 @@ class Scale(NamedTuple):
 
     def place(self, x: float, y: float) -> Tuple[float, float]:
         """In pixels from the upper left corner."""
-        return LEFT + (x - self.window.low_x) * self.scale, self.height - BOTTOM - (y - self.window.low_y) * self.scale
+        right, up = (x - self.window.low_x) * self.scale, (y - self.window.low_y) * self.scale
+        return LEFT + right, self.height - BOTTOM - up
 
 
 def scale_of(told: Window) -> Scale:
-    """The largest scale in which the window fits; one place alone stands in the middle of a small one."""
+    """The largest scale in which the window fits; one place alone stands in the middle."""
     wide, high = told.high_x - told.low_x, told.high_y - told.low_y
     if wide <= 0 and high <= 0:
         told = Window(told.low_x - 1, told.low_y - 1, told.high_x + 1, told.high_y + 1)
@@ -102,18 +105,24 @@ def steps(low: float, high: float) -> List[float]:
 
 
 def drawing(outlines: Sequence[Outline]) -> Tuple[str, List[str]]:
-    """The outlines, each with the name of its file, over lines of the coordinates; and the files whose outlines lie outside of it."""
+    """The outlines, each with the name of its file, over lines of the coordinates; and the files
+    whose outlines lie outside of it.
+    """
     if not outlines:
         return '<p class="dim">none: no file has coordinates</p>', []
     scale = scale_of(window(outlines))
     colours = _colours(outlines)
     inside = [one for one in outlines if scale.window.holds(one.points)]
-    drawn = "".join(
-        f'<polygon points="{_corners(one.points, scale)}" stroke="{colours[one.folder]}" fill="{colours[one.folder]}">'
-        f"<title>{escape(one.name)}</title></polygon>" for one in inside
-    )
-    picture = f'<svg class="map" viewBox="0 0 {WIDTH:.0f} {scale.height:.0f}">{_lines(scale)}{drawn}</svg>'
-    return picture + _legend(inside, colours), [one.name for one in outlines if not scale.window.holds(one.points)]
+    drawn = "".join(_polygon(one, colours[one.folder], scale) for one in inside)
+    size = f'viewBox="0 0 {WIDTH:.0f} {scale.height:.0f}"'
+    picture = f'<svg class="map" {size}>{_lines(scale)}{drawn}</svg>{_legend(inside, colours)}'
+    return picture, [one.name for one in outlines if not scale.window.holds(one.points)]
+
+
+def _polygon(one: Outline, colour: str, scale: Scale) -> str:
+    places = _corners(one.points, scale)
+    title = f"<title>{escape(one.name)}</title>"
+    return f'<polygon points="{places}" stroke="{colour}" fill="{colour}">{title}</polygon>'
 
 
 def _colours(outlines: Sequence[Outline]) -> Dict[str, str]:
@@ -131,7 +140,8 @@ def _corners(points: Sequence[Point], scale: Scale) -> str:
     xs, ys = [x for x, _ in places], [y for _, y in places]
     if max(xs) - min(xs) < LEAST_PIXELS and max(ys) - min(ys) < LEAST_PIXELS:
         x, y, half = (min(xs) + max(xs)) / 2, (min(ys) + max(ys)) / 2, LEAST_PIXELS / 2
-        places = [(x - half, y - half), (x + half, y - half), (x + half, y + half), (x - half, y + half)]
+        corners = ((-half, -half), (half, -half), (half, half), (-half, half))
+        places = [(x + right, y + up) for right, up in corners]
     return " ".join(f"{x:.1f},{y:.1f}" for x, y in places)
 
 
@@ -140,17 +150,27 @@ def _lines(scale: Scale) -> str:
     parts = []
     for x in steps(told.low_x, told.high_x):
         at, foot = scale.place(x, told.low_y)
-        parts.append(f'<path d="M{at:.1f} {TOP}V{foot:.1f}"/><text x="{at:.1f}" y="{scale.height - 8:.1f}" text-anchor="middle">{x:,.10g}</text>')
+        parts.append(f'<path d="M{at:.1f} {TOP}V{foot:.1f}"/>')
+        parts.append(_label(at, scale.height - 8, "middle", x))
     for y in steps(told.low_y, told.high_y):
         left, at = scale.place(told.low_x, y)
-        parts.append(f'<path d="M{left:.1f} {at:.1f}H{WIDTH - TOP}"/><text x="{LEFT - 6}" y="{at + 4:.1f}" text-anchor="end">{y:,.10g}</text>')
+        parts.append(f'<path d="M{left:.1f} {at:.1f}H{WIDTH - TOP}"/>')
+        parts.append(_label(LEFT - 6, at + 4, "end", y))
     return "".join(parts)
+
+
+def _label(x: float, y: float, anchor: str, number: float) -> str:
+    return f'<text x="{x:.1f}" y="{y:.1f}" text-anchor="{anchor}">{number:,.10g}</text>'
 
 
 def _legend(inside: Sequence[Outline], colours: Dict[str, str]) -> str:
     folders = sorted({one.folder for one in inside if colours[one.folder] != REST})
-    keys = [f'<span class="key" style="background: {colours[folder]}"></span>{escape(folder)}' for folder in folders]
+    keys = [_key(colours[folder], folder) for folder in folders]
     if any(colours[one.folder] == REST for one in inside):
-        keys.append(f'<span class="key" style="background: {REST}"></span>other folders')
+        keys.append(_key(REST, "other folders"))
     told = "x to the right, y upwards, in the units of the files; point at an outline for its file"
     return f'<p class="dim">{" &nbsp; ".join(keys)}<br>{told}</p>'
+
+
+def _key(colour: str, folder: str) -> str:
+    return f'<span class="key" style="background: {colour}"></span>{escape(folder)}'

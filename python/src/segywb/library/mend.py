@@ -20,7 +20,7 @@ from .digests import Slow
 from .facts import Task, stamp
 from .keeping import keep, made_durable
 from .names import path_of, shown, spoken, text_of
-from .outcomes import SHOWN_ANSWERS, Outcome, place
+from .outcomes import DONE_ALREADY, SHOWN_ANSWERS, Outcome, place
 from .saves import Moved, Watched, ended
 from .script import Script, stays
 from .talk import Program
@@ -170,7 +170,7 @@ class Mend:
 
 
 def _done_by(chosen: Chosen) -> str:
-    return f"run {chosen.done.run if chosen.done else 0} has done it already (--twice does it once more)"
+    return f"run {chosen.done.run if chosen.done else 0} {DONE_ALREADY} (--twice does it once more)"
 
 
 def made_of(target: bytes, wanted: str, status: int, told: str) -> Tuple[str, str]:

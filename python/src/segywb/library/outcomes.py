@@ -12,6 +12,7 @@ SHOWN_CHARACTERS = 60
 # The events of the trail, and `done`: the same script has done it in an earlier run.
 EVENTS = ("saved", "refused", "same", "left", "failed", "done")
 TROUBLES = ("refused", "left", "failed")
+DONE_ALREADY = "has done it already"
 
 
 class Outcome(NamedTuple):
@@ -24,7 +25,7 @@ class Outcome(NamedTuple):
     in_place: bool = False
 
     def told(self, done: bool, script: Sequence[bytes]) -> str:
-        """It in a line, with the answers below it; refused ones with their line of the script, however late they come."""
+        """It in a line, with the answers below it; refused ones with their line, however late."""
         lines = [f"{shown(self.path)}: {self._said(done)}"]
         answers = self.change.answers if self.change is not None else []
         flat = [(number, line) for number, text in answers for line in text.split("\n")]
@@ -37,10 +38,16 @@ class Outcome(NamedTuple):
 
     def _said(self, done: bool) -> str:
         if self.event == "saved" and self.change is not None:
-            longer = self.change.longer
-            size = f", and the file {'is' if done else 'would be'} {abs(longer):,} bytes {'longer' if longer > 0 else 'shorter'}" if longer else ""
-            return f"{self.change.differing:,} bytes {'changed' if done else 'would change'}{', in place' if self.in_place else ''}{size}"
-        words = {"refused": "refused, it stays as it is", "same": "nothing to change", "done": self.why}
+            longer, size = self.change.longer, ""
+            if longer:
+                which = "longer" if longer > 0 else "shorter"
+                verb = "is" if done else "would be"
+                size = f", and the file {verb} {abs(longer):,} bytes {which}"
+            said = f"{self.change.differing:,} bytes {'changed' if done else 'would change'}"
+            return f"{said}{', in place' if self.in_place else ''}{size}"
+        words = {
+            "refused": "refused, it stays as it is", "same": "nothing to change", "done": self.why
+        }
         return words.get(self.event, f"{self.event}: {self.why}")
 
 
@@ -61,7 +68,8 @@ def place(number: int, script: Sequence[bytes]) -> str:
     'line 2, set 99 inline 7'
     """
     line = script[number - 1].decode("utf-8", "replace").strip()
-    return f"line {number}, {shown(line[:SHOWN_CHARACTERS])}{' ..' if len(line) > SHOWN_CHARACTERS else ''}"
+    more = " .." if len(line) > SHOWN_CHARACTERS else ""
+    return f"line {number}, {shown(line[:SHOWN_CHARACTERS])}{more}"
 
 
 def counted(outcomes: Iterable[Outcome]) -> Dict[str, List[int]]:
@@ -69,7 +77,8 @@ def counted(outcomes: Iterable[Outcome]) -> Dict[str, List[int]]:
     counts: Dict[str, List[int]] = {event: [0, 0] for event in EVENTS}
     for one in outcomes:
         counts[one.event][0] += 1
-        counts[one.event][1] += one.change.bytes if one.change is not None and one.event == "saved" else 0
+        if one.change is not None and one.event == "saved":
+            counts[one.event][1] += one.change.bytes
     return counts
 
 
@@ -78,7 +87,9 @@ def summary(counts: Dict[str, List[int]], done: bool) -> str:
     files, differing = counts["saved"]
     many = sum(count for count, _ in counts.values())
     before = f", {counts['done'][0]:,} done before" if counts["done"][0] else ""
+    verb = "were mended" if done else "would be mended"
     return (
-        f"{many:,} files: {files:,} {'were mended' if done else 'would be mended'} ({differing:,} bytes), {counts['refused'][0]:,} refused, "
-        f"{counts['same'][0]:,} with nothing to change, {counts['left'][0]:,} left, {counts['failed'][0]:,} failed{before}"
+        f"{many:,} files: {files:,} {verb} ({differing:,} bytes), "
+        f"{counts['refused'][0]:,} refused, {counts['same'][0]:,} with nothing to change, "
+        f"{counts['left'][0]:,} left, {counts['failed'][0]:,} failed{before}"
     )

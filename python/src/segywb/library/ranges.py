@@ -10,7 +10,7 @@ STEPS = (1, 2, 5)
 
 
 def ranges(counts: Sequence[Tuple[int, int]], exact: int = EXACT) -> List[Tuple[str, int]]:
-    """How many files lie in each range of a number; ``counts`` has for each number how many files have it.
+    """How many files lie in each range of a number; ``counts`` has how many files have each number.
 
     Few numbers are told one by one; many in the ranges from 1, 2, 5, 10, 20, 50, 100 and so on.
 
@@ -24,7 +24,10 @@ def ranges(counts: Sequence[Tuple[int, int]], exact: int = EXACT) -> List[Tuple[
     found: Dict[Tuple[int, int], int] = Counter()
     for number, files in counts:
         found[_range(number)] += files
-    return [(f"{low:,}" if low == high else f"{low:,} to {high:,}", files) for (low, high), files in sorted(found.items())]
+    return [
+        (f"{low:,}" if low == high else f"{low:,} to {high:,}", files)
+        for (low, high), files in sorted(found.items())
+    ]
 
 
 def _range(number: int) -> Tuple[int, int]:
@@ -44,10 +47,13 @@ def sizes(counts: Sequence[Tuple[int, int]]) -> List[Tuple[str, int]]:
     found: Dict[int, int] = Counter()
     for number, files in counts:
         found[len(str(number)) if number > 0 else 0] += files
-    return [("0" if digits == 0 else _decade(digits - 1), files) for digits, files in sorted(found.items())]
+    return [
+        (_decade(digits - 1) if digits else "0", files) for digits, files in sorted(found.items())
+    ]
 
 
 def _decade(power: int) -> str:
     units = ("B", "kB", "MB", "GB", "TB", "PB", "EB")
     low, high = ((10 ** (one % 3), units[one // 3]) for one in (power, power + 1))
-    return f"{low[0]} to {high[0]} {high[1]}" if low[1] == high[1] else f"{low[0]} {low[1]} to {high[0]} {high[1]}"
+    unit = "" if low[1] == high[1] else f" {low[1]}"
+    return f"{low[0]}{unit} to {high[0]} {high[1]}"

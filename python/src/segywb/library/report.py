@@ -12,6 +12,7 @@ from typing import IO, Any, Callable, Dict, Iterable, Iterator, List, Sequence, 
 from .. import answers
 from . import store
 from .maps import Outline, drawing
+from .outcomes import DONE_ALREADY
 from .page import Section, bars, folded, page, section, shown, table
 from .progress import bytes_told
 from .ranges import ranges, sizes
@@ -34,7 +35,12 @@ STANDING_OUT = (
     ("no traces", "traces = 0"),
     ("little-endian", "byte_order = 'little'"),
 )
-TRAIL_EVENTS = ("saved", "same", "refused", "left", "failed")
+DONE = f"event = 'left' AND coalesce(told, '') LIKE '%{DONE_ALREADY}%'"
+LEFT = f"event = 'left' AND coalesce(told, '') NOT LIKE '%{DONE_ALREADY}%'"
+TRAIL = (
+    ("saved", "event = 'saved'"), ("same", "event = 'same'"), ("done before", DONE), ("left", LEFT),
+    ("refused", "event = 'refused'"), ("failed", "event = 'failed'"),
+)
 
 
 class Report:
@@ -188,15 +194,16 @@ class Report:
         return section("Named as SEG-Y, and none by their content", f"{whole:,}", *(parts or [table((), ())]))
 
     def _mends(self) -> Section:
-        sums = ", ".join(f"coalesce(sum(event = '{event}'), 0)" for event in TRAIL_EVENTS)
-        query = f"SELECT mend.id, kind, begun, user, condition, undoes, {sums} FROM mend LEFT JOIN trail ON trail.mend = mend.id GROUP BY mend.id"
-        rows = self._rows(f"{query} ORDER BY mend.id DESC LIMIT {GROUPS}")
-        heads = ("run", "kind", "begun", "user", "condition", "takes back run", *TRAIL_EVENTS)
-        where = "FROM trail WHERE event IN ('failed', 'refused', 'left')"
-        troubles = self._rows(f"SELECT mend, path, event, coalesce(told, answers) {where} ORDER BY id DESC LIMIT {GROUPS}")
-        count = self._one(f"SELECT count(*) {where}")
-        last = folded(f"refused, left or failed: {_most(count, GROUPS, 'last')}", table(("run", "file", "event", "why"), troubles)) if count else ""
-        return section("Mends", f"{len(rows):,} runs", table(heads, rows), last)
+        sums = ", ".join(f"coalesce(sum({condition}), 0)" for _, condition in TRAIL)
+        runs = "FROM mend LEFT JOIN trail ON trail.mend = mend.id GROUP BY mend.id ORDER BY mend.id DESC"
+        rows = self._rows(f"SELECT mend.id, kind, begun, user, condition, undoes, {sums} {runs} LIMIT {GROUPS}")
+        heads = ("run", "kind", "begun", "user", "condition", "takes back run", *(name for name, _ in TRAIL))
+        where = f"FROM trail WHERE event IN ('failed', 'refused') OR ({LEFT})"
+        last = f"SELECT mend, path, event, coalesce(told, answers) {where} ORDER BY id DESC LIMIT {GROUPS}"
+        count, troubles = self._one(f"SELECT count(*) {where}"), self._rows(last)
+        title = f"refused, left or failed: {_most(count, GROUPS, 'last')}"
+        more = folded(title, table(("run", "file", "event", "why"), troubles)) if count else ""
+        return section("Mends", f"{self._one('SELECT count(*) FROM mend'):,} runs", table(heads, rows), more)
 
     # ---- the table
 

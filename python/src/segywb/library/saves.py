@@ -15,8 +15,8 @@ from .facts import Stamp, stamp
 ATOMIC_BYTES = 4096  # what a pipe takes whole or not at all
 TOLD_BYTES = 1 << 16
 READ_BYTES = 1 << 16
-# The first comment is answered once the file is open and loaded. The second one is cut off: an end of
-# the lines there, or behind any piece that follows, is no end to the program, and it saves nothing.
+# The first comment is answered once the file is open and loaded. The second one is cut off: an end
+# of the lines there, or behind any piece that follows, is none to the program: it saves nothing.
 OPENING = b"#\n#"
 
 
@@ -25,14 +25,17 @@ class Moved(Exception):
 
 
 class Watched(NamedTuple):
-    """A file that must not change before the save, and the stamp that it had; and a path where nothing may have come."""
+    """A file that must not change before the save, and the stamp that it had.
+
+    ``absent`` is a path where nothing may have come.
+    """
 
     path: str
     stamp: Stamp
     absent: Optional[str] = None
 
     def check(self) -> None:
-        """Raises ``Moved`` where it is another file by now, or none, or where something has come."""
+        """Raises ``Moved`` where it is another file by now, or none, or something has come."""
         if self.absent is not None and os.path.lexists(self.absent):
             raise Moved
         try:
@@ -44,10 +47,10 @@ class Watched(NamedTuple):
 
 
 def pieces(lines: Sequence[bytes]) -> Iterator[bytes]:
-    r"""The lines behind ``OPENING``, in pieces that a pipe takes whole and of which none ends a line.
+    r"""The lines behind ``OPENING``, in pieces that a pipe takes whole, none of which ends a line.
 
-    Lines that have no answer are left out, so that no line is empty. A line feed behind the last piece
-    ends the lines.
+    Lines that have no answer are left out, so that no line is empty. A line feed behind the last
+    piece ends the lines.
 
     >>> list(pieces([b"set 1 inline 7", b"", b"# why", b"set 2 inline 7"]))
     [b'\nset 1 inline 7\nset 2 inline 7\n#']
@@ -62,7 +65,10 @@ def pieces(lines: Sequence[bytes]) -> Iterator[bytes]:
 
 
 class Answers(threading.Thread):
-    """Reads what the program answers, so that it never waits for a reader. ``begun``: the first of it is there."""
+    """Reads what the program answers, so that it never waits for a reader.
+
+    ``begun``: the first of it is there.
+    """
 
     def __init__(self, stream: IO[bytes]) -> None:
         super().__init__(daemon=True)
@@ -79,14 +85,17 @@ class Answers(threading.Thread):
             self.begun.set()
 
 
-def save(words: List[str], lines: Sequence[bytes], watched: Watched, held: Sequence[int]) -> Tuple[int, str]:
+def save(
+    words: List[str], lines: Sequence[bytes], watched: Watched, held: Sequence[int]
+) -> Tuple[int, str]:
     """Runs the lines, and saves at their end; the status of the program and what it told.
 
-    ``words`` are those of a session that saves at its end. Where ``watched`` has changed nothing is saved.
-    The program opens its file before it answers, and saves none that has changed since: so no moment lies
-    between the stamp and the save in which a change is overseen. Where this process dies the program
-    saves nothing, or all. It runs in a session of its own, which the end of a terminal does not reach, and
-    it is not given up where it takes long, since a save that is ended is not made and says so nowhere.
+    ``words`` are those of a session that saves at its end. Where ``watched`` has changed nothing is
+    saved. The program opens its file before it answers, and saves none that has changed since: so
+    no moment lies between the stamp and the save in which a change is overseen. Where this process
+    dies the program saves nothing, or all. It runs in a session of its own, which the end of a
+    terminal does not reach, and it is not given up where it takes long, since a save that is ended
+    is not made and says so nowhere.
     """
     with tempfile.TemporaryFile() as errors:
         reading, writing = os.pipe()
@@ -115,10 +124,15 @@ def save(words: List[str], lines: Sequence[bytes], watched: Watched, held: Seque
         return status, errors.read(TOLD_BYTES).decode("utf-8", "replace").strip()
 
 
-def _started(words: List[str], reading: int, errors: IO[bytes], held: Sequence[int]) -> "subprocess.Popen[bytes]":
+def _started(
+    words: List[str], reading: int, errors: IO[bytes], held: Sequence[int]
+) -> "subprocess.Popen[bytes]":
     """The program, which alone reads its lines from now on."""
     try:
-        return subprocess.Popen(words, stdin=reading, stdout=subprocess.PIPE, stderr=errors, pass_fds=held, start_new_session=True)
+        return subprocess.Popen(
+            words, stdin=reading, stdout=subprocess.PIPE, stderr=errors, pass_fds=held,
+            start_new_session=True,
+        )
     except OSError as error:
         raise ProgramNotFound(f"cannot run {words[0]}: {error}") from error
     finally:
@@ -139,4 +153,4 @@ def ended(status: int) -> str:
     >>> ended(-9), ended(4)
     ('the program ended by signal 9', 'the program ended with status 4')
     """
-    return f"the program ended by signal {-status}" if status < 0 else f"the program ended with status {status}"
+    return f"the program ended {f'by signal {-status}' if status < 0 else f'with status {status}'}"

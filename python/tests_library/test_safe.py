@@ -77,6 +77,18 @@ def test_a_file_that_changes_while_a_run_is_taken_back(room, wrapped, kept):
     assert "it is not what the run made of it" in library("undo", "--db", room.db, "--run", "1", "--apply", status=1)
 
 
+def test_kept_bytes_that_change_while_a_run_is_taken_back(room, wrapped):
+    """Behind the look at them: what the run made stays, rather than bytes that are neither."""
+    mend(room, FIX, WRONG, "--over", "--apply", "--keep", room.keep)
+    mended = contents(room.folder)
+    old = digest(TOP / "examples" / "wrong_line.sgy")
+    program = wrapped(f'case "$*" in *{old}*--save-at-end*) {others(room.keep / old[:2] / (old + ".sgy"))} ;; esac')
+    told = library("undo", "--db", room.db, "--run", "1", "--apply", SEGYWB=program, status=1)
+    assert "wrong_line.sgy: left: another program changed it meanwhile" in told and "1 files were taken back" in told
+    assert digest(room.folder / "wrong_line.sgy") == mended[room.folder / "wrong_line.sgy"]
+    assert "not kept any more" in library("undo", "--db", room.db, "--run", "1", status=1)
+
+
 def test_bytes_that_are_not_those_of_the_scan(room):
     """Where times told nothing of a change, the digest does."""
     connection = sqlite3.connect(room.db)

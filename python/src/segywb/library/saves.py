@@ -27,23 +27,25 @@ class Moved(Exception):
 class Watched(NamedTuple):
     """A file that must not change before the save, and the stamp that it had.
 
-    ``absent`` is a path where nothing may have come.
+    ``absent`` is a path where nothing may have come, ``source`` another file that must not change.
     """
 
     path: str
     stamp: Stamp
     absent: Optional[str] = None
+    source: Optional[Tuple[str, Stamp]] = None
 
     def check(self) -> None:
         """Raises ``Moved`` where it is another file by now, or none, or something has come."""
         if self.absent is not None and os.path.lexists(self.absent):
             raise Moved
-        try:
-            seen = stamp(os.stat(self.path))
-        except FileNotFoundError:
-            raise Moved from None
-        if seen != self.stamp:
-            raise Moved
+        for path, known in ((self.path, self.stamp), *((self.source,) if self.source else ())):
+            try:
+                seen = stamp(os.stat(path))
+            except FileNotFoundError:
+                raise Moved from None
+            if seen != known:
+                raise Moved
 
 
 def pieces(lines: Sequence[bytes]) -> Iterator[bytes]:

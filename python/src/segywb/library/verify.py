@@ -82,7 +82,7 @@ def _found(row: Dict[str, Any]) -> Found:
 class Step(NamedTuple):
     """How a file is taken back: from the bytes that were kept, by a script, or not at all, which ``why`` says. ``back``: the run that has done it.
 
-    ``seen`` is the stamp of the file whose digest was looked at.
+    ``seen`` is the stamp of the file whose digest was looked at, ``kept_seen`` that of its kept bytes.
     """
 
     path: str
@@ -93,6 +93,7 @@ class Step(NamedTuple):
     why: str = ""
     back: Optional[int] = None
     seen: Optional[Stamp] = None
+    kept_seen: Optional[Stamp] = None
 
     @property
     def possible(self) -> bool:
@@ -137,8 +138,9 @@ class Undo:
         if seen is None or there != step.after:
             return step._replace(why="it is gone") if there is None else self._since(step)
         step = step._replace(seen=seen)
+        kept_seen = _seen(step.kept) if step.kept is not None else None
         if step.kept is not None and reading.digest(path_of(step.kept)) == step.before:
-            return step._replace(reverse=None)
+            return step._replace(reverse=None, kept_seen=kept_seen)
         if step.reverse is not None and self._maker.trial(_name(step.path), step.reverse, False).after == step.before:
             return step._replace(kept=None)
         return step._replace(why="the old bytes are not kept any more" if step.kept else "its old bytes were not kept: the mend had no --keep")
@@ -175,8 +177,9 @@ class Undo:
         name = _name(step.path)
         assert step.seen is not None
         watched = Watched(name, step.seen)
-        if step.kept is not None:
-            return self._maker.save(_name(step.kept), NOTHING, name, watched)
+        if step.kept is not None and step.kept_seen is not None:
+            kept = _name(step.kept)
+            return self._maker.save(kept, NOTHING, name, watched._replace(source=(kept, step.kept_seen)))
         assert step.reverse is not None
         in_place = self._in_place and os.stat(name).st_nlink == 1
         return self._maker.save(name, step.reverse, None if in_place else name, watched)

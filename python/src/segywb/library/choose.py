@@ -1,4 +1,4 @@
-"""Which files a mend is for: a condition of SQL, which can read the database and do nothing else."""
+"""Which files a mend is for: a condition of SQL, which reads the database and does nothing else."""
 
 from __future__ import annotations
 
@@ -7,11 +7,13 @@ from typing import Dict, List, NamedTuple, Optional, Set
 
 from .facts import Stamp
 
-_ALLOWED = (sqlite3.SQLITE_SELECT, sqlite3.SQLITE_READ, sqlite3.SQLITE_FUNCTION, getattr(sqlite3, "SQLITE_RECURSIVE", 33))
+_RECURSIVE = getattr(sqlite3, "SQLITE_RECURSIVE", 33)
+_ALLOWED = (sqlite3.SQLITE_SELECT, sqlite3.SQLITE_READ, sqlite3.SQLITE_FUNCTION, _RECURSIVE)
 STEPS = 100_000
 _LAST = (
-    "SELECT mend.id, script_sha256, before_sha256, after_sha256 FROM trail JOIN mend ON mend.id = trail.mend "
-    "WHERE target = ? AND event = 'saved' ORDER BY trail.id DESC LIMIT 1"
+    "SELECT mend.id, script_sha256, before_sha256, after_sha256 FROM trail "
+    "JOIN mend ON mend.id = trail.mend WHERE target = ? AND event = 'saved' "
+    "ORDER BY trail.id DESC LIMIT 1"
 )
 
 
@@ -27,10 +29,12 @@ class Done(NamedTuple):
 
 
 class Chosen(NamedTuple):
-    """A file as the database knows it: the text of its path, how many characters of it are the folder that was scanned, its stamp, its digest.
+    """A file as the database knows it: the text of its path, how many characters of it are the
+    folder that was scanned, its stamp, its digest.
 
-    ``done``: the same script has made what is there of it. ``open``: a run was killed over it, and what is there could not be read since.
-    ``same``: the path of another one that is chosen too and is the same file, by a link.
+    ``done``: the same script has made what is there of it. ``open``: a run was killed over it, and
+    what is there could not be read since. ``same``: the path of another one that is chosen too and
+    is the same file, by a link.
     """
 
     path: str
@@ -43,12 +47,16 @@ class Chosen(NamedTuple):
 
 
 def chosen(database: sqlite3.Connection, condition: str) -> List[int]:
-    """The numbers of the files for which the condition holds, in the order of their paths. Files that are gone are none of them."""
+    """The numbers of the files for which the condition holds, in the order of their paths.
+
+    Files that are gone are none of them.
+    """
     database.set_authorizer(lambda action, first, *more: _may(action, first, *more))
-    database.set_progress_handler(lambda: 0, STEPS)  # so that Ctrl-C ends a condition that takes for ever
+    database.set_progress_handler(lambda: 0, STEPS)  # so that Ctrl-C ends one that takes for ever
     try:
         # The condition stands in lines of its own, so that a comment at its end ends there.
-        found = database.execute(f"SELECT id FROM file WHERE gone IS NULL AND (\n{condition}\n) ORDER BY path").fetchall()
+        query = f"SELECT id FROM file WHERE gone IS NULL AND (\n{condition}\n) ORDER BY path"
+        found = database.execute(query).fetchall()
     except (sqlite3.Error, sqlite3.Warning, ValueError) as error:
         raise WrongCondition(f"--where: {error}") from error
     finally:
@@ -67,14 +75,18 @@ def _may(action: int, first: Optional[str], *more: Optional[str]) -> int:
 
 def one(database: sqlite3.Connection, number: int) -> Optional[Chosen]:
     """What the database knows of a file with this number."""
-    row = database.execute("SELECT path, root, size, modified, changed, inode, sha256 FROM file WHERE id = ?", (number,)).fetchone()
+    query = "SELECT path, root, size, modified, changed, inode, sha256 FROM file WHERE id = ?"
+    row = database.execute(query, (number,)).fetchone()
     return None if row is None else Chosen(row[0], row[1], Stamp(*row[2:6]), row[6])
 
 
-def done(database: sqlite3.Connection, one: Chosen, target: str, script: str, over: bool) -> Optional[Done]:
-    """The run that has made what is there of a file by this script, where it is the last one that saved there.
+def done(
+    database: sqlite3.Connection, one: Chosen, target: str, script: str, over: bool
+) -> Optional[Done]:
+    """The run that has made what is there by this script, if it is the last that saved there.
 
-    Over the file itself its bytes are those behind the save; of a file that is saved elsewhere those before it.
+    Over the file itself its bytes are those behind the save; of one that is saved elsewhere those
+    before it.
     """
     row = database.execute(_LAST, (target,)).fetchone()
     if row is None or row[1] != script or one.sha256 is None or one.sha256 != row[3 if over else 2]:
@@ -83,7 +95,7 @@ def done(database: sqlite3.Connection, one: Chosen, target: str, script: str, ov
 
 
 class Links:
-    """Tells which of the chosen files are one file by two paths, so that no script is run twice over it."""
+    """Tells which of the chosen files are one by two paths: no script is run twice over it."""
 
     def __init__(self, database: sqlite3.Connection, numbers: List[int]) -> None:
         self._database = database
@@ -92,7 +104,7 @@ class Links:
         self._first: Dict[str, str] = {}
 
     def same(self, path: str, target: str) -> str:
-        """The path of another one to which the same target belongs, or nothing. Links alone cost a look."""
+        """The path of another one with the same target, or nothing. Links alone cost a look."""
         if path == target:
             return ""
         self._chosen = self._chosen or set(self._numbers)

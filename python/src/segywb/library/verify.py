@@ -18,22 +18,29 @@ from .saves import Moved, Watched
 from .script import Script
 from .trail import CUT, Trail
 
-# The last thing that was done to each file. A file that was left, or whose mend failed before it was read, is what it was before that.
+# The last thing that was done to each file. A file that was left, or whose mend failed before it
+# was read, is what it was before that.
 _LAST = (
-    "SELECT target, event, before_sha256, after_sha256, mend FROM trail AS one WHERE target > ? AND id = (SELECT max(id) FROM trail "
-    "WHERE target = one.target AND (event = 'saved' OR before_sha256 IS NOT NULL AND target = path)) ORDER BY target LIMIT 10000"
+    "SELECT target, event, before_sha256, after_sha256, mend FROM trail AS one WHERE target > ? "
+    "AND id = (SELECT max(id) FROM trail WHERE target = one.target "
+    "AND (event = 'saved' OR before_sha256 IS NOT NULL AND target = path)) "
+    "ORDER BY target LIMIT 10000"
 )
 _SAVED = (
-    "SELECT path, target, before_sha256, after_sha256, kept, reverse FROM trail WHERE mend = ? AND event = 'saved' ORDER BY target"
+    "SELECT path, target, before_sha256, after_sha256, kept, reverse FROM trail "
+    "WHERE mend = ? AND event = 'saved' ORDER BY target"
 )
 _LATER = (
-    "SELECT mend.id, undoes FROM trail JOIN mend ON mend.id = trail.mend WHERE target = ? AND event = 'saved' AND mend.id > ? "
-    "ORDER BY trail.id DESC LIMIT 1"
+    "SELECT mend.id, undoes FROM trail JOIN mend ON mend.id = trail.mend "
+    "WHERE target = ? AND event = 'saved' AND mend.id > ? ORDER BY trail.id DESC LIMIT 1"
 )
 
 
 class Found(NamedTuple):
-    """A file of the trail: what it should be, and what it is. ``trouble`` says why it could not be read, ``cut`` whether a repair was cut off."""
+    """A file of the trail: what it should be, and what it is.
+
+    ``trouble`` says why it could not be read, ``cut`` whether a repair of it was cut off.
+    """
 
     target: str
     mend: int
@@ -51,7 +58,10 @@ class Found(NamedTuple):
             return "is gone"
         if self.cut:
             return f"a repair of it was cut off: {CUT}"
-        return "" if self.is_now == self.wanted else f"differs: the trail (run {self.mend}) has {self.wanted[:16]}.., the file {self.is_now[:16]}.."
+        if self.is_now == self.wanted:
+            return ""
+        has = f"the trail (run {self.mend}) has {self.wanted[:16]}.., the file {self.is_now[:16]}.."
+        return f"differs: {has}"
 
 
 def verified(trail: Trail, jobs: int) -> Iterator[Found]:
@@ -74,15 +84,17 @@ def _found(row: Dict[str, Any]) -> Found:
     wanted = row["after_sha256"] if row["event"] == "saved" else row["before_sha256"]
     try:
         cut = os.path.lexists(journal_of(path_of(row["target"])))
-        return Found(row["target"], row["mend"], wanted, reading.digest(path_of(row["target"])), cut=cut)
+        there = reading.digest(path_of(row["target"]))
+        return Found(row["target"], row["mend"], wanted, there, cut=cut)
     except OSError as error:
         return Found(row["target"], row["mend"], wanted, None, error.strerror or str(error))
 
 
 class Step(NamedTuple):
-    """How a file is taken back: from the bytes that were kept, by a script, or not at all, which ``why`` says. ``back``: the run that has done it.
+    """How a file is taken back: from the bytes that were kept, by a script, or not at all, which
+    ``why`` says. ``back``: the run that has done it.
 
-    ``seen`` is the stamp of the file whose digest was looked at, ``kept_seen`` that of its kept bytes.
+    ``seen`` is the stamp of the file whose digest was looked at, ``kept_seen`` of what is kept.
     """
 
     path: str
@@ -105,7 +117,9 @@ class Step(NamedTuple):
         """It in words."""
         if self.back is not None:
             return f"run {self.back} took it back"
-        return self.why or ("from the bytes that were kept" if self.kept else "by the script of its old numbers")
+        if self.why:
+            return self.why
+        return "from the bytes that were kept" if self.kept else "by the script of its old numbers"
 
 
 class Undo:
@@ -141,9 +155,12 @@ class Undo:
         kept_seen = _seen(step.kept) if step.kept is not None else None
         if step.kept is not None and reading.digest(path_of(step.kept)) == step.before:
             return step._replace(reverse=None, kept_seen=kept_seen)
-        if step.reverse is not None and self._maker.trial(_name(step.path), step.reverse, False).after == step.before:
-            return step._replace(kept=None)
-        return step._replace(why="the old bytes are not kept any more" if step.kept else "its old bytes were not kept: the mend had no --keep")
+        if step.reverse is not None:
+            if self._maker.trial(_name(step.path), step.reverse, False).after == step.before:
+                return step._replace(kept=None)
+        if step.kept is not None:
+            return step._replace(why="the old bytes are not kept any more")
+        return step._replace(why="its old bytes were not kept: the mend had no --keep")
 
     def _since(self, step: Step) -> Step:
         """Why a file is not what the run made of it."""
@@ -156,7 +173,10 @@ class Undo:
         return step._replace(why=f"run {run} changed it later: take that back first")
 
     def take_back(self, step: Step, run: int) -> Step:
-        """Does it, by the program's own save; ``why`` says why it was not done. What has changed since it was looked at is left."""
+        """Does it, by the program's own save; ``why`` says why it was not done.
+
+        What has changed since it was looked at is left.
+        """
         known = {"before_sha256": step.after, "after_sha256": step.before}
         self._trail.add(run, step.path, step.path, "begun", **known)
         try:
@@ -168,8 +188,9 @@ class Undo:
         except Error as error:
             self._trail.add(run, step.path, step.path, "left", told=str(error))
             return step._replace(why=f"left: {error}")
-        except OSError as error:  # the row `begun` stays open, and is settled once the file can be read
-            return step._replace(why=f"failed: whether it was saved is to be told by verify ({error.strerror or error})")
+        except OSError as error:  # the row `begun` stays open, and is settled once it can be read
+            told = f"whether it was saved is to be told by verify ({error.strerror or error})"
+            return step._replace(why=f"failed: {told}")
         self._trail.add(run, step.path, step.path, event, status=status, told=why or None, **known)
         return step if event == "saved" else step._replace(why=f"failed: {why}")
 
@@ -179,7 +200,8 @@ class Undo:
         watched = Watched(name, step.seen)
         if step.kept is not None and step.kept_seen is not None:
             kept = _name(step.kept)
-            return self._maker.save(kept, NOTHING, name, watched._replace(source=(kept, step.kept_seen)))
+            watched = watched._replace(source=(kept, step.kept_seen))
+            return self._maker.save(kept, NOTHING, name, watched)
         assert step.reverse is not None
         in_place = self._in_place and os.stat(name).st_nlink == 1
         return self._maker.save(name, step.reverse, None if in_place else name, watched)
@@ -205,6 +227,7 @@ def told_of(steps: List[Step]) -> str:
     back = sum(step.possible and step.kept is None for step in steps)
     before = sum(step.back is not None for step in steps)
     return (
-        f"{len(steps):,} files: {kept:,} from the bytes that were kept, {back:,} by the script of their old numbers, "
-        f"{len(steps) - kept - back - before:,} not" + (f", {before:,} done before" if before else "")
+        f"{len(steps):,} files: {kept:,} from the bytes that were kept, "
+        f"{back:,} by the script of their old numbers, {len(steps) - kept - back - before:,} not"
+        + (f", {before:,} done before" if before else "")
     )

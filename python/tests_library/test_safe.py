@@ -198,13 +198,13 @@ def done_more(database, mend, more):
         time.sleep(0.002)
 
 
-@pytest.mark.parametrize("words", [(), ("--keep", "keep")], ids=["over", "kept"])
+@pytest.mark.parametrize("words", [("--over",), ("--over", "--keep"), ("--out",)], ids=["over", "kept", "out"])
 def test_killed_and_gone_on_with(copies, tmp_path, words):
     """A script that takes a trace away each time it is run: at the end each file has lost one, without a scan between."""
-    database = tmp_path / "lib.db"
+    database, before = tmp_path / "lib.db", contents(copies)
     (tmp_path / "fix.txt").write_text("delete 1\n")
-    words = [str(tmp_path / word) if word == "keep" else word for word in words]
-    line = ["mend", "--db", database, "--script", tmp_path / "fix.txt", "--where", "1", "--over", "--apply", "--quiet", *words]
+    line = ["mend", "--db", database, "--script", tmp_path / "fix.txt", "--where", "1", "--apply", "--quiet", *words]
+    line += [tmp_path / "other"] if words[-1] != "--over" else []
     dice, killed = random.Random(3), 0
     for _ in range(8):
         mend = started(*line)
@@ -212,12 +212,15 @@ def test_killed_and_gone_on_with(copies, tmp_path, words):
         mend.send_signal(signal.SIGKILL)
         killed += mend.wait() == -signal.SIGKILL
     assert killed >= 5
-    told = library(*line)
-    assert " 0 refused, 0 with nothing to change, 0 left, 0 failed" in told
+    assert " 0 refused, 0 with nothing to change, 0 left, 0 failed" in library(*line)
+    made = tmp_path / "other" if words == ("--out",) else copies
     for number in range(COUNT):
-        with segywb.open(copies / f"{number}.sgy") as volume:
+        with segywb.open(made / f"{number}.sgy") as volume:
             assert len(volume) == 11
+    assert (contents(copies) == before) == (words == ("--out",))
+    assert sorted(os.listdir(made)) == sorted(os.listdir(copies))
     assert f"{COUNT} files are what the trail says, 0 are not" in library("verify", "--db", database)
+    assert f"{COUNT} done before" in library(*line)
 
 
 # ---- Ctrl-C at a terminal, which reaches every process of it

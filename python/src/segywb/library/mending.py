@@ -25,7 +25,10 @@ VALUED = ("order", "samples", "format", "texts")
 
 
 def mend(told: Any) -> int:
-    """Runs the script on each chosen file: dry, or with --apply. The status is 1 where one was refused, left or failed."""
+    """Runs the script on each chosen file: dry, or with --apply.
+
+    The status is 1 where one was refused, left or failed.
+    """
     plan = _plan(told)
     program = talk.found()
     with closing(schema.read_only(told.db)) as database:
@@ -35,7 +38,8 @@ def mend(told: Any) -> int:
             raise Unwanted(f"{error}: nothing was run") from error
         clash = clashing(plan, _each(database, numbers))
         if clash:
-            raise Unwanted(f"{shown(clash[0])} and {shown(clash[1])} would be saved to one path: nothing was run")
+            both = f"{shown(clash[0])} and {shown(clash[1])}"
+            raise Unwanted(f"{both} would be saved to one path: nothing was run")
         print(_taken_back(plan))
         if not told.apply:
             run = Mend(plan, _maker(told, program.option, None), None, 0, None)
@@ -69,7 +73,7 @@ def _plan(told: Any) -> Plan:
 
 def _able() -> None:
     if not programs.knows("--save-at-end"):
-        raise Unwanted("the program is older than --save-at-end, by which a file is saved that is as it was looked at")
+        raise Unwanted("the program is older than --save-at-end, by which files are saved here")
 
 
 def _taken_back(plan: Plan) -> str:
@@ -84,14 +88,20 @@ def _taken_back(plan: Plan) -> str:
 
 
 def _maker(told: Any, option: str, held: Any) -> Maker:
-    valued = {f"--{name}": getattr(told, name) for name in VALUED}
-    more = [*(f"--{name}" for name in PLAIN if getattr(told, name)), *(word for name, value in valued.items() if value is not None for word in (name, str(value)))]
-    return Maker(lambda size: [*asking.options(size, option), *more], not told.go_on, lambda size: limit_of(size, told.limit), held)
+    more = [f"--{name}" for name in PLAIN if getattr(told, name)]
+    for name in VALUED:
+        if getattr(told, name) is not None:
+            more += [f"--{name}", str(getattr(told, name))]
+    return Maker(
+        lambda size: [*asking.options(size, option), *more], not told.go_on,
+        lambda size: limit_of(size, told.limit), held,
+    )
 
 
 def _options(told: Any) -> str:
     """How a run is done, as the trail has it."""
-    return json.dumps({**{name: getattr(told, name) for name in (*PLAIN, *VALUED)}, "go_on": told.go_on, "in_place": told.in_place})
+    readings = {name: getattr(told, name) for name in (*PLAIN, *VALUED)}
+    return json.dumps({**readings, "go_on": told.go_on, "in_place": told.in_place})
 
 
 def _each(database: sqlite3.Connection, numbers: List[int]) -> Iterator[Chosen]:
@@ -101,13 +111,18 @@ def _each(database: sqlite3.Connection, numbers: List[int]) -> Iterator[Chosen]:
             yield row
 
 
-def _known(database: sqlite3.Connection, numbers: List[int], plan: Plan, unread: Set[str]) -> Iterator[Chosen]:
-    """The files with what is known of them: whether this script has been there, and whether it is open what a killed run did."""
+def _known(
+    database: sqlite3.Connection, numbers: List[int], plan: Plan, unread: Set[str]
+) -> Iterator[Chosen]:
+    """The files with what is known of them: whether this script has been there, and whether it is
+    open what a killed run did.
+    """
     links = Links(database, numbers)
     for file in _each(database, numbers):
         target, over = plan.target_text(file), plan.folder is None
         before = done(database, file, target, plan.script.sha256, over)
-        yield file._replace(done=before, open=target in unread, same=links.same(file.path, target) if over else "")
+        same = links.same(file.path, target) if over else ""
+        yield file._replace(done=before, open=target in unread, same=same)
 
 
 def _run(told: Any, run: Mend, plan: Plan, some: Iterator[Chosen]) -> Dict[str, List[int]]:
@@ -120,17 +135,21 @@ def _run(told: Any, run: Mend, plan: Plan, some: Iterator[Chosen]) -> Dict[str, 
     return counted(each())
 
 
-def _applied(told: Any, plan: Plan, program: talk.Program, chooser: sqlite3.Connection, numbers: List[int]) -> Dict[str, List[int]]:
+def _applied(
+    told: Any, plan: Plan, program: talk.Program, chooser: sqlite3.Connection, numbers: List[int]
+) -> Dict[str, List[int]]:
     lock = Lock(told.db)
     try:
         with schema.opened(schema.existing, told.db) as database:
             trail = Trail(database)
             maker = _maker(told, program.option, lock.descriptor)
-            number = trail.begin(Run("mend", plan.script, told.where, _options(told), plan.folder, plan.keep), program)
+            run = Run("mend", plan.script, told.where, _options(told), plan.folder, plan.keep)
+            number = trail.begin(run, program)
             again = Again(database, trail, number, program, told.limit)
             unread = _settled(trail, again)
             some = _known(chooser, numbers, plan, unread)
-            outcomes = _run(told, Mend(plan, maker, trail, number, again if plan.folder is None else None), plan, some)
+            mends = Mend(plan, maker, trail, number, again if plan.folder is None else None)
+            outcomes = _run(told, mends, plan, some)
             again.end()
             print(f"{summary(outcomes, True)}\nThis was run {number}: the trail has it.")
             return outcomes
@@ -139,7 +158,7 @@ def _applied(told: Any, plan: Plan, program: talk.Program, chooser: sqlite3.Conn
 
 
 def _settled(trail: Trail, again: Optional[Again]) -> Set[str]:
-    """Tells what killed runs did, and reads what they saved anew; the targets of which that is still open."""
+    """Tells what killed runs did, and reads what they saved anew; the targets that stay open."""
     settled = trail.settle()
     for one in settled:
         print(one.told)
@@ -171,7 +190,10 @@ def verified(told: Any) -> int:
 
 
 def undo(told: Any) -> int:
-    """Tells what of a run can be taken back, and does it with --apply. The status is 1 where something cannot."""
+    """Tells what of a run can be taken back, and does it with --apply.
+
+    The status is 1 where something cannot.
+    """
     program = talk.found()
     _able()
     lock = Lock(told.db)
@@ -183,7 +205,8 @@ def undo(told: Any) -> int:
             told.go_on, told.in_place = False, run.get("in_place", False)
             for name in (*PLAIN, *VALUED):  # a run of before has no row of the later ones
                 setattr(told, name, run.get(name))
-            taken = verify.Undo(trail, _maker(told, program.option, lock.descriptor), told.run_number, told.in_place)
+            maker = _maker(told, program.option, lock.descriptor)
+            taken = verify.Undo(trail, maker, told.run_number, told.in_place)
             steps = list(taken.steps(told.jobs or len(os.sched_getaffinity(0))))
             for step in steps:
                 print(f"{shown(step.path)}: {step.told}")
@@ -209,9 +232,11 @@ def _run_of(trail: Trail, number: int) -> Dict[str, Any]:
 
 
 def _take_back(
-    told: Any, database: sqlite3.Connection, trail: Trail, taken: verify.Undo, steps: List[verify.Step], program: talk.Program
+    told: Any, database: sqlite3.Connection, trail: Trail, taken: verify.Undo,
+    steps: List[verify.Step], program: talk.Program,
 ) -> int:
-    number = trail.begin(Run("undo", None, None, _options(told), None, None, told.run_number), program)
+    run = Run("undo", None, None, _options(told), None, None, told.run_number)
+    number = trail.begin(run, program)
     again = Again(database, trail, number, program, told.limit)
 
     def back(step: verify.Step) -> verify.Step:
@@ -221,7 +246,8 @@ def _take_back(
         return left
 
     done = 0
-    for step in side_by_side(back, (step for step in steps if step.possible), told.jobs or len(os.sched_getaffinity(0))):
+    jobs = told.jobs or len(os.sched_getaffinity(0))
+    for step in side_by_side(back, (step for step in steps if step.possible), jobs):
         done += not step.why
         if step.why:
             print(f"{shown(step.path)}: {step.why}")

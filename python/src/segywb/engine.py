@@ -7,7 +7,7 @@ import stat
 import threading
 import warnings
 from contextlib import closing, contextmanager
-from typing import Iterable, Iterator, List, NamedTuple, Optional, Sequence
+from typing import Callable, Iterable, Iterator, List, NamedTuple, Optional, Sequence
 
 from .answers import Answer, info, unexpected
 from .errors import Closed, FileChanged, LoadRefused, OptionRefused, PathRefused, ProgramEnded, Refused, SaveFailed
@@ -55,6 +55,7 @@ class Engine:
         self._closed = False
         self._stamp = self._look()
         _speakable(self.path)
+        self._beside: Optional[Session] = None
         self._session: Optional[Session] = self._start(self.history)
 
     # ---- sessions
@@ -110,9 +111,9 @@ class Engine:
 
     def interrupt(self) -> None:
         """Ends the program while another thread waits for it. That thread gets an exception."""
-        session = self._session
-        if session is not None:
-            session.interrupt()
+        for session in (self._session, self._beside):
+            if session is not None:
+                session.interrupt()
 
     def close(self) -> None:
         """Ends the session for good."""
@@ -142,6 +143,23 @@ class Engine:
         """The answers to batches of queries, batch by batch, as they stand. To be closed where it is not read to its end."""
         with self._lock, closing(self.session().stream(some)) as answers:
             yield from answers
+
+    @contextmanager
+    def aside(self, edits: Iterable[Batch]) -> Iterator[Callable[[Iterable[Batch]], Answers]]:
+        """A second session over the file with the accepted edits and further ones, which are told to it alone: what asks it. It is ended behind the
+        questions. The bytes of the file stay on disk, so that they do not stand in memory twice."""
+        with self._lock:
+            self._open()
+            words = [] if "--on-disk" in self.options else ["--on-disk"]
+            session = self._beside = self._start(self.history, words)
+            try:
+                for answers in session.stream(edits):
+                    if answers.replace(b"ok\n\n", b""):
+                        raise unexpected(decode(answers[:200]))
+                yield session.stream
+            finally:
+                self._beside = None
+                session.kill()
 
     def ask(self, line: bytes) -> List[str]:
         """The lines of the answer to one query."""

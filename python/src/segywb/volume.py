@@ -12,7 +12,7 @@ from .errors import ProgramEnded
 from .history import Step
 from .lines import Field, Path, number
 from .repairs import InPlace
-from .reports import Reports
+from .sections import Sections
 
 # The program's own limits on a file, on disk and in memory. The first one is told in both, so that no edit is refused in memory alone; a file
 # above the second one is not read into memory unless it is asked for.
@@ -20,7 +20,7 @@ MOST_BYTES = 1 << 40
 MOST_IN_MEMORY = 1 << 32
 
 
-class Volume(Reports):
+class Volume(Sections):
     """A SEG-Y file under edits, made by ``segywb.open``.
 
     Traces count from 1, samples of a trace from 0, as in the program. A line that the program refuses is a ``segywb.Refused``, and then

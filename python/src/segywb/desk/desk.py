@@ -11,6 +11,7 @@ import segywb
 
 from .. import answers, arrays, program
 from ..errors import FileChanged, LoadRefused, OptionRefused
+from ..fields import TRACE_NAMES
 from ..lines import of_script
 from ..volume import Volume
 from . import mirror, refusals
@@ -21,6 +22,8 @@ RANGES = ("inline", "crossline", "offset", "x", "y")
 QUESTIONS = ("info", "totals", *(f"range {which}" for which in RANGES), "histogram", "inlines", "crosslines", "fields")
 MOST_SHOTS = 12
 MOST_ANSWER = 400
+# Bytes of a trace header that tell where a sample stands in time: delay and interval, from the first to behind the last.
+TIMES = (109, 119)
 
 
 class Shot(NamedTuple):
@@ -72,6 +75,9 @@ class Desk:
         self.opaque = False
         self.version = 0
         self.edited: Optional[int] = None  # the version before the last edit, where that edit is the last step
+        self.sampled = 0  # the last version in which a sample, or the position of a trace, may have become another
+        self.opened_at = 0  # the version in which the file as it was loaded became another: by a save over it
+        self.progress = (0, 0)  # how much of what is read at the moment is there, and of how much
         self.kept_cells: List[Tuple[Mirror, Axis, Axis, Cells]] = []
         self._pending: List[str] = []
         self._shots: List[Shot] = []
@@ -307,6 +313,24 @@ class Desk:
             self._pending += lines
             self.edited = self.version
             self.version += 1
+            self._touched(lines)
+
+    def _touched(self, lines: Sequence[str]) -> None:
+        """These lines were done, or taken back: whether samples, positions or times may be others now."""
+        fields, known = self.volume.fields(), {}
+        for line in lines:
+            words = line.split()
+            name = mirror.written(words)
+            if name is not None and name not in known:
+                span = mirror.spanned(fields.get(name, TRACE_NAMES.get(name, name)))
+                known[name] = span is None or (span[0] < TIMES[1] and TIMES[0] < span[1])
+            if known[name] if name is not None else words[0] not in ("map", "unmap", "text"):
+                self.sampled = self.version
+                return
+
+    def progressed(self, done: int, of: int) -> None:
+        """How far a long reading is."""
+        self.progress = (done, of)
 
     def undo(self) -> Dict[str, Any]:
         """Takes the last step back."""
@@ -317,6 +341,7 @@ class Desk:
         self._keep(earlier[-1] if earlier else self._anew())
         self._before = self.edited = None
         self.version += 1
+        self._touched(lines)
         return {"lines": shortened(lines), "version": self.version}
 
     def redo(self) -> Dict[str, Any]:
@@ -344,6 +369,7 @@ class Desk:
         self._loaded = self._now = self._anew()
         self._shots, self._before, self.edited = [self._now], None, None
         self.version += 1
+        self.sampled = self.opened_at = self.version
 
     def unlinked(self) -> None:
         """After a save that replaced another link of the file: it is the same file, whose number of links has changed, and a time with it."""

@@ -1,0 +1,221 @@
+"""Sections: the samples of many traces, by each way in which they are asked, and the pictures of them."""
+
+import random
+import struct
+
+import files
+import numpy as np
+import pytest
+
+import segywb
+from segywb import line_ends, many_samples
+from segywb.many_samples import Kind, chosen
+from segywb.stream import empty_lines, end_of
+
+WAYS = ("lines", "slices", "aside")
+
+
+def one_by_one(volume, traces):
+    """The samples of traces, each asked by a line of its own."""
+    return [volume.samples(trace).tolist() for trace in traces]
+
+
+def same(one, other):
+    """Whether two arrays hold the same numbers, those that are none in the same places, and zeros of the same sign."""
+    one, other = np.asarray(one), np.asarray(other)
+    plain = one.shape == other.shape and one.dtype == other.dtype
+    return plain and (one.tobytes() == other.tobytes() or (np.array_equal(one, other, equal_nan=True) and np.array_equal(np.signbit(one[one == 0]), np.signbit(other[other == 0]))))
+
+
+@pytest.fixture(params=WAYS)
+def way(request, monkeypatch):
+    """Each way in turn, whichever is the shortest."""
+    monkeypatch.setattr(many_samples, "chosen", lambda *asked: request.param if asked[1] else "none")
+    return request.param
+
+
+def chance_file(path, form, fixed, seed):
+    """Traces of chance bytes, of their own lengths or not."""
+    chance, size = random.Random(seed), {1: 4, 2: 4, 3: 2, 5: 4, 6: 8, 8: 1, 9: 8, 11: 2, 12: 8}[form]
+    traces = []
+    for n in range(1, 24):
+        count = 7 if fixed else chance.randint(1, 11)
+        patterns = [chance.choice([chance.getrandbits(8 * size), 0, 1, (1 << 8 * size) - 1, 1 << (8 * size - 1), chance.getrandbits(8)]) for _ in range(count)]
+        traces.append(files.trace(n, n % 5, n % 4, patterns, size=size, signed=False))
+    return files.write(path, files.header(), files.binary(samples=7, form=form, fixed=int(fixed)), *traces)
+
+
+@pytest.mark.parametrize("fixed", [True, False])
+@pytest.mark.parametrize("form", [1, 2, 3, 5, 6, 8, 9, 11, 12])
+def test_all_ways_answer_what_the_lines_do(tmp_path, way, form, fixed):
+    with segywb.open(chance_file(tmp_path / "chance.sgy", form, fixed, form)) as volume:
+        volume.move(3, 19)
+        volume.delete(11)
+        where = [22, 1, 7, 7, 19, 2]
+        array, traces, times = volume.section(where)
+        assert traces.tolist() == where and array.dtype == volume.sample_type and times.tolist() == [4.0 * at for at in range(array.shape[1])]
+        wanted = [volume.samples(trace) for trace in where]
+        assert isinstance(array, np.ma.MaskedArray) == (len({len(one) for one in wanted}) > 1)
+        for row, samples in zip(array, wanted):
+            assert same(np.ma.compressed(row), samples)
+        assert array.shape == (6, max(map(len, wanted)))
+
+
+def test_the_selection_and_its_order(opened):
+    volume = opened("order")
+    lines = volume.headers("inline", "crossline").tolist()
+    found = volume.section(inline=102)
+    assert found.traces.tolist() == [at for _, at in sorted((cross, at) for at, (line, cross) in enumerate(lines, 1) if line == 102)]
+    assert found.array.tolist() == one_by_one(volume, found.traces) and found.shape == (4, 5)
+    found = volume.section(crossline=203)
+    assert found.traces.tolist() == [at for _, at in sorted((line, at) for at, (line, cross) in enumerate(lines, 1) if cross == 203)]
+    both = volume.section(inline=102, crossline=203)
+    assert len(both.traces) == 1 and lines[both.traces[0] - 1] == (102, 203)
+    assert volume.section_traces(slice(-3, None)).tolist() == [10, 11, 12] and volume.section_traces(scalar=-100).tolist() == list(range(1, 13))
+    assert volume.section_traces([9, 2, 5], crossline=volume.get(2, "crossline")).tolist()[0] in (9, 2, 5)
+    assert volume.section_traces(**{"@189:4": 103}).tolist() == [at for at, (line, _) in enumerate(lines, 1) if line == 103]
+
+
+def test_edits_are_seen(opened, way):
+    volume = opened("cube")
+    volume.patch(6, 1, [7, -8])
+    volume.copy(6, 1)
+    volume.set(3, "inline", 102)
+    found = volume.section(inline=102)
+    assert found.traces.tolist() == [6, 1, 3, 7, 8, 9] or sorted(found.traces.tolist()) == [1, 3, 6, 7, 8, 9]
+    assert found.array.tolist() == one_by_one(volume, found.traces)
+    assert volume.samples(1).tolist()[1:3] == [7, -8] and volume.edits == ["patch 6 1 7 -8", "copy 6 1", "set 3 inline 102"]
+    assert len(volume) == 13 and volume.alive
+
+
+def test_nothing_and_no_such_traces(opened, tmp_path):
+    volume = opened("cube")
+    found = volume.section(inline=999)
+    assert found.shape == (0, 0) and found.traces.tolist() == [] and found.times.tolist() == []
+    assert volume.section([]).shape == (0, 0)
+    with pytest.raises(segywb.Refused) as refused:
+        volume.section([1, 13])
+    assert refused.value.code == "E01"
+    with pytest.raises(segywb.Refused):
+        volume.section([0])
+    with pytest.raises(segywb.Refused) as refused:
+        volume.section(colour=7)
+    assert refused.value.code == "E02"
+    with pytest.raises(TypeError):
+        volume.section(inline=102.0)
+    with segywb.open(files.empty(tmp_path / "none.sgy")) as none:
+        assert none.section().shape == (0, 0)
+
+
+def test_samples_without_values_are_refused(tmp_path):
+    with segywb.open(files.floats(tmp_path / "floats.sgy"), floats=False, opaque_samples=True) as volume:
+        with pytest.raises(segywb.Refused) as refused:
+            volume.section()
+        assert refused.value.code == "E12" and len(volume) == 3
+
+
+def test_times(tmp_path):
+    traces = []
+    for n, delay in enumerate((100, 108, 96), 1):
+        made = bytearray(files.trace(n, 1, n, [n, n + 10]))
+        made[108:110] = struct.pack(">h", delay)
+        made[116:118] = struct.pack(">H", 2000)
+        traces.append(bytes(made))
+    with segywb.open(files.write(tmp_path / "delays.sgy", files.header(), files.binary(), *traces)) as volume:
+        array, _, times = volume.section()
+        assert times.tolist() == [96.0 + 2 * at for at in range(8)]
+        assert array.tolist() == [[None, None, 1, 11, None, None, None, None], [None] * 6 + [2, 12], [3, 13, None, None, None, None, None, None]]
+        assert volume.section([1]).times.tolist() == [100.0, 102.0] and not isinstance(volume.section([1]).array, np.ma.MaskedArray)
+        volume.set(1, "interval", 0)
+        assert volume.section([1, 2, 3]).times.tolist()[:2] == [96.0, 100.0]  # they do not agree: that of the binary header
+        volume.set_bin("interval", 0)
+        assert volume.section([1, 2, 3]).times.tolist() == [0.0, 1.0]  # none is told: the numbers of the samples
+
+
+def test_an_aside_is_seen_nowhere(opened, monkeypatch):
+    """Neither in the session nor in the edits; and where it fails the volume goes on."""
+    monkeypatch.setattr(many_samples, "chosen", lambda *asked: "aside")
+    volume = opened("cube")
+    pid, path = volume.pid, volume.path
+    assert volume.section([2, 5]).array.tolist() == one_by_one(volume, [2, 5])
+    assert volume.pid == pid and volume.edits == [] and len(volume) == 12 and volume.undoable == 0
+    told = []
+    volume.section_of([1, 2], lambda done, of: told.append((done, of)))
+    assert told[-1][0] == told[-1][1] > 0
+    with open(path, "ab") as file:
+        file.write(b"x")
+    with pytest.raises(segywb.FileChanged):
+        volume.section([2, 5])
+    assert len(volume) == 12
+
+
+def test_which_way():
+    """A few samples by lines; a great part of the file by slices; a line of a large file aside, where the file can be read twice."""
+    assert chosen(1, 1500, 1500, 10**6, 10**9) == "lines"
+    assert chosen(1000, 1500000, 1500, 1000, 3 * 10**6) == "slices"
+    assert chosen(1000, 1500000, 1500, 10**5, 3 * 10**8) == "aside"
+    assert chosen(1000, 1500000, 1500, 10**5, None) == "lines"
+
+
+# ---- the numbers at the ends of lines
+
+
+def ends_of(words):
+    text = line_ends.bytes_of(b"".join(b"row 1 2 3 " + word.encode() + b"\n" for word in words))
+    return text, np.flatnonzero(text == 10)
+
+
+def test_whole_numbers():
+    chance = random.Random(7)
+    numbers = [0, 1, -1, 9, 10, 99999999, 999999999, 1000000000, -999999999, -(2**31), 2**63 - 1, -(2**63)] + [chance.randint(-(10**k), 10**k) for k in range(19) for _ in range(20)]
+    text, ends = ends_of(map(str, numbers))
+    values, starts = line_ends.whole(text, ends)
+    assert values.tolist() == numbers and values.dtype == np.int64
+    assert [text[start:end].tobytes().decode() for start, end in zip(starts, ends)] == list(map(str, numbers))
+    text, ends = ends_of(map(str, [2**64 - 1, 0, 2**63]))
+    assert line_ends.whole(text, ends, True)[0].tolist() == [2**64 - 1, 0, 2**63]
+
+
+@pytest.mark.parametrize("narrow", [False, True])
+def test_decimals(narrow):
+    chance = random.Random(8)
+    words = ["0", "-0", "nan", "inf", "-inf", "1e20", "5e-324", "-1.5e-7", "123456790", "0.1", "-118.625", "9007199254740993", "1.00000005960464477539062500000001", "1234567.8901234567", "1e300"]
+    words += [repr(chance.uniform(-1, 1) * 10 ** chance.randint(-30, 30)) for _ in range(2000)]
+    words += [repr(float(np.float32(chance.uniform(-1, 1) * 10 ** chance.randint(-8, 8)))) for _ in range(2000)]
+    words += [str(np.float32(chance.uniform(-1, 1) * 10 ** chance.randint(-4, 9))) for _ in range(2000)]
+    text, ends = ends_of(words)
+    values, starts = line_ends.decimals(text, ends, narrow)
+    wanted = np.array([segywb.answers.floating(word, narrow and abs(float(word)) < 3e38) for word in words])
+    with np.errstate(over="ignore"):
+        assert same(values, wanted.astype(np.float32) if narrow else wanted)
+    assert [text[start:end].tobytes().decode() for start, end in zip(starts, ends)] == words
+
+
+@pytest.mark.parametrize("answer", [b"", b"slice 1\n\n", b"slice 2\nrow 1 2 3 4\n\n", b"slice x\n\n", b"value 7\n\n", b"slice 0\n\nslice 0\n\n"])
+def test_other_answers_are_no_slices(answer):
+    with pytest.raises(segywb.ProgramEnded):
+        line_ends.lists(line_ends.bytes_of(answer), b"slice ", 1)
+
+
+@pytest.mark.parametrize("word", ["", "x", "1x", "12345678901234567890123"])
+def test_what_is_no_number(word):
+    text, ends = ends_of(["5", word])
+    with pytest.raises(segywb.ProgramEnded):
+        values, starts = line_ends.whole(text, ends)
+        line_ends.whole(text, starts - 1)
+        raise segywb.ProgramEnded("") if (text[starts - 1] != 32).any() else AssertionError(values)
+    if word != "12345678901234567890123":
+        with pytest.raises(segywb.ProgramEnded):
+            line_ends.decimals(text, ends)
+
+
+@pytest.mark.parametrize("seed", range(20))
+def test_where_an_empty_line_ends(seed):
+    """Also of data so long that it is halved, and with empty answers in it."""
+    chance = random.Random(seed)
+    parts = [b"value %d\n\n" % chance.randint(0, 10**chance.randint(1, 300)) if seed % 2 or chance.random() < 0.9 else b"\n" for _ in range(300)]
+    data, before = b"".join(parts), chance.choice([b"\n", b"7"])
+    data = (b"\n" if chance.random() < 0.5 else b"") + data
+    for number in range(1, empty_lines(data, before) + 1):
+        end = end_of(data, before, number)
+        assert empty_lines(data[:end], before) == number and empty_lines(data[:end - 1], before) == number - 1

@@ -280,7 +280,7 @@ class Server:
                 self._end("the program ended")
             else:
                 done, of = self.desk.progress
-                self.status = {"phase": "ready", "version": self.desk.version, **({"done": done, "of": of} if of else {})}
+                self.status = {"phase": "ready", "version": self.desk.version, "grid": self.desk.gridded, **({"done": done, "of": of} if of else {})}
         return self.status
 
     async def _events(self, request: web.Request) -> web.StreamResponse:

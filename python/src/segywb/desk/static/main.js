@@ -9,6 +9,7 @@ import * as layout from "./layout.js";
 import * as maps from "./maps.js";
 import * as offers from "./offers.js";
 import * as save from "./save.js";
+import * as section from "./section.js";
 import * as side from "./side.js";
 import { done, part, refresh, store } from "./store.js";
 import * as table from "./table.js";
@@ -73,6 +74,7 @@ function phase(status) {
   refusal = [];
   document.body.dataset.phase = status.phase;
   if (store.ready) ready(status);
+  if (store.ready) section.progress(status);
 }
 
 function loading(status) {
@@ -89,6 +91,7 @@ function loading(status) {
 function ready(status) {
   const first = at("main").hidden;
   at("main").hidden = false;
+  if (first && status.grid === false) layout.first("section");
   if (first || status.version > store.version) {
     store.version = Math.max(store.version, status.version);
     refresh();
@@ -154,6 +157,7 @@ async function start() {
   table.start();
   offers.start();
   side.start();
+  section.start();
   graph.start();
   csv.start();
   layout.start();

@@ -4,13 +4,18 @@ import random
 import struct
 
 import files
+import matplotlib
+import matplotlib.pyplot
 import numpy as np
 import pytest
 
 import segywb
-from segywb import line_ends, many_samples
+from segywb import gains, line_ends, many_samples
 from segywb.many_samples import Kind, chosen
 from segywb.stream import empty_lines, end_of
+from segywb.thinning import peaks
+
+matplotlib.use("Agg")
 
 WAYS = ("lines", "slices", "aside")
 
@@ -219,3 +224,97 @@ def test_where_an_empty_line_ends(seed):
     for number in range(1, empty_lines(data, before) + 1):
         end = end_of(data, before, number)
         assert empty_lines(data[:end], before) == number and empty_lines(data[:end - 1], before) == number - 1
+
+
+# ---- gains, and pictures
+
+
+def by_hand(values, step, gain):
+    """A gain sample by sample."""
+    made = np.array(values, dtype=np.float64)
+    for row, samples in enumerate(np.asarray(values, dtype=np.float64)):
+        known = np.isfinite(samples)
+        if gain.balance == "trace":
+            size = np.sqrt(np.mean(samples[known] ** 2)) if known.any() else 0
+            made[row] = samples / (size or 1)
+        if gain.balance == "agc":
+            wide = max(1, int(round(gain.window / step)))
+            for at in range(len(samples)):
+                low, high = max(at - wide // 2, 0), min(at - wide // 2 + wide, len(samples))
+                some = samples[low:high][known[low:high]]
+                size = np.sqrt(np.mean(some**2)) if len(some) else 0
+                made[row, at] = samples[at] / (size or 1)
+    return -made if gain.reverse else made
+
+
+@pytest.mark.parametrize("gain", [gains.Gain(), gains.Gain(100, "trace"), gains.Gain(50, "agc", 20), gains.Gain(99, "agc", 1), gains.Gain(98, "agc", 1e6, True), gains.Gain(80, "none", 5, True)])
+def test_gains(gain):
+    chance = np.random.default_rng(3)
+    values = chance.normal(0, 100, (7, 40)).astype(np.float32)
+    values[2] = 0
+    values[3, 5:9] = np.nan
+    values[4] = np.nan
+    made, end = gains.gained(values, 4.0, gain)
+    wanted = by_hand(values, 4.0, gain)
+    assert made.dtype == np.float32 and np.allclose(made, wanted, rtol=1e-5, atol=1e-5, equal_nan=True)
+    assert end == pytest.approx(float(np.nanpercentile(np.abs(made), gain.percentile)), rel=1e-5)
+    codes = gains.codes(made, end)
+    assert (codes[np.isnan(made)] == gains.LACKS).all() and codes[~np.isnan(made)].min() >= -127
+    assert np.allclose(codes[~np.isnan(made)], np.clip(made[~np.isnan(made)] / end, -1, 1) * 127, atol=0.5001)
+
+
+def test_gains_of_little():
+    for values in (np.zeros((3, 4), np.float32), np.zeros((0, 0), np.float32), np.full((2, 2), np.nan, np.float32)):
+        made, end = gains.gained(values, 0.0, gains.Gain(98, "agc"))
+        assert end == 1.0 and np.array_equal(made, values, equal_nan=True)
+    spike = np.zeros((1, 1000), np.float32)
+    spike[0, 7] = -5
+    assert gains.gained(spike, 4.0, gains.Gain(50))[1] == 5  # more than half are zeros: the greatest
+
+
+@pytest.mark.parametrize("gain", [gains.Gain(0), gains.Gain(100.1), gains.Gain(float("nan")), gains.Gain(98, "loud"), gains.Gain(98, "agc", 0), gains.Gain(98, "agc", float("inf")), gains.Gain(98, "agc", -3)])
+def test_gains_that_make_no_sense(opened, gain):
+    with pytest.raises(ValueError):
+        gains.checked(gain)
+    with pytest.raises(ValueError):
+        opened("cube").plot_section(inline=102, gain=gain)
+
+
+@pytest.mark.parametrize("shape, tall, wide", [((10, 10), 3, 4), ((7, 5), 7, 5), ((7, 5), 100, 2), ((1, 900), 5, 13), ((333, 2), 10, 1), ((0, 5), 3, 3), ((5, 0), 3, 3)])
+def test_peaks(shape, tall, wide):
+    values = np.random.default_rng(5).integers(-128, 128, shape).astype(np.int8)
+    made = peaks(values, tall, wide)
+    rows, columns = min(shape[0], tall), min(shape[1], wide)
+    assert made.shape == (rows, columns) and made.dtype == np.int8
+    for row in range(rows):
+        for column in range(columns):
+            some = values[row * shape[0] // rows:(row + 1) * shape[0] // rows, column * shape[1] // columns:(column + 1) * shape[1] // columns].astype(int)
+            known = some[some != -128]
+            assert (abs(int(made[row, column])) == np.abs(known).max() and made[row, column] in known) if len(known) else made[row, column] == -128
+
+
+def test_a_picture_of_a_section(opened):
+    volume = opened("cube")
+    volume.patch(6, 2, 500)
+    rows = volume.plot_section(inline=102, style="both", above=["x", 193], gain=gains.Gain(100), colours="purple-white-orange")
+    assert [axes.get_ylabel() for axes in rows] == ["x", "@193:4", "time (ms)"] and rows[-1].get_xlabel() == "crossline" and rows[0].get_title() == "inline 102"
+    assert rows[0].lines[0].get_ydata().tolist() == volume.headers("x", traces=[5, 6, 7, 8])["x"].tolist()
+    (image,) = rows[-1].images
+    assert image.get_clim() == (-500, 500) and list(image.get_extent()) == [-0.5, 3.5, 18.0, -2.0] and image.get_cmap().name == "PuOr_r"
+    assert np.allclose(image.get_array(), volume.section(inline=102).array.T, atol=2) and len(rows[-1].lines) == 4
+    assert rows[-1].get_ylim() == (18.0, -2.0)
+    (axes,) = volume.plot_section([3, 1], style="wiggles")
+    assert axes.get_xlabel() == "trace" and not axes.images and len(axes.collections) == 2
+    matplotlib.pyplot.close("all")
+
+
+def test_a_picture_is_saved(opened, tmp_path):
+    before = matplotlib.pyplot.get_fignums()
+    opened("float_line").plot_section(path=tmp_path / "section.png", gain=gains.Gain(balance="trace"))
+    assert (tmp_path / "section.png").read_bytes().startswith(b"\x89PNG") and matplotlib.pyplot.get_fignums() == before
+    opened("cube").plot_section(inline=999, style="both", path=tmp_path / "none.png")  # no trace has it
+    for words in ({"style": "dots"}, {"colours": "rainbow"}):
+        with pytest.raises(ValueError):
+            opened("cube").plot_section(inline=102, **words)
+    with pytest.raises(segywb.Refused):
+        opened("cube").plot_section(inline=102, above=["colour"])

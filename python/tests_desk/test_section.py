@@ -2,6 +2,7 @@
 
 import json
 import math
+import os
 import struct
 import urllib.request
 
@@ -444,3 +445,51 @@ def test_a_folded_section_asks_nothing(opened):
     assert page.data("sectionVersion") is None
     opened_section(page)
     assert page.data("sectionVersion") == "2"
+
+
+@pytest.mark.parametrize("name", ["section", "section-compare"])
+def test_pictures(opened, tmp_path, name):
+    """Pictures of the page for the documents; nothing is wider than the window."""
+    page = opened(made_line(tmp_path / "line.sgy", traces=480, samples=400, form=5, records=48) if name == "section-compare" else survey_of_waves(tmp_path / "survey.sgy"))
+    page.browser.execute_cdp_cmd("Emulation.setDeviceMetricsOverride", {"width": 1440, "height": 900, "deviceScaleFactor": 1, "mobile": False})
+    page.js("localStorage.clear()")
+    page.open()
+    opened_section(page)
+    if name == "section":
+        page.press("#section .to-left")
+        change(page, "section-scale", "red-white-blue")
+        change(page, "section-headers", "offset")
+        page.wait(lambda: len(told(page)["sides"][0]["headers"]) == 1)
+        point(page, spot(page, 0.48, 0.5), spot(page, 0.5, 0.52))
+        page.wait(lambda: "sample" in page.text("section-under"))
+    else:
+        page.run("patch 60 150 2000 -2000 2000 -2000 2000")
+        page.run("copy 70 75")
+        change(page, "section-value", "102")
+        change(page, "section-style", "wiggles")
+        change(page, "section-balance", "agc")
+        change(page, "section-side", "both")
+        page.wait(lambda: told(page)["value"] == 102 and len(told(page)["sides"]) == 2 and told(page)["sides"][0]["wiggles"] == 48)
+    page.wait(lambda: page.data("whole"))
+    page.js("document.activeElement.blur(); window.scrollTo(0, 0)")
+    assert page.js("return document.documentElement.scrollWidth") <= 1440 and page.find("line").rect["y"] + page.find("line").rect["height"] <= 900
+    folder = os.environ.get("SEGYWB_PICTURES") or str(tmp_path)
+    assert page.browser.save_screenshot(f"{folder}/desk-{name}.png")
+    page.js("localStorage.clear()")
+    page.browser.execute_cdp_cmd("Emulation.clearDeviceMetricsOverride", {})
+
+
+def survey_of_waves(path):
+    """A cube with layers that dip, and a fault in them."""
+    made = []
+    for inline in range(101, 125):
+        for crossline in range(201, 321):
+            fall = 20 if crossline > 262 + (inline - 101) // 2 else 0
+            top = [40 + (crossline - 201) * 0.15 + fall, 95 - (crossline - 201) * 0.1 + (inline - 101) * 0.4 + fall, 150 + 8 * math.sin(crossline / 14) + fall]
+            samples = [round(sum(size * math.cos((k - one) / 2.2) * math.exp(-((k - one) / 7) ** 2) for one, size in zip(top, (900, -600, 700))) + 25 * math.sin(k * crossline)) for k in range(220)]
+            trace = bytearray(files.trace(len(made) + 1, inline, crossline, samples))
+            trace[36:40] = struct.pack(">i", 150 + 25 * ((crossline * 7 + inline) % 12))
+            trace[70:72], trace[88:90] = struct.pack(">h", -100), struct.pack(">h", 1)
+            trace[180:188] = struct.pack(">2i", 45000000 + 1250 * (crossline - 201), 680000000 + 2500 * (inline - 101))
+            made.append(bytes(trace))
+    return files.write(path, files.header(), files.binary(samples=220), *made)

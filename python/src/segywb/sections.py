@@ -3,7 +3,7 @@
 from __future__ import annotations
 
 import importlib
-from typing import Any, Dict, NamedTuple, Optional, Sequence
+from typing import Any, Dict, NamedTuple, Sequence
 
 from . import lines, many_samples
 from .many_samples import Kind
@@ -124,7 +124,7 @@ def _placed(found: Any, sizes: Any, shifts: Any, where: Any, first: float, step:
     return Section(np.ma.MaskedArray(made, mask=~there), where, times)
 
 
-def described(values: Dict[str, int], traces: Optional[Any] = None) -> str:
+def described(values: Dict[str, int]) -> str:
     """What a section is of, in words.
 
     >>> described({"inline": 1100}), described({}), described({"field_record": 7, "offset": 0})

@@ -62,10 +62,11 @@ class Header(TypedDict):
 
 
 class Side(TypedDict):
-    """A picture: its bytes follow, first those of the density, row by row, then those of the wiggles, trace by trace."""
+    """A picture: its bytes follow, first those of the density, row by row, then those of the wiggles, trace by trace. ``part`` is what it shows: from one
+    trace to behind another and from one sample to behind another, and is less than the window where this side has less."""
 
     name: str
-    traces: int
+    part: List[int]
     rows: int
     columns: int
     wiggles: int
@@ -310,7 +311,8 @@ class Sections:
         traces = kept.traces[window.left:window.right]
         starts = starts_of(len(traces), columns) if columns else np.empty(0, dtype=np.int64)
         side: Side = {
-            "name": name, "traces": len(kept.traces), "rows": min(some.shape[0], window.tall), "columns": columns, "wiggles": len(wiggles), "stride": stride,
+            "name": name, "part": [window.left, window.left + some.shape[1], window.top, window.top + some.shape[0]], "rows": min(some.shape[0], window.tall),
+            "columns": columns, "wiggles": len(wiggles), "stride": stride,
             "label": labels(mirror, told, traces[starts]), "trace": traces[starts].tolist(), "end": end,
             "odd": int(np.count_nonzero(some == gains.LACKS)), "headers": [header(mirror, field, traces, starts) for field in look.fields],
         }

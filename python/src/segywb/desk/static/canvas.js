@@ -123,7 +123,7 @@ export function rounded(labels, most, several) {
 const across = (plot, view, trace) => plot.x + (trace - view.left) / (view.right - view.left) * plot.wide;
 const down = (plot, view, sample) => plot.y + (sample - view.top) / (view.bottom - view.top) * plot.tall;
 
-// All of it: `view` is what is looked at, `layers` the pictures from the farthest to the nearest, each with the part that it shows.
+// All of it: `view` is what is looked at, `layers` the pictures of each side from the farthest to the nearest, with the parts that they show.
 export function draw(canvas, view, layers, axes) {
   const scale = window.devicePixelRatio || 1;
   const [wide, tall] = [canvas.clientWidth, canvas.clientHeight];
@@ -146,7 +146,8 @@ export function draw(canvas, view, layers, axes) {
     pen.rect(plot.x, plot.y, plot.wide, plot.tall);
     pen.clip();
     pen.imageSmoothingEnabled = false;
-    for (const { part, pictures } of layers) {
+    for (const { parts: { [at]: part }, pictures } of layers) {
+      if (!part) continue;
       const [x0, x1, y0, y1] = [across(plot, view, part[0]), across(plot, view, part[1]), down(plot, view, part[2]), down(plot, view, part[3])];
       for (const picture of pictures[at] || []) pen.drawImage(picture, x0, y0, x1 - x0, y1 - y0);
     }

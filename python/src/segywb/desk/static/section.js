@@ -118,7 +118,7 @@ function painted(head, bytes) {
   const style = at("section-style").value;
   let from = 0;
   const [left, right, top, bottom] = head.window;
-  const pictures = head.sides.map(({ rows, columns: count, wiggles, stride }) => {
+  const pictures = head.sides.map(({ rows, columns: count, wiggles, stride, part: [x0, x1, y0, y1] }) => {
     const made = [];
     if (style !== "wiggles") {
       made.push(canvas.image(bytes.subarray(from, from + rows * count), count, rows, table));
@@ -126,12 +126,12 @@ function painted(head, bytes) {
     }
     if (style !== "density") {
       const { wide, tall } = canvas.plots(paper.clientWidth, paper.clientHeight, head.sides.length, head.sides[0].headers.length)[0];
-      made.push(canvas.curves(bytes.subarray(from, from + wiggles * rows), wiggles, rows, stride, right - left, wide, tall, ink));
+      made.push(canvas.curves(bytes.subarray(from, from + wiggles * rows), wiggles, rows, stride, x1 - x0, wide * (x1 - x0) / (right - left || 1), tall * (y1 - y0) / (bottom - top || 1), ink));
       from += wiggles * rows;
     }
     return made;
   });
-  return { part: head.window, pictures, version: head.version, look: JSON.stringify([look(), at("section-scale").value]), whole: left === 0 && top === 0 && right === head.traces && bottom === head.samples, head };
+  return { parts: head.sides.map((one) => one.part), pictures, version: head.version, look: JSON.stringify([look(), at("section-scale").value]), whole: left === 0 && top === 0 && right === head.traces && bottom === head.samples, head };
 }
 
 // ---- drawing
@@ -144,7 +144,7 @@ function paint() {
     const { head } = near;
     const layers = [far, near].filter((one, index, all) => one && (index === 1 || one !== all[1]));
     const axes = { start: head.start, step: head.step || 1, unit: head.step ? "time (ms)" : "sample", along: head.along, headers: head.sides[0].headers.length, paper: PAPERS[at("section-style").value],
-      sides: head.sides.map((one) => ({ title: head.sides.length > 1 ? TITLES[one.name] : "", label: one.label, part: head.window, headers: one.headers })) };
+      sides: head.sides.map((one) => ({ title: head.sides.length > 1 ? TITLES[one.name] : "", label: one.label, part: one.part, headers: one.headers })) };
     places = canvas.draw(paper, view, layers, axes);
     document.body.dataset.sectionFrames = String(Number(document.body.dataset.sectionFrames || 0) + 1);
   });
@@ -159,7 +159,8 @@ function caption() {
   if (!traces) said.push("No trace has this number.");
   const gain = { none: "", trace: ", each trace over its root mean square", agc: `, over the root mean square of ${at("section-window").value || 500} ms around each sample` }[at("section-balance").value];
   said.push(`A display alone${gain}: ${first.name === "difference" ? "the difference" : "colours"} to ±${Number(first.end.toPrecision(4)).toLocaleString("en")}${at("section-reverse").checked ? ", polarity reversed" : ""}.`);
-  if (first.columns && told.window[1] - told.window[0] > first.columns) said.push("A pixel shows the sample farthest from zero.");
+  const [left, right, top, bottom] = first.part;
+  if (first.columns && (right - left > first.columns || bottom - top > first.rows)) said.push("A pixel shows the sample farthest from zero.");
   if (first.stride > 1 && at("section-style").value !== "density") said.push(`Wiggles of one trace of ${first.stride}: zoom in for all.`);
   return `${said.join(" ")} The wheel zooms (with Shift the traces alone, with Alt the time), a drag moves, a click goes to the row.`;
 }
@@ -237,9 +238,9 @@ function drag(event) {
 function traceAt({ index, trace }) {
   const one = near && near.head.sides[index];
   if (!one || !one.columns) return null;
-  const [left, right] = near.part;
+  const [left, right] = one.part;
   const column = Math.floor((trace - left) / (right - left) * one.columns);
-  return one.trace[column] === undefined || trace >= one.traces ? null : { trace: one.trace[column], label: one.label[column], name: one.name };
+  return one.trace[column] === undefined ? null : { trace: one.trace[column], label: one.label[column], name: one.name };
 }
 
 function click(place) {

@@ -144,14 +144,43 @@ def test_an_aside_is_seen_nowhere(opened, monkeypatch):
     pid, path = volume.pid, volume.path
     assert volume.section([2, 5]).array.tolist() == one_by_one(volume, [2, 5])
     assert volume.pid == pid and volume.edits == [] and len(volume) == 12 and volume.undoable == 0
-    told = []
-    volume.section_of([1, 2], lambda done, of: told.append((done, of)))
-    assert told[-1][0] == told[-1][1] > 0
+    reading = volume.section_reading([1, 2], coarse=2)
+    reading.more(2)
+    assert 0 < reading.part < 1 and volume.get(1, "inline") == 101  # other questions go on meanwhile
+    reading.close()
+    left = volume.section_reading([1, 2])
+    left.more(2)
     with open(path, "ab") as file:
         file.write(b"x")
     with pytest.raises(segywb.FileChanged):
         volume.section([2, 5])
     assert len(volume) == 12
+    volume.close()  # and with it the second session that was left
+
+
+@pytest.mark.parametrize("coarse", [1, 2, 3, 100])
+@pytest.mark.parametrize("fixed", [True, False])
+def test_a_reading_in_pieces(tmp_path, way, fixed, coarse):
+    """What is not there yet shows the sample before it; in the end all is as it is when it is read at once."""
+    with segywb.open(chance_file(tmp_path / "chance.sgy", 3, fixed, coarse)) as volume:
+        where = [22, 1, 7, 7, 19, 2]
+        wanted = volume.section_of(where)
+        with volume_of(tmp_path) as again:
+            reading = again.section_reading(where, coarse)
+            rows = list(range(0, wanted.shape[1], coarse)) + [at for at in range(wanted.shape[1]) if at % coarse]
+            for count in range(1, wanted.shape[1] + 1):
+                assert not reading.done and reading.part == pytest.approx((count - 1) / wanted.shape[1])
+                reading.more(1)
+                there = rows[:count]
+                array, samples = reading.section.array, np.ma.getdata(wanted.array)
+                for at in range(wanted.shape[1]):
+                    known = max((one for one in there if one <= at), default=0)
+                    assert np.ma.getdata(array)[:, at][~np.ma.getmaskarray(wanted.array)[:, at]].tolist() == samples[:, known][~np.ma.getmaskarray(wanted.array)[:, at]].tolist()
+            assert reading.done and np.ma.allequal(reading.section.array, wanted.array)
+
+
+def volume_of(folder):
+    return segywb.open(folder / "chance.sgy")
 
 
 def test_which_way():

@@ -82,7 +82,8 @@ def test_undo_and_redo(opened):
 
 @pytest.mark.parametrize("what, wanted", [
     ("renumber", ["renumber 1 2 inline 101 0", "renumber 5 6 inline 101 0"]),
-    ("set", ["set 1 inline 101", "set 2 inline 101", "set 5 inline 101", "set 6 inline 101"]),
+    ("set", ["set 1 2 inline 101", "set 5 6 inline 101"]),
+    ("swap", [f"compute {both} {line}" for both in ("1 2", "5 6") for line in ("inline inline + crossline", "crossline inline - crossline", "inline inline - crossline")]),
     ("delete", ["delete 6", "delete 5", "delete 2", "delete 1"]),
     ("compute", ["compute 1 2 inline inline + 0", "compute 5 6 inline inline + 0"]),
 ])

@@ -168,8 +168,8 @@ def test_what_is_read_anew(tmp_path, monkeypatch, line, anew):
     maker, asks = Sections(), []
     told = Asked("", None, 1, 40)
     maker.view(made, told, ALL, look())
-    reads = segywb.Volume.section_of
-    monkeypatch.setattr(segywb.Volume, "section_of", lambda self, *more: asks.append(1) or reads(self, *more))
+    reads = segywb.Volume.section_reading
+    monkeypatch.setattr(segywb.Volume, "section_reading", lambda self, *more: asks.append(1) or reads(self, *more))
     assert made.run(line)["answers"][0]["text"] == "ok"
     for _ in range(2):
         assert maker.view(made, told, ALL, look()) == Sections().view(made, told, ALL, look())
@@ -208,6 +208,33 @@ def test_a_large_section_takes_every_manieth_trace(tmp_path, monkeypatch):
     told = Sections().view(made, Asked("", None, 1, 0), ALL, look())[0]
     assert (told["whole"], told["every"], told["traces"]) == (60, 3, 20) and told["sides"][0]["trace"] == list(range(1, 61, 3))
     made.close()
+
+
+def test_a_section_is_shown_while_it_is_read(desk, monkeypatch):
+    """Other questions go on meanwhile; an edit of headers alone lets the reading go on, another one begins it anew."""
+    monkeypatch.setattr(sections, "PIECE_ASKED", 2000)
+    monkeypatch.setattr(sections, "PIECE", 2000)
+    maker, told_of = Sections(0.0), Asked("", None, 1, 0)
+    whole = Sections().view(desk, told_of, ALL, look())
+    first = maker.view(desk, told_of, ALL, look())
+    assert 0 < first[0]["read"] < 1 == whole[0]["read"] and len(first[1]) == len(whole[1])
+    density, _ = picture(first)
+    assert (density[0] == density[1]).all() and (density[8] == density[9]).all() and (density[0] != density[8]).any()
+    desk.run("set 3 offset 40")
+    parts = [maker.view(desk, told_of, ALL, look())[0]["read"] for _ in range(3)]
+    assert first[0]["read"] < parts[0] < parts[1] < parts[2] < 1
+    desk.run("patch 3 0 77")
+    assert maker.view(desk, told_of, ALL, look())[0]["read"] == first[0]["read"]
+    for _ in range(100):
+        answer = maker.view(desk, told_of, ALL, look())
+        if answer[0]["read"] == 1:
+            break
+    assert answer == Sections().view(desk, told_of, ALL, look()) and maker.view(desk, told_of, ALL, look()) == answer
+    monkeypatch.setattr("segywb.many_samples.chosen", lambda *asked: "aside")
+    part_ = maker.view(desk, Asked("", None, 1, 90), ALL, look())[0]["read"]
+    assert 0 < part_ < 1
+    maker.view(desk, Asked("", None, 1, 80), ALL, look())  # the other one is given up, with its second session
+    assert len(desk.volume._engine._others) == 1
 
 
 def test_no_traces_and_no_samples(tmp_path):
@@ -310,6 +337,23 @@ def test_a_line_without_bins_begins_with_its_section(opened, tmp_path):
     page.wait(lambda: told(page)["value"] == 102 and page.find("section-value").get_attribute("value") == "102")
     with segywb.open(tmp_path / "line.sgy") as volume:
         assert sent(page).reshape(-1, 20).shape[1] == 20 and told(page)["sides"][0]["trace"] == volume.section_traces(field_record=102).tolist()
+
+
+def test_a_file_of_shots_is_known(opened, tmp_path):
+    """And a command is offered that gives its records a name; a grid, and a file of one record, are none."""
+    page = opened(made_line(tmp_path / "line.sgy"))
+    page.wait(lambda: page.find("section-shots").is_displayed())
+    assert page.text("section-shots").startswith("This looks like a file of 10 shots: it has no bins, and field records 101 to 110.")
+    assert page.find("section-map").text == "Run map shot field_record"
+    page.find("section-map").click()
+    page.wait(lambda: not page.find("section-shots").is_displayed() and page.data("sectionVersion") == "2")
+    assert page.answer("map shot field_record") == "ok"
+    change(page, "section-field", "shot")
+    page.wait(lambda: told(page)["field"] == "shot" and told(page)["value"] == 106)
+    for number, path in enumerate((survey(tmp_path / "survey.sgy"), made_line(tmp_path / "one.sgy", records=500))):
+        made = loaded(path)
+        assert sections.shots(made) is None, number
+        made.close()
 
 
 def test_a_grid_begins_with_its_map(opened, tmp_path):

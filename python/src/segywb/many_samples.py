@@ -9,7 +9,7 @@ from contextlib import closing
 from typing import Any, Callable, Iterator, List, NamedTuple, Optional, Tuple
 
 from . import line_ends
-from .engine import Engine
+from .engine import Beside, Engine
 from .headers import first_refusal
 from .session import Answers, Batch
 
@@ -20,7 +20,6 @@ BATCH_LINES = 1 << 14
 BATCH_ROWS = 1 << 16
 
 Stream = Callable[[Iterator[Batch]], Answers]
-Told = Callable[[int, int], None]
 
 
 class Kind(NamedTuple):
@@ -28,10 +27,6 @@ class Kind(NamedTuple):
 
     dtype: str
     floats: bool
-
-
-def silent(done: int, of: int) -> None:
-    """Tells nobody how far the reading is."""
 
 
 def lengths(engine: Engine, where: Any, kind: Kind) -> Any:
@@ -49,20 +44,112 @@ def lengths(engine: Engine, where: Any, kind: Kind) -> Any:
     return np.array(found, dtype=np.int64)
 
 
-def read(engine: Engine, where: Any, count: int, kind: Kind, told: Told = silent) -> Tuple[Any, Any]:
+class Reading:
+    """The samples of many traces, read in pieces: ``samples`` has a row for each sample and a column for each trace, ``sizes`` tells how many samples each
+    trace has (behind them stands 0), and ``there`` which rows are read. At first each ``coarse`` row is read, then those between.
+
+    The traces are rising positions, each once, of ``count``. ``way`` is in which way they are asked. To be closed where it is not read to its end.
+    """
+
+    def __init__(self, engine: Engine, where: Any, count: int, kind: Kind, coarse: int = 1) -> None:
+        np = _numpy()
+        self.sizes = lengths(engine, where, kind)
+        self.samples = np.zeros((int(self.sizes.max(initial=0)), len(where)), dtype=kind.dtype)
+        self.there = np.zeros(len(self.samples), dtype=bool)
+        self._engine, self._where, self._count, self._kind = engine, where, count, kind
+        rows = np.arange(len(self.samples))
+        self._rows = np.concatenate([rows[::coarse], rows[rows % coarse != 0]]) if coarse > 1 else rows
+        self._at = 0
+        self._beside: Optional[Beside] = None
+        self._pick: Optional[Any] = None
+        self.way = chosen(len(where), int(self.sizes.sum()), len(rows), count, _size(engine.path))
+
+    @property
+    def done(self) -> bool:
+        """Whether all of it is read."""
+        return self._at == len(self._rows)
+
+    def more(self, values: Optional[int] = None) -> None:
+        """Reads so many samples more, or all that are left."""
+        wide = max(1, self._count if self.way == "slices" else len(self._where))
+        rows = self._rows[self._at:] if values is None else self._rows[self._at:self._at + max(1, values // wide)]
+        if self.way == "lines":
+            self._by_lines(rows)
+        elif self.way != "none":
+            self._by_slices(rows)
+        self.there[rows] = True
+        self._at += len(rows)
+        if self.done:
+            self.close()
+
+    def close(self) -> None:
+        """Ends the second session, where there is one."""
+        if self._beside is not None:
+            self._beside.close()
+            self._beside = None
+
+    def _stream(self) -> Stream:
+        """What is asked: the session, or a second one from which the other traces were taken."""
+        if self.way != "aside":
+            return self._engine.stream
+        if self._beside is None:
+            self._beside = self._engine.beside(_deletions(_others(self._where, self._count)))
+            self._where, self._count = _numpy().arange(1, len(self._where) + 1), len(self._where)
+        return self._beside.stream
+
+    def _by_lines(self, rows: Any) -> None:
+        """A line for each sample of each trace."""
+        np = _numpy()
+        sent = [row * len(self._where) + np.flatnonzero(self.sizes > row) for row in rows.tolist()]
+        places = np.concatenate(sent) if sent else np.empty(0, dtype=np.int64)
+        row, column = np.divmod(places, max(len(self._where), 1))
+        trace, at = self._where[column], 0
+
+        def batches() -> Iterator[Batch]:
+            for start in range(0, len(trace), BATCH_LINES):
+                pairs = zip(trace[start:start + BATCH_LINES].tolist(), row[start:start + BATCH_LINES].tolist())
+                yield "".join([f"sample {one} {other}\n" for one, other in pairs]).encode(), min(BATCH_LINES, len(trace) - start)
+
+        with closing(self._stream()(batches())) as answers:
+            for some in answers:
+                text = line_ends.bytes_of(some)
+                ends = np.flatnonzero(text == 10)[::2]
+                if b"refused" in some or len(ends) != min(BATCH_LINES, len(trace) - at):
+                    raise first_refusal(some, [f"sample {one} {other}".encode() for one, other in zip(trace[at:].tolist(), row[at:].tolist())])
+                self.samples[row[at:at + len(ends)], column[at:at + len(ends)]] = _values(text, ends, self._kind)[0]
+                at += len(ends)
+
+    def _by_slices(self, rows: Any) -> None:
+        """Each of these samples of all traces of a session, of which those that are wanted are kept."""
+        stream = self._stream()
+        some = max(1, BATCH_ROWS // max(self._count, 1))
+        cuts = [rows[at:at + some] for at in range(0, len(rows), some)]
+        with closing(stream(("".join([f"slice {one}\n" for one in cut.tolist()]).encode(), len(cut)) for cut in cuts)) as answers:
+            for answer, cut in zip(answers, cuts):
+                if b"refused" in answer:
+                    raise first_refusal(answer, [f"slice {one}".encode() for one in cut.tolist()])
+                self.samples[cut] = self._sliced(line_ends.bytes_of(answer), len(cut))
+
+    def _sliced(self, text: Any, size: int) -> Any:
+        """The rows of the answers to so many slices: in most of them each trace stands, always in the same place."""
+        np = _numpy()
+        found = line_ends.lists(text, b"slice ", size)
+        if self._pick is None and len(found[0]) == self._count:
+            self._pick = _order(text, found[0], self._kind)[self._where]
+        if self._pick is not None and all(len(one) == self._count for one in found):
+            ends = np.concatenate([one[self._pick] for one in found])
+            return _values(text, ends, self._kind)[0].reshape(size, len(self._pick))
+        return _lacking(text, found, self._where, self._count, self._kind)
+
+
+def read(engine: Engine, where: Any, count: int, kind: Kind) -> Tuple[Any, Any]:
     """The samples of these traces (rising positions, each once, of ``count``), a row for each, and how many each has: what is behind them is 0."""
-    np = _numpy()
-    sizes = lengths(engine, where, kind)
-    made = np.zeros((int(sizes.max(initial=0)), len(where)), dtype=kind.dtype)
-    way = chosen(len(where), int(sizes.sum()), made.shape[0], count, _size(engine.path))
-    if way == "lines":
-        _by_lines(engine.stream, where, sizes, kind, made, told)
-    elif way == "slices":
-        _by_slices(engine.stream, where, count, kind, made, told)
-    elif way == "aside":
-        with engine.aside(_lines(_others(where, count))) as stream:
-            _by_slices(stream, np.arange(1, len(where) + 1), len(where), kind, made, told)
-    return np.ascontiguousarray(made.T), sizes
+    reading = Reading(engine, where, count, kind)
+    try:
+        reading.more()
+    finally:
+        reading.close()
+    return _numpy().ascontiguousarray(reading.samples.T), reading.sizes
 
 
 def _size(path: str) -> Optional[int]:
@@ -97,7 +184,7 @@ def _others(where: Any, count: int) -> Any:
     return np.flatnonzero(rest)[::-1]
 
 
-def _lines(gone: Any) -> Iterator[Batch]:
+def _deletions(gone: Any) -> Iterator[Batch]:
     """The lines that take these traces away, as batches."""
     for at in range(0, len(gone), BATCH_LINES):
         some = gone[at:at + BATCH_LINES].tolist()
@@ -111,54 +198,10 @@ def _bundled(sent: List[Batch]) -> Iterator[Batch]:
         yield b"".join(line for line, _ in some), len(some)
 
 
-def _by_lines(stream: Stream, where: Any, sizes: Any, kind: Kind, made: Any, told: Told) -> None:
-    """A line for each sample of each trace."""
-    np = _numpy()
-    column, row = np.repeat(np.arange(len(where)), sizes), np.concatenate([np.arange(size) for size in sizes.tolist()] or [np.arange(0)])
-    trace = where[column]
-
-    def batches() -> Iterator[Batch]:
-        for at in range(0, len(trace), BATCH_LINES):
-            pairs = zip(trace[at:at + BATCH_LINES].tolist(), row[at:at + BATCH_LINES].tolist())
-            yield "".join([f"sample {one} {other}\n" for one, other in pairs]).encode(), min(BATCH_LINES, len(trace) - at)
-
-    at = 0
-    with closing(stream(batches())) as answers:
-        for some in answers:
-            text = line_ends.bytes_of(some)
-            ends = np.flatnonzero(text == 10)[::2]
-            if b"refused" in some or len(ends) != min(BATCH_LINES, len(trace) - at):
-                raise first_refusal(some, [f"sample {one} {other}".encode() for one, other in zip(trace[at:].tolist(), row[at:].tolist())])
-            made[row[at:at + len(ends)], column[at:at + len(ends)]] = _values(text, ends, kind)[0]
-            at += len(ends)
-            told(at, len(trace))
-
-
 def _values(text: Any, ends: Any, kind: Kind) -> Tuple[Any, Any]:
     if kind.floats:
         return line_ends.decimals(text, ends, kind.dtype == "f4")
     return line_ends.whole(text, ends, kind.dtype == "u8")
-
-
-def _by_slices(stream: Stream, where: Any, count: int, kind: Kind, made: Any, told: Told) -> None:
-    """Each sample of all traces of a session, of which these are kept."""
-    longest, some = made.shape[0], max(1, BATCH_ROWS // max(count, 1))
-    cuts = [(at, min(some, longest - at)) for at in range(0, longest, some)]
-    batches = ("".join([f"slice {one}\n" for one in range(at, at + size)]).encode() for at, size in cuts)
-    pick: Optional[Any] = None
-    with closing(stream((text, size) for text, (_, size) in zip(batches, cuts))) as answers:
-        for answer, (at, size) in zip(answers, cuts):
-            if b"refused" in answer:
-                raise first_refusal(answer, [f"slice {one}".encode() for one in range(at, at + size)])
-            text = line_ends.bytes_of(answer)
-            rows = line_ends.lists(text, b"slice ", size)
-            if pick is None and len(rows[0]) == count:
-                pick = _order(text, rows[0], kind)[where]
-            if pick is not None and all(len(one) == count for one in rows):
-                _whole_rows(text, rows, pick, kind, made[at:at + size])
-            else:
-                _some_rows(text, rows, where, count, kind, made[at:at + size])
-            told(at + size, longest)
 
 
 def _order(text: Any, ends: Any, kind: Kind) -> Any:
@@ -175,25 +218,20 @@ def _traces(text: Any, ends: Any, kind: Kind) -> Any:
     return line_ends.whole(text, _values(text, ends, kind)[1] - 1)[0]
 
 
-def _whole_rows(text: Any, rows: List[Any], pick: Any, kind: Kind, made: Any) -> None:
-    """Slices in which each trace stands, always in the same row."""
-    ends = _numpy().concatenate([one[pick] for one in rows])
-    made[:] = _values(text, ends, kind)[0].reshape(len(rows), len(pick))
-
-
-def _some_rows(text: Any, rows: List[Any], where: Any, count: int, kind: Kind, made: Any) -> None:
+def _lacking(text: Any, rows: List[Any], where: Any, count: int, kind: Kind) -> Any:
     """Slices from which traces lack: each row is put where its trace stands."""
     np = _numpy()
+    made = np.zeros((len(rows), len(where)), dtype=kind.dtype)
     column = np.full(count + 1, -1, dtype=np.int64)
     column[where] = np.arange(len(where))
     ends = np.concatenate(rows)
-    if not len(ends):
-        return
-    values, starts = _values(text, ends, kind)
-    to = column[line_ends.whole(text, starts - 1)[0]]
-    down = np.repeat(np.arange(len(rows)), [len(one) for one in rows])
-    kept = to >= 0
-    made[down[kept], to[kept]] = values[kept]
+    if len(ends):
+        values, starts = _values(text, ends, kind)
+        to = column[line_ends.whole(text, starts - 1)[0]]
+        down = np.repeat(np.arange(len(rows)), [len(one) for one in rows])
+        kept = to >= 0
+        made[down[kept], to[kept]] = values[kept]
+    return made
 
 
 def _numpy() -> Any:

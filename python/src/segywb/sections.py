@@ -75,23 +75,45 @@ class Sections(Reports):
             where = where[np.argsort(self.headers(along[0], traces=where)[along[0]], kind="stable")]
         return where
 
-    def section_of(self, traces: Sequence[int], told: many_samples.Told = many_samples.silent) -> Section:
-        """The section of these positions, in their order; ``told`` is called now and then with how much of it is read, and of how much.
+    def section_of(self, traces: Sequence[int]) -> Section:
+        """The section of these positions, in their order.
 
         >>> with segywb.open("cube.sgy") as v:
         ...     v.section_of([9, 1]).array.tolist()
         [[31, 41, -103, 29, 0], [11, 41, -101, 29, 0]]
+        """
+        reading = self.section_reading(traces)
+        try:
+            reading.more()
+        finally:
+            reading.close()
+        return reading.section
+
+    def section_reading(self, traces: Sequence[int], coarse: int = 1) -> "SectionReading":
+        """The same in pieces: ``more(values)`` reads so many samples more, ``section`` is what is there, and ``done`` tells whether it is whole.
+
+        Each ``coarse`` sample is read first, and stands for those behind it until they are there: so a section can be looked at while it is read. To be
+        closed where it is not read to its end, and to be left alone behind an edit.
+
+        >>> with segywb.open("cube.sgy") as v:
+        ...     reading = v.section_reading([9, 1], coarse=5)
+        ...     reading.more(2)
+        ...     reading.section.array.tolist(), reading.done
+        ...     reading.more()
+        ...     reading.section.array.tolist(), reading.done
+        ([[31, 31, 31, 31, 31], [11, 11, 11, 11, 11]], False)
+        ([[31, 41, -103, 29, 0], [11, 41, -101, 29, 0]], True)
         """
         np = _numpy()
         where = np.asarray(traces, dtype=np.int64)
         count = len(self)
         if len(where) and not 1 <= where.min() <= where.max() <= count:
             self.stat(int(where.min() if where.min() < 1 else where.max()))  # the program says why not
-        rising, back = np.unique(where, return_inverse=True)
-        found, sizes = many_samples.read(self._engine, rising, count, Kind(self.sample_type, self.has_floats), told)
         step = self._step(where)
+        rising, back = np.unique(where, return_inverse=True)
+        reading = many_samples.Reading(self._engine, rising, count, Kind(self.sample_type, self.has_floats), coarse)
         shifts, first = self._shifts(where, step)
-        return _placed(found[back], sizes[back], shifts, where, first, step)
+        return SectionReading(reading, where, back, shifts, first, step)
 
     def _step(self, where: Any) -> float:
         """The interval of these traces in milliseconds; 0 where none is told."""
@@ -107,6 +129,70 @@ class Sections(Reports):
             return np.zeros(len(where), dtype=np.int64), 0.0
         delay = self.headers("delay", traces=where)["delay"].astype(np.float64)
         return np.rint((delay - delay.min()) / step).astype(np.int64), float(delay.min())
+
+
+class SectionReading:
+    """A section that is read in pieces, made by ``Volume.section_reading``."""
+
+    def __init__(self, reading: many_samples.Reading, where: Any, back: Any, shifts: Any, first: float, step: float) -> None:
+        self._reading = reading
+        self._where, self._back, self._shifts, self._first, self._step = where, back, shifts, first, step
+        self.more = reading.more
+        self.close = reading.close
+
+    @property
+    def done(self) -> bool:
+        """Whether all of it is read.
+
+        >>> with segywb.open("cube.sgy") as v:
+        ...     reading = v.section_reading([1])
+        ...     reading.done
+        ...     reading.close()
+        False
+        """
+        return self._reading.done
+
+    @property
+    def asked(self) -> bool:
+        """Whether each sample is asked by a line of its own.
+
+        >>> with segywb.open("cube.sgy") as v:
+        ...     reading = v.section_reading([1])
+        ...     reading.asked
+        ...     reading.close()
+        True
+        """
+        return self._reading.way == "lines"
+
+    @property
+    def part(self) -> float:
+        """How much of it is read, from 0 to 1.
+
+        >>> with segywb.open("cube.sgy") as v:
+        ...     reading = v.section_reading([1], coarse=5)
+        ...     reading.more(1)
+        ...     reading.part
+        ...     reading.close()
+        0.2
+        """
+        return float(self._reading.there.mean()) if len(self._reading.there) else 1.0
+
+    @property
+    def section(self) -> Section:
+        """The section, as far as it is read.
+
+        >>> with segywb.open("cube.sgy") as v:
+        ...     reading = v.section_reading([1])
+        ...     reading.more()
+        ...     reading.section.array.tolist()
+        [[11, 41, -101, 29, 0]]
+        """
+        np = _numpy()
+        there, samples = self._reading.there, self._reading.samples
+        if not there.all():
+            samples = samples[np.maximum.accumulate(np.where(there, np.arange(len(there)), 0))]
+        found = np.ascontiguousarray(samples.T)
+        return _placed(found[self._back], self._reading.sizes[self._back], self._shifts, self._where, self._first, self._step)
 
 
 def _placed(found: Any, sizes: Any, shifts: Any, where: Any, first: float, step: float) -> Section:

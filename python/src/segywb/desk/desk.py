@@ -58,7 +58,7 @@ class Desk:
         fixed: bool = False,
         max_bytes: Optional[int] = None,
         order: Optional[str] = None,
-        on_disk: bool = False,
+        on_disk: Optional[bool] = None,
         samples: Optional[int] = None,
         format: Optional[int] = None,
         texts: Optional[int] = None,
@@ -66,8 +66,9 @@ class Desk:
     ) -> None:
         self.path = os.path.abspath(path)
         self.out = os.path.abspath(out) if out else None
+        self.large = on_disk is None and is_large(self.path)
         self._options: Dict[str, Any] = {
-            "fixed": fixed, "max_bytes": max_bytes, "order": order, "on_disk": on_disk, "samples": samples, "format": format, "texts": texts,
+            "fixed": fixed, "max_bytes": max_bytes, "order": order, "on_disk": bool(on_disk) or self.large, "samples": samples, "format": format, "texts": texts,
             "tail": tail,
         }
         self.recovered = ""
@@ -78,7 +79,6 @@ class Desk:
         self.sampled = 0  # the last version in which a sample, or the position of a trace, may have become another
         self.opened_at = 0  # the version in which the file as it was loaded became another: by a save over it
         self.gridded = True  # whether there is a map to be seen: several inlines, and several crosslines
-        self.progress = (0, 0)  # how much of what is read at the moment is there, and of how much
         self.kept_cells: List[Tuple[Mirror, Axis, Axis, Cells]] = []
         self._pending: List[str] = []
         self._shots: List[Shot] = []
@@ -330,10 +330,6 @@ class Desk:
                 self.sampled = self.version
                 return
 
-    def progressed(self, done: int, of: int) -> None:
-        """How far a long reading is."""
-        self.progress = (done, of)
-
     def undo(self) -> Dict[str, Any]:
         """Takes the last step back."""
         self.now()
@@ -382,6 +378,19 @@ class Desk:
     def bring_original(self, sample: int) -> Any:
         """A slice of the survey as it was loaded."""
         return self.original.slice(sample).rows
+
+
+def memory() -> int:
+    """The bytes of this machine's memory."""
+    return os.sysconf("SC_PHYS_PAGES") * os.sysconf("SC_PAGE_SIZE")
+
+
+def is_large(path: str) -> bool:
+    """Whether a file is larger than half the memory, so that its bytes are left on disk where nothing else is said."""
+    try:
+        return 2 * os.stat(path).st_size > memory()
+    except OSError:
+        return False
 
 
 def look(path: str) -> Tuple[int, ...]:

@@ -2,14 +2,16 @@
 
 from __future__ import annotations
 
-from typing import Any, List, NamedTuple, Optional, Tuple, TypedDict
+import time
+from typing import Any, Dict, List, NamedTuple, Optional, Tuple, TypedDict
 
 import numpy as np
 
 from .. import gains
+from ..fields import TRACE_NAMES
 from ..gains import Gain
 from ..lines import word
-from ..sections import ALONG, Section
+from ..sections import ALONG, Section, SectionReading
 from ..thinning import peaks, starts_of
 from ..volume import Volume
 from .desk import Desk
@@ -22,6 +24,13 @@ MOST_FIELDS = 3
 MOST_KEPT = 4
 FEW_TRACES = 2000  # how many traces of a line without bins are shown at first
 ROOM = 4  # pixels that a wiggle wants
+RECORD = "field_record"
+COARSE = 8  # every so manieth sample is read first, and stands for those behind it until they are there
+PIECE = 1 << 18  # rows of answers that are read at once
+PIECE_ASKED = 1 << 15  # samples that are asked one by one at once
+
+
+Key = Tuple[str, int, bytes]  # the side, the version in which its samples became what they are, and its traces
 
 
 class Asked(NamedTuple):
@@ -78,6 +87,15 @@ class Side(TypedDict):
     headers: List[Header]
 
 
+class Shots(TypedDict):
+    """Records of a file that looks like one of shots: how many there are, the least and the greatest number, and whether a name is bound to their place."""
+
+    count: int
+    first: int
+    last: int
+    named: bool
+
+
 class Told(TypedDict):
     """What the page gets beside the bytes."""
 
@@ -94,8 +112,10 @@ class Told(TypedDict):
     start: float
     step: float
     window: List[int]
+    read: float
     back: Optional[int]
     on: Optional[int]
+    shots: Optional[Shots]
     sides: List[Side]
 
 
@@ -111,13 +131,15 @@ class Under(TypedDict):
 
 
 class Kept(NamedTuple):
-    """A section that was read: the positions of its traces, its samples (``gains.plain``), at which column each trace begins, and its times."""
+    """A section that was read: the positions of its traces, its samples (``gains.plain``), at which column each trace begins, and its times; and how
+    much of it is there."""
 
     traces: Any
     values: Any
     begin: Any
     start: float
     step: float
+    read: float
 
 
 class Chosen(NamedTuple):
@@ -188,11 +210,22 @@ def automatic(desk: Desk) -> Asked:
     now = desk.now()
     if now.inlines.shape[1] > 1 and now.crosslines.shape[1] > 1:
         return Asked("inline", None, 1, 0)
-    record = desk.widen(["field_record"])[1].mirror.columns["field_record"]
-    records = len(np.unique(record))
-    if 1 < records <= len(record) // 2:
-        return Asked("field_record", int(record[0]), 1, 0)
+    if shots(desk) is not None:
+        return Asked("field_record", int(desk.now().mirror.columns["field_record"][0]), 1, 0)
     return Asked("", None, 1, min(len(now.mirror), FEW_TRACES))
+
+
+def shots(desk: Desk) -> Optional[Shots]:
+    """The records of a file without a grid of bins, where there are several of them with several traces each in the mean."""
+    now = desk.now()
+    if now.inlines.shape[1] > 1 and now.crosslines.shape[1] > 1:
+        return None
+    record = desk.widen([RECORD])[1].mirror.columns[RECORD]
+    numbers = np.unique(record)
+    if not 1 < len(numbers) <= len(record) // 2:
+        return None
+    named = TRACE_NAMES[RECORD] in desk.volume.fields().values()
+    return {"count": len(numbers), "first": int(numbers[0]), "last": int(numbers[-1]), "named": named}
 
 
 def choose(mirror: Any, told: Asked, samples: int) -> Chosen:
@@ -222,9 +255,12 @@ def choose(mirror: Any, told: Asked, samples: int) -> Chosen:
 class Sections:
     """The sections, and those that were read last with what was made of them."""
 
-    def __init__(self) -> None:
-        self._read: List[Tuple[Tuple[Any, ...], Kept]] = []
-        self._made: List[Tuple[Tuple[Any, ...], Any, float]] = []
+    def __init__(self, seconds: float = float("inf")) -> None:
+        """``seconds``: for how long a section is read before what is there is shown."""
+        self._seconds = seconds
+        self._read: List[Tuple[Key, Kept]] = []
+        self._readings: Dict[str, Tuple[Key, SectionReading]] = {}
+        self._made: List[Tuple[Tuple[int, Gain], Tuple[Any, Any], float]] = []
 
     def view(self, desk: Desk, told: Asked, window: Window, look: Look) -> Tuple[Told, bytes]:
         """A section as the page draws it: what is told of it, and the bytes of its pictures."""
@@ -243,8 +279,8 @@ class Sections:
         answer: Told = {
             "version": desk.version, "field": chosen.asked.field, "value": chosen.asked.value, "first": chosen.asked.first, "last": chosen.asked.last,
             "along": ALONG.get(chosen.asked.field, "trace"), "whole": chosen.whole, "every": chosen.every, "traces": traces, "samples": times,
-            "start": first.start, "step": first.step, "window": [left, right, top, bottom], "back": chosen.near[0], "on": chosen.near[1],
-            "sides": [one for one, _ in drawn],
+            "start": first.start, "step": first.step, "window": [left, right, top, bottom], "read": min(one.read for _, one, _ in sides), "back": chosen.near[0], "on": chosen.near[1],
+            "shots": shots(desk), "sides": [one for one, _ in drawn],
         }
         return answer, b"".join(made for _, made in drawn)
 
@@ -264,22 +300,44 @@ class Sections:
 
     def _kept(self, desk: Desk, volume: Volume, side: str, version: int, traces: Any) -> Kept:
         """The samples of these traces, of the file as it is or was: read anew where an edit may have changed samples or positions since."""
-        key = (side, version, volume.path, traces.tobytes())
+        key = (version, traces.tobytes())
         for known, kept in self._read:
-            if known == key:
+            if known == (side, *key):
                 return kept
+        reading = self._reading(volume, side, key, traces)
+        until = time.monotonic() + self._seconds
         try:
-            kept = kept_of(volume.section_of(traces, desk.progressed))
-        finally:
-            desk.progressed(0, 0)
-        self._read = [(key, kept), *self._read[:MOST_KEPT - 1]]
+            while not reading.done:
+                reading.more(PIECE_ASKED if reading.asked else PIECE)
+                if time.monotonic() >= until:
+                    break  # what is there is shown, and the page asks again
+        except BaseException:
+            self._end(side)
+            raise
+        kept = kept_of(reading.section, reading.part)
+        if reading.done:
+            self._end(side)
+            self._read = [((side, *key), kept), *self._read[:MOST_KEPT - 1]]
         return kept
+
+    def _reading(self, volume: Volume, side: str, key: Tuple[int, bytes], traces: Any) -> SectionReading:
+        """The reading that was begun, or a new one: of each side one at a time."""
+        if side in self._readings and self._readings[side][0] == (side, *key):
+            return self._readings[side][1]
+        self._end(side)
+        self._readings[side] = ((side, *key), volume.section_reading(traces, COARSE))
+        return self._readings[side][1]
+
+    def _end(self, side: str) -> None:
+        """Ends a reading."""
+        if side in self._readings:
+            self._readings.pop(side)[1].close()
 
     def under(self, desk: Desk, trace: int, column: int, names: List[str]) -> Under:
         """What stands under the pointer: the headers of a trace, and its sample at a column of the section, as the program tells it."""
         rows = desk.volume.headers(*names, traces=trace)
         told: Under = {"version": desk.version, "trace": trace, "names": names, "values": [str(one) for one in rows.tolist()[0]], "sample": None, "value": None}
-        for (side, version, *_), kept in self._read:
+        for (side, version, _), kept in self._read:
             at = np.flatnonzero(kept.traces == trace) if (side, version) == ("now", desk.sampled) else np.empty(0, dtype=np.int64)
             if len(at) and column >= kept.begin[at[0]]:
                 sample = column - int(kept.begin[at[0]])
@@ -319,13 +377,13 @@ class Sections:
         return side, np.ascontiguousarray(density).tobytes() + np.ascontiguousarray(wiggles).tobytes()
 
 
-def kept_of(found: Section) -> Kept:
-    """A section as it is kept."""
+def kept_of(found: Section, read: float) -> Kept:
+    """A section as it is kept, and how much of it is read."""
     masked: Any = np.ma.getmaskarray  # it is not typed
     there = ~masked(found.array)
     begin = there.argmax(axis=1) if there.shape[1] else np.zeros(len(there), dtype=np.int64)
     step = float(found.times[1] - found.times[0]) if len(found.times) > 1 else 0.0
-    return Kept(found.traces, gains.plain(found.array), begin, float(found.times[0]) if len(found.times) else 0.0, step)
+    return Kept(found.traces, gains.plain(found.array), begin, float(found.times[0]) if len(found.times) else 0.0, step, read)
 
 
 def difference(now: Kept, was: Kept, origin: Any) -> Kept:
@@ -336,7 +394,7 @@ def difference(now: Kept, was: Kept, origin: Any) -> Kept:
     columns = np.arange(was.values.shape[1]) + shift
     inside = (columns >= 0) & (columns < values.shape[1])
     values[np.ix_(old, columns[inside])] -= was.values[:, inside]
-    return now._replace(values=values)
+    return now._replace(values=values, read=min(now.read, was.read))
 
 
 def labels(mirror: Any, told: Asked, traces: Any) -> List[int]:

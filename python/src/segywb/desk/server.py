@@ -25,6 +25,7 @@ PLOTLY = "/usr/share/python3-plotly/plotly.js"
 LONGEST_BODY = 40 << 20
 LOOK_SECONDS = 0.1
 ALIVE_SECONDS = 10.0
+READING_SECONDS = 0.12  # a section is shown after so long, as far as it is read
 # What reading a body raises: it is no JSON, is nested more deeply than Python reads, or names letters that nobody knows.
 NOT_JSON = (ValueError, RecursionError, LookupError)
 
@@ -88,7 +89,7 @@ class Server:
         self._faults = Kept()
         self._slices = views.Slices()
         self._maps = fieldmaps.FieldMaps()
-        self._sections = sections.Sections()
+        self._sections = sections.Sections(READING_SECONDS)
         self._runner: Optional[web.AppRunner] = None
         self._stopped = False
         self._heard = False
@@ -279,8 +280,7 @@ class Server:
             if not self._at_work and not self.desk.alive:
                 self._end("the program ended")
             else:
-                done, of = self.desk.progress
-                self.status = {"phase": "ready", "version": self.desk.version, "grid": self.desk.gridded, **({"done": done, "of": of} if of else {})}
+                self.status = {"phase": "ready", "version": self.desk.version, "grid": self.desk.gridded}
         return self.status
 
     async def _events(self, request: web.Request) -> web.StreamResponse:

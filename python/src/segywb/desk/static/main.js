@@ -74,7 +74,6 @@ function phase(status) {
   refusal = [];
   document.body.dataset.phase = status.phase;
   if (store.ready) ready(status);
-  if (store.ready) section.progress(status);
 }
 
 function loading(status) {
@@ -108,12 +107,12 @@ async function restart() {
 
 async function bar() {
   await part.state();
-  const { file, traces, edits, undoable, redoable, opaque, samples, tail, reading, declarable, recovered } = store.state;
+  const { file, traces, edits, undoable, redoable, opaque, large, samples, tail, reading, declarable, recovered } = store.state;
   const cut = file.lastIndexOf("/") + 1;
   at("name").textContent = file.slice(cut);
   at("file").title = file;
   document.title = `${file.slice(cut)} – segywb desk`;
-  at("summary").textContent = `${many(traces, "trace")} of ${many(samples, "sample")}, ${many(edits, "edit")}${opaque ? "; samples of this format have no values here" : ""}`;
+  at("summary").textContent = `${many(traces, "trace")} of ${many(samples, "sample")}, ${many(edits, "edit")}${opaque ? "; samples of this format have no values here" : ""}${large ? "; larger than half the memory, so left on disk: let no program change it meanwhile" : ""}`;
   at("reading").hidden = !reading;
   at("reading-text").textContent = `read with ${reading}`;
   at("declare").hidden = !declarable;

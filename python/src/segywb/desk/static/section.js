@@ -2,6 +2,7 @@
 
 import { ask, picture } from "./api.js";
 import * as canvas from "./canvas.js";
+import { runLine } from "./command.js";
 import { at, fill, many } from "./dom.js";
 import { part, store } from "./store.js";
 import { columns, goTo } from "./table.js";
@@ -63,7 +64,8 @@ export async function show() {
       again = false;
       const got = await picture("section", { ...which(), ...look(), ...window_() });
       if (!again || !near) took(got);
-    } while (again);
+      room.classList.remove("busy");
+    } while (again || told.read < 1);
     at("section-said").textContent = "";
   } catch (error) {
     at("section-said").textContent = error.message;
@@ -91,8 +93,9 @@ function took([head, bytes]) {
   if (near.whole) far = near;
   else if (far && (far.version !== near.version || far.look !== near.look)) far = null;
   steps();
+  shots();
   fill(at("section-caption"), caption());
-  document.body.dataset.sectionVersion = String(head.version);
+  if (head.read === 1) document.body.dataset.sectionVersion = String(head.version);
   paper.shown = { told: head, bytes, view };
   paint();
 }
@@ -157,6 +160,7 @@ function caption() {
   const said = [`${of}: ${many(whole, "trace")} of ${many(samples, "sample")}${step ? `, ${start.toLocaleString("en")} to ${(start + Math.max(samples - 1, 0) * step).toLocaleString("en")} ms` : ""}.`];
   if (every > 1) said.push(`One trace of ${every} is shown.`);
   if (!traces) said.push("No trace has this number.");
+  if (told.read < 1) said.push(`Reading: ${Math.floor(told.read * 100)} %; what is not read yet shows the sample before it.`);
   const gain = { none: "", trace: ", each trace over its root mean square", agc: `, over the root mean square of ${at("section-window").value || 500} ms around each sample` }[at("section-balance").value];
   said.push(`A display alone${gain}: ${first.name === "difference" ? "the difference" : "colours"} to ±${Number(first.end.toPrecision(4)).toLocaleString("en")}${at("section-reverse").checked ? ", polarity reversed" : ""}.`);
   const [left, right, top, bottom] = first.part;
@@ -309,16 +313,17 @@ function steps() {
   if (told.field && document.activeElement !== at("section-value")) at("section-value").value = told.value;
 }
 
+// A file of shots: its records get the name shot, by a command that is shown.
+function shots() {
+  const found = told.shots;
+  at("section-shots").hidden = !found || found.named;
+  if (found) at("section-shots").firstChild.textContent = `This looks like a file of ${many(found.count, "shot")}: it has no bins, and field records ${found.first} to ${found.last}.`;
+}
+
 function line(value) {
   if (value === null) return;
   at("section-value").value = value;
   fresh();
-}
-
-// How far a long reading is.
-export function progress({ done, of }) {
-  if (!of || !room.classList.contains("busy")) return;
-  at("section-under").textContent = `Reading samples: ${Math.floor(done / of * 100)} %`;
 }
 
 export function start() {
@@ -329,6 +334,7 @@ export function start() {
   for (const id of ["section-style", "section-side", "section-percentile", "section-balance", "section-window", "section-reverse", "section-headers"]) at(id).addEventListener("change", () => { kinds(); show(); });
   at("section-scale").addEventListener("change", show);
   at("section-all").addEventListener("click", whole);
+  at("section-map").addEventListener("click", () => runLine("map shot field_record"));
   paper.addEventListener("wheel", wheel, { passive: false });
   paper.addEventListener("pointerdown", drag);
   paper.addEventListener("pointermove", hover);

@@ -169,7 +169,8 @@ def test_fields_of_what_is_brushed_are_swapped(opened):
     page.wait(lambda: page.graph()[0][2] == [101] * 4 + [201, 202, 203, 204] + [103] * 4 and page.graph()[1][2] == [201, 202, 203, 204] + [101] * 4 + [201, 202, 203, 204])
     page.run("set 1 12 x 2000000000")
     page.run("set 1 12 y 2000000000")
-    page.brush((4.5, 210), (8.5, 190))
+    page.wait(lambda: page.data("graphVersion") == page.data("version") and page.data("whole"))
+    page.brush((4.5, 206), (8.5, 190))
     page.wait(lambda: page.find("offers").is_displayed() and page.text("offer-count") == "4 traces")
     page.find("offer-what").send_keys("swap")
     for id, value in (("offer-field", "x"), ("offer-other", "y")):

@@ -1,4 +1,6 @@
-"""How samples are shown: a gain, a clip, a polarity. A display alone: nothing of it is ever written. With numpy."""
+"""How samples are shown: a gain, a clip, a polarity. A display alone: nothing of it is ever
+written. With numpy.
+"""
 
 from __future__ import annotations
 
@@ -12,8 +14,10 @@ MOST_SORTED = 1 << 20
 
 
 class Gain(NamedTuple):
-    """``percentile`` of the samples, without their signs, is where the colours end. ``balance``: ``"none"``, ``"trace"`` (each trace over its root mean
-    square) or ``"agc"`` (each sample over the root mean square of a ``window`` of milliseconds around it). ``reverse`` turns the polarity."""
+    """``percentile`` of the samples, without their signs, is where the colours end. ``balance``:
+    ``"none"``, ``"trace"`` (each trace over its root mean square) or ``"agc"`` (each sample over
+    the root mean square of a ``window`` of milliseconds around it). ``reverse`` turns the polarity.
+    """
 
     percentile: float = 98.0
     balance: str = "none"
@@ -42,8 +46,10 @@ def plain(array: Any) -> Any:
     """Samples as float32, with ``nan`` where none is and where one is no finite number.
 
     >>> import numpy as np
-    >>> plain(np.ma.MaskedArray([[1, 2]], mask=[[False, True]])).tolist(), plain(np.array([[np.inf, 0.5]])).tolist()
-    ([[1.0, nan]], [[nan, 0.5]])
+    >>> plain(np.ma.MaskedArray([[1, 2]], mask=[[False, True]])).tolist()
+    [[1.0, nan]]
+    >>> plain(np.array([[np.inf, 0.5]])).tolist()
+    [[nan, 0.5]]
     """
     np = _numpy()
     with np.errstate(over="ignore"):
@@ -53,10 +59,12 @@ def plain(array: Any) -> Any:
 
 
 def gained(values: Any, step: float, gain: Gain) -> Tuple[Any, float]:
-    """Samples (``plain``, a row for each trace, ``step`` milliseconds apart) under a gain, and the number at which the colours end.
+    """Samples (``plain``, a row for each trace, ``step`` milliseconds apart) under a gain, and the
+    number at which the colours end.
 
     >>> import numpy as np
-    >>> made, end = gained(np.array([[3, -4], [0, 0]], dtype=np.float32), 4.0, Gain(percentile=100, balance="trace", reverse=True))
+    >>> samples = np.array([[3, -4], [0, 0]], dtype=np.float32)
+    >>> made, end = gained(samples, 4.0, Gain(percentile=100, balance="trace", reverse=True))
     >>> made.astype(float).round(3).tolist(), round(end, 3)
     ([[-0.849, 1.131], [-0.0, -0.0]], 1.131)
     """
@@ -67,7 +75,7 @@ def gained(values: Any, step: float, gain: Gain) -> Tuple[Any, float]:
     elif gain.balance == "agc":
         made = _over(np, made, _around(np, made, max(1, int(round(gain.window / (step or 1.0))))))
     sizes = np.abs(made).ravel()
-    some = sizes[::1 + len(sizes) // MOST_SORTED]
+    some = sizes[:: 1 + len(sizes) // MOST_SORTED]
     some = some[np.isfinite(some)]
     end = float(np.percentile(some, gain.percentile)) if len(some) else 0.0
     if not end and len(some):
@@ -95,14 +103,22 @@ def _mean(np: Any, squares: Any) -> Any:
 
 
 def _around(np: Any, values: Any, size: int) -> Any:
-    """The root mean square of so many samples around each one; at the ends of those that are there."""
+    """The root mean square of so many samples around each one; at the ends of those there are."""
     known = ~np.isnan(values)
     squares = np.square(np.where(known, values, 0), dtype=np.float64)
     wide = values.shape[1]
     at = np.arange(wide)
     low, high = np.maximum(at - size // 2, 0), np.minimum(at - size // 2 + size, wide)
-    sums, counts = (np.concatenate([np.zeros((len(values), 1)), np.cumsum(one, axis=1, dtype=np.float64)], axis=1) for one in (squares, known))
-    return np.sqrt(np.maximum(sums[:, high] - sums[:, low], 0) / np.maximum(counts[:, high] - counts[:, low], 1))
+    sums, counts = (
+        np.concatenate(
+            [np.zeros((len(values), 1)), np.cumsum(one, axis=1, dtype=np.float64)], axis=1
+        )
+        for one in (squares, known)
+    )
+    return np.sqrt(
+        np.maximum(sums[:, high] - sums[:, low], 0)
+        / np.maximum(counts[:, high] - counts[:, low], 1)
+    )
 
 
 def _over(np: Any, values: Any, by: Any) -> Any:

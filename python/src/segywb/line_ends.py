@@ -1,4 +1,6 @@
-"""The numbers at the ends of many lines as arrays: faster than the lines one by one, since what stands in front is not read. With numpy."""
+"""The numbers at the ends of many lines as arrays: faster than the lines one by one, since what
+stands in front is not read. With numpy.
+"""
 
 from __future__ import annotations
 
@@ -8,7 +10,8 @@ from typing import Any, List, Tuple
 from .answers import floating, unexpected
 from .arrays import _decimals, _halfway
 
-# A decimal with so many digits is a whole number that a float holds exactly, over a power of ten that one holds: their quotient is rounded once.
+# A decimal with so many digits is a whole number that a float holds exactly, over a power of ten
+# that one holds: their quotient is rounded once.
 MOST_WHOLE = 1 << 53
 MOST_POWER = 22
 MOST_DIGITS = 19
@@ -57,7 +60,8 @@ def whole(text: Any, ends: Any, unsigned: bool = False) -> Tuple[Any, Any]:
 
 
 def decimals(text: Any, ends: Any, narrow: bool = False) -> Tuple[Any, Any]:
-    """The floats that end in front of these places, as float64 or ``narrow`` as float32, and where each begins.
+    """The floats that end in front of these places, as float64 or ``narrow`` as float32, and where
+    each begins.
 
     >>> text = bytes_of(b"row 7 -1.25\\nrow 8 1e20\\n")
     >>> [one.tolist() for one in decimals(text, _numpy().array([11, 22]))]
@@ -74,12 +78,14 @@ def decimals(text: Any, ends: Any, narrow: bool = False) -> Tuple[Any, Any]:
     with np.errstate(over="ignore"):
         made = values.astype(np.float32)
     for at in np.flatnonzero(_halfway(np, values, made)).tolist():
-        made[at] = floating(text[starts[at]:ends[at]].tobytes().decode("ascii"), True)
+        made[at] = floating(text[starts[at] : ends[at]].tobytes().decode("ascii"), True)
     return made, starts
 
 
 def _plain(np: Any, text: Any, ends: Any) -> Tuple[Any, Any, Any]:
-    """Decimals without exponents and of few digits: their values, where they begin, and which ones are such."""
+    """Decimals without exponents and of few digits: their values, where they begin, and which ones
+    are such.
+    """
     count, at = len(ends), ends - 1
     on, negative = np.ones(count, dtype=bool), np.zeros(count, dtype=bool)
     digits, sizes = np.zeros(count, dtype=np.uint64), np.zeros(count, dtype=np.uint8)
@@ -118,7 +124,9 @@ def _starts(np: Any, text: Any, ends: Any) -> Any:
 
 
 def _decimals_at(np: Any, text: Any, starts: Any, ends: Any) -> Any:
-    """The decimals from these places to those, by numpy's own reading: the words are put together first."""
+    """The decimals from these places to those, by numpy's own reading: the words are put together
+    first.
+    """
     sizes = ends - starts + 1  # with the byte behind each, which parts it from the next
     first = np.concatenate([[0], np.cumsum(sizes)[:-1]])
     places = np.arange(int(sizes.sum())) + np.repeat(starts - first, sizes)
@@ -130,9 +138,11 @@ def _decimals_at(np: Any, text: Any, starts: Any, ends: Any) -> Any:
 
 
 def lists(text: Any, head: bytes, count: int) -> List[Any]:
-    """The ends of the rows of so many answers that are lists: an array for each, without the line that counts its rows.
+    """The ends of the rows of so many answers that are lists: an array for each, without the line
+    that counts its rows.
 
-    >>> [one.tolist() for one in lists(bytes_of(b"slice 1\\nrow 1 2 3 4\\n\\nslice 0\\n\\n"), b"slice ", 2)]
+    >>> text = bytes_of(b"slice 1\\nrow 1 2 3 4\\n\\nslice 0\\n\\n")
+    >>> [one.tolist() for one in lists(text, b"slice ", 2)]
     [[19], []]
     """
     np = _numpy()
@@ -140,16 +150,16 @@ def lists(text: Any, head: bytes, count: int) -> List[Any]:
     found: List[Any] = []
     at, start = 0, 0
     for _ in range(count):
-        first = text[start:ends[at]].tobytes() if at < len(ends) else b""
-        if not first.startswith(head) or not first[len(head):].isdigit():
+        first = text[start : ends[at]].tobytes() if at < len(ends) else b""
+        if not first.startswith(head) or not first[len(head) :].isdigit():
             raise unexpected(first[:200].decode("utf-8", "replace"))
-        behind = at + 1 + int(first[len(head):])
+        behind = at + 1 + int(first[len(head) :])
         if behind >= len(ends):
             raise unexpected(first[:200].decode("utf-8", "replace"))
-        found.append(ends[at + 1:behind])
+        found.append(ends[at + 1 : behind])
         at, start = behind + 1, int(ends[behind]) + 1
     if at != len(ends):
-        raise unexpected(text[start:start + 200].tobytes().decode("utf-8", "replace"))
+        raise unexpected(text[start : start + 200].tobytes().decode("utf-8", "replace"))
     return found
 
 

@@ -13,8 +13,9 @@ from .engine import Beside, Engine
 from .headers import first_refusal
 from .session import Answers, Batch
 
-# What a line `sample`, a row of an answer to `slice`, a line `delete`, the load of a byte and of a trace and the start of a program take, in
-# microseconds; measured once, since only their ratios matter.
+# What a line `sample`, a row of an answer to `slice`, a line `delete`, the load of a byte and of a
+# trace and the start of a program take, in microseconds; measured once, since only their ratios
+# matter.
 LINE, ROW, DELETE, BYTE, TRACE, START = 3.0, 0.25, 2.2, 0.0025, 1.0, 20000.0
 BATCH_LINES = 1 << 14
 BATCH_ROWS = 1 << 16
@@ -37,7 +38,7 @@ def lengths(engine: Engine, where: Any, kind: Kind) -> Any:
     with closing(engine.stream(_bundled(sent))) as told:
         for answers in told:
             if b"refused" in answers:
-                raise first_refusal(answers, [line[:-1] for line, _ in sent[len(found):]])
+                raise first_refusal(answers, [line[:-1] for line, _ in sent[len(found) :]])
             for answer in answers.split(b"\n\n")[:-1]:
                 words = answer.split(b" ")
                 found.append(int(words[words.index(b"samples") + 1]) if b"samples" in words else 0)
@@ -45,10 +46,12 @@ def lengths(engine: Engine, where: Any, kind: Kind) -> Any:
 
 
 class Reading:
-    """The samples of many traces, read in pieces: ``samples`` has a row for each sample and a column for each trace, ``sizes`` tells how many samples each
-    trace has (behind them stands 0), and ``there`` which rows are read. At first each ``coarse`` row is read, then those between.
+    """The samples of many traces, read in pieces: ``samples`` has a row for each sample and a
+    column for each trace, ``sizes`` tells how many samples each trace has (behind them stands 0),
+    and ``there`` which rows are read. At first each ``coarse`` row is read, then those between.
 
-    The traces are rising positions, each once, of ``count``. ``way`` is in which way they are asked. To be closed where it is not read to its end.
+    The traces are rising positions, each once, of ``count``. ``way`` is in which way they are
+    asked. To be closed where it is not read to its end.
     """
 
     def __init__(self, engine: Engine, where: Any, count: int, kind: Kind, coarse: int = 1) -> None:
@@ -58,7 +61,9 @@ class Reading:
         self.there = np.zeros(len(self.samples), dtype=bool)
         self._engine, self._where, self._count, self._kind = engine, where, count, kind
         rows = np.arange(len(self.samples))
-        self._rows = np.concatenate([rows[::coarse], rows[rows % coarse != 0]]) if coarse > 1 else rows
+        self._rows = (
+            np.concatenate([rows[::coarse], rows[rows % coarse != 0]]) if coarse > 1 else rows
+        )
         self._at = 0
         self._beside: Optional[Beside] = None
         self._pick: Optional[Any] = None
@@ -72,7 +77,11 @@ class Reading:
     def more(self, values: Optional[int] = None) -> None:
         """Reads so many samples more, or all that are left."""
         wide = max(1, self._count if self.way == "slices" else len(self._where))
-        rows = self._rows[self._at:] if values is None else self._rows[self._at:self._at + max(1, values // wide)]
+        rows = (
+            self._rows[self._at :]
+            if values is None
+            else self._rows[self._at : self._at + max(1, values // wide)]
+        )
         if self.way == "lines":
             self._by_lines(rows)
         elif self.way != "none":
@@ -107,31 +116,53 @@ class Reading:
 
         def batches() -> Iterator[Batch]:
             for start in range(0, len(trace), BATCH_LINES):
-                pairs = zip(trace[start:start + BATCH_LINES].tolist(), row[start:start + BATCH_LINES].tolist())
-                yield "".join([f"sample {one} {other}\n" for one, other in pairs]).encode(), min(BATCH_LINES, len(trace) - start)
+                pairs = zip(
+                    trace[start : start + BATCH_LINES].tolist(),
+                    row[start : start + BATCH_LINES].tolist(),
+                )
+                yield "".join([f"sample {one} {other}\n" for one, other in pairs]).encode(), min(
+                    BATCH_LINES, len(trace) - start
+                )
 
         with closing(self._stream()(batches())) as answers:
             for some in answers:
                 text = line_ends.bytes_of(some)
                 ends = np.flatnonzero(text == 10)[::2]
                 if b"refused" in some or len(ends) != min(BATCH_LINES, len(trace) - at):
-                    raise first_refusal(some, [f"sample {one} {other}".encode() for one, other in zip(trace[at:].tolist(), row[at:].tolist())])
-                self.samples[row[at:at + len(ends)], column[at:at + len(ends)]] = _values(text, ends, self._kind)[0]
+                    raise first_refusal(
+                        some,
+                        [
+                            f"sample {one} {other}".encode()
+                            for one, other in zip(trace[at:].tolist(), row[at:].tolist())
+                        ],
+                    )
+                self.samples[row[at : at + len(ends)], column[at : at + len(ends)]] = _values(
+                    text, ends, self._kind
+                )[0]
                 at += len(ends)
 
     def _by_slices(self, rows: Any) -> None:
-        """Each of these samples of all traces of a session, of which those that are wanted are kept."""
+        """Each of these samples of all traces of a session, of which those that are wanted are
+        kept.
+        """
         stream = self._stream()
         some = max(1, BATCH_ROWS // max(self._count, 1))
-        cuts = [rows[at:at + some] for at in range(0, len(rows), some)]
-        with closing(stream(("".join([f"slice {one}\n" for one in cut.tolist()]).encode(), len(cut)) for cut in cuts)) as answers:
+        cuts = [rows[at : at + some] for at in range(0, len(rows), some)]
+        with closing(
+            stream(
+                ("".join([f"slice {one}\n" for one in cut.tolist()]).encode(), len(cut))
+                for cut in cuts
+            )
+        ) as answers:
             for answer, cut in zip(answers, cuts):
                 if b"refused" in answer:
                     raise first_refusal(answer, [f"slice {one}".encode() for one in cut.tolist()])
                 self.samples[cut] = self._sliced(line_ends.bytes_of(answer), len(cut))
 
     def _sliced(self, text: Any, size: int) -> Any:
-        """The rows of the answers to so many slices: in most of them each trace stands, always in the same place."""
+        """The rows of the answers to so many slices: in most of them each trace stands, always in
+        the same place.
+        """
         np = _numpy()
         found = line_ends.lists(text, b"slice ", size)
         if self._pick is None and len(found[0]) == self._count:
@@ -143,7 +174,9 @@ class Reading:
 
 
 def read(engine: Engine, where: Any, count: int, kind: Kind) -> Tuple[Any, Any]:
-    """The samples of these traces (rising positions, each once, of ``count``), a row for each, and how many each has: what is behind them is 0."""
+    """The samples of these traces (rising positions, each once, of ``count``), a row for each, and
+    how many each has: what is behind them is 0.
+    """
     reading = Reading(engine, where, count, kind)
     try:
         reading.more()
@@ -159,11 +192,15 @@ def _size(path: str) -> Optional[int]:
 
 
 def chosen(traces: int, samples: int, longest: int, count: int, size: Optional[int]) -> str:
-    """Which questions answer soonest: ``lines`` (a line for each sample), ``slices`` (each sample of all traces of the file) or ``aside`` (the same of
-    a second session from which all other traces were taken; never where the file has no ``size``, since it is none that can be read twice).
+    """Which questions answer soonest: ``lines`` (a line for each sample), ``slices`` (each sample
+    of all traces of the file) or ``aside`` (the same of a second session from which all other
+    traces were taken; never where the file has no ``size``, since it is none that can be read
+    twice).
 
-    >>> chosen(3, 15, 5, 120, 66000), chosen(990, 990 * 1500, 1500, 1000, 3 << 20), chosen(990, 990 * 1500, 1500, 100000, 300 << 20)
-    ('lines', 'slices', 'aside')
+    >>> chosen(3, 15, 5, 120, 66000), chosen(990, 990 * 1500, 1500, 1000, 3 << 20)
+    ('lines', 'slices')
+    >>> chosen(990, 990 * 1500, 1500, 100000, 300 << 20)
+    'aside'
     >>> chosen(0, 0, 0, 12, 6600)
     'none'
     """
@@ -171,12 +208,16 @@ def chosen(traces: int, samples: int, longest: int, count: int, size: Optional[i
         return "none"
     costs = {"lines": LINE * samples, "slices": ROW * longest * count}
     if size is not None:
-        costs["aside"] = START + BYTE * size + TRACE * count + DELETE * (count - traces) + ROW * longest * traces
+        costs["aside"] = (
+            START + BYTE * size + TRACE * count + DELETE * (count - traces) + ROW * longest * traces
+        )
     return min(costs, key=lambda way: costs[way])
 
 
 def _others(where: Any, count: int) -> Any:
-    """The positions that are not among these, falling: so each is where it was when those behind it are gone."""
+    """The positions that are not among these, falling: so each is where it was when those behind it
+    are gone.
+    """
     np = _numpy()
     rest = np.ones(count + 1, dtype=bool)
     rest[where] = False
@@ -187,14 +228,14 @@ def _others(where: Any, count: int) -> Any:
 def _deletions(gone: Any) -> Iterator[Batch]:
     """The lines that take these traces away, as batches."""
     for at in range(0, len(gone), BATCH_LINES):
-        some = gone[at:at + BATCH_LINES].tolist()
+        some = gone[at : at + BATCH_LINES].tolist()
         yield ("delete " + "\ndelete ".join(map(str, some)) + "\n").encode(), len(some)
 
 
 def _bundled(sent: List[Batch]) -> Iterator[Batch]:
     """Single lines as batches."""
     for at in range(0, len(sent), BATCH_LINES):
-        some = sent[at:at + BATCH_LINES]
+        some = sent[at : at + BATCH_LINES]
         yield b"".join(line for line, _ in some), len(some)
 
 

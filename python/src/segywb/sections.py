@@ -14,10 +14,12 @@ ALONG = {"inline": "crossline", "crossline": "inline"}
 
 
 class Section(NamedTuple):
-    """The samples of many traces: ``array`` has a row for each trace and a column for each time, ``traces`` their positions in the file (from 1), and
-    ``times`` the times of the columns in milliseconds.
+    """The samples of many traces: ``array`` has a row for each trace and a column for each time,
+    ``traces`` their positions in the file (from 1), and ``times`` the times of the columns in
+    milliseconds.
 
-    Where a trace has no sample at a time, since it is shorter than others or begins later, the array is a masked one (``numpy.ma``).
+    Where a trace has no sample at a time, since it is shorter than others or begins later, the
+    array is a masked one (``numpy.ma``).
     """
 
     array: Any
@@ -39,16 +41,21 @@ class Sections(Reports):
     """A part of ``Volume``: its sections."""
 
     def section(self, traces: Any = None, **values: int) -> Section:
-        """The samples of many traces as a 2-D array, with the positions of the traces and the times of the samples in milliseconds.
+        """The samples of many traces as a 2-D array, with the positions of the traces and the times
+        of the samples in milliseconds.
 
-        ``v.section(inline=1100)``, ``v.section(crossline=205)``, ``v.section(field_record=7, trace_in_record=1)``: the traces whose fields have these
-        numbers, of ``traces`` (a selection as for ``headers``; all where it is left out). Those of an inline come in order of their crosslines, those of
-        a crossline in order of their inlines, all others in the order of the file; of ``traces`` alone in the order of the selection.
+        ``v.section(inline=1100)``, ``v.section(crossline=205)``, ``v.section(field_record=7,
+        trace_in_record=1)``: the traces whose fields have these numbers, of ``traces`` (a selection
+        as for ``headers``; all where it is left out). Those of an inline come in order of their
+        crosslines, those of a crossline in order of their inlines, all others in the order of the
+        file; of ``traces`` alone in the order of the selection.
 
-        The samples are int64 (uint64 in format 12), float32 in format 5, float64 in the formats 1 and 6. Time begins at the delay (bytes 109-110); where
-        delays differ each trace stands at its own. Its step is the interval of the traces (bytes 117-118), or that of the binary header where they
-        do not agree; where none is told, times are the numbers of the samples, from 0. A field that is none, and a file whose samples have no values,
-        are a ``Refused``. It needs numpy.
+        The samples are int64 (uint64 in format 12), float32 in format 5, float64 in the formats 1
+        and 6. Time begins at the delay (bytes 109-110); where delays differ each trace stands at
+        its own. Its step is the interval of the traces (bytes 117-118), or that of the binary
+        header where they do not agree; where none is told, times are the numbers of the samples,
+        from 0. A field that is none, and a file whose samples have no values, are a ``Refused``. It
+        needs numpy.
 
         >>> with segywb.open("cube.sgy") as v:
         ...     array, traces, times = v.section(inline=102)
@@ -62,14 +69,18 @@ class Sections(Reports):
         """The positions of the traces of ``section``, in its order, as an array.
 
         >>> with segywb.open("cube.sgy") as v:
-        ...     v.section_traces(crossline=203).tolist(), v.section_traces(slice(1, 8), crossline=203).tolist()
-        ([3, 7, 11], [3, 7])
+        ...     v.section_traces(crossline=203).tolist()
+        ...     v.section_traces(slice(1, 8), crossline=203).tolist()
+        [3, 7, 11]
+        [3, 7]
         """
         np = _numpy()
         where = np.asarray(self._where(traces), dtype=np.int64)
         for name, value in values.items():
             number = lines.number(value)
-            where = np.asarray(self.find(name, int(number), int(number), where)["trace"], dtype=np.int64)
+            where = np.asarray(
+                self.find(name, int(number), int(number), where)["trace"], dtype=np.int64
+            )
         along = [ALONG[name] for name in values if name in ALONG]
         if len(along) == 1 and len(where):
             where = where[np.argsort(self.headers(along[0], traces=where)[along[0]], kind="stable")]
@@ -90,10 +101,12 @@ class Sections(Reports):
         return reading.section
 
     def section_reading(self, traces: Sequence[int], coarse: int = 1) -> "SectionReading":
-        """The same in pieces: ``more(values)`` reads so many samples more, ``section`` is what is there, and ``done`` tells whether it is whole.
+        """The same in pieces: ``more(values)`` reads so many samples more, ``section`` is what is
+        there, and ``done`` tells whether it is whole.
 
-        Each ``coarse`` sample is read first, and stands for those behind it until they are there: so a section can be looked at while it is read. To be
-        closed where it is not read to its end, and to be left alone behind an edit.
+        Each ``coarse`` sample is read first, and stands for those behind it until they are there:
+        so a section can be looked at while it is read. To be closed where it is not read to its
+        end, and to be left alone behind an edit.
 
         >>> with segywb.open("cube.sgy") as v:
         ...     reading = v.section_reading([9, 1], coarse=5)
@@ -108,10 +121,14 @@ class Sections(Reports):
         where = np.asarray(traces, dtype=np.int64)
         count = len(self)
         if len(where) and not 1 <= where.min() <= where.max() <= count:
-            self.stat(int(where.min() if where.min() < 1 else where.max()))  # the program says why not
+            self.stat(
+                int(where.min() if where.min() < 1 else where.max())
+            )  # the program says why not
         step = self._step(where)
         rising, back = np.unique(where, return_inverse=True)
-        reading = many_samples.Reading(self._engine, rising, count, Kind(self.sample_type, self.has_floats), coarse)
+        reading = many_samples.Reading(
+            self._engine, rising, count, Kind(self.sample_type, self.has_floats), coarse
+        )
         shifts, first = self._shifts(where, step)
         return SectionReading(reading, where, back, shifts, first, step)
 
@@ -123,7 +140,9 @@ class Sections(Reports):
         return micro / 1000
 
     def _shifts(self, where: Any, step: float) -> Any:
-        """How many samples later than the first of these traces each begins, and when that is in milliseconds."""
+        """How many samples later than the first of these traces each begins, and when that is in
+        milliseconds.
+        """
         np = _numpy()
         if not len(where) or not step:
             return np.zeros(len(where), dtype=np.int64), 0.0
@@ -134,9 +153,23 @@ class Sections(Reports):
 class SectionReading:
     """A section that is read in pieces, made by ``Volume.section_reading``."""
 
-    def __init__(self, reading: many_samples.Reading, where: Any, back: Any, shifts: Any, first: float, step: float) -> None:
+    def __init__(
+        self,
+        reading: many_samples.Reading,
+        where: Any,
+        back: Any,
+        shifts: Any,
+        first: float,
+        step: float,
+    ) -> None:
         self._reading = reading
-        self._where, self._back, self._shifts, self._first, self._step = where, back, shifts, first, step
+        self._where, self._back, self._shifts, self._first, self._step = (
+            where,
+            back,
+            shifts,
+            first,
+            step,
+        )
         self.more = reading.more
         self.close = reading.close
 
@@ -192,7 +225,14 @@ class SectionReading:
         if not there.all():
             samples = samples[np.maximum.accumulate(np.where(there, np.arange(len(there)), 0))]
         found = np.ascontiguousarray(samples.T)
-        return _placed(found[self._back], self._reading.sizes[self._back], self._shifts, self._where, self._first, self._step)
+        return _placed(
+            found[self._back],
+            self._reading.sizes[self._back],
+            self._shifts,
+            self._where,
+            self._first,
+            self._step,
+        )
 
 
 def _placed(found: Any, sizes: Any, shifts: Any, where: Any, first: float, step: float) -> Section:

@@ -1,4 +1,6 @@
-"""Sections for the page: samples of many traces side by side, under a gain, decimated to the pixels of the window that is looked at."""
+"""Sections for the page: samples of many traces side by side, under a gain, decimated to the pixels
+of the window that is looked at.
+"""
 
 from __future__ import annotations
 
@@ -25,16 +27,22 @@ MOST_KEPT = 4
 FEW_TRACES = 2000  # how many traces of a line without bins are shown at first
 ROOM = 4  # pixels that a wiggle wants
 RECORD = "field_record"
-COARSE = 8  # every so manieth sample is read first, and stands for those behind it until they are there
+COARSE = (
+    8  # every so manieth sample is read first, and stands for those behind it until they are there
+)
 PIECE = 1 << 18  # rows of answers that are read at once
 PIECE_ASKED = 1 << 15  # samples that are asked one by one at once
 
 
-Key = Tuple[str, int, bytes]  # the side, the version in which its samples became what they are, and its traces
+Key = Tuple[
+    str, int, bytes
+]  # the side, the version in which its samples became what they are, and its traces
 
 
 class Asked(NamedTuple):
-    """Which traces: those whose ``field`` has a ``value`` (the middle one where none is named), or without a field those from ``first`` to ``last``."""
+    """Which traces: those whose ``field`` has a ``value`` (the middle one where none is named), or
+    without a field those from ``first`` to ``last``.
+    """
 
     field: str
     value: Optional[int]
@@ -43,7 +51,9 @@ class Asked(NamedTuple):
 
 
 class Window(NamedTuple):
-    """The part that is looked at, from one trace of the section to behind another and from one sample to behind another, and its pixels."""
+    """The part that is looked at, from one trace of the section to behind another and from one
+    sample to behind another, and its pixels.
+    """
 
     left: int
     right: int
@@ -54,7 +64,9 @@ class Window(NamedTuple):
 
 
 class Look(NamedTuple):
-    """How it is drawn: ``density``, ``wiggles`` or ``both``; what is now, also what was, or their difference; the gain; the headers above it."""
+    """How it is drawn: ``density``, ``wiggles`` or ``both``; what is now, also what was, or their
+    difference; the gain; the headers above it.
+    """
 
     style: str
     side: str
@@ -71,8 +83,10 @@ class Header(TypedDict):
 
 
 class Side(TypedDict):
-    """A picture: its bytes follow, first those of the density, row by row, then those of the wiggles, trace by trace. ``part`` is what it shows: from one
-    trace to behind another and from one sample to behind another, and is less than the window where this side has less."""
+    """A picture: its bytes follow, first those of the density, row by row, then those of the
+    wiggles, trace by trace. ``part`` is what it shows: from one trace to behind another and from
+    one sample to behind another, and is less than the window where this side has less.
+    """
 
     name: str
     part: List[int]
@@ -88,7 +102,9 @@ class Side(TypedDict):
 
 
 class Shots(TypedDict):
-    """Records of a file that looks like one of shots: how many there are, the least and the greatest number, and whether a name is bound to their place."""
+    """Records of a file that looks like one of shots: how many there are, the least and the
+    greatest number, and whether a name is bound to their place.
+    """
 
     count: int
     first: int
@@ -131,8 +147,9 @@ class Under(TypedDict):
 
 
 class Kept(NamedTuple):
-    """A section that was read: the positions of its traces, its samples (``gains.plain``), at which column each trace begins, and its times; and how
-    much of it is there."""
+    """A section that was read: the positions of its traces, its samples (``gains.plain``), at which
+    column each trace begins, and its times; and how much of it is there.
+    """
 
     traces: Any
     values: Any
@@ -143,7 +160,9 @@ class Kept(NamedTuple):
 
 
 class Chosen(NamedTuple):
-    """The traces of a section: how many were meant, of how many one is taken, and which they are; with the numbers before and behind the one meant."""
+    """The traces of a section: how many were meant, of how many one is taken, and which they are;
+    with the numbers before and behind the one meant.
+    """
 
     asked: Asked
     whole: int
@@ -158,14 +177,21 @@ class Chosen(NamedTuple):
 def asked(query: Any) -> Asked:
     """The traces that a query means.
 
-    >>> asked({"field": "inline", "value": "1100"}), asked({"first": "3", "last": "9"})
-    (Asked(field='inline', value=1100, first=1, last=0), Asked(field='', value=None, first=3, last=9))
+    >>> asked({"field": "inline", "value": "1100"})
+    Asked(field='inline', value=1100, first=1, last=0)
+    >>> asked({"first": "3", "last": "9"})
+    Asked(field='', value=None, first=3, last=9)
     """
     field = word(str(query.get("field", "")).strip())
     if " " in field:
         raise ValueError("one field is wanted")
     value = str(query.get("value", "")).strip()
-    return Asked(field, int(value) if value and field else None, int(query.get("first", "1")), int(query.get("last", "0")))
+    return Asked(
+        field,
+        int(value) if value and field else None,
+        int(query.get("first", "1")),
+        int(query.get("last", "0")),
+    )
 
 
 def look_of(query: Any) -> Look:
@@ -177,16 +203,25 @@ def look_of(query: Any) -> Look:
     style, side = str(query.get("style", "density")), str(query.get("side", "now"))
     if style not in STYLES or side not in SIDES:
         raise ValueError(f"a section is drawn as {', '.join(STYLES)}, and shows {', '.join(SIDES)}")
-    gain = Gain(float(query.get("percentile", "98")), str(query.get("balance", "none")), float(query.get("window", "500")), query.get("reverse") == "1")
+    gain = Gain(
+        float(query.get("percentile", "98")),
+        str(query.get("balance", "none")),
+        float(query.get("window", "500")),
+        query.get("reverse") == "1",
+    )
     fields = [word(one) for one in dict.fromkeys(str(query.get("headers", "")).split())]
     if len(fields) > MOST_FIELDS:
-        raise ValueError(f"up to {MOST_FIELDS} fields can be drawn above a section, not {len(fields)}")
+        raise ValueError(
+            f"up to {MOST_FIELDS} fields can be drawn above a section, not {len(fields)}"
+        )
     return Look(style, side, gains.checked(gain), fields)
 
 
 def window_of(query: Any) -> Window:
     """The part that a query looks at; 0 for the last of traces or of samples means all of them."""
-    left, right, top, bottom = (int(query.get(name, "0")) for name in ("left", "right", "top", "bottom"))
+    left, right, top, bottom = (
+        int(query.get(name, "0")) for name in ("left", "right", "top", "bottom")
+    )
     wide, tall = (max(16, min(int(query.get(name, "600")), 4000)) for name in ("wide", "tall"))
     return Window(left, right, top, bottom, wide, tall)
 
@@ -206,7 +241,9 @@ def part(first: int, last: int, count: int) -> Tuple[int, int]:
 
 
 def automatic(desk: Desk) -> Asked:
-    """The section that is looked at first: the middle inline of a grid, else the first record of a file of shots, else the first traces."""
+    """The section that is looked at first: the middle inline of a grid, else the first record of a
+    file of shots, else the first traces.
+    """
     now = desk.now()
     if now.inlines.shape[1] > 1 and now.crosslines.shape[1] > 1:
         return Asked("inline", None, 1, 0)
@@ -216,7 +253,9 @@ def automatic(desk: Desk) -> Asked:
 
 
 def shots(desk: Desk) -> Optional[Shots]:
-    """The records of a file without a grid of bins, where there are several of them with several traces each in the mean."""
+    """The records of a file without a grid of bins, where there are several of them with several
+    traces each in the mean.
+    """
     now = desk.now()
     if now.inlines.shape[1] > 1 and now.crosslines.shape[1] > 1:
         return None
@@ -225,7 +264,12 @@ def shots(desk: Desk) -> Optional[Shots]:
     if not 1 < len(numbers) <= len(record) // 2:
         return None
     named = TRACE_NAMES[RECORD] in desk.volume.fields().values()
-    return {"count": len(numbers), "first": int(numbers[0]), "last": int(numbers[-1]), "named": named}
+    return {
+        "count": len(numbers),
+        "first": int(numbers[0]),
+        "last": int(numbers[-1]),
+        "named": named,
+    }
 
 
 def choose(mirror: Any, told: Asked, samples: int) -> Chosen:
@@ -234,13 +278,22 @@ def choose(mirror: Any, told: Asked, samples: int) -> Chosen:
     if told.field:
         column = mirror.columns[told.field]
         numbers = np.unique(column)
-        value = told.value if told.value is not None else int(numbers[len(numbers) // 2]) if len(numbers) else 0
+        value = (
+            told.value
+            if told.value is not None
+            else int(numbers[len(numbers) // 2])
+            if len(numbers)
+            else 0
+        )
         told = told._replace(value=value)
         found = np.flatnonzero(column == value)
         if told.field in ALONG:
             found = found[np.argsort(mirror.columns[ALONG[told.field]][found], kind="stable")]
         at, behind = np.searchsorted(numbers, value), np.searchsorted(numbers, value, "right")
-        near = (int(numbers[at - 1]) if at else None, int(numbers[behind]) if behind < len(numbers) else None)
+        near = (
+            int(numbers[at - 1]) if at else None,
+            int(numbers[behind]) if behind < len(numbers) else None,
+        )
     else:
         first, last = span_of(told.first, told.last, len(mirror))
         told = told._replace(first=first, last=last)
@@ -259,7 +312,7 @@ class Sections:
         """``seconds``: for how long a section is read before what is there is shown."""
         self._seconds = seconds
         self._read: List[Tuple[Key, Kept]] = []
-        self._readings: Dict[str, Tuple[Key, SectionReading]] = {}
+        self._readings: Dict[str, Tuple[Key, Volume, SectionReading]] = {}
         self._made: List[Tuple[Tuple[int, Gain], Tuple[Any, Any], float]] = []
 
     def view(self, desk: Desk, told: Asked, window: Window, look: Look) -> Tuple[Told, bytes]:
@@ -270,21 +323,43 @@ class Sections:
         samples = int(desk.now().told["info"].split(" samples ")[1].split(" ")[0])
         chosen = choose(now, told, samples)
         sides = self._sides(desk, chosen, look, now, samples)
-        traces, times = max(len(one.traces) for _, one, _ in sides), max(one.values.shape[1] for _, one, _ in sides)
-        (left, right), (top, bottom) = part(window.left, window.right, traces), part(window.top, window.bottom, times)
+        traces, times = max(len(one.traces) for _, one, _ in sides), max(
+            one.values.shape[1] for _, one, _ in sides
+        )
+        (left, right), (top, bottom) = part(window.left, window.right, traces), part(
+            window.top, window.bottom, times
+        )
         window = Window(left, right, top, bottom, window.wide, window.tall)
         wide = window._replace(wide=max(16, window.wide // len(sides)))
-        drawn = [self._side(name, kept, wide, look, mirror, chosen.asked) for name, kept, mirror in sides]
+        drawn = [
+            self._side(name, kept, wide, look, mirror, chosen.asked) for name, kept, mirror in sides
+        ]
         first = sides[0][1]
         answer: Told = {
-            "version": desk.version, "field": chosen.asked.field, "value": chosen.asked.value, "first": chosen.asked.first, "last": chosen.asked.last,
-            "along": ALONG.get(chosen.asked.field, "trace"), "whole": chosen.whole, "every": chosen.every, "traces": traces, "samples": times,
-            "start": first.start, "step": first.step, "window": [left, right, top, bottom], "read": min(one.read for _, one, _ in sides), "back": chosen.near[0], "on": chosen.near[1],
-            "shots": shots(desk), "sides": [one for one, _ in drawn],
+            "version": desk.version,
+            "field": chosen.asked.field,
+            "value": chosen.asked.value,
+            "first": chosen.asked.first,
+            "last": chosen.asked.last,
+            "along": ALONG.get(chosen.asked.field, "trace"),
+            "whole": chosen.whole,
+            "every": chosen.every,
+            "traces": traces,
+            "samples": times,
+            "start": first.start,
+            "step": first.step,
+            "window": [left, right, top, bottom],
+            "read": min(one.read for _, one, _ in sides),
+            "back": chosen.near[0],
+            "on": chosen.near[1],
+            "shots": shots(desk),
+            "sides": [one for one, _ in drawn],
         }
         return answer, b"".join(made for _, made in drawn)
 
-    def _sides(self, desk: Desk, chosen: Chosen, look: Look, now: Any, samples: int) -> List[Tuple[str, Kept, Any]]:
+    def _sides(
+        self, desk: Desk, chosen: Chosen, look: Look, now: Any, samples: int
+    ) -> List[Tuple[str, Kept, Any]]:
         """What is shown side by side: its name, its samples, and the headers of its traces."""
         kept = self._kept(desk, desk.volume, "now", desk.sampled, chosen.traces)
         if look.side == "now":
@@ -293,13 +368,22 @@ class Sections:
             origin = now.origin[chosen.traces - 1]
             was = self._kept(desk, desk.original, "was", desk.opened_at, origin[origin > 0])
             return [("difference", difference(kept, was, origin), now)]
-        names = [one for one in (chosen.asked.field, ALONG.get(chosen.asked.field, ""), *look.fields) if one]
+        names = [
+            one
+            for one in (chosen.asked.field, ALONG.get(chosen.asked.field, ""), *look.fields)
+            if one
+        ]
         loaded = desk.wide_loaded(names).mirror
         earlier = choose(loaded, chosen.asked, samples)
-        return [("was", self._kept(desk, desk.original, "was", desk.opened_at, earlier.traces), loaded), ("now", kept, now)]
+        return [
+            ("was", self._kept(desk, desk.original, "was", desk.opened_at, earlier.traces), loaded),
+            ("now", kept, now),
+        ]
 
     def _kept(self, desk: Desk, volume: Volume, side: str, version: int, traces: Any) -> Kept:
-        """The samples of these traces, of the file as it is or was: read anew where an edit may have changed samples or positions since."""
+        """The samples of these traces, of the file as it is or was: read anew where an edit may
+        have changed samples or positions since.
+        """
         key = (version, traces.tobytes())
         for known, kept in self._read:
             if known == (side, *key):
@@ -317,33 +401,50 @@ class Sections:
         kept = kept_of(reading.section, reading.part)
         if reading.done:
             self._end(side)
-            self._read = [((side, *key), kept), *self._read[:MOST_KEPT - 1]]
+            self._read = [((side, *key), kept), *self._read[: MOST_KEPT - 1]]
         return kept
 
-    def _reading(self, volume: Volume, side: str, key: Tuple[int, bytes], traces: Any) -> SectionReading:
+    def _reading(
+        self, volume: Volume, side: str, key: Tuple[int, bytes], traces: Any
+    ) -> SectionReading:
         """The reading that was begun, or a new one: of each side one at a time."""
-        if side in self._readings and self._readings[side][0] == (side, *key):
-            return self._readings[side][1]
+        known = self._readings.get(side)
+        if known is not None and known[0] == (side, *key) and known[1] is volume:
+            return known[2]
         self._end(side)
-        self._readings[side] = ((side, *key), volume.section_reading(traces, COARSE))
-        return self._readings[side][1]
+        reading = volume.section_reading(traces, COARSE)
+        self._readings[side] = ((side, *key), volume, reading)
+        return reading
 
     def _end(self, side: str) -> None:
         """Ends a reading."""
         if side in self._readings:
-            self._readings.pop(side)[1].close()
+            self._readings.pop(side)[2].close()
 
     def under(self, desk: Desk, trace: int, column: int, names: List[str]) -> Under:
-        """What stands under the pointer: the headers of a trace, and its sample at a column of the section, as the program tells it."""
+        """What stands under the pointer: the headers of a trace, and its sample at a column of the
+        section, as the program tells it.
+        """
         rows = desk.volume.headers(*names, traces=trace)
-        told: Under = {"version": desk.version, "trace": trace, "names": names, "values": [str(one) for one in rows.tolist()[0]], "sample": None, "value": None}
+        told: Under = {
+            "version": desk.version,
+            "trace": trace,
+            "names": names,
+            "values": [str(one) for one in rows.tolist()[0]],
+            "sample": None,
+            "value": None,
+        }
         for (side, version, _), kept in self._read:
-            at = np.flatnonzero(kept.traces == trace) if (side, version) == ("now", desk.sampled) else np.empty(0, dtype=np.int64)
+            at = (
+                np.flatnonzero(kept.traces == trace)
+                if (side, version) == ("now", desk.sampled)
+                else np.empty(0, dtype=np.int64)
+            )
             if len(at) and column >= kept.begin[at[0]]:
                 sample = column - int(kept.begin[at[0]])
                 (answer,) = desk.volume.run([f"sample {trace} {sample}"])
                 if answer.text.startswith("value "):
-                    told["sample"], told["value"] = sample, answer.text[len("value "):]
+                    told["sample"], told["value"] = sample, answer.text[len("value ") :]
                 break
         return told
 
@@ -355,26 +456,54 @@ class Sections:
                 return made[0], end
         values, end = gains.gained(kept.values, kept.step, gain)
         codes = np.ascontiguousarray(gains.codes(values, end).T)
-        self._made = [(key, (codes, kept.values), end), *self._made[:MOST_KEPT - 1]]  # with the samples, so that their number stays theirs
+        self._made = [
+            (key, (codes, kept.values), end),
+            *self._made[: MOST_KEPT - 1],
+        ]  # with the samples, so that their number stays theirs
         return codes, end
 
-    def _side(self, name: str, kept: Kept, window: Window, look: Look, mirror: Any, told: Asked) -> Tuple[Side, bytes]:
+    def _side(
+        self, name: str, kept: Kept, window: Window, look: Look, mirror: Any, told: Asked
+    ) -> Tuple[Side, bytes]:
         """One picture."""
         codes, end = self._codes(kept, look.gain)
-        some = codes[window.top:window.bottom, window.left:window.right]
-        density = peaks(some, window.tall, window.wide) if look.style != "wiggles" else np.empty((0, 0), dtype=np.int8)
+        some = codes[window.top : window.bottom, window.left : window.right]
+        density = (
+            peaks(some, window.tall, window.wide)
+            if look.style != "wiggles"
+            else np.empty((0, 0), dtype=np.int8)
+        )
         stride = max(1, -(-some.shape[1] * ROOM // window.wide))
-        wiggles = peaks(some[:, stride // 2::stride], window.tall, some.shape[1] or 1).T if look.style != "density" else np.empty((0, 0), dtype=np.int8)
+        wiggles = (
+            peaks(some[:, stride // 2 :: stride], window.tall, some.shape[1] or 1).T
+            if look.style != "density"
+            else np.empty((0, 0), dtype=np.int8)
+        )
         columns = min(some.shape[1], window.wide)
-        traces = kept.traces[window.left:window.right]
+        traces = kept.traces[window.left : window.right]
         starts = starts_of(len(traces), columns) if columns else np.empty(0, dtype=np.int64)
         side: Side = {
-            "name": name, "part": [window.left, window.left + some.shape[1], window.top, window.top + some.shape[0]], "rows": min(some.shape[0], window.tall),
-            "columns": columns, "wiggles": len(wiggles), "stride": stride,
-            "label": labels(mirror, told, traces[starts]), "trace": traces[starts].tolist(), "end": end,
-            "odd": int(np.count_nonzero(some == gains.LACKS)), "headers": [header(mirror, field, traces, starts) for field in look.fields],
+            "name": name,
+            "part": [
+                window.left,
+                window.left + some.shape[1],
+                window.top,
+                window.top + some.shape[0],
+            ],
+            "rows": min(some.shape[0], window.tall),
+            "columns": columns,
+            "wiggles": len(wiggles),
+            "stride": stride,
+            "label": labels(mirror, told, traces[starts]),
+            "trace": traces[starts].tolist(),
+            "end": end,
+            "odd": int(np.count_nonzero(some == gains.LACKS)),
+            "headers": [header(mirror, field, traces, starts) for field in look.fields],
         }
-        return side, np.ascontiguousarray(density).tobytes() + np.ascontiguousarray(wiggles).tobytes()
+        return (
+            side,
+            np.ascontiguousarray(density).tobytes() + np.ascontiguousarray(wiggles).tobytes(),
+        )
 
 
 def kept_of(found: Section, read: float) -> Kept:
@@ -383,7 +512,14 @@ def kept_of(found: Section, read: float) -> Kept:
     there = ~masked(found.array)
     begin = there.argmax(axis=1) if there.shape[1] else np.zeros(len(there), dtype=np.int64)
     step = float(found.times[1] - found.times[0]) if len(found.times) > 1 else 0.0
-    return Kept(found.traces, gains.plain(found.array), begin, float(found.times[0]) if len(found.times) else 0.0, step, read)
+    return Kept(
+        found.traces,
+        gains.plain(found.array),
+        begin,
+        float(found.times[0]) if len(found.times) else 0.0,
+        step,
+        read,
+    )
 
 
 def difference(now: Kept, was: Kept, origin: Any) -> Kept:
@@ -398,7 +534,9 @@ def difference(now: Kept, was: Kept, origin: Any) -> Kept:
 
 
 def labels(mirror: Any, told: Asked, traces: Any) -> List[int]:
-    """The numbers of the axis for these traces: crosslines of an inline, inlines of a crossline, else positions."""
+    """The numbers of the axis for these traces: crosslines of an inline, inlines of a crossline,
+    else positions.
+    """
     along = ALONG.get(told.field)
     return [int(one) for one in (mirror.columns[along][traces - 1] if along else traces)]
 
@@ -408,4 +546,8 @@ def header(mirror: Any, field: str, traces: Any, starts: Any) -> Header:
     if not len(starts) or field not in mirror.columns:
         return {"name": field, "low": [], "high": []}
     numbers = mirror.columns[field][traces - 1]
-    return {"name": field, "low": np.minimum.reduceat(numbers, starts).tolist(), "high": np.maximum.reduceat(numbers, starts).tolist()}
+    return {
+        "name": field,
+        "low": np.minimum.reduceat(numbers, starts).tolist(),
+        "high": np.maximum.reduceat(numbers, starts).tolist(),
+    }

@@ -32,7 +32,7 @@ look();
 """
 
 
-# Changes a field of the section, and waits until the picture is drawn: milliseconds.
+# Changes a field of the section: milliseconds until a first look at it is drawn, and until all of it is.
 DRAWN = """
 const [id, value, done] = arguments;
 const field = document.getElementById(id);
@@ -40,13 +40,16 @@ const paper = document.getElementById("section-canvas");
 const before = paper.shown;
 const frames = Number(document.body.dataset.sectionFrames || 0);
 const start = performance.now();
+let first = null;
 field.value = value;
 field.dispatchEvent(new Event("change"));
 const look = () => {
   const said = document.getElementById("section-said").textContent;
-  if (said) done([null, said]);
-  else if (paper.shown !== before && Number(document.body.dataset.sectionFrames) > frames) done([performance.now() - start, ""]);
-  else if (performance.now() - start > 60000) done([null, "too long"]);
+  const now = performance.now() - start;
+  const drawn = paper.shown !== before && Number(document.body.dataset.sectionFrames) > frames;
+  if (drawn && first === null) first = now;
+  if (said || now > 60000) done([null, null, said || "too long"]);
+  else if (drawn && paper.shown.told.read === 1) done([first, now, ""]);
   else requestAnimationFrame(look);
 };
 look();
@@ -123,11 +126,11 @@ def measured(browser, line, edits, count=TIMES):
 
 
 def drawn(browser, id, value):
-    """The time from a change of a field of the section to its picture."""
-    took, why = browser.execute_async_script(DRAWN, id, value)
-    if took is None:
+    """The times from a change of a field of the section to a first look at it, and to all of it."""
+    first, whole, why = browser.execute_async_script(DRAWN, id, value)
+    if first is None:
         raise SystemExit(f"desk: section, {id} {value}: {why}")
-    return took
+    return first, whole
 
 
 def sections(browser):
@@ -135,10 +138,19 @@ def sections(browser):
     browser.execute_script("document.querySelector('#section .to-left').click()")
     wait(lambda: browser.execute_script("return document.body.dataset.sectionVersion || null"))
     time.sleep(1)
-    size = browser.execute_script("const { whole, samples } = document.getElementById('section-canvas').shown.told; return [whole, samples]")
-    told("section of {:,} traces by {:,}, not read yet".format(*size), [drawn(browser, "section-value", str(at)) for at in range(2, 2 + TIMES)], 300)
-    told("the same under another gain", [drawn(browser, "section-balance", one) for one in ("trace", "none", "trace", "none")], 300)
-    told("the same under an AGC", [drawn(browser, "section-percentile", str(at)) for at in (97, 96, 95) if not browser.execute_script("document.getElementById('section-balance').value = 'agc'")], 300)
+    size = browser.execute_script(
+        "const { whole, samples } = document.getElementById('section-canvas').shown.told; return [whole, samples]"
+    )
+    if browser.execute_script("return document.getElementById('section-of').value") == "traces":  # a line without bins
+        times = [drawn(browser, "section-last", str(size[0] - at)) for at in range(1, 1 + TIMES)]
+    else:
+        times = [drawn(browser, "section-value", str(at)) for at in range(2, 2 + TIMES)]
+    told("section of {:,} traces by {:,}, a first look".format(*size), [one for one, _ in times], 300)
+    told("all of it", [one for _, one in times], 2000)
+    gains = [drawn(browser, "section-balance", one)[1] for one in ("trace", "none", "trace", "none")]
+    told("the same under another gain", gains, 300)
+    browser.execute_script("document.getElementById('section-balance').value = 'agc'")
+    told("the same under an AGC", [drawn(browser, "section-percentile", str(at))[1] for at in (97, 96, 95)], 300)
     for style in ("density", "wiggles", "both"):
         drawn(browser, "section-style", style)
         time.sleep(0.5)

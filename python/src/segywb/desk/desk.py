@@ -78,7 +78,7 @@ class Desk:
         self.edited: Optional[int] = None  # the version before the last edit, where that edit is the last step
         self.sampled = 0  # the last version in which a sample, or the position of a trace, may have become another
         self.opened_at = 0  # the version in which the file as it was loaded became another: by a save over it
-        self.gridded = True  # whether there is a map to be seen: several inlines, and several crosslines
+        self.gridded = True  # whether the map comes first: of several inlines and crosslines, and where samples have no values
         self.kept_cells: List[Tuple[Mirror, Axis, Axis, Cells]] = []
         self._pending: List[str] = []
         self._shots: List[Shot] = []
@@ -100,7 +100,7 @@ class Desk:
         read = mirror.read(self._volume, mirror.LINES, lambda done, of: told("inlines and crosslines", done, of))
         self._now = self._loaded = self._shot(read)
         self._shots = [self._now]
-        self.gridded = all(one.shape[1] > 1 for one in (self._now.inlines, self._now.crosslines))
+        self.gridded = self.opaque or all(one.shape[1] > 1 for one in (self._now.inlines, self._now.crosslines))
         self.version += 1
         if self._again:
             script, self._again = self._again, b""

@@ -27,6 +27,7 @@ MOST_KEPT = 4
 FEW_TRACES = 2000  # how many traces of a line without bins are shown at first
 ROOM = 4  # pixels that a wiggle wants
 RECORD = "field_record"
+LATER = 4  # behind the first look so many times as much is read until the next one
 COARSE = (
     8  # every so manieth sample is read first, and stands for those behind it until they are there
 )
@@ -389,7 +390,7 @@ class Sections:
             if known == (side, *key):
                 return kept
         reading = self._reading(volume, side, key, traces)
-        until = time.monotonic() + self._seconds
+        until = time.monotonic() + self._seconds * (LATER if reading.part else 1)
         try:
             while not reading.done:
                 reading.more(PIECE_ASKED if reading.asked else PIECE)

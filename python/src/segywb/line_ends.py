@@ -8,7 +8,7 @@ import importlib
 from typing import Any, List, Tuple
 
 from .answers import floating, unexpected
-from .arrays import _decimals, _halfway
+from .arrays import decimals_of, halfway
 
 # A decimal with so many digits is a whole number that a float holds exactly, over a power of ten
 # that one holds: their quotient is rounded once.
@@ -77,7 +77,7 @@ def decimals(text: Any, ends: Any, narrow: bool = False) -> Tuple[Any, Any]:
         return values, starts
     with np.errstate(over="ignore"):
         made = values.astype(np.float32)
-    for at in np.flatnonzero(_halfway(np, values, made)).tolist():
+    for at in np.flatnonzero(halfway(np, values, made)).tolist():
         made[at] = floating(text[starts[at] : ends[at]].tobytes().decode("ascii"), True)
     return made, starts
 
@@ -131,7 +131,7 @@ def _decimals_at(np: Any, text: Any, starts: Any, ends: Any) -> Any:
     first = np.concatenate([[0], np.cumsum(sizes)[:-1]])
     places = np.arange(int(sizes.sum())) + np.repeat(starts - first, sizes)
     joined = text[places].tobytes()
-    made = _decimals(np, joined + b" 0")  # so that what is wrong with the last word is seen as well
+    made = decimals_of(np, joined + b" 0")  # so that what is wrong with the last word is seen as well
     if len(made) != len(starts) + 1:
         raise unexpected(joined[:200].decode("utf-8", "replace"))
     return made[:-1]

@@ -109,5 +109,6 @@ speed: build
 	bash speed/disk $(BUILT)
 	bash speed/python $(BUILT)
 	bash speed/desk $(BUILT)
+	bash speed/desk $(BUILT) 100000 1500
 	bash speed/library $(BUILT)
 	bash speed/orders $(TIMINGS)

@@ -32,6 +32,71 @@ look();
 """
 
 
+# Changes a field of the section: milliseconds until a first look at it is drawn, and until all of it is.
+DRAWN = """
+const [id, value, done] = arguments;
+const field = document.getElementById(id);
+const paper = document.getElementById("section-canvas");
+const before = paper.shown;
+const frames = Number(document.body.dataset.sectionFrames || 0);
+const start = performance.now();
+let first = null;
+field.value = value;
+field.dispatchEvent(new Event("change"));
+const look = () => {
+  const said = document.getElementById("section-said").textContent;
+  const now = performance.now() - start;
+  const drawn = paper.shown !== before && Number(document.body.dataset.sectionFrames) > frames;
+  if (drawn && first === null) first = now;
+  if (said || now > 60000) done([null, null, said || "too long"]);
+  else if (drawn && paper.shown.told.read === 1) done([first, now, ""]);
+  else requestAnimationFrame(look);
+};
+look();
+"""
+# Turns the wheel over the section, once a picture: how many pictures a second, and the longest time between two in milliseconds.
+TURNED = """
+const [count, done] = arguments;
+const paper = document.getElementById("section-canvas");
+const { left, top, width, height } = paper.getBoundingClientRect();
+let turn = 0;
+let start = 0;
+let last = 0;
+let longest = 0;
+let frames = 0;
+const step = (now) => {
+  if (!turn) { start = now; frames = Number(document.body.dataset.sectionFrames); }
+  else longest = Math.max(longest, now - last);
+  last = now;
+  if (turn === count) return done([(Number(document.body.dataset.sectionFrames) - frames) / (now - start) * 1000, longest]);
+  turn += 1;
+  paper.dispatchEvent(new WheelEvent("wheel", { clientX: left + width / 2, clientY: top + height / 2, deltaY: turn % 60 < 30 ? -60 : 60, cancelable: true, bubbles: true }));
+  requestAnimationFrame(step);
+};
+requestAnimationFrame(step);
+"""
+# Draws fields against the number of the trace, then a part of them: milliseconds until each is drawn.
+GRAPHED = """
+const [field, first, last, done] = arguments;
+const plot = document.getElementById("plot-graph");
+const count = () => (plot.data || []).length;
+const wanted = count() + 1;
+let start = performance.now();
+document.getElementById("graph-field").value = field;
+document.getElementById("graph-add").requestSubmit();
+const zoomed = () => (plot.data[0].x[0] >= first ? done([whole, performance.now() - start]) : setTimeout(zoomed, 2));
+let whole = null;
+const look = () => {
+  if (count() < wanted) return setTimeout(look, 2);
+  whole = performance.now() - start;
+  start = performance.now();
+  Plotly.relayout(plot, { "xaxis.range[0]": first - 0.4, "xaxis.range[1]": last + 0.4 });
+  return zoomed();
+};
+look();
+"""
+
+
 def wait(question, seconds=300.0):
     """Asks until the answer is there."""
     until = time.monotonic() + seconds
@@ -60,6 +125,54 @@ def measured(browser, line, edits, count=TIMES):
     return [one for one, _ in found], [one for _, one in found]
 
 
+def drawn(browser, id, value):
+    """The times from a change of a field of the section to a first look at it, and to all of it."""
+    first, whole, why = browser.execute_async_script(DRAWN, id, value)
+    if first is None:
+        raise SystemExit(f"desk: section, {id} {value}: {why}")
+    return first, whole
+
+
+def sections(browser):
+    """The panel of sections: lines that were not read yet, the same again under other gains, and the zoom."""
+    browser.execute_script("document.querySelector('#section .to-left').click()")
+    wait(lambda: browser.execute_script("return document.body.dataset.sectionVersion || null"))
+    time.sleep(1)
+    size = browser.execute_script(
+        "const { whole, samples } = document.getElementById('section-canvas').shown.told; return [whole, samples]"
+    )
+    if browser.execute_script("return document.getElementById('section-of').value") == "traces":  # a line without bins
+        times = [drawn(browser, "section-last", str(size[0] - at)) for at in range(1, 1 + TIMES)]
+    else:
+        times = [drawn(browser, "section-value", str(at)) for at in range(2, 2 + TIMES)]
+    told("section of {:,} traces by {:,}, a first look".format(*size), [one for one, _ in times], 300)
+    told("all of it", [one for _, one in times], 2000)
+    gains = [drawn(browser, "section-balance", one)[1] for one in ("trace", "none", "trace", "none")]
+    told("the same under another gain", gains, 300)
+    browser.execute_script("document.getElementById('section-balance').value = 'agc'")
+    told("the same under an AGC", [drawn(browser, "section-percentile", str(at))[1] for at in (97, 96, 95)], 300)
+    for style in ("density", "wiggles", "both"):
+        drawn(browser, "section-style", style)
+        time.sleep(0.5)
+        rates = [browser.execute_async_script(TURNED, 120) for _ in range(3)]
+        rate = statistics.median([one for one, _ in rates])
+        print(f"{'zoom by the wheel, ' + style:44s} {rate:8.0f} pictures a second, at most {max(one for _, one in rates):.0f} ms between two  ({'within' if rate >= 30 else 'over'} 30)", flush=True)
+    browser.execute_script("document.querySelector('#maps .to-left').click()")
+
+
+def graphs(browser, count):
+    """The panel of graphs: one more field of all traces, and a zoom into a part."""
+    browser.execute_script("document.querySelector('#graph .to-right').click()")
+    wait(lambda: browser.execute_script("return document.body.dataset.graphVersion || null"))
+    for field in ("offset", "sequence_file"):
+        whole, part = browser.execute_async_script(GRAPHED, field, count // 3, count // 2)
+        told(f"{field} against the number of the trace", [whole], 1000)
+        told("a zoom into a sixth of them", [part], 300)
+        browser.execute_script("document.getElementById('graph-all').click()")
+        time.sleep(1)
+    browser.execute_script("document.querySelector('#side .to-right').click()")
+
+
 def main(path):
     """All of it."""
     options = Options()
@@ -81,6 +194,9 @@ def main(path):
             answers, maps = measured(browser, line, True)
             told(f"{line}, to the answer", answers, 100)
             told(f"{line}, to the map", maps, 500)
+        wait(lambda: browser.execute_script(READY))
+        graphs(browser, int(browser.execute_script("return document.getElementById('first').max")))
+        sections(browser)
     finally:
         browser.quit()
         desk.terminate()

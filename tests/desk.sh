@@ -8,7 +8,7 @@ SEGYWB=$(realpath "${1:-$here/../dist/segywb-x86_64-linux}") || exit 1
 export SEGYWB PYTHONDONTWRITEBYTECODE=1
 [ $# = 0 ] || shift
 python=${PYTHON:-/usr/bin/python3}
-needed='python3-pytest python3-numpy python3-aiohttp python3-plotly python3-selenium chromium chromium-driver fonts-dejavu-core'
+needed='python3-pytest python3-numpy python3-aiohttp python3-plotly python3-selenium chromium chromium-driver fonts-dejavu-core eslint node-v8-compile-cache'
 
 missing() { for package in $needed; do dpkg-query -W -f '${Status}' "$package" 2> /dev/null | grep -q '^install ok installed' || printf '%s ' "$package"; done; }
 

@@ -148,7 +148,7 @@ class Page:
         self.js("""const [id, here] = arguments; document.activeElement.blur();
             const walk = document.createTreeWalker(document.getElementById(id), NodeFilter.SHOW_TEXT);
             while (walk.nextNode()) walk.currentNode.data = walk.currentNode.data.replaceAll(here, '/surveys');
-            for (const one of document.querySelectorAll(`#${id} input`)) one.value = one.value.replaceAll(here, '/surveys')""", id, str(tmp_path))
+            for (const one of document.querySelectorAll(`#${id} input:not([type=file])`)) one.value = one.value.replaceAll(here, '/surveys')""", id, str(tmp_path))
         folder = os.environ.get("SEGYWB_PICTURES") or str(tmp_path.parent)
         assert self.find(id).screenshot(f"{folder}/desk-{name}.png")
 

@@ -81,6 +81,7 @@ def test_looked_at_and_written(opened, tmp_path):
     assert page.text("csv-lacking") == "1 row whose key no trace has: 99 (line 8)"
     assert page.all("#csv-said tbody tr")[0].text == "5 inline 101 102 2" and page.find("csv-go").text == "Write 4 numbers"
     assert page.version() == 1 and page.map() == BROKEN
+    page.picture("csv-box", "csv", tmp_path)
     page.step("csv-go")
     assert page.map() == SOUND and not page.find("csv-box").is_displayed()
     assert page.text("log").startswith("csv table.csv") and "ok: 4 edits as one step" in page.text("log")

@@ -18,7 +18,7 @@ import segywb
 from segywb.desk import bundles, faults, maps, mirror, places, views
 from segywb.desk.desk import Desk
 
-MODULES = ("bundles", "cli", "desk", "faults", "fieldmaps", "graphs", "guard", "maps", "marks", "mirror", "places", "refusals", "saving", "server", "tables", "views", "words")
+MODULES = ("bundles", "cli", "desk", "faults", "fieldmaps", "graphs", "guard", "maps", "marks", "mirror", "places", "refusals", "saving", "sections", "server", "tables", "views", "words")
 NAMES = ["inline", "crossline", "x", "y", "scalar"]
 MORE = ["delay", "cdp", "@1:8", "trace_code"]  # fields that are shown: by a name of the program's own, of Seismic Unix, by a place
 
@@ -56,7 +56,7 @@ def lines_of(chance, count):
             made.append(f"blank {chance.randint(1, count + 1)}")
             count += 1
         elif chance.random() < 0.35:
-            made.append(f"set {one} {field} {chance.randint(0, 40)}")
+            made.append(f"set {one} {chance.choice(['', 'last ', f'{chance.randint(one, count)} '])}{field} {chance.randint(0, 40)}")
         elif chance.random() < 0.3:
             last = chance.randint(one, count)
             made.append(f"renumber {one} {last} {chance.choice(['inline', 'ensemble', '@193:4', 'y'])} {chance.randint(-5, 50)} {chance.randint(-2, 2)}")
@@ -64,14 +64,14 @@ def lines_of(chance, count):
             last = chance.randint(one, count)
             made.append(f"compute {one} {last} {chance.choice(['inline', 'crossline', 'x', '@193:4', 'ensemble'])} {chance.choice(['44 - crossline', 'inline * 2', 'x + 1000', 'y % 7', '9'])}")
         elif chance.random() < 0.3:
-            made.append(f"copy {one} {chance.randint(1, count + 1)}")
+            made.append(f"copy {one} {chance.choice([chance.randint(1, count + 1), 'end'])}")
             count += 1
         elif chance.random() < 0.4:
             made.append(f"move {one} {chance.randint(1, count)}")
         elif chance.random() < 0.2:
             made.append(f"sort {one} {chance.randint(one, count)} {chance.choice(['inline', '-crossline', '-@189:4', 'x'])}")
         elif chance.random() < 0.5:
-            made.append(f"delete {one}")
+            made.append(f"delete {chance.choice([one, 'last'])}")
             count -= 1
         elif chance.random() < 0.5:
             made.append(f"map {chance.choice(['inline', 'x', 'scalar'])} {chance.choice(['@9:2', '@71:2', '@21:2'])}")

@@ -82,7 +82,8 @@ def test_undo_and_redo(opened):
 
 @pytest.mark.parametrize("what, wanted", [
     ("renumber", ["renumber 1 2 inline 101 0", "renumber 5 6 inline 101 0"]),
-    ("set", ["set 1 inline 101", "set 2 inline 101", "set 5 inline 101", "set 6 inline 101"]),
+    ("set", ["set 1 2 inline 101", "set 5 6 inline 101"]),
+    ("swap", [f"compute {both} {line}" for both in ("1 2", "5 6") for line in ("inline inline + crossline", "crossline inline - crossline", "inline inline - crossline")]),
     ("delete", ["delete 6", "delete 5", "delete 2", "delete 1"]),
     ("compute", ["compute 1 2 inline inline + 0", "compute 5 6 inline inline + 0"]),
 ])
@@ -319,6 +320,8 @@ def test_width_and_pictures(opened, scheme, tmp_path):
     page.tab("edits")
     page.wait(lambda: page.text("steps") == "renumber 441 480 inline 112 0")
     picture("positions")
+    page.map_tab("histogram")
+    picture("histogram")
     page.run("compute 500 530 x x + 6000")
     page.map_tab("field")
     page.press("#graph .to-right")
@@ -326,5 +329,8 @@ def test_width_and_pictures(opened, scheme, tmp_path):
     page.find("graph-field").send_keys("x", Keys.ENTER)
     page.wait(lambda: len(page.graph()) == 3 and page.graph()[2][0] == "x")
     picture("graph")
+    page.tab("against-field")
+    page.wait(lambda: page.data("graphKind") == "against-field")
+    picture("pair")
     page.js("localStorage.clear()")
     page.browser.execute_cdp_cmd("Emulation.clearDeviceMetricsOverride", {})

@@ -14,7 +14,7 @@ from page import Page
 from test_guard import asked, desk_of
 
 from segywb import program
-from segywb.desk import refusals
+from segywb.desk import refusals, views
 from segywb.desk.desk import Desk
 
 TRUNCATED = "load refused L14 truncated trace 3"
@@ -194,3 +194,19 @@ def test_a_file_that_is_refused_again(tmp_path):
     with pytest.raises(refusals.LoadRefused):
         made.open()
     made.close()
+
+
+@pytest.mark.parametrize("words, size, large", [({}, 1000, True), ({}, 10**9, False), ({"on_disk": True}, 10**9, None), ({"on_disk": False}, 1000, False)])
+def test_a_large_file_stays_on_disk(example, monkeypatch, words, size, large):
+    """One that is larger than half the memory, where nothing else is said."""
+    monkeypatch.setattr("segywb.desk.desk.memory", lambda: size)
+    made = Desk(str(example("cube")), **words)
+    made.load()
+    assert ("--on-disk" in made.words) == (large is not False) and made.large == bool(large) and views.state(made)["large"] == bool(large)
+    assert made.volume.inlines() == {101: 4, 102: 4, 103: 4} and made.run("set 1 inline 7")["answers"][0]["text"] == "ok"
+    made.close()
+
+
+def test_the_page_says_that_a_file_stays_on_disk(opened):
+    page = opened("cube", before="import segywb.desk.desk as desk; desk.memory = lambda: 1000")
+    assert "larger than half the memory, so left on disk" in page.text("summary")

@@ -149,7 +149,7 @@ def test_two_tabs(opened):
 
 def test_a_program_that_is_started_anew_has_not_ended():
     """An edit that is taken back ends the program and starts another, while the pages ask how things stand."""
-    desk = SimpleNamespace(alive=True, version=1)
+    desk = SimpleNamespace(alive=True, version=1, gridded=True)
     server = Server(desk, "token")
     server.status = {"phase": "ready", "version": 1}
     between, on = threading.Event(), threading.Event()

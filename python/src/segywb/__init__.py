@@ -24,10 +24,12 @@ from .errors import (
 )
 from .fields import BinField, TraceField
 from .fitting import Fit
+from .gains import Gain
 from .grids import Grid, Slice
 from .history import Step
 from .looks import Look, look
 from .repairs import InPlace, Recovered, recover
+from .sections import Section
 from .lines import Path
 from .volume import Volume
 
@@ -35,8 +37,8 @@ __version__ = "0.1.0"
 
 __all__ = [
     "Answer", "BinField", "Closed", "CsvImport", "CsvRefused", "Error", "Extremes", "Fault", "FileChanged", "Fit", "FitRefused", "FloatStatistics",
-    "FloatTotals", "Geometry", "Grid", "InPlace", "Info", "LoadRefused", "Look", "OptionRefused", "PathRefused", "ProgramEnded", "ProgramNotFound", "Recovered", "Refused",
-    "RepairCutOff", "SaveFailed", "Slice", "Stanza", "Statistics", "Step", "TraceField", "Volume", "look", "open", "recover", "tools",
+    "FloatTotals", "Gain", "Geometry", "Grid", "InPlace", "Info", "LoadRefused", "Look", "OptionRefused", "PathRefused", "ProgramEnded", "ProgramNotFound", "Recovered", "Refused",
+    "RepairCutOff", "SaveFailed", "Section", "Slice", "Stanza", "Statistics", "Step", "TraceField", "Volume", "look", "open", "recover", "tools",
 ]
 
 

@@ -49,7 +49,7 @@ def floats(data: bytes, count: int, narrow: bool = False, width: int = 1) -> Any
     if np is None:
         found = _columns_of([word.decode("ascii", "replace") for word in data.split()], width, narrow)
     else:
-        flat = _decimals(np, data)
+        flat = decimals_of(np, data)
         found = [flat[at::width].astype(np.int64) for at in range(width - 1)] + [flat[width - 1::width]] if len(flat) == count * width else []
         if found and narrow:
             found[-1] = _narrowed(np, found[-1], data, width)
@@ -65,7 +65,7 @@ def _columns_of(words: List[str], width: int, narrow: bool) -> List[List[Any]]:
         return []
 
 
-def _decimals(np: Any, data: bytes) -> Any:
+def decimals_of(np: Any, data: bytes) -> Any:
     """The decimals up to a word that is none."""
     if not data.strip():
         return np.empty(0)
@@ -80,7 +80,7 @@ def _decimals(np: Any, data: bytes) -> Any:
 def _narrowed(np: Any, wide: Any, data: bytes, width: int) -> Any:
     with np.errstate(over="ignore"):
         made = wide.astype(np.float32)
-    unsure = np.flatnonzero(_halfway(np, wide, made)).tolist()
+    unsure = np.flatnonzero(halfway(np, wide, made)).tolist()
     if unsure:
         words = data.split()
         for at in unsure:
@@ -88,7 +88,7 @@ def _narrowed(np: Any, wide: Any, data: bytes, width: int) -> Any:
     return made
 
 
-def _halfway(np: Any, wide: Any, narrow: Any) -> Any:
+def halfway(np: Any, wide: Any, narrow: Any) -> Any:
     """Where a value of 8 bytes lies halfway between two of 4 bytes: it may have been rounded to there."""
     with np.errstate(all="ignore"):
         exact = narrow.astype(np.float64)

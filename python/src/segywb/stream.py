@@ -6,6 +6,7 @@ import re
 from typing import List, Optional
 
 _EMPTY_LINES = re.compile(rb"\n\n+")
+FEW_BYTES = 1 << 10
 
 
 def split(data: bytes) -> List[bytes]:
@@ -39,14 +40,33 @@ def empty_lines(data: bytes, before: bytes) -> int:
 
 
 def end_of(data: bytes, before: bytes, number: int) -> int:
-    """Where the empty line with this number (from 1) ends in ``data``."""
+    """Where the empty line with this number (from 1) ends in ``data``.
+
+    >>> end_of(b"ok\\n\\nvalue 7\\n\\n", b"\\n", 2), end_of(b"\\nok\\n\\n", b"\\n", 1), end_of(b"ok\\n\\n\\nok\\n\\n", b"", 2)
+    (13, 1, 5)
+    """
     low, high = 0, len(data)
-    while low < high:
+    if b"\n\n\n" in data:
+        while low < high:
+            middle = (low + high) // 2
+            if empty_lines(data[:middle], before) >= number:
+                high = middle
+            else:
+                low = middle + 1
+        return low
+    if before == b"\n" and data.startswith(b"\n"):
+        number -= 1
+    if not number:
+        return 1
+    while high - low > FEW_BYTES:  # what is left of a half is counted once
         middle = (low + high) // 2
-        if empty_lines(data[:middle], before) >= number:
+        here = data.count(b"\n\n", low, middle)
+        if here >= number:
             high = middle
         else:
-            low = middle + 1
+            number, low = number - here, middle - 1
+    for _ in range(number):
+        low = data.index(b"\n\n", low) + 2
     return low
 
 

@@ -3,16 +3,17 @@
 from __future__ import annotations
 
 import os
-from typing import Any, List, Optional
+from typing import Any, List, Optional, Sequence
 
 from . import lines, program
 from .answers import Answer
 from .engine import Engine
 from .errors import ProgramEnded
+from .gains import Gain
 from .history import Step
 from .lines import Field, Path, number
 from .repairs import InPlace
-from .reports import Reports
+from .sections import Sections
 
 # The program's own limits on a file, on disk and in memory. The first one is told in both, so that no edit is refused in memory alone; a file
 # above the second one is not read into memory unless it is asked for.
@@ -20,7 +21,7 @@ MOST_BYTES = 1 << 40
 MOST_IN_MEMORY = 1 << 32
 
 
-class Volume(Reports):
+class Volume(Sections):
     """A SEG-Y file under edits, made by ``segywb.open``.
 
     Traces count from 1, samples of a trace from 0, as in the program. A line that the program refuses is a ``segywb.Refused``, and then
@@ -303,6 +304,28 @@ class Volume(Reports):
         from . import pictures
 
         return pictures.headers(self, *names, traces=traces, path=path)
+
+    def plot_section(
+        self, traces: Any = None, style: str = "density", gain: Gain = Gain(), colours: str = "grey", above: Sequence[Field] = (), path: Optional[Path] = None,
+        **values: int
+    ) -> List[Any]:
+        """Draws a section by matplotlib, which is chosen as for ``section``: ``v.plot_section(inline=1100, path="section.png")``.
+
+        ``style``: ``"density"``, ``"wiggles"`` with filled peaks, or ``"both"``. ``gain``: ``segywb.Gain(percentile=98, balance="agc", window=500)``, which
+        says at which percentile of the samples the colours end, and whether traces are balanced (``"trace"``) or under an automatic gain control
+        (``"agc"``) with a window in milliseconds; ``reverse=True`` turns the polarity. ``colours``: ``"grey"``, ``"red-white-blue"`` or
+        ``"purple-white-orange"``, which colour-blind eyes can tell apart. ``above``: header fields that are drawn above it. A display alone: no sample is
+        changed. With ``path`` the picture is saved there. The axes are given back, that of the section last. It needs numpy and matplotlib.
+
+        >>> import os, tempfile
+        >>> with segywb.open("cube.sgy") as v:
+        ...     axes = v.plot_section(inline=102, style="both", above=["x"], path=os.path.join(tempfile.mkdtemp(), "section.png"))
+        ...     axes[-1].get_xlabel(), axes[-1].get_ylabel()
+        ('crossline', 'time (ms)')
+        """
+        from . import pictures
+
+        return pictures.section(self, traces, style, gain, colours, above, path, **values)
 
     def _repr_html_(self) -> str:
         from .html import page

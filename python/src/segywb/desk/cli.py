@@ -29,7 +29,7 @@ def words(arguments: Optional[List[str]]) -> Any:
     parser.add_argument("--format", metavar="CODE", type=int, help="the format of the samples, whatever the binary header says, as for segywb")
     parser.add_argument("--texts", metavar="N", type=int, help="N extended textual headers, whatever the binary header says, as for segywb")
     parser.add_argument("--tail", action="store_true", help="what is less than a trace behind the last one is kept as bytes of no trace, as for segywb")
-    parser.add_argument("--on-disk", action="store_true", help="the bytes of FILE stay on disk, for a file larger than memory, as for segywb")
+    parser.add_argument("--on-disk", action="store_true", default=None, help="the bytes of FILE stay on disk, as for segywb; so they do without this word where FILE is larger than half the memory")
     parser.add_argument("--max-bytes", metavar="N", type=int, help="the largest file that is read or made, as for segywb")
     return parser.parse_args(arguments)
 

@@ -11,6 +11,7 @@ import segywb
 
 from .. import answers, arrays, program
 from ..errors import FileChanged, LoadRefused, OptionRefused
+from ..fields import TRACE_NAMES
 from ..lines import of_script
 from ..volume import Volume
 from . import mirror, refusals
@@ -21,6 +22,8 @@ RANGES = ("inline", "crossline", "offset", "x", "y")
 QUESTIONS = ("info", "totals", *(f"range {which}" for which in RANGES), "histogram", "inlines", "crosslines", "fields")
 MOST_SHOTS = 12
 MOST_ANSWER = 400
+# Bytes of a trace header that tell where a sample stands in time: delay and interval, from the first to behind the last.
+TIMES = (109, 119)
 
 
 class Shot(NamedTuple):
@@ -55,7 +58,7 @@ class Desk:
         fixed: bool = False,
         max_bytes: Optional[int] = None,
         order: Optional[str] = None,
-        on_disk: bool = False,
+        on_disk: Optional[bool] = None,
         samples: Optional[int] = None,
         format: Optional[int] = None,
         texts: Optional[int] = None,
@@ -63,8 +66,9 @@ class Desk:
     ) -> None:
         self.path = os.path.abspath(path)
         self.out = os.path.abspath(out) if out else None
+        self.large = on_disk is None and is_large(self.path)
         self._options: Dict[str, Any] = {
-            "fixed": fixed, "max_bytes": max_bytes, "order": order, "on_disk": on_disk, "samples": samples, "format": format, "texts": texts,
+            "fixed": fixed, "max_bytes": max_bytes, "order": order, "on_disk": bool(on_disk) or self.large, "samples": samples, "format": format, "texts": texts,
             "tail": tail,
         }
         self.recovered = ""
@@ -72,6 +76,9 @@ class Desk:
         self.opaque = False
         self.version = 0
         self.edited: Optional[int] = None  # the version before the last edit, where that edit is the last step
+        self.sampled = 0  # the last version in which a sample, or the position of a trace, may have become another
+        self.opened_at = 0  # the version in which the file as it was loaded became another: by a save over it
+        self.gridded = True  # whether the map comes first: of several inlines and crosslines, and where samples have no values
         self.kept_cells: List[Tuple[Mirror, Axis, Axis, Cells]] = []
         self._pending: List[str] = []
         self._shots: List[Shot] = []
@@ -93,6 +100,7 @@ class Desk:
         read = mirror.read(self._volume, mirror.LINES, lambda done, of: told("inlines and crosslines", done, of))
         self._now = self._loaded = self._shot(read)
         self._shots = [self._now]
+        self.gridded = self.opaque or all(one.shape[1] > 1 for one in (self._now.inlines, self._now.crosslines))
         self.version += 1
         if self._again:
             script, self._again = self._again, b""
@@ -307,6 +315,20 @@ class Desk:
             self._pending += lines
             self.edited = self.version
             self.version += 1
+            self._touched(lines)
+
+    def _touched(self, lines: Sequence[str]) -> None:
+        """These lines were done, or taken back: whether samples, positions or times may be others now."""
+        fields, known = self.volume.fields(), {}
+        for line in lines:
+            words = line.split()
+            name = mirror.written(words)
+            if name is not None and name not in known:
+                span = mirror.spanned(fields.get(name, TRACE_NAMES.get(name, name)))
+                known[name] = span is None or (span[0] < TIMES[1] and TIMES[0] < span[1])
+            if known[name] if name is not None else words[0] not in ("map", "unmap", "text"):
+                self.sampled = self.version
+                return
 
     def undo(self) -> Dict[str, Any]:
         """Takes the last step back."""
@@ -317,6 +339,7 @@ class Desk:
         self._keep(earlier[-1] if earlier else self._anew())
         self._before = self.edited = None
         self.version += 1
+        self._touched(lines)
         return {"lines": shortened(lines), "version": self.version}
 
     def redo(self) -> Dict[str, Any]:
@@ -344,6 +367,7 @@ class Desk:
         self._loaded = self._now = self._anew()
         self._shots, self._before, self.edited = [self._now], None, None
         self.version += 1
+        self.sampled = self.opened_at = self.version
 
     def unlinked(self) -> None:
         """After a save that replaced another link of the file: it is the same file, whose number of links has changed, and a time with it."""
@@ -354,6 +378,19 @@ class Desk:
     def bring_original(self, sample: int) -> Any:
         """A slice of the survey as it was loaded."""
         return self.original.slice(sample).rows
+
+
+def memory() -> int:
+    """The bytes of this machine's memory."""
+    return os.sysconf("SC_PHYS_PAGES") * os.sysconf("SC_PAGE_SIZE")
+
+
+def is_large(path: str) -> bool:
+    """Whether a file is larger than half the memory, so that its bytes are left on disk where nothing else is said."""
+    try:
+        return 2 * os.stat(path).st_size > memory()
+    except OSError:
+        return False
 
 
 def look(path: str) -> Tuple[int, ...]:

@@ -166,25 +166,34 @@ class Plan:
     def line(self, words: Sequence[str]) -> None:
         """One accepted line."""
         word = words[0] if words else ""
-        if word == "delete":
+        if self.lost:
+            return
+        if word == "delete" and words[1] != "last":
             self._delete(int(words[1]))
             return
         self.flush()
-        if word == "set" and self._touches(words[2]):
-            self.stale[int(words[1]) - 1] = True
-        elif word in ("renumber", "compute") and self._touches(words[3]):
-            self.stale[int(words[1]) - 1:int(words[2])] = True
+        field = written(words)
+        if field is not None:
+            if self._touches(field):
+                self.stale[self._at(words[1]) - 1:self._at(words[1] if word == "set" and len(words) == 4 else words[2])] = True
+        elif word == "delete":
+            self._delete(self._at(words[1]))
         elif word in ("map", "unmap") and words[1] in self._watched:
             self.bound.append(words[1])
         elif word == "resize":
-            self.stale[int(words[1]) - 1] = True  # its header tells how many samples it has
+            self.stale[self._at(words[1]) - 1] = True  # its header tells how many samples it has
         elif word in ("blank", "copy"):
-            self._insert(int(words[-1]), None, True)
+            self._insert(self._at(words[-1]), None, True)
         elif word == "move":
-            self._move(int(words[1]), int(words[2]))
+            self._move(self._at(words[1]), self._at(words[2]))
         elif word == "sort":
             # Where its traces stand is told by their headers alone.
             self.lost = True
+
+    def _at(self, position: str) -> int:
+        """A position: ``last`` and ``end`` are told by the number of traces in front of the line."""
+        count = len(self.stale)
+        return {"last": count, "end": count + 1}.get(position) or int(position)
 
     def _touches(self, field: str) -> bool:
         """Whether the field may share bytes with one that is kept. Their places are those that hold behind all lines."""
@@ -229,6 +238,17 @@ class Plan:
         self.row = np.delete(rows, position - 1)
         self.stale = np.delete(self.stale, position - 1)
         self._insert(to, row, stale)
+
+
+def written(words: Sequence[str]) -> Optional[str]:
+    """The field of trace headers into which a line writes numbers.
+
+    >>> written("set 1 x 5".split()), written("set 1 9 x 5".split()), written("renumber 1 9 x 5 1".split()), written("delete 4".split())
+    ('x', 'x', 'x', None)
+    """
+    if words and words[0] in ("set", "renumber", "compute"):
+        return words[2] if words[0] == "set" and len(words) == 4 else words[3]
+    return None
 
 
 def spanned(place: str) -> Optional[Tuple[int, int]]:

@@ -7,12 +7,12 @@ import importlib.util
 import json
 from concurrent.futures import ThreadPoolExecutor
 from pathlib import Path
-from typing import Any, Callable, Dict, List, Optional, Tuple
+from typing import Any, Callable, Dict, List, Optional, Tuple, TypeVar, Union
 
 from aiohttp import web
 
 from ..errors import Error, FileChanged, LoadRefused, ProgramEnded, Refused, RepairCutOff
-from . import fieldmaps, graphs, places, saving, tables, views
+from . import fieldmaps, graphs, places, saving, sections, tables, views
 from .desk import Desk, clean
 from .faults import Kept
 from .guard import HEADERS, Guard, Handler
@@ -25,11 +25,13 @@ PLOTLY = "/usr/share/python3-plotly/plotly.js"
 LONGEST_BODY = 40 << 20
 LOOK_SECONDS = 0.1
 ALIVE_SECONDS = 10.0
+READING_SECONDS = 0.12  # a section is shown after so long, as far as it is read
 # What reading a body raises: it is no JSON, is nested more deeply than Python reads, or names letters that nobody knows.
 NOT_JSON = (ValueError, RecursionError, LookupError)
 
 Query = Any
 Answer = Dict[str, Any]
+Made = TypeVar("Made")
 
 
 def plotly() -> Optional[Path]:
@@ -87,6 +89,7 @@ class Server:
         self._faults = Kept()
         self._slices = views.Slices()
         self._maps = fieldmaps.FieldMaps()
+        self._sections = sections.Sections(READING_SECONDS)
         self._runner: Optional[web.AppRunner] = None
         self._stopped = False
         self._heard = False
@@ -114,7 +117,14 @@ class Server:
             "graph": lambda q: graphs.drawn(desk, q, number(q, "first", 1), number(q, "last", 0), window(q).pixels[0]),
             "choose": lambda q: graphs.choose(desk, graphs.parts_of(q), (number(q, "first", 1), number(q, "last", 0))),
             "place": lambda q: views.place(desk, number(q, "trace")),
+            "under": lambda q: dict(self._sections.under(desk, number(q, "trace"), number(q, "column"), q["names"].split())),
         }
+
+    def _section(self, query: Query) -> bytes:
+        """A section: the size of what is told of it, that, and the bytes of its pictures."""
+        told, pictures = self._sections.view(self.desk, sections.asked(query), sections.window_of(query), sections.look_of(query))
+        head = json.dumps(told).encode()
+        return len(head).to_bytes(4, "big") + head + pictures
 
     def _told(self) -> Dict[str, Callable[[Query], Answer]]:
         """What POST does, by its name."""
@@ -147,6 +157,7 @@ class Server:
         app.router.add_post(f"{at}/restart", self._restart)
         app.router.add_post(f"{at}/read", self._read)
         app.router.add_post(f"{at}/recover", self._recover)
+        app.router.add_get(f"{at}/picture/section", self._picture)
         for name, asked in self._asked().items():
             app.router.add_get(f"{at}/ask/{name}", self._asking(asked))
         for name, told in self._told().items():
@@ -178,7 +189,7 @@ class Server:
 
     # ---- the worker
 
-    async def work(self, call: Callable[[], Answer]) -> Answer:
+    async def work(self, call: Callable[[], Made]) -> Made:
         """Does something in the desk's thread."""
         self._at_work += 1
         try:
@@ -186,11 +197,12 @@ class Server:
         finally:
             self._at_work -= 1
 
-    async def _answered(self, call: Callable[[], Answer]) -> web.StreamResponse:
+    async def _answered(self, call: Callable[[], Union[Answer, bytes]]) -> web.StreamResponse:
         if self.status["phase"] != "ready":
             return web.json_response(self.status, status=503)
         try:
-            return web.json_response(await self.work(call))
+            made = await self.work(call)
+            return web.Response(body=made, content_type="application/octet-stream") if isinstance(made, bytes) else web.json_response(made)
         except Refused as refusal:
             return web.json_response({"refused": clean(refusal.answer)}, status=409)
         except ProgramEnded as error:
@@ -204,6 +216,9 @@ class Server:
             return web.json_response(self.status, status=503)
         except (ValueError, KeyError, TypeError, IndexError, OverflowError, RecursionError, Error) as error:
             return web.json_response({"error": clean(str(error))}, status=400)
+
+    async def _picture(self, request: web.Request) -> web.StreamResponse:
+        return await self._answered(lambda: self._section(request.query))
 
     def _asking(self, call: Callable[[Query], Answer]) -> Handler:
         async def handler(request: web.Request) -> web.StreamResponse:
@@ -265,7 +280,7 @@ class Server:
             if not self._at_work and not self.desk.alive:
                 self._end("the program ended")
             else:
-                self.status = {"phase": "ready", "version": self.desk.version}
+                self.status = {"phase": "ready", "version": self.desk.version, "grid": self.desk.gridded}
         return self.status
 
     async def _events(self, request: web.Request) -> web.StreamResponse:

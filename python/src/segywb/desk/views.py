@@ -41,7 +41,7 @@ def state(desk: Desk) -> Dict[str, Any]:
     volume = desk.volume
     info = answers.info(now.told["info"])
     return {
-        "version": desk.version, "file": clean(desk.path), "out": clean(desk.out) if desk.out else None, "opaque": desk.opaque,
+        "version": desk.version, "file": clean(desk.path), "out": clean(desk.out) if desk.out else None, "opaque": desk.opaque, "large": desk.large,
         "traces": len(now.mirror), "samples": info.samples, "tail": info.tail or 0,
         "edits": sum(step.size for step in volume.steps), "reading": " ".join(desk.reading), "declarable": desk.declarable, "recovered": desk.recovered, "undoable": volume.undoable, "redoable": volume.redoable,
         "fields": answers.fields(now.told["fields"].split("\n")), **facts(volume),

@@ -35,4 +35,19 @@ export const ask = (name, query = {}) => sent(`ask/${name}?${new URLSearchParams
 export const tell = (name, body = {}, where = `do/${name}`) =>
   sent(where, { method: "POST", headers: { "Content-Type": "application/json" }, body: JSON.stringify(body) });
 
+// A picture: what is told of it, and its bytes. The first four bytes are the size of what is told.
+export async function picture(name, query) {
+  let response;
+  try {
+    response = await fetch(`picture/${name}?${new URLSearchParams(query)}`);
+  } catch {
+    onPhase({ phase: "gone" });
+    throw new Failed({ error: "the desk does not answer" }, 0);
+  }
+  if (!response.ok) return answered(response);
+  const made = await response.arrayBuffer();
+  const size = new DataView(made).getUint32(0);
+  return [JSON.parse(new TextDecoder().decode(new Uint8Array(made, 4, size))), new Int8Array(made, 4 + size)];
+}
+
 export const words = () => sent("words");

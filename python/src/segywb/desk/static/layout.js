@@ -2,11 +2,14 @@
 
 import { at, make } from "./dom.js";
 
-const PANELS = { maps: "Maps", side: "Reports", graph: "Graph", headers: "Trace headers" };
+const PANELS = { maps: "Maps", side: "Reports", section: "Section", graph: "Graph", headers: "Trace headers" };
 const KEPT = "segywb-desk-layout";
-const FIRST = { left: "maps", right: "side", split: 63, tall: 352, open: ["headers"] };
+// The plots are as high as the window allows with the command line still in it.
+const tallest = () => Math.min(Math.max(window.innerHeight - 368, 352), 1600);
+const FIRST = { left: "maps", right: "side", split: 63, tall: tallest(), open: ["headers"] };
 let state = { ...FIRST };
 let whole = null;
+let own = false; // whether a layout was kept
 
 const clamp = (value, least, most) => Math.min(Math.max(value, least), most);
 const known = (name) => Object.prototype.hasOwnProperty.call(PANELS, name);
@@ -16,7 +19,8 @@ function read() {
   try {
     const kept = JSON.parse(localStorage.getItem(KEPT));
     if (!kept || !known(kept.left) || !known(kept.right) || kept.left === kept.right) return;
-    state = { left: kept.left, right: kept.right, split: clamp(Number(kept.split) || 63, 25, 75), tall: clamp(Number(kept.tall) || 352, 160, 1200),
+    own = true;
+    state = { left: kept.left, right: kept.right, split: clamp(Number(kept.split) || 63, 25, 75), tall: clamp(Number(kept.tall) || tallest(), 160, 1600),
       open: Array.isArray(kept.open) ? kept.open.filter(known) : FIRST.open };
   } catch {
     // a layout that cannot be read is none
@@ -69,6 +73,13 @@ function put(name, side) {
   state[side] = name;
   whole = null;
   keep();
+  apply();
+}
+
+// A panel that is seen first, on the left, where no layout was kept.
+export function first(name) {
+  if (own) return;
+  state = { ...state, left: name, open: [...state.open, state.left] };
   apply();
 }
 
@@ -125,7 +136,7 @@ function splits() {
   sash(at("splitter"), (event) => to((event.clientX - left()) / (right() - left()) * 100), (by) => to(state.split + 2 * by));
   for (const bar of document.querySelectorAll(".sash")) {
     const tall = (pixels) => {
-      state.tall = Math.round(clamp(pixels, 160, 1200));
+      state.tall = Math.round(clamp(pixels, 160, 1600));
       at("main").style.setProperty("--tall", `${state.tall}px`);
     };
     sash(bar, (event) => tall(event.clientY - bar.previousElementSibling.getBoundingClientRect().top), (by) => tall(state.tall + 16 * by));

@@ -9,6 +9,7 @@ import * as layout from "./layout.js";
 import * as maps from "./maps.js";
 import * as offers from "./offers.js";
 import * as save from "./save.js";
+import * as section from "./section.js";
 import * as side from "./side.js";
 import { done, part, refresh, store } from "./store.js";
 import * as table from "./table.js";
@@ -89,6 +90,7 @@ function loading(status) {
 function ready(status) {
   const first = at("main").hidden;
   at("main").hidden = false;
+  if (first && status.grid === false) layout.first("section");
   if (first || status.version > store.version) {
     store.version = Math.max(store.version, status.version);
     refresh();
@@ -105,12 +107,12 @@ async function restart() {
 
 async function bar() {
   await part.state();
-  const { file, traces, edits, undoable, redoable, opaque, samples, tail, reading, declarable, recovered } = store.state;
+  const { file, traces, edits, undoable, redoable, opaque, large, samples, tail, reading, declarable, recovered } = store.state;
   const cut = file.lastIndexOf("/") + 1;
   at("name").textContent = file.slice(cut);
   at("file").title = file;
   document.title = `${file.slice(cut)} – segywb desk`;
-  at("summary").textContent = `${many(traces, "trace")} of ${many(samples, "sample")}, ${many(edits, "edit")}${opaque ? "; samples of this format have no values here" : ""}`;
+  at("summary").textContent = `${many(traces, "trace")} of ${many(samples, "sample")}, ${many(edits, "edit")}${opaque ? "; samples of this format have no values here" : ""}${large ? "; larger than half the memory, so left on disk: let no program change it meanwhile" : ""}`;
   at("reading").hidden = !reading;
   at("reading-text").textContent = `read with ${reading}`;
   at("declare").hidden = !declarable;
@@ -154,6 +156,7 @@ async function start() {
   table.start();
   offers.start();
   side.start();
+  section.start();
   graph.start();
   csv.start();
   layout.start();

@@ -13,15 +13,30 @@ let version = 0;
 let source = null;
 let preview = () => {};
 
-// The lines of a repair of these runs of traces.
+// The bytes of a field by its name or its place: the first one, and the one behind the last. Nothing where the page does not know it.
+function bytesOf(field) {
+  const known = store.words && store.words.names.find((one) => one.name === field);
+  const [, extension, first, size] = /^@(?:(\d+)\.)?(\d+):(\d+)u?$/.exec(store.bound[field] || (known ? known.place : field)) || [];
+  return first ? [240 * Number(extension || 0) + Number(first), 240 * Number(extension || 0) + Number(first) + Number(size)] : null;
+}
+
+// Whether two fields may share bytes, as far as the page knows: to swap these would destroy them.
+function overlap(one, other) {
+  const [left, right] = [bytesOf(one), bytesOf(other)];
+  return !left || !right || (left[0] < right[1] && right[0] < left[1]);
+}
+
+// The lines of a repair of these runs of traces. Two fields are swapped by their sum: where that does not fit the program refuses all of it.
 export function linesOf(what, field, value, step, formula) {
   const made = [];
   let at = BigInt(0);
   for (const [first, last] of runs) {
     const size = BigInt(last - first + 1);
+    const set = first === last ? `set ${first}` : `set ${first} ${last}`;
     if (what === "renumber") made.push(`renumber ${first} ${last} ${field} ${value + step * at} ${step}`);
     if (what === "compute") made.push(`compute ${first} ${last} ${field} ${formula}`);
-    if (what === "set") for (let trace = first; trace <= last; trace += 1) made.push(`set ${trace} ${field} ${value}`);
+    if (what === "swap") made.push(...[[field, field, "+"], [formula, field, "-"], [field, field, "-"]].map(([to, from, sign]) => `compute ${first} ${last} ${to} ${from} ${sign} ${formula}`));
+    if (what === "set") made.push(`${set} ${field} ${value}`);
     at += size;
   }
   if (what === "delete") for (const [first, last] of [...runs].reverse()) for (let trace = last; trace >= first; trace -= 1) made.push(`delete ${trace}`);
@@ -45,19 +60,22 @@ export function offer(from, got) {
     fill(room, count ? `${many(count, "trace")} in too many runs: select fewer.` : `No traces in this ${from.shape}.`, close());
     return;
   }
-  const what = make("select", { "aria-label": "what to do", id: "offer-what" }, ...["renumber", "set", "compute", "delete"].map((one) => make("option", {}, one)));
+  const what = make("select", { "aria-label": "what to do", id: "offer-what" }, ...["renumber", "set", "compute", "swap", "delete"].map((one) => make("option", {}, one)));
   const field = make("input", { "aria-label": "field", id: "offer-field", list: "offer-fields", size: "14", spellcheck: "false", value: from.field });
   const value = make("input", { "aria-label": "first number", id: "offer-value", size: "9", value: String(from.value) });
   const step = make("input", { "aria-label": "step", id: "offer-step", size: "5", value: "0" });
   const formula = make("input", { "aria-label": "formula", id: "offer-formula", size: "22", spellcheck: "false", value: `${from.field} + 0` });
+  const other = make("input", { "aria-label": "the other field", id: "offer-other", list: "offer-fields", size: "14", spellcheck: "false", value: from.field === "inline" ? "crossline" : "inline" });
   const shown = make("pre", { "aria-label": "the lines that will be run", tabIndex: 0 });
   const run = make("button", { class: "strong", id: "offer-run" }, "Run");
   const fields = make("datalist", { id: "offer-fields" }, ...[...new Set([...Object.keys(store.bound), ...names()])].map((name) => make("option", { value: name })));
-  const parts = make("span", {}, field, make("label", {}, " from ", value), make("label", {}, " step ", step), make("label", {}, " = ", formula));
+  const parts = make("span", {}, field, make("label", {}, " from ", value), make("label", {}, " step ", step), make("label", {}, " = ", formula), make("label", {}, " with ", other));
   const form = make("form", { class: "bar", on: { submit: (event) => { event.preventDefault(); apply(); } } },
     make("strong", { id: "offer-count" }, many(count, "trace")), what, parts, fields, run,
     make("button", { type: "button", on: { click: () => goTo(runs[0][0]) } }, "Show in the table"), close());
   const made = () => {
+    const both = [field, other].map((one) => one.value.trim());
+    if (what.value === "swap") return !overlap(...both) ? linesOf("swap", both[0], 0, 0, both[1]) : null;
     if (what.value === "compute") return formula.value.trim() && !/[\r\n]/.test(formula.value) ? linesOf("compute", field.value.trim(), 0, 0, formula.value.trim()) : null;
     try {
       return linesOf(what.value, field.value.trim(), BigInt(value.value.trim() || "0"), BigInt(step.value.trim() || "0"));
@@ -67,14 +85,15 @@ export function offer(from, got) {
   };
   preview = () => {
     parts.hidden = what.value === "delete";
-    value.parentElement.hidden = what.value === "compute";
+    value.parentElement.hidden = what.value === "compute" || what.value === "swap";
+    other.parentElement.hidden = what.value !== "swap";
     step.parentElement.hidden = what.value !== "renumber";
     formula.parentElement.hidden = what.value !== "compute";
     const lines = made();
     run.disabled = !lines;
     run.textContent = lines ? `Run ${many(lines.length, "line")}` : "Run";
     fill(at("offer-count"), many(count, "trace"));
-    const lacks = what.value === "compute" ? "A formula is wanted, as inline + 100." : "The numbers must be whole.";
+    const lacks = { compute: "A formula is wanted, as inline + 100.", swap: "Two fields are wanted, by their names or places, that share no bytes." }[what.value] || "The numbers must be whole.";
     fill(shown, lines ? lines.slice(0, MOST_SHOWN).join("\n") + (lines.length > MOST_SHOWN ? `\n.. and ${(lines.length - MOST_SHOWN).toLocaleString("en")} more` : "") : lacks);
   };
   const apply = async () => {
@@ -94,7 +113,7 @@ export function offer(from, got) {
       room.hidden = true;
     }
   };
-  for (const one of [what, field, value, step, formula]) one.addEventListener("input", preview);
+  for (const one of [what, field, value, step, formula, other]) one.addEventListener("input", preview);
   fill(room, form, shown);
   preview();
 }

@@ -13,6 +13,9 @@ let last = { version: 0, values: new Map() };
 let marked = new Set();
 let wanted = null;
 
+// The fields that are shown.
+export const columns = () => names;
+
 export async function show() {
   const found = await ask("table", { first, size: at("size").value, names: names.join(" "), compare: store.compare ? 1 : 0 });
   if (found.error) return found;

@@ -1,0 +1,554 @@
+"""Sections for the page: samples of many traces side by side, under a gain, decimated to the pixels
+of the window that is looked at.
+"""
+
+from __future__ import annotations
+
+import time
+from typing import Any, Dict, List, NamedTuple, Optional, Tuple, TypedDict
+
+import numpy as np
+
+from .. import gains
+from ..fields import TRACE_NAMES
+from ..gains import Gain
+from ..lines import word
+from ..sections import ALONG, Section, SectionReading
+from ..thinning import peaks, starts_of
+from ..volume import Volume
+from .desk import Desk
+from .graphs import span_of
+
+STYLES = ("density", "wiggles", "both")
+SIDES = ("now", "both", "difference")
+MOST_SAMPLES = 1 << 24  # of a larger section every second trace, or every third, .. is read
+MOST_FIELDS = 3
+MOST_KEPT = 4
+FEW_TRACES = 2000  # how many traces of a line without bins are shown at first
+ROOM = 4  # pixels that a wiggle wants
+RECORD = "field_record"
+LATER = 4  # behind the first look so many times as much is read until the next one
+COARSE = (
+    8  # every so manieth sample is read first, and stands for those behind it until they are there
+)
+PIECE = 1 << 18  # rows of answers that are read at once
+PIECE_ASKED = 1 << 15  # samples that are asked one by one at once
+
+
+Key = Tuple[
+    str, int, bytes
+]  # the side, the version in which its samples became what they are, and its traces
+
+
+class Asked(NamedTuple):
+    """Which traces: those whose ``field`` has a ``value`` (the middle one where none is named), or
+    without a field those from ``first`` to ``last``.
+    """
+
+    field: str
+    value: Optional[int]
+    first: int
+    last: int
+
+
+class Window(NamedTuple):
+    """The part that is looked at, from one trace of the section to behind another and from one
+    sample to behind another, and its pixels.
+    """
+
+    left: int
+    right: int
+    top: int
+    bottom: int
+    wide: int
+    tall: int
+
+
+class Look(NamedTuple):
+    """How it is drawn: ``density``, ``wiggles`` or ``both``; what is now, also what was, or their
+    difference; the gain; the headers above it.
+    """
+
+    style: str
+    side: str
+    gain: Gain
+    fields: List[str]
+
+
+class Header(TypedDict):
+    """A field above the section: the least and the greatest number of each column of pixels."""
+
+    name: str
+    low: List[int]
+    high: List[int]
+
+
+class Side(TypedDict):
+    """A picture: its bytes follow, first those of the density, row by row, then those of the
+    wiggles, trace by trace. ``part`` is what it shows: from one trace to behind another and from
+    one sample to behind another, and is less than the window where this side has less.
+    """
+
+    name: str
+    part: List[int]
+    rows: int
+    columns: int
+    wiggles: int
+    stride: int
+    label: List[int]
+    trace: List[int]
+    end: float
+    odd: int
+    headers: List[Header]
+
+
+class Shots(TypedDict):
+    """Records of a file that looks like one of shots: how many there are, the least and the
+    greatest number, and whether a name is bound to their place.
+    """
+
+    count: int
+    first: int
+    last: int
+    named: bool
+
+
+class Told(TypedDict):
+    """What the page gets beside the bytes."""
+
+    version: int
+    field: str
+    value: Optional[int]
+    first: int
+    last: int
+    along: str
+    whole: int
+    every: int
+    traces: int
+    samples: int
+    start: float
+    step: float
+    window: List[int]
+    read: float
+    back: Optional[int]
+    on: Optional[int]
+    shots: Optional[Shots]
+    sides: List[Side]
+
+
+class Under(TypedDict):
+    """What stands under the pointer. Numbers are sent as texts."""
+
+    version: int
+    trace: int
+    names: List[str]
+    values: List[str]
+    sample: Optional[int]
+    value: Optional[str]
+
+
+class Kept(NamedTuple):
+    """A section that was read: the positions of its traces, its samples (``gains.plain``), at which
+    column each trace begins, and its times; and how much of it is there.
+    """
+
+    traces: Any
+    values: Any
+    begin: Any
+    start: float
+    step: float
+    read: float
+
+
+class Chosen(NamedTuple):
+    """The traces of a section: how many were meant, of how many one is taken, and which they are;
+    with the numbers before and behind the one meant.
+    """
+
+    asked: Asked
+    whole: int
+    every: int
+    traces: Any
+    near: Tuple[Optional[int], Optional[int]]
+
+
+# ---- what is asked
+
+
+def asked(query: Any) -> Asked:
+    """The traces that a query means.
+
+    >>> asked({"field": "inline", "value": "1100"})
+    Asked(field='inline', value=1100, first=1, last=0)
+    >>> asked({"first": "3", "last": "9"})
+    Asked(field='', value=None, first=3, last=9)
+    """
+    field = word(str(query.get("field", "")).strip())
+    if " " in field:
+        raise ValueError("one field is wanted")
+    value = str(query.get("value", "")).strip()
+    return Asked(
+        field,
+        int(value) if value and field else None,
+        int(query.get("first", "1")),
+        int(query.get("last", "0")),
+    )
+
+
+def look_of(query: Any) -> Look:
+    """How a query wants it drawn.
+
+    >>> look_of({"style": "wiggles", "balance": "agc", "window": "250"}).gain
+    Gain(percentile=98.0, balance='agc', window=250.0, reverse=False)
+    """
+    style, side = str(query.get("style", "density")), str(query.get("side", "now"))
+    if style not in STYLES or side not in SIDES:
+        raise ValueError(f"a section is drawn as {', '.join(STYLES)}, and shows {', '.join(SIDES)}")
+    gain = Gain(
+        float(query.get("percentile", "98")),
+        str(query.get("balance", "none")),
+        float(query.get("window", "500")),
+        query.get("reverse") == "1",
+    )
+    fields = [word(one) for one in dict.fromkeys(str(query.get("headers", "")).split())]
+    if len(fields) > MOST_FIELDS:
+        raise ValueError(
+            f"up to {MOST_FIELDS} fields can be drawn above a section, not {len(fields)}"
+        )
+    return Look(style, side, gains.checked(gain), fields)
+
+
+def window_of(query: Any) -> Window:
+    """The part that a query looks at; 0 for the last of traces or of samples means all of them."""
+    left, right, top, bottom = (
+        int(query.get(name, "0")) for name in ("left", "right", "top", "bottom")
+    )
+    wide, tall = (max(16, min(int(query.get(name, "600")), 4000)) for name in ("wide", "tall"))
+    return Window(left, right, top, bottom, wide, tall)
+
+
+def part(first: int, last: int, count: int) -> Tuple[int, int]:
+    """A part of so many things, of which at least one is in it where there is one.
+
+    >>> part(3, 0, 12), part(-5, 900, 12), part(30, 40, 12), part(0, 0, 0)
+    ((3, 12), (0, 12), (11, 12), (0, 0))
+    """
+    end = min(last, count) if last > 0 else count
+    low = max(0, min(first, count - 1))
+    return low, max(end, min(low + 1, count))
+
+
+# ---- which traces
+
+
+def automatic(desk: Desk) -> Asked:
+    """The section that is looked at first: the middle inline of a grid, else the first record of a
+    file of shots, else the first traces.
+    """
+    now = desk.now()
+    if now.inlines.shape[1] > 1 and now.crosslines.shape[1] > 1:
+        return Asked("inline", None, 1, 0)
+    if shots(desk) is not None:
+        return Asked("field_record", int(desk.now().mirror.columns["field_record"][0]), 1, 0)
+    return Asked("", None, 1, min(len(now.mirror), FEW_TRACES))
+
+
+def shots(desk: Desk) -> Optional[Shots]:
+    """The records of a file without a grid of bins, where there are several of them with several
+    traces each in the mean.
+    """
+    now = desk.now()
+    if now.inlines.shape[1] > 1 and now.crosslines.shape[1] > 1:
+        return None
+    record = desk.widen([RECORD])[1].mirror.columns[RECORD]
+    numbers = np.unique(record)
+    if not 1 < len(numbers) <= len(record) // 2:
+        return None
+    named = TRACE_NAMES[RECORD] in desk.volume.fields().values()
+    return {
+        "count": len(numbers),
+        "first": int(numbers[0]),
+        "last": int(numbers[-1]),
+        "named": named,
+    }
+
+
+def choose(mirror: Any, told: Asked, samples: int) -> Chosen:
+    """The traces of a section in this order of headers."""
+    near: Tuple[Optional[int], Optional[int]] = (None, None)
+    if told.field:
+        column = mirror.columns[told.field]
+        numbers = np.unique(column)
+        value = (
+            told.value
+            if told.value is not None
+            else int(numbers[len(numbers) // 2])
+            if len(numbers)
+            else 0
+        )
+        told = told._replace(value=value)
+        found = np.flatnonzero(column == value)
+        if told.field in ALONG:
+            found = found[np.argsort(mirror.columns[ALONG[told.field]][found], kind="stable")]
+        at, behind = np.searchsorted(numbers, value), np.searchsorted(numbers, value, "right")
+        near = (
+            int(numbers[at - 1]) if at else None,
+            int(numbers[behind]) if behind < len(numbers) else None,
+        )
+    else:
+        first, last = span_of(told.first, told.last, len(mirror))
+        told = told._replace(first=first, last=last)
+        found = np.arange(first - 1, last)
+    every = max(1, -(-len(found) * max(samples, 1) // MOST_SAMPLES))
+    return Chosen(told, len(found), every, found[::every] + 1, near)
+
+
+# ---- the samples
+
+
+class Sections:
+    """The sections, and those that were read last with what was made of them."""
+
+    def __init__(self, seconds: float = float("inf")) -> None:
+        """``seconds``: for how long a section is read before what is there is shown."""
+        self._seconds = seconds
+        self._read: List[Tuple[Key, Kept]] = []
+        self._readings: Dict[str, Tuple[Key, Volume, SectionReading]] = {}
+        self._made: List[Tuple[Tuple[int, Gain], Tuple[Any, Any], float]] = []
+
+    def view(self, desk: Desk, told: Asked, window: Window, look: Look) -> Tuple[Told, bytes]:
+        """A section as the page draws it: what is told of it, and the bytes of its pictures."""
+        told = automatic(desk) if told.field == "auto" else told
+        names = [*([told.field] if told.field else []), *look.fields]
+        now = desk.widen(names)[1].mirror
+        samples = int(desk.now().told["info"].split(" samples ")[1].split(" ")[0])
+        chosen = choose(now, told, samples)
+        sides = self._sides(desk, chosen, look, now, samples)
+        traces, times = max(len(one.traces) for _, one, _ in sides), max(
+            one.values.shape[1] for _, one, _ in sides
+        )
+        (left, right), (top, bottom) = part(window.left, window.right, traces), part(
+            window.top, window.bottom, times
+        )
+        window = Window(left, right, top, bottom, window.wide, window.tall)
+        wide = window._replace(wide=max(16, window.wide // len(sides)))
+        drawn = [
+            self._side(name, kept, wide, look, mirror, chosen.asked) for name, kept, mirror in sides
+        ]
+        first = sides[0][1]
+        answer: Told = {
+            "version": desk.version,
+            "field": chosen.asked.field,
+            "value": chosen.asked.value,
+            "first": chosen.asked.first,
+            "last": chosen.asked.last,
+            "along": ALONG.get(chosen.asked.field, "trace"),
+            "whole": chosen.whole,
+            "every": chosen.every,
+            "traces": traces,
+            "samples": times,
+            "start": first.start,
+            "step": first.step,
+            "window": [left, right, top, bottom],
+            "read": min(one.read for _, one, _ in sides),
+            "back": chosen.near[0],
+            "on": chosen.near[1],
+            "shots": shots(desk),
+            "sides": [one for one, _ in drawn],
+        }
+        return answer, b"".join(made for _, made in drawn)
+
+    def _sides(
+        self, desk: Desk, chosen: Chosen, look: Look, now: Any, samples: int
+    ) -> List[Tuple[str, Kept, Any]]:
+        """What is shown side by side: its name, its samples, and the headers of its traces."""
+        kept = self._kept(desk, desk.volume, "now", desk.sampled, chosen.traces)
+        if look.side == "now":
+            return [("now", kept, now)]
+        if look.side == "difference":
+            origin = now.origin[chosen.traces - 1]
+            was = self._kept(desk, desk.original, "was", desk.opened_at, origin[origin > 0])
+            return [("difference", difference(kept, was, origin), now)]
+        names = [
+            one
+            for one in (chosen.asked.field, ALONG.get(chosen.asked.field, ""), *look.fields)
+            if one
+        ]
+        loaded = desk.wide_loaded(names).mirror
+        earlier = choose(loaded, chosen.asked, samples)
+        return [
+            ("was", self._kept(desk, desk.original, "was", desk.opened_at, earlier.traces), loaded),
+            ("now", kept, now),
+        ]
+
+    def _kept(self, desk: Desk, volume: Volume, side: str, version: int, traces: Any) -> Kept:
+        """The samples of these traces, of the file as it is or was: read anew where an edit may
+        have changed samples or positions since.
+        """
+        key = (version, traces.tobytes())
+        for known, kept in self._read:
+            if known == (side, *key):
+                return kept
+        reading = self._reading(volume, side, key, traces)
+        until = time.monotonic() + self._seconds * (LATER if reading.part else 1)
+        try:
+            while not reading.done:
+                reading.more(PIECE_ASKED if reading.asked else PIECE)
+                if time.monotonic() >= until:
+                    break  # what is there is shown, and the page asks again
+        except BaseException:
+            self._end(side)
+            raise
+        kept = kept_of(reading.section, reading.part)
+        if reading.done:
+            self._end(side)
+            self._read = [((side, *key), kept), *self._read[: MOST_KEPT - 1]]
+        return kept
+
+    def _reading(
+        self, volume: Volume, side: str, key: Tuple[int, bytes], traces: Any
+    ) -> SectionReading:
+        """The reading that was begun, or a new one: of each side one at a time."""
+        known = self._readings.get(side)
+        if known is not None and known[0] == (side, *key) and known[1] is volume:
+            return known[2]
+        self._end(side)
+        reading = volume.section_reading(traces, COARSE)
+        self._readings[side] = ((side, *key), volume, reading)
+        return reading
+
+    def _end(self, side: str) -> None:
+        """Ends a reading."""
+        if side in self._readings:
+            self._readings.pop(side)[2].close()
+
+    def under(self, desk: Desk, trace: int, column: int, names: List[str]) -> Under:
+        """What stands under the pointer: the headers of a trace, and its sample at a column of the
+        section, as the program tells it.
+        """
+        rows = desk.volume.headers(*names, traces=trace)
+        told: Under = {
+            "version": desk.version,
+            "trace": trace,
+            "names": names,
+            "values": [str(one) for one in rows.tolist()[0]],
+            "sample": None,
+            "value": None,
+        }
+        for (side, version, _), kept in self._read:
+            at = (
+                np.flatnonzero(kept.traces == trace)
+                if (side, version) == ("now", desk.sampled)
+                else np.empty(0, dtype=np.int64)
+            )
+            if len(at) and column >= kept.begin[at[0]]:
+                sample = column - int(kept.begin[at[0]])
+                (answer,) = desk.volume.run([f"sample {trace} {sample}"])
+                if answer.text.startswith("value "):
+                    told["sample"], told["value"] = sample, answer.text[len("value ") :]
+                break
+        return told
+
+    def _codes(self, kept: Kept, gain: Gain) -> Tuple[Any, float]:
+        """Its samples as bytes under a gain, a row for each time; and where the colours end."""
+        key = (id(kept.values), gain)
+        for known, made, end in self._made:
+            if known == key:
+                return made[0], end
+        values, end = gains.gained(kept.values, kept.step, gain)
+        codes = np.ascontiguousarray(gains.codes(values, end).T)
+        self._made = [
+            (key, (codes, kept.values), end),
+            *self._made[: MOST_KEPT - 1],
+        ]  # with the samples, so that their number stays theirs
+        return codes, end
+
+    def _side(
+        self, name: str, kept: Kept, window: Window, look: Look, mirror: Any, told: Asked
+    ) -> Tuple[Side, bytes]:
+        """One picture."""
+        codes, end = self._codes(kept, look.gain)
+        some = codes[window.top : window.bottom, window.left : window.right]
+        density = (
+            peaks(some, window.tall, window.wide)
+            if look.style != "wiggles"
+            else np.empty((0, 0), dtype=np.int8)
+        )
+        stride = max(1, -(-some.shape[1] * ROOM // window.wide))
+        wiggles = (
+            peaks(some[:, stride // 2 :: stride], window.tall, some.shape[1] or 1).T
+            if look.style != "density"
+            else np.empty((0, 0), dtype=np.int8)
+        )
+        columns = min(some.shape[1], window.wide)
+        traces = kept.traces[window.left : window.right]
+        starts = starts_of(len(traces), columns) if columns else np.empty(0, dtype=np.int64)
+        side: Side = {
+            "name": name,
+            "part": [
+                window.left,
+                window.left + some.shape[1],
+                window.top,
+                window.top + some.shape[0],
+            ],
+            "rows": min(some.shape[0], window.tall),
+            "columns": columns,
+            "wiggles": len(wiggles),
+            "stride": stride,
+            "label": labels(mirror, told, traces[starts]),
+            "trace": traces[starts].tolist(),
+            "end": end,
+            "odd": int(np.count_nonzero(some == gains.LACKS)),
+            "headers": [header(mirror, field, traces, starts) for field in look.fields],
+        }
+        return (
+            side,
+            np.ascontiguousarray(density).tobytes() + np.ascontiguousarray(wiggles).tobytes(),
+        )
+
+
+def kept_of(found: Section, read: float) -> Kept:
+    """A section as it is kept, and how much of it is read."""
+    masked: Any = np.ma.getmaskarray  # it is not typed
+    there = ~masked(found.array)
+    begin = there.argmax(axis=1) if there.shape[1] else np.zeros(len(there), dtype=np.int64)
+    step = float(found.times[1] - found.times[0]) if len(found.times) > 1 else 0.0
+    return Kept(
+        found.traces,
+        gains.plain(found.array),
+        begin,
+        float(found.times[0]) if len(found.times) else 0.0,
+        step,
+        read,
+    )
+
+
+def difference(now: Kept, was: Kept, origin: Any) -> Kept:
+    """What is now less what was of the same trace: of a trace that is new all of it."""
+    values = now.values.copy()
+    old = np.flatnonzero(origin > 0)
+    shift = int(round((was.start - now.start) / now.step)) if now.step else 0
+    columns = np.arange(was.values.shape[1]) + shift
+    inside = (columns >= 0) & (columns < values.shape[1])
+    values[np.ix_(old, columns[inside])] -= was.values[:, inside]
+    return now._replace(values=values, read=min(now.read, was.read))
+
+
+def labels(mirror: Any, told: Asked, traces: Any) -> List[int]:
+    """The numbers of the axis for these traces: crosslines of an inline, inlines of a crossline,
+    else positions.
+    """
+    along = ALONG.get(told.field)
+    return [int(one) for one in (mirror.columns[along][traces - 1] if along else traces)]
+
+
+def header(mirror: Any, field: str, traces: Any, starts: Any) -> Header:
+    """The numbers of a field above the section."""
+    if not len(starts) or field not in mirror.columns:
+        return {"name": field, "low": [], "high": []}
+    numbers = mirror.columns[field][traces - 1]
+    return {
+        "name": field,
+        "low": np.minimum.reduceat(numbers, starts).tolist(),
+        "high": np.maximum.reduceat(numbers, starts).tolist(),
+    }

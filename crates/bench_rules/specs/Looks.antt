@@ -1,5 +1,5 @@
 -- How often edits and queries look at traces.
-use Rattle.std.specs.Prelude.{ℕ, ◌+◌, ◌-◌, ◌*◌, ◌&&◌, nat_le, Bool, List, Option, Some, None, if◌then◌else◌}
+use Rattle.std.specs.Prelude.{ℕ, ◌+◌, ◌-◌, ◌*◌, ◌&&◌, nat_le, Bool, true, false, List, [], ◌∷◌, length, Option, Some, None, if◌then◌else◌}
 use Rattle.field_map.specs.declared.place.Place.{Place}
 use Rattle.field_map.specs.Binding.{is_geometry}
 use Rattle.field_map.specs.Pairs.{Pairs}
@@ -11,7 +11,13 @@ use Rattle.bench_rules.specs.declared.edit.Edit.{Edit}
 use Rattle.bench_rules.specs.declared.edit.Edit.TheVariants as edits
 use Rattle.bench_rules.specs.declared.query.Query.{Query}
 use Rattle.bench_rules.specs.declared.query.Query.TheVariants as queries
+use Rattle.bench_rules.specs.declared.chosen.Chosen.{Chosen}
+use Rattle.bench_rules.specs.declared.chosen_edit.ChosenEdit.{ChosenEdit}
+use Rattle.bench_rules.specs.declared.chosen_edit.ChosenEdit.TheVariants as chosen_edits
+use Rattle.bench_rules.specs.declared.chosen_query.ChosenQuery.{ChosenQuery}
+use Rattle.bench_rules.specs.declared.chosen_query.ChosenQuery.TheVariants as chosen_queries
 use Rattle.bench_rules.specs.Computed.{formula_of}
+use Rattle.bench_rules.specs.Conditions.{chosen, tests_of}
 use Rattle.bench_rules.specs.Kept.{is_kept}
 use Rattle.bench_rules.specs.ManyTraces.{each_of}
 use Rattle.bench_rules.specs.Places.{place_in_trace, leaves_length}
@@ -55,6 +61,39 @@ stat_looks v p = if has_floats v.head then trace_looks v p 1 else 0
 abbrev pub range_looks : Volume → ℕ → ℕ → ℕ
 range_looks v a b = if is_trace v a && nat_le a b && nat_le b (count_of v) then b + 1 - a else 0
 
+-- there is no condition
+abbrev pub is_empty : {X : Type 0} → List X → Bool
+is_empty [] = true
+is_empty (x ∷ xs) = false
+
+-- the number of traces of a range, where they are there; of no range none
+abbrev pub range_looks_of : Volume → Option (ℕ × ℕ) → ℕ
+range_looks_of v None = 0
+range_looks_of v (Some r) = range_looks v r.0 r.1
+
+-- the looks that choosing takes: one at each trace of the range, where there is a condition and the fields of all have places
+abbrev pub choosing_looks : State → Chosen → ℕ
+choosing_looks s c = if is_empty c.conditions then 0 else looks_at (tests_of s.fields c.conditions) (range_looks_of s.volume c.traces)
+
+-- so many looks for each trace that is chosen
+abbrev pub looks_at_each : Option (List ℕ) → ℕ → ℕ
+looks_at_each None n = 0
+looks_at_each (Some ps) n = n * length ps
+
+-- and those of an edit of the traces that are chosen; a number that the records tell needs none
+abbrev pub chosen_edit_looks : State → Chosen → ChosenEdit → ℕ
+chosen_edit_looks s c (chosen_edits.Nothing names) = choosing_looks s c
+chosen_edit_looks s c (chosen_edits.Renumber field first step) = choosing_looks s c + put_looks s.fields (place_in_trace s.fields field) (looks_at_each (chosen s.volume s.fields c) 2)
+chosen_edit_looks s c (chosen_edits.Compute field source steps) = choosing_looks s c + looks_at_each (chosen s.volume s.fields c) 2
+chosen_edit_looks s c chosen_edits.Delete = choosing_looks s c
+
+-- and those of a query about them
+abbrev pub chosen_query_looks : State → Chosen → ChosenQuery → ℕ
+chosen_query_looks s c chosen_queries.Count = choosing_looks s c
+chosen_query_looks s c (chosen_queries.Table fields) = choosing_looks s c + looks_at_each (chosen s.volume s.fields c) 1
+chosen_query_looks s c (chosen_queries.Find field low high) = choosing_looks s c + looks_at_each (chosen s.volume s.fields c) 1
+chosen_query_looks s c chosen_queries.Extremes = choosing_looks s c + looks_at_each (chosen s.volume s.fields c) 1
+
 -- the most traces that an edit looks at; a geometry name bound anew gives each trace another record, and a field
 -- without a place, a trace that is not there, or a number that the records tell, none
 abbrev pub edit_looks : State → Edit → ℕ
@@ -74,6 +113,7 @@ edit_looks s (edits.Resize p m) = trace_looks s.volume p 2
 edit_looks s (edits.Renumber a b field first step) = put_looks s.fields (place_in_trace s.fields field) (2 * range_looks s.volume a b)
 edit_looks s (edits.Compute a b field source steps) = looks_at (formula_of s.fields field source steps) (2 * range_looks s.volume a b)
 edit_looks s (edits.Sort a b names falls) = looks_at (each_of (place_in_trace s.fields) names) (range_looks s.volume a b)
+edit_looks s (edits.OfChosen c edit) = chosen_edit_looks s c edit
 
 -- the most traces that a query looks at, where the slices with these numbers are kept
 abbrev pub query_looks : State → List ℕ → Query → ℕ
@@ -102,3 +142,4 @@ query_looks s kept (queries.Table a b fields) = looks_at (each_of (place_in_trac
 query_looks s kept (queries.Find a b field low high) = looks_at (place_in_trace s.fields field) (range_looks s.volume a b)
 query_looks s kept (queries.Header p) = trace_looks s.volume p 1
 query_looks s kept (queries.Extremes a b) = range_looks s.volume a b
+query_looks s kept (queries.OfChosen c query) = chosen_query_looks s c query

@@ -1,5 +1,5 @@
 -- Traces that are chosen by conditions on their numbers. Traces are counted from 1.
-use Rattle.std.specs.Prelude.{ℕ, ℤ, Bool, not, int_lt, List, [], map, filter, Option, Some, None, option_map, option_and_then}
+use Rattle.std.specs.Prelude.{ℕ, ◌+◌, ◌≤◌, ℤ, Bool, not, int_lt, List, [], ◌∷◌, map, filter, Option, Some, None, option_map, option_and_then}
 use Rattle.std.specs.List.{list_all}
 use Rattle.std.specs.Ordering.{int_eq}
 use Rattle.field_map.specs.Pairs.{Pairs}
@@ -62,3 +62,8 @@ range_of (Some r) = positions r.0 r.1
 -- the traces that are chosen; nothing where a field has no place, or a trace of the range lacks one
 abbrev pub chosen : Volume → Pairs → Chosen → Option (List ℕ)
 chosen v fields c = option_and_then (λ tests. chosen_among v tests (range_of c.traces)) (tests_of fields c.conditions)
+
+-- the positions rise, from position k on, and none is above n
+abbrev pub AreRising : (k n : ℕ) → List ℕ → Type 0
+AreRising k n [] = Unit {0}
+AreRising k n (p ∷ ps) = (k ≤ p) × (p ≤ n) × AreRising (p + 1) n ps

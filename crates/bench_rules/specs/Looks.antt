@@ -72,8 +72,8 @@ range_looks_of v None = 0
 range_looks_of v (Some r) = range_looks v r.0 r.1
 
 -- the looks that choosing takes: one at each trace of the range, where there is a condition and the fields of all have places
-abbrev pub choosing_looks : State → Chosen → ℕ
-choosing_looks s c = if is_empty c.conditions then 0 else looks_at (tests_of s.fields c.conditions) (range_looks_of s.volume c.traces)
+abbrev pub choosing_looks : Volume → Pairs → Chosen → ℕ
+choosing_looks v fields c = if is_empty c.conditions then 0 else looks_at (tests_of fields c.conditions) (range_looks_of v c.traces)
 
 -- so many looks for each trace that is chosen
 abbrev pub looks_at_each : Option (List ℕ) → ℕ → ℕ
@@ -82,17 +82,17 @@ looks_at_each (Some ps) n = n * length ps
 
 -- and those of an edit of the traces that are chosen; a number that the records tell needs none
 abbrev pub chosen_edit_looks : State → Chosen → ChosenEdit → ℕ
-chosen_edit_looks s c (chosen_edits.Nothing names) = choosing_looks s c
-chosen_edit_looks s c (chosen_edits.Renumber field first step) = choosing_looks s c + put_looks s.fields (place_in_trace s.fields field) (looks_at_each (chosen s.volume s.fields c) 2)
-chosen_edit_looks s c (chosen_edits.Compute field source steps) = choosing_looks s c + looks_at_each (chosen s.volume s.fields c) 2
-chosen_edit_looks s c chosen_edits.Delete = choosing_looks s c
+chosen_edit_looks s c (chosen_edits.Nothing names) = choosing_looks s.volume s.fields c
+chosen_edit_looks s c (chosen_edits.Renumber field first step) = choosing_looks s.volume s.fields c + put_looks s.fields (place_in_trace s.fields field) (looks_at_each (chosen s.volume s.fields c) 2)
+chosen_edit_looks s c (chosen_edits.Compute field source steps) = choosing_looks s.volume s.fields c + looks_at_each (chosen s.volume s.fields c) 2
+chosen_edit_looks s c chosen_edits.Delete = choosing_looks s.volume s.fields c
 
 -- and those of a query about them
 abbrev pub chosen_query_looks : State → Chosen → ChosenQuery → ℕ
-chosen_query_looks s c chosen_queries.Count = choosing_looks s c
-chosen_query_looks s c (chosen_queries.Table fields) = choosing_looks s c + looks_at_each (chosen s.volume s.fields c) 1
-chosen_query_looks s c (chosen_queries.Find field low high) = choosing_looks s c + looks_at_each (chosen s.volume s.fields c) 1
-chosen_query_looks s c chosen_queries.Extremes = choosing_looks s c + looks_at_each (chosen s.volume s.fields c) 1
+chosen_query_looks s c chosen_queries.Count = choosing_looks s.volume s.fields c
+chosen_query_looks s c (chosen_queries.Table fields) = choosing_looks s.volume s.fields c + looks_at_each (chosen s.volume s.fields c) 1
+chosen_query_looks s c (chosen_queries.Find field low high) = choosing_looks s.volume s.fields c + looks_at_each (chosen s.volume s.fields c) 1
+chosen_query_looks s c chosen_queries.Extremes = choosing_looks s.volume s.fields c + looks_at_each (chosen s.volume s.fields c) 1
 
 -- the most traces that an edit looks at; a geometry name bound anew gives each trace another record, and a field
 -- without a place, a trace that is not there, or a number that the records tell, none

@@ -1,5 +1,5 @@
 -- What edits and queries are told of reads that failed.
-use Rattle.std.specs.Prelude.{◌≡◌, ◌≢◌, ◌⊎◌, false, Result, Err, IfErr, IsOk}
+use Rattle.std.specs.Prelude.{◌≡◌, ◌≢◌, ◌⊎◌, false, Result, Err, IfErr}
 use Rattle.std.specs.Option.{IfSome}
 use Rattle.bench_rules.specs.declared.ask_fault.AskFault.{AskFault}
 use Rattle.bench_rules.specs.declared.ask_fault.AskFault.TheVariants as asks
@@ -7,7 +7,7 @@ use Rattle.bench_rules.specs.declared.edit.Edit.{Edit}
 use Rattle.bench_rules.specs.declared.query.Query.{Query}
 use Rattle.bench_rules.specs.declared.refusal.Refusal.{Refusal}
 use Rattle.bench_rules.specs.declared.refusal.Refusal.TheVariants as refusals
-use Rattle.bench_rules.specs.Answer.{Reply, answer, TakesMemory, IsReply}
+use Rattle.bench_rules.specs.Answer.{Reply, answer, MayWant, IsReply}
 use Rattle.bench_rules.specs.Refused.{first_refusal}
 use Rattle.bench_rules.specs.State.{State}
 use Rattle.bench_rules.specs.Steps.{Step}
@@ -36,7 +36,7 @@ EditsInMemoryReadAll = (old new : State) (edit : Edit) (reply : Result (Unit {0}
 -- and each query is replied with its answer, or with want of memory
 abbrev pub QueriesInMemoryReadAll : Type 0
 QueriesInMemoryReadAll = (s : State) (query : Query) (reply : Reply) → s.on_disk ≡ false → IsReply s query reply
-    → (reply ≡ answer s query) ⊎ ((reply ≡ Err asks.OutOfMemory) × TakesMemory query × IsOk (answer s query))
+    → (reply ≡ answer s query) ⊎ ((reply ≡ Err asks.OutOfMemory) × MayWant s query)
 
 -- an edit that is refused changes nothing, where a read failed too
 abbrev pub RefusedEditsChangeNothing : Type 0

@@ -28,7 +28,7 @@ use Rattle.bench_rules.specs.Computed.{Formula, formula_of, computed_in, compute
 use Rattle.bench_rules.specs.Conditions.{AreRising, chosen, chosen_among, judged, meets, range_of, tests_of}
 use Rattle.bench_rules.specs.ManyTraces.{each_of, positions}
 use Rattle.bench_rules.specs.Places.{place_in_trace}
-use Rattle.bench_rules.specs.RangeRefusals.{range_refusal}
+use Rattle.bench_rules.specs.RangeRefusals.{no_trace, no_trace_from, range_refusal}
 use Rattle.bench_rules.specs.Refused.{first_refusal, first_refusal_among, set_refusal}
 use Rattle.bench_rules.specs.State.{State}
 use Rattle.bench_rules.specs.TraceEdits.{counted, put_each}
@@ -142,7 +142,7 @@ pub record ChosenAccepted (s : State) (c : Chosen) (edit : ChosenEdit) : Type 0 
 range-there : (s : State) (range : Option (ℕ × ℕ)) (tests : List Test) (ps : List ℕ) → range_refusal s.volume range ≡ None → chosen_among s.volume tests (range_of range) ≡ Some ps → AreRising 1 (count_of s.volume) ps
 range-there s None tests ps free e = let none : [] ≡ ps = cc in subst (AreRising 1 (count_of s.volume)) none tt
 range-there s (Some r) tests ps free e =
-    let none = both_none _ _ free in
+    let none = both_none (no_trace s.volume r.0) (no_trace_from s.volume r.0 r.1) free in
     let t : AreTraces s.volume r.0 r.1 None = are_traces s.volume r.0 r.1 None (rw (none.0, none.1) refl) in
     rising-earlier r.0 1 (count_of s.volume) ps t.low (chosen-from s.volume tests r.0 (r.1 + 1 - r.0) (count_of s.volume) ps (omega (arith, t.low, t.high, t.last)) e)
 
@@ -188,13 +188,18 @@ chosen_accepted s c edit e =
 
 -- ---- the volume behind the edit
 
+head-without : (v : Volume) (ps : List ℕ) → (without_each v ps).head ≡ v.head
+head-without v [] = refl
+head-without v (p ∷ ps) = head-without v ps
+
 -- what it leaves of these traces, where it is not refused
 pub record LeavesCut (s : State) (edit : ChosenEdit) (ps : List ℕ) : Type 0 where
   pub volume : Volume
   pub cut : IsCut (bytes_after_each s.volume s.fields edit ps) s.reading s.limits volume
+  pub head : volume.head ≡ s.volume.head
 
 pub each_cut : (s : State) (edit : ChosenEdit) (ps : List ℕ) → IsRead s → AreRising 1 (count_of s.volume) ps → has_fields s.fields edit ≡ true → refusal_of_edit s.volume s.fields edit ps ≡ None → LeavesCut s edit ps
-each_cut s (Nothing names) ps read up has none = record { volume = s.volume; cut = read }
+each_cut s (Nothing names) ps read up has none = record { volume = s.volume; cut = read; head = refl }
 each_cut s (Renumber field first step) ps read up has none = by (place_in_trace s.fields field) refl
   where
     by : (o : Option Place) → place_in_trace s.fields field ≡ o → LeavesCut s (Renumber field first step) ps
@@ -205,6 +210,7 @@ each_cut s (Renumber field first step) ps read up has none = by (place_in_trace 
         record {
           volume = (with_traces s (with_listed s.volume.head place ns s.volume.traces)).volume;
           cut = rw e (listed_cut s place 1 ns read (counted_listed s place first step 0 1 ps (omega arith) up free));
+          head = refl;
         }
 each_cut s (Compute field source steps) ps read up has none = by (formula_of s.fields field source steps) refl
   where
@@ -217,12 +223,13 @@ each_cut s (Compute field source steps) ps read up has none = by (formula_of s.f
         record {
           volume = (with_traces s (with_listed s.volume.head f.place ns s.volume.traces)).volume;
           cut = rw (e, c.numbers) (listed_cut s f.place 1 ns read c.listed);
+          head = refl;
         }
-each_cut s Delete ps read up has none = record { volume = without_each s.volume ps; cut = (without_cut s 1 ps (omega arith) up).cut read }
+each_cut s Delete ps read up has none = record { volume = without_each s.volume ps; cut = (without_cut s 1 ps (omega arith) up).cut read; head = head-without s.volume ps }
 
 -- an edit that is not refused leaves a file that is cut
-pub chosen_cut : (s : State) (c : Chosen) (edit : ChosenEdit) → IsRead s → first_refusal s (OfChosen c edit) ≡ None → (v : Volume) × IsCut (bytes_after s (OfChosen c edit)) s.reading s.limits v
+pub chosen_cut : (s : State) (c : Chosen) (edit : ChosenEdit) → IsRead s → first_refusal s (OfChosen c edit) ≡ None → (v : Volume) × IsCut (bytes_after s (OfChosen c edit)) s.reading s.limits v × (v.head ≡ s.volume.head)
 chosen_cut s c edit read e =
     let a = chosen_accepted s c edit e in
     let l = each_cut s edit a.traces read a.rising a.has a.none in
-    (l.volume, rw a.found l.cut)
+    (l.volume, rw a.found l.cut, l.head)

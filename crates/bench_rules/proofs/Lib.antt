@@ -29,3 +29,5 @@ pub mod EachLemmas
 pub mod LookLemmas
 pub mod RangeLemmas
 pub mod FloatLemmas
+pub mod ToldLemmas
+mod TestLemmas

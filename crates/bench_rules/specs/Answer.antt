@@ -171,11 +171,14 @@ TakesMemory (queries.OfChosen c query) = Unit {0}
 abbrev pub FailsToRead : State → Query → AskFault → Type 0
 FailsToRead s query fault = (0 < query_looks s [] query) × IsReadFault s.on_disk fault
 
--- a query may be told of want of memory where it takes it and is not refused. One of chosen traces has to hold them before it can judge
--- them: unless their range is refused, it may be told so first
+-- a query about chosen traces has to hold them before it can judge them: unless their range is refused, it may be told of want of memory first
+abbrev pub WantsFirst : State → Query → Type 0
+WantsFirst s (queries.OfChosen c query) = range_refusal s.volume c.traces ≡ None
+WantsFirst s query = ⊥
+
+-- a query may be told of want of memory where it takes it, and is not refused or wants it first
 abbrev pub MayWant : State → Query → Type 0
-MayWant s (queries.OfChosen c query) = range_refusal s.volume c.traces ≡ None
-MayWant s query = TakesMemory query × IsOk (answer s query)
+MayWant s query = TakesMemory query × (IsOk (answer s query) ⊎ WantsFirst s query)
 
 -- the reply is the answer, or want of memory where the query may be told of it, or a read that failed
 abbrev pub IsReply : State → Query → Reply → Type 0

@@ -1,5 +1,5 @@
 -- What is done to traces that are chosen. Traces are counted from 1.
-use Rattle.std.specs.Prelude.{ℕ, ℤ, Bool, true, not, is_some, List, [], ◌∷◌, map, filter_map, Option, Some, None, option_map, if◌then◌else◌}
+use Rattle.std.specs.Prelude.{ℕ, ℤ, Bool, true, not, is_some, List, [], ◌∷◌, length, map, filter_map, Option, Some, None, option_map, if◌then◌else◌}
 use Rattle.std.specs.List.{enumerate_from}
 use Rattle.std.specs.Option.{option_or, option_map_or}
 use Rattle.field_map.specs.declared.place.Place.{Place}
@@ -14,7 +14,7 @@ use Rattle.bench_rules.specs.declared.refusal.Refusal.{Refusal}
 use Rattle.bench_rules.specs.declared.refusal.Refusal.TheVariants as refusals
 use Rattle.bench_rules.specs.declared.test.Test.{Test}
 use Rattle.bench_rules.specs.Computed.{Formula, formula_of, compute_refusal, computed_in, first_at, number_at}
-use Rattle.bench_rules.specs.Conditions.{chosen, chosen_among, range_of, tests_of}
+use Rattle.bench_rules.specs.Conditions.{chosen, chosen_among, is_empty, range_of, tests_of}
 use Rattle.bench_rules.specs.ManyTraces.{each_of}
 use Rattle.bench_rules.specs.Places.{place_in_trace}
 use Rattle.bench_rules.specs.RangeRefusals.{range_refusal, first_refusal_among}
@@ -91,3 +91,7 @@ bytes_after_each v fields Delete ps = bytes_of (without_each v ps)
 -- the file's bytes after the edit of the chosen traces
 abbrev pub bytes_after_chosen : Volume → Pairs → Chosen → ChosenEdit → List ℕ
 bytes_after_chosen v fields c edit = option_map_or (bytes_after_each v fields edit) (chosen v fields c) (bytes_of v)
+
+-- how many traces an edit tells that it was of: where there is a condition, those that are chosen
+abbrev pub count_told : Volume → Pairs → Chosen → Option ℕ
+count_told v fields c = if is_empty c.conditions then None else option_map (λ ps. length ps) (chosen v fields c)

@@ -1,5 +1,5 @@
 -- Traces that are chosen by conditions on their numbers. Traces are counted from 1.
-use Rattle.std.specs.Prelude.{ℕ, ◌+◌, ◌≤◌, ℤ, Bool, not, int_lt, List, [], ◌∷◌, map, filter, Option, Some, None, option_map, option_and_then}
+use Rattle.std.specs.Prelude.{ℕ, ◌+◌, ◌≤◌, ℤ, Bool, true, false, not, int_lt, List, [], ◌∷◌, map, filter, Option, Some, None, option_map, option_and_then}
 use Rattle.std.specs.List.{list_all}
 use Rattle.std.specs.Ordering.{int_eq}
 use Rattle.field_map.specs.Pairs.{Pairs}
@@ -67,3 +67,8 @@ chosen v fields c = option_and_then (λ tests. chosen_among v tests (range_of c.
 abbrev pub AreRising : (k n : ℕ) → List ℕ → Type 0
 AreRising k n [] = Unit {0}
 AreRising k n (p ∷ ps) = (k ≤ p) × (p ≤ n) × AreRising (p + 1) n ps
+
+-- there is no condition
+abbrev pub is_empty : {X : Type 0} → List X → Bool
+is_empty [] = true
+is_empty (x ∷ xs) = false

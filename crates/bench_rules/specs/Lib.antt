@@ -2,6 +2,7 @@ pub mod After
 pub mod Answer
 pub mod ChosenEdits
 pub mod ChosenQueries
+pub mod ChosenExamples
 pub mod Computed
 pub mod ComputedBytes
 pub mod ComputedExamples

@@ -1,5 +1,5 @@
 -- How often edits and queries look at traces.
-use Rattle.std.specs.Prelude.{ℕ, ◌+◌, ◌-◌, ◌*◌, ◌&&◌, nat_le, Bool, true, false, List, [], ◌∷◌, length, Option, Some, None, if◌then◌else◌}
+use Rattle.std.specs.Prelude.{ℕ, ◌+◌, ◌-◌, ◌*◌, ◌&&◌, nat_le, Bool, List, length, Option, Some, None, if◌then◌else◌}
 use Rattle.field_map.specs.declared.place.Place.{Place}
 use Rattle.field_map.specs.Binding.{is_geometry}
 use Rattle.field_map.specs.Pairs.{Pairs}
@@ -17,7 +17,7 @@ use Rattle.bench_rules.specs.declared.chosen_edit.ChosenEdit.TheVariants as chos
 use Rattle.bench_rules.specs.declared.chosen_query.ChosenQuery.{ChosenQuery}
 use Rattle.bench_rules.specs.declared.chosen_query.ChosenQuery.TheVariants as chosen_queries
 use Rattle.bench_rules.specs.Computed.{formula_of}
-use Rattle.bench_rules.specs.Conditions.{chosen, tests_of}
+use Rattle.bench_rules.specs.Conditions.{chosen, is_empty, tests_of}
 use Rattle.bench_rules.specs.Kept.{is_kept}
 use Rattle.bench_rules.specs.ManyTraces.{each_of}
 use Rattle.bench_rules.specs.Places.{place_in_trace, leaves_length}
@@ -61,11 +61,6 @@ stat_looks v p = if has_floats v.head then trace_looks v p 1 else 0
 abbrev pub range_looks : Volume → ℕ → ℕ → ℕ
 range_looks v a b = if is_trace v a && nat_le a b && nat_le b (count_of v) then b + 1 - a else 0
 
--- there is no condition
-abbrev pub is_empty : {X : Type 0} → List X → Bool
-is_empty [] = true
-is_empty (x ∷ xs) = false
-
 -- the number of traces of a range, where they are there; of no range none
 abbrev pub range_looks_of : Volume → Option (ℕ × ℕ) → ℕ
 range_looks_of v None = 0
@@ -75,24 +70,31 @@ range_looks_of v (Some r) = range_looks v r.0 r.1
 abbrev pub choosing_looks : Volume → Pairs → Chosen → ℕ
 choosing_looks v fields c = if is_empty c.conditions then 0 else looks_at (tests_of fields c.conditions) (range_looks_of v c.traces)
 
--- so many looks for each trace that is chosen
-abbrev pub looks_at_each : Option (List ℕ) → ℕ → ℕ
-looks_at_each None n = 0
-looks_at_each (Some ps) n = n * length ps
+-- the looks of an edit of so many traces; a number that the records tell needs none
+abbrev pub each_looks : Pairs → ChosenEdit → ℕ → ℕ
+each_looks fields (chosen_edits.Nothing names) n = 0
+each_looks fields (chosen_edits.Renumber field first step) n = put_looks fields (place_in_trace fields field) (2 * n)
+each_looks fields (chosen_edits.Compute field source steps) n = 2 * n
+each_looks fields chosen_edits.Delete n = 0
 
--- and those of an edit of the traces that are chosen; a number that the records tell needs none
-abbrev pub chosen_edit_looks : State → Chosen → ChosenEdit → ℕ
-chosen_edit_looks s c (chosen_edits.Nothing names) = choosing_looks s.volume s.fields c
-chosen_edit_looks s c (chosen_edits.Renumber field first step) = choosing_looks s.volume s.fields c + put_looks s.fields (place_in_trace s.fields field) (looks_at_each (chosen s.volume s.fields c) 2)
-chosen_edit_looks s c (chosen_edits.Compute field source steps) = choosing_looks s.volume s.fields c + looks_at_each (chosen s.volume s.fields c) 2
-chosen_edit_looks s c chosen_edits.Delete = choosing_looks s.volume s.fields c
+-- the looks of a query about so many
+abbrev pub asking_looks : ChosenQuery → ℕ → ℕ
+asking_looks chosen_queries.Count n = 0
+asking_looks (chosen_queries.Table fields) n = n
+asking_looks (chosen_queries.Find field low high) n = n
+asking_looks chosen_queries.Extremes n = n
 
--- and those of a query about them
-abbrev pub chosen_query_looks : State → Chosen → ChosenQuery → ℕ
-chosen_query_looks s c chosen_queries.Count = choosing_looks s.volume s.fields c
-chosen_query_looks s c (chosen_queries.Table fields) = choosing_looks s.volume s.fields c + looks_at_each (chosen s.volume s.fields c) 1
-chosen_query_looks s c (chosen_queries.Find field low high) = choosing_looks s.volume s.fields c + looks_at_each (chosen s.volume s.fields c) 1
-chosen_query_looks s c chosen_queries.Extremes = choosing_looks s.volume s.fields c + looks_at_each (chosen s.volume s.fields c) 1
+-- the looks at traces that are chosen, where they are
+abbrev pub looks_at_chosen : (ℕ → ℕ) → Option (List ℕ) → ℕ
+looks_at_chosen looks None = 0
+looks_at_chosen looks (Some ps) = looks (length ps)
+
+-- the most looks of an edit of the traces that are chosen, and of a query about them
+abbrev pub chosen_edit_looks : Volume → Pairs → Chosen → ChosenEdit → ℕ
+chosen_edit_looks v fields c edit = choosing_looks v fields c + looks_at_chosen (each_looks fields edit) (chosen v fields c)
+
+abbrev pub chosen_query_looks : Volume → Pairs → Chosen → ChosenQuery → ℕ
+chosen_query_looks v fields c query = choosing_looks v fields c + looks_at_chosen (asking_looks query) (chosen v fields c)
 
 -- the most traces that an edit looks at; a geometry name bound anew gives each trace another record, and a field
 -- without a place, a trace that is not there, or a number that the records tell, none
@@ -113,7 +115,7 @@ edit_looks s (edits.Resize p m) = trace_looks s.volume p 2
 edit_looks s (edits.Renumber a b field first step) = put_looks s.fields (place_in_trace s.fields field) (2 * range_looks s.volume a b)
 edit_looks s (edits.Compute a b field source steps) = looks_at (formula_of s.fields field source steps) (2 * range_looks s.volume a b)
 edit_looks s (edits.Sort a b names falls) = looks_at (each_of (place_in_trace s.fields) names) (range_looks s.volume a b)
-edit_looks s (edits.OfChosen c edit) = chosen_edit_looks s c edit
+edit_looks s (edits.OfChosen c edit) = chosen_edit_looks s.volume s.fields c edit
 
 -- the most traces that a query looks at, where the slices with these numbers are kept
 abbrev pub query_looks : State → List ℕ → Query → ℕ
@@ -142,4 +144,4 @@ query_looks s kept (queries.Table a b fields) = looks_at (each_of (place_in_trac
 query_looks s kept (queries.Find a b field low high) = looks_at (place_in_trace s.fields field) (range_looks s.volume a b)
 query_looks s kept (queries.Header p) = trace_looks s.volume p 1
 query_looks s kept (queries.Extremes a b) = range_looks s.volume a b
-query_looks s kept (queries.OfChosen c query) = chosen_query_looks s c query
+query_looks s kept (queries.OfChosen c query) = chosen_query_looks s.volume s.fields c query

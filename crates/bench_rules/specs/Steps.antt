@@ -1,11 +1,12 @@
 -- Edits one after another, and what each is answered.
-use Rattle.std.specs.Prelude.{◌≡◌, ◌⊎◌, ◌<◌, List, [], ◌∷◌, Option, Some, None, Result, Ok, Err}
+use Rattle.std.specs.Prelude.{◌≡◌, ◌⊎◌, ◌<◌, ℕ, List, [], ◌∷◌, Option, Some, None, Result, Ok, Err}
 use Rattle.frame_cut.specs.Cuts.{IsCut}
 use Rattle.bench_rules.specs.declared.edit.Edit.{Edit}
 use Rattle.bench_rules.specs.declared.edit.Edit.TheVariants.{Set, SetBin, Declare, DropTail, SetText, Map, Unmap, Patch, Blank, Copy, Delete, Move, Resize, Renumber, Compute, Sort, OfChosen}
 use Rattle.bench_rules.specs.declared.refusal.Refusal.{Refusal}
 use Rattle.bench_rules.specs.declared.refusal.Refusal.TheVariants.{OutOfMemory}
 use Rattle.bench_rules.specs.After.{bytes_after, fields_after}
+use Rattle.bench_rules.specs.ChosenEdits.{count_told}
 use Rattle.bench_rules.specs.Looks.{edit_looks}
 use Rattle.bench_rules.specs.ReadFaults.{IsReadRefusal}
 use Rattle.bench_rules.specs.RangeRefusals.{range_refusal}
@@ -69,3 +70,8 @@ Steps old [] (reply ∷ replies) new = ⊥
 Steps old (edit ∷ edits) [] new = ⊥
 Steps old (edit ∷ edits) (reply ∷ replies) new =
     (mid : State) × Step old edit reply mid × Steps mid edits replies new
+
+-- how many traces an edit that is done tells that it was of: one of chosen traces under conditions alone does
+abbrev pub told_of : State → Edit → Option ℕ
+told_of s (OfChosen c edit) = count_told s.volume s.fields c
+told_of s edit = None

@@ -1,3 +1,6 @@
+ghost use Rattle.std.specs.Prelude.{◌≡◌, ◌<◌, ◌^◌, ◌+◌};
+ghost use Rattle.bench_rules.specs.Tables.{position_in, AreAbove};
+
 use std::marker::Model;
 
 /// Numbers of traces: for each trace its position, counted from 1, and as many numbers as a row
@@ -68,12 +71,22 @@ impl Table {
         requires { k < length self.now }
         ensures { slice_get self.now k ≡ Some (result.0, result.1.now) }
     {
+        let position = position_of_row(&self.listed, self.first, k);
         let numbers = self.numbers.as_slice();
         let start = self.width * k as usize;
-        let position = match &self.listed {
-            Some(traces) => traces[k as usize],
-            None => self.first + k,
-        };
         (position, &numbers[start..start + self.width])
+    }
+}
+
+// The position of row k, counted from 0: of the traces that are listed, or of those from a first
+// one on.
+fn position_of_row(listed: &Option<Vec<u32>>, first: u32, k: u32) -> u32
+    requires listed { AreAbove k listed.now }
+    requires last { first + k < 2 ^ 32 }
+    ensures { result ≡ position_in listed.now first k }
+{
+    match listed {
+        Some(traces) => traces[k as usize],
+        None => first + k,
     }
 }

@@ -38,8 +38,10 @@ pub fn meets_all(trace: &TraceView<'_>, tests: &[Test]) -> Option<bool>
 {
     let mut all = true;
     for test in tests {
-        let here = meets_one(trace, *test)?;
-        all = all && here;
+        let Some(here) = meets_one(trace, *test) else {
+            return None;
+        };
+        all &= here;
     }
     Some(all)
 }

@@ -13,17 +13,17 @@ use Rattle.chosen_traces.specs.Gathered.{pairs_from, pairs_back}
 -- ---- two items in the place of one another
 
 module _ {T : Type 0} (d : T) where
-  at-first : (xs : List T) (i j : ℕ) → i < length xs → j < length xs → get_or (swap xs i j) i d ≡ get_or xs j d
+  pub at-first : (xs : List T) (i j : ℕ) → i < length xs → j < length xs → get_or (swap xs i j) i d ≡ get_or xs j d
   at-first xs i j p q = (swapped_from_swap xs (swap xs i j) i j d p q refl).0
 
-  at-second : (xs : List T) (i j : ℕ) → i < length xs → j < length xs → get_or (swap xs i j) j d ≡ get_or xs i d
+  pub at-second : (xs : List T) (i j : ℕ) → i < length xs → j < length xs → get_or (swap xs i j) j d ≡ get_or xs i d
   at-second xs i j p q = (swapped_from_swap xs (swap xs i j) i j d p q refl).1
 
-  elsewhere : (xs : List T) (i j k : ℕ) → i < length xs → j < length xs → k ≢ i → k ≢ j → get_or (swap xs i j) k d ≡ get_or xs k d
+  pub elsewhere : (xs : List T) (i j k : ℕ) → i < length xs → j < length xs → k ≢ i → k ≢ j → get_or (swap xs i j) k d ≡ get_or xs k d
   elsewhere xs i j k p q n m = (swapped_from_swap xs (swap xs i j) i j d p q refl).2 k n m
 
   -- twice is nothing
-  swap-swap : (xs : List T) (i j : ℕ) → i < length xs → j < length xs → swap (swap xs i j) i j ≡ xs
+  pub swap-swap : (xs : List T) (i j : ℕ) → i < length xs → j < length xs → swap (swap xs i j) i j ≡ xs
   swap-swap xs i j p q =
       let ys : List T = swap xs i j in
       let long : length ys ≡ length xs = length-swap xs i j in
@@ -84,11 +84,11 @@ module _ {T : Type 0} (d : T) where
 
   -- ---- pairs one after another
 
-  swapped-long : (xs : List T) (pairs : List (ℕ × ℕ)) → length (with_swapped xs pairs) ≡ length xs
+  pub swapped-long : (xs : List T) (pairs : List (ℕ × ℕ)) → length (with_swapped xs pairs) ≡ length xs
   swapped-long xs [] = refl
   swapped-long xs (pair ∷ pairs) = swapped-long (swap xs (pair.0 - 1) (pair.1 - 1)) pairs ∙ length-swap xs (pair.0 - 1) (pair.1 - 1)
 
-  swapped-more : (xs : List T) (pairs : List (ℕ × ℕ)) (p : ℕ × ℕ) → with_swapped xs (pairs ++ p ∷ []) ≡ swap (with_swapped xs pairs) (p.0 - 1) (p.1 - 1)
+  pub swapped-more : (xs : List T) (pairs : List (ℕ × ℕ)) (p : ℕ × ℕ) → with_swapped xs (pairs ++ p ∷ []) ≡ swap (with_swapped xs pairs) (p.0 - 1) (p.1 - 1)
   swapped-more xs [] p = refl
   swapped-more xs (q ∷ pairs) p = swapped-more (swap xs (q.0 - 1) (q.1 - 1)) pairs p
 
@@ -135,7 +135,7 @@ module _ {T : Type 0} (d : T) where
       ∙ ap (changed es) (swap-set d xs i j at y p q inside off off' ∙ ap (λ z. set (swap xs i j) at (e.1 z)) (sym read))
 
   -- pairs behind an item leave it where it is
-  swapped-read : (xs : List T) (i a : ℕ) (ps : List ℕ) → i + 1 < a → AreRising a (length xs) ps → get_or (with_swapped xs (pairs_from a ps)) i d ≡ get_or xs i d
+  pub swapped-read : (xs : List T) (i a : ℕ) (ps : List ℕ) → i + 1 < a → AreRising a (length xs) ps → get_or (with_swapped xs (pairs_from a ps)) i d ≡ get_or xs i d
   swapped-read xs i a [] less up = refl
   swapped-read xs i a (p ∷ ps) less up =
       let ys : List T = swap xs (a - 1) (p - 1) in

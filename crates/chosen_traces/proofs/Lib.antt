@@ -1,1 +1,3 @@
 pub mod GatheredLemmas
+pub mod FrontLemmas
+pub mod ComputedFrontLemmas

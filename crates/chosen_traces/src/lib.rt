@@ -11,6 +11,8 @@
 
 mod choosing;
 mod exchanges;
+mod retelling;
 
 pub use crate::choosing::choose;
 pub use crate::exchanges::{exchanges_back, exchanges_to_front};
+pub use crate::retelling::retold;

@@ -1,0 +1,140 @@
+// Edits of the traces that conditions choose. Numbers are given to them by the edits of traces that
+// follow one another: they are brought to the front of the file, in their order, and afterwards all
+// back to where they stood.
+ghost use Rattle.std.specs.Prelude.{◌≡◌, ◌⊎◌, ◌*◌, ◌<◌, ◌≤◌, length, true, None, Some, is_some, IsTrue, IfOk, IfErr, OnOk, OnErr};
+ghost use Rattle.frame_cut.specs.Cuts.{IsCut};
+ghost use Rattle.frame_cut.specs.Traces.{count_of};
+ghost use Rattle.edit_overlay.specs.CountedVolume.{RisesAtMost};
+ghost use Rattle.bench_rules.specs.declared.chosen_edit.ChosenEdit.TheVariants as chosen_edits;
+ghost use Rattle.bench_rules.specs.declared.edit.Edit.TheVariants as edits;
+ghost use Rattle.bench_rules.specs.declared.refusal.Refusal.TheVariants.{OutOfMemory as no_memory};
+ghost use Rattle.bench_rules.specs.ChosenEdits.{bytes_after_each, count_told, has_fields as has_fields_of, refusal_of_edit};
+ghost use Rattle.bench_rules.specs.Computed.{formula_of};
+ghost use Rattle.bench_rules.specs.Conditions.{AreRising};
+ghost use Rattle.bench_rules.specs.Looks.{edit_looks, each_looks, put_looks};
+ghost use Rattle.bench_rules.specs.Places.{place_in_trace as place_of_field};
+ghost use Rattle.bench_rules.specs.RangeFaults.{refusal_for as refusal_for_fault};
+ghost use Rattle.bench_rules.specs.RangeRefusals.{range_refusal};
+ghost use Rattle.bench_rules.specs.ReadFaults.{IsReadRefusal};
+ghost use Rattle.bench_rules.specs.Steps.{Step};
+ghost use Rattle.live_volume.specs.Chosen.{IsRefusedFor};
+ghost use Rattle.live_volume.specs.Held.{IsReadAs};
+
+use crate::live_volume::LiveVolume;
+use bench_rules::{AskFault, Chosen, ChosenEdit, Field, Operand, Operator, Refusal};
+use chosen_traces::{choose, exchanges_back, exchanges_to_front, retold};
+use many_traces::{have_places, have_terms};
+use std::alloc::Global;
+
+impl LiveVolume {
+    // An edit of the traces that are chosen: done whole, and then how many they were, where there
+    // is a condition; or refused, and all is as it was. Refused, in this order: E01 for the first
+    // trace of the range, E01 for its last, E02, E03 of a condition, then what the edit refuses;
+    // E11 may come in the place of any but E01.
+    pub(crate) fn apply_chosen(
+        &mut self,
+        alloc: Global,
+        chosen: &Chosen,
+        edit: &ChosenEdit,
+    ) -> Result<Option<u32>, Refusal>
+        ensures step { IsTrue self.new.agreed →
+            Step self.old.state (edits.OfChosen chosen.now edit.now) result self.new.state }
+        ensures told { IfOk result (λ told. IsTrue self.new.agreed → told ≡ count_told
+            self.old.state.volume self.old.state.fields chosen.now) }
+        ensures err { OnErr result (self.new.state ≡ self.old.state) }
+        ensures same { IsReadAs self.old.state self.new.state }
+        ensures agreed { IsTrue self.new.agreed → IsTrue self.old.agreed }
+        ensures loaded { self.new.loaded ≡ self.old.loaded }
+        ensures looks { RisesAtMost self.old.looks self.new.looks
+            (edit_looks self.old.state (edits.OfChosen chosen.now edit.now)) }
+    {
+        if let Some(refusal) = self.no_range(chosen.traces) {
+            return Err(refusal);
+        }
+        if !self.has_fields(edit) {
+            return Err(Refusal::NoField);
+        }
+        self.stands();
+        let traces = match choose(alloc, &mut self.overlay, &self.fields, chosen) {
+            Ok(traces) => traces,
+            Err(fault) => return Err(refusal_for(fault)),
+        };
+        self.edit_each(alloc, traces.as_slice(), edit)?;
+        if chosen.conditions.as_slice().is_empty() {
+            Ok(None)
+        } else {
+            Ok(Some(traces.len() as u32))
+        }
+    }
+
+    // The refusal of a range of traces: E01. Of none there is none.
+    fn no_range(&self, traces: Option<(u32, u32)>) -> Option<Refusal>
+        ensures { result ≡ range_refusal self.now.state.volume traces }
+    {
+        let (first, last) = traces?;
+        self.range_refusal(first, last)
+    }
+
+    // Whether each field of the edit has a place.
+    fn has_fields(&self, edit: &ChosenEdit) -> bool
+        ensures { result ≡ has_fields_of self.now.state.fields edit.now }
+    {
+        match edit {
+            ChosenEdit::Nothing(fields) => have_places(&self.fields, fields.as_slice()),
+            ChosenEdit::Renumber { field, .. } => self.place_in_trace(field).is_some(),
+            ChosenEdit::Compute {
+                field,
+                source,
+                steps,
+            } => {
+                self.place_in_trace(field).is_some()
+                    && self.has_term(source)
+                    && have_terms(&self.fields, steps.as_slice())
+            }
+            ChosenEdit::Delete => true,
+        }
+    }
+
+    // The edit of these traces, which rise: done whole, or refused, and all is as it was.
+    fn edit_each(
+        &mut self,
+        alloc: Global,
+        traces: &[u32],
+        edit: &ChosenEdit,
+    ) -> Result<(), Refusal>
+        requires rising { AreRising 1 (count_of self.old.state.volume) traces.now }
+        requires fields { has_fields_of self.old.state.fields edit.now ≡ true }
+        ensures none { OnOk result (IsTrue self.new.agreed → refusal_of_edit
+            self.old.state.volume self.old.state.fields edit.now traces.now ≡ None) }
+        ensures cut { OnOk result (IsTrue self.new.agreed → IsCut (bytes_after_each
+            self.old.state.volume self.old.state.fields edit.now traces.now)
+            self.old.state.reading self.old.state.limits self.new.state.volume) }
+        ensures fields { self.new.state.fields ≡ self.old.state.fields }
+        ensures err { IfErr result (λ refusal. IsRefusedFor self.old.state edit.now traces.now
+            self.new.agreed refusal) }
+        ensures unchanged { OnErr result (self.new.state ≡ self.old.state) }
+        ensures same { IsReadAs self.old.state self.new.state }
+        ensures agreed { IsTrue self.new.agreed → IsTrue self.old.agreed }
+        ensures loaded { self.new.loaded ≡ self.old.loaded }
+        ensures looks { RisesAtMost self.old.looks self.new.looks
+            (each_looks self.old.state.fields edit.now (length traces.now)) }
+    {
+        match edit {
+            ChosenEdit::Nothing(_) => Ok(()),
+            ChosenEdit::Renumber {
+                field,
+                first_value,
+                step,
+            } => self.renumber_each(alloc, traces, field, *first_value, *step),
+            ChosenEdit::Compute {
+                field,
+                source,
+                steps,
+            } => self.compute_each(alloc, traces, field, source, steps.as_slice()),
+            ChosenEdit::Delete => {
+                self.delete_each(traces);
+                Ok(())
+            }
+        }
+    }
+}

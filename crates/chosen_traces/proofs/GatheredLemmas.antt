@@ -5,7 +5,7 @@ use Rattle.std.proofs.lemmas.Bool.{cases_eq}
 use Rattle.std.proofs.lemmas.List.{ext_get_or}
 use Rattle.std.proofs.lemmas.List.{length-set, get_or-set_same, get_or-set_other}
 use Rattle.std.proofs.lemmas.List.Edits.{swapped_from_swap, length-swap}
-use Rattle.trace_store.specs.Swapped.{with_swapped, ArePlaces}
+use Rattle.trace_store.specs.Swapped.{with_swapped}
 use Rattle.bench_rules.specs.Conditions.{AreRising}
 use Rattle.bench_rules.proofs.ChosenLemmas.{rising-earlier}
 use Rattle.chosen_traces.specs.Gathered.{pairs_from, pairs_back}
@@ -13,13 +13,13 @@ use Rattle.chosen_traces.specs.Gathered.{pairs_from, pairs_back}
 -- ---- two items in the place of one another
 
 module _ {T : Type 0} (d : T) where
-  at-first : (xs : List T) (i j : ℕ) → i < length xs → j < length xs → get_or (swap xs i j) i d ≡ get_or xs j d
+  pub at-first : (xs : List T) (i j : ℕ) → i < length xs → j < length xs → get_or (swap xs i j) i d ≡ get_or xs j d
   at-first xs i j p q = (swapped_from_swap xs (swap xs i j) i j d p q refl).0
 
   at-second : (xs : List T) (i j : ℕ) → i < length xs → j < length xs → get_or (swap xs i j) j d ≡ get_or xs i d
   at-second xs i j p q = (swapped_from_swap xs (swap xs i j) i j d p q refl).1
 
-  elsewhere : (xs : List T) (i j k : ℕ) → i < length xs → j < length xs → k ≢ i → k ≢ j → get_or (swap xs i j) k d ≡ get_or xs k d
+  pub elsewhere : (xs : List T) (i j k : ℕ) → i < length xs → j < length xs → k ≢ i → k ≢ j → get_or (swap xs i j) k d ≡ get_or xs k d
   elsewhere xs i j k p q n m = (swapped_from_swap xs (swap xs i j) i j d p q refl).2 k n m
 
   -- twice is nothing
@@ -135,7 +135,7 @@ module _ {T : Type 0} (d : T) where
       ∙ ap (changed es) (swap-set d xs i j at y p q inside off off' ∙ ap (λ z. set (swap xs i j) at (e.1 z)) (sym read))
 
   -- pairs behind an item leave it where it is
-  swapped-read : (xs : List T) (i a : ℕ) (ps : List ℕ) → i + 1 < a → AreRising a (length xs) ps → get_or (with_swapped xs (pairs_from a ps)) i d ≡ get_or xs i d
+  pub swapped-read : (xs : List T) (i a : ℕ) (ps : List ℕ) → i + 1 < a → AreRising a (length xs) ps → get_or (with_swapped xs (pairs_from a ps)) i d ≡ get_or xs i d
   swapped-read xs i a [] less up = refl
   swapped-read xs i a (p ∷ ps) less up =
       let ys : List T = swap xs (a - 1) (p - 1) in

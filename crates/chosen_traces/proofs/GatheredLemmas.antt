@@ -5,7 +5,7 @@ use Rattle.std.proofs.lemmas.Bool.{cases_eq}
 use Rattle.std.proofs.lemmas.List.{ext_get_or}
 use Rattle.std.proofs.lemmas.List.{length-set, get_or-set_same, get_or-set_other}
 use Rattle.std.proofs.lemmas.List.Edits.{swapped_from_swap, length-swap}
-use Rattle.trace_store.specs.Swapped.{with_swapped, ArePlaces}
+use Rattle.trace_store.specs.Swapped.{with_swapped}
 use Rattle.bench_rules.specs.Conditions.{AreRising}
 use Rattle.bench_rules.proofs.ChosenLemmas.{rising-earlier}
 use Rattle.chosen_traces.specs.Gathered.{pairs_from, pairs_back}

@@ -40,31 +40,31 @@ use Rattle.chosen_traces.proofs.FrontLemmas.{edits_of, front-count, front-traces
 -- ---- a trace by another number
 
 -- E13 told of trace p
-renamed : ℕ → Refusal → Refusal
+abbrev renamed : ℕ → Refusal → Refusal
 renamed p (refusals.ZeroDivisor q) = refusals.ZeroDivisor p
 renamed p refusal = refusal
 
-renamed-result : ℕ → Result ℤ Refusal → Result ℤ Refusal
+abbrev renamed-result : ℕ → Result ℤ Refusal → Result ℤ Refusal
 renamed-result p (Ok x) = Ok x
 renamed-result p (Err refusal) = Err (renamed p refusal)
 
 stepped-renamed : (p q : ℕ) (o : Operator) (a b : ℤ) → stepped p o a b ≡ renamed-result p (stepped q o a b)
 stepped-renamed p q o a b = by (divides o && int_eq b (pos 0)) (is_in_range (applied o a b))
   where
-    by : (zero fits : Bool) → (if zero then Err (refusals.ZeroDivisor p) else (if fits then Ok (applied o a b) else Err refusals.DoesNotFit))
-        ≡ renamed-result p (if zero then Err (refusals.ZeroDivisor q) else (if fits then Ok (applied o a b) else Err refusals.DoesNotFit))
-    by true fits = refl
+    by : (nought within : Bool) → (if nought then Err (refusals.ZeroDivisor p) else (if within then Ok (applied o a b) else Err refusals.DoesNotFit))
+        ≡ renamed-result p (if nought then Err (refusals.ZeroDivisor q) else (if within then Ok (applied o a b) else Err refusals.DoesNotFit))
+    by true within = refl
     by false true = refl
     by false false = refl
 
 chained-renamed : (p q : ℕ) (a : ℤ) (ss : List (Operator × ℤ)) → chained p a ss ≡ renamed-result p (chained q a ss)
 chained-renamed p q a [] = refl
 chained-renamed p q a (s ∷ ss) =
-    ap (λ (r : Result ℤ Refusal). unless_refused r (λ b. chained p b ss)) (stepped-renamed p q s.0 a s.1) ∙ by (stepped q s.0 a s.1)
+    ap (λ (r : Result ℤ Refusal). unless_refused r (λ b. chained p b ss)) (stepped-renamed p q s.0 a s.1) ∙ by (λ b. chained-renamed p q b ss) (stepped q s.0 a s.1)
   where
-    by : (r : Result ℤ Refusal) → unless_refused (renamed-result p r) (λ b. chained p b ss) ≡ renamed-result p (unless_refused r (λ b. chained q b ss))
-    by (Ok b) = chained-renamed p q b ss
-    by (Err refusal) = refl
+    by : ((b : ℤ) → chained p b ss ≡ renamed-result p (chained q b ss)) → (r : Result ℤ Refusal) → unless_refused (renamed-result p r) (λ b. chained p b ss) ≡ renamed-result p (unless_refused r (λ b. chained q b ss))
+    by again (Ok b) = again b
+    by again (Err refusal) = refl
 
 computed-renamed : (h : Head) (f : Formula) (p q : ℕ) (t : List ℕ) → computed_in h f p t ≡ renamed-result p (computed_in h f q t)
 computed-renamed h f p q t = by (has_place h t f.place) (term_in h t f.source) (steps_in h t f.steps)

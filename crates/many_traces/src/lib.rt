@@ -23,6 +23,7 @@ mod tables;
 
 pub use crate::answers::table_answer;
 pub use crate::computed::computed_bytes;
+pub use crate::formula::have_terms;
 pub use crate::places::have_places;
 pub use crate::sort::exchanges_to_sort;
 pub use crate::tables::table_among;

@@ -1,3 +1,4 @@
 pub mod GatheredLemmas
 pub mod FrontLemmas
 pub mod ComputedFrontLemmas
+mod ChoosingLemmas

@@ -1,26 +1,31 @@
 -- The traces that are chosen, trace by trace.
-use Rattle.std.proofs.Common.{◌≡◌, ℕ, zero, suc, ◌+◌, ◌-◌, ◌<◌, ◌≤◌, Bool, true, false, List, [], ◌∷◌, ◌++◌, length, map, filter, Option, Some, None, refl, sym, ap, subst, ◌∙◌, arith}
-use Rattle.std.proofs.lemmas.List.{append-nil, append_assoc}
-use Rattle.std.specs.Prelude.{option_map, option_and_then, if◌then◌else◌}
+use Rattle.std.proofs.Common.{◌≡◌, ℕ, zero, suc, ◌+◌, ◌-◌, ◌<◌, ◌≤◌, Bool, true, false, List, [], ◌∷◌, ◌++◌, length, map, filter, take, get_or, Option, Some, None, refl, sym, ap, subst, ◌∙◌, arith}
+use Rattle.std.proofs.lemmas.List.{append-nil, append_assoc, length-take-le, take_more}
+use Rattle.std.specs.Prelude.{IfOk, Result, Ok, Err, option_map, option_and_then, if◌then◌else◌}
 use Rattle.std.specs.List.{range_with_len}
 use Rattle.field_map.specs.Pairs.{Pairs}
 use Rattle.frame_cut.specs.Traces.{count_of, trace_at}
 use Rattle.frame_cut.specs.Volume.{Volume}
+use Rattle.bench_rules.specs.declared.chosen.Chosen.{Chosen}
 use Rattle.bench_rules.specs.declared.condition.Condition.{Condition}
 use Rattle.bench_rules.specs.declared.test.Test.{Test}
-use Rattle.bench_rules.specs.Conditions.{AreRising, chosen_among, judged, meets, range_of, tests_of}
-use Rattle.bench_rules.specs.Looks.{is_empty, looks_at, range_looks, range_looks_of}
+use Rattle.bench_rules.specs.Conditions.{AreRising, chosen, chosen_among, is_empty, judged, meets, range_of, tests_of}
+use Rattle.bench_rules.specs.Looks.{looks_at, range_looks, range_looks_of}
 use Rattle.bench_rules.specs.ManyTraces.{each_of}
-use Rattle.bench_rules.specs.RangeRefusals.{range_refusal}
+use Rattle.bench_rules.specs.RangeRefusals.{no_trace, no_trace_from, range_refusal}
 use Rattle.bench_rules.proofs.ChosenLemmas.{rising-earlier, rising-few, rising-wider}
 use Rattle.bench_rules.proofs.EachLemmas.{each_stops, next_position}
 use Rattle.bench_rules.proofs.FirstLemmas.{AreTraces, are_traces, both_none}
 use Rattle.bench_rules.proofs.RangeLemmas.{range_looked}
+use Rattle.chosen_traces.specs.Gathered.{pairs_from}
 
 -- ---- the range
 
 pub range_there : (v : Volume) (r : ℕ × ℕ) → range_refusal v (Some r) ≡ None → AreTraces v r.0 r.1 None
-range_there v r free = let none = both_none _ _ free in are_traces v r.0 r.1 None (rw (none.0, none.1) refl)
+range_there v r free = let none = both_none (no_trace v r.0) (no_trace_from v r.0 r.1) free in are_traces v r.0 r.1 None (rw (none.0, none.1) refl)
+
+pub range_free : (v : Volume) (range : Option (ℕ × ℕ)) (r : ℕ × ℕ) → range ≡ Some r → range_refusal v range ≡ None → range_refusal v (Some r) ≡ None
+range_free v range r is free = subst (λ (o : Option (ℕ × ℕ)). range_refusal v o ≡ None) is free
 
 -- each trace of it is looked at
 pub range_looks_there : (v : Volume) (r : ℕ × ℕ) → range_refusal v (Some r) ≡ None → range_looks v r.0 r.1 ≡ r.1 + 1 - r.0
@@ -158,3 +163,55 @@ still_rise a k x us vs low kept up = subst (AreRising a (a + (k + 1) - 1)) (sym 
 
 pub all_rising : (a b k : ℕ) (us : List ℕ) → a + k - 1 ≤ b → AreRising a (a + k - 1) us → AreRising a b us
 all_rising a b k us end up = rising-wider a (a + k - 1) b us end up
+
+-- ---- all conditions of one choice
+
+module _ (v : Volume) (pairs : Pairs) (c : Chosen) (conditions : List Condition) (tests : List Test) (r : ℕ × ℕ)
+    (same : conditions ≡ c.conditions) (e : tests_of pairs conditions ≡ Some tests) (there : c.traces ≡ Some r) where
+  -- those of the range are chosen
+  pub chosen_there : chosen v pairs c ≡ chosen_among v tests (range_with_len r.0 (r.1 + 1 - r.0))
+  chosen_there =
+      ap (λ (o : Option (List Test)). option_and_then (λ ts. chosen_among v ts (range_of c.traces)) o) (ap (λ (cs : List Condition). tests_of pairs cs) (sym same) ∙ e)
+      ∙ ap (λ (range : Option (ℕ × ℕ)). chosen_among v tests (range_of range)) there
+
+  pub chosen_all : (ps : List ℕ) → length tests ≡ 0 → ps ≡ range_with_len r.0 (r.1 + 1 - r.0) → chosen v pairs c ≡ Some ps
+  chosen_all ps none is =
+      chosen_there ∙ ap (λ (ts : List Test). chosen_among v ts (range_with_len r.0 (r.1 + 1 - r.0))) (no_items tests none)
+      ∙ all_chosen v (range_with_len r.0 (r.1 + 1 - r.0)) ∙ ap (λ qs. Some qs) (sym is)
+
+  -- and no more than the range has
+  pub few_there : (ps : List ℕ) → range_refusal v (Some r) ≡ None → AreRising r.0 r.1 ps → length ps ≤ looks_at (tests_of pairs c.conditions) (range_looks_of v c.traces)
+  few_there ps free up =
+      let looks : looks_at (tests_of pairs c.conditions) (range_looks_of v c.traces) ≡ r.1 + 1 - r.0 =
+      ap (λ (o : Option (List Test)). looks_at o (range_looks_of v c.traces)) (ap (λ (cs : List Condition). tests_of pairs cs) (sym same) ∙ e)
+      ∙ ap (λ (range : Option (ℕ × ℕ)). range_looks_of v range) there ∙ range_looks_there v r free in
+      subst (λ (n : ℕ). length ps ≤ n) (sym looks) (few_within v r ps free up)
+
+-- ---- results, and positions that are pushed
+
+pub if_ok : {X E : Type 0} {P Q : X → Type 0} (r : Result X E) → ((x : X) → P x → Q x) → IfOk r P → IfOk r Q
+if_ok (Ok x) f p = f x p
+if_ok (Err e) f p = p
+
+range-more : (a k : ℕ) → range_with_len a (k + 1) ≡ range_with_len a k ++ (a + k) ∷ []
+range-more a zero = ap (λ (x : ℕ). x ∷ []) (let e : a ≡ a + 0 = omega arith in e)
+range-more a (suc k) =
+    let one : suc k + 1 ≡ suc (k + 1) = omega arith in
+    let last : a + 1 + k ≡ a + suc k = omega arith in
+    ap (λ (n : ℕ). range_with_len a n) one ∙ ap (λ ps. a ∷ ps) (range-more (a + 1) k) ∙ ap (λ (x : ℕ). a ∷ range_with_len (a + 1) k ++ x ∷ []) last
+
+pub one_position : (a k : ℕ) (us vs : List ℕ) → us ≡ range_with_len a k → vs ≡ us ++ (a + k) ∷ [] → vs ≡ range_with_len a (k + 1)
+one_position a k us vs far pushed = pushed ∙ ap (λ ws. ws ++ (a + k) ∷ []) far ∙ sym (range-more a k)
+
+-- the exchanges of one trace more
+pairs-behind : (a : ℕ) (us : List ℕ) (p : ℕ) → pairs_from a (us ++ p ∷ []) ≡ pairs_from a us ++ (a + length us, p) ∷ []
+pairs-behind a [] p = ap (λ (x : ℕ). (x, p) ∷ []) (let e : a ≡ a + 0 = omega arith in e)
+pairs-behind a (u ∷ us) p =
+    let last : a + 1 + length us ≡ a + suc (length us) = omega arith in
+    ap (λ ws. (a, u) ∷ ws) (pairs-behind (a + 1) us p) ∙ ap (λ (x : ℕ). (a, u) ∷ pairs_from (a + 1) us ++ (x, p) ∷ []) last
+
+pub one_exchange : (ps : List ℕ) (k d : ℕ) (us vs : List (ℕ × ℕ)) → k < length ps → us ≡ pairs_from 1 (take k ps) → vs ≡ us ++ (k + 1, get_or ps k d) ∷ [] → vs ≡ pairs_from 1 (take (k + 1) ps)
+one_exchange ps k d us vs below far pushed =
+    let count : k + 1 ≡ 1 + length (take k ps) = omega (arith, length-take-le k ps (omega (arith, below))) in
+    pushed ∙ ap (λ ws. ws ++ (k + 1, get_or ps k d) ∷ []) far ∙ ap (λ (n : ℕ). pairs_from 1 (take k ps) ++ (n, get_or ps k d) ∷ []) count
+    ∙ sym (pairs-behind 1 (take k ps) (get_or ps k d)) ∙ ap (λ qs. pairs_from 1 qs) (sym (take_more ps k d below))

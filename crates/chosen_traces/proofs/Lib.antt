@@ -2,3 +2,4 @@ pub mod GatheredLemmas
 pub mod FrontLemmas
 pub mod ComputedFrontLemmas
 mod ChoosingLemmas
+mod ToldLemmas

@@ -228,7 +228,7 @@ first_refusals_tell_of_no_read s edit = told (first_refusal s edit) (silent s ed
 in_memory : {X : Type 0} (on_disk : Bool) → on_disk ≡ false → on_disk ≡ true → X
 in_memory on_disk memory disk = absurd (true≢false (sym disk ∙ memory))
 
-edit_told : (o : Option Refusal) (old new : State) (edit : Edit) (reply : Result (Unit {0}) Refusal) → IfSome o IsNoReadRefusal → old.on_disk ≡ false → StepUnless o old edit reply new → IfErr reply IsNoReadRefusal
+edit_told : (o : Option Refusal) (old new : State) (edit : Edit) (reply : Result (Option ℕ) Refusal) → IfSome o IsNoReadRefusal → old.on_disk ≡ false → StepUnless o old edit reply new → IfErr reply IsNoReadRefusal
 edit_told (Some r) old new edit (Ok done) first memory step = tt
 edit_told (Some r) old new edit (Err e) first memory (inl is, same) = by (told_is old edit r e is)
   where
@@ -243,7 +243,7 @@ edit_told None old new edit (Err e) first memory (inr read, same) = in_memory ol
 pub edits_in_memory_read_all : EditsInMemoryReadAll
 edits_in_memory_read_all old new edit reply memory step = edit_told (first_refusal old edit) old new edit reply (first_refusals_tell_of_no_read old edit) memory step
 
-unchanged : (o : Option Refusal) (old new : State) (edit : Edit) (r : Refusal) → StepUnless {T = Unit {0}} o old edit (Err r) new → new ≡ old
+unchanged : (o : Option Refusal) (old new : State) (edit : Edit) (r : Refusal) → StepUnless {T = Option ℕ} o old edit (Err r) new → new ≡ old
 unchanged (Some first) old new edit r step = step.1
 unchanged None old new edit r step = step.1
 

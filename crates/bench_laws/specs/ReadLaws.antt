@@ -1,5 +1,5 @@
 -- What edits and queries are told of reads that failed.
-use Rattle.std.specs.Prelude.{◌≡◌, ◌≢◌, ◌⊎◌, false, Result, Err, IfErr}
+use Rattle.std.specs.Prelude.{◌≡◌, ◌≢◌, ◌⊎◌, ℕ, false, Option, Result, Err, IfErr}
 use Rattle.std.specs.Option.{IfSome}
 use Rattle.bench_rules.specs.declared.ask_fault.AskFault.{AskFault}
 use Rattle.bench_rules.specs.declared.ask_fault.AskFault.TheVariants as asks
@@ -30,7 +30,7 @@ AnswersTellOfNoRead = (s : State) (query : Query) → IfErr (answer s query) IsN
 
 -- where the loaded bytes are in memory, no edit is told of a read
 abbrev pub EditsInMemoryReadAll : Type 0
-EditsInMemoryReadAll = (old new : State) (edit : Edit) (reply : Result (Unit {0}) Refusal)
+EditsInMemoryReadAll = (old new : State) (edit : Edit) (reply : Result (Option ℕ) Refusal)
     → old.on_disk ≡ false → Step old edit reply new → IfErr reply IsNoReadRefusal
 
 -- and each query is replied with its answer, or with want of memory
@@ -40,4 +40,4 @@ QueriesInMemoryReadAll = (s : State) (query : Query) (reply : Reply) → s.on_di
 
 -- an edit that is refused changes nothing, where a read failed too
 abbrev pub RefusedEditsChangeNothing : Type 0
-RefusedEditsChangeNothing = (old new : State) (edit : Edit) (refusal : Refusal) → Step {T = Unit {0}} old edit (Err refusal) new → new ≡ old
+RefusedEditsChangeNothing = (old new : State) (edit : Edit) (refusal : Refusal) → Step {T = Option ℕ} old edit (Err refusal) new → new ≡ old

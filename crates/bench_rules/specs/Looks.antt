@@ -89,12 +89,19 @@ abbrev pub looks_at_chosen : (ℕ → ℕ) → Option (List ℕ) → ℕ
 looks_at_chosen looks None = 0
 looks_at_chosen looks (Some ps) = looks (length ps)
 
--- the most looks of an edit of the traces that are chosen, and of a query about them
+-- the looks of an edit of the traces that are chosen, and of a query about them
 abbrev pub chosen_edit_looks : Volume → Pairs → Chosen → ChosenEdit → ℕ
 chosen_edit_looks v fields c edit = choosing_looks v fields c + looks_at_chosen (each_looks fields edit) (chosen v fields c)
 
 abbrev pub chosen_query_looks : Volume → Pairs → Chosen → ChosenQuery → ℕ
 chosen_query_looks v fields c query = choosing_looks v fields c + looks_at_chosen (asking_looks query) (chosen v fields c)
+
+-- the most of both, whatever is read: no more traces are chosen than the range has
+abbrev pub most_edit_looks : Volume → Pairs → Chosen → ChosenEdit → ℕ
+most_edit_looks v fields c edit = choosing_looks v fields c + each_looks fields edit (range_looks_of v c.traces)
+
+abbrev pub most_query_looks : Volume → Pairs → Chosen → ChosenQuery → ℕ
+most_query_looks v fields c query = choosing_looks v fields c + asking_looks query (range_looks_of v c.traces)
 
 -- the most traces that an edit looks at; a geometry name bound anew gives each trace another record, and a field
 -- without a place, a trace that is not there, or a number that the records tell, none
@@ -115,7 +122,7 @@ edit_looks s (edits.Resize p m) = trace_looks s.volume p 2
 edit_looks s (edits.Renumber a b field first step) = put_looks s.fields (place_in_trace s.fields field) (2 * range_looks s.volume a b)
 edit_looks s (edits.Compute a b field source steps) = looks_at (formula_of s.fields field source steps) (2 * range_looks s.volume a b)
 edit_looks s (edits.Sort a b names falls) = looks_at (each_of (place_in_trace s.fields) names) (range_looks s.volume a b)
-edit_looks s (edits.OfChosen c edit) = chosen_edit_looks s.volume s.fields c edit
+edit_looks s (edits.OfChosen c edit) = most_edit_looks s.volume s.fields c edit
 
 -- the most traces that a query looks at, where the slices with these numbers are kept
 abbrev pub query_looks : State → List ℕ → Query → ℕ
@@ -144,4 +151,4 @@ query_looks s kept (queries.Table a b fields) = looks_at (each_of (place_in_trac
 query_looks s kept (queries.Find a b field low high) = looks_at (place_in_trace s.fields field) (range_looks s.volume a b)
 query_looks s kept (queries.Header p) = trace_looks s.volume p 1
 query_looks s kept (queries.Extremes a b) = range_looks s.volume a b
-query_looks s kept (queries.OfChosen c query) = chosen_query_looks s.volume s.fields c query
+query_looks s kept (queries.OfChosen c query) = most_query_looks s.volume s.fields c query

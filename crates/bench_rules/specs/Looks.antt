@@ -96,12 +96,16 @@ chosen_edit_looks v fields c edit = choosing_looks v fields c + looks_at_chosen 
 abbrev pub chosen_query_looks : Volume → Pairs → Chosen → ChosenQuery → ℕ
 chosen_query_looks v fields c query = choosing_looks v fields c + looks_at_chosen (asking_looks query) (chosen v fields c)
 
--- the most of both, whatever is read: no more traces are chosen than the range has
+-- no more traces are chosen than the range has, whatever is read; none, where a field of a condition has no place
+abbrev pub most_chosen : Volume → Pairs → Chosen → ℕ
+most_chosen v fields c = looks_at (tests_of fields c.conditions) (range_looks_of v c.traces)
+
+-- the most looks of both, whatever is read
 abbrev pub most_edit_looks : Volume → Pairs → Chosen → ChosenEdit → ℕ
-most_edit_looks v fields c edit = choosing_looks v fields c + each_looks fields edit (range_looks_of v c.traces)
+most_edit_looks v fields c edit = choosing_looks v fields c + each_looks fields edit (most_chosen v fields c)
 
 abbrev pub most_query_looks : Volume → Pairs → Chosen → ChosenQuery → ℕ
-most_query_looks v fields c query = choosing_looks v fields c + asking_looks query (range_looks_of v c.traces)
+most_query_looks v fields c query = choosing_looks v fields c + asking_looks query (most_chosen v fields c)
 
 -- the most traces that an edit looks at; a geometry name bound anew gives each trace another record, and a field
 -- without a place, a trace that is not there, or a number that the records tell, none

@@ -101,3 +101,11 @@ module _ (s : State) (v : Volume) (pairs : Pairs) (c : Chosen) (q : ChosenQuery)
       each_told (Err fault) ok (inl is) = subst (λ (f : AskFault). IsReply s (OfChosen c q) (Err f)) (sym is) (wants free)
       each_told (Err fault) ok (inr (inl read)) = fails on_disk fault disk (subst (λ (n : ℕ). 0 < n) (sym (looks_chosen v pairs c q ps found)) (omega (arith, read.1))) read.0
       each_told (Err fault) ok (inr (inr is)) = inl (sym (answered ∙ is sure))
+
+      -- the same, told of the volume as it is after the choice
+      pub each_told_after : (w : Volume) (stays : Bool) → w ≡ v → stays ≡ on_disk → (r : Reply) → IfOk r (λ a. P → answer_of_each w pairs q ps ≡ Ok a)
+          → IfErr r (λ fault. (fault ≡ OutOfMemory) ⊎ (IsReadFault stays fault × (0 < asking_looks q (length ps))) ⊎ (P → answer_of_each w pairs q ps ≡ Err fault)) → IsReply s (OfChosen c q) r
+      each_told_after w stays is still r ok err =
+          each_told r (subst (λ (u : Volume). IfOk r (λ a. P → answer_of_each u pairs q ps ≡ Ok a)) is ok)
+          (subst (λ (d : Bool). IfErr r (λ fault. (fault ≡ OutOfMemory) ⊎ (IsReadFault d fault × (0 < asking_looks q (length ps))) ⊎ (P → answer_of_each v pairs q ps ≡ Err fault))) still
+          (subst (λ (u : Volume). IfErr r (λ fault. (fault ≡ OutOfMemory) ⊎ (IsReadFault stays fault × (0 < asking_looks q (length ps))) ⊎ (P → answer_of_each u pairs q ps ≡ Err fault))) is err))

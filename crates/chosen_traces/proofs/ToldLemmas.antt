@@ -1,14 +1,12 @@
 -- What is told of the traces that are chosen.
-use Rattle.std.proofs.Common.{◌≡◌, ◌⊎◌, ℕ, ◌+◌, ◌<◌, ◌≤◌, Bool, true, false, not, List, length, Option, Some, None, inl, inr, refl, sym, ap, ap₂, subst, ◌∙◌, arith}
-use Rattle.std.specs.Prelude.{Result, Ok, Err, IfOk, IfErr, IsTrue, option_and_then, if◌then◌else◌}
+use Rattle.std.proofs.Common.{◌≡◌, ◌⊎◌, ℕ, ◌+◌, ◌<◌, Bool, true, not, List, length, Option, Some, None, inl, inr, refl, sym, ap, ap₂, subst, ◌∙◌, arith}
+use Rattle.std.specs.Prelude.{Ok, Err, IfOk, IfErr, option_and_then, if◌then◌else◌}
 use Rattle.field_map.specs.Pairs.{Pairs}
-use Rattle.frame_cut.specs.Traces.{count_of}
 use Rattle.frame_cut.specs.Volume.{Volume}
 use Rattle.bench_rules.specs.declared.ask_fault.AskFault.{AskFault}
 use Rattle.bench_rules.specs.declared.ask_fault.AskFault.TheVariants.{NoField, NoPlace, OutOfMemory}
 use Rattle.bench_rules.specs.declared.chosen.Chosen.{Chosen}
 use Rattle.bench_rules.specs.declared.chosen_query.ChosenQuery.{ChosenQuery}
-use Rattle.bench_rules.specs.declared.chosen_query.ChosenQuery.TheVariants.{Count, Table, Find, Extremes}
 use Rattle.bench_rules.specs.declared.query.Query.TheVariants.{OfChosen}
 use Rattle.bench_rules.specs.declared.test.Test.{Test}
 use Rattle.bench_rules.specs.Answer.{answer, IsReply, Reply}
@@ -21,19 +19,12 @@ use Rattle.bench_rules.specs.ReadFaults.{IsReadFault}
 use Rattle.bench_rules.specs.State.{State}
 use Rattle.chosen_traces.specs.Choosing.{choosing_fault, fault_under, fault_without}
 
--- more traces take no fewer looks
-pub looks_more : (q : ChosenQuery) (m n : ℕ) → m ≤ n → asking_looks q m ≤ asking_looks q n
-looks_more Count m n less = omega arith
-looks_more (Table fields) m n less = less
-looks_more (Find field low high) m n less = less
-looks_more Extremes m n less = less
-
 -- the looks of a query where these are chosen
-pub looks_chosen : (v : Volume) (pairs : Pairs) (c : Chosen) (q : ChosenQuery) (ps : List ℕ) → chosen v pairs c ≡ Some ps → chosen_query_looks v pairs c q ≡ choosing_looks v pairs c + asking_looks q (length ps)
-looks_chosen v pairs c q ps e = ap (λ o. choosing_looks v pairs c + looks_at_chosen (asking_looks q) o) e
+looks-chosen : (v : Volume) (pairs : Pairs) (c : Chosen) (q : ChosenQuery) (ps : List ℕ) → chosen v pairs c ≡ Some ps → chosen_query_looks v pairs c q ≡ choosing_looks v pairs c + asking_looks q (length ps)
+looks-chosen v pairs c q ps e = ap (λ o. choosing_looks v pairs c + looks_at_chosen (asking_looks q) o) e
 
 -- what is told where the traces of the range are there
-abbrev pub after_range : Volume → Pairs → Chosen → ChosenQuery → Reply
+abbrev after_range : Volume → Pairs → Chosen → ChosenQuery → Reply
 after_range v pairs c q = if not (asks_for_fields pairs q) then Err NoField else answer_under v pairs c.traces q (tests_of pairs c.conditions)
 
 module _ (v : Volume) (pairs : Pairs) (c : Chosen) (q : ChosenQuery) where
@@ -54,9 +45,6 @@ module _ (v : Volume) (pairs : Pairs) (c : Chosen) (q : ChosenQuery) where
   with-fields : asks_for_fields pairs q ≡ true → after_range v pairs c q ≡ answer_under v pairs c.traces q (tests_of pairs c.conditions)
   with-fields has = rw has refl
 
-  without-field : asks_for_fields pairs q ≡ false → after_range v pairs c q ≡ Err NoField
-  without-field has = rw has refl
-
 -- ---- replies
 
 module _ (s : State) (v : Volume) (pairs : Pairs) (c : Chosen) (q : ChosenQuery) (o : Option AskFault)
@@ -64,16 +52,8 @@ module _ (s : State) (v : Volume) (pairs : Pairs) (c : Chosen) (q : ChosenQuery)
   answer-is : answer s (OfChosen c q) ≡ or_fault o (after_range v pairs c q)
   answer-is = ap₂ (λ u ps. chosen_answer u ps c q) same held ∙ told (after_range v pairs c q)
 
-  -- a fault of the range
-  pub range_told : (fault : AskFault) → o ≡ Some fault → IsReply s (OfChosen c q) (Err fault)
-  range_told fault e = inl (sym (answer-is ∙ ap (λ p. or_fault p (after_range v pairs c q)) e))
-
   in-range : o ≡ None → answer s (OfChosen c q) ≡ after_range v pairs c q
   in-range none = answer-is ∙ ap (λ p. or_fault p (after_range v pairs c q)) none
-
-  -- a field of the query has no place
-  pub field_told : o ≡ None → asks_for_fields pairs q ≡ false → IsReply s (OfChosen c q) (Err NoField)
-  field_told none has = inl (sym (in-range none ∙ without-field v pairs c q has))
 
   wants : range_refusal v c.traces ≡ None → IsReply s (OfChosen c q) (Err OutOfMemory)
   wants free = inr (inl (refl, (tt, inr (subst (λ (u : Volume). range_refusal u c.traces ≡ None) (sym same) free))))
@@ -99,5 +79,13 @@ module _ (s : State) (v : Volume) (pairs : Pairs) (c : Chosen) (q : ChosenQuery)
           → IfErr r (λ fault. (fault ≡ OutOfMemory) ⊎ (IsReadFault on_disk fault × (0 < asking_looks q (length ps))) ⊎ (P → answer_of_each v pairs q ps ≡ Err fault)) → IsReply s (OfChosen c q) r
       each_told (Ok a) ok err = inl (sym (answered ∙ ok sure))
       each_told (Err fault) ok (inl is) = subst (λ (f : AskFault). IsReply s (OfChosen c q) (Err f)) (sym is) (wants free)
-      each_told (Err fault) ok (inr (inl read)) = fails on_disk fault disk (subst (λ (n : ℕ). 0 < n) (sym (looks_chosen v pairs c q ps found)) (omega (arith, read.1))) read.0
+      each_told (Err fault) ok (inr (inl read)) = fails on_disk fault disk (subst (λ (n : ℕ). 0 < n) (sym (looks-chosen v pairs c q ps found)) (omega (arith, read.1))) read.0
       each_told (Err fault) ok (inr (inr is)) = inl (sym (answered ∙ is sure))
+
+      -- the same, told of the volume as it is after the choice
+      pub each_told_after : (w : Volume) (stays : Bool) → w ≡ v → stays ≡ on_disk → (r : Reply) → IfOk r (λ a. P → answer_of_each w pairs q ps ≡ Ok a)
+          → IfErr r (λ fault. (fault ≡ OutOfMemory) ⊎ (IsReadFault stays fault × (0 < asking_looks q (length ps))) ⊎ (P → answer_of_each w pairs q ps ≡ Err fault)) → IsReply s (OfChosen c q) r
+      each_told_after w stays is still r ok err =
+          each_told r (subst (λ (u : Volume). IfOk r (λ a. P → answer_of_each u pairs q ps ≡ Ok a)) is ok)
+          (subst (λ (d : Bool). IfErr r (λ fault. (fault ≡ OutOfMemory) ⊎ (IsReadFault d fault × (0 < asking_looks q (length ps))) ⊎ (P → answer_of_each v pairs q ps ≡ Err fault))) still
+          (subst (λ (u : Volume). IfErr r (λ fault. (fault ≡ OutOfMemory) ⊎ (IsReadFault stays fault × (0 < asking_looks q (length ps))) ⊎ (P → answer_of_each u pairs q ps ≡ Err fault))) is err))

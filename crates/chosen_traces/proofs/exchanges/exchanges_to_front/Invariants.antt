@@ -1,4 +1,4 @@
-use Rattle.std.proofs.Common.{◌≡◌, ◌+◌, take}
+use Rattle.std.proofs.Common.{◌≡◌, take}
 use Rattle.chosen_traces.specs.Gathered.{pairs_from}
 use Rattle.chosen_traces.proofs.exchanges.exchanges_to_front.Given as goal
 

@@ -1,5 +1,5 @@
 -- What is told of the traces that are chosen.
-use Rattle.std.proofs.Common.{◌≡◌, ◌⊎◌, ℕ, ◌+◌, ◌<◌, Bool, true, not, List, length, Option, Some, None, inl, inr, refl, sym, ap, ap₂, subst, ◌∙◌, arith}
+use Rattle.std.proofs.Common.{◌≡◌, ◌⊎◌, ℕ, ◌+◌, ◌<◌, ◌≤◌, Bool, true, not, List, length, Option, Some, None, inl, inr, refl, sym, ap, ap₂, subst, ◌∙◌, arith}
 use Rattle.std.specs.Prelude.{Ok, Err, IfOk, IfErr, option_and_then, if◌then◌else◌}
 use Rattle.field_map.specs.Pairs.{Pairs}
 use Rattle.frame_cut.specs.Volume.{Volume}
@@ -7,12 +7,13 @@ use Rattle.bench_rules.specs.declared.ask_fault.AskFault.{AskFault}
 use Rattle.bench_rules.specs.declared.ask_fault.AskFault.TheVariants.{NoField, NoPlace, OutOfMemory}
 use Rattle.bench_rules.specs.declared.chosen.Chosen.{Chosen}
 use Rattle.bench_rules.specs.declared.chosen_query.ChosenQuery.{ChosenQuery}
+use Rattle.bench_rules.specs.declared.chosen_query.ChosenQuery.TheVariants as about
 use Rattle.bench_rules.specs.declared.query.Query.TheVariants.{OfChosen}
 use Rattle.bench_rules.specs.declared.test.Test.{Test}
 use Rattle.bench_rules.specs.Answer.{answer, IsReply, Reply}
 use Rattle.bench_rules.specs.ChosenQueries.{answer_of_chosen, answer_of_each, answer_under, asks_for_fields, chosen_answer, of_range}
 use Rattle.bench_rules.specs.Conditions.{chosen, chosen_among, range_of, tests_of}
-use Rattle.bench_rules.specs.Looks.{asking_looks, choosing_looks, chosen_query_looks, looks_at_chosen}
+use Rattle.bench_rules.specs.Looks.{asking_looks, choosing_looks, chosen_query_looks, looks_at_chosen, most_chosen, most_query_looks}
 use Rattle.bench_rules.specs.RangeFaults.{or_fault}
 use Rattle.bench_rules.specs.RangeRefusals.{range_refusal}
 use Rattle.bench_rules.specs.ReadFaults.{IsReadFault}
@@ -22,6 +23,13 @@ use Rattle.chosen_traces.specs.Choosing.{choosing_fault, fault_under, fault_with
 -- the looks of a query where these are chosen
 looks-chosen : (v : Volume) (pairs : Pairs) (c : Chosen) (q : ChosenQuery) (ps : List ℕ) → chosen v pairs c ≡ Some ps → chosen_query_looks v pairs c q ≡ choosing_looks v pairs c + asking_looks q (length ps)
 looks-chosen v pairs c q ps e = ap (λ o. choosing_looks v pairs c + looks_at_chosen (asking_looks q) o) e
+
+-- more traces are no fewer looks
+asking-more : (q : ChosenQuery) (n m : ℕ) → n ≤ m → asking_looks q n ≤ asking_looks q m
+asking-more about.Count n m less = omega arith
+asking-more (about.Table fields) n m less = less
+asking-more (about.Find field low high) n m less = less
+asking-more about.Extremes n m less = less
 
 -- what is told where the traces of the range are there
 abbrev after_range : Volume → Pairs → Chosen → ChosenQuery → Reply
@@ -58,9 +66,9 @@ module _ (s : State) (v : Volume) (pairs : Pairs) (c : Chosen) (q : ChosenQuery)
   wants : range_refusal v c.traces ≡ None → IsReply s (OfChosen c q) (Err OutOfMemory)
   wants free = inr (inl (refl, (tt, inr (subst (λ (u : Volume). range_refusal u c.traces ≡ None) (sym same) free))))
 
-  fails : (on_disk : Bool) (fault : AskFault) → s.on_disk ≡ on_disk → 0 < chosen_query_looks v pairs c q → IsReadFault on_disk fault → IsReply s (OfChosen c q) (Err fault)
+  fails : (on_disk : Bool) (fault : AskFault) → s.on_disk ≡ on_disk → 0 < most_query_looks v pairs c q → IsReadFault on_disk fault → IsReply s (OfChosen c q) (Err fault)
   fails on_disk fault disk some read =
-      let looks : chosen_query_looks s.volume s.fields c q ≡ chosen_query_looks v pairs c q = ap₂ (λ u ps. chosen_query_looks u ps c q) same held in
+      let looks : most_query_looks s.volume s.fields c q ≡ most_query_looks v pairs c q = ap₂ (λ u ps. most_query_looks u ps c q) same held in
       inr (inr (subst (λ (n : ℕ). 0 < n) (sym looks) some, subst (λ (d : Bool). IsReadFault d fault) (sym disk) read))
 
   module _ {P : Type 0} (on_disk : Bool) (disk : s.on_disk ≡ on_disk) (none : o ≡ None) (free : range_refusal v c.traces ≡ None) (has : asks_for_fields pairs q ≡ true) (sure : P) where
@@ -70,7 +78,7 @@ module _ (s : State) (v : Volume) (pairs : Pairs) (c : Chosen) (q : ChosenQuery)
     choice_told fault (inr (inl read)) = fails on_disk fault disk (omega (arith, read.1)) read.0
     choice_told fault (inr (inr is)) = inl (sym (in-range none ∙ with-fields v pairs c q has ∙ under-fault v pairs c q (tests_of pairs c.conditions) fault (is sure)))
 
-    module _ (ps : List ℕ) (found : chosen v pairs c ≡ Some ps) where
+    module _ (ps : List ℕ) (found : chosen v pairs c ≡ Some ps) (few : length ps ≤ most_chosen v pairs c) where
       answered : answer s (OfChosen c q) ≡ answer_of_each v pairs q ps
       answered = in-range none ∙ with-fields v pairs c q has ∙ under-chosen v pairs c q (tests_of pairs c.conditions) ps found
 
@@ -79,7 +87,7 @@ module _ (s : State) (v : Volume) (pairs : Pairs) (c : Chosen) (q : ChosenQuery)
           → IfErr r (λ fault. (fault ≡ OutOfMemory) ⊎ (IsReadFault on_disk fault × (0 < asking_looks q (length ps))) ⊎ (P → answer_of_each v pairs q ps ≡ Err fault)) → IsReply s (OfChosen c q) r
       each_told (Ok a) ok err = inl (sym (answered ∙ ok sure))
       each_told (Err fault) ok (inl is) = subst (λ (f : AskFault). IsReply s (OfChosen c q) (Err f)) (sym is) (wants free)
-      each_told (Err fault) ok (inr (inl read)) = fails on_disk fault disk (subst (λ (n : ℕ). 0 < n) (sym (looks-chosen v pairs c q ps found)) (omega (arith, read.1))) read.0
+      each_told (Err fault) ok (inr (inl read)) = fails on_disk fault disk (let most = asking-more q (length ps) (most_chosen v pairs c) few in omega (arith, read.1, most)) read.0
       each_told (Err fault) ok (inr (inr is)) = inl (sym (answered ∙ is sure))
 
       -- the same, told of the volume as it is after the choice

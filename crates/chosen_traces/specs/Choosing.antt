@@ -8,7 +8,6 @@ use Rattle.bench_rules.specs.declared.chosen.Chosen.{Chosen}
 use Rattle.bench_rules.specs.declared.chosen_query.ChosenQuery.{ChosenQuery}
 use Rattle.bench_rules.specs.declared.test.Test.{Test}
 use Rattle.bench_rules.specs.Conditions.{chosen_among, range_of, tests_of}
-use Rattle.bench_rules.specs.Looks.{asking_looks, choosing_looks, looks_at, range_looks_of}
 
 -- E03 where a trace lacks a place of a condition
 abbrev pub fault_without : {X : Type 0} → Option X → Option AskFault
@@ -22,8 +21,3 @@ fault_under v range (Some tests) = fault_without (chosen_among v tests (range_of
 
 abbrev pub choosing_fault : Volume → Pairs → Chosen → Option AskFault
 choosing_fault v fields c = fault_under v c.traces (tests_of fields c.conditions)
-
--- the most looks of a query about the traces that are chosen, whatever its reads give: those that choosing takes, then those of as many traces
--- as the range has, where the conditions' fields have places
-abbrev pub most_looks : Volume → Pairs → Chosen → ChosenQuery → ℕ
-most_looks v fields c query = choosing_looks v fields c + asking_looks query (looks_at (tests_of fields c.conditions) (range_looks_of v c.traces))

@@ -7,13 +7,12 @@ ghost use Rattle.bench_rules.specs.declared.query.Query.TheVariants as queries;
 ghost use Rattle.bench_rules.specs.Answer.{IsReply, Reply};
 ghost use Rattle.bench_rules.specs.ChosenQueries.{answer_of_each, asks_for_fields as asks_for_fields_of, found_answer_of_each, of_range};
 ghost use Rattle.bench_rules.specs.Conditions.{AreRising};
-ghost use Rattle.bench_rules.specs.Looks.{asking_looks, chosen_query_looks};
+ghost use Rattle.bench_rules.specs.Looks.{asking_looks, chosen_query_looks, most_query_looks};
 ghost use Rattle.bench_rules.specs.Places.{place_in_trace as place_of_field};
 ghost use Rattle.bench_rules.specs.RangeFaults.{or_fault};
 ghost use Rattle.bench_rules.specs.RangeRefusals.{range_refusal};
 ghost use Rattle.bench_rules.specs.ReadFaults.{IsReadFault};
 ghost use Rattle.bench_rules.specs.State.{State};
-ghost use Rattle.chosen_traces.specs.Choosing.{most_looks};
 
 use crate::choosing::choose;
 use bench_rules::{Answer, AskFault, Chosen, ChosenQuery, Field, place_in_trace, range_fault};
@@ -41,7 +40,7 @@ pub fn chosen_answer(
 
     // Where the reads do not agree, others may have been chosen, but none that is not of the range.
     ensures seen { IsSeen overlay.old overlay.new
-        (most_looks overlay.old.volume map.now.pairs chosen.now query.now) }
+        (most_query_looks overlay.old.volume map.now.pairs chosen.now query.now) }
     ensures looks { IsTrue overlay.new.agreed → RisesAtMost overlay.old.looks overlay.new.looks
         (chosen_query_looks overlay.old.volume map.now.pairs chosen.now query.now) }
 {

@@ -5,7 +5,7 @@ ghost use Rattle.frame_cut.specs.Traces.{count_of, is_trace, trace_at};
 ghost use Rattle.edit_overlay.specs.CountedVolume.{IsSeen};
 ghost use Rattle.bench_rules.specs.declared.ask_fault.AskFault.TheVariants.{NoField as no_field, NoPlace as no_place, OutOfMemory as no_memory};
 ghost use Rattle.bench_rules.specs.Conditions.{chosen as chosen_traces, chosen_among, meets, tests_of as tests_of_conditions, AreRising};
-ghost use Rattle.bench_rules.specs.Looks.{choosing_looks, looks_at, range_looks_of};
+ghost use Rattle.bench_rules.specs.Looks.{choosing_looks, most_chosen};
 ghost use Rattle.bench_rules.specs.RangeRefusals.{range_refusal};
 ghost use Rattle.bench_rules.specs.ReadFaults.{IsReadFault};
 ghost use Rattle.chosen_traces.specs.Choosing.{choosing_fault};
@@ -31,9 +31,8 @@ pub fn choose(
         chosen_traces overlay.old.volume map.now.pairs chosen.now ≡ Some traces.items) }
     ensures rising { IfOk result (λ traces. AreRising 1 (count_of overlay.old.volume)
         traces.items) }
-    ensures few { IfOk result (λ traces. length traces.items ≤ looks_at
-        (tests_of_conditions map.now.pairs chosen.now.conditions)
-        (range_looks_of overlay.old.volume chosen.now.traces)) }
+    ensures few { IfOk result (λ traces. length traces.items ≤ most_chosen overlay.old.volume
+        map.now.pairs chosen.now) }
     ensures err { IfErr result (λ fault. (fault ≡ no_memory) ⊎
         (IsReadFault overlay.old.loaded.on_disk fault
         × (0 < choosing_looks overlay.old.volume map.now.pairs chosen.now)) ⊎

@@ -18,5 +18,5 @@ returns-clause-reply c = λ s same held disk sure.
     let each = c.told.ensures in
     each_told_after s c.args.overlay.now.volume c.args.map.now.pairs c.args.chosen.now c.args.query.now c.fault_of_range.result same held range.told
     c.args.overlay.now.loaded.on_disk disk c.in_default.is (range.free c.in_default.is) has sure
-    c.in-Ok.traces.items (made.ok (each.seen.agreed sure))
+    c.in-Ok.traces.items (made.ok (each.seen.agreed sure)) made.few
     c.choose.new.overlay.volume c.choose.new.overlay.loaded.on_disk made.seen.volume (ap (λ (l : Loaded). l.on_disk) made.seen.loaded) c.told.result each.ok each.err

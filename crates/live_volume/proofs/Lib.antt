@@ -6,3 +6,4 @@ mod ManyTracesLemmas
 mod CountedLemmas
 pub mod ComputedLemmas
 pub mod SortLemmas
+mod ChosenLemmas

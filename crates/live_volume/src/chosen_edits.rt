@@ -1,7 +1,7 @@
 // Edits of the traces that conditions choose. Numbers are given to them by the edits of traces that
 // follow one another: they are brought to the front of the file, in their order, and afterwards all
 // back to where they stood.
-ghost use Rattle.std.specs.Prelude.{◌≡◌, ◌*◌, length, true, None, is_some, IsTrue, IfOk, IfErr, OnOk, OnErr};
+ghost use Rattle.std.specs.Prelude.{◌≡◌, ◌*◌, ◌<◌, length, true, None, is_some, IsTrue, IfOk, IfErr, OnOk, OnErr};
 ghost use Rattle.frame_cut.specs.Cuts.{IsCut};
 ghost use Rattle.frame_cut.specs.Traces.{count_of};
 ghost use Rattle.edit_overlay.specs.CountedVolume.{RisesAtMost};
@@ -110,9 +110,10 @@ impl LiveVolume {
         ensures cut { OnOk result (IsTrue self.new.agreed → IsCut (bytes_after_each
             self.old.state.volume self.old.state.fields edit.now traces.now)
             self.old.state.reading self.old.state.limits self.new.state.volume) }
-        ensures fields { self.new.state.fields ≡ self.old.state.fields }
-        ensures err { IfErr result (λ refusal. IsRefusedFor self.old.state edit.now traces.now
-            self.new.agreed refusal) }
+        ensures fields { OnOk result (IsTrue self.new.agreed →
+            self.new.state.fields ≡ self.old.state.fields) }
+        ensures err { IfErr result (λ refusal. IsTrue self.new.agreed →
+            IsRefusedFor self.old.state edit.now traces.now refusal) }
         ensures unchanged { OnErr result (self.new.state ≡ self.old.state) }
         ensures same { IsReadAs self.old.state self.new.state }
         ensures agreed { IsTrue self.new.agreed → IsTrue self.old.agreed }
@@ -120,6 +121,10 @@ impl LiveVolume {
         ensures looks { RisesAtMost self.old.looks self.new.looks
             (each_looks self.old.state.fields edit.now (length traces.now)) }
     {
+        self.stands();
+        if traces.is_empty() {
+            return Ok(());
+        }
         match edit {
             ChosenEdit::Nothing(_) => Ok(()),
             ChosenEdit::Renumber {
@@ -156,6 +161,7 @@ impl LiveVolume {
         step: i128,
     ) -> Result<(), Refusal>
         requires rising { AreRising 1 (count_of self.old.state.volume) traces.now }
+        requires some { 0 < length traces.now }
         requires field { is_some (place_of_field self.old.state.fields field.now) ≡ true }
         ensures none { OnOk result (IsTrue self.new.agreed → refusal_of_edit
             self.old.state.volume self.old.state.fields
@@ -164,9 +170,10 @@ impl LiveVolume {
             self.old.state.volume self.old.state.fields
             (chosen_edits.Renumber field.now first step) traces.now)
             self.old.state.reading self.old.state.limits self.new.state.volume) }
-        ensures fields { self.new.state.fields ≡ self.old.state.fields }
-        ensures err { IfErr result (λ refusal. IsRefusedFor self.old.state
-            (chosen_edits.Renumber field.now first step) traces.now self.new.agreed refusal) }
+        ensures fields { OnOk result (IsTrue self.new.agreed →
+            self.new.state.fields ≡ self.old.state.fields) }
+        ensures err { IfErr result (λ refusal. IsTrue self.new.agreed → IsRefusedFor
+            self.old.state (chosen_edits.Renumber field.now first step) traces.now refusal) }
         ensures unchanged { OnErr result (self.new.state ≡ self.old.state) }
         ensures same { IsReadAs self.old.state self.new.state }
         ensures agreed { IsTrue self.new.agreed → IsTrue self.old.agreed }
@@ -175,10 +182,10 @@ impl LiveVolume {
             self.old.state.fields (chosen_edits.Renumber field.now first step)
             (length traces.now)) }
     {
-        if traces.is_empty() {
-            return Ok(());
-        }
         self.stands();
+
+        // Read for the proof alone, which learns that the traces are counted in 32 bits.
+        let _count = self.count();
         let forth = exchanges_to_front(alloc, traces)?;
         let back = exchanges_back(alloc, traces)?;
         self.exchange_pairs(forth);
@@ -200,6 +207,7 @@ impl LiveVolume {
         steps: &[(Operator, Operand)],
     ) -> Result<(), Refusal>
         requires rising { AreRising 1 (count_of self.old.state.volume) traces.now }
+        requires some { 0 < length traces.now }
         requires fields { is_some (formula_of self.old.state.fields field.now source.now steps.now)
             ≡ true }
         ensures none { OnOk result (IsTrue self.new.agreed → refusal_of_edit
@@ -209,9 +217,10 @@ impl LiveVolume {
             self.old.state.volume self.old.state.fields
             (chosen_edits.Compute field.now source.now steps.now) traces.now)
             self.old.state.reading self.old.state.limits self.new.state.volume) }
-        ensures fields { self.new.state.fields ≡ self.old.state.fields }
-        ensures err { IfErr result (λ refusal. IsRefusedFor self.old.state
-            (chosen_edits.Compute field.now source.now steps.now) traces.now self.new.agreed
+        ensures fields { OnOk result (IsTrue self.new.agreed →
+            self.new.state.fields ≡ self.old.state.fields) }
+        ensures err { IfErr result (λ refusal. IsTrue self.new.agreed → IsRefusedFor
+            self.old.state (chosen_edits.Compute field.now source.now steps.now) traces.now
             refusal) }
         ensures unchanged { OnErr result (self.new.state ≡ self.old.state) }
         ensures same { IsReadAs self.old.state self.new.state }
@@ -219,10 +228,10 @@ impl LiveVolume {
         ensures loaded { self.new.loaded ≡ self.old.loaded }
         ensures looks { RisesAtMost self.old.looks self.new.looks (2 * length traces.now) }
     {
-        if traces.is_empty() {
-            return Ok(());
-        }
         self.stands();
+
+        // Read for the proof alone, which learns that the traces are counted in 32 bits.
+        let _count = self.count();
         let forth = exchanges_to_front(alloc, traces)?;
         let back = exchanges_back(alloc, traces)?;
         self.exchange_pairs(forth);

@@ -21,7 +21,7 @@ use Rattle.bench_rules.specs.declared.operator.Operator.{Operator}
 use Rattle.bench_rules.specs.declared.refusal.Refusal.{Refusal}
 use Rattle.bench_rules.specs.declared.refusal.Refusal.TheVariants as refusals
 use Rattle.bench_rules.specs.ChosenEdits.{bytes_after_each, refusal_of_edit}
-use Rattle.bench_rules.specs.Computed.{Formula, applied, chained, chained_from, compute_refusal, compute_refusal_in, computed_in, computed_numbers, divides, first_at, formula_of, in_range, is_in_range, refusal_of_result, stepped, steps_in, term_in, unless_refused}
+use Rattle.bench_rules.specs.Computed.{Formula, applied, chained, chained_from, compute_refusal, compute_refusal_in, computed_in, computed_numbers, divides, first_at, formula_of, is_in_range, refusal_of_result, stepped, steps_in, term_in, unless_refused}
 use Rattle.bench_rules.specs.ComputedBytes.{bytes_after_compute}
 use Rattle.bench_rules.specs.Conditions.{AreRising}
 use Rattle.bench_rules.specs.Refused.{changes_length, first_refusal, set_refusal, with_value}

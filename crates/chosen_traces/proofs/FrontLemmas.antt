@@ -1,19 +1,18 @@
 -- An edit of the first traces of a file, to which chosen ones were brought, is the edit of the chosen traces once all are brought back.
-use Rattle.std.proofs.Common.{◌≡◌, ◌≢◌, ℕ, ℤ, pos, zero, suc, ◌+◌, ◌-◌, ◌<◌, ◌≤◌, Bool, true, false, List, [], ◌∷◌, ◌++◌, length, map, get_or, set, Option, Some, None, Ok, Err, refl, sym, ap, ap₂, subst, ◌∙◌, arith}
-use Rattle.std.specs.Prelude.{is_some, Result}
-use Rattle.std.specs.List.{range_with_len, swap}
+use Rattle.std.proofs.Common.{◌≡◌, ℕ, ℤ, zero, suc, ◌+◌, ◌-◌, ◌<◌, ◌≤◌, true, false, List, [], ◌∷◌, ◌++◌, length, map, get_or, set, Option, Some, None, refl, sym, ap, ap₂, subst, ◌∙◌, arith}
+use Rattle.std.specs.Prelude.{is_some}
+use Rattle.std.specs.List.{swap}
 use Rattle.std.specs.Option.{option_or}
-use Rattle.std.proofs.lemmas.List.{length-map}
 use Rattle.std.proofs.lemmas.List.Edits.{length-swap}
 use Rattle.field_map.specs.declared.place.Place.{Place}
 use Rattle.frame_cut.specs.declared.file_head.Head.{Head}
 use Rattle.frame_cut.specs.Cuts.{IsCut}
 use Rattle.frame_cut.specs.Traces.{count_of, trace_at}
-use Rattle.frame_cut.specs.Volume.{Volume, bytes_of}
+use Rattle.frame_cut.specs.Volume.{Volume}
 use Rattle.frame_cut.proofs.OneCutLemmas.{at_most_one_cut}
 use Rattle.trace_store.specs.Swapped.{with_swapped, with_places_swapped, ArePlaces}
 use Rattle.bench_rules.specs.declared.chosen_edit.ChosenEdit.TheVariants as each
-use Rattle.bench_rules.specs.declared.edit.Edit.TheVariants.{Renumber, Compute}
+use Rattle.bench_rules.specs.declared.edit.Edit.TheVariants.{Renumber}
 use Rattle.bench_rules.specs.declared.field.Field.{Field}
 use Rattle.bench_rules.specs.declared.refusal.Refusal.{Refusal}
 use Rattle.bench_rules.specs.ChosenEdits.{bytes_after_each, counted_each, refusal_of_edit}
@@ -22,7 +21,7 @@ use Rattle.bench_rules.specs.Places.{place_in_trace}
 use Rattle.bench_rules.specs.Refused.{first_refusal, first_refusal_among, set_refusal, with_value}
 use Rattle.bench_rules.specs.State.{State}
 use Rattle.bench_rules.specs.Steps.{IsAfter}
-use Rattle.bench_rules.specs.TraceEdits.{bytes_after_renumber, counted, numbers, put_each}
+use Rattle.bench_rules.specs.TraceEdits.{bytes_after_renumber, counted, numbers}
 use Rattle.bench_rules.proofs.ChosenLemmas.{counted_listed, rising-earlier, rising-few}
 use Rattle.bench_rules.proofs.FirstLemmas.{by_traces}
 use Rattle.bench_rules.proofs.ListedLemmas.{listed_cut, with_listed}
@@ -31,7 +30,7 @@ use Rattle.bench_rules.proofs.RenumberLemmas.{accepted_from}
 use Rattle.bench_rules.proofs.SortLemmas.{cut_permuted}
 use Rattle.many_traces.proofs.SortedTraceLemmas.{swapped-permutes}
 use Rattle.chosen_traces.specs.Gathered.{pairs_from, pairs_back}
-use Rattle.chosen_traces.proofs.GatheredLemmas.{at-first, brought_back, changed, changed_in_front, elsewhere, firsts, in_front, swapped-long, swapped-read}
+use Rattle.chosen_traces.proofs.GatheredLemmas.{at-first, changed, changed_in_front, elsewhere, firsts, in_front, swapped-long, swapped-read}
 
 -- ---- what stands in front
 

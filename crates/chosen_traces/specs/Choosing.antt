@@ -1,11 +1,10 @@
 -- Why no traces are chosen, and how often traces are looked at. Traces are counted from 1.
-use Rattle.std.specs.Prelude.{ℕ, ◌+◌, List, Option, Some, None}
+use Rattle.std.specs.Prelude.{ℕ, List, Option, Some, None}
 use Rattle.field_map.specs.Pairs.{Pairs}
 use Rattle.frame_cut.specs.Volume.{Volume}
 use Rattle.bench_rules.specs.declared.ask_fault.AskFault.{AskFault}
 use Rattle.bench_rules.specs.declared.ask_fault.AskFault.TheVariants.{NoField, NoPlace}
 use Rattle.bench_rules.specs.declared.chosen.Chosen.{Chosen}
-use Rattle.bench_rules.specs.declared.chosen_query.ChosenQuery.{ChosenQuery}
 use Rattle.bench_rules.specs.declared.test.Test.{Test}
 use Rattle.bench_rules.specs.Conditions.{chosen_among, range_of, tests_of}
 

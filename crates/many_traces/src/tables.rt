@@ -61,9 +61,9 @@ pub fn table(
     }
 }
 
-/// These fields of each of these traces, which rise. Looks at each of them once at most, and at none
-/// where a field has no place. Refused: E02, then E03 where one of the traces lacks a place; E11 may
-/// come in the place of E03. On disk also where a trace could not be read (E14, E15).
+/// These fields of each of these traces, which rise. Looks at each of them once at most, and at
+/// none where a field has no place. Refused: E02, then E03 where one of the traces lacks a place;
+/// E11 may come in the place of E03. On disk also where a trace could not be read (E14, E15).
 pub fn table_among(
     alloc: Global,
     overlay: &mut Overlay<PackedRecord>,

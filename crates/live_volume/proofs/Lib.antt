@@ -7,3 +7,4 @@ mod CountedLemmas
 pub mod ComputedLemmas
 pub mod SortLemmas
 mod ChosenLemmas
+mod ChosenEachLemmas

@@ -1,7 +1,7 @@
 -- Edits of chosen traces one after another, and what the whole edit tells.
 -- Edits of chosen traces one after another, and what the whole edit tells.
 use Rattle.std.proofs.Common.{◌≡◌, ◌⊎◌, ℕ, zero, suc, ◌+◌, ◌-◌, ◌*◌, ◌<◌, ◌≤◌, Bool, true, false, ◌&&◌, leb, List, [], ◌∷◌, length, drop, IsTrue, Option, Some, None, Ok, Err, inl, inr, refl, sym, ap, subst, ◌∙◌, arith}
-use Rattle.std.specs.Prelude.{get_or, Result, if◌then◌else◌}
+use Rattle.std.specs.Prelude.{get_or, Result, IsErr, IsErrAnd, if◌then◌else◌}
 use Rattle.std.proofs.lemmas.Bool.{le-leb}
 use Rattle.field_map.specs.declared.place.Place.{Place}
 use Rattle.field_map.specs.Pairs.{Pairs}
@@ -130,13 +130,13 @@ module _ (s : State) (c : Chosen) (edit : ChosenEdit) (free : range_refusal s.vo
   read-so fault (disk, inr is) = (disk, inr (ap refusal_for is))
 
   -- no traces are chosen
-  pub choice_told : (T : Type 0) (new : State) (fault : AskFault) → new ≡ s
-      → (fault ≡ asks.OutOfMemory) ⊎ (IsReadFault s.on_disk fault × (0 < choosing_looks s.volume s.fields c)) ⊎ (choosing_fault s.volume s.fields c ≡ Some fault)
+  pub choice_told : {P : Type 0} (T : Type 0) (new : State) (fault : AskFault) → P → new ≡ s
+      → (fault ≡ asks.OutOfMemory) ⊎ (IsReadFault s.on_disk fault × (0 < choosing_looks s.volume s.fields c)) ⊎ (P → choosing_fault s.volume s.fields c ≡ Some fault)
       → (let r : Result T Refusal = Err (refusal_for fault) in Step s (OfChosen c edit) r new)
-  choice_told T new fault same (inl is) =
+  choice_told T new fault sure same (inl is) =
       subst (λ (f : AskFault). let r : Result T Refusal = Err (refusal_for f) in Step s (OfChosen c edit) r new) (sym is) (wants T new same)
-  choice_told T new fault same (inr (inl read)) = told_of_read T s new (OfChosen c edit) (refusal_for fault) (omega (arith, read.1)) (read-so fault read.0) same
-  choice_told T new fault same (inr (inr is)) = told_first T s new (OfChosen c edit) (refusal_for fault) (first-fault fault is) same
+  choice_told T new fault sure same (inr (inl read)) = told_of_read T s new (OfChosen c edit) (refusal_for fault) (omega (arith, read.1)) (read-so fault read.0) same
+  choice_told T new fault sure same (inr (inr is)) = told_first T s new (OfChosen c edit) (refusal_for fault) (first-fault fault (is sure)) same
 
   module _ (ps : List ℕ) (found : chosen s.volume s.fields c ≡ Some ps) where
     -- those that are chosen are not edited
@@ -148,6 +148,12 @@ module _ (s : State) (c : Chosen) (edit : ChosenEdit) (free : range_refusal s.vo
         let more = each-more s.fields edit (length ps) (most_chosen s.volume s.fields c) few in
         told_of_read T s new (OfChosen c edit) refusal (omega (arith, read.1, more)) read.0 same
     each_told T new refusal few same (inr (inr is)) = told_first T s new (OfChosen c edit) refusal (chosen_first s c edit ps free has found ∙ is) same
+
+    -- as it comes back
+    pub each_refused : {T : Type 0} (new : State) (refusal : Refusal) (r : Result T Refusal) → IsErr r → IsErrAnd r (λ e. e ≡ refusal) → length ps ≤ most_chosen s.volume s.fields c → new ≡ s
+        → IsRefusedFor s edit ps refusal → Step s (OfChosen c edit) r new
+    each_refused new refusal (Ok x) err is few same told = absurd is
+    each_refused new refusal (Err e) err is few same told = each_told _ new e few same (subst (λ (f : Refusal). IsRefusedFor s edit ps f) (sym is) told)
 
     -- those that are chosen are edited
     pub each_done : (T : Type 0) (new : State) (x : T) → refusal_of_edit s.volume s.fields edit ps ≡ None → IsCut (bytes_after_each s.volume s.fields edit ps) s.reading s.limits new.volume

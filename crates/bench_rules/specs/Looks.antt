@@ -89,10 +89,11 @@ abbrev pub looks_at_chosen : (ℕ → ℕ) → Option (List ℕ) → ℕ
 looks_at_chosen looks None = 0
 looks_at_chosen looks (Some ps) = looks (length ps)
 
--- the looks of an edit of the traces that are chosen, and of a query about them
+-- the looks of an edit of the traces that are chosen
 abbrev pub chosen_edit_looks : Volume → Pairs → Chosen → ChosenEdit → ℕ
 chosen_edit_looks v fields c edit = choosing_looks v fields c + looks_at_chosen (each_looks fields edit) (chosen v fields c)
 
+-- the looks of a query about them
 abbrev pub chosen_query_looks : Volume → Pairs → Chosen → ChosenQuery → ℕ
 chosen_query_looks v fields c query = choosing_looks v fields c + looks_at_chosen (asking_looks query) (chosen v fields c)
 
@@ -100,10 +101,11 @@ chosen_query_looks v fields c query = choosing_looks v fields c + looks_at_chose
 abbrev pub most_chosen : Volume → Pairs → Chosen → ℕ
 most_chosen v fields c = looks_at (tests_of fields c.conditions) (range_looks_of v c.traces)
 
--- the most looks of both, whatever is read
+-- the most looks of an edit of chosen traces, whatever is read
 abbrev pub most_edit_looks : Volume → Pairs → Chosen → ChosenEdit → ℕ
 most_edit_looks v fields c edit = choosing_looks v fields c + each_looks fields edit (most_chosen v fields c)
 
+-- the most looks of a query about them
 abbrev pub most_query_looks : Volume → Pairs → Chosen → ChosenQuery → ℕ
 most_query_looks v fields c query = choosing_looks v fields c + asking_looks query (most_chosen v fields c)
 

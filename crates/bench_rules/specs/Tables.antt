@@ -23,10 +23,11 @@ abbrev pub position_in : Option (Vec ℕ Global) → (first k : ℕ) → ℕ
 position_in None first k = first + k
 position_in (Some ps) first k = slice_index ps.items k
 
--- the rows of a table
+-- the rows of a table of so many traces, with so many numbers each
 abbrev pub rows_of : Option (Vec ℕ Global) → (first count width : ℕ) → List ℤ → List (ℕ × List ℤ)
 rows_of listed first count width xs = map (λ k. (position_in listed first k, take width (drop (width * k) xs))) (range_with_len 0 count)
 
+-- the rows of the table that is held
 abbrev pub rows_in : Inside → List (ℕ × List ℤ)
 rows_in t = rows_of t.listed t.first t.count t.width t.numbers.items
 

@@ -1,4 +1,4 @@
--- Why no traces are chosen, and how often traces are looked at. Traces are counted from 1.
+-- Why no traces are chosen. Traces are counted from 1.
 use Rattle.std.specs.Prelude.{ℕ, List, Option, Some, None}
 use Rattle.field_map.specs.Pairs.{Pairs}
 use Rattle.frame_cut.specs.Volume.{Volume}
@@ -18,5 +18,6 @@ abbrev pub fault_under : Volume → Option (ℕ × ℕ) → Option (List Test) �
 fault_under v range None = Some NoField
 fault_under v range (Some tests) = fault_without (chosen_among v tests (range_of range))
 
+-- why the traces of a range cannot be chosen, where they are there
 abbrev pub choosing_fault : Volume → Pairs → Chosen → Option AskFault
 choosing_fault v fields c = fault_under v c.traces (tests_of fields c.conditions)

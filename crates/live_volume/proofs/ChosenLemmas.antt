@@ -8,6 +8,7 @@ use Rattle.frame_cut.specs.Cuts.{IsCut}
 use Rattle.frame_cut.specs.Traces.{count_of}
 use Rattle.frame_cut.specs.Volume.{Volume, bytes_of}
 use Rattle.trace_store.specs.Swapped.{with_places_swapped, ArePlaces}
+use Rattle.edit_overlay.specs.CountedVolume.{RisesAtMost}
 use Rattle.bench_rules.specs.declared.chosen_edit.ChosenEdit.{ChosenEdit}
 use Rattle.bench_rules.specs.declared.chosen_edit.ChosenEdit.TheVariants as each
 use Rattle.bench_rules.specs.declared.edit.Edit.{Edit}
@@ -34,7 +35,10 @@ use Rattle.chosen_traces.specs.Retold.{retold}
 use Rattle.chosen_traces.proofs.ComputedFrontLemmas.{compute-back, compute-refused}
 use Rattle.chosen_traces.proofs.FrontLemmas.{front-count, renumber-back, renumber-refused, with_front}
 use Rattle.chosen_traces.proofs.GatheredLemmas.{brought_back}
+use Rattle.frame_cut.specs.Parts.{with_each}
+use Rattle.volume_records.proofs.EachLemmas.{length-put_each}
 use Rattle.live_volume.specs.Chosen.{IsRefusedFor}
+use Rattle.live_volume.specs.Refusals.{IsOfMachine}
 
 -- ---- no traces
 
@@ -67,6 +71,14 @@ pub is_nothing : (ps : List ℕ) → length ps ≡ 0 → ps ≡ []
 is_nothing [] e = refl
 is_nothing (p ∷ ps) e = absurd (omega (arith, e))
 
+-- ---- the count
+
+-- numbers laid over traces leave as many of them
+pub counted_either : {T : Type 0} (r : Result T Refusal) (on_disk : Bool) (old new : State) (a at size : ℕ) (bs : List ℕ)
+    → OnOk r (new ≡ record old { volume = with_each old.volume a at size bs }) → IfErr r (λ refusal. IsOfMachine on_disk refusal × (new ≡ old)) → count_of new.volume ≡ count_of old.volume
+counted_either (Ok x) on_disk old new a at size bs ok err = ap (λ (s : State). count_of s.volume) ok ∙ length-put_each old.volume.traces (a - 1) at size bs
+counted_either (Err e) on_disk old new a at size bs ok err = ap (λ (s : State). count_of s.volume) err.1
+
 -- ---- the step in front
 
 -- an edit that was done was not refused
@@ -75,16 +87,27 @@ taken (Some r) old new edit x e step = absurd step
 taken None old new edit x e step = (e, step)
 
 -- and one that was refused met a refusal, or want of memory, or a read that failed
-pub refused : {T : Type 0} (o : Option Refusal) (old new : State) (edit : Edit) (r : Refusal) → first_refusal old edit ≡ o → (let e : Result T Refusal = Err r in StepUnless o old edit e new)
+pub refused : (T : Type 0) (o : Option Refusal) (old new : State) (edit : Edit) (r : Refusal) → first_refusal old edit ≡ o → (let e : Result T Refusal = Err r in StepUnless o old edit e new)
     → (r ≡ OutOfMemory) ⊎ FailsToRead old edit r ⊎ (first_refusal old edit ≡ Some r)
-refused (Some x) old new edit r e (inl is, same) = by (told_is old edit x r is)
+refused T (Some x) old new edit r e (inl is, same) = by (told_is old edit x r is)
   where
     by : (r ≡ x) ⊎ (r ≡ OutOfMemory) → (r ≡ OutOfMemory) ⊎ FailsToRead old edit r ⊎ (first_refusal old edit ≡ Some r)
     by (inl told) = inr (inr (e ∙ ap (λ (y : Refusal). let o : Option Refusal = Some y in o) (sym told)))
     by (inr want) = inl want
-refused (Some x) old new edit r e (inr read, same) = inr (inl read)
-refused None old new edit r e (inl want, same) = inl want.0
-refused None old new edit r e (inr read, same) = inr (inl read)
+refused T (Some x) old new edit r e (inr read, same) = inr (inl read)
+refused T None old new edit r e (inl want, same) = inl want.0
+refused T None old new edit r e (inr read, same) = inr (inl read)
+
+-- the traces are in front, and then back
+pub front_is : (s s1 : State) (ps : List ℕ) (pairs : List (ℕ × ℕ)) → s1 ≡ record s { volume = with_places_swapped s.volume pairs } → pairs ≡ pairs_from 1 ps → s1 ≡ with_front s ps
+front_is s s1 ps pairs is same = is ∙ ap (λ (qs : List (ℕ × ℕ)). let u : State = record s { volume = with_places_swapped s.volume qs } in u) same
+
+pub back_is : (s2 s3 : State) (ps : List ℕ) (pairs : List (ℕ × ℕ)) → s3 ≡ record s2 { volume = with_places_swapped s2.volume pairs } → pairs ≡ pairs_back 1 ps → s3 ≡ record s2 { volume = with_places_swapped s2.volume (pairs_back 1 ps) }
+back_is s2 s3 ps pairs is same = is ∙ ap (λ (qs : List (ℕ × ℕ)). let u : State = record s2 { volume = with_places_swapped s2.volume qs } in u) same
+
+-- the exchanges look at none
+pub risen : (a b c d n m : ℕ) → b ≡ a → d ≡ c → n ≡ m → RisesAtMost b c n → RisesAtMost a d m
+risen a b c d n m e f g rises = (omega (arith, e, f, rises.0), omega (arith, e, f, g, rises.1))
 
 -- all are brought back
 pub back_again : (s s1 s2 s3 : State) (ps : List ℕ) → AreRising 1 (count_of s.volume) ps → s1 ≡ with_front s ps → s2 ≡ s1 → s3 ≡ record s2 { volume = with_places_swapped s2.volume (pairs_back 1 ps) } → s3 ≡ s
@@ -120,8 +143,8 @@ module _ (s s1 s2 : State) (ps : List ℕ) (up : AreRising 1 (count_of s.volume)
         let after : IsAfter (with_front s ps) (Renumber 1 n f first step) s2 = rw front at is.1 in
         (sym (renumber-refused s ps up some f first step) ∙ none, renumber-back s ps up some f first step s2 read has none after, after.fields)
 
-    pub renumber_told : {T : Type 0} (r : Refusal) → (let e : Result T Refusal = Err r in Step s1 (Renumber 1 n f first step) e s2) → IsRefusedFor s (each.Renumber f first step) ps r
-    renumber_told r done = by (refused (first_refusal s1 (Renumber 1 n f first step)) s1 s2 (Renumber 1 n f first step) r refl done)
+    pub renumber_told : (T : Type 0) (r : Refusal) → (let e : Result T Refusal = Err r in Step s1 (Renumber 1 n f first step) e s2) → IsRefusedFor s (each.Renumber f first step) ps r
+    renumber_told T r done = by (refused T (first_refusal s1 (Renumber 1 n f first step)) s1 s2 (Renumber 1 n f first step) r refl done)
       where
         by : (r ≡ OutOfMemory) ⊎ FailsToRead s1 (Renumber 1 n f first step) r ⊎ (first_refusal s1 (Renumber 1 n f first step) ≡ Some r) → IsRefusedFor s (each.Renumber f first step) ps r
         by (inl want) = inl want
@@ -157,8 +180,8 @@ module _ (s s1 s2 : State) (ps : List ℕ) (up : AreRising 1 (count_of s.volume)
     retold_read on_disk r (disk, inl is) = (disk, inl (ap (retold ps) is))
     retold_read on_disk r (disk, inr is) = (disk, inr (ap (retold ps) is))
 
-    pub compute_told : {T : Type 0} (r : Refusal) → (let e : Result T Refusal = Err r in Step s1 edit e s2) → IsRefusedFor s (each.Compute f source steps) ps (retold ps r)
-    compute_told r done = by (refused (first_refusal s1 edit) s1 s2 edit r refl done)
+    pub compute_told : (T : Type 0) (r : Refusal) → (let e : Result T Refusal = Err r in Step s1 edit e s2) → IsRefusedFor s (each.Compute f source steps) ps (retold ps r)
+    compute_told T r done = by (refused T (first_refusal s1 edit) s1 s2 edit r refl done)
       where
         by : (r ≡ OutOfMemory) ⊎ FailsToRead s1 edit r ⊎ (first_refusal s1 edit ≡ Some r) → IsRefusedFor s (each.Compute f source steps) ps (retold ps r)
         by (inl want) = inl (ap (retold ps) want)

@@ -125,8 +125,8 @@ impl LiveVolume {
     }
 
     /// One edit: done, and the reports follow it; or refused, and all is as it was. `Set`, `Map`,
-    /// `Patch`, `Blank`, `Copy`, `Move`, `Resize`, `Renumber`, `Compute`, `Sort` and `OfChosen` take
-    /// memory, and are refused for want of it, E11, only where nothing else refuses them;
+    /// `Patch`, `Blank`, `Copy`, `Move`, `Resize`, `Renumber`, `Compute`, `Sort` and `OfChosen`
+    /// take memory, and are refused for want of it, E11, only where nothing else refuses them;
     /// `OfChosen`, whose traces have to be listed first, in the place of any refusal but E01. On
     /// disk an edit that looks is also refused where a trace could not be read (E14, E15).
     pub fn apply(&mut self, alloc: Global, edit: &Edit) -> Result<(), Refusal>

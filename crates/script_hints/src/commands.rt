@@ -45,8 +45,8 @@ pub static COMMANDS: [&str; 41] = [
     "faults",
 ];
 
-// Their forms, in the same order: `all` stands for P and Q. They are searched: a `match` of so many texts takes minutes to
-// prove.
+// Their forms, in the same order: `all` stands for P and Q. They are searched: a `match` of so many
+// texts takes minutes to prove.
 static FORMS: [&str; 41] = [
     "set P [Q] FIELD NUMBER [where A OP B ..]",
     "get P FIELD",

@@ -6,7 +6,12 @@ pub(crate) fn place_of_where(words: &Words) -> Option<usize> {
     if !may_have_conditions(words.at(0)) {
         return None;
     }
-    (1..words.count()).find(|k| words.at(*k) == b"where".as_slice())
+    for k in 1..words.count() {
+        if words.at(k) == b"where".as_slice() {
+            return Some(k);
+        }
+    }
+    None
 }
 
 // Whether conditions may stand behind a command of this word.
@@ -50,7 +55,7 @@ const ONE_TRACE: &str = "conditions choose among the traces of a range: P Q, or 
 
 // Of what stands behind `where`.
 fn words_hint(words: &Words, place: usize) -> Option<&'static str> {
-    if place + 1 == words.count() {
+    if place.saturating_add(1) == words.count() {
         return Some("behind where stands a condition, as in where cdp = 100");
     }
     sign_hint(words)

@@ -58,7 +58,7 @@ fn line_hint(words: &Words, fault: LineFault) -> Hint {
         LineFault::Words if words.has_note() => note_behind(),
         LineFault::Words => match condition_hint(words) {
             Some(text) => Hint::Text(text),
-            None => wrong_words(&in_front_of_conditions(words)),
+            None => wrong_words(words),
         },
         LineFault::Number => match sign_hint(words) {
             Some(text) => Hint::Text(text),
@@ -84,6 +84,7 @@ fn note_behind() -> Hint {
 // Of a command with too few or too many words.
 fn wrong_words(words: &Words) -> Hint {
     match words.at(0) {
+        _ if place_of_where(words).is_some() => form_of(words),
         b"table" if !words.at(3).is_empty() => Hint::Text("a table has at most 64 fields"),
         b"compute" => text_or_form(operations_hint(words), words),
         b"sort" if !words.at(3).is_empty() => Hint::Text("a sort is by at most 8 fields"),
@@ -232,7 +233,7 @@ fn no_field(words: &Words) -> Hint {
 // Of a command in front of `where`, and else of the conditions behind it.
 fn no_field_of_conditions(words: &Words, place: usize) -> Hint {
     match no_field_of_command(&words.in_front_of(place)) {
-        Hint::None => first_unknown(words, place + 1),
+        Hint::None => first_unknown(words, place.saturating_add(1)),
         hint => hint,
     }
 }

@@ -5,7 +5,6 @@ use Rattle.std.specs.Prelude.{get_or, Result, IsErr, IsErrAnd, if◌then◌else�
 use Rattle.std.proofs.lemmas.Bool.{le-leb}
 use Rattle.field_map.specs.declared.place.Place.{Place}
 use Rattle.field_map.specs.Pairs.{Pairs}
-use Rattle.frame_cut.specs.Cuts.{IsCut}
 use Rattle.frame_cut.specs.Traces.{count_of}
 use Rattle.edit_overlay.specs.CountedVolume.{RisesAtMost}
 use Rattle.bench_rules.specs.declared.ask_fault.AskFault.{AskFault}
@@ -17,7 +16,7 @@ use Rattle.bench_rules.specs.declared.edit.Edit.TheVariants.{Delete, OfChosen}
 use Rattle.bench_rules.specs.declared.refusal.Refusal.{Refusal}
 use Rattle.bench_rules.specs.declared.refusal.Refusal.TheVariants as refusals
 use Rattle.bench_rules.specs.declared.test.Test.{Test}
-use Rattle.bench_rules.specs.ChosenEdits.{bytes_after_each, has_fields, refusal_of_chosen, refusal_of_edit, refusal_under, without_each}
+use Rattle.bench_rules.specs.ChosenEdits.{has_fields, refusal_of_chosen, refusal_under, without_each}
 use Rattle.bench_rules.specs.Conditions.{AreRising, chosen, chosen_among, range_of, tests_of}
 use Rattle.bench_rules.specs.Looks.{choosing_looks, each_looks, edit_looks, is_told, most_chosen, put_looks}
 use Rattle.bench_rules.specs.Places.{place_in_trace}
@@ -26,11 +25,11 @@ use Rattle.bench_rules.specs.RangeRefusals.{range_refusal}
 use Rattle.bench_rules.specs.ReadFaults.{IsReadFault, IsReadRefusal}
 use Rattle.bench_rules.specs.Refused.{first_refusal}
 use Rattle.bench_rules.specs.State.{State, Session}
-use Rattle.bench_rules.specs.Steps.{IsAfter, Step}
+use Rattle.bench_rules.specs.Steps.{Step}
 use Rattle.bench_rules.proofs.ChosenLemmas.{chosen_first, rising-few, without_cut}
 use Rattle.chosen_traces.specs.Choosing.{choosing_fault, fault_under, fault_without}
 use Rattle.live_volume.specs.Chosen.{IsRefusedFor}
-use Rattle.live_volume.specs.Held.{with_volume, IsReadAs}
+use Rattle.live_volume.specs.Held.{with_volume}
 use Rattle.live_volume.proofs.HeldLemmas.{told_first, told_of_read}
 
 -- ---- traces taken out
@@ -154,16 +153,3 @@ module _ (s : State) (c : Chosen) (edit : ChosenEdit) (free : range_refusal s.vo
         → IsRefusedFor s edit ps refusal → Step s (OfChosen c edit) r new
     each_refused new refusal (Ok x) err is few same told = absurd is
     each_refused new refusal (Err e) err is few same told = each_told _ new e few same (subst (λ (f : Refusal). IsRefusedFor s edit ps f) (sym is) told)
-
-    -- those that are chosen are edited
-    pub each_done : (T : Type 0) (new : State) (x : T) → refusal_of_edit s.volume s.fields edit ps ≡ None → IsCut (bytes_after_each s.volume s.fields edit ps) s.reading s.limits new.volume
-        → new.fields ≡ s.fields → IsReadAs s new → (let r : Result T Refusal = Ok x in Step s (OfChosen c edit) r new)
-    each_done T new x none cut fields same =
-        let after : IsAfter s (OfChosen c edit) new = record {
-          volume = rw found cut;
-          fields = fields;
-          reading = same.reading;
-          limits = same.limits;
-          on_disk = same.on_disk;
-        } in
-        rw (chosen_first s c edit ps free has found ∙ none) after

@@ -11,7 +11,7 @@ _segywb_tool() {
                 *' scan '*) words='--db --list --part --again --follow --jobs --workers --dask --limit --quiet --help' pictures='' ;;
                 *' merge '*) words='--db --quiet --help' pictures='' ;;
                 *' report '*) words='--db --out --csv --help' pictures='' ;;
-                *' mend '*) words='--db --script --where --out --over --in-place --keep --apply --dry-run --go-on --fixed --order --samples --format --texts --tail --limit --jobs --quiet --help' pictures='' ;;
+                *' mend '*) words='--db --script --where --out --over --in-place --keep --apply --dry-run --twice --go-on --fixed --order --samples --format --texts --tail --limit --jobs --quiet --help' pictures='' ;;
                 *' verify '*) words='--db --jobs --help' pictures='' ;;
                 *' undo '*) words='--db --run --apply --limit --jobs --help' pictures='' ;;
                 *) words='--help' ;;

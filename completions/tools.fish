@@ -33,6 +33,7 @@ complete -c segywb-library -n '__fish_seen_subcommand_from mend' -l in-place -d 
 complete -c segywb-library -n '__fish_seen_subcommand_from mend' -l keep -r -F -d 'keep the old bytes there'
 complete -c segywb-library -n '__fish_seen_subcommand_from mend undo' -l apply -d 'do it'
 complete -c segywb-library -n '__fish_seen_subcommand_from mend' -l dry-run -d 'write nothing'
+complete -c segywb-library -n '__fish_seen_subcommand_from mend' -l twice -d 'also over files that the same script has mended already'
 complete -c segywb-library -n '__fish_seen_subcommand_from mend' -l go-on -d 'save a file without its refused lines'
 complete -c segywb-library -n '__fish_seen_subcommand_from mend' -l fixed -d "read each trace with the binary header's number of samples"
 complete -c segywb-library -n '__fish_seen_subcommand_from mend' -l order -x -a 'big little' -d 'the order of bytes of a file that does not tell it'

@@ -1,6 +1,10 @@
-"""Times the scans of segywb-library, and tells the memory of its master."""
+"""Times the scans and the mends of segywb-library, and tells the memory of its master.
+
+Beside the wall clock stand the seconds of processors, of all processes together: on a machine that others use they tell more.
+"""
 
 import contextlib
+import io
 import os
 import random
 import resource
@@ -16,6 +20,7 @@ from segywb.library import cli, progress, reading, scan, schema, talk, walk
 SEED = 1
 LINKS = 20_000
 FOLDER = 1000
+MENDED = 1000
 
 
 def survey(path, inlines, crosslines, samples):
@@ -55,6 +60,19 @@ def timed(call):
     return time.perf_counter() - start
 
 
+class Spent:
+    """How long a call took by the clock, and how long processors worked at it, those of its programs too, which have ended."""
+
+    def __init__(self, call):
+        before = os.times()
+        self.seconds = timed(call)
+        self.processors = sum(after - first for after, first in zip(os.times()[:4], before[:4]))
+
+    def told(self, count):
+        """It, for so many files."""
+        return f", {self.seconds:.2f} s; {self.processors:.2f} s of processors, {1000 * self.processors / count:.3f} ms a file"
+
+
 def run(*words):
     """A command, as its own process does it."""
     assert cli.main(list(map(str, words))) == 0
@@ -71,10 +89,25 @@ def small_files(room, count):
     size = library(folder, count)
     time.sleep(0.1)
     print(f"{count:,} files, {size:,} bytes, {len(os.sched_getaffinity(0))} processors, load {os.getloadavg()[0]:.1f}")
-    seconds = timed(lambda: run("scan", "--db", database, "--quiet", folder))
-    told("scan", count / seconds, "files/s", f", {seconds:.1f} s, {database.stat().st_size / count:.0f} bytes of database a file")
-    again = min(timed(lambda: run("scan", "--db", database, "--quiet", folder)) for _ in range(3))
-    told("scan once more, nothing has changed", count / again, "files/s", f", {again:.2f} s")
+    scan = Spent(lambda: run("scan", "--db", database, "--quiet", folder))
+    told("scan", count / scan.seconds, "files/s", f"{scan.told(count)}, {database.stat().st_size / count:.0f} bytes of database a file")
+    again = min((Spent(lambda: run("scan", "--db", database, "--quiet", folder)) for _ in range(3)), key=lambda one: one.seconds)
+    told("scan once more, nothing has changed", count / again.seconds, "files/s", again.told(count))
+    mends(room, folder, database, min(count, MENDED))
+
+
+def mends(room, folder, database, count):
+    """The rates of a mend of some of these files, of a look at them all, and of the way back."""
+    (room / "fix.txt").write_text("set 1 inline 7\n")
+    words = ["--db", database, "--script", room / "fix.txt", "--where", f"id <= {count}", "--over", "--quiet"]
+    for what, more in (
+        ("a dry mend of them", ["mend", *words]), ("a mend of them", ["mend", *words, "--apply"]),
+        ("a mend of them, which is done already", ["mend", *words, "--apply"]), ("verify", ["verify", "--db", database]),
+        ("undo", ["undo", "--db", database, "--run", 1, "--apply"]),
+    ):
+        with contextlib.redirect_stdout(io.StringIO()):
+            spent = Spent(lambda words=more: run(*words))
+        told(f"{what}, {count:,} files" if what.startswith("a ") else what, count / spent.seconds, "files/s", spent.told(count))
 
 
 def large_file(room, megabytes):
@@ -90,8 +123,8 @@ def large_file(room, megabytes):
     for words in (["dd", f"if={path}", "bs=4M", "iflag=direct", "status=none"], ["cat", str(path)], ["md5sum", str(path)], ["sha256sum", str(path)]):
         seconds = min(timed(lambda: subprocess.run(words, stdout=subprocess.DEVNULL, check=True)) for _ in range(2))
         told("the disk (dd iflag=direct)" if words[0] == "dd" else words[0], size / seconds / 1e6, "MB/s")
-    seconds = min(timed(lambda: run("scan", "--db", room / "large.db", "--quiet", "--again", path)) for _ in range(2))
-    told("scan of one file: its headers, three digests", size / seconds / 1e6, "MB/s", f", {seconds:.1f} s")
+    scan = min((Spent(lambda: run("scan", "--db", room / "large.db", "--quiet", "--again", path)) for _ in range(2)), key=lambda one: one.seconds)
+    told("scan of one file: its headers, three digests", size / scan.seconds / 1e6, "MB/s", scan.told(1))
     descriptor = os.open(path, os.O_RDONLY)
     seconds = timed(lambda: reading.digests.of(descriptor, size, (3600, size), float("inf")))
     os.close(descriptor)
@@ -164,10 +197,10 @@ def master(room, folder, count, what):
             one.sweep(found.folders, found.unlisted)
             one.end()
 
-        seconds = timed(work)
+        spent = Spent(work)
         one.close()
     memory = resource.getrusage(resource.RUSAGE_SELF).ru_maxrss / 1000
-    told(f"master, {count:,} rows, {what}: peak memory", memory, "MB", f", {count / seconds:,.0f} rows/s")
+    told(f"master, {count:,} rows, {what}: peak memory", memory, "MB", f", {count / spent.seconds:,.0f} rows/s{spent.told(count)}")
 
 
 def main():

@@ -37,7 +37,7 @@ BELOW = ("SELECT path, code, count FROM problem", "SELECT path, field, least, gr
 
 def command(*words):
     """The words of a command."""
-    return [sys.executable, "-m", "segywb.library", *map(os.fspath, words)]
+    return [sys.executable, "-m", "segywb.library", *(os.fspath(word) if isinstance(word, os.PathLike) else str(word) for word in words)]
 
 
 def library(*words, status=0, **more):
@@ -74,10 +74,11 @@ def takes_interrupts():
     signal.signal(signal.SIGINT, signal.SIG_DFL)
 
 
-def started(*words, **more):
-    """Starts a command that is to be killed, or interrupted."""
+def started(*words, group=False, **more):
+    """Starts a command that is to be killed, or interrupted; with ``group`` as the first of a group of processes, as at a terminal."""
     return subprocess.Popen(
-        command(*words), env={**ENVIRONMENT, **more}, stdout=subprocess.DEVNULL, stderr=subprocess.DEVNULL, preexec_fn=takes_interrupts
+        command(*words), env={**ENVIRONMENT, **more}, stdout=subprocess.DEVNULL, stderr=subprocess.DEVNULL, preexec_fn=takes_interrupts,
+        start_new_session=group,
     )
 
 

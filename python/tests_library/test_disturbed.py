@@ -73,6 +73,32 @@ def test_a_file_that_changes(few, tmp_path, wrapped):
     assert rows(database, "SELECT state FROM file WHERE name = 'survey.sgy'") == [("refused",)]
 
 
+def test_a_file_that_goes_away_meanwhile(few, tmp_path, wrapped):
+    """Behind the listing of its folder: a row that is there says so, and no row is made of one that was never read."""
+    database = tmp_path / "lib.db"
+    library("scan", "--db", database, few)
+    (few / "new.sgy").write_bytes((few / "cube.sgy").read_bytes())
+    os.utime(few / "survey.sgy")
+    program = wrapped(f'case "$2" in --session) rm -f {few}/new.sgy {few}/survey.sgy ;; esac')
+    told = library("scan", "--db", database, few, SEGYWB=program)
+    assert "0 failed" in told and ", 1 gone" in told
+    assert rows(database, "SELECT name FROM file WHERE gone IS NOT NULL") == [("survey.sgy",)]
+    assert rows(database, "SELECT count(*) FROM file") == [(12,)]
+
+
+def test_what_a_save_has_left(few, tmp_path):
+    """The new file of a save that was killed is no file of the library, whatever is in it."""
+    data = (few / "cube.sgy").read_bytes()
+    (few / ".cube.sgy.segywb-0").write_bytes(data[:4000])
+    (few / ".twice.sgy.segywb-12").write_bytes(data)
+    (few / "cube.sgy.segywb-0").write_bytes(data)
+    database = tmp_path / "lib.db"
+    library("scan", "--db", database, few)
+    why = "new file of a save"
+    assert rows(database, "SELECT name, why FROM other ORDER BY name") == [(".cube.sgy.segywb-0", why), (".twice.sgy.segywb-12", why)]
+    assert rows(database, "SELECT count(*) FROM file") == [(13,)]
+
+
 def test_a_worker_that_dies(few, tmp_path, wrapped):
     """The file at which it died is told, the others are read."""
     database = tmp_path / "lib.db"

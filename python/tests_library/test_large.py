@@ -44,13 +44,18 @@ def test_digests_in_blocks(tmp_path, monkeypatch):
     os.close(descriptor)
 
 
-def test_a_mend_on_disk(few, tmp_path, monkeypatch):
+@pytest.mark.parametrize("more", [(), ("--in-place",)], ids=["over", "in place"])
+def test_a_mend_on_disk(few, tmp_path, monkeypatch, more):
+    """Also where the program can repair a file in place at the end of its lines alone."""
     monkeypatch.setattr(asking, "IN_MEMORY_BYTES", 0)
     library("scan", "--db", tmp_path / "lib.db", few)
     (tmp_path / "fix.txt").write_text("renumber 5 8 inline 102 0\n")
-    words = ["mend", "--db", tmp_path / "lib.db", "--script", tmp_path / "fix.txt", "--where", "name = 'wrong_line.sgy'", "--over", "--keep", tmp_path / "keep"]
-    assert "4 bytes changed" in library(*words, "--apply")
+    words = ["mend", "--db", tmp_path / "lib.db", "--script", tmp_path / "fix.txt", "--where", "name = 'wrong_line.sgy'"]
+    inode = (few / "wrong_line.sgy").stat().st_ino
+    assert "4 bytes changed" in library(*words, "--over", "--keep", tmp_path / "keep", "--apply", *more)
     assert (few / "wrong_line.sgy").read_bytes() == (few / "cube.sgy").read_bytes()
+    assert ((few / "wrong_line.sgy").stat().st_ino == inode) == bool(more)
+    assert library("verify", "--db", tmp_path / "lib.db") == "1 files are what the trail says, 0 are not\n"
     library("undo", "--db", tmp_path / "lib.db", "--run", "1", "--apply")
     assert (few / "wrong_line.sgy").read_bytes() == (TOP / "examples" / "wrong_line.sgy").read_bytes()
 

@@ -51,7 +51,7 @@ def test_dry(room):
     assert told[0] == "The old bytes are not kept: undo CANNOT take this back. --keep FOLDER keeps them."
     assert told[1:6] == [
         f"{room.folder}/cube.sgy: nothing to change", "    ok", "    faults 0",
-        f"{room.folder}/survey.sgy: refused, it stays as it is", "    refused E01 no trace 5 of 3",
+        f"{room.folder}/survey.sgy: refused, it stays as it is", "    line 1, renumber 5 8 inline 102 0: refused E01 no trace 5 of 3",
     ]
     assert f"{room.folder}/swapped.sgy: 4 bytes would change" in told
     assert f"{room.folder}/wrong_line.sgy: 4 bytes would change\n    ok\n    faults 0" in "\n".join(told)
@@ -82,7 +82,8 @@ def test_over_with_kept_bytes(room):
     assert contents(room.folder) == before
     assert rows(room.db, f"SELECT sum(count) FROM problem JOIN file ON file.id = file WHERE {WRONG}") == [(8,)]
     assert library("verify", "--db", room.db) == "2 files are what the trail says, 0 are not\n"
-    assert "run 2 took it back" in library("undo", "--db", room.db, "--run", "1", status=1)
+    told = library("undo", "--db", room.db, "--run", "1", "--apply")
+    assert told.count("run 2 took it back") == 2 and "0 not, 2 done before\nNothing was written.\n" in told
 
 
 def test_kept_bytes_are_bytes_of_the_old_file(room):
@@ -169,8 +170,10 @@ def test_below_a_folder(room, tmp_path):
     assert contents(room.folder) == before
     assert sorted(str(path.relative_to(out)) for path in out.rglob("*.sgy")) == ["float_line.sgy", "in ner/wrong_line.sgy", "wrong_line.sgy"]
     assert digest(out / "in ner" / "wrong_line.sgy") == digest(TOP / "examples" / "cube.sgy")
-    told = room.mend(FIX, WRONG, "--out", out, "--apply", status=1)
-    assert told.count("left: there is a file") == 3 and room.events(2) == [("left",)] * 3
+    told = room.mend(FIX, WRONG, "--out", out, "--apply")
+    assert told.count("run 1 has done it already") == 3 and room.events(2) == [("left",)] * 3
+    told = room.mend(FIX, WRONG, "--out", out, "--apply", "--twice", status=1)
+    assert told.count("left: there is a file") == 3 and room.events(3) == [("left",)] * 3
     assert library("verify", "--db", room.db) == "3 files are what the trail says, 0 are not\n"
     (out / "wrong_line.sgy").write_bytes(b"other")
     (out / "float_line.sgy").unlink()
@@ -218,7 +221,7 @@ def test_a_refused_line(room):
     before = contents(room.folder)
     script = "set 1 inline 7\nset 99 inline 7\nset 2 inline 7\n"
     told = room.mend(script, "name = 'cube.sgy'", "--over", "--apply", status=1)
-    assert "refused, it stays as it is\n    ok\n    refused E01 no trace 99 of 12" in told
+    assert "refused, it stays as it is\n    ok\n    line 2, set 99 inline 7: refused E01 no trace 99 of 12" in told
     assert contents(room.folder) == before and room.events(1) == [("refused",)]
     told = room.mend(script, "name = 'cube.sgy'", "--over", "--apply", "--go-on")
     assert "CANNOT" in told and "2 bytes changed" in told
@@ -327,6 +330,18 @@ def test_the_report_has_the_mends(room, tmp_path):
     room.mend(SETS, WRONG, "--over", "--apply")
     library("report", "--db", room.db, "--out", tmp_path / "page.html")
     assert "float_line.sgy" in (tmp_path / "page.html").read_text() and "<td>mend</td>" in (tmp_path / "page.html").read_text()
+
+
+def test_the_report_tells_what_was_not_done(room, tmp_path):
+    """Refused and left files with the reason; what an earlier run has done is no trouble."""
+    room.mend("delete 12\n", "name IN ('cube.sgy', 'survey.sgy')", "--over", "--apply", status=1)
+    room.mend("delete 12\n", "name = 'cube.sgy'", "--over", "--apply")
+    library("report", "--db", room.db, "--out", tmp_path / "page.html")
+    text = (tmp_path / "page.html").read_text()
+    assert "<summary>refused, left or failed: 1 files</summary>" in text and "line 1, delete 12" in text
+    number = '<td class="number">{}</td>'.format
+    for saved, done, refused in ((1, 0, 1), (0, 1, 0)):
+        assert "".join(map(number, (saved, 0, done, 0, refused, 0))) in text
 
 
 def test_a_disk_that_does_not_tell_what_was_saved(room, monkeypatch):

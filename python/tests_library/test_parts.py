@@ -2,11 +2,13 @@
 
 import os
 import shutil
+import signal
 import subprocess
 import time
 
 import pytest
-from conftest import ENVIRONMENT, TOP, command, held, library, rows, settle
+from conftest import ENVIRONMENT, TOP, command, held, library, rows, settle, started
+from test_disturbed import count
 
 PARTS = 3
 
@@ -36,6 +38,24 @@ def test_parts_are_the_whole(listed, tmp_path):
     assert held(joined) == held(whole)
     assert rows(joined, "SELECT count(*) FROM scan") == [(PARTS,)]
     assert rows(joined, "SELECT count(*) FROM file WHERE scan NOT IN (SELECT id FROM scan)") == [(0,)]
+
+
+def test_a_part_that_was_killed(listed, tmp_path):
+    """Its rows are merged, and it is told that files lack; once it has come to its end they do not."""
+    whole, part, joined = (tmp_path / f"{name}.db" for name in ("whole", "part", "joined"))
+    library("scan", "--db", whole, "--list", listed, "--jobs", "2")
+    scan = started("scan", "--db", part, "--list", listed, "--jobs", "1")
+    until = time.monotonic() + 60
+    while scan.poll() is None and time.monotonic() < until and count(part) < 20:
+        time.sleep(0.002)
+    scan.kill()
+    assert scan.wait() == -signal.SIGKILL
+    told = library("merge", "--db", joined, part, status=1)
+    assert "its last scan did not come to its end: go on with it, and merge once more" in told
+    assert 20 <= count(joined) < 300
+    library("scan", "--db", part, "--list", listed, "--jobs", "2")
+    library("merge", "--db", joined, part)
+    assert held(joined) == held(whole)
 
 
 def test_the_later_row_stays(few, tmp_path):

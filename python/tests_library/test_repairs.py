@@ -114,7 +114,7 @@ def test_a_repair_that_was_cut_off(room, monkeypatch, written):
     path = room.folder / "wrong_line.sgy"
     before = contents(room.folder)
 
-    def cut(self, name, script, target):
+    def cut(self, name, script, target, watched):
         assert target is None
         files.torn(path, written)
         raise KeyboardInterrupt

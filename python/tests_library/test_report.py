@@ -10,6 +10,8 @@ import files
 import pytest
 from conftest import library, rows, settle
 
+import segywb
+
 
 class Page(html.parser.HTMLParser):
     """The words of a page, its tags, and whether they are closed."""
@@ -22,7 +24,7 @@ class Page(html.parser.HTMLParser):
 
     def handle_starttag(self, tag, attributes):
         self.tags.append((tag, dict(attributes)))
-        if tag != "meta":
+        if tag not in ("meta", "br"):
             self.open.append(tag)
 
     def handle_endtag(self, tag):
@@ -43,13 +45,57 @@ def test_page(reported):
     """Each part of it, and nothing from elsewhere."""
     database, text, _ = reported
     page = Page(text)
-    for head in ("Totals", "Refused files", "Problems", "Bytes behind the last whole trace", "Histograms", "Outlines of the surveys", "Duplicates"):
-        assert head in page.words
+    heads = (
+        "Totals", "Refused files", "Problems", "Headers that stand out", "Bytes behind the last whole trace", "Histograms", "Outlines of the surveys",
+        "Duplicates", "Named as SEG-Y, and none by their content", "Mends",
+    )
+    places = {attributes["id"] for tag, attributes in page.tags if tag == "h2"}
+    assert places == {attributes["href"][1:] for tag, attributes in page.tags if tag == "a"} and len(places) == len(heads) + 1
+    for head in heads:
+        assert page.words.count(head) >= 2  # in the contents, and above its part
+    assert 'class="warn"' not in text
     assert not [one for one in page.tags if one[0] in ("script", "link", "img", "iframe")]
     assert "http" not in text.replace("http-equiv", "") and "default-src 'none'" in text
     for code, count in rows(database, "SELECT refusal, count(*) FROM file WHERE state = 'refused' GROUP BY 1"):
         assert f"<td>{code}</td><td class=\"number\">{count}</td>" in text
     assert len(text) < 3_000_000
+
+
+def test_what_is_not_whole_is_said(few, tmp_path, wrapped):
+    """A scan that was ended, files that could not be read, and a mend that was killed: before anything else."""
+    database = tmp_path / "lib.db"
+    failing = wrapped('case $name in */cube.sgy) kill -11 $$ ;; esac')
+    library("scan", "--db", database, few, SEGYWB=failing, status=1)
+    connection = sqlite3.connect(database)
+    connection.execute("UPDATE scan SET ended = NULL")
+    connection.execute("INSERT INTO mend (kind, begun, user, host, program, program_sha256, options) VALUES ('mend', '', '', '', '', '', '')")
+    connection.execute("INSERT INTO trail (mend, at, path, target, event) VALUES (1, '', 'a', 'a', 'begun')")
+    connection.commit()
+    connection.close()
+    library("report", "--db", database, "--out", tmp_path / "page.html")
+    told = Page((tmp_path / "page.html").read_text()).words
+    assert "has not come to its end: files may lack" in told and "1 files could not be read, and 0 folders not listed" in told
+    assert "1 saves of a run that was ended are open" in told
+
+
+def test_headers_that_stand_out(few, tmp_path):
+    """Each kind that is there, with its files."""
+    database = tmp_path / "lib.db"
+    for number, lines in enumerate(("set 5 scalar -10", "renumber 1 12 x 0 0\nrenumber 1 12 y 0 0", "set 3 x 0\nset 3 y 0", "bin interval 0")):
+        with segywb.open(few / "cube.sgy") as volume:
+            for line in lines.split("\n"):
+                volume.run(line)
+            volume.save(few / f"odd {number}.sgy")
+    files.varying(few / "varying.sgy")
+    library("scan", "--db", database, few)
+    library("report", "--db", database, "--out", tmp_path / "page.html")
+    text = (tmp_path / "page.html").read_text()
+    for title, count in (
+        ("the coordinate scalar is not the same in all traces", 1), ("no coordinates at all", 2), ("coordinates that reach from far off to 0", 1),
+        ("no interval", 1), ("traces of different lengths", 1),
+    ):
+        assert f"<summary>{title}: {count} files</summary>" in text, title
+    assert "<summary>neither inlines nor crosslines: 1 files</summary>" in text and "<summary>little-endian" not in text
 
 
 def test_table(reported):
@@ -79,7 +125,7 @@ def test_names_are_texts(few, tmp_path):
 
 def test_map(few, tmp_path):
     """An outline far off leaves the others where they are; files without coordinates have none."""
-    from segywb.library.maps import drawing
+    from segywb.library.maps import Outline, drawing
 
     for number in range(60):
         files.cube(few / f"no {number}.sgy")
@@ -88,10 +134,11 @@ def test_map(few, tmp_path):
     library("scan", "--db", database, few)
     library("report", "--db", database, "--out", tmp_path / "page.html")
     assert (tmp_path / "page.html").read_text().count("<polygon") == 12
-    near = [(f"near {n}", [(n, 0), (n + 1, 0), (n + 1, 1)]) for n in range(60)]
-    drawn = drawing([*near, ("far", [(10**9, 10**9)])])
-    assert drawn.count("<polygon") == 60 and "1 outlines lie outside" in drawn
-    assert "none" in drawing([]) and drawing([("one", [(5, 5)])]).count("<polygon") == 1
+    near = [Outline(f"near {n}", f"folder {n % 9}", [(n, 0), (n + 1, 0), (n + 1, 1)]) for n in range(60)]
+    drawn, outside = drawing([*near, Outline("far", "", [(10**9, 10**9)]), Outline("zero", "", [(0, 0), (-10**6, 0)])])
+    assert drawn.count("<polygon") == 60 and outside == ["far", "zero"]
+    assert drawn.count('class="key"') == 7 and "other folders" in drawn
+    assert "none" in drawing([])[0] and drawing([Outline("one", "", [(5, 5)])])[0].count("<polygon") == 1
     outline = rows(database, "SELECT outline FROM file WHERE name = 'cube.sgy'")[0][0]
     assert json.loads(outline)[0] == [450000.0, 6800000.0]
 

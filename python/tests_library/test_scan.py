@@ -3,10 +3,11 @@
 import hashlib
 import os
 import sqlite3
+import subprocess
 
 import files
 import pytest
-from conftest import TOP, as_nobody, held, library, reachable, rows, settle
+from conftest import ENVIRONMENT, TOP, as_nobody, command, held, library, reachable, rows, settle
 
 from segywb.library import names
 
@@ -132,6 +133,21 @@ def test_what_has_not_changed_is_not_read(few, tmp_path, wrapped):
     (few / "moved.sgy").replace(few / "swapped.sgy")
     scan(database, few)
     assert rows(database, "SELECT name FROM file WHERE gone IS NOT NULL") == [("moved.sgy",)]
+
+
+def test_a_disk_that_is_not_mounted(few, tmp_path):
+    """A folder that is empty all at once: it is told, the rows stay, and once the files are back none is read again."""
+    database = tmp_path / "lib.db"
+    scan(database, few)
+    few.rename(tmp_path / "elsewhere")
+    few.mkdir()
+    done = subprocess.run(command("scan", "--db", database, few), env=ENVIRONMENT, capture_output=True, text=True, check=False)
+    assert f"{few}: it is empty, and the files that it had count as gone; is its disk mounted?" in done.stderr
+    assert "12 gone" in done.stdout and rows(database, "SELECT count(*) FROM file WHERE gone IS NOT NULL AND sha256 IS NOT NULL") == [(12,)]
+    few.rmdir()
+    (tmp_path / "elsewhere").rename(few)
+    assert "12 unchanged" in scan(database, few)
+    assert rows(database, "SELECT count(*) FROM file WHERE gone IS NULL") == [(12,)]
 
 
 def test_a_file_that_was_just_written(few, tmp_path):

@@ -11,6 +11,11 @@ from typing import Any, Callable, Dict, List, NamedTuple, Optional, Tuple, TypeV
 
 from .errors import ProgramEnded, Refused
 
+FORMATS: Dict[int, str] = {
+    1: "IBM float", 2: "4 bytes", 3: "2 bytes", 4: "fixed point with gain", 5: "IEEE float", 6: "IEEE float, 8 bytes",
+    7: "3 bytes", 8: "1 byte", 9: "8 bytes", 10: "4 bytes, unsigned", 11: "2 bytes, unsigned", 12: "8 bytes, unsigned",
+    15: "3 bytes, unsigned", 16: "1 byte, unsigned",
+}
 MEANINGS: Dict[str, str] = {
     "F1": "number in the file (bytes 5-8) is not the position",
     "F2": "number of samples (bytes 115-116) is not that of the trace",

@@ -7,7 +7,7 @@ from typing import Any, Dict, List, NamedTuple, Optional, Tuple
 import numpy as np
 
 from .. import answers
-from ..answers import MEANINGS
+from ..answers import FORMATS, MEANINGS
 from ..errors import Refused
 from ..history import Step
 from ..volume import Volume
@@ -20,8 +20,6 @@ from .marks import marked
 
 UNITS = {2: "seconds of arc", 3: "degrees", 4: "degrees, minutes, seconds"}
 LENGTHS = {1: "m", 2: "ft"}
-FORMATS = {1: "IBM float", 2: "4 bytes", 3: "2 bytes", 4: "fixed point with gain", 5: "IEEE float", 6: "IEEE float, 8 bytes", 7: "3 bytes", 8: "1 byte", 9: "8 bytes",
-           10: "4 bytes, unsigned", 11: "2 bytes, unsigned", 12: "8 bytes, unsigned", 15: "3 bytes, unsigned", 16: "1 byte, unsigned"}
 MOST_RUNS = 20000
 MOST_STEPS = 300
 MOST_ROWS = 500

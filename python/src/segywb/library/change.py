@@ -14,9 +14,12 @@ from typing import IO, Any, Callable, List, NamedTuple, Optional, Sequence, Tupl
 
 from ..lines import silent
 from ..stream import split
+from . import saves
 from . import script as scripts
 from .digests import Slow, blocks
 from .facts import Stamp, stamp
+from .reading import wait_until_settled
+from .saves import Moved, Watched
 from .script import Script
 from .talk import found
 
@@ -25,10 +28,6 @@ PIPE_BYTES = 1 << 20
 MOST_ANSWERS = 1 << 26
 KEPT_ANSWERS = 1 << 16
 REFUSED, LOAD_REFUSED, FAILED = 1, 3, 4
-
-
-class Moved(Exception):
-    """The file was changed by another program meanwhile."""
 
 
 class Change(NamedTuple):
@@ -48,6 +47,11 @@ class Change(NamedTuple):
     def refused(self) -> List[Tuple[int, str]]:
         """The refused lines, by their number from 1."""
         return [(number, text) for number, text in self.answers if text.startswith("refused ")]
+
+    @property
+    def bytes(self) -> int:
+        """How many bytes change: those that differ, and those that come or go at the end."""
+        return self.differing + abs(self.longer)
 
     @property
     def text(self) -> str:
@@ -73,6 +77,7 @@ class Maker:
         descriptor = os.open(path, os.O_RDONLY | os.O_CLOEXEC)
         try:
             begun = stamp(os.fstat(descriptor))
+            wait_until_settled(begun)
             asked = scripts.questions(script) if back else [None] * len(script.lines)
             with tempfile.TemporaryFile() as lines, tempfile.TemporaryFile() as answers, tempfile.TemporaryFile() as errors:
                 _write(lines, script, asked)
@@ -119,17 +124,12 @@ class Maker:
         back = scripts.reverse(script, numbers) if numbers is not None and any(asked) else None
         return Change(status, answers, told, begun, new.before, new.after, new.differing, new.size - begun.size, back)
 
-    def save(self, path: str, script: Script, target: Optional[str]) -> Tuple[int, str]:
+    def save(self, path: str, script: Script, target: Optional[str], watched: Watched) -> Tuple[int, str]:
         """The program's own save: its status, and what it says. Without a target it is a repair of the file itself."""
-        with tempfile.NamedTemporaryFile(prefix="segywb-script-") as file:
-            file.write(script.data)
-            file.flush()
-            size = os.stat(path).st_size
-            words = [found().path, path, "--script", file.name, *self._options(size), *self._stop, "--quiet", *(["--in-place"] if target is None else ["--out", target])]
-            with tempfile.TemporaryFile() as errors:
-                # It is not given up where it takes long: a save that is ended is not made, and says so nowhere.
-                status = subprocess.call(words, stdin=subprocess.DEVNULL, stdout=subprocess.DEVNULL, stderr=errors, pass_fds=self._held)
-                return status, _read(errors, PIECE).decode("utf-8", "replace").strip()
+        place = ["--in-place"] if target is None else ["--out", target]
+        options = self._options(os.stat(path).st_size)
+        words = [found().path, path, "--session", "--save-at-end", *place, *options, *self._stop, "--quiet"]
+        return saves.save(words, script.lines, watched, self._held)
 
 
 class Compared:

@@ -95,8 +95,10 @@ def _mend(some: Any) -> None:
     parser.add_argument(
         "--in-place", action="store_true", help="with --over: write the changed bytes alone into the files themselves, where no trace moves and no length changes"
     )
-    parser.add_argument("--apply", action="store_true", help="do it; without it, or with --dry-run, what would be done is told")
-    parser.add_argument("--dry-run", dest="apply", action="store_false", help="write nothing")
+    one = parser.add_mutually_exclusive_group()
+    one.add_argument("--apply", action="store_true", help="do it; without it, or with --dry-run, what would be done is told")
+    one.add_argument("--dry-run", action="store_true", help="write nothing, as without --apply")
+    parser.add_argument("--twice", action="store_true", help="also over files that the same script has mended already")
     parser.add_argument("--go-on", action="store_true", help="save a file without its refused lines; else a refused line leaves it as it is")
     parser.add_argument("--fixed", action="store_true", help="each trace has the binary header's number of samples, as for segywb")
     parser.add_argument("--order", choices=("big", "little"), help="the order of bytes of a file that does not tell it, as for segywb")

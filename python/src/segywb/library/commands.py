@@ -10,7 +10,7 @@ from typing import Any, List, Tuple
 from . import schema, talk
 from .crew import Crew
 from .merge import merged
-from .names import absolute
+from .names import absolute, shown, text_of
 from .progress import Progress
 from .report import Report, write_page, write_table
 from .scan import Scan, own_files, summary, troubled
@@ -38,12 +38,20 @@ def scan(told: Any) -> int:
                 one.begin(walk.folders, program)
                 counts = one.run(iter(walk))
                 one.sweep(walk.folders, walk.unlisted)
+                if counts.gone:
+                    _warn_of_empty(walk.empty)
             one.end()
         finally:
             one.close()
     if not told.quiet:
         print(summary(counts))
     return 1 if troubled(counts) else 0
+
+
+def _warn_of_empty(folders: List[bytes]) -> None:
+    for folder in folders:
+        empty = f"{shown(text_of(folder))}: it is empty, and the files that it had count as gone"
+        print(f"segywb-library: {empty}; is its disk mounted?", file=sys.stderr)
 
 
 def _check(told: Any) -> None:
@@ -88,13 +96,18 @@ def _crew(told: Any) -> Any:
 
 
 def merge(told: Any) -> int:
-    """Joins databases of parts."""
+    """Joins databases of parts. The status is 1 where the scan of one did not come to its end: files lack then."""
+    lacking = 0
     with schema.opened(schema.create, told.db) as database:
         for part in told.parts:
-            files, others, trail = merged(database, part)
+            one = merged(database, part)
+            lacking += not one.ended
+            trail = f"; its trail of {one.trail:,} rows stays there" if one.trail else ""
             if not told.quiet:
-                print(f"{part}: {files:,} files of SEG-Y and {others:,} others" + (f"; its trail of {trail:,} rows stays there" if trail else ""))
-    return 0
+                print(f"{part}: {one.files:,} files of SEG-Y and {one.others:,} others{trail}")
+            if not one.ended:
+                print(f"segywb-library: {part}: its last scan did not come to its end: go on with it, and merge once more", file=sys.stderr)
+    return 1 if lacking else 0
 
 
 # ---- report

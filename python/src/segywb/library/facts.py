@@ -28,7 +28,10 @@ class Stamp(NamedTuple):
 
 @dataclass
 class Facts:
-    """What is to be written of a file. ``other`` says why it is not taken for SEG-Y; ``columns`` are those of the table ``file``."""
+    """What is to be written of a file. ``other`` says why it is not taken for SEG-Y; ``columns`` are those of the table ``file``.
+
+    ``missing``: it is not there, or not any more.
+    """
 
     task: Task
     columns: Dict[str, Any]
@@ -36,6 +39,7 @@ class Facts:
     problems: Dict[str, int] = field(default_factory=dict)
     headers: List[Tuple[str, int, int, int, int]] = field(default_factory=list)
     texts: List[Tuple[int, str]] = field(default_factory=list)
+    missing: bool = False
 
 
 def stamp(found: os.stat_result) -> Stamp:
@@ -44,7 +48,7 @@ def stamp(found: os.stat_result) -> Stamp:
     return Stamp(found.st_size, found.st_mtime_ns, found.st_ctime_ns, inode)
 
 
-def failed(task: Task, trouble: str, seen: Any = None) -> Facts:
+def failed(task: Task, trouble: str, missing: bool = False) -> Facts:
     """A file that could not be read, for another reason than what is in it: it is read again at the next scan."""
-    known = seen._asdict() if seen is not None else {"size": task.size, "modified": None, "changed": None, "inode": None}
-    return Facts(task, {**known, "settled": 0, "state": FAILED, "trouble": trouble})
+    known = {"size": task.size, "modified": None, "changed": None, "inode": None}
+    return Facts(task, {**known, "settled": 0, "state": FAILED, "trouble": trouble}, missing=missing)

@@ -6,18 +6,18 @@ import json
 import os
 import sqlite3
 from contextlib import closing
-from typing import Any, Dict, Iterator, List
+from typing import Any, Dict, Iterator, List, Optional, Set
 
 from .. import program as programs
 from . import asking, schema, script, talk, verify
 from .change import Maker
-from .choose import Chosen, WrongCondition, chosen, one
-from .mend import Again, Mend, Outcome, Plan, clashing, counted, side_by_side, summary
+from .choose import Chosen, Links, WrongCondition, chosen, done, one
+from .mend import Again, Mend, Plan, clashing, side_by_side
 from .names import shown
+from .outcomes import TROUBLES, Outcome, counted, summary
 from .reading import limit_of
-from .trail import CUT, Lock, Run, Trail
+from .trail import SAVED, UNREAD, Lock, Run, Trail
 from .words import Unwanted, source
-
 
 # How the files of a run are read: options without a value, and those with one.
 PLAIN = ("fixed", "tail")
@@ -25,7 +25,10 @@ VALUED = ("order", "samples", "format", "texts")
 
 
 def mend(told: Any) -> int:
-    """Runs the script on each chosen file: dry, or with --apply. The status is 1 where one was refused, left or failed."""
+    """Runs the script on each chosen file: dry, or with --apply.
+
+    The status is 1 where one was refused, left or failed.
+    """
     plan = _plan(told)
     program = talk.found()
     with closing(schema.read_only(told.db)) as database:
@@ -35,14 +38,16 @@ def mend(told: Any) -> int:
             raise Unwanted(f"{error}: nothing was run") from error
         clash = clashing(plan, _each(database, numbers))
         if clash:
-            raise Unwanted(f"{shown(clash[0])} and {shown(clash[1])} would be saved to one path: nothing was run")
+            both = f"{shown(clash[0])} and {shown(clash[1])}"
+            raise Unwanted(f"{both} would be saved to one path: nothing was run")
         print(_taken_back(plan))
         if not told.apply:
-            outcomes = _run(told, Mend(plan, _maker(told, program.option, None), None, 0, None), _each(database, numbers), False)
+            run = Mend(plan, _maker(told, program.option, None), None, 0, None)
+            outcomes = _run(told, run, plan, _known(database, numbers, plan, set()))
             print(f"{summary(outcomes, False)}\nNothing was written: --apply does it.")
         else:
-            outcomes = _applied(told, plan, program, _each(database, numbers))
-    return 1 if any(outcomes[event][0] for event in ("refused", "left", "failed")) else 0
+            outcomes = _applied(told, plan, program, database, numbers)
+    return 1 if any(outcomes[event][0] for event in TROUBLES) else 0
 
 
 def _plan(told: Any) -> Plan:
@@ -54,12 +59,21 @@ def _plan(told: Any) -> Plan:
         raise Unwanted("--in-place is for --over: with --out the files stay as they are")
     if told.in_place and not programs.knows("--recover"):
         raise Unwanted("the program is older than a repair in place")
+    _able()
     with source(told.script) as file:
         made = script.of(file.read(script.MOST_BYTES + 1))
     if len(made.data) > script.MOST_BYTES:
         raise Unwanted(f"the script has more than {script.MOST_BYTES} bytes")
+    if script.saves(made):
+        raise Unwanted("the script has a line `save`, which is for sessions: nothing was run")
     folder, kept = (None if one is None else os.path.abspath(one) for one in (told.out, told.keep))
-    return Plan(made, folder, kept, told.over and kept is None and not told.go_on and script.all_sets(made), told.in_place)
+    back = told.over and kept is None and not told.go_on and script.all_sets(made)
+    return Plan(made, folder, kept, back, told.in_place, told.twice)
+
+
+def _able() -> None:
+    if not programs.knows("--save-at-end"):
+        raise Unwanted("the program is older than --save-at-end, by which files are saved here")
 
 
 def _taken_back(plan: Plan) -> str:
@@ -74,14 +88,20 @@ def _taken_back(plan: Plan) -> str:
 
 
 def _maker(told: Any, option: str, held: Any) -> Maker:
-    valued = {f"--{name}": getattr(told, name) for name in VALUED}
-    more = [*(f"--{name}" for name in PLAIN if getattr(told, name)), *(word for name, value in valued.items() if value is not None for word in (name, str(value)))]
-    return Maker(lambda size: [*asking.options(size, option), *more], not told.go_on, lambda size: limit_of(size, told.limit), held)
+    more = [f"--{name}" for name in PLAIN if getattr(told, name)]
+    for name in VALUED:
+        if getattr(told, name) is not None:
+            more += [f"--{name}", str(getattr(told, name))]
+    return Maker(
+        lambda size: [*asking.options(size, option), *more], not told.go_on,
+        lambda size: limit_of(size, told.limit), held,
+    )
 
 
 def _options(told: Any) -> str:
     """How a run is done, as the trail has it."""
-    return json.dumps({**{name: getattr(told, name) for name in (*PLAIN, *VALUED)}, "go_on": told.go_on, "in_place": told.in_place})
+    readings = {name: getattr(told, name) for name in (*PLAIN, *VALUED)}
+    return json.dumps({**readings, "go_on": told.go_on, "in_place": told.in_place})
 
 
 def _each(database: sqlite3.Connection, numbers: List[int]) -> Iterator[Chosen]:
@@ -91,39 +111,62 @@ def _each(database: sqlite3.Connection, numbers: List[int]) -> Iterator[Chosen]:
             yield row
 
 
-def _run(told: Any, run: Mend, some: Iterator[Chosen], done: bool) -> Dict[str, List[int]]:
+def _known(
+    database: sqlite3.Connection, numbers: List[int], plan: Plan, unread: Set[str]
+) -> Iterator[Chosen]:
+    """The files with what is known of them: whether this script has been there, and whether it is
+    open what a killed run did.
+    """
+    links = Links(database, numbers)
+    for file in _each(database, numbers):
+        target, over = plan.target_text(file), plan.folder is None
+        before = done(database, file, target, plan.script.sha256, over)
+        same = links.same(file.path, target) if over else ""
+        yield file._replace(done=before, open=target in unread, same=same)
+
+
+def _run(told: Any, run: Mend, plan: Plan, some: Iterator[Chosen]) -> Dict[str, List[int]]:
     def each() -> Iterator[Outcome]:
         for outcome in side_by_side(run.one, some, told.jobs or len(os.sched_getaffinity(0))):
             if not told.quiet:
-                print(outcome.told(done))
+                print(outcome.told(told.apply, plan.script.lines))
             yield outcome
 
     return counted(each())
 
 
-def _applied(told: Any, plan: Plan, program: talk.Program, some: Iterator[Chosen]) -> Dict[str, List[int]]:
+def _applied(
+    told: Any, plan: Plan, program: talk.Program, chooser: sqlite3.Connection, numbers: List[int]
+) -> Dict[str, List[int]]:
     lock = Lock(told.db)
     try:
         with schema.opened(schema.existing, told.db) as database:
             trail = Trail(database)
-            _settled(trail)
             maker = _maker(told, program.option, lock.descriptor)
-            options = _options(told)
-            number = trail.begin(Run("mend", plan.script, told.where, options, plan.folder, plan.keep), program)
-            again = Again(database, trail, number, program, told.limit) if plan.folder is None else None
-            outcomes = _run(told, Mend(plan, maker, trail, number, again), some, True)
-            if again is not None:
-                again.end()
+            run = Run("mend", plan.script, told.where, _options(told), plan.folder, plan.keep)
+            number = trail.begin(run, program)
+            again = Again(database, trail, number, program, told.limit)
+            unread = _settled(trail, again)
+            some = _known(chooser, numbers, plan, unread)
+            mends = Mend(plan, maker, trail, number, again if plan.folder is None else None)
+            outcomes = _run(told, mends, plan, some)
+            again.end()
             print(f"{summary(outcomes, True)}\nThis was run {number}: the trail has it.")
             return outcomes
     finally:
         lock.close()
 
 
-def _settled(trail: Trail) -> None:
-    said = {"saved": "it was saved", "left": "it is as it was", "cut": f"its repair was CUT OFF: {CUT}"}
-    for path, event in trail.settle():
-        print(f"{shown(path)}: a run was killed here; {said.get(event, 'it DIFFERS')}")
+def _settled(trail: Trail, again: Optional[Again]) -> Set[str]:
+    """Tells what killed runs did, and reads what they saved anew; the targets that stay open."""
+    settled = trail.settle()
+    for one in settled:
+        print(one.told)
+    if again is not None:
+        saved = [one.path for one in settled if one.event == SAVED]
+        for _ in side_by_side(again, [*saved, *trail.unread_since()], 1):
+            pass
+    return {one.target for one in settled if one.event == UNREAD}
 
 
 def verified(told: Any) -> int:
@@ -132,7 +175,7 @@ def verified(told: Any) -> int:
     try:
         with schema.opened(schema.existing, told.db) as database:
             trail = Trail(database)
-            _settled(trail)
+            unread = len(_settled(trail, None))
             same = wrong = 0
             for found in verify.verified(trail, told.jobs or len(os.sched_getaffinity(0))):
                 if found.told:
@@ -143,27 +186,32 @@ def verified(told: Any) -> int:
     finally:
         lock.close()
     print(f"{same:,} files are what the trail says, {wrong:,} are not")
-    return 1 if wrong else 0
+    return 1 if wrong or unread else 0
 
 
 def undo(told: Any) -> int:
-    """Tells what of a run can be taken back, and does it with --apply. The status is 1 where something cannot."""
+    """Tells what of a run can be taken back, and does it with --apply.
+
+    The status is 1 where something cannot.
+    """
     program = talk.found()
+    _able()
     lock = Lock(told.db)
     try:
         with schema.opened(schema.existing, told.db) as database:
             trail = Trail(database)
-            _settled(trail)
+            _settled(trail, None)
             run = _run_of(trail, told.run_number)
             told.go_on, told.in_place = False, run.get("in_place", False)
             for name in (*PLAIN, *VALUED):  # a run of before has no row of the later ones
                 setattr(told, name, run.get(name))
-            taken = verify.Undo(trail, _maker(told, program.option, lock.descriptor), told.run_number, told.in_place)
+            maker = _maker(told, program.option, lock.descriptor)
+            taken = verify.Undo(trail, maker, told.run_number, told.in_place)
             steps = list(taken.steps(told.jobs or len(os.sched_getaffinity(0))))
             for step in steps:
-                print(f"{shown(step.path)}: {step.why or ('from the bytes that were kept' if step.kept else 'by the script of its old numbers')}")
+                print(f"{shown(step.path)}: {step.told}")
             print(verify.told_of(steps))
-            if not told.apply or all(step.why for step in steps):
+            if not told.apply or not any(step.possible for step in steps):
                 print("Nothing was written" + ("." if told.apply else ": --apply does it."))
                 return 1 if any(step.why for step in steps) else 0
             return _take_back(told, database, trail, taken, steps, program)
@@ -184,20 +232,25 @@ def _run_of(trail: Trail, number: int) -> Dict[str, Any]:
 
 
 def _take_back(
-    told: Any, database: sqlite3.Connection, trail: Trail, taken: verify.Undo, steps: List[verify.Step], program: talk.Program
+    told: Any, database: sqlite3.Connection, trail: Trail, taken: verify.Undo,
+    steps: List[verify.Step], program: talk.Program,
 ) -> int:
-    options = _options(told)
-    number = trail.begin(Run("undo", None, None, options, None, None, told.run_number), program)
+    run = Run("undo", None, None, _options(told), None, None, told.run_number)
+    number = trail.begin(run, program)
     again = Again(database, trail, number, program, told.limit)
+
+    def back(step: verify.Step) -> verify.Step:
+        left = taken.take_back(step, number)
+        if not left.why:
+            again(left.path)
+        return left
+
     done = 0
-    for step in steps:
-        if not step.why:
-            saved, why = taken.take_back(step, number)
-            done += saved
-            if saved:
-                again(step.path)
-            else:
-                print(f"{shown(step.path)}: failed: {why}")
+    jobs = told.jobs or len(os.sched_getaffinity(0))
+    for step in side_by_side(back, (step for step in steps if step.possible), jobs):
+        done += not step.why
+        if step.why:
+            print(f"{shown(step.path)}: {step.why}")
     again.end()
     print(f"{done:,} files were taken back. This was run {number}: the trail has it.")
-    return 0 if done == len(steps) else 1
+    return 0 if done + sum(step.back is not None for step in steps) == len(steps) else 1

@@ -4,7 +4,7 @@ from __future__ import annotations
 
 import os
 import sqlite3
-from typing import Tuple
+from typing import NamedTuple, Tuple
 from urllib.parse import quote
 
 from .schema import APPLICATION, VERSION, NoLibrary, transaction
@@ -24,8 +24,17 @@ _BELOW = {"problem": "code, count", "header": "field, least, greatest, first, la
 _OURS = "SELECT id FROM main.file WHERE path IN (SELECT path FROM temp.new)"
 
 
-def merged(database: sqlite3.Connection, path: str) -> Tuple[int, int, int]:
-    """Puts the rows of a part into the database, all or none. How many files and others these are, and how many rows its trail has."""
+class Merged(NamedTuple):
+    """How many files and others a part has, how many rows its trail has, and whether its last scan came to its end."""
+
+    files: int
+    others: int
+    trail: int
+    ended: bool
+
+
+def merged(database: sqlite3.Connection, path: str) -> Merged:
+    """Puts the rows of a part into the database, all or none."""
     if not os.path.exists(path):
         raise NoLibrary(f"there is no {path}")
     try:
@@ -41,7 +50,8 @@ def merged(database: sqlite3.Connection, path: str) -> Tuple[int, int, int]:
             others = _others(database)
             _unlisted(database)
         trail = int(database.execute("SELECT count(*) FROM part.trail").fetchone()[0])
-        return files, others, trail
+        last = database.execute("SELECT ended FROM part.scan WHERE folders NOT LIKE '[\"run %' ORDER BY id DESC LIMIT 1").fetchone()
+        return Merged(files, others, trail, last is not None and last[0] is not None)
     finally:
         database.execute("DETACH part")
 

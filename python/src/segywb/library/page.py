@@ -3,20 +3,36 @@
 from __future__ import annotations
 
 from html import escape
-from typing import Any, Iterable, List, Sequence
+from typing import Any, Iterable, List, NamedTuple, Sequence
 
 STYLE = """
-:root { color-scheme: light dark; --line: #8885; --bar: #3b7dd8; --dim: #888; }
+:root { color-scheme: light dark; --line: #8885; --bar: #3b7dd8; --dim: #777; --warn: #b35900; }
 body { font: 15px/1.45 system-ui, sans-serif; max-width: 72rem; margin: 2rem auto; padding: 0 1rem; }
-h1 { font-size: 1.5rem; } h2 { font-size: 1.15rem; margin-top: 2.2rem; border-bottom: 1px solid var(--line); }
-table { border-collapse: collapse; margin: .6rem 0; } th, td { text-align: left; padding: .15rem .8rem .15rem 0; vertical-align: top; }
-td.number, th.number { text-align: right; font-variant-numeric: tabular-nums; } th { font-weight: 600; }
+h1 { font-size: 1.5rem; margin-bottom: .2rem; }
+h2 { font-size: 1.15rem; margin-top: 2.2rem; border-bottom: 1px solid var(--line); }
+h3 { font-size: 1rem; margin: 1rem 0 .2rem; }
+nav { columns: 3 16rem; margin: 1rem 0; } nav div { break-inside: avoid; }
+table { border-collapse: collapse; margin: .6rem 0; }
+th, td { text-align: left; padding: .15rem .8rem .15rem 0; vertical-align: top; }
+td.number, th.number { text-align: right; font-variant-numeric: tabular-nums; white-space: nowrap; }
+th { font-weight: 600; }
 td.path { font-family: ui-monospace, monospace; font-size: .85rem; overflow-wrap: anywhere; white-space: pre-wrap; }
-.bar { background: var(--bar); height: .8rem; min-width: 1px; } .dim { color: var(--dim); }
+.bar { background: var(--bar); height: .8rem; min-width: 1px; } .dim { color: var(--dim); } .warn { color: var(--warn); }
 details { margin: .2rem 0 .6rem; } summary { cursor: pointer; }
-svg.map { width: 100%; height: auto; border: 1px solid var(--line); } svg.map polygon { fill: #3b7dd833; stroke: #3b7dd8; }
-svg.map text { fill: currentColor; font-size: 11px; } .charts { display: flex; flex-wrap: wrap; gap: 0 3rem; }
+svg.map { width: 100%; height: auto; border: 1px solid var(--line); }
+svg.map polygon { fill-opacity: .25; stroke-width: 1.2; } svg.map path { stroke: var(--line); fill: none; }
+svg.map text { fill: currentColor; font-size: 11px; }
+.key { display: inline-block; width: .8rem; height: .8rem; margin-right: .3rem; }
+.charts { display: flex; flex-wrap: wrap; gap: 0 3rem; }
 """
+
+
+class Section(NamedTuple):
+    """A part of the page: its heading, what the contents say beside it, and what stands below it."""
+
+    title: str
+    beside: str
+    html: str
 
 
 def shown(value: Any) -> str:
@@ -61,17 +77,23 @@ def folded(title: str, inside: str) -> str:
     return f"<details><summary>{shown(title)}</summary>{inside}</details>"
 
 
-def section(title: str, *parts: str) -> str:
+def section(title: str, beside: str, *parts: str) -> Section:
     """A heading and what stands below it."""
-    return f"<h2>{shown(title)}</h2>\n" + "\n".join(part for part in parts if part)
+    return Section(title, beside, "\n".join(part for part in parts if part))
 
 
-def page(title: str, parts: Iterable[str]) -> Iterable[str]:
+def page(title: str, told: str, sections: Sequence[Section]) -> Iterable[str]:
     """The whole page, piece by piece."""
     yield (
         f'<!DOCTYPE html>\n<html lang="en"><head><meta charset="utf-8"><title>{shown(title)}</title>'
         f'<meta http-equiv="Content-Security-Policy" content="default-src \'none\'; style-src \'unsafe-inline\'"><style>{STYLE}</style></head><body>\n'
-        f"<h1>{shown(title)}</h1>\n"
+        f"<h1>{shown(title)}</h1>\n{told}\n"
     )
-    yield from parts
-    yield "\n</body></html>\n"
+    links = (
+        f'<div><a href="#part{at}">{shown(one.title)}</a> <span class="dim">{shown(one.beside)}</span></div>'
+        for at, one in enumerate(sections)
+    )
+    yield f"<nav>{''.join(links)}</nav>\n"
+    for at, one in enumerate(sections):
+        yield f'<h2 id="part{at}">{shown(one.title)}</h2>\n{one.html}\n'
+    yield "</body></html>\n"

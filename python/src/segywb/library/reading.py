@@ -44,7 +44,7 @@ def read(task: Task, seconds: float) -> Facts:
     except digests.Slow:
         return failed(task, f"no answer within {limit_of(task.size, seconds):.0f} s")
     except OSError as error:
-        return failed(task, error.strerror or str(error))
+        return failed(task, error.strerror or str(error), isinstance(error, (FileNotFoundError, NotADirectoryError)))
     except (talk.Trouble, Error) as error:
         return failed(task, str(error))
 
@@ -63,7 +63,7 @@ def _read(task: Task, deadline: float) -> Facts:
         if not stat.S_ISREG(begun.st_mode):
             return Facts(task, {**stamp(begun)._asdict(), "settled": 0}, other="no file")
         facts = Facts(task, {**stamp(begun)._asdict(), "settled": int(settled(stamp(begun), now))})
-        facts.other = sieve.passed_over(_head(descriptor)) or ""
+        facts.other = sieve.passed_over(_head(descriptor), task.path) or ""
         if not facts.other:
             _fill(facts, descriptor, deadline)
         if stamp(os.fstat(descriptor)) != stamp(begun) or stamp(os.stat(task.path)) != stamp(begun):
@@ -75,9 +75,18 @@ def _read(task: Task, deadline: float) -> Facts:
 
 def settled(seen: Stamp, now: int) -> bool:
     """Whether a change from now on is sure to change the times."""
-    last = max(seen.modified, seen.changed)
+    return now - max(seen.modified, seen.changed) > _step(seen)
+
+
+def _step(seen: Stamp) -> int:
     whole = seen.modified % SECOND == 0 and seen.changed % SECOND == 0
-    return now - last > (LONG_STEP if whole else STEP)
+    return LONG_STEP if whole else STEP
+
+
+def wait_until_settled(seen: Stamp) -> None:
+    """Waits, no longer than a step of the file's times, until a change is sure to change them."""
+    if not settled(seen, time.time_ns()):
+        time.sleep(1.1 * _step(seen) / SECOND)
 
 
 def _head(descriptor: int) -> bytes:

@@ -107,6 +107,9 @@ class Scan:
         return bool(some)
 
     def _put(self, facts: Facts) -> None:
+        if facts.missing and facts.task.root:  # it went away since its folder was listed: the sweep says so of its row
+            self._progress.done(facts.task.size)
+            return
         taken, number = store.put(self._database, facts, self.number)
         (self._files if taken else self._others).add(number)
         if taken:

@@ -166,9 +166,14 @@ CREATE VIEW trace_duplicate AS
 CREATE VIEW latest AS
     SELECT * FROM trail AS one WHERE id = (SELECT max(id) FROM trail WHERE target = one.target);
 """
+_ADDED = "RAISE (ABORT, 'the trail is only added to')"
 APPEND_ONLY = "".join(
-    f"CREATE TRIGGER {table}_{word} BEFORE {word} ON {table} BEGIN SELECT RAISE (ABORT, 'the trail is only added to'); END;\n"
+    f"CREATE TRIGGER IF NOT EXISTS {table}_{word} BEFORE {word} ON {table} BEGIN SELECT {_ADDED}; END;\n"
     for table in ("mend", "trail") for word in ("update", "delete")
+) + "".join(  # INSERT OR REPLACE takes a row away, and no trigger hears of that
+    f"CREATE TRIGGER IF NOT EXISTS {table}_insert BEFORE INSERT ON {table} "
+    f"WHEN EXISTS (SELECT 1 FROM {table} WHERE id = NEW.id) BEGIN SELECT {_ADDED}; END;\n"
+    for table in ("mend", "trail")
 )
 
 
@@ -189,6 +194,8 @@ def create(path: str) -> sqlite3.Connection:
                 _make(database)
             if database.execute("PRAGMA application_id").fetchone()[0] == APPLICATION:  # a later package may know more codes
                 database.executemany("INSERT OR IGNORE INTO meaning VALUES (?, ?)", MEANINGS.items())
+                for statement in _statements(APPEND_ONLY):  # those that an earlier package did not make
+                    database.execute(statement)
     except sqlite3.Error as error:
         raise NoLibrary(f"{path}: {error}") from error
     _ours(database, path)

@@ -38,6 +38,15 @@ def all_sets(script: Script) -> bool:
     return len(script.data) <= MOST_REVERSE and all(_word(line) in _SETTING or _asks(line) for line in script.lines if not silent(line))
 
 
+def saves(script: Script) -> bool:
+    """Whether a line of it would save: a word of sessions, which no script has.
+
+    >>> saves(of(b"set 5 inline 102\\n save\\n")), saves(of(b"# save\\n"))
+    (True, False)
+    """
+    return any(_word(line) == b"save" for line in script.lines if not silent(line))
+
+
 def stays(script: Script) -> bool:
     """Whether no line of it moves, adds, takes away or resizes traces, so that a file can be repaired in place by it.
 

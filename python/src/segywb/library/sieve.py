@@ -2,6 +2,7 @@
 
 from __future__ import annotations
 
+import re
 from typing import Optional
 
 HEAD_BYTES = 3600
@@ -10,20 +11,27 @@ _TEXT = 3200
 _LETTERS = (0xC3, 0x43)  # a C in EBCDIC and in ASCII
 _FORMATS = range(1, 17)
 _GREATEST_REVISION = 2
+# The new file of a save, which stands beside what is saved until it takes its name; a kill may leave it.
+_NEW_FILE = re.compile(rb"(?:^|/)\.[^/]*\.segywb-\d+$")
 
 
-def passed_over(head: bytes) -> Optional[str]:
+def passed_over(head: bytes, path: bytes = b"") -> Optional[str]:
     """Why a file with these first bytes is not taken for SEG-Y, or ``None`` where it is.
 
-    It is where half of its lines of 80 characters begin with a C, or where the binary header has a sample format from 1 to 16 and a number
-    of samples in one of both orders of bytes, and a revision of 2 at most.
+    The new file of a save is none, since it may be a part of one. Else it is where half of its lines
+    of 80 characters begin with a C, or where the binary header has a sample format from 1 to 16 and a
+    number of samples in one of both orders of bytes, and a revision of 2 at most.
 
     >>> passed_over(b"")
     'empty'
     >>> passed_over(b"C 1".ljust(80) * 20)
     >>> passed_over(bytes(3600))
     'no head of SEG-Y'
+    >>> passed_over(b"C 1".ljust(80) * 20, b"/data/.line.sgy.segywb-0")
+    'new file of a save'
     """
+    if _NEW_FILE.search(path):
+        return "new file of a save"
     if not head:
         return "empty"
     if _has_cards(head[:_TEXT]):

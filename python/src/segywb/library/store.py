@@ -2,9 +2,9 @@
 
 from __future__ import annotations
 
-import getpass
 import hashlib
 import os
+import pwd
 import socket
 import sqlite3
 import time
@@ -60,10 +60,10 @@ def now() -> str:
 
 
 def user() -> str:
-    """Who runs this."""
+    """Who runs this: by the number of the user, since a name of the environment is anybody's to set."""
     try:
-        return getpass.getuser()
-    except (KeyError, OSError):
+        return pwd.getpwuid(os.getuid()).pw_name
+    except KeyError:
         return str(os.getuid())
 
 

@@ -29,10 +29,13 @@ class Walk:
         self._tell = tell
         self._been: Set[Tuple[int, int]] = set()
         self.unlisted: List[bytes] = []
+        self.empty: List[bytes] = []  # folders that were named and have nothing in them, as where a disk is not mounted
 
     def __iter__(self) -> Iterator[Found]:
         for folder in self.folders:
             if os.path.isdir(folder):
+                if not _has_entries(folder):
+                    self.empty.append(folder)
                 yield from self._below(folder)
             else:
                 yield _found(folder, os.path.dirname(folder))
@@ -75,6 +78,14 @@ class Walk:
             if error.errno == errno.ELOOP:
                 return
             yield Found(Task(entry.path, root, 0), None)
+
+
+def _has_entries(folder: bytes) -> bool:
+    try:
+        with os.scandir(folder) as entries:
+            return next(entries, None) is not None
+    except OSError:
+        return True  # it cannot be listed, which is told elsewhere
 
 
 def _found(path: bytes, folder: bytes) -> Found:

@@ -43,7 +43,7 @@ module _ (start : State) where
   add_read : (before : Replied) (old new : State) (read : Result (Option Command) LineFault) (p : Printed) → Steps start before.edits before.replies old → ReadStep old read p new
       → LeadsTo new (AddsEdit read p before)
   add_read before old new (Ok None) p sofar step = (before, refl, subst (λ (s : State). Steps start before.edits before.replies s) (sym step.1) sofar)
-  add_read before old new (Ok (Some (Apply edit))) p sofar (reply, step, is) = (
+  add_read before old new (Ok (Some (Apply edit))) p sofar (reply, step, is, told) = (
     record { edits = before.edits ++ edit ∷ []; replies = before.replies ++ reply ∷ [] },
     (reply, is, refl),
     steps_behind start old new before.edits (edit ∷ []) before.replies (reply ∷ []) sofar (new, step, refl),

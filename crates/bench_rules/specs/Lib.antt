@@ -1,8 +1,12 @@
 pub mod After
 pub mod Answer
+pub mod ChosenEdits
+pub mod ChosenQueries
+pub mod ChosenExamples
 pub mod Computed
 pub mod ComputedBytes
 pub mod ComputedExamples
+pub mod Conditions
 pub mod Examples
 pub mod FloatStatistics
 pub mod FloatExamples
@@ -21,6 +25,7 @@ pub mod Places
 pub mod RefusalExamples
 pub mod Refused
 pub mod ReportExamples
+pub mod Replies
 pub mod Reports
 pub mod SetRefusals
 pub mod Sorted
@@ -39,3 +44,4 @@ pub mod SliceExamples
 pub mod KeptSlices
 pub mod KeptSliceExamples
 pub mod RangeFaults
+pub mod RangeRefusals

@@ -6,3 +6,5 @@ mod ManyTracesLemmas
 mod CountedLemmas
 pub mod ComputedLemmas
 pub mod SortLemmas
+mod ChosenLemmas
+mod ChosenEachLemmas

@@ -1,4 +1,5 @@
 pub mod RowsLemmas
+mod ListedRowsLemmas
 pub mod FormulaLemmas
 pub mod NumbersLemmas
 mod NearLemmas

@@ -258,6 +258,18 @@ class Plan:
         self._insert(to, row, stale)
 
 
+def written(words: Sequence[str]) -> Optional[str]:
+    """The field of trace headers into which a line writes numbers.
+
+    >>> [written(line.split()) for line in ("set 1 x 5", "set all x 5 where y = 1", "compute 1 9 x y", "delete 4")]
+    ['x', 'x', 'x', None]
+    """
+    if not words or words[0] not in ("set", "renumber", "compute"):
+        return None
+    plain = chosen_of(words)
+    return plain[2] if plain[1] == "all" or words[0] == "set" and len(plain) == 4 else plain[3]
+
+
 def chosen_of(words: Sequence[str]) -> Sequence[str]:
     """The words of a line without the conditions that choose traces. Before a sign behind the next
     word alone `where` begins them: it may be the name of a field, too.

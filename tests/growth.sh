@@ -22,8 +22,7 @@ last=0
 # may_want LINE: whether this line may be answered E11: its command takes memory, or to be read it does (names, texts, numbers)
 may_want() {
     case $1 in
-        count | info | totals | sample* | geometry* | stat\ * | fold* | range* | code* | drop*) return 1 ;;
-        'delete '?) return 1 ;; # one trace; more are listed
+        count | info | totals | sample* | geometry* | stat\ * | fold* | range* | code* | delete* | drop*) return 1 ;;
         get*@* | bin*@*) return 1 ;;
         'lines 9') return 1 ;; # there is no such block
     esac
@@ -84,8 +83,6 @@ for edit in 'set 2 @189:4 7' 'set 2 inline 11' 'set 2 crossline 5' 'set 2 offset
     'patch 1 0 32767 -32768' 'patch 2 1 9' 'blank 1' 'blank 4' 'copy 1 2' 'copy 3 4' 'delete 2' 'move 1 3' 'move 3 1' \
     'renumber 1 3 inline 70 1' 'renumber 1 3 @1:4 7 -2' 'renumber 2 3 scalar -1 -99' 'resize 1 4' \
     'compute 1 3 inline crossline * 2 + 7' 'compute 2 3 @1:4 x / inline % 100' 'compute 1 3 crossline 5' 'sort 1 3 -crossline' 'sort 2 3 inline -@37:4' \
-    'delete 1 2' 'delete all' 'delete all where crossline = 22' 'set all inline 7 where crossline > 21' 'set 1 3 @1:4 9 where @189:4 >= 10 and offset != 200' \
-    'renumber all @5:4 5 3 where x > 1000' 'compute all crossline offset / 100 where inline = 10' 'compute 1 3 @1:4 x + y where 7 <= 7' 'delete 1 2 where inline = 11' \
     'map inline @193:4' 'map x @73:4' 'map scalar @69:2' 'map mine @17:4' 'bin interval 2000' 'bin @3217:2 2000' 'text 1 NO C'; do
     grows "$edit" s.sgy "$edit" "$edit" "${queries[@]}"
 done
@@ -94,7 +91,6 @@ grows 'names bound and left out' s.sgy 'map mine @189:4' 'set 2 mine 7' 'get 2 i
 # ---- each kind of query, twice
 for query in 'get 1 inline' 'getbin interval' 'get 1 @189:4' count info 'code 0' 'geometry 2' 'stat 2' 'sample 2 1' 'fold 10 21' 'range inline' totals \
     'line 0 1' stanzas fields grid inlines crosslines histogram 'slice 1' faults \
-    'count all where inline = 10' 'count 1 2 where @1:8 > 7 and inline != 10' 'table all inline where crossline > 21' 'find all offset 0 200 where crossline != 21' 'extremes all where crossline = 22' \
     'table 1 2 inline x @189:4' 'table 2 2 @1:8' 'find 1 2 crossline 21 22' 'find 1 2 @1:8 7 8' 'header 2' 'extremes 1 2' 'lines 0'; do
     grows "$query" s.sgy "$query" "$query" 'delete 1' "$query"
 done

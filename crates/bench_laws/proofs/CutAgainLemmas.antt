@@ -5,8 +5,7 @@ use Rattle.field_map.specs.declared.place.Place.{Place}
 use Rattle.frame_cut.specs.Cuts.{IsCut}
 use Rattle.frame_cut.specs.Volume.{Volume}
 use Rattle.frame_cut.specs.Traces.{trace_at, with_trace}
-use Rattle.bench_rules.specs.declared.edit.Edit.TheVariants.{Set, SetBin, Declare, DropTail, SetText, Map, Unmap, Patch, Blank, Copy, Delete, Move, Resize, Renumber, Compute, Sort, OfChosen}
-use Rattle.bench_rules.proofs.ChosenLemmas.{chosen_cut}
+use Rattle.bench_rules.specs.declared.edit.Edit.TheVariants.{Set, SetBin, Declare, DropTail, SetText, Map, Unmap, Patch, Blank, Copy, Delete, Move, Resize, Renumber, Compute, Sort}
 use Rattle.bench_laws.specs.EditLaws.{StaysCut}
 use Rattle.bench_rules.specs.Places.{place_in_trace, place_in_binary}
 use Rattle.bench_rules.specs.Refused.{with_value}
@@ -72,4 +71,3 @@ stays_cut s (Sort a b fs falls) cut none =
     let c = sort_accepted s a b fs falls none in
     let w : Volume = with_order s.volume a b (map (λ row. row.0) (in_order falls c.rows)) in
     (w, (sort_done s a b fs falls w cut c refl).volume, refl)
-stays_cut s (OfChosen c edit) cut none = chosen_cut s c edit cut none

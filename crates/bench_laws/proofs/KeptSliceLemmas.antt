@@ -14,7 +14,7 @@ use Rattle.frame_cut.specs.Parts.{untailed}
 use Rattle.frame_cut.specs.Volume.{Volume}
 use Rattle.bench_rules.specs.KeptSlices.{is_from}
 use Rattle.bench_rules.specs.Slices.{slice_of}
-use Rattle.bench_rules.specs.declared.edit.Edit.TheVariants.{Set, SetBin, Declare, DropTail, SetText, Map, Unmap, Patch, Blank, Copy, Delete, Move, Resize, Renumber, Compute, Sort, OfChosen}
+use Rattle.bench_rules.specs.declared.edit.Edit.TheVariants.{Set, SetBin, Declare, DropTail, SetText, Map, Unmap, Patch, Blank, Copy, Delete, Move, Resize, Renumber, Compute, Sort}
 use Rattle.bench_laws.specs.KeptLaws.{KeptSlicesStay}
 use Rattle.bench_rules.specs.Places.{place_in_binary, place_in_trace}
 use Rattle.bench_rules.specs.Reports.{slice_in}
@@ -105,4 +105,3 @@ kept_slices_stay old new (Resize p m) kept k cut has none after any = absurd (no
 kept_slices_stay old new (Renumber a b f first step) kept k cut has none after any = renumber_stays old new a b f first step kept k cut none after any
 kept_slices_stay old new (Compute a b f source steps) kept k cut has none after any = compute_stays old new a b f source steps kept k cut none after any
 kept_slices_stay old new (Sort a b fs falls) kept k cut has none after any = absurd (none_kept k any)
-kept_slices_stay old new (OfChosen c edit) kept k cut has none after any = absurd (none_kept k any)

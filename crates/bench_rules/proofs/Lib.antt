@@ -12,12 +12,10 @@ pub mod ResizingLemmas
 pub mod ResizeLemmas
 pub mod ManyValueLemmas
 pub mod FirstLemmas
-pub mod ListedLemmas
 pub mod RenumberLemmas
 mod CountedLemmas
 pub mod ComputedLemmas
 pub mod ComputeLemmas
-pub mod ChosenLemmas
 pub mod LiveLemmas
 mod TableLemmas
 pub mod SortLemmas
@@ -29,5 +27,3 @@ pub mod EachLemmas
 pub mod LookLemmas
 pub mod RangeLemmas
 pub mod FloatLemmas
-pub mod ToldLemmas
-mod TestLemmas

@@ -11,11 +11,10 @@ use Rattle.frame_cut.specs.Parts.{untailed}
 use Rattle.frame_cut.specs.Splice.{splice}
 use Rattle.frame_cut.specs.Volume.{Volume, bytes_of}
 use Rattle.bench_rules.specs.declared.edit.Edit.{Edit}
-use Rattle.bench_rules.specs.declared.edit.Edit.TheVariants.{Set, SetBin, Declare, DropTail, SetText, Map, Unmap, Patch, Blank, Copy, Delete, Move, Resize, Renumber, Compute, Sort, OfChosen}
+use Rattle.bench_rules.specs.declared.edit.Edit.TheVariants.{Set, SetBin, Declare, DropTail, SetText, Map, Unmap, Patch, Blank, Copy, Delete, Move, Resize, Renumber, Compute, Sort}
 use Rattle.bench_rules.specs.Places.{place_in_trace, place_in_binary}
 use Rattle.bench_rules.specs.Computed.{formula_of}
 use Rattle.bench_rules.specs.ComputedBytes.{bytes_after_compute}
-use Rattle.bench_rules.specs.ChosenEdits.{bytes_after_chosen}
 use Rattle.bench_rules.specs.ManyTraces.{each_of}
 use Rattle.declared_frame.specs.Written.{with_declared}
 use Rattle.bench_rules.specs.State.{State}
@@ -45,7 +44,6 @@ bytes_after s (Resize p m) = bytes_after_resize s.volume p (nat_abs m)
 bytes_after s (Renumber a b field first step) = option_map_or (λ place. bytes_after_renumber s.volume a b place first step) (place_in_trace s.fields field) (bytes_of s.volume)
 bytes_after s (Compute a b field source steps) = option_map_or (λ f. bytes_after_compute s.volume f a b) (formula_of s.fields field source steps) (bytes_of s.volume)
 bytes_after s (Sort a b names falls) = option_map_or (λ places. bytes_after_sort s.volume places falls a b) (each_of (place_in_trace s.fields) names) (bytes_of s.volume)
-bytes_after s (OfChosen c edit) = bytes_after_chosen s.volume s.fields c edit
 
 -- the field map after the edit
 abbrev pub fields_after : Pairs → Edit → Pairs
@@ -65,4 +63,3 @@ fields_after fields (Resize p m) = fields
 fields_after fields (Renumber a b field first step) = fields
 fields_after fields (Compute a b field source steps) = fields
 fields_after fields (Sort a b names falls) = fields
-fields_after fields (OfChosen c edit) = fields

@@ -1,12 +1,8 @@
 pub mod After
 pub mod Answer
-pub mod ChosenEdits
-pub mod ChosenQueries
-pub mod ChosenExamples
 pub mod Computed
 pub mod ComputedBytes
 pub mod ComputedExamples
-pub mod Conditions
 pub mod Examples
 pub mod FloatStatistics
 pub mod FloatExamples
@@ -25,7 +21,6 @@ pub mod Places
 pub mod RefusalExamples
 pub mod Refused
 pub mod ReportExamples
-pub mod Replies
 pub mod Reports
 pub mod SetRefusals
 pub mod Sorted
@@ -44,4 +39,3 @@ pub mod SliceExamples
 pub mod KeptSlices
 pub mod KeptSliceExamples
 pub mod RangeFaults
-pub mod RangeRefusals

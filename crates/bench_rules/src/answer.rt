@@ -65,6 +65,4 @@ pub enum Answer {
     Header(Items<(Text, i128)>),
     /// Each name with the extremes of its numbers, in the same order.
     Extremes(Items<(Text, Extremes)>),
-    /// How many traces were chosen.
-    Chosen(u32),
 }

@@ -1,5 +1,3 @@
-use crate::chosen::Chosen;
-use crate::chosen_edit::ChosenEdit;
 use crate::field::Field;
 use crate::items::Items;
 use crate::operand::Operand;
@@ -83,10 +81,4 @@ pub enum Edit {
         fields: Items<Field>,
         falling: Items<bool>,
     },
-    /// An edit of the traces that are chosen: whole or not at all. Refused, in this order: E01 for
-    /// the first trace of the range, E01 for its last, E02 where a field of the edit or of a
-    /// condition has no place, E03 where a trace of the range lacks the place of a condition, then
-    /// what the edit refuses of the chosen traces. The list of the chosen traces takes memory, so
-    /// that E11 may come in the place of any refusal but E01.
-    OfChosen(Chosen, ChosenEdit),
 }

@@ -1,5 +1,3 @@
-use crate::chosen::Chosen;
-use crate::chosen_query::ChosenQuery;
 use crate::field::Field;
 use crate::items::Items;
 use range_stats::Quantity;
@@ -65,10 +63,4 @@ pub enum Query {
     /// the least, the greatest, the first and the last. Refused, in this order: E01 for a, E01 for
     /// b.
     Extremes(u32, u32),
-    /// A query for the traces that are chosen. Refused, in this order: E01 for the first trace of
-    /// the range, E01 for its last, E02 where a field of the query or of a condition has no place,
-    /// E03 where a trace of the range lacks the place of a condition, then what the query refuses
-    /// of the chosen traces. The list of the chosen traces takes memory, so that E11 may come in
-    /// the place of any refusal but E01.
-    OfChosen(Chosen, ChosenQuery),
 }

@@ -6,5 +6,3 @@ mod ManyTracesLemmas
 mod CountedLemmas
 pub mod ComputedLemmas
 pub mod SortLemmas
-mod ChosenLemmas
-mod ChosenEachLemmas

@@ -1,4 +1,3 @@
-pub mod Chosen
 pub mod Held
 pub mod Places
 pub mod Refusals

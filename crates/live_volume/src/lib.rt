@@ -18,12 +18,11 @@
 //!
 //! `load` takes memory for the file's bytes, the list of its traces, the six geometry names and the
 //! records with what has counted them; `apply` for `Set`, `Map`, `Patch`, `Blank`, `Copy`, `Move`,
-//! `Resize`, `Renumber`, `Compute`, `Sort` and `OfChosen` alone; `ask` for answers that are texts
-//! or lists alone: `Line`, `Lines`, `Stanzas`, `Fields`, `Grid`, `Inlines`, `Crosslines`,
-//! `Histogram`, `Slice`, `Faults`, `Table`, `Find`, `Header`, `Extremes` and `OfChosen`.
+//! `Resize`, `Renumber`, `Compute` and `Sort` alone; `ask` for answers that are texts or lists
+//! alone: `Line`, `Lines`, `Stanzas`, `Fields`, `Grid`, `Inlines`, `Crosslines`, `Histogram`,
+//! `Slice`, `Faults`, `Table`, `Find`, `Header` and `Extremes`.
 #![tactic(auto)]
 
-mod chosen_edits;
 mod computed_edits;
 mod declaring;
 mod kept_slices;

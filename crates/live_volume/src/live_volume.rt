@@ -27,7 +27,6 @@ use bench_rules::{
     Answer, AskFault, Edit, Field, Query, Refusal, Text, binary_offset, is_line, place_in_binary,
     place_in_trace, set_bin_refusal,
 };
-use chosen_traces::chosen_answer;
 use device_io::{Sink, Source};
 use edit_overlay::{Overlay, SaveFault};
 use field_map::{FieldMap, Place, is_geometry};
@@ -125,10 +124,9 @@ impl LiveVolume {
     }
 
     /// One edit: done, and the reports follow it; or refused, and all is as it was. `Set`, `Map`,
-    /// `Patch`, `Blank`, `Copy`, `Move`, `Resize`, `Renumber`, `Compute`, `Sort` and `OfChosen`
-    /// take memory, and are refused for want of it, E11, only where nothing else refuses them;
-    /// `OfChosen`, whose traces have to be listed first, in the place of any refusal but E01. On
-    /// disk an edit that looks is also refused where a trace could not be read (E14, E15).
+    /// `Patch`, `Blank`, `Copy`, `Move`, `Resize`, `Renumber`, `Compute` and `Sort` take memory,
+    /// and are refused for want of it, E11, only where nothing else refuses them. On disk an edit
+    /// that looks is also refused where a trace could not be read (E14, E15).
     pub fn apply(&mut self, alloc: Global, edit: &Edit) -> Result<(), Refusal>
         ensures step { IsTrue self.new.agreed →
             Step self.old.state edit.now result self.new.state }
@@ -182,10 +180,6 @@ impl LiveVolume {
                 fields,
                 falling,
             } => { self.sort(alloc, *a, *b, fields.as_slice(), falling.as_slice()) }
-            Edit::OfChosen(chosen, edit) => {
-                self.apply_chosen(alloc, chosen, edit)?;
-                Ok(())
-            }
         }
     }
 
@@ -494,9 +488,6 @@ impl LiveVolume {
             Query::Header(p) => header_answer(alloc, &mut self.overlay, &self.fields, *p),
             Query::Extremes(a, b) => {
                 extremes_answer(alloc, &mut self.overlay, &self.fields, *a, *b)
-            }
-            Query::OfChosen(chosen, query) => {
-                chosen_answer(alloc, &mut self.overlay, &self.fields, chosen, query)
             }
         }
     }

@@ -1,5 +1,4 @@
 pub mod RowsLemmas
-mod ListedRowsLemmas
 pub mod FormulaLemmas
 pub mod NumbersLemmas
 mod NearLemmas

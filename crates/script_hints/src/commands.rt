@@ -45,10 +45,10 @@ pub static COMMANDS: [&str; 41] = [
     "faults",
 ];
 
-// Their forms, in the same order: `all` stands for P and Q. They are searched: a `match` of so many
-// texts takes minutes to prove.
+// Their forms, in the same order. They are searched: a `match` of so many texts takes minutes to
+// prove.
 static FORMS: [&str; 41] = [
-    "set P [Q] FIELD NUMBER [where A OP B ..]",
+    "set P [Q] FIELD NUMBER",
     "get P FIELD",
     "bin FIELD NUMBER",
     "getbin FIELD",
@@ -62,21 +62,21 @@ static FORMS: [&str; 41] = [
     "map NAME FIELD",
     "unmap NAME",
     "fields",
-    "table P Q FIELD .. [where A OP B ..]",
-    "find P Q FIELD LOW HIGH [where A OP B ..]",
+    "table P Q FIELD ..",
+    "find P Q FIELD LOW HIGH",
     "header P",
-    "extremes P Q [where A OP B ..]",
-    "count [P Q where A OP B ..]",
+    "extremes P Q",
+    "count",
     "info",
     "sample P K",
     "patch P K NUMBER ..",
     "blank P",
     "copy Q P",
-    "delete P [Q] [where A OP B ..]",
+    "delete P",
     "move P Q",
     "resize P NUMBER",
-    "renumber P Q FIELD FIRST STEP [where A OP B ..]",
-    "compute P Q FIELD SOURCE [OP OPERAND] .. [where A OP B ..]",
+    "renumber P Q FIELD FIRST STEP",
+    "compute P Q FIELD SOURCE [OP OPERAND] ..",
     "sort P Q FIELD ..",
     "geometry P",
     "stat P",

@@ -11,7 +11,6 @@
 
 mod commands;
 mod compute_hint;
-mod condition_hint;
 mod fault;
 mod fit;
 mod hint;

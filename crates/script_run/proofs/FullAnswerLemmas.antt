@@ -72,7 +72,6 @@ fields_plain s (edits.Resize p m) e h = h
 fields_plain s (edits.Renumber a b field first step) e h = h
 fields_plain s (edits.Compute a b field source steps) e h = h
 fields_plain s (edits.Sort a b fields falls) e h = h
-fields_plain s (edits.OfChosen c edit) e h = h
 
 same_plain : (old new : State) → new ≡ old → HasPlainNames old.fields → HasPlainNames new.fields
 same_plain old new e h = subst (λ (s : State). HasPlainNames s.fields) (sym e) h

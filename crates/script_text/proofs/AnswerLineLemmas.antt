@@ -201,4 +201,3 @@ answers_are_full_lines (answers.Table rows) h = a_list (codes "table") (map tabl
 answers_are_full_lines (answers.Found found) h = a_list (codes "found") (map (found_text (codes "trace")) found) refl (each_full (found_text (codes "trace")) full_found found)
 answers_are_full_lines (answers.Header fields) h = a_list (codes "header") (map number_text fields) refl (some_full number_text (λ f. is_plain f.0) full_number fields h)
 answers_are_full_lines (answers.Extremes fields) h = a_list (codes "extremes") (map extremes_text fields) refl (some_full extremes_text (λ f. is_plain f.0) full_extremes fields h)
-answers_are_full_lines (answers.Chosen n) h = one_line (with_blanks (codes "chosen" ∷ decimal n ∷ [])) (words_line (codes "chosen") refl (word (decimal n) (plain_decimal n) no_word))

@@ -93,4 +93,3 @@ answer_text (answers.Table rows) = list_lines (codes "table") (map table_row_tex
 answer_text (answers.Found found) = list_lines (codes "found") (map (found_text (codes "trace")) found)
 answer_text (answers.Header fields) = list_lines (codes "header") (map number_text fields)
 answer_text (answers.Extremes fields) = list_lines (codes "extremes") (map extremes_text fields)
-answer_text (answers.Chosen n) = with_line_end (with_blanks (codes "chosen" ∷ decimal n ∷ []))

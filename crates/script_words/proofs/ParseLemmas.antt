@@ -9,9 +9,8 @@ use Rattle.script_words.specs.declared.command.Command.TheVariants.{Apply, Ask}
 use Rattle.script_words.specs.declared.line_fault.LineFault.{LineFault}
 use Rattle.script_words.specs.declared.line_fault.LineFault.TheVariants.{Number, OutOfMemory}
 use Rattle.script_words.specs.Readers.{field_of, target_of, four, five}
-use Rattle.script_words.specs.Commands.{read_get, read_map, read_bin, read_getbin, IsFieldRead, IsName, HoldsMemory, CommandTakesMemory, IsRead}
+use Rattle.script_words.specs.Commands.{read_set_one, read_get, read_map, read_bin, read_getbin, IsFieldRead, IsName, HoldsMemory, CommandTakesMemory, IsRead}
 use Rattle.script_words.specs.Numbers.{trace_of, number_of}
-use Rattle.script_words.specs.RangeCommands.{read_set_one}
 
 -- a command of a field: S03 where the word is none
 module _ (expected : Option Field → Result Command LineFault) (make : Field → Command) (none : expected None ≡ Err Number) (some : (f : Field) → expected (Some f) ≡ Ok (make f)) where

@@ -5,7 +5,7 @@ use mir.Val.{SFits}
 use Rattle.script_words.specs.Words.{words_of}
 use Rattle.script_words.specs.Numbers.{trace_of, number_of}
 use Rattle.script_words.proofs.ParseLemmas.{set_ok, set_err, set_no_number}
-use Rattle.script_words.proofs.many_commands.set_one.Goals as goal
+use Rattle.script_words.proofs.parse.set_one.Goals as goal
 
 pub returns-in_err-value : goal.returns-in_err-value
 returns-in_err-value c =

@@ -1,5 +1,0 @@
-pub mod GatheredLemmas
-pub mod FrontLemmas
-pub mod ComputedFrontLemmas
-mod ChoosingLemmas
-mod ToldLemmas

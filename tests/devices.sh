@@ -142,8 +142,8 @@ on=("$program" s.sgy --script script --out o.sgy)
 
 # ---- the answers: to each line of a long script, and to a list that is longer than the program's buffers
 for _ in 1 2 3; do
-    printf '%s\n' info count 'map mine @17:4' 'set 2 mine 7' 'get 2 mine' 'set 4 inline 7' fields 'copy 1 2' grid 'patch 2 0 7 8' 'slice 1' 'move 4 1'
-    printf '%s\n' 'table 1 3 inline x' 'find 1 3 crossline 22 30' 'extremes 1 2' 'lines 0' 'table 1 9 inline' 'compute 1 3 offset inline * 2' 'compute 1 3 offset 7 / delay' 'sort 1 3 -crossline' 'sort 1 3 nine'
+    printf '%s\n' info count 'map mine @17:4' 'set 2 mine 7' 'get 2 mine' 'set 4 inline 7' fields 'copy 1 2' grid 'patch 2 0 7 8' 'slice 1' 'move 4 1' 'move 2 3 1' 'map shot' 'map usual'
+    printf '%s\n' 'table 1 3 inline x' 'find 1 3 crossline 22 30' 'extremes 1 2' 'lines 0' 'table 1 9 inline' 'compute 1 3 offset inline * 2' 'compute 1 3 offset 7 / delay' 'sort 1 3 -crossline' 'sort 1 3 nine' 'count all where inline = 10' 'set all @5:4 7 where crossline > 21' 'table all inline where crossline > 99'
     printf '%s\n' 'line 0 1' sett 'text 1 C LINE' 'line 0 1' 'unmap mine' 'get 2 mine' 'drop tail' 'drop head' drop 'blank 2' faults histogram 'delete 2' 'delete 2' totals 'range x'
 done > long
 echo 'header 2' >> long

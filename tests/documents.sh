@@ -56,7 +56,8 @@ names() {
 }
 same 'the names of the manual' "$(names)" "$(sed -n 's/^| `\([a-z0-9_]*\)` | `\(@[^`]*\)` | \([^|]*\) |.*/\1 \2 \3/p' "$top/docs/MANUAL.md" | sort)"
 [ "$(names | wc -l)" -ge 126 ] && tell 'there are names' ok || tell 'there are names' "$(names | wc -l)"
-commands() { cat "$top/crates/script_words/specs/"*Commands.antt | sed -n 's/.*(codes "\([a-z]*\)", .*/\1/p' | sort; }
+# MapCommands.antt has the words behind one command, and no command.
+commands() { cat $(ls "$top/crates/script_words/specs/"*Commands.antt | grep -v '/MapCommands') | sed -n 's/.*(codes "\([a-z]*\)", .*/\1/p' | sort; }
 same 'the commands of the manual' "$(commands)" "$(sed -n 's/^### \([a-z]*\).*/\1/p' "$top/docs/MANUAL.md" | sort)"
 [ "$(commands | wc -l)" -ge 30 ] && tell 'there are commands' ok || tell 'there are commands' "$(commands | wc -l)"
 # a fault's words: its code, `trace` where it is of a trace, and the words between its numbers, which are capitals in the manual
@@ -64,11 +65,16 @@ fault_words() {
     sed -n '/^fault_text (/{s/.*= of_trace_text (codes "\(F[0-9]\)") p/\1 trace/; s/.*= with_blanks (codes "\(F[0-9]\)"/\1/; s/(\?codes "\([a-z]*\)"/\1/g; s/signed_decimal [a-z]\|decimal [a-z]\|\[\]\|[()∷]//g; s/  */ /g; s/ $//; p}' \
         "$top/crates/script_text/specs/ReportTexts.antt" | sort
 }
-fault_rows() { sed -n 's/^| \(F[0-9]\) | `\([^`]*\)` |.*/\1 \2/p' "$top/docs/MANUAL.md" | sed 's/ [A-Z]\( \|$\)/\1/g' | sort; }
+# the manual without its section on problems, whose codes are those of faults, and others
+but_problems() { sed '/^### problems/,/^## /d' "$top/docs/MANUAL.md"; }
+fault_rows() { but_problems | sed -n 's/^| \(F[0-9]\) | `\([^`]*\)` |.*/\1 \2/p' | sed 's/ [A-Z]\( \|$\)/\1/g' | sort; }
 same 'the faults of the manual' "$(fault_words)" "$(fault_rows)"
+problem_codes() { grep -o 'codes "\(problem \)\?[FS][0-9]*' "$top/crates/script_text/specs/ProblemTexts.antt" | grep -o '[FS][0-9]*$' | sort -V; }
+problem_rows() { sed -n '/^### problems/,/^## /s/^| \([FS][0-9]*\) |.*/\1/p' "$top/docs/MANUAL.md"; }
+same 'the problems of the manual' "$(problem_codes)" "$(problem_rows)"
 # a text of the definitions ends where a number follows, and the manual has a letter there
 texts() { grep -o 'codes "[LPSE][0-9][0-9] [^"]*"' "$top/crates/script_text/specs/RefusalTexts.antt" | sed 's/codes "//; s/ *"$//' | sort -u; }
-rows() { sed -n 's/^| \([LPSE][0-9][0-9]\) | `\([^`]*\)` |.*/\1 \2/p' "$top/docs/MANUAL.md" | sed 's/ [A-Z]\( of N\| bytes\)\?$//; s/ A\.B$//' | sort -u; }
+rows() { but_problems | sed -n 's/^| \([LPSE][0-9][0-9]\) | `\([^`]*\)` |.*/\1 \2/p' | sed 's/ [A-Z]\( of N\| bytes\)\?$//; s/ A\.B$//' | sort -u; }
 same 'the refusals of the manual' "$(texts)" "$(rows)"
 [ "$(texts | wc -l)" -ge 40 ] && tell 'there are refusals' ok || tell 'there are refusals' "$(texts | wc -l)"
 

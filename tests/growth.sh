@@ -22,7 +22,8 @@ last=0
 # may_want LINE: whether this line may be answered E11: its command takes memory, or to be read it does (names, texts, numbers)
 may_want() {
     case $1 in
-        count | info | totals | sample* | geometry* | stat\ * | fold* | range* | code* | delete* | drop*) return 1 ;;
+        count | info | totals | sample* | geometry* | stat\ * | fold* | range* | code* | drop*) return 1 ;;
+        'delete '?) return 1 ;; # one trace; more are listed
         get*@* | bin*@*) return 1 ;;
         'lines 9') return 1 ;; # there is no such block
     esac
@@ -80,17 +81,20 @@ queries=(grid inlines crosslines histogram 'slice 0' 'slice 1' faults fields sta
 
 # ---- each kind of edit, twice, and then each query: the second edit is as with ample memory where the first was refused
 for edit in 'set 2 @189:4 7' 'set 2 inline 11' 'set 2 crossline 5' 'set 2 offset 7' 'set 3 x -7' 'set 3 scalar -100' 'set 1 @1:4 258' 'set 1 @225:8 5' \
-    'patch 1 0 32767 -32768' 'patch 2 1 9' 'blank 1' 'blank 4' 'copy 1 2' 'copy 3 4' 'delete 2' 'move 1 3' 'move 3 1' \
+    'patch 1 0 32767 -32768' 'patch 2 1 9' 'blank 1' 'blank 4' 'copy 1 2' 'copy 3 4' 'delete 2' 'move 1 3' 'move 3 1' 'move 2 3 1' 'move 1 2 2' 'move 1 3 1' \
     'renumber 1 3 inline 70 1' 'renumber 1 3 @1:4 7 -2' 'renumber 2 3 scalar -1 -99' 'resize 1 4' \
     'compute 1 3 inline crossline * 2 + 7' 'compute 2 3 @1:4 x / inline % 100' 'compute 1 3 crossline 5' 'sort 1 3 -crossline' 'sort 2 3 inline -@37:4' \
-    'map inline @193:4' 'map x @73:4' 'map scalar @69:2' 'map mine @17:4' 'bin interval 2000' 'bin @3217:2 2000' 'text 1 NO C'; do
+    'delete 1 2' 'delete all' 'delete all where crossline = 22' 'set all inline 7 where crossline > 21' 'set 1 3 @1:4 9 where @189:4 >= 10 and offset != 200' \
+    'renumber all @5:4 5 3 where x > 1000' 'compute all crossline offset / 100 where inline = 10' 'compute 1 3 @1:4 x + y where 7 <= 7' 'delete 1 2 where inline = 11' \
+    'map inline @193:4' 'map x @73:4' 'map scalar @69:2' 'map mine @17:4' 'map shot' 'map usual' 'bin interval 2000' 'bin @3217:2 2000' 'text 1 NO C'; do
     grows "$edit" s.sgy "$edit" "$edit" "${queries[@]}"
 done
 grows 'names bound and left out' s.sgy 'map mine @189:4' 'set 2 mine 7' 'get 2 inline' 'unmap mine' 'get 2 mine' 'map mine @9:4' fields
 
 # ---- each kind of query, twice
 for query in 'get 1 inline' 'getbin interval' 'get 1 @189:4' count info 'code 0' 'geometry 2' 'stat 2' 'sample 2 1' 'fold 10 21' 'range inline' totals \
-    'line 0 1' stanzas fields grid inlines crosslines histogram 'slice 1' faults \
+    'line 0 1' stanzas fields grid inlines crosslines histogram 'slice 1' faults problems \
+    'count all where inline = 10' 'count 1 2 where @1:8 > 7 and inline != 10' 'table all inline where crossline > 21' 'find all offset 0 200 where crossline != 21' 'extremes all where crossline = 22' \
     'table 1 2 inline x @189:4' 'table 2 2 @1:8' 'find 1 2 crossline 21 22' 'find 1 2 @1:8 7 8' 'header 2' 'extremes 1 2' 'lines 0'; do
     grows "$query" s.sgy "$query" "$query" 'delete 1' "$query"
 done
@@ -192,7 +196,7 @@ random_lines() { # SEED NUMBER: into the array `all`
     all=()
     for ((n = 0; n < $2; n++)); do
         p=$((1 + RANDOM % 5)) q=$((1 + RANDOM % 5))
-        case $((RANDOM % 33)) in
+        case $((RANDOM % 34)) in
             0 | 1) all+=("set $p inline $((RANDOM % 30))") ;;
             2 | 3) all+=("set $p @$((1 + RANDOM % 237)):4 $RANDOM") ;;
             4) all+=("set $p x $RANDOM") ;;
@@ -209,7 +213,7 @@ random_lines() { # SEED NUMBER: into the array `all`
             17) all+=("bin job $RANDOM") ;;
             18) all+=(grid) ;;
             19) all+=("slice $((RANDOM % 2))") ;;
-            20) all+=(faults) ;;
+            20) all+=(faults problems) ;;
             21) all+=(histogram) ;;
             22) all+=("get $p name_$((RANDOM % 4))") ;;
             23) all+=("${queries[RANDOM % ${#queries[@]}]}") ;;
@@ -222,6 +226,7 @@ random_lines() { # SEED NUMBER: into the array `all`
             30) all+=("compute $p $q inline crossline * $((RANDOM % 9)) - name_$((RANDOM % 4))") ;;
             31) all+=("compute $p $q @$((1 + RANDOM % 237)):4 $RANDOM % @$((1 + RANDOM % 237)):4") ;;
             32) all+=("sort $p $q -inline name_$((RANDOM % 4))" "sort 1 2 @$((1 + RANDOM % 237)):4") ;;
+            33) all+=("move $p $q $((1 + RANDOM % 4))" 'map shot' 'map usual') ;;
         esac
     done
 }
@@ -238,7 +243,7 @@ for ((n = 0; n < 66; n++)); do all+=('move 1152 1' 'move 700 1'); done
 grows 'many moves' many.sgy "${all[@]}" 'fold 0 0' 'stat 1'
 
 # ---- each command that may want memory did
-for word in set renumber patch resize blank copy move map bin getbin get text unmap line stanzas fields grid inlines crosslines histogram slice faults table find header extremes lines compute sort; do
+for word in set renumber patch resize blank copy move map bin getbin get text unmap line stanzas fields grid inlines crosslines histogram slice faults problems table find header extremes lines compute sort; do
     if [ "${refused[$word]:-0}" -gt 0 ]; then tell "$word was refused for want of memory" ok; else tell "$word was refused for want of memory" never; fi
 done
 

@@ -359,7 +359,7 @@ static void info_of(const struct volume *file, const struct parts *parts, size_t
 
 /* The queries: those of traces where there are traces, from the first to the last of them, and those of values where samples have them. */
 static void ask(const char *text, int is_opaque) {
-    static const char always[] = "count\ninfo\nfaults\nrange x\ngrid\nhistogram\nstanzas\nline 0 1\nfields\nlines 0\n";
+    static const char always[] = "count\ninfo\nfaults\nproblems\nrange x\ngrid\nhistogram\nstanzas\nline 0 1\nfields\nlines 0\n";
     char queries[1000];
     unsigned long traces = 0;
     strcpy(queries, always);

@@ -25,11 +25,13 @@ alike() {
 }
 
 # ---- the same answers and bytes
-printf '%s\n' count info 'get 2 inline' 'set 2 inline 7' 'get 2 inline' 'sample 2 1' 'patch 2 0 5 6' 'sample 2 0' grid inlines histogram 'range x' totals faults \
-    'slice 1' 'header 2' 'extremes 1 3' 'table 1 3 inline crossline' 'find 1 3 inline 7 7' 'geometry 1' 'stat 2' > script
+printf '%s\n' count info 'get 2 inline' 'set 2 inline 7' 'get 2 inline' 'sample 2 1' 'patch 2 0 5 6' 'sample 2 0' grid inlines histogram 'range x' totals faults problems \
+    'slice 1' 'header 2' 'extremes 1 3' 'table 1 3 inline crossline' 'find 1 3 inline 7 7' 'geometry 1' 'stat 2' 'count all where inline = 7' \
+    'table all crossline where inline != 7 and @1:4 >= 0' 'find all inline 0 99 where crossline > 21' 'extremes all where crossline > 21' > script
 for file in s.sgy x.sgy t.sgy v.sgy; do alike "every query of $file" $file; done
 printf '%s\n' 'blank 1' 'copy 2 1' 'delete 3' 'move 1 2' 'renumber 1 2 inline 100 5' 'compute 1 2 crossline inline * 2' 'map inline @189:4' 'resize 1 4' \
-    'text 3 changed' 'bin interval 2000' 'sort 1 2 -inline' totals grid fields 'unmap inline' > script
+    'text 3 changed' 'bin interval 2000' 'sort 1 2 -inline' 'move 1 2 last' 'map shot' grid 'map usual' totals grid fields 'unmap inline' 'set all crossline 9 where inline > 100' 'renumber all @5:4 7 2 where crossline = 9' \
+    'compute all inline crossline + 1 where @5:4 > 7' 'delete all where inline = 10' grid faults problems 'delete 1 2' totals > script
 for file in s.sgy x.sgy t.sgy v.sgy; do alike "edits of $file" $file; done
 alike 'a file with more header extensions' x.sgy --stop
 alike 'a file that is refused' script
@@ -37,7 +39,7 @@ head -c 4000 s.sgy > torn.sgy
 alike 'a torn file' torn.sgy
 alike 'a file above its limit' s.sgy --max-bytes 4331
 printf '%s\n' info 'sample 1 1' 'stat 1' 'stat 2' totals 'slice 0' 'patch 1 0 nan -1e-5' 'patch 2 0 1e999' 'stat 1' totals 'slice 0' 'slice 1' 'resize 2 4' 'stat 2' \
-    'copy 2 1' 'blank 1' 'move 1 3' totals 'slice 1' 'delete 2' totals faults > script
+    'copy 2 1' 'blank 1' 'move 1 3' totals 'slice 1' 'delete 2' totals faults problems > script
 float_line f1.sgy big 1 0 42010000,c276a000 - 7fffffff,4019999a,80000000
 float_line f5.sgy little 5 2 3dcccccd,c2ed4000 7fc00000,7f800000 80000000,00000001
 float_line f6.sgy big 6 1 3fb999999999999a,c05da80000000000 7ff8000000000000,fff0000000000000 8000000000000000,0000000000000001
@@ -168,6 +170,8 @@ last=$("$program" v.sgy --script /dev/stdin <<< count | cut -d' ' -f2)
 meanwhile 'cut' "get $last inline" 'refused E14 read failed' 'truncate -s 3700 own.sgy'
 meanwhile 'cut, and a slice' 'slice 0' 'refused E14 read failed' 'truncate -s 3700 own.sgy'
 meanwhile 'cut, and a set that reads nothing' "set $last inline 7" 'ok' 'truncate -s 3700 own.sgy'
+meanwhile 'cut, and a choice' 'count all where @1:4 = 0' 'refused E14 read failed' 'truncate -s 3700 own.sgy'
+meanwhile 'cut, and an edit of chosen traces' 'set all @1:4 7 where inline > 0' 'refused E14 read failed' 'truncate -s 3700 own.sgy'
 meanwhile 'grown' 'count' "traces $last" 'printf x >> own.sgy'
 meanwhile 'a trace of another length' "get 1 inline" 'refused E15 file changed' 'put own.sgy $((3600 + 114)) 0fff'
 meanwhile 'a statistic of whole numbers, cut' 'stat 1' "$(echo 'stat 1' | "$program" v.sgy --script /dev/stdin)" 'truncate -s 3700 own.sgy'
@@ -176,6 +180,7 @@ totals=$(echo totals | "$program" f1.sgy --floats --script /dev/stdin)
 meanwhile 'a statistic of floats, cut' 'stat 3' 'refused E14 read failed' 'truncate -s 3700 own.sgy'
 meanwhile 'a slice of floats, cut' 'slice 0' 'refused E14 read failed' 'truncate -s 3700 own.sgy'
 meanwhile 'totals of floats, cut' totals "$totals" 'truncate -s 3700 own.sgy'
+meanwhile 'problems of floats, cut' problems 'refused E14 read failed' 'truncate -s 3700 own.sgy'
 meanwhile 'a statistic of floats, of another length' 'stat 1' 'refused E15 file changed' 'put own.sgy $((3600 + 114)) 0fff'
 
 # ---- the file changes while it is copied to a pipe, which took a part by then

@@ -45,7 +45,7 @@ lacks 'and has none' page.html '<img'
 has 'what the file is' page.html '<tr><th scope="row">bytes</th><td>6600</td></tr>'
 has 'what ranges it has' page.html '<tr><th scope="row">x, under the scalar</th><td>450000 to 450075</td></tr>'
 has 'its totals' page.html '<tr><th scope="row">least sample</th><td>-103</td></tr>'
-has 'no faults' page.html '<p>None.</p>'
+has 'no problems' page.html '<p>None.</p>'
 same 'the lines of the textual header' "$(grep -c '^<div>C[ 1-4][0-9]' page.html)" 40
 
 # texts of the file and of the script do not become markup
@@ -68,15 +68,29 @@ has 'a refused line behind a list' page.html '<tr><th scope="row">8</th><td>E01 
 runs 'before and after' 0 '' segywb-report --no-pictures wrong_line.sgy page.html fix.txt
 has 'a number that the edits change' page.html '<tr class="differs"><th scope="row">cells of the grid</th><td>8</td><td>12</td></tr>'
 has 'a number that they leave' page.html '<tr><th scope="row">traces</th><td>12</td><td>12</td></tr>'
-has 'faults that they take away' page.html '<td>4</td><td>trace 5 first 1; trace 6 first 2; trace 7 first 3; trace 8 first 4</td><td>0</td><td></td>'
+has 'problems that they take away' page.html '<td>4</td><td>traces 5 to 8: before 4</td><td>0</td><td></td><td></td>'
 has 'the line as it was' page.html '<div class="differs">C 5</div>'
 has 'the line as it is' page.html '<div class="differs">C CORRECTED</div>'
 same 'no other line is marked' "$(grep -c '^<div class="differs">' page.html)" 2
 cmp -s wrong_line.sgy "$here/../examples/wrong_line.sgy" && tell 'the file stays as it was' ok || tell 'the file stays as it was' 'it was changed'
-runs 'a page of more than five faults' 0 '' segywb-report --no-pictures wrong_count.sgy page.html
-has 'names the first five' page.html '<td>12</td><td>trace 1 interval 4000 binary 2000; trace 2 interval 4000 binary 2000; trace 3 interval 4000 binary 2000; trace 4 interval 4000 binary 2000; trace 5 interval 4000 binary 2000; ..</td>'
+runs 'a page of a wrong binary header' 0 '' segywb-report --no-pictures wrong_count.sgy page.html
+has 'where they are' page.html '<td>12</td><td>traces 1 to 12: interval 4000 binary 2000</td><td></td></tr>'
+has 'what would mend it' page.html '<td>1</td><td>count 13 traces 12</td><td><code>bin trace_count 12</code></td></tr>'
+same 'problems stand first' "$(sed -n 's/^<h2>\([A-Z][a-z]*\)<.*/\1/p' page.html | head -n 1)" Problems
+for p in 1 3 5 7 9 11; do echo "set $p scalar -10"; done > script
+printf 'delete 12\nset 2 delay 8\nproblems\ncount\n' >> script
+runs 'a page of more than five runs' 0 '' segywb-report --no-pictures cube.sgy page.html script
+has 'a script with a list of problems' page.html '<code>script</code>: 10 lines with an answer, 0 refused.'
+has 'names the first five' page.html '<td>5</td><td>trace 2: scalar -100 usual -10; trace 4: scalar -100 usual -10; trace 6: scalar -100 usual -10; trace 8: scalar -100 usual -10; trace 10: scalar -100 usual -10</td><td><code>set all scalar -10 where scalar != -10</code></td></tr>'
+has 'another delay' page.html '<td>1</td><td>trace 2: delay 8 usual 0</td><td><code>set all delay 0 where delay != 0</code></td></tr>'
 runs 'a page of a file without traces' 0 '' segywb-report --no-pictures none.sgy page.html
 has 'says so' page.html '<tr><th scope="row">fold (traces of a cell)</th><td>none</td></tr>'
+
+# where the device fails under the question, the page says that it does not know
+printf '#!/bin/bash\nset -o pipefail\n"%s" "$@" | sed "/^problem /d; /^run /d; s/^problems [0-9]*$/refused E14 read failed/"\n' "$SEGYWB" > failing
+chmod +x failing
+SEGYWB=$PWD/failing runs 'a page without problems' 0 '' segywb-report --no-pictures wrong_count.sgy page.html
+has 'says why there are none' page.html '<p>Not told: E14 read failed</p>'
 
 # floats: what can be told of them, and why the rest is not
 runs 'a page' 0 '' segywb-report --no-pictures cube.sgy memory.html
@@ -85,7 +99,7 @@ if cmp -s memory.html disk.html; then tell 'the same page' ok; else tell 'the sa
 runs 'a page of floats' 0 '' segywb-report --no-pictures float_line.sgy page.html fix.txt
 has 'their format' page.html '<tr><th scope="row">sample format</th><td>1: 4 bytes, IBM float</td><td>1: 4 bytes, IBM float</td></tr>'
 has 'their cells' page.html '<tr class="differs"><th scope="row">cells of the grid</th><td>8</td><td>12</td></tr>'
-has 'their faults' page.html '<td>4</td><td>trace 5 first 1; trace 6 first 2; trace 7 first 3; trace 8 first 4</td><td>0</td><td></td>'
+has 'their problems' page.html '<td>4</td><td>traces 5 to 8: before 4</td><td>0</td><td></td><td></td>'
 printf 'patch 6 2 -12.75\npatch 9 3 0 0\n' > muted.txt
 runs 'a page of wrong floats' 0 '' segywb-report --no-pictures --floats wrong_floats.sgy page.html muted.txt
 has 'their least' page.html '<tr><th scope="row">least sample</th><td>-12.875</td><td>-12.875</td></tr>'

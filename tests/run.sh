@@ -301,7 +301,10 @@ expect 'the greatest limit' 0 'ok\n' '' s.sgy --script script --max-bytes 109951
 . "$here/headers.sh" || tell 'headers.sh' 'did not run to its end'
 . "$here/computed.sh" || tell 'computed.sh' 'did not run to its end'
 . "$here/sorted.sh" || tell 'sorted.sh' 'did not run to its end'
+. "$here/chosen.sh" || tell 'chosen.sh' 'did not run to its end'
 . "$here/traces.sh" || tell 'traces.sh' 'did not run to its end'
+. "$here/blocks.sh" || tell 'blocks.sh' 'did not run to its end'
+. "$here/problems.sh" || tell 'problems.sh' 'did not run to its end'
 
 . "$here/documents.sh" || tell 'documents.sh' 'did not run to its end'
 

@@ -48,15 +48,15 @@ told 'a number with a point' 'set 1 inline 7.0' 'S03 number: set 1 inline 7.0 (w
 told 'a number with a plus' 'set 1 inline +7' 'S03 number: set 1 inline +7 (a number has no + in front)'
 told 'a note behind a command' 'set 1 inline 7 # why' 'S02 words: set 1 inline 7 # why (a note stands on a line of its own)'
 told 'a note behind numbers' 'patch 1 0 7 # why' 'S03 number: patch 1 0 7 # why (a note stands on a line of its own)'
-told 'too few words' 'set 1 inline' 'S02 words: set 1 inline (the form is set P [Q] FIELD NUMBER)'
-told 'too many words' 'count 1' 'S02 words: count 1 (the form is count)'
-told 'too few words of a search' 'find 1 3 inline 7' 'S02 words: find 1 3 inline 7 (the form is find P Q FIELD LOW HIGH)'
-told 'a table without fields' 'table 1 3' 'S02 words: table 1 3 (the form is table P Q FIELD ..)'
+told 'too few words' 'set 1 inline' 'S02 words: set 1 inline (the form is set P [Q] FIELD NUMBER [where A OP B ..])'
+told 'too many words' 'count 1' 'S02 words: count 1 (the form is count [P Q where A OP B ..])'
+told 'too few words of a search' 'find 1 3 inline 7' 'S02 words: find 1 3 inline 7 (the form is find P Q FIELD LOW HIGH [where A OP B ..])'
+told 'a table without fields' 'table 1 3' 'S02 words: table 1 3 (the form is table P Q FIELD .. [where A OP B ..])'
 told 'a table of too many fields' "table 1 3$(printf ' x%.0s' $(seq 65))" "S02 words: table 1 3$(printf ' x%.0s' $(seq 25)) .. (a table has at most 64 fields)"
 told 'drop alone' 'drop' 'S02 words: drop (the form is drop tail)'
 told 'drop of something else' 'drop head' 'S03 number: drop head (the form is drop tail)'
 told 'a near word of drop' 'dorp tail' 'S01 unknown word: dorp tail (did you mean drop?)'
-told 'words in another order' 'set inline 1 7' 'S03 number: set inline 1 7 (the form is set P [Q] FIELD NUMBER)'
+told 'words in another order' 'set inline 1 7' 'S03 number: set inline 1 7 (the form is set P [Q] FIELD NUMBER [where A OP B ..])'
 told 'a place that is none' 'get 1 @189' 'S03 number: get 1 @189 (a place is @BYTE:SIZE, as @189:4)'
 told 'a place without its sign' 'map shot 17:4' 'S03 number: map shot 17:4 (FIELD is a place, as @189:4, or a name, as source_x)'
 told 'a range of what is none' 'range z' 'S03 number: range z (WHICH is inline, crossline, offset, x or y)'
@@ -111,7 +111,7 @@ told 'P behind Q of a computation' 'compute 2 1 offset 1' 'E01 no trace 1 of 3: 
 forms() { sed -n 's/^### \([a-z].*\)/\1/p' "$top/docs/MANUAL.md"; }
 top=$(cd "$here/.." && pwd)
 forms | while read -r word rest; do
-    if [ -n "$rest" ]; then echo "$word"; else echo "$word 1"; fi
+    if [ -n "$rest" ] && [ "$word" != count ]; then echo "$word"; else echo "$word 1"; fi
 done > script
 forms > wanted
 # the first 20 refused lines of a run are told

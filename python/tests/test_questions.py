@@ -19,6 +19,7 @@ METHODS = {
     "patch": "patch", "resize": "resize", "blank": "blank", "copy": "copy", "delete": "delete", "move": "move", "count": "count",
     "info": "info", "geometry": "geometry", "stat": "stat", "totals": "totals", "range": "range", "fold": "fold", "grid": "grid",
     "inlines": "inlines", "crosslines": "crosslines", "histogram": "histogram", "slice": "slice", "faults": "faults",
+    "problems": "problems",
     "table": "headers", "find": "find", "header": "header", "extremes": "extremes", "lines": "lines",
 }
 
@@ -134,7 +135,68 @@ def test_faults(opened):
 
 def test_meanings_are_those_of_the_manual():
     manual = (TOP / "docs" / "MANUAL.md").read_text()
-    assert sorted(set(re.findall(r"^\| (F\d) \|", manual, re.M))) == sorted(segywb.answers.MEANINGS)
+    section = manual[manual.index("### problems"):]
+    section = section[:section.index("\n## ")]
+    assert re.findall(r"^\| ([FS]\d+) \|", section, re.M) == list(segywb.answers.MEANINGS)
+
+
+def test_problems(opened, tmp_path):
+    volume = opened("cube")
+    assert volume.problems() == []
+    volume.set_many("scalar", [2, 3, 7], [10, 10, -10])
+    volume.set(12, "delay", -8)
+    volume.set_text(2, "no letter in front")
+    lines, scalars, delays = volume.problems()
+    assert (lines.code, lines.traces, lines.runs, lines.facts, lines.how_many) == ("F8", None, 0, {"lines": 1}, 1)
+    assert (scalars.code, scalars.traces, scalars.runs, scalars.how_many) == ("S3", 3, 2, 3)
+    usual = scalars.first_runs[0].facts["usual"]
+    assert scalars.first_runs == [(2, 3, {"scalar": 10, "usual": usual}), (7, 7, {"scalar": -10, "usual": usual})]
+    assert scalars.mend == f"set all scalar {usual} where scalar != {usual}"
+    assert delays.mend == "set all delay 0 where delay != 0"
+    assert scalars.text.split("\n")[0] == "problem S3 traces 3 runs 2" and scalars.meaning == segywb.answers.MEANINGS["S3"]
+    assert lines.mend is None
+
+
+def test_problems_without_runs_of_traces(opened, tmp_path):
+    volume = opened(files.cube(tmp_path / "made.sgy", inlines=5, crosslines=4))
+    for _ in range(4):
+        volume.delete(9)
+    volume.renumber(1, len(volume), "sequence_file", 1, 1)
+    (missing,) = volume.problems()
+    assert missing == ("S7", None, 1, [(3, 3, {"step": 1})], {"missing": 1}, "problem S7 missing 1 runs 1\nrun 3 3 step 1")
+    assert missing.how_many == 1 and missing.mend is None
+    volume.set_many("inline", range(1, 17), [0] * 16)
+    volume.set_many("crossline", range(1, 17), [0] * 16)
+    (shots,) = volume.problems()
+    assert (shots.code, shots.traces, shots.facts, shots.how_many) == ("S1", 16, {"inline": 0, "crossline": 0}, 16)
+
+
+def test_a_fold_that_differs(opened, tmp_path):
+    volume = opened(files.cube(tmp_path / "made.sgy"))
+    volume.copy(5, 13)
+    volume.set(13, "offset", 7)
+    volume.set(13, "sequence_file", 13)
+    (fold,) = volume.problems()
+    told = {"cells": 12, "usual": 1, "less": 0, "more": 1, "least": 1, "greatest": 2}
+    assert fold == ("S9", None, 0, [], told, "problem S9 cells 12 usual 1 less 0 more 1 least 1 greatest 2") and fold.how_many == 1
+    assert fold.mend is None
+
+
+def test_the_number_of_traces(opened, tmp_path):
+    volume = opened(files.write(tmp_path / "made.sgy", files.header(), files.binary(major=2, at3513=(8, 9)), files.trace(1, 1, 1, [1, 2])))
+    (count,) = volume.problems()
+    assert (count.code, count.traces, count.facts, count.how_many) == ("F7", None, {"count": 9, "traces": 1}, 1)
+    volume.run(count.mend)
+    assert volume.problems() == []
+
+
+@pytest.mark.parametrize("answer", [
+    "problems 1", "problems 0\nproblem F8 lines 1", "problems 1\nrun 1 2", "problems 1\nproblem F1 traces 2 runs 1", "problems 1\nproblem F1 runs 1 traces 2\nrun 1 2 shift 3",
+    "problems 1\nproblem F1 traces 2 runs 1\nrun 1 2 shift", "problems 1\nproblem S9 cells 3", "problems 1\nproblem", "problems x",
+])
+def test_an_answer_that_is_none(answer):
+    with pytest.raises(segywb.ProgramEnded):
+        segywb.problems.problems(answer.split("\n"))
 
 
 def test_without_traces(opened, tmp_path):

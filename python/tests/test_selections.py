@@ -144,6 +144,8 @@ def test_one_trace_by_numbers_of_each_width(opened, call):
 def test_no_trace(opened, call):
     volume = opened("cube")
     for which, (make, why) in NO_TRACE.items():
+        if which == "None" and call.split(" ")[0] in ("renumber", "compute", "sort"):
+            continue  # the first trace of the file there, or its last
         with pytest.raises(why):
             ONE[call](volume, make())
         assert volume.edits == [], which

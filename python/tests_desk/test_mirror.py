@@ -14,11 +14,10 @@ import pytest
 from conftest import HERE, SOURCES, TOP
 
 import segywb
-
-from segywb.desk import bundles, faults, maps, mirror, places, views
+from segywb.desk import bundles, faults, maps, mirror, places, problems, views, words
 from segywb.desk.desk import Desk
 
-MODULES = ("bundles", "cli", "desk", "faults", "fieldmaps", "graphs", "guard", "maps", "marks", "mirror", "places", "refusals", "saving", "sections", "server", "tables", "views", "words")
+MODULES = ("bundles", "cli", "desk", "faults", "fieldmaps", "graphs", "guard", "maps", "marks", "mirror", "places", "problems", "refusals", "saving", "sections", "server", "tables", "views", "words")
 NAMES = ["inline", "crossline", "x", "y", "scalar"]
 MORE = ["delay", "cdp", "@1:8", "trace_code"]  # fields that are shown: by a name of the program's own, of Seismic Unix, by a place
 
@@ -245,6 +244,35 @@ def test_windows_of_faults(desk):
     assert [one["text"] for one in faults.window(answer, "F1", 4, 3)] == wanted[4:7]
 
 
+def test_groups_of_problems(desk):
+    """What the page shows of each, the lines that may mend it among them."""
+    desk.run("delete 1")
+    desk.run("set 3 4 scalar 7")
+    kept = problems.Kept()
+    got = views.problems(desk, kept)
+    assert got["version"] == desk.version and kept.answer(desk.volume, desk.version) is got["problems"]
+    found = {one["code"]: one for one in got["problems"]}
+    assert [one.code for one in desk.volume.problems()] == list(found)
+    count = len(desk.volume)
+    assert found["F1"]["first"] == [{"text": f"traces 1 to {count}: shift 1", "trace": 1}] and found["F1"]["single"]
+    assert found["F1"]["line"] == "renumber all sequence_file 1 1"
+    assert found["F4"]["first"] == [{"text": "traces 3 to 4: scalar 7", "trace": 3}] and found["F4"]["line"] == "set 3 4 scalar "
+    usual = found["S3"]["first"][0]["text"].split()[-1]
+    assert found["S3"]["line"] == f"set all scalar {usual} where scalar != {usual}" and not found["S3"]["single"]
+    desk.run("set 3 4 scalar 10")
+    assert "F4" not in {one["code"] for one in views.problems(desk, kept)["problems"]}
+
+
+def test_a_look_at_very_many_traces_is_costly(desk, monkeypatch):
+    assert not views.state(desk)["costly"]
+    monkeypatch.setattr(views, "MOST_LOOKED_AT", len(desk.volume) - 1)
+    assert views.state(desk)["costly"]
+
+
+def test_each_problem_has_its_words():
+    assert list(words.words()["problems"]) == list(segywb.answers.MEANINGS)
+
+
 @pytest.mark.parametrize("name", MODULES)
 def test_examples_of_modules(name):
     assert doctest.testmod(importlib.import_module(f"segywb.desk.{name}")).failed == 0
@@ -302,3 +330,74 @@ def test_maps_by_either_way(monkeypatch):
     assert [at.tolist() for at in maps.folds(inlines, crosslines, down, right)] == [at.tolist() for at in one]
     assert [at.tolist() for at in maps.differing(one, other, len(right))] == found
     assert sorted(set(zip(down.places(inlines[:40]).tolist(), right.places(crosslines[:40]).tolist()))) == list(zip(*found))
+
+
+def chosen_line(chance, count):
+    """An edit of a range or of chosen traces, by any of the words that name them; it is accepted."""
+    field, where = chance.choice(["inline", "crossline", "delay", "@193:4", "x"]), chance.choice(["crossline > 2", "inline = 1 and delay != 3", "x < 0"])
+    first = chance.randint(1, count)
+    last = chance.randint(first, count)
+    span = chance.choice(["all", f"{first} {last}", f"{first} last", "last last"])
+    more = chance.choice(["", f" where {where}"])
+    return chance.choice([
+        f"set {span} {field} {chance.randint(0, 40)}{more}", f"renumber {span} {field} 3 {chance.randint(-1, 2)}{more}", f"set last {field} 8",
+        f"compute {span} {field} crossline + 1{more}", f"delete {first} {last}", f"delete {span} where {where}", "delete last", "copy 1 end", "copy last 1", "blank end",
+        "blank last", "move last 1", "sort all -crossline", f"set {first} {field} 5", "delete last last",
+        f"move {first} {last} {chance.randint(1, count - last + first)}", f"move {first} last last",
+        "map shot", "map usual",
+    ])
+
+
+@pytest.mark.parametrize("seed", range(12))
+def test_random_edits_of_chosen_traces(desk, seed):
+    chance = random.Random(seed)
+    for _ in range(6):
+        for _ in range(chance.randint(1, 3)):
+            if len(desk.volume) == 0:
+                desk.run("blank end")
+            told = desk.run(chosen_line(chance, len(desk.volume)))["answers"][0]
+            assert told["kind"] == "edit" and told["text"].startswith("ok"), told
+        shot = sound(desk)
+        assert not shot.mirror.origin.any() or len(set(shot.mirror.origin[shot.mirror.origin > 0].tolist())) == np.count_nonzero(shot.mirror.origin)
+        if chance.random() < 0.4:
+            desk.undo()
+            sound(desk)
+            desk.redo()
+            sound(desk)
+        desk.widen([*mirror.PLACES, *MORE])
+
+
+@pytest.mark.parametrize(("lines", "origin"), [
+    ("delete 3 18", [1, 2, 19, 20]), ("delete 18 last", [*range(1, 18)]), ("delete last\ndelete last\ndelete 3 18", [1, 2]), ("delete 1 2\ndelete 1 2", [*range(5, 21)]),
+    ("delete 19 20\ndelete 4 last", [1, 2, 3]), ("delete all", []), ("delete all\nblank end", [0]), ("move last 1\ndelete 2 3", [20, *range(3, 20)]),
+    ("move 2 5 9", [1, *range(6, 13), 2, 3, 4, 5, *range(13, 21)]), ("move 19 last 1", [19, 20, *range(1, 19)]),
+    ("move 1 2 last\ndelete 2 18", [3, 1, 2]), ("map shot\nmove 1 1 3", [2, 3, 1, *range(4, 21)]),
+    ("set all delay 7 where inline = 1\ndelete 1 19", [20]), ("copy last end\ndelete last 21", [*range(1, 21)]),
+    ("delete all where inline < 4", [0] * 5), ("sort all -inline\ncopy 1 end\nset 21 inline 5\ndelete last\ndelete 2 last", [0]),
+])
+def test_where_the_traces_are(desk, lines, origin):
+    """Behind deletions of ranges; of traces that conditions chose it is not known, as behind a sort."""
+    told = desk.run_script(lines)
+    assert "refused" not in told and sound(desk).mirror.origin.tolist() == origin
+
+
+def test_edits_of_chosen_traces_are_marked(desk):
+    """They are edits to the page, also those of no trace, and the columns follow them."""
+    told = desk.run("set all delay 7 where inline = 2 and crossline > 3")
+    assert told["answers"][0]["kind"] == "edit" and told["answers"][0]["text"] == "ok 2" and told["version"] == desk.version
+    shot = sound(desk)
+    assert np.flatnonzero(shot.mirror.columns["delay"]).tolist() == [8, 9] and shot.mirror.origin.tolist() == [*range(1, 21)]
+    assert desk.run("delete all where inline = 9")["answers"][0]["text"] == "ok 0" and len(sound(desk).mirror) == 20
+    assert desk.run("count all where delay = 7")["answers"][0]["kind"] == "query"
+    assert desk.run_script("set all delay 8 where delay = 7\ndelete 1 last where delay = 8")["edits"] == 2 and len(sound(desk).mirror) == 18
+    desk.undo()
+    assert sound(desk).mirror.columns["delay"].tolist().count(7) == 2 and desk.volume.edits[-1] == "delete all where inline = 9"
+
+
+def test_a_field_where(desk):
+    desk.run("map where @109:2")
+    desk.widen(["where"])
+    for line in ("set 3 where 5", "set 1 2 where 6 where where = 0", "set all where 7 where where = 6", "compute all where where + 1 where where > 5", "sort all where"):
+        assert desk.run(line)["answers"][0]["kind"] == "edit", line
+        sound(desk)
+    assert sorted(desk.now().mirror.columns["where"].tolist())[-3:] == [5, 8, 8]

@@ -21,8 +21,9 @@ def test_what_one_sees(opened):
     assert page.map() == BROKEN
     assert page.text("name") == "wrong_line.sgy"
     assert "12 traces of 5 samples, 0 edits" in page.text("summary")
-    page.wait(lambda: "4 faults" in page.text("panel"))
-    assert "inline, crossline and offset are those of trace Q, an earlier one" in page.text("panel")
+    page.wait(lambda: "1 problem." in page.text("panel"))
+    assert "inline, crossline and offset are those of an earlier trace" in page.text("panel")
+    assert page.text("tab-problems") == "Problems 1" and "traces 5 to 8: before 4" in page.text("panel")
     assert page.rows()[4] == ["5", "101", "201", "0", "45000000", "680002500", "-100"]
     page.hovered(0, 1, "inline 101, crossline 202: fold 2, 2 traces 2, 6")
     page.tab("numbers")
@@ -58,7 +59,7 @@ def test_a_command_changes_the_map(opened):
     assert page.run("renumber 5 8 inline 102 0") == "ok"
     assert page.map() == SOUND
     assert page.marks() == 1 and "8 cells changed by the last step" in page.text("caption")
-    page.wait(lambda: "No faults" in page.text("panel"))
+    page.wait(lambda: "No problems" in page.text("panel"))
     assert page.one("#panel tr.mark").text.startswith("F6 0\nwas 4")
     marked = page.wait(lambda: [one.get_attribute("data-at") for one in page.all("#table-room td.mark")])
     assert marked == ["4 0", "5 0", "6 0", "7 0"]
@@ -225,6 +226,67 @@ def test_a_fault_leads_to_its_trace(opened):
     page.wait(lambda: page.all("#fault-window button.link"))
     page.all("#fault-window li > button.link")[2].click()
     assert page.wait(lambda: page.all("tr.here"))[0].get_attribute("data-trace") == "7"
+
+
+def test_a_run_of_a_problem_leads_to_its_first_trace(opened):
+    page = opened("missing")
+    page.find("size").send_keys("10")
+    page.wait(lambda: "traces 7 to 11: shift 1" in page.text("panel"))
+    page.one("#panel td .was button.link").click()
+    assert page.wait(lambda: page.all("tr.here"))[0].get_attribute("data-trace") == "7"
+
+
+def test_a_line_that_mends_a_problem(opened):
+    """It is put into the command line, and runs when it is entered."""
+    page = opened("wrong_count")
+    page.wait(lambda: len(page.all("#panel button.line")) == 2)
+    assert [one.text for one in page.all("#panel button.line")] == ["set 1 12 interval 2000", "bin trace_count 12"]
+    page.all("#panel button.line")[1].click()
+    assert page.find("line").get_attribute("value") == "bin trace_count 12"
+    page.find("line").send_keys(Keys.ENTER)
+    page.wait(lambda: "1 problem." in page.text("panel"))
+    assert page.one("#panel tr.mark").text.startswith("F7 0\nwas 1")
+
+
+COSTLY = """
+const real = window.fetch;
+window.fetch = async (...words) => {
+  const answer = await real(...words);
+  if (!String(words[0]).includes("ask/state")) return answer;
+  return new Response(JSON.stringify({ ...(await answer.json()), costly: true }), { headers: answer.headers });
+};
+"""
+
+
+def test_problems_of_very_many_traces(opened):
+    """They are looked for when it is asked for, and after an edit not by themselves."""
+    page = opened("wrong_line")
+    page.wait(lambda: "1 problem." in page.text("panel"))
+    page.js(COSTLY)
+    page.run("set 1 delay 7")
+    page.wait(lambda: page.all("#look"))
+    assert "each of 12 traces is looked at" in page.text("panel") and page.text("tab-problems") == "Problems"
+    page.click("look")
+    page.wait(lambda: "2 problems." in page.text("panel") and "trace 1: delay 7 usual 0" in page.text("panel"))
+    page.run("set 1 delay 0")
+    page.wait(lambda: page.all("#look"))
+
+
+REFUSED = """
+const real = window.fetch;
+const told = JSON.stringify({ refused: "refused E14 read failed" });
+window.fetch = async (...words) => (String(words[0]).includes("ask/problems") ? new Response(told, { status: 409 }) : real(...words));
+"""
+
+
+def test_problems_that_cannot_be_told(opened):
+    """The file may be another by then: no panel says that nothing is wrong."""
+    page = opened("cube")
+    page.wait(lambda: "No problems found" in page.text("panel"))
+    page.js(REFUSED)
+    page.run("set 1 delay 7")
+    page.wait(lambda: page.text("panel") == "Not told: refused E14 read failed")
+    assert page.text("tab-problems") == "Problems"
 
 
 def test_before_and_now(opened):

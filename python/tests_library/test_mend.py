@@ -207,7 +207,7 @@ def test_a_wrong_condition(room, where):
 
 
 @pytest.mark.parametrize(("where", "count"), [
-    ("1", 12), ("traces > 12 -- more", 1), ("id IN (SELECT file FROM problem WHERE code = 'F6')", 4), ("0", 0),
+    ("1", 12), ("traces > 12 -- more", 1), ("id IN (SELECT file FROM problem WHERE code = 'F6')", 3), ("0", 0),
     ("EXISTS (SELECT 1 FROM header WHERE header.file = file.id AND field = 'scalar' AND least != greatest)", 0),
 ])
 def test_conditions(room, where, count):

@@ -36,7 +36,7 @@ def test_rows(few, tmp_path):
         6800050.0, -100, outline, "ebcdic", f"segywb {(TOP / 'VERSION').read_text().strip()}"
     )
     problems = rows(database, "SELECT name, code, count FROM problem JOIN file ON file.id = file ORDER BY name, code")
-    assert problems[:3] == [("elsewhere.sgy", "F6", 11), ("float_line.sgy", "F6", 4), ("missing.sgy", "F1", 5)]
+    assert problems[:3] == [("elsewhere.sgy", "S1", 12), ("float_line.sgy", "F6", 4), ("missing.sgy", "F1", 5)]
     assert rows(database, "SELECT least, greatest FROM header JOIN file ON file.id = file WHERE name = 'cube.sgy' AND field = 'sequence_file'") == [(1, 12)]
     text = rows(database, "SELECT text FROM text JOIN file ON file.id = file WHERE name = 'cube.sgy'")[0][0]
     assert text.splitlines()[0] == "C 1 EXAMPLE CUBE" and len(text.splitlines()) == 40

@@ -13,10 +13,10 @@ use Rattle.frame_cut.specs.Volume.{Volume, bytes_of}
 use Rattle.bench_rules.specs.KeptSlices.{Cache, kept_numbers, kept_of, is_from, IsRight}
 use Rattle.time_slice.proofs.CacheLemmas.{numbers_after_forgotten}
 use Rattle.bench_rules.specs.declared.edit.Edit.{Edit}
-use Rattle.bench_rules.specs.declared.edit.Edit.TheVariants.{Set, SetBin, Declare, DropTail, SetText, Map, Unmap, Patch, Blank, Copy, Delete, Move, Resize, Renumber, Compute, Sort}
+use Rattle.bench_rules.specs.declared.edit.Edit.TheVariants.{Set, SetBin, Declare, DropTail, SetText, Map, MapAs, Unmap, Patch, Blank, Copy, Delete, Move, MoveBlock, Resize, Renumber, Compute, Sort, OfChosen}
 use Rattle.bench_rules.specs.declared.refusal.Refusal.{Refusal}
 use Rattle.bench_rules.specs.declared.query.Query.{Query}
-use Rattle.bench_rules.specs.declared.query.Query.TheVariants.{Count, Info, Get, GetBin, Line, Code, Stanzas, Fields, Sample, Geometry, Stat, Fold, Grid, Inlines, Crosslines, Histogram, Range, Totals, Slice, Faults, Lines, Table, Find, Header, Extremes}
+use Rattle.bench_rules.specs.declared.query.Query.TheVariants.{Count, Info, Get, GetBin, Line, Code, Stanzas, Fields, Sample, Geometry, Stat, Fold, Grid, Inlines, Crosslines, Histogram, Range, Totals, Slice, Faults, Problems, Lines, Table, Find, Header, Extremes, OfChosen as AskOfChosen}
 use Rattle.bench_rules.specs.Kept.{kept_after_edit, kept_after_query, same_cell, cell_of}
 use Rattle.bench_rules.specs.Live.{AreSlicesOf, kept_after_reply}
 use Rattle.bench_rules.specs.Looks.{query_looks}
@@ -114,18 +114,21 @@ numbers_follow old new Declare cache cut none after = refl
 numbers_follow old new DropTail cache cut none after = refl
 numbers_follow old new (SetText q text) cache cut none after = refl
 numbers_follow old new (Map name field) cache cut none after = numbers_unless (is_geometry name) cache
+numbers_follow old new (MapAs mapping) cache cut none after = refl
 numbers_follow old new (Unmap name) cache cut none after = refl
 numbers_follow old new (Patch p k values) cache cut none after = numbers_after_forgotten k (length values) cache
 numbers_follow old new (Blank p) cache cut none after = refl
 numbers_follow old new (Copy q p) cache cut none after = refl
 numbers_follow old new (Delete p) cache cut none after = refl
 numbers_follow old new (Move a b) cache cut none after = refl
+numbers_follow old new (MoveBlock a b to) cache cut none after = refl
 numbers_follow old new (Resize p m) cache cut none after = refl
 numbers_follow old new (Renumber a b f first step) cache cut none after =
     numbers_unless (any_moves old new a b) cache ∙ numbers_of_many old new a b f first step (kept_numbers cache) cut none after
 numbers_follow old new (Compute a b f source steps) cache cut none after =
     numbers_unless (any_moves old new a b) cache ∙ numbers_of_computed old new a b f source steps (kept_numbers cache) cut none after
 numbers_follow old new (Sort a b fs falls) cache cut none after = refl
+numbers_follow old new (OfChosen c edit) cache cut none after = refl
 
 -- ---- the rows
 
@@ -163,16 +166,19 @@ right_part s edit moved cache all = by edit
     by DropTail = all
     by (SetText q text) = all
     by (Map name field) = if_not (is_geometry name)
+    by (MapAs mapping) = All-nil R
     by (Unmap name) = all
     by (Patch p k values) = All-filter (λ e. not (is_from k (length values) e.0)) R cache all
     by (Blank p) = All-nil R
     by (Copy q p) = All-nil R
     by (Delete p) = All-nil R
     by (Move a b) = All-nil R
+    by (MoveBlock a b to) = All-nil R
     by (Resize p m) = All-nil R
     by (Renumber a b f first step) = if_not moved
     by (Compute a b f source steps) = if_not moved
     by (Sort a b fs falls) = All-nil R
+    by (OfChosen c edit) = All-nil R
 
 -- each slice that stays is that of the volume after the edit
 pub slices_follow : (old new : State) (edit : Edit) (cache : Cache) → IsCut (bytes_of old.volume) old.reading old.limits old.volume → HasGeometry old.volume.head.extensions old.fields
@@ -209,11 +215,13 @@ no_slice (Range quantity) other = (λ s kept. refl, λ kept. refl)
 no_slice Totals other = (λ s kept. refl, λ kept. refl)
 no_slice (Slice k) other = absurd (other k refl)
 no_slice Faults other = (λ s kept. refl, λ kept. refl)
+no_slice Problems other = (λ s kept. refl, λ kept. refl)
 no_slice (Lines b) other = (λ s kept. refl, λ kept. refl)
 no_slice (Table a b fields) other = (λ s kept. refl, λ kept. refl)
 no_slice (Find a b field low high) other = (λ s kept. refl, λ kept. refl)
 no_slice (Header p) other = (λ s kept. refl, λ kept. refl)
 no_slice (Extremes a b) other = (λ s kept. refl, λ kept. refl)
+no_slice (AskOfChosen c query) other = (λ s kept. refl, λ kept. refl)
 
 -- numbers that an answer leaves stay whatever the reply is
 pub same_kept : {A E : Type 0} (r : Result A E) {after before : List ℕ} → after ≡ before → kept_after_reply r after before ≡ before

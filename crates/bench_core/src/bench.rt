@@ -15,7 +15,7 @@ ghost use Rattle.bench_rules.specs.Kept.{is_kept, kept_after_load, kept_after_ed
 ghost use Rattle.bench_core.specs.Lent.{volume_of};
 ghost use Rattle.bench_rules.specs.Live.{kept_after_reply};
 ghost use Rattle.bench_rules.specs.Looks.{load_looks, edit_looks, query_looks};
-ghost use Rattle.bench_rules.specs.Steps.{Step};
+ghost use Rattle.bench_rules.specs.Steps.{Step, told_of};
 
 use crate::changes::{change, follow, no_slices};
 use bench_rules::{Answer, AskFault, Edit, Items, Query, Refusal};
@@ -143,11 +143,13 @@ impl Bench {
     }
 
     /// One edit: done whole, and the reports follow it; or refused, and all is as it was, after one
-    /// of many traces too. `Set`, `Map`, `Patch`, `Blank`, `Copy`, `Move`, `Resize`, `Renumber`,
-    /// `Compute` and `Sort` take memory, and are refused for want of it, E11, only where nothing
-    /// else refuses them. On disk an edit that looks is also refused where a trace could not be
-    /// read (E14, E15). Slices that the edit may have changed are forgotten.
-    pub fn apply(&mut self, alloc: Global, edit: &Edit) -> Result<(), Refusal>
+    /// of many traces too. Tells of how many traces an edit of chosen ones was, where it has a
+    /// condition. `Set`, `Map`, `MapAs`, `Patch`, `Blank`, `Copy`, `Move`, `MoveBlock`, `Resize`,
+    /// `Renumber`, `Compute`, `Sort` and `OfChosen` take memory, and are refused for want of it,
+    /// E11, only where nothing else refuses them; `OfChosen`, whose traces have to be listed first,
+    /// in the place of any refusal but E01. On disk an edit that looks is also refused where a
+    /// trace could not be read (E14, E15). Slices that the edit may have changed are forgotten.
+    pub fn apply(&mut self, alloc: Global, edit: &Edit) -> Result<Option<u32>, Refusal>
         ensures step { IsTrue self.new.agreed → Step self.old.state edit.now result self.new.state }
         ensures err { OnErr result (self.new.state ≡ self.old.state) }
         ensures same { IsReadAs self.old.state self.new.state }
@@ -158,11 +160,13 @@ impl Bench {
         ensures kept { IsTrue self.new.agreed → self.new.kept ≡ kept_after_reply result
             (kept_after_edit self.old.state edit.now self.old.kept) self.old.kept }
         ensures kept_err { OnErr result (self.new.kept ≡ self.old.kept) }
+        ensures told { IfOk result (λ told. IsTrue self.new.agreed →
+            told ≡ told_of self.old.state edit.now) }
     {
         self.volume.stands();
-        let moved = change(&mut self.volume, alloc, edit)?;
+        let (moved, told) = change(&mut self.volume, alloc, edit)?;
         follow(&mut self.slices, edit, moved);
-        Ok(())
+        Ok(told)
     }
 
     /// The answer to a query, which leaves the state as it is. Takes memory where the answer is a

@@ -3,7 +3,7 @@ ghost use Rattle.std.specs.Prelude.{◌≡◌, IsTrue, IfOk, OnErr};
 ghost use Rattle.bench_rules.specs.KeptSlices.{none_kept};
 ghost use Rattle.edit_overlay.specs.CountedVolume.{RisesAtMost};
 ghost use Rattle.bench_rules.specs.Looks.{edit_looks};
-ghost use Rattle.bench_rules.specs.Steps.{Step};
+ghost use Rattle.bench_rules.specs.Steps.{Step, told_of};
 ghost use Rattle.live_volume.specs.Held.{IsReadAs};
 ghost use Rattle.bench_core.specs.Changes.{has_moved, is_moved, entries_after};
 
@@ -21,9 +21,13 @@ pub fn no_slices(alloc: Global) -> Result<SliceCache, OutOfMemory>
 }
 
 /// The edit in the volume. Where it is done, tells whether a set gave its trace, or a field of many
-/// traces counted up or computed one of them, another inline or crossline; of any other edit it
-/// tells no.
-pub fn change(volume: &mut LiveVolume, alloc: Global, edit: &Edit) -> Result<bool, Refusal>
+/// traces counted up or computed one of them, another inline or crossline, of any other edit no;
+/// and of how many traces one of chosen traces was, where it has a condition.
+pub fn change(
+    volume: &mut LiveVolume,
+    alloc: Global,
+    edit: &Edit,
+) -> Result<(bool, Option<u32>), Refusal>
     ensures step { IsTrue volume.new.agreed →
         Step volume.old.state edit.now result volume.new.state }
     ensures err { OnErr result (volume.new.state ≡ volume.old.state) }
@@ -32,14 +36,16 @@ pub fn change(volume: &mut LiveVolume, alloc: Global, edit: &Edit) -> Result<boo
     ensures loaded { volume.new.loaded ≡ volume.old.loaded }
     ensures looks { RisesAtMost volume.old.looks volume.new.looks
         (edit_looks volume.old.state edit.now) }
-    ensures moved { IfOk result (λ moved. IsTrue volume.new.agreed → moved
+    ensures moved { IfOk result (λ done. IsTrue volume.new.agreed → done.0
         ≡ has_moved volume.old.state edit.now volume.new.state) }
+    ensures told { IfOk result (λ done. IsTrue volume.new.agreed → done.1
+        ≡ told_of volume.old.state edit.now) }
 {
     match edit {
         Edit::Set(p, _, _) => {
             let before = volume.cell(*p);
             volume.apply(alloc, edit)?;
-            Ok(is_moved(before, volume.cell(*p)))
+            Ok((is_moved(before, volume.cell(*p)), None))
         }
         Edit::Renumber {
             first_trace: a,
@@ -47,17 +53,27 @@ pub fn change(volume: &mut LiveVolume, alloc: Global, edit: &Edit) -> Result<boo
             field,
             first_value: first,
             step,
-        } => { volume.renumber(alloc, *a, *b, field, *first, *step) }
+        } => {
+            let moved = volume.renumber(alloc, *a, *b, field, *first, *step)?;
+            Ok((moved, None))
+        }
         Edit::Compute {
             first_trace: a,
             last_trace: b,
             field,
             source,
             steps,
-        } => { volume.compute(alloc, *a, *b, field, source, steps.as_slice()) }
+        } => {
+            let moved = volume.compute(alloc, *a, *b, field, source, steps.as_slice())?;
+            Ok((moved, None))
+        }
+        Edit::OfChosen(chosen, edit) => {
+            let told = volume.apply_chosen(alloc, chosen, edit)?;
+            Ok((false, told))
+        }
         _ => {
             volume.apply(alloc, edit)?;
-            Ok(false)
+            Ok((false, None))
         }
     }
 }
@@ -95,11 +111,14 @@ pub fn follow(slices: &mut SliceCache, edit: &Edit, moved: bool)
             }
         }
         Edit::Patch(_, k, values) => slices.forget(*k, values.as_slice().len()),
-        Edit::Blank(_)
+        Edit::MapAs(_)
+        | Edit::Blank(_)
         | Edit::Copy(_, _)
         | Edit::Delete(_)
         | Edit::Move(_, _)
+        | Edit::MoveBlock(_, _, _)
         | Edit::Resize(_, _)
-        | Edit::Sort { .. } => slices.clear(),
+        | Edit::Sort { .. }
+        | Edit::OfChosen(_, _) => slices.clear(),
     }
 }

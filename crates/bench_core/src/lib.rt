@@ -12,9 +12,10 @@
 //!
 //! `load` takes memory for the file's bytes, the list of its traces, the six geometry names, the
 //! records with what has counted them, and room for kept slices; `apply` for `Set`, `Map`,
-//! `Patch`, `Blank`, `Copy`, `Move`, `Resize`, `Renumber`, `Compute` and `Sort` alone; `ask` for
-//! answers that are texts or lists alone: `Line`, `Lines`, `Stanzas`, `Fields`, `Grid`, `Inlines`,
-//! `Crosslines`, `Histogram`, `Slice`, `Faults`, `Table`, `Find`, `Header` and `Extremes`.
+//! `MapAs`, `Patch`, `Blank`, `Copy`, `Move`, `MoveBlock`, `Resize`, `Renumber`, `Compute`, `Sort`
+//! and `OfChosen` alone; `ask` for answers that are texts or lists alone: `Line`, `Lines`,
+//! `Stanzas`, `Fields`, `Grid`, `Inlines`, `Crosslines`, `Histogram`, `Slice`, `Faults`, `Table`,
+//! `Find`, `Header`, `Extremes` and `OfChosen`.
 #![tactic(auto)]
 
 mod bench;
@@ -22,6 +23,6 @@ mod changes;
 
 pub use crate::bench::Bench;
 pub use bench_rules::{
-    Answer, AskFault, Edit, Extremes, Field, Info, Items, Operand, Operator, Query, Refusal, Table,
-    Text,
+    Answer, AskFault, Chosen, ChosenEdit, ChosenQuery, Comparison, Condition, Edit, Extremes,
+    Field, Info, Items, Mapping, Operand, Operator, Query, Refusal, Table, Text,
 };

@@ -5,12 +5,14 @@ use Rattle.field_map.specs.declared.place.Place.{Place}
 use Rattle.frame_cut.specs.Cuts.{IsCut}
 use Rattle.frame_cut.specs.Volume.{Volume}
 use Rattle.frame_cut.specs.Traces.{trace_at, with_trace}
-use Rattle.bench_rules.specs.declared.edit.Edit.TheVariants.{Set, SetBin, Declare, DropTail, SetText, Map, Unmap, Patch, Blank, Copy, Delete, Move, Resize, Renumber, Compute, Sort}
+use Rattle.bench_rules.specs.declared.edit.Edit.TheVariants.{Set, SetBin, Declare, DropTail, SetText, Map, MapAs, Unmap, Patch, Blank, Copy, Delete, Move, MoveBlock, Resize, Renumber, Compute, Sort, OfChosen}
+use Rattle.bench_rules.proofs.ChosenLemmas.{chosen_cut}
 use Rattle.bench_laws.specs.EditLaws.{StaysCut}
 use Rattle.bench_rules.specs.Places.{place_in_trace, place_in_binary}
 use Rattle.bench_rules.specs.Refused.{with_value}
 use Rattle.bench_rules.specs.After.{bytes_after}
 use Rattle.frame_cut.specs.Parts.{untailed, with_inserted, without, with_moved}
+use Rattle.bench_rules.specs.BlockMoves.{block_order, first_moved, last_moved}
 use Rattle.bench_rules.specs.WholeTraces.{blank_trace}
 use Rattle.bench_rules.proofs.AcceptedLemmas.{patch_accepted}
 use Rattle.bench_rules.proofs.PatchLemmas.{with_samples}
@@ -24,6 +26,7 @@ use Rattle.bench_rules.proofs.DeclareLemmas.{declare_is_after, drop_tail_is_afte
 use Rattle.bench_rules.specs.Sorted.{in_order, with_order}
 use Rattle.bench_rules.proofs.ComputeLemmas.{compute_accepted}
 use Rattle.bench_rules.proofs.SortedLemmas.{sort_accepted, sort_done}
+use Rattle.bench_rules.proofs.BlockMoveLemmas.{block_accepted, block_done}
 use Rattle.bench_laws.proofs.RenumberingLemmas.{unplaced, counted_traces, cut_counted, computed_traces, cut_computed}
 use Rattle.bench_laws.proofs.ResizeLemmas.{with_resized}
 
@@ -47,6 +50,7 @@ stays_cut s Declare cut none = (with_declared s.reading s.volume, (declare_is_af
 stays_cut s DropTail cut none = (untailed s.volume, (drop_tail_is_after s cut).volume, refl)
 stays_cut s (SetText q text) cut none = (with_text s.volume q text, (text_is_after s q text cut (text_accepted s q text none)).volume, refl)
 stays_cut s (Map name field) cut none = (s.volume, cut, refl)
+stays_cut s (MapAs mapping) cut none = (s.volume, cut, refl)
 stays_cut s (Unmap name) cut none = (s.volume, cut, refl)
 stays_cut s (Patch p k values) cut none =
     let a = patch_accepted s p k values none in
@@ -56,6 +60,9 @@ stays_cut s (Blank p) cut none = (with_inserted s.volume p (blank_trace s.volume
 stays_cut s (Copy q p) cut none = (with_inserted s.volume p (trace_at s.volume q), (copy_done s q p _ _ cut none refl refl).volume, refl)
 stays_cut s (Delete p) cut none = (without s.volume p, (delete_done s p _ cut none refl).volume, refl)
 stays_cut s (Move a b) cut none = (with_moved s.volume a b, (move_done s a b _ cut none refl).volume, refl)
+stays_cut s (MoveBlock a b to) cut none =
+    let w : Volume = with_order s.volume (first_moved a to) (last_moved a b to) (block_order a b to) in
+    (w, (block_done s a b to w cut (block_accepted s.volume a b to none) refl).volume, refl)
 stays_cut s (Resize p m) cut none =
     let w : Volume = with_resized s.volume p (nat_abs m) in
     (w, (resize_done s p m w _ cut none refl refl).volume, refl)
@@ -71,3 +78,4 @@ stays_cut s (Sort a b fs falls) cut none =
     let c = sort_accepted s a b fs falls none in
     let w : Volume = with_order s.volume a b (map (λ row. row.0) (in_order falls c.rows)) in
     (w, (sort_done s a b fs falls w cut c refl).volume, refl)
+stays_cut s (OfChosen c edit) cut none = chosen_cut s c edit cut none

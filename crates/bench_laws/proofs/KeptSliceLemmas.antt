@@ -14,7 +14,7 @@ use Rattle.frame_cut.specs.Parts.{untailed}
 use Rattle.frame_cut.specs.Volume.{Volume}
 use Rattle.bench_rules.specs.KeptSlices.{is_from}
 use Rattle.bench_rules.specs.Slices.{slice_of}
-use Rattle.bench_rules.specs.declared.edit.Edit.TheVariants.{Set, SetBin, Declare, DropTail, SetText, Map, Unmap, Patch, Blank, Copy, Delete, Move, Resize, Renumber, Compute, Sort}
+use Rattle.bench_rules.specs.declared.edit.Edit.TheVariants.{Set, SetBin, Declare, DropTail, SetText, Map, MapAs, Unmap, Patch, Blank, Copy, Delete, Move, MoveBlock, Resize, Renumber, Compute, Sort, OfChosen}
 use Rattle.bench_laws.specs.KeptLaws.{KeptSlicesStay}
 use Rattle.bench_rules.specs.Places.{place_in_binary, place_in_trace}
 use Rattle.bench_rules.specs.Reports.{slice_in}
@@ -78,6 +78,7 @@ kept_slices_stay old new (Map name f) kept k cut has none after any = by (place_
     by (Some place) e =
         slice_renamed old new k (bound old.fields name place) (one_volume old new (Map name f) old.volume after cut) (rw e at after.fields)
         (λ q g. place-bound old.fields name place q (no_geometry name q g free))
+kept_slices_stay old new (MapAs mapping) kept k cut has none after any = absurd (none_kept k any)
 kept_slices_stay old new (Unmap name) kept k cut has none after any =
     let free = unless_so (is_geometry name) faults.Geometry _ (no_fault (unbind_fault old.fields name) _ none) in
     slice_renamed old new k (unbound old.fields name) (one_volume old new (Unmap name) old.volume after cut) after.fields
@@ -101,7 +102,9 @@ kept_slices_stay old new (Blank p) kept k cut has none after any = absurd (none_
 kept_slices_stay old new (Copy q p) kept k cut has none after any = absurd (none_kept k any)
 kept_slices_stay old new (Delete p) kept k cut has none after any = absurd (none_kept k any)
 kept_slices_stay old new (Move a b) kept k cut has none after any = absurd (none_kept k any)
+kept_slices_stay old new (MoveBlock a b to) kept k cut has none after any = absurd (none_kept k any)
 kept_slices_stay old new (Resize p m) kept k cut has none after any = absurd (none_kept k any)
 kept_slices_stay old new (Renumber a b f first step) kept k cut has none after any = renumber_stays old new a b f first step kept k cut none after any
 kept_slices_stay old new (Compute a b f source steps) kept k cut has none after any = compute_stays old new a b f source steps kept k cut none after any
 kept_slices_stay old new (Sort a b fs falls) kept k cut has none after any = absurd (none_kept k any)
+kept_slices_stay old new (OfChosen c edit) kept k cut has none after any = absurd (none_kept k any)

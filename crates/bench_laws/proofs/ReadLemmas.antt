@@ -1,12 +1,13 @@
 -- What edits and queries are told of reads that failed.
-use Rattle.std.proofs.Common.{◌≡◌, inl, inr, ℕ, ◌+◌, nat_abs, nat_le, nat_lt, ℤ, pos, Bool, true, false, true≢false, not, List, [], ◌∷◌, Option, Some, None, Result, Ok, Err, IfErr, refl, sym, ap, ◌∙◌}
+use Rattle.std.proofs.Common.{◌≡◌, ◌⊎◌, inl, inr, ℕ, ◌+◌, nat_abs, nat_le, nat_lt, ℤ, pos, Bool, true, false, true≢false, not, List, [], ◌∷◌, Option, Some, None, Result, Ok, Err, IfErr, refl, sym, ap, ◌∙◌}
 use Rattle.std.specs.Prelude.{length, max, is_none, ◌&&◌, option_map, if◌then◌else◌}
-use Rattle.std.specs.Option.{IfSome, option_or}
+use Rattle.std.specs.Option.{IfSome, option_map_or, option_or}
 use Rattle.std.specs.List.{list_all}
 use Rattle.std.specs.Ordering.{int_eq}
 use Rattle.num_order.specs.Number.{fits}
 use Rattle.field_map.specs.declared.place.Place.{Place}
 use Rattle.field_map.specs.Binding.{bind_fault, unbind_fault}
+use Rattle.field_map.specs.Pairs.{Pairs}
 use Rattle.frame_cut.specs.declared.file_head.Head.{Head}
 use Rattle.frame_cut.specs.declared.limits.Limits.{Limits}
 use Rattle.frame_cut.specs.Frames.{sample_count}
@@ -34,8 +35,20 @@ use Rattle.bench_rules.specs.declared.refusal.Refusal.{Refusal}
 use Rattle.bench_rules.specs.declared.refusal.Refusal.TheVariants as refusals
 use Rattle.bench_rules.specs.Answer.{Reply, answer, or_fault, of_trace, trace_value, trace_sample, of_values, binary_value, line_answer, of_traces, table_answer, found_answer}
 use Rattle.bench_rules.specs.Computed.{Formula, formula_of, applied, divides, is_in_range, unless_refused, stepped, chained, chained_from, computed_in, term_in, steps_in, refusal_of_result, compute_refusal, first_at, compute_refusal_in}
+use Rattle.bench_rules.specs.declared.chosen_edit.ChosenEdit.{ChosenEdit}
+use Rattle.bench_rules.specs.declared.chosen_edit.ChosenEdit.TheVariants as each
+use Rattle.bench_rules.specs.declared.chosen_query.ChosenQuery.{ChosenQuery}
+use Rattle.bench_rules.specs.declared.chosen_query.ChosenQuery.TheVariants as chosen_queries
+use Rattle.bench_rules.specs.declared.test.Test.{Test}
+use Rattle.bench_rules.specs.ChosenEdits.{counted_each, has_fields, refusal_of_chosen, refusal_of_edit, refusal_under}
+use Rattle.bench_rules.specs.ChosenQueries.{answer_of_chosen, answer_of_each, answer_under, asks_for_fields, found_answer_of_each, of_range, table_answer_of_each, table_of_each}
+use Rattle.bench_rules.specs.Conditions.{chosen_among, range_of, tests_of}
+use Rattle.bench_rules.specs.RangeRefusals.{range_refusal}
+use Rattle.bench_rules.proofs.ToldLemmas.{told_is}
 use Rattle.bench_rules.specs.Headers.{named_places, header_of}
+use Rattle.bench_rules.specs.BlockMoves.{last_for_block}
 use Rattle.bench_rules.specs.ManyTraces.{each_of, positions}
+use Rattle.bench_rules.specs.Mappings.{bindings, first_bind_fault}
 use Rattle.bench_rules.specs.Places.{place_in_trace, place_in_binary, is_in_binary, touches_frame}
 use Rattle.bench_rules.specs.Refused.{first_refusal, is_line, is_sample_count, is_too_large, changes_length, no_trace, no_place_for_trace, room_refusal, insert_refusal, values_refusal, set_refusal, set_bin_refusal, text_refusal, map_refusal, count_refusal, no_trace_from, first_refusal_among, sort_refusal}
 use Rattle.bench_rules.specs.State.{State}
@@ -151,6 +164,30 @@ compute_silent : (v : Volume) (o : Option Formula) (a b : ℕ) → Silent (compu
 compute_silent v None a b = refl
 compute_silent v (Some f) a b = first_at_silent (compute_refusal v f) (λ p. result_silent v.head (trace_at v p) f.place _ (computed_silent v.head f p (trace_at v p))) (positions a b)
 
+-- ---- of chosen traces
+
+range_silent : (v : Volume) (range : Option (ℕ × ℕ)) → Silent (range_refusal v range)
+range_silent v None = tt
+range_silent v (Some r) = either (no_trace v r.0) (no_trace_from v r.0 r.1) (no_trace_silent v r.0) (from_silent v r.0 r.1)
+
+each_silent : (v : Volume) (fields : Pairs) (edit : ChosenEdit) (ps : List ℕ) → Silent (refusal_of_edit v fields edit ps)
+each_silent v fields (each.Nothing names) ps = tt
+each_silent v fields (each.Renumber f first step) ps = among_silent v (place_in_trace fields f) (counted_each first step 0 ps)
+each_silent v fields (each.Compute f source steps) ps = by (formula_of fields f source steps)
+  where
+    by : (o : Option Formula) → Silent (option_map_or (λ g. first_at (compute_refusal v g) ps) o None)
+    by None = tt
+    by (Some g) = first_at_silent (compute_refusal v g) (λ p. result_silent v.head (trace_at v p) g.place _ (computed_silent v.head g p (trace_at v p))) ps
+each_silent v fields each.Delete ps = tt
+
+of_chosen_silent : (v : Volume) (fields : Pairs) (edit : ChosenEdit) (o : Option (List ℕ)) → Silent (refusal_of_chosen v fields edit o)
+of_chosen_silent v fields edit None = refl
+of_chosen_silent v fields edit (Some ps) = each_silent v fields edit ps
+
+under_silent : (v : Volume) (fields : Pairs) (range : Option (ℕ × ℕ)) (edit : ChosenEdit) (o : Option (List Test)) → Silent (refusal_under v fields range edit o)
+under_silent v fields range edit None = refl
+under_silent v fields range edit (Some tests) = of_chosen_silent v fields edit (chosen_among v tests (range_of range))
+
 -- ---- of every edit
 
 map_silent : (s : State) (name : List ℕ) (o : Option Place) → Silent (map_refusal s name o)
@@ -164,12 +201,15 @@ silent s edits.Declare = choose (can_declare s.reading s.volume) None _ tt refl
 silent s edits.DropTail = tt
 silent s (edits.SetText q text) = text_silent s.volume.text q text
 silent s (edits.Map name f) = map_silent s name (place_in_trace s.fields f)
+silent s (edits.MapAs mapping) = mapped refusals.Map (first_bind_fault s.volume.head.extensions s.fields (bindings mapping)) (λ fault. refl)
 silent s (edits.Unmap name) = mapped refusals.Map (unbind_fault s.fields name) (λ fault. refl)
 silent s (edits.Patch p k xs) = either (no_trace s.volume p) _ (no_trace_silent s.volume p) (values_silent (values s.volume.head.format) s.volume.head (trace_at s.volume p) k xs)
 silent s (edits.Blank p) = insert_silent s.volume s.limits p (length (blank_trace s.volume.head))
 silent s (edits.Copy q p) = either (no_trace s.volume q) _ (no_trace_silent s.volume q) (insert_silent s.volume s.limits p (length (trace_at s.volume q)))
 silent s (edits.Delete p) = no_trace_silent s.volume p
 silent s (edits.Move a b) = either (no_trace s.volume a) _ (no_trace_silent s.volume a) (no_trace_silent s.volume b)
+silent s (edits.MoveBlock a b to) =
+    either (no_trace s.volume a) _ (no_trace_silent s.volume a) (either (no_trace_from s.volume a b) _ (from_silent s.volume a b) (choose (nat_le 1 to && nat_le to (last_for_block s.volume a b)) None _ tt refl))
 silent s (edits.Resize p m) = either (no_trace s.volume p) _ (no_trace_silent s.volume p) (count_silent s.volume.head (length (bytes_of s.volume)) s.limits.bytes (trace_at s.volume p) m)
 silent s (edits.Renumber a b f first step) =
     either (no_trace s.volume a) _ (no_trace_silent s.volume a) (either (no_trace_from s.volume a b) _ (from_silent s.volume a b) (among_silent s.volume (place_in_trace s.fields f) (numbers a b first step)))
@@ -177,6 +217,9 @@ silent s (edits.Compute a b f source steps) =
     either (no_trace s.volume a) _ (no_trace_silent s.volume a) (either (no_trace_from s.volume a b) _ (from_silent s.volume a b) (compute_silent s.volume (formula_of s.fields f source steps) a b))
 silent s (edits.Sort a b fs falls) =
     either (no_trace s.volume a) _ (no_trace_silent s.volume a) (either (no_trace_from s.volume a b) _ (from_silent s.volume a b) (sort_silent s.volume a b (each_of (place_in_trace s.fields) fs)))
+silent s (edits.OfChosen c edit) =
+    either (range_refusal s.volume c.traces) _ (range_silent s.volume c.traces)
+    (choose (not (has_fields s.fields edit)) _ _ refl (under_silent s.volume s.fields c.traces edit (tests_of s.fields c.conditions)))
 
 told : (o : Option Refusal) → Silent o → IfSome o IsNoReadRefusal
 told (Some r) none = no_read r none
@@ -190,9 +233,13 @@ first_refusals_tell_of_no_read s edit = told (first_refusal s edit) (silent s ed
 in_memory : {X : Type 0} (on_disk : Bool) → on_disk ≡ false → on_disk ≡ true → X
 in_memory on_disk memory disk = absurd (true≢false (sym disk ∙ memory))
 
-edit_told : (o : Option Refusal) (old new : State) (edit : Edit) (reply : Result (Unit {0}) Refusal) → IfSome o IsNoReadRefusal → old.on_disk ≡ false → StepUnless o old edit reply new → IfErr reply IsNoReadRefusal
+edit_told : (o : Option Refusal) (old new : State) (edit : Edit) (reply : Result (Option ℕ) Refusal) → IfSome o IsNoReadRefusal → old.on_disk ≡ false → StepUnless o old edit reply new → IfErr reply IsNoReadRefusal
 edit_told (Some r) old new edit (Ok done) first memory step = tt
-edit_told (Some r) old new edit (Err e) first memory (inl is, same) = rw is first
+edit_told (Some r) old new edit (Err e) first memory (inl is, same) = by (told_is old edit r e is)
+  where
+    by : (e ≡ r) ⊎ (e ≡ refusals.OutOfMemory) → IsNoReadRefusal e
+    by (inl same) = rw same first
+    by (inr want) = rw want (no_read refusals.OutOfMemory refl)
 edit_told (Some r) old new edit (Err e) first memory (inr read, same) = in_memory old.on_disk memory read.1.0
 edit_told None old new edit (Ok done) first memory step = tt
 edit_told None old new edit (Err e) first memory (inl none, same) = rw none.0 (no_read refusals.OutOfMemory refl)
@@ -201,7 +248,7 @@ edit_told None old new edit (Err e) first memory (inr read, same) = in_memory ol
 pub edits_in_memory_read_all : EditsInMemoryReadAll
 edits_in_memory_read_all old new edit reply memory step = edit_told (first_refusal old edit) old new edit reply (first_refusals_tell_of_no_read old edit) memory step
 
-unchanged : (o : Option Refusal) (old new : State) (edit : Edit) (r : Refusal) → StepUnless {T = Unit {0}} o old edit (Err r) new → new ≡ old
+unchanged : (o : Option Refusal) (old new : State) (edit : Edit) (r : Refusal) → StepUnless {T = Option ℕ} o old edit (Err r) new → new ≡ old
 unchanged (Some first) old new edit r step = step.1
 unchanged None old new edit r step = step.1
 
@@ -263,6 +310,32 @@ stat_silent h t = of_values_silent h (Ok (stat_of (has_floats h) (samples_of h t
 line_silent : (o : Option (List ℕ)) (q : ℕ) → SilentReply (line_answer o q)
 line_silent o q = choose_reply (not (is_line q)) _ _ refl (or_fault_silent o asks.NoPlace _ refl)
 
+of_range_silent : (v : Volume) (range : Option (ℕ × ℕ)) (r : Reply) → SilentReply r → SilentReply (of_range v range r)
+of_range_silent v None r x = x
+of_range_silent v (Some p) r x = of_traces_silent v p.0 p.1 r x
+
+table_of_each_silent : (v : Volume) (ps : List ℕ) (o : Option (List Place)) → SilentReply (table_answer_of_each v ps o)
+table_of_each_silent v ps None = refl
+table_of_each_silent v ps (Some places) = or_fault_silent (table_of_each v places ps) asks.NoPlace _ refl
+
+found_of_each_silent : (v : Volume) (ps : List ℕ) (low high : ℤ) (o : Option Place) → SilentReply (found_answer_of_each v ps low high o)
+found_of_each_silent v ps low high None = refl
+found_of_each_silent v ps low high (Some place) = or_fault_silent _ asks.NoPlace _ refl
+
+each_answer_silent : (v : Volume) (fields : Pairs) (query : ChosenQuery) (ps : List ℕ) → SilentReply (answer_of_each v fields query ps)
+each_answer_silent v fields chosen_queries.Count ps = tt
+each_answer_silent v fields (chosen_queries.Table names) ps = table_of_each_silent v ps (each_of (place_in_trace fields) names)
+each_answer_silent v fields (chosen_queries.Find f low high) ps = found_of_each_silent v ps low high (place_in_trace fields f)
+each_answer_silent v fields chosen_queries.Extremes ps = tt
+
+chosen_answer_silent : (v : Volume) (fields : Pairs) (query : ChosenQuery) (o : Option (List ℕ)) → SilentReply (answer_of_chosen v fields query o)
+chosen_answer_silent v fields query None = refl
+chosen_answer_silent v fields query (Some ps) = each_answer_silent v fields query ps
+
+answer_under_silent : (v : Volume) (fields : Pairs) (range : Option (ℕ × ℕ)) (query : ChosenQuery) (o : Option (List Test)) → SilentReply (answer_under v fields range query o)
+answer_under_silent v fields range query None = refl
+answer_under_silent v fields range query (Some tests) = chosen_answer_silent v fields query (chosen_among v tests (range_of range))
+
 answer_silent : (s : State) (query : Query) → SilentReply (answer s query)
 answer_silent s queries.Count = tt
 answer_silent s queries.Info = tt
@@ -284,11 +357,15 @@ answer_silent s (queries.Range quantity) = tt
 answer_silent s queries.Totals = of_values_silent s.volume.head (Ok _) tt
 answer_silent s (queries.Slice k) = of_values_silent s.volume.head (Ok _) tt
 answer_silent s queries.Faults = tt
+answer_silent s queries.Problems = tt
 answer_silent s (queries.Lines b) = or_fault_silent (block_of s.volume b) asks.NoPlace _ refl
 answer_silent s (queries.Table a b fields) = of_traces_silent s.volume a b _ (table_silent s.volume a b (each_of (place_in_trace s.fields) fields))
 answer_silent s (queries.Find a b field low high) = of_traces_silent s.volume a b _ (found_silent s.volume a b low high (place_in_trace s.fields field))
 answer_silent s (queries.Header p) = of_trace_silent s.volume p (λ t. Ok (answers.Header (header_of s.volume.head (named_places s.fields) t))) (λ t. tt)
 answer_silent s (queries.Extremes a b) = of_traces_silent s.volume a b (Ok _) tt
+answer_silent s (queries.OfChosen c query) =
+    of_range_silent s.volume c.traces _
+    (choose_reply (not (asks_for_fields s.fields query)) _ _ refl (answer_under_silent s.volume s.fields c.traces query (tests_of s.fields c.conditions)))
 
 no_read_fault : (r : Reply) → SilentReply r → IfErr r IsNoReadFault
 no_read_fault (Ok a) none = tt

@@ -32,7 +32,7 @@ use Rattle.bench_laws.specs.NumberLaws.{RenumberIsItsSets, ComputeIsItsSets, num
 pub record OneSet (s : State) (ts : List (List ℕ)) (k : ℕ) (f : Field) (place : Place) (x : ℤ) : Type 0 where
   pub none : first_refusal (with_traces s ts) (Set k f x) ≡ None
   pub after : IsAfter (with_traces s ts) (Set k f x) (with_traces s (with_one s.volume.head ts k place x))
-  pub step : Step {T = Unit {0}} (with_traces s ts) (Set k f x) (Ok tt) (with_traces s (with_one s.volume.head ts k place x))
+  pub step : Step {T = Option ℕ} (with_traces s ts) (Set k f x) (Ok None) (with_traces s (with_one s.volume.head ts k place x))
 
 pub one_set : (s : State) (ts : List (List ℕ)) (k : ℕ) (f : Field) (place : Place) (x : ℤ) → place_in_trace s.fields f ≡ Some place → Accepted (with_traces s ts).volume k place x
     → IsAfter (with_traces s ts) (Set k (field.Place place) x) (with_traces s (with_one s.volume.head ts k place x)) → OneSet s ts k f place x
@@ -44,7 +44,7 @@ one_set s ts k f place x e ok after =
     record {
       none = none;
       after = same;
-      step = subst (λ (o : Option Refusal). StepUnless {T = Unit {0}} o mid (Set k f x) (Ok tt) new) (sym none) same;
+      step = subst (λ (o : Option Refusal). StepUnless {T = Option ℕ} o mid (Set k f x) (Ok None) new) (sym none) same;
     }
 
 -- ---- one set after another

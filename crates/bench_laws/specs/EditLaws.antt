@@ -1,5 +1,5 @@
 -- What holds of edits whatever they are.
-use Rattle.std.specs.Prelude.{◌≡◌, ◌≢◌, ◌<◌, ℕ, ℤ, Bool, List, None, Result, Ok}
+use Rattle.std.specs.Prelude.{◌≡◌, ◌≢◌, ◌<◌, ℕ, ℤ, Bool, List, Option, None, Result, Ok}
 use Rattle.frame_cut.specs.Traces.{count_of, trace_at}
 use Rattle.frame_cut.specs.Volume.{Volume, bytes_of}
 use Rattle.frame_cut.specs.Cuts.{IsCut}
@@ -31,7 +31,7 @@ pub record IsReadAlike (old new : State) : Type 0 where
 
 -- after any list of edits, each done or refused, reading the new bytes from scratch gives the parts that are held
 abbrev pub StepsStayCut : Type 0
-StepsStayCut = (old new : State) (edits : List Edit) (replies : List (Result (Unit {0}) Refusal))
+StepsStayCut = (old new : State) (edits : List Edit) (replies : List (Result (Option ℕ) Refusal))
     → IsCut (bytes_of old.volume) old.reading old.limits old.volume → Steps old edits replies new → IsReadAlike old new
 
 -- what reading the new bytes from scratch gives: these parts, as the old file was read and under the field map in force, with the bytes
@@ -42,14 +42,14 @@ from_scratch old new v on_disk = record { volume = v; fields = new.fields; readi
 -- after any list of edits, each done or refused, any query is answered as it is of what reading the new bytes from scratch gives, in
 -- memory and on disk
 abbrev pub AnswersFromScratch : Type 0
-AnswersFromScratch = (old new : State) (edits : List Edit) (replies : List (Result (Unit {0}) Refusal)) (v : Volume) (on_disk : Bool) (query : Query)
+AnswersFromScratch = (old new : State) (edits : List Edit) (replies : List (Result (Option ℕ) Refusal)) (v : Volume) (on_disk : Bool) (query : Query)
     → IsCut (bytes_of old.volume) old.reading old.limits old.volume → Steps old edits replies new → IsCut (bytes_of new.volume) old.reading old.limits v
     → answer new query ≡ answer (from_scratch old new v on_disk) query
 
 -- and whatever a query is told then, it may be told of what reading the new bytes from scratch gives, held as the old ones were: the
 -- answer, or want of memory, or on disk a read that failed
 abbrev pub RepliesFromScratch : Type 0
-RepliesFromScratch = (old new : State) (edits : List Edit) (replies : List (Result (Unit {0}) Refusal)) (v : Volume) (query : Query) (reply : Reply)
+RepliesFromScratch = (old new : State) (edits : List Edit) (replies : List (Result (Option ℕ) Refusal)) (v : Volume) (query : Query) (reply : Reply)
     → IsCut (bytes_of old.volume) old.reading old.limits old.volume → Steps old edits replies new → IsCut (bytes_of new.volume) old.reading old.limits v
     → IsReply new query reply → IsReply (from_scratch old new v old.on_disk) query reply
 

@@ -58,8 +58,8 @@ abbrev pub sets_of : Field → List (ℕ × ℤ) → List Edit
 sets_of field ns = map (λ n. Set n.0 field n.1) ns
 
 -- one reply for each of these, that it was done
-abbrev pub all_done : List (ℕ × ℤ) → List (Result (Unit {0}) Refusal)
-all_done ns = map (λ n. Ok tt) ns
+abbrev pub all_done : List (ℕ × ℤ) → List (Result (Option ℕ) Refusal)
+all_done ns = map (λ n. Ok None) ns
 
 -- a field counted up is what its sets make, one after another, each of them done
 abbrev pub RenumberIsItsSets : Type 0

@@ -1,5 +1,5 @@
 -- What edits and queries are told of reads that failed.
-use Rattle.std.specs.Prelude.{◌≡◌, ◌≢◌, ◌⊎◌, false, Result, Err, IfErr, IsOk}
+use Rattle.std.specs.Prelude.{◌≡◌, ◌≢◌, ◌⊎◌, ℕ, false, Option, Result, Err, IfErr}
 use Rattle.std.specs.Option.{IfSome}
 use Rattle.bench_rules.specs.declared.ask_fault.AskFault.{AskFault}
 use Rattle.bench_rules.specs.declared.ask_fault.AskFault.TheVariants as asks
@@ -7,7 +7,7 @@ use Rattle.bench_rules.specs.declared.edit.Edit.{Edit}
 use Rattle.bench_rules.specs.declared.query.Query.{Query}
 use Rattle.bench_rules.specs.declared.refusal.Refusal.{Refusal}
 use Rattle.bench_rules.specs.declared.refusal.Refusal.TheVariants as refusals
-use Rattle.bench_rules.specs.Answer.{Reply, answer, TakesMemory, IsReply}
+use Rattle.bench_rules.specs.Answer.{Reply, answer, MayWant, IsReply}
 use Rattle.bench_rules.specs.Refused.{first_refusal}
 use Rattle.bench_rules.specs.State.{State}
 use Rattle.bench_rules.specs.Steps.{Step}
@@ -30,14 +30,14 @@ AnswersTellOfNoRead = (s : State) (query : Query) → IfErr (answer s query) IsN
 
 -- where the loaded bytes are in memory, no edit is told of a read
 abbrev pub EditsInMemoryReadAll : Type 0
-EditsInMemoryReadAll = (old new : State) (edit : Edit) (reply : Result (Unit {0}) Refusal)
+EditsInMemoryReadAll = (old new : State) (edit : Edit) (reply : Result (Option ℕ) Refusal)
     → old.on_disk ≡ false → Step old edit reply new → IfErr reply IsNoReadRefusal
 
 -- and each query is replied with its answer, or with want of memory
 abbrev pub QueriesInMemoryReadAll : Type 0
 QueriesInMemoryReadAll = (s : State) (query : Query) (reply : Reply) → s.on_disk ≡ false → IsReply s query reply
-    → (reply ≡ answer s query) ⊎ ((reply ≡ Err asks.OutOfMemory) × TakesMemory query × IsOk (answer s query))
+    → (reply ≡ answer s query) ⊎ ((reply ≡ Err asks.OutOfMemory) × MayWant s query)
 
 -- an edit that is refused changes nothing, where a read failed too
 abbrev pub RefusedEditsChangeNothing : Type 0
-RefusedEditsChangeNothing = (old new : State) (edit : Edit) (refusal : Refusal) → Step {T = Unit {0}} old edit (Err refusal) new → new ≡ old
+RefusedEditsChangeNothing = (old new : State) (edit : Edit) (refusal : Refusal) → Step {T = Option ℕ} old edit (Err refusal) new → new ≡ old

@@ -66,7 +66,7 @@ shows_faults s rs live = ap (λ (fs : List Facts). faults_of (head_facts s.volum
 -- want of memory is a reply where the faults are asked for
 pub wants_memory : (s : State) (r : Reply) → IsErrAnd r (λ fault. fault ≡ OutOfMemory) → IsReply s queries.Faults r
 wants_memory s (Ok a) is = absurd is
-wants_memory s (Err fault) is = inr (inl (ap (λ (f : AskFault). let r : Reply = Err f in r) is, record {}, refl))
+wants_memory s (Err fault) is = inr (inl (ap (λ (f : AskFault). let r : Reply = Err f in r) is, (record {}, inl refl)))
 
 -- ---- statistics of one trace
 

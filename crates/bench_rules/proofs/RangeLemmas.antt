@@ -20,7 +20,7 @@ use Rattle.bench_rules.specs.RangeFaults.{or_fault, IsFaultFor}
 -- the fault of a reply is told, or want of memory in place of an answer
 pub told_fault : (s : State) (q : Query) (fault : AskFault) (reply : Reply) → answer s q ≡ reply → TakesMemory q → IsFaultFor fault reply → IsReply s q (Err fault)
 told_fault s q fault reply e takes (inl is) = inl (sym is ∙ sym e)
-told_fault s q fault reply e takes (inr wants) = inr (inl (ap (λ f. Err f) wants.0, takes, subst (λ r. IsOk r) (sym e) wants.1))
+told_fault s q fault reply e takes (inr wants) = inr (inl (ap (λ f. Err f) wants.0, (takes, inl (subst (λ r. IsOk r) (sym e) wants.1))))
 
 -- a read that failed is a reply to a query that looks
 pub read_reply : (s : State) (q : Query) (fault : AskFault) (on_disk : Bool) → s.on_disk ≡ on_disk → 0 < query_looks s [] q → IsReadFault on_disk fault → IsReply s q (Err fault)

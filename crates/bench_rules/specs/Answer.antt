@@ -22,6 +22,7 @@ use Rattle.bench_rules.specs.declared.info.Info.{Info}
 use Rattle.bench_rules.specs.declared.ask_fault.AskFault.TheVariants.{NoTrace, NoField, NoPlace, NoSample, NoValues, OutOfMemory}
 use Rattle.bench_rules.specs.FloatStatistics.{stat_of}
 use Rattle.bench_rules.specs.Places.{place_in_trace, place_in_binary, is_in_binary}
+use Rattle.bench_rules.specs.Problems.{problems_in}
 use Rattle.bench_rules.specs.ReadFaults.{IsReadFault}
 use Rattle.bench_rules.specs.Refused.{is_line}
 use Rattle.bench_rules.specs.Headers.{named_places, header_of, extremes_in}
@@ -30,16 +31,10 @@ use Rattle.bench_rules.specs.ManyTraces.{each_of}
 use Rattle.bench_rules.specs.Tables.{table_of, found_of}
 use Rattle.bench_rules.specs.Reports.{geometry_in, fold_in, cells_in, inlines_in, crosslines_in, histogram_in, range_in, totals_in, slice_in, faults_in}
 use Rattle.frame_cut.specs.Parts.{block_of}
+pub use Rattle.bench_rules.specs.Replies.{Reply, or_fault, of_traces}
+use Rattle.bench_rules.specs.ChosenQueries.{chosen_answer}
+use Rattle.bench_rules.specs.RangeRefusals.{range_refusal}
 use Rattle.bench_rules.specs.State.{State}
-
--- an answer, or the reason that there is none
-abbrev pub Reply : Type 0
-Reply = Result Answer AskFault
-
--- the answer where the value is there, else the fault
-abbrev pub or_fault : {X : Type 0} → Option X → AskFault → (X → Answer) → Reply
-or_fault None fault f = Err fault
-or_fault (Some x) fault f = Ok (f x)
 
 -- the answer of trace p, where there is one
 abbrev pub of_trace : Volume → ℕ → (List ℕ → Reply) → Reply
@@ -92,12 +87,6 @@ all_stanzas v = stanzas_from 1 (text_blocks v)
 abbrev pub or_no_trace : {X : Type 0} → Volume → ℕ → Option X → (X → Answer) → Reply
 or_no_trace v p x f = or_fault x (NoTrace p (count_of v)) f
 
--- the answer of traces a to b, where all of them are there
-abbrev pub of_traces : Volume → ℕ → ℕ → Reply → Reply
-of_traces v a b reply =
-    if not (is_trace v a) then Err (NoTrace a (count_of v)) else
-    if nat_le a b && nat_le b (count_of v) then reply else Err (NoTrace b (count_of v))
-
 -- the table at the places of fields, if each has one
 abbrev pub table_answer : Volume → ℕ → ℕ → Option (List Place) → Reply
 table_answer v a b None = Err NoField
@@ -143,11 +132,13 @@ answer s (queries.Range quantity) = Ok (answers.Range (range_in s quantity))
 answer s queries.Totals = of_values s.volume.head (Ok (answers.Totals (totals_in s)))
 answer s (queries.Slice k) = of_values s.volume.head (Ok (answers.Slice (slice_in s k)))
 answer s queries.Faults = Ok (answers.Faults (faults_in s))
+answer s queries.Problems = Ok (answers.Problems (problems_in s))
 answer s (queries.Lines b) = lines_answer (block_of s.volume b)
 answer s (queries.Table a b fields) = of_traces s.volume a b (table_answer s.volume a b (each_of (place_in_trace s.fields) fields))
 answer s (queries.Find a b field low high) = of_traces s.volume a b (found_answer s.volume a b low high (place_in_trace s.fields field))
 answer s (queries.Header p) = of_trace s.volume p (λ t. Ok (answers.Header (header_of s.volume.head (named_places s.fields) t)))
 answer s (queries.Extremes a b) = of_traces s.volume a b (Ok (answers.Extremes (extremes_in s.volume (named_places s.fields) a b)))
+answer s (queries.OfChosen c query) = chosen_answer s.volume s.fields c query
 
 -- whether a query may be refused for want of memory: its answer is a text or a list
 abbrev pub TakesMemory : Query → Type 0
@@ -171,17 +162,28 @@ TakesMemory (queries.Range quantity) = ⊥
 TakesMemory queries.Totals = ⊥
 TakesMemory (queries.Slice k) = Unit {0}
 TakesMemory queries.Faults = Unit {0}
+TakesMemory queries.Problems = Unit {0}
 TakesMemory (queries.Lines b) = Unit {0}
 TakesMemory (queries.Table a b fields) = Unit {0}
 TakesMemory (queries.Find a b field low high) = Unit {0}
 TakesMemory (queries.Header p) = Unit {0}
 TakesMemory (queries.Extremes a b) = Unit {0}
+TakesMemory (queries.OfChosen c query) = Unit {0}
 
 -- a query that looks at traces may be told of a read that failed
 abbrev pub FailsToRead : State → Query → AskFault → Type 0
 FailsToRead s query fault = (0 < query_looks s [] query) × IsReadFault s.on_disk fault
 
--- the reply is the answer, or want of memory where the query takes it and is not refused, or a read that failed
+-- a query about chosen traces has to hold them before it can judge them: unless their range is refused, it may be told of want of memory first
+abbrev pub WantsFirst : State → Query → Type 0
+WantsFirst s (queries.OfChosen c query) = range_refusal s.volume c.traces ≡ None
+WantsFirst s query = ⊥
+
+-- a query may be told of want of memory where it takes it, and is not refused or wants it first
+abbrev pub MayWant : State → Query → Type 0
+MayWant s query = TakesMemory query × (IsOk (answer s query) ⊎ WantsFirst s query)
+
+-- the reply is the answer, or want of memory where the query may be told of it, or a read that failed
 abbrev pub IsReply : State → Query → Reply → Type 0
 IsReply s query reply =
-    (reply ≡ answer s query) ⊎ ((reply ≡ Err OutOfMemory) × TakesMemory query × IsOk (answer s query)) ⊎ IsErrAnd reply (FailsToRead s query)
+    (reply ≡ answer s query) ⊎ ((reply ≡ Err OutOfMemory) × MayWant s query) ⊎ IsErrAnd reply (FailsToRead s query)

@@ -11,9 +11,9 @@ use Rattle.frame_cut.specs.Traces.{trace_at}
 use Rattle.trace_record.specs.OfTrace.{bound_value}
 use Rattle.bench_rules.specs.KeptSlices.{is_from}
 use Rattle.bench_rules.specs.declared.edit.Edit.{Edit}
-use Rattle.bench_rules.specs.declared.edit.Edit.TheVariants.{Set, SetBin, Declare, DropTail, SetText, Map, Unmap, Patch, Blank, Copy, Delete, Move, Resize, Renumber, Compute, Sort}
+use Rattle.bench_rules.specs.declared.edit.Edit.TheVariants.{Set, SetBin, Declare, DropTail, SetText, Map, MapAs, Unmap, Patch, Blank, Copy, Delete, Move, MoveBlock, Resize, Renumber, Compute, Sort, OfChosen}
 use Rattle.bench_rules.specs.declared.query.Query.{Query}
-use Rattle.bench_rules.specs.declared.query.Query.TheVariants.{Count, Info, Get, GetBin, Line, Lines, Code, Stanzas, Fields, Sample, Geometry, Stat, Fold, Grid, Inlines, Crosslines, Histogram, Range, Totals, Slice, Faults, Table, Find, Header, Extremes}
+use Rattle.bench_rules.specs.declared.query.Query.TheVariants.{Count, Info, Get, GetBin, Line, Lines, Code, Stanzas, Fields, Sample, Geometry, Stat, Fold, Grid, Inlines, Crosslines, Histogram, Range, Totals, Slice, Faults, Problems, Table, Find, Header, Extremes, OfChosen as AskOfChosen}
 use Rattle.bench_rules.specs.Computed.{Formula, formula_of, computed_numbers}
 use Rattle.bench_rules.specs.Places.{place_in_trace}
 use Rattle.bench_rules.specs.Refused.{with_value}
@@ -54,11 +54,13 @@ kept_after_query Histogram kept = kept
 kept_after_query (Range quantity) kept = kept
 kept_after_query Totals kept = kept
 kept_after_query Faults kept = kept
+kept_after_query Problems kept = kept
 kept_after_query (Lines b) kept = kept
 kept_after_query (Table a b fields) kept = kept
 kept_after_query (Find a b field low high) kept = kept
 kept_after_query (Header p) kept = kept
 kept_after_query (Extremes a b) kept = kept
+kept_after_query (AskOfChosen c query) kept = kept
 
 -- the inline and the crossline of a trace
 abbrev pub cell_of : Head → Pairs → List ℕ → ℤ × ℤ
@@ -99,13 +101,16 @@ kept_after_edit s Declare kept = kept
 kept_after_edit s DropTail kept = kept
 kept_after_edit s (SetText q text) kept = kept
 kept_after_edit s (Map name field) kept = if is_geometry name then [] else kept
+kept_after_edit s (MapAs mapping) kept = []
 kept_after_edit s (Unmap name) kept = kept
 kept_after_edit s (Patch p k values) kept = filter (λ j. not (is_from k (length values) j)) kept
 kept_after_edit s (Blank p) kept = []
 kept_after_edit s (Copy q p) kept = []
 kept_after_edit s (Delete p) kept = []
 kept_after_edit s (Move a b) kept = []
+kept_after_edit s (MoveBlock a b to) kept = []
 kept_after_edit s (Resize p m) kept = []
 kept_after_edit s (Renumber a b field first step) kept = kept_after_sets s (place_in_trace s.fields field) (numbers a b first step) kept
 kept_after_edit s (Compute a b field source steps) kept = kept_after_compute s (formula_of s.fields field source steps) a b kept
 kept_after_edit s (Sort a b names falls) kept = []
+kept_after_edit s (OfChosen c edit) kept = []

@@ -1,8 +1,14 @@
 pub mod After
 pub mod Answer
+pub mod BlockMoves
+pub mod BlockExamples
+pub mod ChosenEdits
+pub mod ChosenQueries
+pub mod ChosenExamples
 pub mod Computed
 pub mod ComputedBytes
 pub mod ComputedExamples
+pub mod Conditions
 pub mod Examples
 pub mod FloatStatistics
 pub mod FloatExamples
@@ -16,11 +22,15 @@ pub mod Looks
 pub mod LooksExamples
 pub mod ManyTraces
 pub mod MapFaults
+pub mod Mappings
+pub mod MappingExamples
 pub mod NumberExamples
 pub mod Places
+pub mod Problems
 pub mod RefusalExamples
 pub mod Refused
 pub mod ReportExamples
+pub mod Replies
 pub mod Reports
 pub mod SetRefusals
 pub mod Sorted
@@ -39,3 +49,4 @@ pub mod SliceExamples
 pub mod KeptSlices
 pub mod KeptSliceExamples
 pub mod RangeFaults
+pub mod RangeRefusals

@@ -18,21 +18,21 @@ use Rattle.frame_cut.specs.Traces.{count_of, is_trace, trace_at}
 use Rattle.frame_cut.specs.Volume.{Volume, bytes_of}
 use Rattle.declared_frame.specs.Written.{can_declare}
 use Rattle.bench_rules.specs.declared.edit.Edit.{Edit}
-use Rattle.bench_rules.specs.declared.edit.Edit.TheVariants.{Set, SetBin, Declare, DropTail, SetText, Map, Unmap, Patch, Blank, Copy, Delete, Move, Resize, Renumber, Compute, Sort}
+use Rattle.bench_rules.specs.declared.edit.Edit.TheVariants.{Set, SetBin, Declare, DropTail, SetText, Map, MapAs, Unmap, Patch, Blank, Copy, Delete, Move, MoveBlock, Resize, Renumber, Compute, Sort, OfChosen}
 use Rattle.bench_rules.specs.declared.refusal.Refusal.{Refusal}
 use Rattle.bench_rules.specs.declared.refusal.Refusal.TheVariants as refusals
 use Rattle.bench_rules.specs.Places.{place_in_trace, place_in_binary, is_in_binary, touches_frame}
 pub use Rattle.bench_rules.specs.SetRefusals.{with_value, is_length, changes_length, set_refusal}
+pub use Rattle.bench_rules.specs.RangeRefusals.{no_trace, no_trace_from, first_refusal_among}
+use Rattle.bench_rules.specs.BlockMoves.{block_refusal}
+use Rattle.bench_rules.specs.ChosenEdits.{chosen_refusal}
 use Rattle.bench_rules.specs.Computed.{formula_of, compute_refusal_in}
 use Rattle.bench_rules.specs.ManyTraces.{each_of}
+use Rattle.bench_rules.specs.Mappings.{first_bind_fault, bindings}
 use Rattle.bench_rules.specs.State.{State}
 use Rattle.bench_rules.specs.Tables.{table_of}
 use Rattle.bench_rules.specs.TraceEdits.{resized, numbers}
 use Rattle.bench_rules.specs.WholeTraces.{blank_trace}
-
--- there is no trace p
-abbrev pub no_trace : Volume → ℕ → Option Refusal
-no_trace v p = if is_trace v p then None else Some (refusals.NoTrace p (count_of v))
 
 -- there is no place p for a trace: in front of trace p, or behind the last
 abbrev pub no_place_for_trace : Volume → ℕ → Option Refusal
@@ -107,15 +107,6 @@ count_refusal h file limit t m =
 
 -- ---- a field of many traces
 
--- trace b is none of those from trace a on
-abbrev pub no_trace_from : Volume → ℕ → ℕ → Option Refusal
-no_trace_from v a b = if nat_le a b && nat_le b (count_of v) then None else Some (refusals.NoTrace b (count_of v))
-
--- the first refusal of these values, each at the place that a field of its trace has, if it has one; each in the file as it is
-abbrev pub first_refusal_among : Volume → Option Place → List (ℕ × ℤ) → Option Refusal
-first_refusal_among v place [] = None
-first_refusal_among v place (n ∷ ns) = option_or (set_refusal v.head (trace_at v n.0) place n.1) (first_refusal_among v place ns)
-
 -- the refusal of traces a to b in the order of their numbers at the places of fields, if each has one
 abbrev pub sort_refusal : Volume → (a b : ℕ) → Option (List Place) → Option Refusal
 sort_refusal v a b None = Some refusals.NoField
@@ -135,12 +126,14 @@ first_refusal s Declare = declare_refusal s.reading s.volume
 first_refusal s DropTail = None
 first_refusal s (SetText q text) = text_refusal s.volume.text q text
 first_refusal s (Map name field) = map_refusal s name (place_in_trace s.fields field)
+first_refusal s (MapAs mapping) = option_map (λ fault. refusals.Map fault) (first_bind_fault s.volume.head.extensions s.fields (bindings mapping))
 first_refusal s (Unmap name) = option_map (λ fault. refusals.Map fault) (unbind_fault s.fields name)
 first_refusal s (Patch p k values) = option_or (no_trace s.volume p) (patch_refusal s.volume.head (trace_at s.volume p) k values)
 first_refusal s (Blank p) = insert_refusal s.volume s.limits p (length (blank_trace s.volume.head))
 first_refusal s (Copy q p) = option_or (no_trace s.volume q) (insert_refusal s.volume s.limits p (length (trace_at s.volume q)))
 first_refusal s (Delete p) = no_trace s.volume p
 first_refusal s (Move a b) = option_or (no_trace s.volume a) (no_trace s.volume b)
+first_refusal s (MoveBlock a b to) = block_refusal s.volume a b to
 first_refusal s (Resize p m) = option_or (no_trace s.volume p) (count_refusal s.volume.head (length (bytes_of s.volume)) s.limits.bytes (trace_at s.volume p) m)
 first_refusal s (Renumber a b field first step) =
     option_or (no_trace s.volume a) (option_or (no_trace_from s.volume a b) (first_refusal_among s.volume (place_in_trace s.fields field) (numbers a b first step)))
@@ -148,3 +141,4 @@ first_refusal s (Compute a b field source steps) =
     option_or (no_trace s.volume a) (option_or (no_trace_from s.volume a b) (compute_refusal_in s.volume (formula_of s.fields field source steps) a b))
 first_refusal s (Sort a b names falls) =
     option_or (no_trace s.volume a) (option_or (no_trace_from s.volume a b) (sort_refusal s.volume a b (each_of (place_in_trace s.fields) names)))
+first_refusal s (OfChosen c edit) = chosen_refusal s.volume s.fields c edit

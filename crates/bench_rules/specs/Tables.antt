@@ -1,5 +1,6 @@
 -- Numbers in the headers of many traces: as a table, and those between two bounds. Traces are counted from 1.
-use Rattle.std.specs.Prelude.{ℕ, ◌+◌, ◌*◌, ◌^◌, ◌≤◌, ◌≡◌, ℤ, Bool, not, ◌&&◌, int_lt, List, length, take, drop, map, filter, Option, option_map}
+use Rattle.std.specs.Prelude.{ℕ, ◌+◌, ◌*◌, ◌^◌, ◌<◌, ◌≤◌, ◌≡◌, ℤ, Bool, not, ◌&&◌, int_lt, List, Vec, length, take, drop, map, filter, slice_index, Option, Some, None, option_map}
+use Rattle.std.specs.Global.{Global}
 use Rattle.std.specs.List.{range_with_len}
 use Rattle.field_map.specs.declared.place.Place.{Place}
 use Rattle.frame_cut.specs.declared.file_head.Head.{Head}
@@ -13,10 +14,38 @@ use Rattle.bench_rules.specs.ManyTraces.{positions, each_of}
 abbrev pub rows_from : (first count width : ℕ) → List ℤ → List (ℕ × List ℤ)
 rows_from first count width xs = map (λ k. (first + k, take width (drop (width * k) xs))) (range_with_len 0 count)
 
+-- a row of this width from the numbers for each of these positions
+abbrev pub rows_at : List ℕ → (width : ℕ) → List ℤ → List (ℕ × List ℤ)
+rows_at ps width xs = map (λ k. (slice_index ps k, take width (drop (width * k) xs))) (range_with_len 0 (length ps))
+
+-- the position of row k: of the traces that are listed, or of those from a first one on
+abbrev pub position_in : Option (Vec ℕ Global) → (first k : ℕ) → ℕ
+position_in None first k = first + k
+position_in (Some ps) first k = slice_index ps.items k
+
+-- the rows of a table of so many traces, with so many numbers each
+abbrev pub rows_of : Option (Vec ℕ Global) → (first count width : ℕ) → List ℤ → List (ℕ × List ℤ)
+rows_of listed first count width xs = map (λ k. (position_in listed first k, take width (drop (width * k) xs))) (range_with_len 0 count)
+
+-- the rows of the table that is held
+abbrev pub rows_in : Inside → List (ℕ × List ℤ)
+rows_in t = rows_of t.listed t.first t.count t.width t.numbers.items
+
+-- as many are listed
+abbrev pub AreCounted : Option (Vec ℕ Global) → ℕ → Type 0
+AreCounted None count = Unit {0}
+AreCounted (Some ps) count = length ps.items ≡ count
+
+-- where traces are listed, they are more than k
+abbrev pub AreAbove : ℕ → Option (Vec ℕ Global) → Type 0
+AreAbove k None = Unit {0}
+AreAbove k (Some ps) = k < length ps.items
+
 -- a table has all numbers of its rows, and each row a position of a trace
 pub record IsWhole (t : Inside) : Type 0 where
   pub numbers : length t.numbers.items ≡ t.width * t.count
   pub last : t.first + t.count ≤ 2 ^ 32
+  pub listed : AreCounted t.listed t.count
 
 -- the numbers at these places of a trace, where it has all of them
 abbrev pub row_of : Head → List Place → List ℕ → Option (List ℤ)

@@ -3,6 +3,7 @@ use crate::float_statistics::FloatStatistics;
 use crate::info::Info;
 use crate::items::Items;
 use crate::location::Location;
+use crate::problem_line::ProblemLine;
 use crate::row::Row;
 use crate::table::Table;
 use crate::text::Text;
@@ -57,6 +58,8 @@ pub enum Answer {
     Slice(Items<Row>),
     /// Those of the headers, then those of each trace in order.
     Faults(Items<Fault>),
+    /// The problems in the order of their codes, each with its first runs behind it.
+    Problems(Items<ProblemLine>),
     /// For each trace its position and its numbers in the fields that were asked.
     Table(Table),
     /// The positions of the traces that were found, rising, each with its number.
@@ -65,4 +68,6 @@ pub enum Answer {
     Header(Items<(Text, i128)>),
     /// Each name with the extremes of its numbers, in the same order.
     Extremes(Items<(Text, Extremes)>),
+    /// How many traces were chosen.
+    Chosen(u32),
 }

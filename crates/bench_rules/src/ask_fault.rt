@@ -96,3 +96,23 @@ impl From<fault_live::OutOfMemory> for AskFault {
         AskFault::OutOfMemory
     }
 }
+
+impl From<line_problems::OutOfMemory> for AskFault {
+    ghost use Rattle.bench_rules.specs.declared.ask_fault.AskFault.TheVariants.{OutOfMemory as no_memory};
+
+    ghost from_gives = { λ _ fault. fault ≡ no_memory };
+
+    fn from(_: line_problems::OutOfMemory) -> AskFault {
+        AskFault::OutOfMemory
+    }
+}
+
+impl From<trace_groups::OutOfMemory> for AskFault {
+    ghost use Rattle.bench_rules.specs.declared.ask_fault.AskFault.TheVariants.{OutOfMemory as no_memory};
+
+    ghost from_gives = { λ _ fault. fault ≡ no_memory };
+
+    fn from(_: trace_groups::OutOfMemory) -> AskFault {
+        AskFault::OutOfMemory
+    }
+}

@@ -1,16 +1,31 @@
 // A number computed from numbers and fields of one trace.
 ghost use Rattle.std.specs.Prelude.{◌≡◌, Some, None, Ok, IfOk, IfErr, option_map};
 ghost use Rattle.trace_view.specs.Shown.{bytes_of, head_of};
-ghost use Rattle.bench_rules.specs.Computed.{chained_from, computed_in as number_computed_in, refusal_of_result, stepped, steps_in, term_in as number_of_term, unless_refused};
+ghost use Rattle.bench_rules.specs.Computed.{chained_from, computed_in as number_computed_in, refusal_of_result, stepped, steps_in, term_in as number_of_term, term_of as term_of_operand, unless_refused};
 
 use crate::calculation::calculate;
 use crate::header_field::set_refusal;
+use crate::of_volume::place_in_trace;
+use crate::operand::Operand;
 use crate::operator::Operator;
 use crate::refusal::Refusal;
 use crate::term::Term;
-use field_map::Place;
+use field_map::{FieldMap, Place};
 use num_order::Order;
 use trace_view::TraceView;
+
+/// The operand with the place of its field, where that has one. Takes no memory.
+pub fn term_of(map: &FieldMap, operand: &Operand) -> Option<Term>
+    ensures { result ≡ term_of_operand map.now.pairs operand.now }
+{
+    match operand {
+        Operand::Number(number) => Some(Term::Number(*number)),
+        Operand::Field(field) => match place_in_trace(map, field) {
+            Some(place) => Some(Term::At(place)),
+            None => None,
+        },
+    }
+}
 
 /// The number of a term in the trace; `None` where the trace lacks its place. Takes no memory.
 pub fn term_in(trace: &TraceView<'_>, term: Term) -> Option<i128>

@@ -1,5 +1,8 @@
+use crate::chosen::Chosen;
+use crate::chosen_edit::ChosenEdit;
 use crate::field::Field;
 use crate::items::Items;
+use crate::mapping::Mapping;
 use crate::operand::Operand;
 use crate::operator::Operator;
 use crate::text::Text;
@@ -28,6 +31,10 @@ pub enum Edit {
     /// `Map(name, field)`: the name bound to the place of the field, in trace headers. Refused, in
     /// this order: E02, E08.
     Map(Text, Field),
+    /// `MapAs(mapping)`: the geometry names of the mapping bound to its places, one after another:
+    /// whole or not at all. Refused: E08 of the first name that is. (None of them is: each is bound
+    /// always, and may stand at its place.)
+    MapAs(Mapping),
     /// `Unmap(name)`: the name no longer bound. Refused: E08.
     Unmap(Text),
     /// `Patch(p, k, values)`: the values over samples k, k + 1 and so on of trace p. No values at a
@@ -44,6 +51,10 @@ pub enum Edit {
     /// `Move(a, b)`: trace a out, and in again so that it is trace b. Refused, in this order: E01
     /// for a, E01 for b.
     Move(u32, u32),
+    /// `MoveBlock(a, b, to)`: traces a to b, as one block, out, and in again in their order so that
+    /// the first of them is trace `to`. Refused, in this order: E01 for a, E01 for b, E01 for `to`,
+    /// which counts in the file without the block: from 1 to one more than the traces left.
+    MoveBlock(u32, u32, u32),
     /// `Resize(p, m)`: trace p with m samples: its first ones as they were, zeros behind them.
     /// Refused, in this order: E01, E04, E06, E09.
     Resize(u32, i128),
@@ -81,4 +92,10 @@ pub enum Edit {
         fields: Items<Field>,
         falling: Items<bool>,
     },
+    /// An edit of the traces that are chosen: whole or not at all. Refused, in this order: E01 for
+    /// the first trace of the range, E01 for its last, E02 where a field of the edit or of a
+    /// condition has no place, E03 where a trace of the range lacks the place of a condition, then
+    /// what the edit refuses of the chosen traces. The list of the chosen traces takes memory, so
+    /// that E11 may come in the place of any refusal but E01.
+    OfChosen(Chosen, ChosenEdit),
 }

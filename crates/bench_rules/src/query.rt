@@ -1,3 +1,5 @@
+use crate::chosen::Chosen;
+use crate::chosen_query::ChosenQuery;
 use crate::field::Field;
 use crate::items::Items;
 use range_stats::Quantity;
@@ -50,6 +52,9 @@ pub enum Query {
     Slice(u32),
     /// What the headers contradict each other in, or the traces each other.
     Faults,
+    /// All that is wrong or doubtful, grouped: the faults, and what the numbers of the traces make
+    /// suspicious. Looks at each trace once.
+    Problems,
     /// `Table(a, b, fields)`: these header fields of each of traces a to b. Refused, in this order:
     /// E01 for a, E01 for b, E02 where a field has no place, E03 where one of the traces lacks a
     /// place.
@@ -63,4 +68,10 @@ pub enum Query {
     /// the least, the greatest, the first and the last. Refused, in this order: E01 for a, E01 for
     /// b.
     Extremes(u32, u32),
+    /// A query for the traces that are chosen. Refused, in this order: E01 for the first trace of
+    /// the range, E01 for its last, E02 where a field of the query or of a condition has no place,
+    /// E03 where a trace of the range lacks the place of a condition, then what the query refuses
+    /// of the chosen traces. The list of the chosen traces takes memory, so that E11 may come in
+    /// the place of any refusal but E01.
+    OfChosen(Chosen, ChosenQuery),
 }

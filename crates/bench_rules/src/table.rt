@@ -1,29 +1,33 @@
+ghost use Rattle.std.specs.Prelude.{◌≡◌, ◌<◌, ◌^◌, ◌+◌};
+ghost use Rattle.bench_rules.specs.Tables.{position_in, AreAbove};
+
 use std::marker::Model;
 
-/// Numbers of traces that follow one another: for each trace its position, counted from 1, and as
-/// many numbers as a row has.
+/// Numbers of traces: for each trace its position, counted from 1, and as many numbers as a row
+/// has. The traces follow one another, or are listed.
 #[derive(Drop)]
 pub struct Table {
     first: u32,
     count: u32,
+    listed: Option<Vec<u32>>,
     width: usize,
     numbers: Vec<i128>,
 }
 
 impl Model for Table {
     ghost use Rattle.std.specs.Prelude.{ℕ, ℤ, List};
-    ghost use Rattle.bench_rules.specs.Tables.{rows_from, IsWhole};
+    ghost use Rattle.bench_rules.specs.Tables.{rows_in, IsWhole};
 
     ghost Value = { List (ℕ × List ℤ) };
 
-    ghost view = { λ t. rows_from t.first t.count t.width t.numbers.items };
+    ghost view = { rows_in };
 
     ghost invariant = { IsWhole };
 }
 
 impl Table {
     ghost use Rattle.std.specs.Prelude.{◌≡◌, ◌<◌, ◌≤◌, ◌^◌, ◌+◌, ◌*◌, length, Some, slice_get};
-    ghost use Rattle.bench_rules.specs.Tables.{rows_from};
+    ghost use Rattle.bench_rules.specs.Tables.{rows_at, rows_from};
 
     /// So many rows of this width, the first of them of trace `first`. Takes no memory.
     pub fn new(first: u32, count: u32, width: usize, numbers: Vec<i128>) -> Table
@@ -34,6 +38,22 @@ impl Table {
         Table {
             first,
             count,
+            listed: None,
+            width,
+            numbers,
+        }
+    }
+
+    /// A row of this width for each of these traces. Takes no memory.
+    pub fn listed(traces: Vec<u32>, width: usize, numbers: Vec<i128>) -> Table
+        requires numbers { length numbers.items ≡ width * length traces.items }
+        requires few { length traces.items < 2 ^ 32 }
+        ensures { result ≡ rows_at traces.items width numbers.items }
+    {
+        Table {
+            first: 0,
+            count: traces.len() as u32,
+            listed: Some(traces),
             width,
             numbers,
         }
@@ -51,8 +71,22 @@ impl Table {
         requires { k < length self.now }
         ensures { slice_get self.now k ≡ Some (result.0, result.1.now) }
     {
+        let position = position_of_row(&self.listed, self.first, k);
         let numbers = self.numbers.as_slice();
         let start = self.width * k as usize;
-        (self.first + k, &numbers[start..start + self.width])
+        (position, &numbers[start..start + self.width])
+    }
+}
+
+// The position of row k, counted from 0: of the traces that are listed, or of those from a first
+// one on.
+fn position_of_row(listed: &Option<Vec<u32>>, first: u32, k: u32) -> u32
+    requires listed { AreAbove k listed.now }
+    requires last { first + k < 2 ^ 32 }
+    ensures { result ≡ position_in listed.now first k }
+{
+    match listed {
+        Some(traces) => traces[k as usize],
+        None => first + k,
     }
 }

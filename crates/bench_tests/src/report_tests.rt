@@ -62,6 +62,7 @@ fn listed(asked: &Result<Answer, AskFault>) -> Option<usize> {
         Ok(Answer::Histogram(folds)) => Some(folds.as_slice().len()),
         Ok(Answer::Slice(rows)) => Some(rows.as_slice().len()),
         Ok(Answer::Faults(faults)) => Some(faults.as_slice().len()),
+        Ok(Answer::Problems(lines)) => Some(lines.as_slice().len()),
         _ => None,
     }
 }
@@ -127,9 +128,11 @@ fn lists_items(rt: &impl Abort, alloc: Global, bench: &mut Bench) {
     assert!(rt; lists(bench, alloc, Query::Slice(1), 3));
     assert!(rt; lists(bench, alloc, Query::Slice(2), 0));
     assert!(rt; lists(bench, alloc, Query::Faults, 4));
+    assert!(rt; lists(bench, alloc, Query::Problems, 5));
 }
 
-// The faults are the three sequence numbers, which are 0, and the 40 lines without a C.
+// The faults are the three sequence numbers, which are 0, and the 40 lines without a C. As problems
+// they are the sequence numbers with three runs, each shifted by one more, and the lines.
 #[test]
 fn answers_each_list(rt: HostRuntime) -> Result<(), Fail> {
     let alloc = rt.alloc();

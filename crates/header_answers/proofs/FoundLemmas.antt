@@ -1,6 +1,7 @@
 -- The traces that are found, trace by trace.
-use Rattle.std.proofs.Common.{◌≡◌, ℕ, ℤ, ◌+◌, ◌-◌, ◌<◌, ◌≤◌, Bool, true, false, List, [], ◌∷◌, ◌++◌, Option, Some, None, refl, sym, ap, ◌∙◌, arith}
-use Rattle.std.proofs.lemmas.List.{append-nil, append_assoc}
+use Rattle.std.proofs.Common.{◌≡◌, ℕ, ℤ, ◌+◌, ◌-◌, ◌<◌, ◌≤◌, Bool, true, false, List, [], ◌∷◌, ◌++◌, length, drop, get_or, Option, Some, None, refl, sym, ap, ◌∙◌, arith}
+use Rattle.std.proofs.Math.ListN.{drop_of_length-le}
+use Rattle.std.proofs.lemmas.List.{append-nil, append_assoc, drop_more}
 use Rattle.std.specs.Prelude.{option_map, option_and_then, is_some, filter, if◌then◌else◌}
 use Rattle.std.specs.List.{range_with_len}
 use Rattle.field_map.specs.declared.place.Place.{Place}
@@ -8,6 +9,7 @@ use Rattle.frame_cut.specs.Traces.{trace_at}
 use Rattle.frame_cut.specs.Volume.{Volume}
 use Rattle.trace_view.specs.Values.{value_of}
 use Rattle.bench_rules.specs.declared.ask_fault.AskFault.TheVariants.{NoPlace}
+use Rattle.bench_rules.specs.ChosenQueries.{found_of_each}
 use Rattle.bench_rules.specs.ManyTraces.{each_of}
 use Rattle.bench_rules.specs.Tables.{column_of, found_of, is_between}
 use Rattle.bench_rules.specs.RangeFaults.{fault_of}
@@ -61,15 +63,20 @@ next v place a b k x below e =
     ap (λ ps. each_of (number_at v place) ps) (next_position a k (b + 1 - a) below)
     ∙ ap (λ y. option_and_then (λ z. option_map (λ ys. z ∷ ys) (each_of (number_at v place) (range_with_len (a + (k + 1)) (b + 1 - a - (k + 1))))) y) (there v place (a + k) x e)
 
+-- what is found with one number more
+one_more : (low high : ℤ) (us vs : List (ℕ × ℤ)) (y : ℕ × ℤ) (o rest : Option (List (ℕ × ℤ))) → o ≡ option_map (λ ys. y ∷ ys) rest
+    → vs ≡ (if is_between low high y.1 then us ++ y ∷ [] else us) → found_behind low high us o ≡ found_behind low high vs rest
+one_more low high us vs y o rest first kept =
+    ap (λ o. found_behind low high us o) first ∙ by (is_between low high y.1) refl ∙ ap (λ ws. found_behind low high ws rest) (sym kept)
+  where
+    by : (t : Bool) → is_between low high y.1 ≡ t → found_behind low high us (option_map (λ ys. y ∷ ys) rest) ≡ found_behind low high (if is_between low high y.1 then us ++ y ∷ [] else us) rest
+    by true inside = with_one low high us y rest inside ∙ ap (λ t. found_behind low high (if t then us ++ y ∷ [] else us) rest) (sym inside)
+    by false outside = without_one low high us y rest outside ∙ ap (λ t. found_behind low high (if t then us ++ y ∷ [] else us) rest) (sym outside)
+
 pub go_on : (v : Volume) (place : Place) (low high : ℤ) (a b k : ℕ) (x : ℤ) (us vs : List (ℕ × ℤ)) → k < b + 1 - a → Some x ≡ value_of v.head (trace_at v (a + k)) place
     → vs ≡ (if is_between low high x then us ++ (a + k, x) ∷ [] else us) → IsFound v place low high a b k us → IsFound v place low high a b (k + 1) vs
 go_on v place low high a b k x us vs below e kept far =
-    far ∙ ap (λ o. found_behind low high us o) (next v place a b k x below e) ∙ by (is_between low high x) refl ∙ ap (λ ws. found_behind low high ws (left v place a b (k + 1))) (sym kept)
-  where
-    by : (t : Bool) → is_between low high x ≡ t
-        → found_behind low high us (option_map (λ ys. (a + k, x) ∷ ys) (left v place a b (k + 1))) ≡ found_behind low high (if is_between low high x then us ++ (a + k, x) ∷ [] else us) (left v place a b (k + 1))
-    by true inside = with_one low high us (a + k, x) (left v place a b (k + 1)) inside ∙ ap (λ t. found_behind low high (if t then us ++ (a + k, x) ∷ [] else us) (left v place a b (k + 1))) (sym inside)
-    by false outside = without_one low high us (a + k, x) (left v place a b (k + 1)) outside ∙ ap (λ t. found_behind low high (if t then us ++ (a + k, x) ∷ [] else us) (left v place a b (k + 1))) (sym outside)
+    far ∙ one_more low high us vs (a + k, x) (left v place a b k) (left v place a b (k + 1)) (next v place a b k x below e) kept
 
 -- a trace lacks the place
 pub lacks : (v : Volume) (place : Place) (low high : ℤ) (a b k : ℕ) (us : List (ℕ × ℤ)) → k < b + 1 - a → None ≡ value_of v.head (trace_at v (a + k)) place
@@ -121,3 +128,36 @@ behind_goes_on v place p b k (Some x) below e some =
 pub none_there : (o : Option ℤ) → is_some o ≡ false → o ≡ None
 none_there None e = refl
 none_there (Some x) e = absurd cc
+
+-- ---- listed traces
+
+-- the numbers of the traces that are listed from the i-th on
+abbrev pub listed_left : Volume → Place → List ℕ → ℕ → Option (List (ℕ × ℤ))
+listed_left v place ps i = each_of (number_at v place) (drop i ps)
+
+-- us was found in the first i of these traces
+abbrev pub IsFoundAmong : Volume → Place → (low high : ℤ) → (ps : List ℕ) (i : ℕ) → List (ℕ × ℤ) → Type 0
+IsFoundAmong v place low high ps i us = found_of_each v place low high ps ≡ found_behind low high us (listed_left v place ps i)
+
+pub none_listed_yet : (v : Volume) (place : Place) (low high : ℤ) (ps : List ℕ) → IsFoundAmong v place low high ps 0 []
+none_listed_yet v place low high ps = same_found low high (each_of (number_at v place) ps)
+
+pub listed_go_on : (v : Volume) (place : Place) (low high : ℤ) (ps : List ℕ) (i d : ℕ) (x : ℤ) (us vs : List (ℕ × ℤ)) → i < length ps → Some x ≡ value_of v.head (trace_at v (get_or ps i d)) place
+    → vs ≡ (if is_between low high x then us ++ (get_or ps i d, x) ∷ [] else us) → IsFoundAmong v place low high ps i us → IsFoundAmong v place low high ps (i + 1) vs
+listed_go_on v place low high ps i d x us vs below e kept far =
+    let p : ℕ = get_or ps i d in
+    let first : listed_left v place ps i ≡ option_map (λ ys. (p, x) ∷ ys) (listed_left v place ps (i + 1)) =
+    ap (λ qs. each_of (number_at v place) qs) (drop_more ps i d below)
+    ∙ ap (λ y. option_and_then (λ z. option_map (λ ys. z ∷ ys) (listed_left v place ps (i + 1))) y) (there v place p x e) in
+    far ∙ one_more low high us vs (p, x) (listed_left v place ps i) (listed_left v place ps (i + 1)) first kept
+
+pub listed_lacks : (v : Volume) (place : Place) (low high : ℤ) (ps : List ℕ) (i d : ℕ) (us : List (ℕ × ℤ)) → i < length ps → None ≡ value_of v.head (trace_at v (get_or ps i d)) place
+    → IsFoundAmong v place low high ps i us → found_of_each v place low high ps ≡ None
+listed_lacks v place low high ps i d us below e far =
+    let p : ℕ = get_or ps i d in
+    far ∙ ap (λ o. found_behind low high us o)
+    (ap (λ qs. each_of (number_at v place) qs) (drop_more ps i d below) ∙ each_stops (number_at v place) p (drop (i + 1) ps) (ap (λ o. option_map (λ y. (p, y)) o) (sym e)))
+
+pub listed_found : (v : Volume) (place : Place) (low high : ℤ) (ps : List ℕ) (i : ℕ) (us : List (ℕ × ℤ)) → length ps ≤ i → IsFoundAmong v place low high ps i us → found_of_each v place low high ps ≡ Some us
+listed_found v place low high ps i us end far =
+    far ∙ ap (λ qs. found_behind low high us (each_of (number_at v place) qs)) (drop_of_length-le ps end) ∙ ap (λ xs. Some xs) (append-nil us)

@@ -2,7 +2,7 @@
 use Rattle.std.proofs.Common.{◌≡◌, ℕ, zero, suc, ◌+◌, ◌-◌, ◌<◌, ◌≤◌, ℤ, pos, Bool, true, false, ◌||◌, not, List, [], ◌∷◌, ◌++◌, length, take, drop, map, get_or, Option, Some, None, refl, sym, ap, ap₂, ◌∙◌, arith}
 use Rattle.std.specs.Prelude.{filter_map, option_to_list, slice_set}
 use Rattle.std.proofs.Math.ListN.{drop_of_length-le}
-use Rattle.std.proofs.lemmas.List.{append_assoc, append-nil, drop_more, drop-set-lt, take_all, take_more_set}
+use Rattle.std.proofs.lemmas.List.{append_assoc, append-nil, drop_more, drop-set-lt, take_all, take_more, take_more_set}
 use Rattle.std.proofs.lemmas.List.Elements.{filter_map-append}
 use Rattle.std.proofs.lemmas.List.Folds.{list_any-append}
 use Rattle.std.specs.Ordering.{int_eq}
@@ -14,6 +14,7 @@ use Rattle.frame_cut.specs.Traces.{trace_at}
 use Rattle.frame_cut.specs.Volume.{Volume}
 use Rattle.trace_view.specs.Values.{value_of}
 use Rattle.trace_record.proofs.StatisticsLemmas.{least_of-append, greatest_of-append}
+use Rattle.bench_rules.specs.ChosenQueries.{extremes_of_each, numbers_of_each}
 use Rattle.bench_rules.specs.Headers.{extremes_of, extremes_unless_zero, some_number, last_from, with_name, extremes_in}
 use Rattle.header_answers.specs.declared.seen.Seen.{Seen}
 use Rattle.header_answers.specs.Seen.{seen_of, seen_with, seen_each, shown, shown_of, extremes_with}
@@ -74,13 +75,30 @@ number_more v a k place =
     ∙ filter_map-append (λ p. value_of v.head (trace_at v p) place) (range_with_len a k) ((a + k) ∷ [])
     ∙ ap (λ xs. numbers_so_far v a k place ++ xs) (to_list (value_of v.head (trace_at v (a + k)) place))
 
+-- the numbers of each name with those of one trace more
+names_seen : (h : Head) (t : List ℕ) (names : Pairs) (before after : Place → List ℤ) → ((place : Place) → after place ≡ before place ++ option_to_list (value_of h t place))
+    → seen_each h t names (map (λ e. seen_of (before e.1)) names) ≡ map (λ e. seen_of (after e.1)) names
+names_seen h t [] before after more = refl
+names_seen h t (e ∷ es) before after more =
+    ap₂ (λ s ss. s ∷ ss) (any_seen (before e.1) (value_of h t e.1) ∙ ap (λ xs. seen_of xs) (sym (more e.1))) (names_seen h t es before after more)
+
 pub trace_seen : (v : Volume) (a k : ℕ) (names : Pairs)
     → seen_each v.head (trace_at v (a + k)) names (map (λ e. seen_of (numbers_so_far v a k e.1)) names) ≡ map (λ e. seen_of (numbers_so_far v a (k + 1) e.1)) names
-trace_seen v a k [] = refl
-trace_seen v a k (e ∷ es) =
-    ap₂ (λ s ss. s ∷ ss)
-    (any_seen (numbers_so_far v a k e.1) (value_of v.head (trace_at v (a + k)) e.1) ∙ ap (λ xs. seen_of xs) (sym (number_more v a k e.1)))
-    (trace_seen v a k es)
+trace_seen v a k names = names_seen v.head (trace_at v (a + k)) names (numbers_so_far v a k) (numbers_so_far v a (k + 1)) (number_more v a k)
+
+-- of listed traces
+listed_more : (v : Volume) (ps : List ℕ) (i d : ℕ) → i < length ps → (place : Place)
+    → numbers_of_each v place (take (i + 1) ps) ≡ numbers_of_each v place (take i ps) ++ option_to_list (value_of v.head (trace_at v (get_or ps i d)) place)
+listed_more v ps i d below place =
+    let p : ℕ = get_or ps i d in
+    ap (λ qs. numbers_of_each v place qs) (take_more ps i d below)
+    ∙ filter_map-append (λ p. value_of v.head (trace_at v p) place) (take i ps) (p ∷ [])
+    ∙ ap (λ xs. numbers_of_each v place (take i ps) ++ xs) (to_list (value_of v.head (trace_at v p) place))
+
+pub listed_seen : (v : Volume) (ps : List ℕ) (i d : ℕ) (names : Pairs) → i < length ps
+    → seen_each v.head (trace_at v (get_or ps i d)) names (map (λ e. seen_of (numbers_of_each v e.1 (take i ps))) names) ≡ map (λ e. seen_of (numbers_of_each v e.1 (take (i + 1) ps))) names
+listed_seen v ps i d names below =
+    names_seen v.head (trace_at v (get_or ps i d)) names (λ place. numbers_of_each v place (take i ps)) (λ place. numbers_of_each v place (take (i + 1) ps)) (listed_more v ps i d below)
 
 -- ---- one name after another
 
@@ -118,6 +136,15 @@ pub shown_names : (v : Volume) (names : Pairs) (a b k : ℕ) → b + 1 - a ≡ k
 shown_names v [] a b k end = refl
 shown_names v (e ∷ es) a b k end =
     ap₂ (λ o xs. cons_option (with_name e.0 o) xs) (ap (λ (n : ℕ). extremes_unless_zero (numbers_so_far v a n e.1)) (sym end)) (shown_names v es a b k end)
+
+-- what is shown of numbers of each name
+names_shown : (names : Pairs) (numbers : Place → List ℤ) → shown_of names (map (λ e. seen_of (numbers e.1)) names) ≡ filter_map (λ e. with_name e.0 (extremes_unless_zero (numbers e.1))) names
+names_shown [] numbers = refl
+names_shown (e ∷ es) numbers = ap (λ xs. cons_option (with_name e.0 (extremes_unless_zero (numbers e.1))) xs) (names_shown es numbers)
+
+pub listed_shown : (v : Volume) (names : Pairs) (ps : List ℕ) (i : ℕ) → length ps ≤ i → shown_of names (map (λ e. seen_of (numbers_of_each v e.1 (take i ps))) names) ≡ extremes_of_each v names ps
+listed_shown v names ps i end =
+    ap (λ qs. shown_of names (map (λ e. seen_of (numbers_of_each v e.1 qs)) names)) (take_all i ps end) ∙ names_shown names (λ place. numbers_of_each v place ps)
 
 -- what is seen of each name, with one trace more
 pub seen_of_each : (h : Head) (t : List ℕ) (es : Pairs) (ss : List Seen) → length ss ≡ length es → length (seen_each h t es ss) ≡ length es

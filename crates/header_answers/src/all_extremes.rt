@@ -1,10 +1,12 @@
 // The extremes of all named header fields over many traces.
-ghost use Rattle.std.specs.Prelude.{◌≡◌, ◌+◌, ◌-◌, ◌≤◌, ◌++◌, ◌⊎◌, [], IsTrue, IfOk, IfErr, OnOk, length, map, option_to_list};
+ghost use Rattle.std.specs.Prelude.{◌≡◌, ◌+◌, ◌-◌, ◌<◌, ◌≤◌, ◌++◌, ◌⊎◌, [], IsTrue, IfOk, IfErr, OnOk, length, map, option_to_list};
 ghost use Rattle.frame_cut.specs.Traces.{count_of, is_trace, trace_at};
 ghost use Rattle.trace_view.specs.Shown.{bytes_of, head_of};
 ghost use Rattle.trace_view.specs.Values.{main_header};
 ghost use Rattle.edit_overlay.specs.CountedVolume.{IsSeen};
 ghost use Rattle.bench_rules.specs.declared.ask_fault.AskFault.TheVariants.{OutOfMemory as no_memory};
+ghost use Rattle.bench_rules.specs.ChosenQueries.{extremes_of_each};
+ghost use Rattle.bench_rules.specs.Conditions.{AreRising};
 ghost use Rattle.bench_rules.specs.Headers.{extremes_in, with_name};
 ghost use Rattle.bench_rules.specs.ReadFaults.{IsReadFault};
 ghost use Rattle.header_answers.specs.Seen.{seen_of, seen_each, shown_of};
@@ -40,6 +42,30 @@ pub fn extremes(
     let mut seen = nothing_seen(alloc, names.as_slice())?;
     for k in 0..b - a + 1 {
         see_trace(overlay, a + k, names.as_slice(), &mut seen)?;
+    }
+    shown(alloc, names, seen.as_slice())
+}
+
+/// Each of the names whose numbers in these traces, which rise, are not all 0, with the least, the
+/// greatest, the first and the last of those of the traces that have its place. Looks at each of
+/// the traces once at most. Refused: E11 alone. On disk also where a trace could not be read (E14,
+/// E15).
+pub fn extremes_among(
+    alloc: Global,
+    overlay: &mut Overlay<PackedRecord>,
+    traces: &[u32],
+    names: Vec<(Text, Place)>,
+) -> Result<Items<(Text, Extremes)>, AskFault>
+    requires { AreRising 1 (count_of overlay.old.volume) traces.now }
+    ensures ok { IfOk result (λ found. IsTrue overlay.new.agreed →
+        found ≡ extremes_of_each overlay.old.volume names.items traces.now) }
+    ensures err { IfErr result (λ fault. (fault ≡ no_memory) ⊎
+        (IsReadFault overlay.old.loaded.on_disk fault × (0 < length traces.now))) }
+    ensures seen { IsSeen overlay.old overlay.new (length traces.now) }
+{
+    let mut seen = nothing_seen(alloc, names.as_slice())?;
+    for p in traces {
+        see_trace(overlay, *p, names.as_slice(), &mut seen)?;
     }
     shown(alloc, names, seen.as_slice())
 }

@@ -1,8 +1,11 @@
 // The traces whose header field has a number between two bounds.
-ghost use Rattle.std.specs.Prelude.{◌≡◌, ◌+◌, ◌-◌, ◌≤◌, [], ◌∷◌, ◌++◌, ◌⊎◌, Some, IsTrue, IfOk, IfErr, if◌then◌else◌};
+ghost use Rattle.std.specs.Prelude.{◌≡◌, ◌+◌, ◌-◌, ◌<◌, ◌≤◌, [], ◌∷◌, ◌++◌, ◌⊎◌, None, Some, IsTrue, IfOk, IfErr, length, if◌then◌else◌};
 ghost use Rattle.frame_cut.specs.Traces.{count_of, is_trace, trace_at};
 ghost use Rattle.trace_view.specs.Values.{value_of};
 ghost use Rattle.edit_overlay.specs.CountedVolume.{IsSeen};
+ghost use Rattle.bench_rules.specs.declared.ask_fault.AskFault.TheVariants.{NoPlace as no_place, OutOfMemory as no_memory};
+ghost use Rattle.bench_rules.specs.ChosenQueries.{found_of_each};
+ghost use Rattle.bench_rules.specs.Conditions.{AreRising};
 ghost use Rattle.bench_rules.specs.ReadFaults.{IsReadFault};
 ghost use Rattle.bench_rules.specs.Tables.{column_of, found_of, is_between};
 ghost use Rattle.bench_rules.specs.RangeFaults.{fault_of};
@@ -43,6 +46,39 @@ pub fn find(
         };
         if !keep(&mut found, a + k, number, low, high) {
             return Err(without_memory(overlay, a + k, b, place)?);
+        }
+    }
+    Ok(Items::new(found))
+}
+
+/// Those of these traces, which rise, whose number at the place is from low to high, each with it.
+/// Looks at each of them once at most. Refused: E03 where one of them lacks the place; E11 may come
+/// in its place. On disk also where a trace could not be read (E14, E15).
+pub fn found_among(
+    alloc: Global,
+    overlay: &mut Overlay<PackedRecord>,
+    place: Place,
+    low: i128,
+    high: i128,
+    traces: &[u32],
+) -> Result<Items<(u32, i128)>, AskFault>
+    requires { AreRising 1 (count_of overlay.old.volume) traces.now }
+    ensures ok { IfOk result (λ found. IsTrue overlay.new.agreed →
+        found_of_each overlay.old.volume place low high traces.now ≡ Some found) }
+    ensures err { IfErr result (λ fault. (fault ≡ no_memory) ⊎
+        (IsReadFault overlay.old.loaded.on_disk fault × (0 < length traces.now)) ⊎
+        ((fault ≡ no_place) × (IsTrue overlay.new.agreed →
+        found_of_each overlay.old.volume place low high traces.now ≡ None))) }
+    ensures seen { IsSeen overlay.old overlay.new (length traces.now) }
+{
+    let mut found = Vec::new(alloc);
+    for p in traces {
+        let here = number_at(overlay, *p, place)?;
+        let Some(number) = here else {
+            return Err(AskFault::NoPlace);
+        };
+        if !keep(&mut found, *p, number, low, high) {
+            return Err(AskFault::OutOfMemory);
         }
     }
     Ok(Items::new(found))

@@ -33,6 +33,7 @@ use Rattle.bench_rules.specs.ReadFaults.{refusal_of, IsReadRefusal}
 use Rattle.bench_rules.specs.Refused.{first_refusal}
 use Rattle.bench_rules.specs.State.{State, Session}
 use Rattle.bench_rules.specs.Steps.{IsAfter, Step, TakesMemory}
+use Rattle.bench_rules.proofs.ToldLemmas.{is_told}
 use Rattle.many_traces.specs.Formulas.{IsRefusalFor}
 use Rattle.volume_records.specs.Faults.{IsOfRead}
 use Rattle.volume_records.specs.OfVolume.{records_of}
@@ -191,7 +192,7 @@ stepped_unless true old mid new edit (Err e) none same takes looks ok err memory
 
 -- the first refusal that is told is a step
 pub told_first : (T : Type 0) (old new : State) (edit : Edit) (refusal : Refusal) → first_refusal old edit ≡ Some refusal → new ≡ old → (let r : Result T Refusal = Err refusal in Step old edit r new)
-told_first T old new edit refusal first same = rw first (inl refl, same)
+told_first T old new edit refusal first same = rw first (inl (is_told old edit refusal refusal refl), same)
 
 -- or want of memory, where there is none
 pub told_for : (T : Type 0) (old new : State) (edit : Edit) (refusal : Refusal) → TakesMemory edit → IsRefusalFor refusal (first_refusal old edit) → new ≡ old → (let r : Result T Refusal = Err refusal in Step old edit r new)
@@ -199,7 +200,7 @@ told_for T old new edit refusal takes is same = by (first_refusal old edit) refl
   where
     by : (o : Option Refusal) → first_refusal old edit ≡ o → IsRefusalFor refusal o → (let r : Result T Refusal = Err refusal in Step old edit r new)
     by None e is = rw e (inl (is, takes), same)
-    by (Some first) e is = rw e (inl is, same)
+    by (Some first) e is = rw e (inl (is_told old edit first refusal is), same)
 
 -- there is such a trace, so it is looked at
 pub is_there : (v : Volume) (p : ℕ) → 1 ≤ p → p ≤ count_of v → is_trace v p ≡ true

@@ -6,3 +6,7 @@ mod ManyTracesLemmas
 mod CountedLemmas
 pub mod ComputedLemmas
 pub mod SortLemmas
+mod BlockLemmas
+mod MappingLemmas
+mod ChosenLemmas
+mod ChosenEachLemmas

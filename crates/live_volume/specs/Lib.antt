@@ -1,3 +1,4 @@
+pub mod Chosen
 pub mod Held
 pub mod Places
 pub mod Refusals

@@ -42,6 +42,7 @@ impl LiveVolume {
         ensures loaded { self.new.loaded ≡ self.old.loaded }
         ensures looks { RisesAtMost self.old.looks self.new.looks
             (edit_looks self.old.state (edits.Compute a b field.now source.now steps.now)) }
+        ensures count { count_of self.new.state.volume ≡ count_of self.old.state.volume }
         ensures moved { IfOk result (λ moved. IsTrue self.new.agreed →
             moved ≡ any_moves self.old.state self.new.state a b) }
     {

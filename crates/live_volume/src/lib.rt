@@ -17,16 +17,20 @@
 //! counts are claimed in any case, so that no call fails whatever a read gives.
 //!
 //! `load` takes memory for the file's bytes, the list of its traces, the six geometry names and the
-//! records with what has counted them; `apply` for `Set`, `Map`, `Patch`, `Blank`, `Copy`, `Move`,
-//! `Resize`, `Renumber`, `Compute` and `Sort` alone; `ask` for answers that are texts or lists
-//! alone: `Line`, `Lines`, `Stanzas`, `Fields`, `Grid`, `Inlines`, `Crosslines`, `Histogram`,
-//! `Slice`, `Faults`, `Table`, `Find`, `Header` and `Extremes`.
+//! records with what has counted them; `apply` for `Set`, `Map`, `MapAs`, `Patch`, `Blank`, `Copy`,
+//! `Move`, `MoveBlock`, `Resize`, `Renumber`, `Compute`, `Sort` and `OfChosen` alone; `ask` for
+//! answers that are texts or lists alone: `Line`, `Lines`, `Stanzas`, `Fields`, `Grid`, `Inlines`,
+//! `Crosslines`, `Histogram`, `Slice`, `Faults`, `Table`, `Find`, `Header`, `Extremes` and
+//! `OfChosen`.
 #![tactic(auto)]
 
+mod block_edit;
+mod chosen_edits;
 mod computed_edits;
 mod declaring;
 mod kept_slices;
 mod live_volume;
+mod mappings;
 mod number_edits;
 mod on_disk;
 mod report_queries;
@@ -36,6 +40,6 @@ mod volume_edits;
 
 pub use crate::live_volume::LiveVolume;
 pub use bench_rules::{
-    Answer, AskFault, Edit, Extremes, Field, Info, Items, Operand, Operator, Query, Refusal, Table,
-    Text,
+    Answer, AskFault, Edit, Extremes, Field, Info, Items, Mapping, Operand, Operator, Query,
+    Refusal, Table, Text,
 };

@@ -27,6 +27,7 @@ use bench_rules::{
     Answer, AskFault, Edit, Field, Query, Refusal, Text, binary_offset, is_line, place_in_binary,
     place_in_trace, set_bin_refusal,
 };
+use chosen_traces::chosen_answer;
 use device_io::{Sink, Source};
 use edit_overlay::{Overlay, SaveFault};
 use field_map::{FieldMap, Place, is_geometry};
@@ -35,6 +36,7 @@ use header_answers::{extremes_answer, found_answer, header_answer};
 use live_reports::LiveReports;
 use many_traces::table_answer;
 use num_order::{fits, write};
+use problem_answers::problems_answer;
 use std::alloc::Global;
 use std::io::{Read, Write};
 use std::marker::Model;
@@ -124,9 +126,11 @@ impl LiveVolume {
     }
 
     /// One edit: done, and the reports follow it; or refused, and all is as it was. `Set`, `Map`,
-    /// `Patch`, `Blank`, `Copy`, `Move`, `Resize`, `Renumber`, `Compute` and `Sort` take memory,
-    /// and are refused for want of it, E11, only where nothing else refuses them. On disk an edit
-    /// that looks is also refused where a trace could not be read (E14, E15).
+    /// `MapAs`, `Patch`, `Blank`, `Copy`, `Move`, `MoveBlock`, `Resize`, `Renumber`, `Compute`,
+    /// `Sort` and `OfChosen` take memory, and are refused for want of it, E11, only where nothing
+    /// else refuses them; `OfChosen`, whose traces have to be listed first, in the place of any
+    /// refusal but E01. On disk an edit that looks is also refused where a trace could not be read
+    /// (E14, E15).
     pub fn apply(&mut self, alloc: Global, edit: &Edit) -> Result<(), Refusal>
         ensures step { IsTrue self.new.agreed →
             Step self.old.state edit.now result self.new.state }
@@ -147,12 +151,14 @@ impl LiveVolume {
             }
             Edit::SetText(q, text) => self.set_text(*q, text),
             Edit::Map(name, field) => self.bind(alloc, name, field),
+            Edit::MapAs(mapping) => self.map_as(alloc, *mapping),
             Edit::Unmap(name) => self.unbind(name),
             Edit::Patch(p, k, values) => self.patch(alloc, *p, *k, values.as_slice()),
             Edit::Blank(p) => self.blank(alloc, *p),
             Edit::Copy(q, p) => self.copy(alloc, *q, *p),
             Edit::Delete(p) => self.delete(*p),
             Edit::Move(a, b) => self.move_trace(alloc, *a, *b),
+            Edit::MoveBlock(a, b, to) => self.move_block(alloc, *a, *b, *to),
             Edit::Resize(p, count) => self.resize(alloc, *p, *count),
             Edit::Renumber {
                 first_trace: a,
@@ -180,6 +186,10 @@ impl LiveVolume {
                 fields,
                 falling,
             } => { self.sort(alloc, *a, *b, fields.as_slice(), falling.as_slice()) }
+            Edit::OfChosen(chosen, edit) => {
+                self.apply_chosen(alloc, chosen, edit)?;
+                Ok(())
+            }
         }
     }
 
@@ -476,6 +486,10 @@ impl LiveVolume {
             Query::Totals => totals_answer(&self.overlay, self.reports.totals()),
             Query::Slice(k) => slice_answer(alloc, &mut self.overlay, *k),
             Query::Faults => faults_answer(alloc, &self.overlay, self.reports.triples()),
+            Query::Problems => {
+                let reports = &self.reports;
+                problems_answer(alloc, &mut self.overlay, reports.grid(), reports.triples())
+            }
             Query::Lines(b) => lines_answer(alloc, &self.overlay, *b),
             Query::Table(a, b, fields) => {
                 let overlay = &mut self.overlay;
@@ -488,6 +502,9 @@ impl LiveVolume {
             Query::Header(p) => header_answer(alloc, &mut self.overlay, &self.fields, *p),
             Query::Extremes(a, b) => {
                 extremes_answer(alloc, &mut self.overlay, &self.fields, *a, *b)
+            }
+            Query::OfChosen(chosen, query) => {
+                chosen_answer(alloc, &mut self.overlay, &self.fields, chosen, query)
             }
         }
     }

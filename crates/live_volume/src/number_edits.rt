@@ -101,6 +101,7 @@ impl LiveVolume {
         ensures loaded { self.new.loaded ≡ self.old.loaded }
         ensures looks { RisesAtMost self.old.looks self.new.looks
             (edit_looks self.old.state (edits.Renumber a b field.now first step)) }
+        ensures count { count_of self.new.state.volume ≡ count_of self.old.state.volume }
         ensures moved { IfOk result (λ moved. IsTrue self.new.agreed →
             moved ≡ any_moves self.old.state self.new.state a b) }
     {
@@ -252,6 +253,7 @@ impl LiveVolume {
         ensures told { IsTrue (tells_record self.old.state.fields (offset_of place)
             place.kind.size) → (self.new.looks ≡ self.old.looks)
             × IfErr result (λ refusal. refusal ≡ no_memory) }
+        ensures count { count_of self.new.state.volume ≡ count_of self.old.state.volume }
         ensures moved { IfOk result (λ moved. IsTrue self.new.agreed →
             moved ≡ any_moves self.old.state self.new.state a b) }
     {

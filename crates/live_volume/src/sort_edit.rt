@@ -48,7 +48,7 @@ impl LiveVolume {
     }
 
     // The traces of each pair in the place of one another, one pair after the other.
-    fn exchange_pairs(&mut self, pairs: Vec<(u32, u32)>)
+    pub(crate) fn exchange_pairs(&mut self, pairs: Vec<(u32, u32)>)
         requires { ArePlaces (count_of self.old.state.volume) pairs.items }
         ensures state { self.new.state ≡ record self.old.state {
           volume = with_places_swapped self.old.state.volume pairs.items;

@@ -8,7 +8,8 @@ ghost use Rattle.edit_overlay.specs.CountedVolume.{RisesAtMost};
 ghost use Rattle.bench_rules.specs.Looks.{trace_looks};
 ghost use Rattle.bench_rules.specs.Refused.{first_refusal, no_trace};
 ghost use Rattle.bench_rules.specs.Steps.{IsAfter, Step};
-ghost use Rattle.live_volume.specs.Held.{sample_start, IsReadAs, OnlyLooks};
+ghost use Rattle.live_volume.specs.Held.{sample_start, with_volume, IsReadAs, OnlyLooks};
+ghost use Rattle.frame_cut.specs.Parts.{without};
 ghost use Rattle.live_volume.specs.Refusals.{IsOfMachine};
 ghost use Rattle.volume_answers.specs.Rooms.{HasSampleRoom};
 
@@ -190,8 +191,10 @@ impl LiveVolume {
     }
 
     // Trace p out, where it is there.
-    fn take_out(&mut self, p: u32)
+    pub(crate) fn take_out(&mut self, p: u32)
         requires { first_refusal self.old.state (edits.Delete p) ≡ None }
+        ensures state { self.new.state ≡ with_volume self.old.state
+            (without self.old.state.volume p) }
         ensures after { IsTrue self.new.agreed →
             IsAfter self.old.state (edits.Delete p) self.new.state }
         ensures same { IsReadAs self.old.state self.new.state }

@@ -15,7 +15,7 @@ use Rattle.trace_store.specs.Swapped.{with_swapped, ArePlaces}
 use Rattle.many_traces.specs.Arranged.{AreInStep, IsBrought}
 
 -- one number more
-range-more : (a n : ℕ) → range_with_len a n ++ (a + n) ∷ [] ≡ range_with_len a (n + 1)
+pub range-more : (a n : ℕ) → range_with_len a n ++ (a + n) ∷ [] ≡ range_with_len a (n + 1)
 range-more a zero = ap (λ x. x ∷ []) (omega arith)
 range-more a (suc n) =
     let on : suc (n + 1) ≡ suc n + 1 = omega arith in
@@ -73,7 +73,7 @@ module _ (first : ℕ) (front items behind : List ℕ) (k p : ℕ) (low : 1 ≤ 
 
 -- ---- items at their own places
 
-own-map : (first n i : ℕ) → map (λ k. first + k) (range_with_len i n) ≡ range_with_len (first + i) n
+pub own-map : (first n i : ℕ) → map (λ k. first + k) (range_with_len i n) ≡ range_with_len (first + i) n
 own-map first zero i = refl
 own-map first (suc n) i =
     let next : first + i + 1 ≡ first + (i + 1) = omega arith in

@@ -1,6 +1,8 @@
 pub mod RowsLemmas
+mod ListedRowsLemmas
 pub mod FormulaLemmas
 pub mod NumbersLemmas
 mod NearLemmas
+mod BlockLemmas
 pub mod ExchangeLemmas
 pub mod SortedTraceLemmas

@@ -41,14 +41,21 @@ row_behind w k xs row full whole =
 ends : (w j k : ℕ) → j < k → w * j + w ≤ w * k
 ends w j k below = let e : w * suc j ≡ w * j + w = omega arith in subst (λ (m : ℕ). m ≤ w * k) e (mul-le-mul_left w below)
 
+-- so many rows of this width from the numbers, each with the position of its trace
+abbrev pub rows_with : (ℕ → ℕ) → (k w : ℕ) → List ℤ → List (ℕ × List ℤ)
+rows_with at k w xs = map (λ j. (at j, take w (drop (w * j) xs))) (range_with_len 0 k)
+
 -- one more row
-pub rows_more : (a w k : ℕ) (xs row : List ℤ) → length xs ≡ w * k → length row ≡ w → rows_from a (k + 1) w (xs ++ row) ≡ rows_from a k w xs ++ (a + k, row) ∷ []
-rows_more a w k xs row full whole =
-    map-range_with_len_more (λ j. (a + j, take w (drop (w * j) (xs ++ row)))) 0 k k (omega arith)
-    ∙ ap₂ (λ rows last. rows ++ (a + k, last) ∷ [])
-    (same_over (λ j. (a + j, take w (drop (w * j) (xs ++ row)))) (λ j. (a + j, take w (drop (w * j) xs))) 0 k
-    (λ j less. ap (λ ys. (a + j, ys)) (row_in_front w j xs row (subst (λ (n : ℕ). w * j + w ≤ n) (sym full) (ends w j k (omega (arith, less)))))))
+pub rows_with_more : (at : ℕ → ℕ) (w k : ℕ) (xs row : List ℤ) → length xs ≡ w * k → length row ≡ w → rows_with at (k + 1) w (xs ++ row) ≡ rows_with at k w xs ++ (at k, row) ∷ []
+rows_with_more at w k xs row full whole =
+    map-range_with_len_more (λ j. (at j, take w (drop (w * j) (xs ++ row)))) 0 k k (omega arith)
+    ∙ ap₂ (λ rows last. rows ++ (at k, last) ∷ [])
+    (same_over (λ j. (at j, take w (drop (w * j) (xs ++ row)))) (λ j. (at j, take w (drop (w * j) xs))) 0 k
+    (λ j less. ap (λ ys. (at j, ys)) (row_in_front w j xs row (subst (λ (n : ℕ). w * j + w ≤ n) (sym full) (ends w j k (omega (arith, less)))))))
     (row_behind w k xs row full whole)
+
+pub rows_more : (a w k : ℕ) (xs row : List ℤ) → length xs ≡ w * k → length row ≡ w → rows_from a (k + 1) w (xs ++ row) ≡ rows_from a k w xs ++ (a + k, row) ∷ []
+rows_more a w k xs row full whole = rows_with_more (λ j. a + j) w k xs row full whole
 
 -- ---- as many rows as there is room for
 
@@ -103,7 +110,7 @@ no_rows_yet v places a b =
     }
 
 -- the row that was pushed
-pushed : (us vs : List ℤ) (o : Option (List ℤ)) → option_map (λ row. us ++ row) o ≡ Some vs → (row : List ℤ) × (o ≡ Some row) × (vs ≡ us ++ row)
+pub pushed : (us vs : List ℤ) (o : Option (List ℤ)) → option_map (λ row. us ++ row) o ≡ Some vs → (row : List ℤ) × (o ≡ Some row) × (vs ≡ us ++ row)
 pushed us vs None e = absurd cc
 pushed us vs (Some row) e = (row, refl, sym (ap (λ (o : Option (List ℤ)). unwrap_or o []) e))
 

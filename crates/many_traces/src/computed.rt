@@ -12,8 +12,8 @@ ghost use Rattle.bench_rules.specs.ReadFaults.{IsReadRefusal};
 ghost use Rattle.many_traces.specs.Fields.{HoldsPlace};
 ghost use Rattle.many_traces.specs.Formulas.{formula_at, number_bytes, IsRefusalFor};
 
-use crate::formula::{computed_by_names, have_terms, term_of, terms_of};
-use bench_rules::{Operand, Operator, Refusal, Term, admitted, computed_in};
+use crate::formula::{computed_by_names, have_terms, terms_of};
+use bench_rules::{Operand, Operator, Refusal, Term, admitted, computed_in, term_of};
 use edit_overlay::{Overlay, ReadFault};
 use field_map::{FieldMap, Place};
 use num_order::{Kind, Order, write};

@@ -1,27 +1,14 @@
 // A computation whose fields are found by name.
 ghost use Rattle.std.specs.Prelude.{◌≡◌, Some, is_some, IfSome};
 ghost use Rattle.trace_view.specs.Shown.{bytes_of, head_of};
-ghost use Rattle.bench_rules.specs.Computed.{chained_from, steps_of, term_of as term_of_operand};
+ghost use Rattle.bench_rules.specs.Computed.{chained_from, steps_of};
 ghost use Rattle.bench_rules.specs.ManyTraces.{each_of};
 ghost use Rattle.many_traces.specs.Formulas.{named_number_in, step_in};
 
-use bench_rules::{Operand, Operator, Refusal, Term, after_step, place_in_trace, term_in};
+use bench_rules::{Operand, Operator, Refusal, Term, after_step, term_in, term_of};
 use field_map::{FieldMap, Place};
 use std::alloc::Global;
 use trace_view::TraceView;
-
-/// The operand with the place of its field, where that has one. Takes no memory.
-pub fn term_of(map: &FieldMap, operand: &Operand) -> Option<Term>
-    ensures { result ≡ term_of_operand map.now.pairs operand.now }
-{
-    match operand {
-        Operand::Number(number) => Some(Term::Number(*number)),
-        Operand::Field(field) => match place_in_trace(map, field) {
-            Some(place) => Some(Term::At(place)),
-            None => None,
-        },
-    }
-}
 
 /// Whether each field of the steps has a place. Takes no memory.
 pub fn have_terms(map: &FieldMap, steps: &[(Operator, Operand)]) -> bool

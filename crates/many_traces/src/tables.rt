@@ -1,17 +1,19 @@
 // Some header fields of many traces.
-ghost use Rattle.std.specs.Prelude.{◌≡◌, ◌+◌, ◌-◌, ◌*◌, ◌<◌, ◌≤◌, ◌⊎◌, [], None, Some, Ok, List, All, IsTrue, IfOk, IfErr, IfSome, length};
+ghost use Rattle.std.specs.Prelude.{◌≡◌, ◌+◌, ◌-◌, ◌*◌, ◌<◌, ◌≤◌, ◌⊎◌, [], None, Some, Ok, Err, List, All, IsTrue, IfOk, IfErr, IfSome, length};
 ghost use Rattle.std.specs.Vec.{vec_capacity};
 ghost use Rattle.frame_cut.specs.Traces.{count_of};
 ghost use Rattle.edit_overlay.specs.CountedVolume.{IsSeen};
-ghost use Rattle.bench_rules.specs.declared.ask_fault.AskFault.TheVariants.{NoPlace};
+ghost use Rattle.bench_rules.specs.declared.ask_fault.AskFault.TheVariants.{NoPlace, OutOfMemory as no_memory};
 ghost use Rattle.field_map.specs.declared.place.Place.{Place};
 ghost use Rattle.bench_rules.specs.declared.answer.Answer.TheVariants as answers;
 ghost use Rattle.bench_rules.specs.Answer.{table_answer};
+ghost use Rattle.bench_rules.specs.ChosenQueries.{table_of_each, table_answer_of_each};
+ghost use Rattle.bench_rules.specs.Conditions.{AreRising};
 ghost use Rattle.bench_rules.specs.Looks.{looks_at};
 ghost use Rattle.bench_rules.specs.ManyTraces.{each_of};
 ghost use Rattle.bench_rules.specs.Places.{place_in_trace};
 ghost use Rattle.bench_rules.specs.ReadFaults.{IsReadFault};
-ghost use Rattle.bench_rules.specs.Tables.{table_of};
+ghost use Rattle.bench_rules.specs.Tables.{rows_at, table_of};
 ghost use Rattle.bench_rules.specs.RangeFaults.{fault_of, IsFaultFor};
 
 use crate::places::{have_places, places_of};
@@ -53,18 +55,53 @@ pub fn table(
     let Some(places) = places_of(alloc, map, fields) else {
         return Err(without_memory(overlay, map, a, b, fields)?);
     };
-    match room(alloc, b - a + 1, places.len()) {
+    match room(alloc, (b - a + 1) as usize, places.len()) {
         Some(numbers) => filled(overlay, a, b, places.as_slice(), numbers),
         None => Err(without_memory(overlay, map, a, b, fields)?),
     }
 }
 
+/// These fields of each of these traces, which rise. Looks at each of them once at most, and at
+/// none where a field has no place. Refused: E02, then E03 where one of the traces lacks a place;
+/// E11 may come in the place of E03. On disk also where a trace could not be read (E14, E15).
+pub fn table_among(
+    alloc: Global,
+    overlay: &mut Overlay<PackedRecord>,
+    map: &FieldMap,
+    traces: Vec<u32>,
+    fields: &[Field],
+) -> Result<Table, AskFault>
+    requires { AreRising 1 (count_of overlay.old.volume) traces.items }
+    ensures ok { IfOk result (λ rows. IsTrue overlay.new.agreed → table_answer_of_each
+        overlay.old.volume traces.items (each_of (place_in_trace map.now.pairs) fields.now)
+        ≡ Ok (answers.Table rows)) }
+    ensures err { IfErr result (λ fault. (fault ≡ no_memory) ⊎
+        (IsReadFault overlay.old.loaded.on_disk fault × (0 < length traces.items)) ⊎
+        (IsTrue overlay.new.agreed → table_answer_of_each overlay.old.volume traces.items
+        (each_of (place_in_trace map.now.pairs) fields.now) ≡ Err fault)) }
+    ensures seen { IsSeen overlay.old overlay.new (length traces.items) }
+{
+    if !have_places(map, fields) {
+        return Err(AskFault::NoField);
+    }
+    let Some(places) = places_of(alloc, map, fields) else {
+        return Err(AskFault::OutOfMemory);
+    };
+    let Some(room) = room(alloc, traces.len(), places.len()) else {
+        return Err(AskFault::OutOfMemory);
+    };
+    // Read for the proof alone: they are no more than there are traces, which a `u32` counts.
+    let _count = overlay.count();
+    let numbers = listed_rows(overlay, traces.as_slice(), places.as_slice(), room)?;
+    Ok(Table::listed(traces, places.len(), numbers))
+}
+
 // Room for so many rows of so many numbers; `None` where there is none.
-fn room(alloc: Global, count: u32, width: usize) -> Option<Vec<i128>>
+fn room(alloc: Global, count: usize, width: usize) -> Option<Vec<i128>>
     ensures empty { IfSome result (λ numbers. numbers.items ≡ []) }
     ensures room { IfSome result (λ numbers. width * count ≤ vec_capacity numbers) }
 {
-    let numbers = width.checked_mul(count as usize)?;
+    let numbers = width.checked_mul(count)?;
     match Vec::with_capacity(alloc, numbers) {
         Ok(numbers) => Some(numbers),
         Err(_) => None,
@@ -101,6 +138,37 @@ fn filled(
         }
     }
     Ok(Table::new(a, b - a + 1, places.len(), numbers))
+}
+
+// The numbers at the places of these traces, which rise, one row behind the other, in this room.
+fn listed_rows(
+    overlay: &mut Overlay<PackedRecord>,
+    traces: &[u32],
+    places: &[Place],
+    numbers: Vec<i128>,
+) -> Result<Vec<i128>, AskFault>
+    requires rising { AreRising 1 (count_of overlay.old.volume) traces.now }
+    requires empty { numbers.items ≡ [] }
+    requires room { length places.now * length traces.now ≤ vec_capacity numbers }
+    ensures ok { IfOk result (λ numbers. IsTrue overlay.new.agreed →
+        table_of_each overlay.old.volume places.now traces.now
+        ≡ Some (rows_at traces.now (length places.now) numbers.items)) }
+    ensures full { IfOk result (λ numbers.
+        length numbers.items ≡ length places.now * length traces.now) }
+    ensures err { IfErr result (λ fault.
+        (IsReadFault overlay.old.loaded.on_disk fault × (0 < length traces.now)) ⊎
+        ((fault ≡ NoPlace) × (IsTrue overlay.new.agreed →
+        table_of_each overlay.old.volume places.now traces.now ≡ None))) }
+    ensures seen { IsSeen overlay.old overlay.new (length traces.now) }
+{
+    let mut numbers = numbers;
+    for p in traces {
+        let there = push_row(overlay, *p, places, &mut numbers)?;
+        if !there {
+            return Err(AskFault::NoPlace);
+        }
+    }
+    Ok(numbers)
 }
 
 // Why the table of traces a to b is refused where there is no room for it: E03 comes before E11.

@@ -1,7 +1,7 @@
 // The commands and their forms.
 
 /// The first words of the commands.
-pub static COMMANDS: [&str; 41] = [
+pub static COMMANDS: [&str; 42] = [
     "set",
     "get",
     "bin",
@@ -43,12 +43,13 @@ pub static COMMANDS: [&str; 41] = [
     "totals",
     "slice",
     "faults",
+    "problems",
 ];
 
-// Their forms, in the same order. They are searched: a `match` of so many texts takes minutes to
-// prove.
-static FORMS: [&str; 41] = [
-    "set P [Q] FIELD NUMBER",
+// Their forms, in the same order: `all` stands for P and Q. They are searched: a `match` of so many
+// texts takes minutes to prove.
+static FORMS: [&str; 42] = [
+    "set P [Q] FIELD NUMBER [where A OP B ..]",
     "get P FIELD",
     "bin FIELD NUMBER",
     "getbin FIELD",
@@ -59,24 +60,24 @@ static FORMS: [&str; 41] = [
     "lines B",
     "code B",
     "stanzas",
-    "map NAME FIELD",
+    "map NAME FIELD, map shot or map usual",
     "unmap NAME",
     "fields",
-    "table P Q FIELD ..",
-    "find P Q FIELD LOW HIGH",
+    "table P Q FIELD .. [where A OP B ..]",
+    "find P Q FIELD LOW HIGH [where A OP B ..]",
     "header P",
-    "extremes P Q",
-    "count",
+    "extremes P Q [where A OP B ..]",
+    "count [P Q where A OP B ..]",
     "info",
     "sample P K",
     "patch P K NUMBER ..",
     "blank P",
     "copy Q P",
-    "delete P",
-    "move P Q",
+    "delete P [Q] [where A OP B ..]",
+    "move P [Q] TO",
     "resize P NUMBER",
-    "renumber P Q FIELD FIRST STEP",
-    "compute P Q FIELD SOURCE [OP OPERAND] ..",
+    "renumber P Q FIELD FIRST STEP [where A OP B ..]",
+    "compute P Q FIELD SOURCE [OP OPERAND] .. [where A OP B ..]",
     "sort P Q FIELD ..",
     "geometry P",
     "stat P",
@@ -89,6 +90,7 @@ static FORMS: [&str; 41] = [
     "totals",
     "slice K",
     "faults",
+    "problems",
 ];
 
 /// The form of a command, by its word: empty where the word is none.

@@ -29,7 +29,7 @@ pub fn fault_of(reply: &Reply) -> Option<Fault>
     match reply {
         Reply::Silent
         | Reply::Session(Ok(_))
-        | Reply::Edited(Ok(()))
+        | Reply::Edited(Ok(_))
         | Reply::Asked(Ok(_))
         | Reply::Floats(_) => None,
         Reply::Fault(fault) => Some(Fault::Line(*fault)),

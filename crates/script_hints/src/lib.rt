@@ -11,6 +11,7 @@
 
 mod commands;
 mod compute_hint;
+mod condition_hint;
 mod fault;
 mod fit;
 mod hint;

@@ -1,6 +1,7 @@
 // What may be meant by a line that is refused.
 use crate::commands::{COMMANDS, form};
 use crate::compute_hint::{computed_number_hint, joined_hint, operations_hint};
+use crate::condition_hint::{condition_hint, in_front_of_conditions, place_of_where, sign_hint};
 use crate::fault::Fault;
 use crate::hint::Hint;
 use crate::names::{BINARY_NAMES, QUANTITIES, TRACE_NAMES};
@@ -55,11 +56,24 @@ fn line_hint(words: &Words, fault: LineFault) -> Hint {
         }
         LineFault::Unknown => nearest(words.at(0), &COMMANDS),
         LineFault::Words if words.has_note() => note_behind(),
-        LineFault::Words => wrong_words(words),
-        LineFault::Number if words.at(0) == b"compute".as_slice() => wrong_computation(words),
-        LineFault::Number => wrong_number(words),
+        LineFault::Words => match condition_hint(words) {
+            Some(text) => Hint::Text(text),
+            None => wrong_words(words),
+        },
+        LineFault::Number => match sign_hint(words) {
+            Some(text) => Hint::Text(text),
+            None => wrong_word(words),
+        },
         LineFault::NotText => Hint::Text("the line is not UTF-8: save the script as UTF-8"),
         LineFault::TooLarge | LineFault::OutOfMemory => Hint::None,
+    }
+}
+
+// Of a line with a word that is none of those that may stand there.
+fn wrong_word(words: &Words) -> Hint {
+    match words.at(0) {
+        b"compute" => wrong_computation(words),
+        _ => wrong_number(words),
     }
 }
 
@@ -70,6 +84,7 @@ fn note_behind() -> Hint {
 // Of a command with too few or too many words.
 fn wrong_words(words: &Words) -> Hint {
     match words.at(0) {
+        _ if place_of_where(words).is_some() => form_of(words),
         b"table" if !words.at(3).is_empty() => Hint::Text("a table has at most 64 fields"),
         b"compute" => text_or_form(operations_hint(words), words),
         b"sort" if !words.at(3).is_empty() => Hint::Text("a sort is by at most 8 fields"),
@@ -138,9 +153,9 @@ fn wrong_computation(words: &Words) -> Hint {
     if words.has_note() {
         return note_behind();
     }
-    match computed_number_hint(words) {
+    match computed_number_hint(&in_front_of_conditions(words)) {
         Some(text) => Hint::Text(text),
-        None => place_or_form(words),
+        None => wrong_number(words),
     }
 }
 
@@ -192,12 +207,40 @@ fn no_trace(words: &Words, p: u32, count: u32) -> Hint {
 fn is_of_range(command: &[u8]) -> bool {
     matches!(
         command,
-        b"renumber" | b"compute" | b"sort" | b"table" | b"find" | b"extremes"
+        b"set"
+            | b"renumber"
+            | b"compute"
+            | b"sort"
+            | b"table"
+            | b"find"
+            | b"extremes"
+            | b"delete"
+            | b"count"
+            | b"move"
     )
 }
 
-// Of a name that is no field. Where a command takes any number of names, those of a note are some.
+// Of a name that is no field, of the command or of one of its conditions.
 fn no_field(words: &Words) -> Hint {
+    match place_of_where(words) {
+        None => no_field_of_command(words),
+        Some(place) => match sign_hint(words) {
+            Some(text) => Hint::Text(text),
+            None => no_field_of_conditions(words, place),
+        },
+    }
+}
+
+// Of a command in front of `where`, and else of the conditions behind it.
+fn no_field_of_conditions(words: &Words, place: usize) -> Hint {
+    match no_field_of_command(&words.in_front_of(place)) {
+        Hint::None => first_unknown(words, place.saturating_add(1)),
+        hint => hint,
+    }
+}
+
+// Of a command without conditions. Where it takes any number of names, those of a note are some.
+fn no_field_of_command(words: &Words) -> Hint {
     match words.at(0) {
         b"table" | b"compute" | b"sort" if words.has_note() => note_behind(),
         b"bin" | b"getbin" => {
@@ -210,6 +253,7 @@ fn no_field(words: &Words) -> Hint {
             Some(text) => Hint::Text(text),
             None => first_unknown(words, 3),
         },
+        b"set" => first_unknown(words, 2),
         _ => trace_field(words.at(2)),
     }
 }
@@ -279,11 +323,14 @@ fn no_place(words: &Words) -> Hint {
         }
         b"text" | b"line" => Hint::Text("lines count from 1 to 40, blocks from 0"),
         b"code" | b"lines" => Hint::Text("blocks count from 0"),
-        b"set" | b"get" | b"renumber" | b"compute" | b"sort" | b"table" | b"find" => {
-            Hint::Text("BYTE is that of the header, 1 to 240; SIZE is 1, 2, 3, 4 or 8")
-        }
+        b"get" => header_bytes(),
+        command if is_of_range(command) => header_bytes(),
         _ => Hint::None,
     }
+}
+
+fn header_bytes() -> Hint {
+    Hint::Text("BYTE is that of the header, 1 to 240; SIZE is 1, 2, 3, 4 or 8")
 }
 
 // Of an edit that would cut the file elsewhere.

@@ -1,9 +1,10 @@
 // The words of a line.
 
 // No hint looks at a word behind so many.
-const MOST: usize = 24;
+const MOST: usize = 48;
 
-/// The first 24 words of a line, and whether one of its words begins with `#`.
+/// The first 48 words of a line, with `1 last` for an `all` behind the command, and whether one of
+/// its words begins with `#`.
 #[derive(Drop)]
 pub(crate) struct Words<'a> {
     words: [&'a [u8]; MOST],
@@ -21,6 +22,11 @@ impl<'a> Words<'a> {
             if !word.is_empty() && length < MOST {
                 words[length] = word;
                 length += 1;
+            }
+            if length == 2 && words[1] == b"all".as_slice() {
+                words[1] = b"1";
+                words[2] = b"last";
+                length = 3;
             }
         }
         Words {
@@ -46,6 +52,20 @@ impl<'a> Words<'a> {
     /// The words; no bytes stand for those that are missing.
     pub(crate) fn as_slice(&self) -> &[&'a [u8]] {
         self.words.as_slice()
+    }
+
+    /// The words in front of this number.
+    pub(crate) fn in_front_of(&self, number: usize) -> Words<'a> {
+        let mut words: [&'a [u8]; MOST] = [b""; MOST];
+        let length = number.min(self.length).min(MOST);
+        for k in 0..length {
+            words[k] = self.at(k);
+        }
+        Words {
+            words,
+            length,
+            has_note: self.has_note,
+        }
     }
 
     /// Whether one of the words begins with `#`.

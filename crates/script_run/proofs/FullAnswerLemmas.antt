@@ -12,10 +12,12 @@ use Rattle.bench_rules.specs.declared.edit.Edit.TheVariants as edits
 use Rattle.bench_rules.specs.declared.refusal.Refusal.{Refusal}
 use Rattle.bench_rules.specs.declared.refusal.Refusal.TheVariants as refusals
 use Rattle.bench_rules.specs.After.{fields_after}
+use Rattle.bench_rules.specs.Mappings.{all_bound, bindings, first_bind_fault}
 use Rattle.bench_rules.specs.Places.{place_in_trace}
 use Rattle.bench_rules.specs.Refused.{first_refusal, map_refusal}
 use Rattle.bench_rules.specs.State.{State}
 use Rattle.bench_rules.specs.Steps.{StepUnless}
+use Rattle.bench_rules.proofs.FirstLemmas.{both_none}
 use Rattle.script_words.specs.declared.command.Command.{Command}
 use Rattle.script_words.specs.declared.command.Command.TheVariants.{Apply, Ask}
 use Rattle.script_words.specs.declared.line_fault.LineFault.{LineFault}
@@ -55,8 +57,16 @@ mapped_plain s name (Some place) e h =
     let none : bind_fault s.volume.head.extensions s.fields name place ≡ None = no_fault (bind_fault s.volume.head.extensions s.fields name place) e in
     plain_bound s.fields name place (plain_name name (name_is (is_name name) _ none)) h
 
+-- names that are bound one after another
+all_plain : (extensions : ℕ) (fields bs : Pairs) → first_bind_fault extensions fields bs ≡ None → HasPlainNames fields → HasPlainNames (all_bound fields bs)
+all_plain extensions fields [] none h = h
+all_plain extensions fields (b ∷ bs) none h =
+    let parts = both_none (bind_fault extensions fields b.0 b.1) (first_bind_fault extensions (bound fields b.0 b.1) bs) none in
+    all_plain extensions (bound fields b.0 b.1) bs parts.1 (plain_bound fields b.0 b.1 (plain_name b.0 (name_is (is_name b.0) _ parts.0)) h)
+
 fields_plain : (s : State) (edit : Edit) → first_refusal s edit ≡ None → HasPlainNames s.fields → HasPlainNames (fields_after s.fields edit)
 fields_plain s (edits.Map name f) e h = mapped_plain s name (place_in_trace s.fields f) e h
+fields_plain s (edits.MapAs mapping) e h = all_plain s.volume.head.extensions s.fields (bindings mapping) (no_fault (first_bind_fault s.volume.head.extensions s.fields (bindings mapping)) e) h
 fields_plain s (edits.Unmap name) e h = plain_unbound s.fields name h
 fields_plain s (edits.Set p field x) e h = h
 fields_plain s (edits.SetBin field x) e h = h
@@ -68,10 +78,12 @@ fields_plain s (edits.Blank p) e h = h
 fields_plain s (edits.Copy q p) e h = h
 fields_plain s (edits.Delete p) e h = h
 fields_plain s (edits.Move a b) e h = h
+fields_plain s (edits.MoveBlock a b to) e h = h
 fields_plain s (edits.Resize p m) e h = h
 fields_plain s (edits.Renumber a b field first step) e h = h
 fields_plain s (edits.Compute a b field source steps) e h = h
 fields_plain s (edits.Sort a b fields falls) e h = h
+fields_plain s (edits.OfChosen c edit) e h = h
 
 same_plain : (old new : State) → new ≡ old → HasPlainNames old.fields → HasPlainNames new.fields
 same_plain old new e h = subst (λ (s : State). HasPlainNames s.fields) (sym e) h

@@ -28,7 +28,7 @@ use Rattle.script_run.specs.Sessions.{Standing, standing, WordStep, EndedStep, A
 -- ---- lines as edits
 
 -- edits behind others
-steps_behind : (old mid new : State) (edits more : List Edit) (replies others : List (Result (Unit {0}) Refusal)) → Steps old edits replies mid → Steps mid more others new
+steps_behind : (old mid new : State) (edits more : List Edit) (replies others : List (Result (Option ℕ) Refusal)) → Steps old edits replies mid → Steps mid more others new
     → Steps old (edits ++ more) (replies ++ others) new
 steps_behind old mid new [] more [] others h k = subst (λ s. Steps s more others new) h k
 steps_behind old mid new [] more (r ∷ rs) others h k = absurd h
@@ -43,7 +43,7 @@ module _ (start : State) where
   add_read : (before : Replied) (old new : State) (read : Result (Option Command) LineFault) (p : Printed) → Steps start before.edits before.replies old → ReadStep old read p new
       → LeadsTo new (AddsEdit read p before)
   add_read before old new (Ok None) p sofar step = (before, refl, subst (λ (s : State). Steps start before.edits before.replies s) (sym step.1) sofar)
-  add_read before old new (Ok (Some (Apply edit))) p sofar (reply, step, is) = (
+  add_read before old new (Ok (Some (Apply edit))) p sofar (reply, step, is, told) = (
     record { edits = before.edits ++ edit ∷ []; replies = before.replies ++ reply ∷ [] },
     (reply, is, refl),
     steps_behind start old new before.edits (edit ∷ []) before.replies (reply ∷ []) sofar (new, step, refl),
@@ -149,7 +149,7 @@ reloads_as_saved stay scratch_answers old new lines ps cut steps =
     let alike = stay old new some.0.edits some.0.replies cut some.2 in
     (alike.cut, reload some.0.edits some.0.replies some.2 alike.cut)
   where
-    reload : (edits : List Edit) (replies : List (Result (Unit {0}) Refusal)) → Steps old edits replies new → IsCut (bytes_of new.volume) old.reading old.limits new.volume
+    reload : (edits : List Edit) (replies : List (Result (Option ℕ) Refusal)) → Steps old edits replies new → IsCut (bytes_of new.volume) old.reading old.limits new.volume
         → (again : State) → IsRead again → bytes_of again.volume ≡ bytes_of new.volume → again.reading ≡ old.reading → again.limits ≡ old.limits → IsReload new again
     reload edits replies all held again read same r l =
         let here : IsCut (bytes_of new.volume) old.reading old.limits again.volume = rw (← same, ← r, ← l) read in (

@@ -32,7 +32,7 @@ IsRead s = IsCut (bytes_of s.volume) s.reading s.limits s.volume
 -- edits, with the reply to each
 pub record Replied : Type 0 where
   pub edits : List Edit
-  pub replies : List (Result (Unit {0}) Refusal)
+  pub replies : List (Result (Option ℕ) Refusal)
 
 -- none so far
 abbrev pub none_yet : Replied
@@ -42,7 +42,7 @@ none_yet = record { edits = []; replies = [] }
 -- whose fault is printed add none
 abbrev pub AddsEdit : Result (Option Command) LineFault → Printed → Replied → Replied → Type 0
 AddsEdit (Ok (Some (Apply edit))) printed old new =
-    (reply : Result (Unit {0}) Refusal) × (printed ≡ edit_reply reply)
+    (reply : Result (Option ℕ) Refusal) × (printed ≡ edit_reply reply)
     × (new ≡ record { edits = old.edits ++ edit ∷ []; replies = old.replies ++ reply ∷ [] })
 AddsEdit (Ok (Some (Ask query))) printed old new = new ≡ old
 AddsEdit (Ok None) printed old new = new ≡ old

@@ -1,8 +1,8 @@
 -- A script run over a volume, line by line.
-use Rattle.std.specs.Prelude.{◌≡◌, ◌⊎◌, ℕ, Bool, true, false, if◌then◌else◌, IsTrue, ◌+◌, ◌<◌, ◌≤◌, List, [], ◌∷◌, ◌++◌, length, take, flat_map, count_by, Option, Some, None, Result, Ok, Err}
+use Rattle.std.specs.Prelude.{◌≡◌, ◌⊎◌, ℕ, Bool, true, false, if◌then◌else◌, IsTrue, ◌+◌, ◌<◌, ◌≤◌, List, [], ◌∷◌, ◌++◌, length, take, flat_map, count_by, Option, Some, None, Result, Ok, Err, IfOk}
 use Rattle.bench_rules.specs.declared.refusal.Refusal.{Refusal}
 use Rattle.bench_rules.specs.State.{State}
-use Rattle.bench_rules.specs.Steps.{Step}
+use Rattle.bench_rules.specs.Steps.{Step, told_of}
 use Rattle.bench_rules.specs.Answer.{Reply, IsReply}
 use Rattle.bench_rules.specs.FloatStatistics.{float_format}
 use Rattle.bench_rules.specs.declared.query.Query.{Query}
@@ -41,10 +41,11 @@ IsPrintedOf (Some f) (Ok answer) printed =
     ⊎ (IsSlice answer × (printed ≡ query_reply (Err OutOfMemory)))
     ⊎ (IsOther answer × (printed ≡ query_reply (Ok answer)))
 
--- a command with what it prints: an edit is one step, a query changes nothing
+-- a command with what it prints: an edit is one step, and tells of how many traces it was where it is one of chosen traces under
+-- conditions; a query changes nothing
 abbrev pub CommandStep : State → Command → Printed → State → Type 0
 CommandStep old (Apply edit) printed new =
-    (reply : Result (Unit {0}) Refusal) × Step old edit reply new × (printed ≡ edit_reply reply)
+    (reply : Result (Option ℕ) Refusal) × Step old edit reply new × (printed ≡ edit_reply reply) × IfOk reply (λ told. told ≡ told_of old edit)
 CommandStep old (Ask query) printed new =
     (reply : Reply) × IsReply old query reply × IsPrintedOf (floats_asked old query) reply printed × (new ≡ old)
 

@@ -29,6 +29,7 @@ use Rattle.script_text.specs.ReportTexts.{fraction_text, location_text, statisti
 use Rattle.script_text.specs.HeaderTexts.{table_row_text, found_text, number_text, four_numbers, extremes_text}
 use Rattle.script_text.specs.AnswerTexts.{order_text, yes_or_no, info_text, code_text, stanza_text, field_text, shown_text, ranks_text, tail_text}
 use Rattle.script_text.specs.FullLines.{AnswersAreFullLines}
+use Rattle.script_text.proofs.ProblemLineLemmas.{full_problems}
 use Rattle.script_text.proofs.FullLineLemmas.{plain_both, plain_decimal, full_decimal, plain_signed, plain_numbers, plain_first, plain_joined, Plain, no_word, word, plain_words, full_joined, words_line, one_line, lines_behind, each_full, some_full}
 
 -- ---- the parts of lines
@@ -196,8 +197,10 @@ answers_are_full_lines (answers.Range range) h = one_line (range_text range) (fu
 answers_are_full_lines (answers.Totals statistics) h = one_line (statistics_text (codes "totals") statistics) (full_statistics (codes "totals") refl statistics)
 answers_are_full_lines (answers.Slice rows) h = a_list (codes "slice") (map (row_text (codes "row")) rows) refl (each_full (row_text (codes "row")) full_row rows)
 answers_are_full_lines (answers.Faults faults) h = a_list (codes "faults") (map fault_text faults) refl (each_full fault_text full_fault faults)
+answers_are_full_lines (answers.Problems lines) h = full_problems lines
 answers_are_full_lines (answers.Lines lines) h = a_list (codes "lines") (map shown_text lines) refl (some_full shown_text is_plain full_shown lines h)
 answers_are_full_lines (answers.Table rows) h = a_list (codes "table") (map table_row_text rows) refl (each_full table_row_text full_table_row rows)
 answers_are_full_lines (answers.Found found) h = a_list (codes "found") (map (found_text (codes "trace")) found) refl (each_full (found_text (codes "trace")) full_found found)
 answers_are_full_lines (answers.Header fields) h = a_list (codes "header") (map number_text fields) refl (some_full number_text (λ f. is_plain f.0) full_number fields h)
 answers_are_full_lines (answers.Extremes fields) h = a_list (codes "extremes") (map extremes_text fields) refl (some_full extremes_text (λ f. is_plain f.0) full_extremes fields h)
+answers_are_full_lines (answers.Chosen n) h = one_line (with_blanks (codes "chosen" ∷ decimal n ∷ [])) (words_line (codes "chosen") refl (word (decimal n) (plain_decimal n) no_word))

@@ -7,7 +7,7 @@ use Rattle.std.specs.Str.{byte}
 use Rattle.std.proofs.lemmas.Bool.{ne_eqb, lt-ltb}
 use Rattle.std.proofs.lemmas.List.Folds.{list_all-append}
 use Rattle.script_words.specs.Words.{is_line_feed}
-use Rattle.script_text.specs.Texts.{with_blanks, with_line_end, list_lines, is_plain, is_full_line, IsFullLines}
+use Rattle.script_text.specs.Texts.{with_blanks, with_line_end, counted_lines, list_lines, is_plain, is_full_line, IsFullLines}
 
 and_both : (a b : Bool) → a ≡ true → b ≡ true → (a && b) ≡ true
 and_both a b e f = cc
@@ -145,12 +145,15 @@ words_line head {words} e p = each words p.all
 pub one_line : (line : List ℕ) → is_full_line line ≡ true → IsFullLines (with_line_end line)
 one_line line e = record { lines = line ∷ []; text_is = sym (append-nil (with_line_end line)); full = and_both (is_full_line line) true e refl }
 
-pub lines_behind : (head : List ℕ) (lines : List (List ℕ)) → is_full_line (head ++ codes " " ++ decimal (length lines)) ≡ true → list_all is_full_line lines ≡ true → IsFullLines (list_lines head lines)
-lines_behind head lines e f = record {
-  lines = (head ++ codes " " ++ decimal (length lines)) ∷ lines;
+pub counted_behind : (head : List ℕ) (n : ℕ) (lines : List (List ℕ)) → is_full_line (head ++ codes " " ++ decimal n) ≡ true → list_all is_full_line lines ≡ true → IsFullLines (counted_lines head n lines)
+counted_behind head n lines e f = record {
+  lines = (head ++ codes " " ++ decimal n) ∷ lines;
   text_is = refl;
-  full = and_both (is_full_line (head ++ codes " " ++ decimal (length lines))) (list_all is_full_line lines) e f;
+  full = and_both (is_full_line (head ++ codes " " ++ decimal n)) (list_all is_full_line lines) e f;
 }
+
+pub lines_behind : (head : List ℕ) (lines : List (List ℕ)) → is_full_line (head ++ codes " " ++ decimal (length lines)) ≡ true → list_all is_full_line lines ≡ true → IsFullLines (list_lines head lines)
+lines_behind head lines e f = counted_behind head (length lines) lines e f
 
 -- each of a list of lines is full
 pub each_full : {X : Type 0} (f : X → List ℕ) → ((x : X) → is_full_line (f x) ≡ true) → (xs : List X) → list_all is_full_line (map f xs) ≡ true

@@ -34,10 +34,16 @@ use Rattle.bench_rules.specs.declared.answer.Answer.TheVariants as answers
 use Rattle.bench_rules.specs.declared.ask_fault.AskFault.{AskFault}
 use Rattle.bench_rules.specs.declared.ask_fault.AskFault.TheVariants as ask_faults
 use Rattle.bench_rules.specs.declared.ask_fault.AskFault.TheVariants.{NoTrace, NoField, NoPlace, NoSample, NoValues}
+use Rattle.bench_rules.specs.declared.chosen.Chosen.{Chosen}
+use Rattle.bench_rules.specs.declared.chosen_query.ChosenQuery.{ChosenQuery}
+use Rattle.bench_rules.specs.declared.chosen_query.ChosenQuery.TheVariants as chosen_queries
+use Rattle.bench_rules.specs.declared.test.Test.{Test}
 use Rattle.bench_rules.specs.declared.query.Query.{Query}
 use Rattle.bench_rules.specs.declared.query.Query.TheVariants as queries
 use Rattle.bench_rules.specs.declared.refusal.Refusal.{Refusal}
 use Rattle.bench_rules.specs.declared.refusal.Refusal.TheVariants as refusals
+use Rattle.bench_rules.specs.ChosenQueries.{table_of_each, found_of_each, numbers_of_each, asks_for_fields, table_answer_of_each, found_answer_of_each, answer_of_each, answer_of_chosen, answer_under, of_range, chosen_answer}
+use Rattle.bench_rules.specs.Conditions.{chosen_among, range_of, tests_of}
 use Rattle.bench_rules.specs.ManyTraces.{each_of}
 use Rattle.bench_rules.specs.Places.{place_in_trace, place_in_binary, is_in_binary}
 use Rattle.bench_rules.specs.Refused.{is_line}
@@ -253,6 +259,42 @@ plain_found_answer : (v : Volume) (a b : ℕ) (low high : ℤ) (place : Option P
 plain_found_answer v a b low high None = tt
 plain_found_answer v a b low high (Some place) = plain_or_fault (found_of v place low high a b) NoPlace answers.Found (λ x. tt)
 
+-- ---- answers of chosen traces
+
+plain_table_of_each : (v : Volume) (ps : List ℕ) (places : Option (List Place)) → PlainReply (table_answer_of_each v ps places)
+plain_table_of_each v ps None = tt
+plain_table_of_each v ps (Some places) = plain_or_fault (table_of_each v places ps) NoPlace answers.Table (λ x. tt)
+
+plain_found_of_each : (v : Volume) (ps : List ℕ) (low high : ℤ) (place : Option Place) → PlainReply (found_answer_of_each v ps low high place)
+plain_found_of_each v ps low high None = tt
+plain_found_of_each v ps low high (Some place) = plain_or_fault (found_of_each v place low high ps) NoPlace answers.Found (λ x. tt)
+
+plain_of_each : (v : Volume) (fields : Pairs) → HasPlainNames fields → (query : ChosenQuery) (ps : List ℕ) → PlainReply (answer_of_each v fields query ps)
+plain_of_each v fields h chosen_queries.Count ps = tt
+plain_of_each v fields h (chosen_queries.Table names) ps = plain_table_of_each v ps (each_of (place_in_trace fields) names)
+plain_of_each v fields h (chosen_queries.Find field low high) ps = plain_found_of_each v ps low high (place_in_trace fields field)
+plain_of_each v fields h chosen_queries.Extremes ps = plain_names (λ e. extremes_unless_zero (numbers_of_each v e.1 ps)) (named_places fields) (plain_places fields h)
+
+plain_of_chosen : (v : Volume) (fields : Pairs) → HasPlainNames fields → (query : ChosenQuery) (ps : Option (List ℕ)) → PlainReply (answer_of_chosen v fields query ps)
+plain_of_chosen v fields h query None = tt
+plain_of_chosen v fields h query (Some ps) = plain_of_each v fields h query ps
+
+plain_under : (v : Volume) (fields : Pairs) → HasPlainNames fields → (range : Option (ℕ × ℕ)) (query : ChosenQuery) (tests : Option (List Test)) → PlainReply (answer_under v fields range query tests)
+plain_under v fields h range query None = tt
+plain_under v fields h range query (Some tests) = plain_of_chosen v fields h query (chosen_among v tests (range_of range))
+
+plain_of_range : (v : Volume) (range : Option (ℕ × ℕ)) (reply : Reply) → PlainReply reply → PlainReply (of_range v range reply)
+plain_of_range v None reply h = h
+plain_of_range v (Some r) reply h = plain_of_traces v r.0 r.1 reply h
+
+plain_chosen : (v : Volume) (fields : Pairs) → HasPlainNames fields → (c : Chosen) (query : ChosenQuery) → PlainReply (chosen_answer v fields c query)
+plain_chosen v fields h c query =
+    plain_of_range v c.traces (cond (not (asks_for_fields fields query)) (Err NoField) (answer_under v fields c.traces query (tests_of fields c.conditions)))
+    (elim (not (asks_for_fields fields query)) as (λ b. PlainReply (cond b (Err NoField) (answer_under v fields c.traces query (tests_of fields c.conditions))))
+    [ true ↦ tt | false ↦ plain_under v fields h c.traces query (tests_of fields c.conditions) ])
+
+-- ---- all answers
+
 -- statistics have no text
 plain_stat : (floats : Bool) (vs : List ℤ) → HasPlainTexts (stat_of floats vs)
 plain_stat true vs = tt
@@ -285,6 +327,7 @@ plain_answer s (queries.Range quantity) h = tt
 plain_answer s queries.Totals h = plain_of_values s.volume.head (Ok (answers.Totals (totals_in s))) tt
 plain_answer s (queries.Slice k) h = plain_of_values s.volume.head (Ok (answers.Slice (slice_in s k))) tt
 plain_answer s queries.Faults h = tt
+plain_answer s queries.Problems h = tt
 plain_answer s (queries.Lines b) h = plain_lines_answer (block_of s.volume b)
 plain_answer s (queries.Table a b fields) h =
     plain_of_traces s.volume a b (table_answer s.volume a b (each_of (place_in_trace s.fields) fields)) (plain_table_answer s.volume a b (each_of (place_in_trace s.fields) fields))
@@ -296,6 +339,7 @@ plain_answer s (queries.Header p) h =
 plain_answer s (queries.Extremes a b) h =
     plain_of_traces s.volume a b (Ok (answers.Extremes (extremes_in s.volume (named_places s.fields) a b)))
     (plain_names (λ e. extremes_unless_zero (numbers_at s.volume e.1 a b)) (named_places s.fields) (plain_places s.fields h))
+plain_answer s (queries.OfChosen c query) h = plain_chosen s.volume s.fields h c query
 
 -- ---- what is printed
 
@@ -372,8 +416,9 @@ pub session_full : (reply : Result ℕ SessionFault) → IsFullLines (session_re
 session_full (Ok bytes) = one_line (codes "saved " ++ decimal bytes) (full_joined (codes "saved ") refl (word (decimal bytes) (plain_decimal bytes) no_word))
 session_full (Err fault) = refused_full (session_fault_text fault) (plain_session_fault fault)
 
-pub edit_full : {T : Type 0} (reply : Result T Refusal) → IsFullLines (edit_reply reply).text
-edit_full (Ok done) = one_line (codes "ok") refl
+pub edit_full : (reply : Result (Option ℕ) Refusal) → IsFullLines (edit_reply reply).text
+edit_full (Ok None) = one_line (codes "ok") refl
+edit_full (Ok (Some n)) = one_line (codes "ok " ++ decimal n) (full_joined (codes "ok ") refl (word (decimal n) (plain_decimal n) no_word))
 edit_full (Err fault) = refused_full (refusal_text fault) (plain_refusal fault)
 
 pub reply_full : (reply : Reply) → PlainReply reply → IsFullLines (query_reply reply).text
@@ -382,6 +427,6 @@ reply_full (Err fault) h = refused_full (ask_fault_text fault) (plain_ask_fault 
 
 pub query_full : (s : State) (query : Query) (reply : Reply) → HasPlainNames s.fields → IsReply s query reply → IsFullLines (query_reply reply).text
 query_full s query reply h (inl is) = reply_full reply (subst PlainReply (sym is) (plain_answer s query h))
-query_full s query reply h (inr (inl (is, memory, fine))) = subst (λ r. IsFullLines (query_reply r).text) (sym is) (reply_full (Err ask_faults.OutOfMemory) tt)
+query_full s query reply h (inr (inl (is, may))) = subst (λ r. IsFullLines (query_reply r).text) (sym is) (reply_full (Err ask_faults.OutOfMemory) tt)
 query_full s query (Ok a) h (inr (inr read)) = absurd read
 query_full s query (Err fault) h (inr (inr read)) = reply_full (Err fault) tt

@@ -7,6 +7,10 @@ three_parts a b c d = simp append_assoc
 pub four_parts : (a b c d e : List ℕ) → (((a ++ b) ++ c) ++ d) ++ e ≡ a ++ (b ++ (c ++ (d ++ e)))
 four_parts a b c d e = simp append_assoc
 
+-- three numbers, each behind its word
+pub three_numbered : (a b c d e f : List ℕ) → ((a ++ b) ++ (c ++ d)) ++ (e ++ f) ≡ a ++ (b ++ (c ++ (d ++ (e ++ f))))
+three_numbered a b c d e f = simp append_assoc
+
 -- four numbers, each behind its word
 pub four_numbered : (w a b c d e f g h : List ℕ) → (((w ++ (a ++ b)) ++ (c ++ d)) ++ (e ++ f)) ++ (g ++ h) ≡ w ++ (a ++ (b ++ (c ++ (d ++ (e ++ (f ++ (g ++ h)))))))
 four_numbered w a b c d e f g h = simp append_assoc

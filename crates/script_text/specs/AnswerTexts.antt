@@ -13,6 +13,7 @@ use Rattle.bench_rules.specs.declared.answer.Answer.{Answer}
 use Rattle.bench_rules.specs.declared.answer.Answer.TheVariants as answers
 use Rattle.text_block.specs.Lines.{without_blanks}
 use Rattle.script_text.specs.HeaderTexts.{table_row_text, found_text, number_text, extremes_text}
+use Rattle.script_text.specs.ProblemTexts.{problems_text}
 use Rattle.script_text.specs.ReportTexts.{location_text, statistics_text, range_text, cell_text, numbered_text, fold_count_text, row_text, fault_text}
 use Rattle.script_text.specs.Texts.{with_blanks, with_line_end, list_lines, place_text}
 
@@ -88,8 +89,10 @@ answer_text (answers.Range range) = with_line_end (range_text range)
 answer_text (answers.Totals statistics) = with_line_end (statistics_text (codes "totals") statistics)
 answer_text (answers.Slice rows) = list_lines (codes "slice") (map (row_text (codes "row")) rows)
 answer_text (answers.Faults faults) = list_lines (codes "faults") (map fault_text faults)
+answer_text (answers.Problems lines) = problems_text lines
 answer_text (answers.Lines lines) = list_lines (codes "lines") (map shown_text lines)
 answer_text (answers.Table rows) = list_lines (codes "table") (map table_row_text rows)
 answer_text (answers.Found found) = list_lines (codes "found") (map (found_text (codes "trace")) found)
 answer_text (answers.Header fields) = list_lines (codes "header") (map number_text fields)
 answer_text (answers.Extremes fields) = list_lines (codes "extremes") (map extremes_text fields)
+answer_text (answers.Chosen n) = with_line_end (with_blanks (codes "chosen" ∷ decimal n ∷ []))

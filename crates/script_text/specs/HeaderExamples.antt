@@ -1,10 +1,11 @@
 -- Worked texts of the headers of traces.
-use Rattle.std.specs.Prelude.{◌≡◌, pos, negsuc, [], ◌∷◌, codes, refl}
+use Rattle.std.specs.Prelude.{◌≡◌, pos, negsuc, [], ◌∷◌, codes, Some, None, Ok, refl}
 use Rattle.std.specs.Fmt.{digits}
 use Rattle.bench_rules.specs.declared.answer.Answer.TheVariants as answers
 use Rattle.bench_rules.specs.declared.refusal.Refusal.TheVariants.{ZeroDivisor}
 use Rattle.script_text.specs.AnswerTexts.{answer_text}
 use Rattle.script_text.specs.RefusalTexts.{refused_line, refusal_text}
+use Rattle.script_text.specs.Replies.{edit_reply}
 
 pub text-table : answer_text (answers.Table ((9, pos 100 ∷ negsuc 0 ∷ []) ∷ (10, pos 200 ∷ pos 0 ∷ []) ∷ [])) ≡ codes "table 2\n9 100 -1\n10 200 0\n"
 unfolding digits
@@ -35,3 +36,17 @@ text-lines = refl
 pub text-zero_divisor : refused_line (refusal_text (ZeroDivisor 7)) ≡ codes "refused E13 zero divisor trace 7\n"
 unfolding digits
 text-zero_divisor = refl
+
+-- ---- chosen traces
+
+pub text-chosen : answer_text (answers.Chosen 12) ≡ codes "chosen 12\n"
+unfolding digits
+text-chosen = refl
+
+-- an edit of chosen traces tells how many they were, and any other does not
+pub text-edited_chosen : (edit_reply (Ok (Some 0))).text ≡ codes "ok 0\n"
+unfolding digits
+text-edited_chosen = refl
+
+pub text-edited : (edit_reply (Ok None)).text ≡ codes "ok\n"
+text-edited = refl

@@ -2,6 +2,7 @@ pub mod Texts
 pub mod FloatTexts
 pub mod RefusalTexts
 pub mod HeaderTexts
+pub mod ProblemTexts
 pub mod AnswerTexts
 pub mod Replies
 pub mod Held
@@ -9,5 +10,6 @@ pub mod Devices
 pub mod Printing
 pub mod ReportTexts
 pub mod ReportExamples
+pub mod ProblemExamples
 pub mod HeaderExamples
 pub mod FullLines

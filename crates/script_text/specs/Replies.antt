@@ -1,5 +1,5 @@
 -- What a line of a script prints.
-use Rattle.std.specs.Prelude.{ℕ, Bool, true, false, List, [], ◌∷◌, codes, decimal, Result, Ok, Err}
+use Rattle.std.specs.Prelude.{ℕ, Bool, true, false, List, [], ◌∷◌, codes, decimal, Option, Some, None, Result, Ok, Err}
 use Rattle.bench_rules.specs.declared.refusal.Refusal.{Refusal}
 use Rattle.bench_rules.specs.declared.answer.Answer.{Answer}
 use Rattle.bench_rules.specs.declared.ask_fault.AskFault.{AskFault}
@@ -37,9 +37,14 @@ abbrev pub session_reply : Result ℕ SessionFault → Printed
 session_reply (Ok bytes) = record { text = saved_line bytes; is_refusal = false }
 session_reply (Err fault) = refusal (session_fault_text fault)
 
+-- the line printed for an edit that was done; of chosen traces, how many they were
+abbrev pub edited_line : Option ℕ → List ℕ
+edited_line None = accepted_line
+edited_line (Some n) = with_line_end (with_blanks (codes "ok" ∷ decimal n ∷ []))
+
 -- the reply to an edit
-abbrev pub edit_reply : {T : Type 0} → Result T Refusal → Printed
-edit_reply (Ok done) = record { text = accepted_line; is_refusal = false }
+abbrev pub edit_reply : Result (Option ℕ) Refusal → Printed
+edit_reply (Ok done) = record { text = edited_line done; is_refusal = false }
 edit_reply (Err fault) = refusal (refusal_text fault)
 
 -- the reply to a query

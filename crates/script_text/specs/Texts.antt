@@ -31,9 +31,13 @@ pub record IsFullLines (text : List ℕ) : Type 0 where
   pub text_is : text ≡ with_line_ends lines
   pub full : list_all is_full_line lines ≡ true
 
+-- a word and a number, and then lines
+abbrev pub counted_lines : List ℕ → ℕ → List (List ℕ) → List ℕ
+counted_lines word n lines = with_line_end (word ++ codes " " ++ decimal n) ++ with_line_ends lines
+
 -- a word and how many lines follow, and then these
 abbrev pub list_lines : List ℕ → List (List ℕ) → List ℕ
-list_lines word lines = with_line_end (word ++ codes " " ++ decimal (length lines)) ++ with_line_ends lines
+list_lines word lines = counted_lines word (length lines) lines
 
 -- the extension of a place with a point behind it, and nothing where it is 0
 abbrev pub extension_text : ℕ → List ℕ

@@ -8,6 +8,7 @@ ghost use Rattle.script_text.specs.Texts.{with_line_end};
 use crate::list_texts::push_list;
 use crate::long_texts::{LongLine, push_long_list};
 use crate::out_buffer::OutBuffer;
+use crate::problem_texts::push_problems;
 use crate::report_texts::{location_line, range_line, statistics_line};
 use crate::table_texts::push_table;
 use crate::text_buffer::TextBuffer;
@@ -50,7 +51,9 @@ pub(crate) fn push_answer<W: Write>(
         ),
         Answer::Slice(rows) => push_list(out, writer, b"slice", b"row", rows.as_slice()),
         Answer::Faults(faults) => push_list(out, writer, b"faults", b"", faults.as_slice()),
+        Answer::Problems(lines) => push_problems(out, writer, lines.as_slice()),
         Answer::Count(count) => out.push(writer, numbered_line(b"traces ", *count).as_slice()),
+        Answer::Chosen(count) => out.push(writer, numbered_line(b"chosen ", *count).as_slice()),
         Answer::Info(info) => out.push(writer, info_line(*info).as_slice()),
         Answer::Value(value) => out.push(writer, numbered_line(b"value ", *value).as_slice()),
         Answer::Code(code) => out.push(writer, code_line(*code).as_slice()),
@@ -86,8 +89,8 @@ fn push_ranks(line: &mut TextBuffer, found: FloatStatistics)
     line.push_numbered(b" ", found.sum);
 }
 
-// The line of one number behind its word, which ends with a blank.
-fn numbered_line<I: Integer>(word: &[u8], number: I) -> TextBuffer
+/// The line of one number behind its word, which ends with a blank.
+pub(crate) fn numbered_line<I: Integer>(word: &[u8], number: I) -> TextBuffer
     requires { length word.now ≤ 100 }
     ensures { result ≡ with_line_end (word.now ++ I.text number) }
 {

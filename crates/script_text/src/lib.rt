@@ -11,6 +11,7 @@ mod laws;
 mod list_texts;
 mod long_texts;
 mod out_buffer;
+mod problem_texts;
 mod refusal_texts;
 mod reply;
 mod report_texts;

@@ -2,7 +2,7 @@
 ghost use Rattle.std.specs.Prelude.{◌≡◌, ◌≤◌, ◌++◌, ℕ, List, [], length, map, codes, decimal};
 ghost use Rattle.script_text.specs.Devices.{device_of};
 ghost use Rattle.script_text.specs.Printing.{Pushes};
-ghost use Rattle.script_text.specs.Texts.{list_lines, with_line_end};
+ghost use Rattle.script_text.specs.Texts.{counted_lines, list_lines, with_line_end};
 
 use crate::out_buffer::OutBuffer;
 use crate::text_buffer::TextBuffer;
@@ -34,8 +34,25 @@ pub(crate) fn push_list<W: Write, T: Listed>(
     ensures { Pushes (device_of W.contents writer.old) (device_of W.contents writer.new)
         out.old out.new (list_lines list.now (map (T.text word.now) items.now)) result }
 {
+    push_counted(out, writer, list, items.len() as u64, word, items)
+}
+
+/// Pushes the lines of a list behind one with its word and this number. Takes no memory.
+pub(crate) fn push_counted<W: Write, T: Listed>(
+    out: &mut OutBuffer,
+    writer: &mut Sink<W>,
+    list: &[u8],
+    count: u64,
+    word: &[u8],
+    items: &[T],
+) -> Result<(), WriteFault>
+    requires list { length list.now ≤ 20 }
+    requires word { length word.now ≤ 20 }
+    ensures { Pushes (device_of W.contents writer.old) (device_of W.contents writer.new)
+        out.old out.new (counted_lines list.now count (map (T.text word.now) items.now)) result }
+{
     let mut line = TextBuffer::new();
-    push_head(&mut line, list, items.len() as u64);
+    push_head(&mut line, list, count);
     out.push(writer, line.as_slice())?;
     for item in items {
         line.clear();

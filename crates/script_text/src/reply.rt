@@ -4,7 +4,7 @@ ghost use Rattle.script_text.specs.Devices.{device_of};
 ghost use Rattle.script_text.specs.Printing.{Pushes, nothing_out};
 ghost use Rattle.script_text.specs.Held.{printed_of};
 
-use crate::answer_texts::push_answer;
+use crate::answer_texts::{numbered_line, push_answer};
 use crate::float_texts::push_floats;
 use crate::out_buffer::OutBuffer;
 use crate::refusal_texts::{
@@ -27,8 +27,8 @@ pub enum Reply {
     /// The line is for the session itself, which saved so many bytes, or why it did not; or the
     /// session does not run it.
     Session(Result<u64, SessionFault>),
-    /// The line is an edit.
-    Edited(Result<(), Refusal>),
+    /// The line is an edit; of chosen traces, how many they were.
+    Edited(Result<Option<u32>, Refusal>),
     /// The line is a query.
     Asked(Result<Answer, AskFault>),
     /// The line is a query for samples that are floats.
@@ -42,7 +42,7 @@ pub fn is_refusal(reply: &Reply) -> bool
     match reply {
         Reply::Silent
         | Reply::Session(Ok(_))
-        | Reply::Edited(Ok(()))
+        | Reply::Edited(Ok(_))
         | Reply::Asked(Ok(_))
         | Reply::Floats(_) => false,
         Reply::Fault(_) | Reply::Session(Err(_)) | Reply::Edited(Err(_)) | Reply::Asked(Err(_)) =>
@@ -65,7 +65,10 @@ pub fn push_reply<W: Write>(
         Reply::Fault(fault) => out.push(writer, line_fault_line(*fault).as_slice()),
         Reply::Session(Ok(bytes)) => out.push(writer, saved_line(*bytes).as_slice()),
         Reply::Session(Err(fault)) => out.push(writer, session_fault_line(*fault).as_slice()),
-        Reply::Edited(Ok(())) => out.push(writer, b"ok\n"),
+        Reply::Edited(Ok(None)) => out.push(writer, b"ok\n"),
+        Reply::Edited(Ok(Some(count))) => {
+            out.push(writer, numbered_line(b"ok ", *count).as_slice())
+        }
         Reply::Edited(Err(refusal)) => out.push(writer, refusal_line(*refusal).as_slice()),
         Reply::Asked(Ok(answer)) => push_answer(out, writer, answer),
         Reply::Floats(answer) => push_floats(out, writer, answer),

@@ -9,3 +9,6 @@ pub mod LineLemmas
 pub mod ScriptLemmas
 pub mod PartLemmas
 pub mod SortLemmas
+pub mod CutLemmas
+pub mod ConditionLemmas
+pub mod RangeLemmas

@@ -9,8 +9,10 @@ use Rattle.script_words.specs.declared.command.Command.TheVariants.{Apply, Ask}
 use Rattle.script_words.specs.declared.line_fault.LineFault.{LineFault}
 use Rattle.script_words.specs.declared.line_fault.LineFault.TheVariants.{Number, OutOfMemory}
 use Rattle.script_words.specs.Readers.{field_of, target_of, four, five}
-use Rattle.script_words.specs.Commands.{read_set_one, read_get, read_map, read_bin, read_getbin, IsFieldRead, IsName, HoldsMemory, CommandTakesMemory, IsRead}
+use Rattle.script_words.specs.Commands.{read_get, read_bin, read_getbin, IsFieldRead, IsName, HoldsMemory, CommandTakesMemory, IsRead}
+use Rattle.script_words.specs.MapCommands.{read_map_name}
 use Rattle.script_words.specs.Numbers.{trace_of, number_of}
+use Rattle.script_words.specs.RangeCommands.{read_set_one}
 
 -- a command of a field: S03 where the word is none
 module _ (expected : Option Field → Result Command LineFault) (make : Field → Command) (none : expected None ≡ Err Number) (some : (f : Field) → expected (Some f) ≡ Ok (make f)) where
@@ -45,15 +47,15 @@ module _ (ws : List (List ℕ)) (v at : List ℕ) (words : ws ≡ v ∷ at ∷ [
   abbrev map_expected : Option Field → Read
   map_expected o = ok_or (option_map (λ f. Apply (edits.Map v f)) o) Number
 
-  pub map_ok : (f : Field) → IsFieldRead (target_of at) (Ok f) → IsRead (read_map ws) (Ok (Apply (edits.Map v f)))
+  pub map_ok : (f : Field) → IsFieldRead (target_of at) (Ok f) → IsRead (read_map_name ws) (Ok (Apply (edits.Map v f)))
   map_ok f h = rw words (field_ok map_expected (λ f. Apply (edits.Map v f)) refl (λ f. refl) (target_of at) f h)
 
-  pub map_err : (fault : LineFault) (r : Read) → IsErrAnd r (λ e. e ≡ fault) → IsFieldRead (target_of at) (Err fault) → IsRead (read_map ws) r
+  pub map_err : (fault : LineFault) (r : Read) → IsErrAnd r (λ e. e ≡ fault) → IsFieldRead (target_of at) (Err fault) → IsRead (read_map_name ws) r
   map_err fault r is h = rw words (field_err map_expected (λ f. Apply (edits.Map v f)) refl (λ f. refl) (λ f n. record {}) (target_of at) fault r is h)
 
   -- the name found no memory
-  pub map_lost : (f : Field) (r : Read) → IsErrAnd r (λ e. e ≡ OutOfMemory) → IsFieldRead (target_of at) (Ok f) → IsRead (read_map ws) r
-  map_lost f r is h = lost (read_map ws) (Apply (edits.Map v f)) r is (record {}) (map_ok f h)
+  pub map_lost : (f : Field) (r : Read) → IsErrAnd r (λ e. e ≡ OutOfMemory) → IsFieldRead (target_of at) (Ok f) → IsRead (read_map_name ws) r
+  map_lost f r is h = lost (read_map_name ws) (Apply (edits.Map v f)) r is (record {}) (map_ok f h)
 
 module _ (traces : ℕ) (ws : List (List ℕ)) (v at : List ℕ) (p : ℕ) (words : ws ≡ v ∷ at ∷ []) (position : trace_of traces v ≡ Some p) where
   pub get_ok : (f : Field) → IsFieldRead (field_of at) (Ok f) → IsRead (read_get traces ws) (Ok (Ask (queries.Get p f)))

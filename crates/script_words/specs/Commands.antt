@@ -1,11 +1,12 @@
 -- The command of a line.
-use Rattle.std.specs.Prelude.{◌≡◌, ◌⊎◌, ◌==◌, ℕ, pos, length, not, List, [], ◌∷◌, bytes_eq, codes, Option, Some, None, Result, Ok, Err, if◌then◌else◌}
+use Rattle.std.specs.Prelude.{◌≡◌, ◌⊎◌, ℕ, not, List, [], ◌∷◌, bytes_eq, codes, Option, Some, None, Result, Ok, Err, if◌then◌else◌}
 use Rattle.std.specs.Str.{is_utf8}
 use Rattle.std.specs.Map.{lookup}
 use Rattle.bench_rules.specs.declared.field.Field.{Field}
 use Rattle.bench_rules.specs.declared.field.Field.TheVariants as fields
 use Rattle.bench_rules.specs.declared.operand.Operand.{Operand}
 use Rattle.bench_rules.specs.declared.operand.Operand.TheVariants as operands
+use Rattle.bench_rules.specs.declared.condition.Condition.{Condition}
 use Rattle.bench_rules.specs.declared.edit.Edit.{Edit}
 use Rattle.bench_rules.specs.declared.edit.Edit.TheVariants as edits
 use Rattle.bench_rules.specs.declared.query.Query.{Query}
@@ -17,22 +18,12 @@ use Rattle.script_words.specs.declared.line_fault.LineFault.TheVariants.{Unknown
 use Rattle.script_words.specs.Words.{words_of, behind_word, text_behind_word, is_note}
 use Rattle.script_words.specs.Numbers.{number_of, position_of, trace_of, new_place_of}
 use Rattle.float_codes.specs.declared.float_format.FloatFormat.{FloatFormat}
-use Rattle.script_words.specs.Readers.{Reader, name_of, field_of, target_of, alone, one, two, three, four, five, one_and_text, two_and_numbers, tail_of}
-use Rattle.script_words.specs.HeaderCommands.{header_commands}
+use Rattle.script_words.specs.MapCommands.{read_map}
+use Rattle.script_words.specs.MoveCommands.{read_move}
+use Rattle.script_words.specs.Readers.{Reader, name_of, field_of, alone, one, two, one_and_text, two_and_numbers, tail_of}
+use Rattle.script_words.specs.RangeCommands.{header_commands}
 
 -- ---- the commands
-
--- `set P FIELD NUMBER`
-abbrev pub read_set_one : ℕ → Reader Command
-read_set_one traces = three (trace_of traces) field_of number_of (λ p field value. Apply (edits.Set p field value))
-
--- `set P Q FIELD NUMBER`: the same number in each, as one that is counted up by 0
-abbrev pub read_set_each : ℕ → Reader Command
-read_set_each traces = four (trace_of traces) (trace_of traces) field_of number_of (λ a b field value. Apply (edits.Renumber a b field value (pos 0)))
-
--- either, by the number of words
-abbrev pub read_set : ℕ → Reader Command
-read_set traces words = if length words == 4 then read_set_each traces words else read_set_one traces words
 
 -- `get P FIELD`
 abbrev pub read_get : ℕ → Reader Command
@@ -74,10 +65,6 @@ read_code = one position_of (λ block. Ask (queries.Code block))
 abbrev pub read_stanzas : Reader Command
 read_stanzas = alone (Ask queries.Stanzas)
 
--- `map NAME FIELD`
-abbrev pub read_map : Reader Command
-read_map = two name_of target_of (λ name field. Apply (edits.Map name field))
-
 -- `unmap NAME`
 abbrev pub read_unmap : Reader Command
 read_unmap = one name_of (λ name. Apply (edits.Unmap name))
@@ -85,10 +72,6 @@ read_unmap = one name_of (λ name. Apply (edits.Unmap name))
 -- `fields`
 abbrev pub read_fields : Reader Command
 read_fields = alone (Ask queries.Fields)
-
--- `count`
-abbrev pub read_count : Reader Command
-read_count = alone (Ask queries.Count)
 
 -- `info`
 abbrev pub read_info : Reader Command
@@ -110,28 +93,15 @@ read_blank traces = one (new_place_of traces) (λ p. Apply (edits.Blank p))
 abbrev pub read_copy : ℕ → Reader Command
 read_copy traces = two (trace_of traces) (new_place_of traces) (λ q p. Apply (edits.Copy q p))
 
--- `delete P`
-abbrev pub read_delete : ℕ → Reader Command
-read_delete traces = one (trace_of traces) (λ p. Apply (edits.Delete p))
-
--- `move P Q`
-abbrev pub read_move : ℕ → Reader Command
-read_move traces = two (trace_of traces) (trace_of traces) (λ a b. Apply (edits.Move a b))
-
 -- `resize P NUMBER`
 abbrev pub read_resize : ℕ → Reader Command
 read_resize traces = two (trace_of traces) number_of (λ p count. Apply (edits.Resize p count))
-
--- `renumber P Q FIELD NUMBER NUMBER`
-abbrev pub read_renumber : ℕ → Reader Command
-read_renumber traces = five (trace_of traces) (trace_of traces) field_of number_of number_of (λ a b field first step. Apply (edits.Renumber a b field first step))
 
 -- each command's word with what reads the words behind it, which stand in this rest of the line; the format of samples that are floats comes first,
 -- and then the number of traces, as it is in front of the line
 abbrev pub commands : Option FloatFormat → ℕ → List ℕ → List (List ℕ × Reader Command)
 commands floats traces rest =
-    (codes "set", read_set traces)
-    ∷ (codes "get", read_get traces)
+    (codes "get", read_get traces)
     ∷ (codes "bin", read_bin)
     ∷ (codes "getbin", read_getbin)
     ∷ (codes "declare", read_declare)
@@ -144,16 +114,13 @@ commands floats traces rest =
     ∷ (codes "map", read_map)
     ∷ (codes "unmap", read_unmap)
     ∷ (codes "fields", read_fields)
-    ∷ (codes "count", read_count)
     ∷ (codes "info", read_info)
     ∷ (codes "sample", read_sample traces)
     ∷ (codes "patch", read_patch floats traces)
     ∷ (codes "blank", read_blank traces)
     ∷ (codes "copy", read_copy traces)
-    ∷ (codes "delete", read_delete traces)
     ∷ (codes "move", read_move traces)
     ∷ (codes "resize", read_resize traces)
-    ∷ (codes "renumber", read_renumber traces)
     ∷ header_commands traces
 
 -- the reader's command, where the word has a reader
@@ -206,6 +173,11 @@ abbrev pub IsOperandRead : Option Operand → Result Operand LineFault → Type 
 IsOperandRead None result = result ≡ Err Number
 IsOperandRead (Some operand) result = (result ≡ Ok operand) ⊎ ((result ≡ Err OutOfMemory) × OperandHoldsMemory operand)
 
+-- what is read as a condition: S03 for none, else the condition, or want of memory
+abbrev pub IsConditionRead : Option Condition → Result Condition LineFault → Type 0
+IsConditionRead None result = result ≡ Err Number
+IsConditionRead (Some condition) result = (result ≡ Ok condition) ⊎ (result ≡ Err OutOfMemory)
+
 -- what is read as a list: S03 for none, else the list, or want of memory
 abbrev pub IsListRead : {X : Type 0} → Option (List X) → Result (List X) LineFault → Type 0
 IsListRead None result = result ≡ Err Number
@@ -219,16 +191,19 @@ EditHoldsMemory edits.Declare = ⊥
 EditHoldsMemory edits.DropTail = ⊥
 EditHoldsMemory (edits.SetText q text) = Unit {0}
 EditHoldsMemory (edits.Map name field) = Unit {0}
+EditHoldsMemory (edits.MapAs mapping) = ⊥
 EditHoldsMemory (edits.Unmap name) = Unit {0}
 EditHoldsMemory (edits.Patch p k values) = Unit {0}
 EditHoldsMemory (edits.Blank p) = ⊥
 EditHoldsMemory (edits.Copy q p) = ⊥
 EditHoldsMemory (edits.Delete p) = ⊥
 EditHoldsMemory (edits.Move a b) = ⊥
+EditHoldsMemory (edits.MoveBlock a b to) = ⊥
 EditHoldsMemory (edits.Resize p count) = ⊥
 EditHoldsMemory (edits.Renumber a b field first step) = IsName field
 EditHoldsMemory (edits.Compute a b field source steps) = Unit {0}
 EditHoldsMemory (edits.Sort a b fields falls) = Unit {0}
+EditHoldsMemory (edits.OfChosen c edit) = Unit {0}
 
 -- a query that holds a text or a list
 abbrev pub QueryHoldsMemory : Query → Type 0
@@ -252,11 +227,13 @@ QueryHoldsMemory (queries.Range quantity) = ⊥
 QueryHoldsMemory queries.Totals = ⊥
 QueryHoldsMemory (queries.Slice k) = ⊥
 QueryHoldsMemory queries.Faults = ⊥
+QueryHoldsMemory queries.Problems = ⊥
 QueryHoldsMemory (queries.Lines b) = ⊥
 QueryHoldsMemory (queries.Table a b fields) = Unit {0}
 QueryHoldsMemory (queries.Find a b field low high) = IsName field
 QueryHoldsMemory (queries.Header p) = ⊥
 QueryHoldsMemory (queries.Extremes a b) = ⊥
+QueryHoldsMemory (queries.OfChosen c query) = Unit {0}
 
 -- a command that holds a text or a list
 abbrev pub HoldsMemory : Command → Type 0

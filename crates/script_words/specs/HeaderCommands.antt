@@ -1,5 +1,5 @@
 -- The commands on the headers of traces, from the words of a line.
-use Rattle.std.specs.Prelude.{ℕ, ◌%◌, ◌==◌, ◌&&◌, Bool, List, ◌∷◌, nat_le, nat_lt, nat_eq, length, drop, map, Option, option_map, codes, if◌then◌else◌}
+use Rattle.std.specs.Prelude.{ℕ, ◌%◌, ◌==◌, ◌&&◌, Bool, List, nat_le, nat_lt, nat_eq, length, drop, map, Option, option_map, codes, if◌then◌else◌}
 use Rattle.std.specs.List.{starts_with}
 use Rattle.bench_rules.specs.declared.edit.Edit.TheVariants as edits
 use Rattle.bench_rules.specs.declared.query.Query.TheVariants as queries
@@ -9,7 +9,6 @@ use Rattle.script_words.specs.declared.command.Command.{Command}
 use Rattle.script_words.specs.declared.command.Command.TheVariants.{Apply, Ask}
 use Rattle.script_words.specs.Numbers.{number_of, trace_of}
 use Rattle.script_words.specs.Readers.{Reader, field_of, operand_of, fields_of, steps_of, one, two, five, two_and_list, four_and_list}
-use Rattle.script_words.specs.ReportCommands.{report_commands}
 
 -- a table has 1 to 64 fields
 abbrev pub is_field_count : ℕ → Bool
@@ -62,14 +61,3 @@ is_key_count n = nat_le 1 n && nat_le n 8
 -- `sort P Q FIELD ..`
 abbrev pub read_sort : ℕ → Reader Command
 read_sort traces = two_and_list (trace_of traces) (trace_of traces) is_key_count sort_keys_of (λ a b keys. Apply (edits.Sort a b keys.0 keys.1))
-
--- each word of these commands with what reads the words behind it, and then those of the reports
-abbrev pub header_commands : ℕ → List (List ℕ × Reader Command)
-header_commands traces =
-    (codes "table", read_table traces)
-    ∷ (codes "find", read_find traces)
-    ∷ (codes "header", read_header traces)
-    ∷ (codes "extremes", read_extremes traces)
-    ∷ (codes "compute", read_compute traces)
-    ∷ (codes "sort", read_sort traces)
-    ∷ report_commands traces

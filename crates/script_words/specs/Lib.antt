@@ -2,9 +2,16 @@ pub mod Words
 pub mod Numbers
 pub mod Readers
 pub mod ReportCommands
+pub mod Conditions
+pub mod Ranges
 pub mod HeaderCommands
+pub mod RangeCommands
+pub mod MapCommands
+pub mod MoveCommands
 pub mod Commands
 pub mod SessionWords
 pub mod Examples
 pub mod LineExamples
+pub mod MoveExamples
 pub mod HeaderExamples
+pub mod ConditionExamples

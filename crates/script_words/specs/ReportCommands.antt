@@ -50,6 +50,10 @@ read_slice = one position_of (λ k. Ask (queries.Slice k))
 abbrev pub read_faults : Reader Command
 read_faults = alone (Ask queries.Faults)
 
+-- `problems`
+abbrev pub read_problems : Reader Command
+read_problems = alone (Ask queries.Problems)
+
 -- each report's word with what reads the words behind it
 abbrev pub report_commands : ℕ → List (List ℕ × Reader Command)
 report_commands traces =
@@ -64,4 +68,5 @@ report_commands traces =
     ∷ (codes "totals", read_totals)
     ∷ (codes "slice", read_slice)
     ∷ (codes "faults", read_faults)
+    ∷ (codes "problems", read_problems)
     ∷ []

@@ -1,6 +1,7 @@
 // The command that computes a field.
 ghost use Rattle.std.specs.Prelude.{◌≡◌, is_some};
 ghost use Rattle.script_words.specs.Words.{words_of};
+ghost use Rattle.script_words.specs.Ranges.{spelled};
 ghost use Rattle.script_words.specs.Readers.{operand_of, operator_of, steps_of};
 ghost use Rattle.script_words.specs.HeaderCommands.{read_compute};
 ghost use Rattle.script_words.specs.Commands.{IsOperandRead, IsListRead, IsRead};
@@ -14,10 +15,9 @@ use bench_rules::{Edit, Items, Operand, Operator};
 use std::alloc::Global;
 
 pub(crate) fn compute(alloc: Global, traces: u32, mut words: Words) -> Result<Command, LineFault>
-    ensures { IsRead (read_compute traces (words_of words.entry)) result }
+    ensures { IsRead (read_compute traces (spelled (words_of words.entry))) result }
 {
-    let a = words.next().ok_or(LineFault::Words)?;
-    let b = words.next().ok_or(LineFault::Words)?;
+    let (a, b) = words.range().ok_or(LineFault::Words)?;
     let at = words.next().ok_or(LineFault::Words)?;
     let source = words.next().ok_or(LineFault::Words)?;
     let rest = words.rest();
@@ -45,7 +45,7 @@ pub(crate) fn compute(alloc: Global, traces: u32, mut words: Words) -> Result<Co
 
 // The operand that a word is: a number where it begins as one, else a field. Refused: S03, or E11
 // for a name.
-fn operand(alloc: Global, word: &str) -> Result<Operand, LineFault>
+pub(crate) fn operand(alloc: Global, word: &str) -> Result<Operand, LineFault>
     ensures { IsOperandRead (operand_of word.now) result }
 {
     if is_number_like(word) {
@@ -59,7 +59,7 @@ fn operand(alloc: Global, word: &str) -> Result<Operand, LineFault>
 }
 
 // Whether the word is an operand.
-fn is_operand(word: &str) -> bool
+pub(crate) fn is_operand(word: &str) -> bool
     ensures { result ≡ is_some (operand_of word.now) }
 {
     if is_number_like(word) {

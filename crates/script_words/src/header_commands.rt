@@ -3,17 +3,19 @@ ghost use Rattle.std.specs.Prelude.{◌≡◌, bytes_eq, is_some};
 ghost use Rattle.std.specs.Map.{lookup};
 ghost use Rattle.script_words.specs.Words.{words_of};
 ghost use Rattle.script_words.specs.Readers.{fields_of};
-ghost use Rattle.script_words.specs.HeaderCommands.{header_commands, read_table, read_find, read_header, read_extremes};
+ghost use Rattle.script_words.specs.Ranges.{spelled};
+ghost use Rattle.script_words.specs.HeaderCommands.{read_table, read_find, read_header, read_extremes};
+ghost use Rattle.script_words.specs.RangeCommands.{header_commands};
 ghost use Rattle.script_words.specs.Commands.{read_by, IsListRead, IsRead};
 
 use crate::command::Command;
-use crate::compute_command::compute;
 use crate::fields::{field, is_field};
 use crate::line_fault::LineFault;
 use crate::numbers::{number, trace};
-use crate::parse::{five, one, two};
+use crate::parse::{one, range_alone, range_and_three};
+use crate::range_command::RangeCommand;
+use crate::ranges::{ranged, sort};
 use crate::report_commands::report;
-use crate::sort_command::sort;
 use crate::words::{Words, number_of_words};
 use bench_rules::{Field, Items, Query};
 use std::alloc::Global;
@@ -29,21 +31,24 @@ pub(crate) fn of_headers(
         (words_of words.entry)) result }
 {
     match word {
-        "table" => table(alloc, traces, words),
-        "find" => find(alloc, traces, words),
-        "header" => header(traces, words),
-        "extremes" => extremes(traces, words),
-        "compute" => compute(alloc, traces, words),
+        "table" => ranged(alloc, traces, RangeCommand::Table, words),
+        "find" => ranged(alloc, traces, RangeCommand::Find, words),
+        "extremes" => ranged(alloc, traces, RangeCommand::Extremes, words),
+        "set" => ranged(alloc, traces, RangeCommand::Set, words),
+        "renumber" => ranged(alloc, traces, RangeCommand::Renumber, words),
+        "compute" => ranged(alloc, traces, RangeCommand::Compute, words),
+        "delete" => ranged(alloc, traces, RangeCommand::Delete, words),
+        "count" => ranged(alloc, traces, RangeCommand::Count, words),
         "sort" => sort(alloc, traces, words),
+        "header" => header(traces, words),
         _ => report(traces, word, words),
     }
 }
 
-fn table(alloc: Global, traces: u32, mut words: Words) -> Result<Command, LineFault>
-    ensures { IsRead (read_table traces (words_of words.entry)) result }
+pub(crate) fn table(alloc: Global, traces: u32, mut words: Words) -> Result<Command, LineFault>
+    ensures { IsRead (read_table traces (spelled (words_of words.entry))) result }
 {
-    let a = words.next().ok_or(LineFault::Words)?;
-    let b = words.next().ok_or(LineFault::Words)?;
+    let (a, b) = words.range().ok_or(LineFault::Words)?;
     let rest = words.rest();
     let count = number_of_words(rest, 65);
     if count == 0 || count == 65 {
@@ -55,10 +60,10 @@ fn table(alloc: Global, traces: u32, mut words: Words) -> Result<Command, LineFa
     Ok(Command::Ask(Query::Table(a, b, fields)))
 }
 
-fn find(alloc: Global, traces: u32, words: Words) -> Result<Command, LineFault>
-    ensures { IsRead (read_find traces (words_of words.entry)) result }
+pub(crate) fn find(alloc: Global, traces: u32, words: Words) -> Result<Command, LineFault>
+    ensures { IsRead (read_find traces (spelled (words_of words.entry))) result }
 {
-    let (a, b, at, low, high) = five(words).ok_or(LineFault::Words)?;
+    let (a, b, at, low, high) = range_and_three(words).ok_or(LineFault::Words)?;
     let a = trace(traces, a).ok_or(LineFault::Number)?;
     let b = trace(traces, b).ok_or(LineFault::Number)?;
     let low = number(low).ok_or(LineFault::Number)?;
@@ -75,10 +80,10 @@ fn header(traces: u32, words: Words) -> Result<Command, LineFault>
     Ok(Command::Ask(Query::Header(p)))
 }
 
-fn extremes(traces: u32, words: Words) -> Result<Command, LineFault>
-    ensures { result ≡ read_extremes traces (words_of words.entry) }
+pub(crate) fn extremes(traces: u32, words: Words) -> Result<Command, LineFault>
+    ensures { result ≡ read_extremes traces (spelled (words_of words.entry)) }
 {
-    let (a, b) = two(words).ok_or(LineFault::Words)?;
+    let (a, b) = range_alone(words).ok_or(LineFault::Words)?;
     let a = trace(traces, a).ok_or(LineFault::Number)?;
     let b = trace(traces, b).ok_or(LineFault::Number)?;
     Ok(Command::Ask(Query::Extremes(a, b)))

@@ -5,18 +5,28 @@
 //! first word begins with `#`, prints nothing; each other line prints its answer, one line or a
 //! list of lines.
 //!
+//! Behind a command on a range of traces, and `where`, conditions may stand, with `and` between
+//! them: the command is then about those of the traces that meet all of them.
+//!
 //! [`parse_line`] reads one line, and takes memory only where its command holds a text or a list.
 //! [`session_word`] tells what a line says to a session itself: `save` is no command of a script.
 #![tactic(auto)]
 
+mod chosen;
 mod command;
 mod compute_command;
+mod conditions;
 mod fields;
 mod header_commands;
 mod line_fault;
 mod lines;
+mod many_commands;
+mod map_command;
+mod move_command;
 mod numbers;
 mod parse;
+mod range_command;
+mod ranges;
 mod report_commands;
 mod session_words;
 mod sort_command;

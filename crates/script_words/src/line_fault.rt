@@ -7,11 +7,11 @@ pub enum LineFault {
     /// S01: the first word is no command.
     #[error("S01 unknown word")]
     Unknown,
-    /// S02: too few or too many words.
+    /// S02: too few or too many words, or another word than `and` between two conditions.
     #[error("S02 words")]
     Words,
-    /// S03: a word that has to be a number, a place, a kind of value or an operator is not one; the
-    /// words are tried from left to right.
+    /// S03: a word that has to be a number, a place, a kind of value, an operator or the sign of a
+    /// condition is not one.
     #[error("S03 number")]
     Number,
     /// S05: a line of a session has more than 16777216 bytes. `parse_line` never answers it.

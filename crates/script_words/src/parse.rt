@@ -2,16 +2,20 @@
 ghost use Rattle.std.specs.Prelude.{◌≡◌, ◌≢◌, ◌∷◌, [], length, IfSome, IfNone};
 ghost use Rattle.script_words.specs.Words.{words_of};
 ghost use Rattle.script_words.specs.declared.command.Command.TheVariants.{Ask as ask};
+ghost use Rattle.script_words.specs.Ranges.{spelled};
 ghost use Rattle.script_words.specs.Readers.{alone};
-ghost use Rattle.script_words.specs.Commands.{command_of, read_set, read_set_one, read_get, read_bin, read_getbin, read_declare, read_drop, read_text, read_line, read_lines, read_code, read_map, read_unmap, read_sample, IsRead, IsParsed};
+ghost use Rattle.script_words.specs.Commands.{command_of, read_get, read_bin, read_getbin, read_declare, read_drop, read_text, read_line, read_lines, read_code, read_unmap, read_sample, IsRead, IsParsed};
+ghost use Rattle.script_words.specs.MapCommands.{read_map_name};
 
 use crate::command::Command;
 use crate::fields::{field, target, text_of};
 use crate::header_commands::of_headers;
 use crate::line_fault::LineFault;
+use crate::map_command::map;
+use crate::move_command::move_traces;
 use crate::numbers::{number, position, trace};
-use crate::trace_commands::{blank, copy, delete, move_trace, patch, renumber, resize, set_each};
-use crate::words::{Words, number_of_words};
+use crate::trace_commands::{blank, copy, patch, resize};
+use crate::words::Words;
 use bench_rules::{Edit, Query};
 use float_codes::FloatFormat;
 use std::alloc::Global;
@@ -22,9 +26,10 @@ use std::str;
 ///
 /// Words are separated by blanks and tabs. A line that is not UTF-8 is S04, a first word that is no
 /// command S01, too few or too many words S02, and a word that has to be a number, a place, a kind
-/// of value or an operator and is none S03; the first is told. Values of floats, whose format comes
-/// first, are decimals; `last` is the last of so many traces, and `end` one more. Takes memory only
-/// where the command holds a text, a name or a list, and is E11 without.
+/// of value, an operator or the sign of a condition and is none S03; the first is told. Values of
+/// floats, whose format comes first, are decimals; `last` is the last of so many traces, `end` one
+/// more, and `all` stands for the two words of a range. Takes memory only where the command holds a
+/// text, a name or a list, and is E11 without.
 pub fn parse_line(
     alloc: Global,
     floats: Option<FloatFormat>,
@@ -55,7 +60,6 @@ fn command(
     ensures { IsRead (command_of floats traces word.now words.entry) result }
 {
     match word {
-        "set" => set(alloc, traces, words),
         "get" => get(alloc, traces, words),
         "bin" => bin(alloc, words),
         "getbin" => getbin(alloc, words),
@@ -69,38 +73,15 @@ fn command(
         "map" => map(alloc, words),
         "unmap" => unmap(alloc, words),
         "fields" => query_alone(words, Query::Fields),
-        "count" => query_alone(words, Query::Count),
         "info" => query_alone(words, Query::Info),
         "sample" => sample(traces, words),
         "patch" => patch(alloc, floats, traces, words),
         "blank" => blank(traces, words),
         "copy" => copy(traces, words),
-        "delete" => delete(traces, words),
-        "move" => move_trace(traces, words),
+        "move" => move_traces(traces, words),
         "resize" => resize(traces, words),
-        "renumber" => renumber(alloc, traces, words),
         _ => of_headers(alloc, traces, word, words),
     }
-}
-
-fn set(alloc: Global, traces: u32, words: Words) -> Result<Command, LineFault>
-    ensures { IsRead (read_set traces (words_of words.entry)) result }
-{
-    if number_of_words(words.rest(), 5) == 4 {
-        set_each(alloc, traces, words)
-    } else {
-        set_one(alloc, traces, words)
-    }
-}
-
-fn set_one(alloc: Global, traces: u32, words: Words) -> Result<Command, LineFault>
-    ensures { IsRead (read_set_one traces (words_of words.entry)) result }
-{
-    let (p, at, value) = three(words).ok_or(LineFault::Words)?;
-    let p = trace(traces, p).ok_or(LineFault::Number)?;
-    let value = number(value).ok_or(LineFault::Number)?;
-    let at = field(alloc, at)?;
-    Ok(Command::Apply(Edit::Set(p, at, value)))
 }
 
 fn get(alloc: Global, traces: u32, words: Words) -> Result<Command, LineFault>
@@ -182,8 +163,8 @@ fn code(words: Words) -> Result<Command, LineFault>
     Ok(Command::Ask(Query::Code(b)))
 }
 
-fn map(alloc: Global, words: Words) -> Result<Command, LineFault>
-    ensures { IsRead (read_map (words_of words.entry)) result }
+pub(crate) fn map_name(alloc: Global, words: Words) -> Result<Command, LineFault>
+    ensures { IsRead (read_map_name (words_of words.entry)) result }
 {
     let (name, at) = two(words).ok_or(LineFault::Words)?;
     // S03 of any word comes before E11.
@@ -244,7 +225,7 @@ pub(crate) fn two(mut words: Words) -> Option<(&str, &str)>
 }
 
 // The three words, where they are three.
-fn three(mut words: Words) -> Option<(&str, &str, &str)>
+pub(crate) fn three(mut words: Words) -> Option<(&str, &str, &str)>
     ensures none { IfNone result (length (words_of words.entry) ≢ 3) }
     ensures some { IfSome result (λ t. words_of words.entry ≡ t.0.now ∷ t.1.now ∷ t.2.now ∷ []) }
 {
@@ -255,34 +236,42 @@ fn three(mut words: Words) -> Option<(&str, &str, &str)>
     }
 }
 
-// The four words, where they are four.
-pub(crate) fn four(mut words: Words) -> Option<(&str, &str, &str, &str)>
-    ensures none { IfNone result (length (words_of words.entry) ≢ 4) }
-    ensures some { IfSome result (λ t. words_of words.entry
+// The two words of a range of traces, where they are all.
+pub(crate) fn range_alone(mut words: Words) -> Option<(&str, &str)>
+    ensures none { IfNone result (length (spelled (words_of words.entry)) ≢ 2) }
+    ensures some { IfSome result (λ t. spelled (words_of words.entry) ≡ t.0.now ∷ t.1.now ∷ []) }
+{
+    let two = words.range()?;
+    match words.next() {
+        Some(_) => None,
+        None => Some(two),
+    }
+}
+
+// The two words of a range of traces and two more, where they are all.
+pub(crate) fn range_and_two(mut words: Words) -> Option<(&str, &str, &str, &str)>
+    ensures none { IfNone result (length (spelled (words_of words.entry)) ≢ 4) }
+    ensures some { IfSome result (λ t. spelled (words_of words.entry)
         ≡ t.0.now ∷ t.1.now ∷ t.2.now ∷ t.3.now ∷ []) }
 {
-    let four = (words.next()?, words.next()?, words.next()?, words.next()?);
+    let (a, b) = words.range()?;
+    let four = (a, b, words.next()?, words.next()?);
     match words.next() {
         Some(_) => None,
         None => Some(four),
     }
 }
 
-// The five words, where they are five.
-pub(crate) fn five(mut words: Words) -> Option<(&str, &str, &str, &str, &str)>
-    ensures none { IfNone result (length (words_of words.entry) ≢ 5) }
-    ensures some { IfSome result (λ t. words_of words.entry
+// The two words of a range of traces and three more, where they are all.
+pub(crate) fn range_and_three(mut words: Words) -> Option<(&str, &str, &str, &str, &str)>
+    ensures none { IfNone result (length (spelled (words_of words.entry)) ≢ 5) }
+    ensures some { IfSome result (λ t. spelled (words_of words.entry)
         ≡ t.0.now ∷ t.1.now ∷ t.2.now ∷ t.3.now ∷ t.4.now ∷ []) }
 {
-    let five = (
-        words.next()?,
-        words.next()?,
-        words.next()?,
-        words.next()?,
-        words.next()?,
-    );
+    let (a, b) = words.range()?;
+    let (at, first, second) = words.next_three()?;
     match words.next() {
         Some(_) => None,
-        None => Some(five),
+        None => Some((a, b, at, first, second)),
     }
 }

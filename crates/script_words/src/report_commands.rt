@@ -31,6 +31,7 @@ pub(crate) fn report(traces: u32, word: &str, words: Words) -> Result<Command, L
         "totals" => query_alone(words, Query::Totals),
         "slice" => slice(words),
         "faults" => query_alone(words, Query::Faults),
+        "problems" => query_alone(words, Query::Problems),
         _ => Err(LineFault::Unknown),
     }
 }

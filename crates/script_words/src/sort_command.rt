@@ -2,6 +2,7 @@
 ghost use Rattle.std.specs.Prelude.{◌≡◌, is_some, map, IfOk, IfErr};
 ghost use Rattle.script_words.specs.declared.line_fault.LineFault.TheVariants.{OutOfMemory as no_memory};
 ghost use Rattle.script_words.specs.Words.{words_of};
+ghost use Rattle.script_words.specs.Ranges.{spelled};
 ghost use Rattle.script_words.specs.HeaderCommands.{read_sort, is_falling as is_falling_word, without_sign as word_without_sign, sorted_fields_of};
 ghost use Rattle.script_words.specs.Commands.{IsListRead, IsRead};
 
@@ -13,11 +14,10 @@ use crate::words::{Words, number_of_words};
 use bench_rules::{Edit, Field, Items};
 use std::alloc::Global;
 
-pub(crate) fn sort(alloc: Global, traces: u32, mut words: Words) -> Result<Command, LineFault>
-    ensures { IsRead (read_sort traces (words_of words.entry)) result }
+pub(crate) fn sort_each(alloc: Global, traces: u32, mut words: Words) -> Result<Command, LineFault>
+    ensures { IsRead (read_sort traces (spelled (words_of words.entry))) result }
 {
-    let a = words.next().ok_or(LineFault::Words)?;
-    let b = words.next().ok_or(LineFault::Words)?;
+    let (a, b) = words.range().ok_or(LineFault::Words)?;
     let rest = words.rest();
     let count = number_of_words(rest, 9);
     if count == 0 || count == 9 {

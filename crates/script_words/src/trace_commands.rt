@@ -1,15 +1,14 @@
-// The commands on samples, on whole traces and on many traces.
+// The commands on samples and on whole traces.
 ghost use Rattle.std.specs.Prelude.{◌≡◌, is_some, if◌then◌else◌};
 ghost use Rattle.script_words.specs.declared.line_fault.LineFault.TheVariants.{OutOfMemory as no_memory, Number as no_number};
 ghost use Rattle.script_words.specs.Words.{words_of};
 ghost use Rattle.script_words.specs.Readers.{numbers_of};
-ghost use Rattle.script_words.specs.Commands.{read_patch, read_blank, read_copy, read_delete, read_move, read_resize, read_renumber, read_set_each, IsListRead, IsRead};
+ghost use Rattle.script_words.specs.Commands.{read_patch, read_blank, read_copy, read_resize, IsListRead, IsRead};
 
 use crate::command::Command;
-use crate::fields::field;
 use crate::line_fault::LineFault;
 use crate::numbers::{new_place, number, position, sample, trace};
-use crate::parse::{five, four, one, two};
+use crate::parse::{one, two};
 use crate::words::Words;
 use bench_rules::{Edit, Items};
 use float_codes::FloatFormat;
@@ -54,23 +53,6 @@ pub(crate) fn copy(traces: u32, words: Words) -> Result<Command, LineFault>
     Ok(Command::Apply(Edit::Copy(q, p)))
 }
 
-pub(crate) fn delete(traces: u32, words: Words) -> Result<Command, LineFault>
-    ensures { result ≡ read_delete traces (words_of words.entry) }
-{
-    let p = one(words).ok_or(LineFault::Words)?;
-    let p = trace(traces, p).ok_or(LineFault::Number)?;
-    Ok(Command::Apply(Edit::Delete(p)))
-}
-
-pub(crate) fn move_trace(traces: u32, words: Words) -> Result<Command, LineFault>
-    ensures { result ≡ read_move traces (words_of words.entry) }
-{
-    let (a, b) = two(words).ok_or(LineFault::Words)?;
-    let a = trace(traces, a).ok_or(LineFault::Number)?;
-    let b = trace(traces, b).ok_or(LineFault::Number)?;
-    Ok(Command::Apply(Edit::Move(a, b)))
-}
-
 pub(crate) fn resize(traces: u32, words: Words) -> Result<Command, LineFault>
     ensures { result ≡ read_resize traces (words_of words.entry) }
 {
@@ -78,41 +60,6 @@ pub(crate) fn resize(traces: u32, words: Words) -> Result<Command, LineFault>
     let p = trace(traces, p).ok_or(LineFault::Number)?;
     let count = number(count).ok_or(LineFault::Number)?;
     Ok(Command::Apply(Edit::Resize(p, count)))
-}
-
-pub(crate) fn renumber(alloc: Global, traces: u32, words: Words) -> Result<Command, LineFault>
-    ensures { IsRead (read_renumber traces (words_of words.entry)) result }
-{
-    let (a, b, at, first, step) = five(words).ok_or(LineFault::Words)?;
-    let a = trace(traces, a).ok_or(LineFault::Number)?;
-    let b = trace(traces, b).ok_or(LineFault::Number)?;
-    let first = number(first).ok_or(LineFault::Number)?;
-    let step = number(step).ok_or(LineFault::Number)?;
-    let at = field(alloc, at)?;
-    Ok(Command::Apply(Edit::Renumber {
-        first_trace: a,
-        last_trace: b,
-        field: at,
-        first_value: first,
-        step,
-    }))
-}
-
-pub(crate) fn set_each(alloc: Global, traces: u32, words: Words) -> Result<Command, LineFault>
-    ensures { IsRead (read_set_each traces (words_of words.entry)) result }
-{
-    let (a, b, at, value) = four(words).ok_or(LineFault::Words)?;
-    let a = trace(traces, a).ok_or(LineFault::Number)?;
-    let b = trace(traces, b).ok_or(LineFault::Number)?;
-    let value = number(value).ok_or(LineFault::Number)?;
-    let at = field(alloc, at)?;
-    Ok(Command::Apply(Edit::Renumber {
-        first_trace: a,
-        last_trace: b,
-        field: at,
-        first_value: value,
-        step: 0,
-    }))
 }
 
 // Whether each word of the text is a number.

@@ -1,6 +1,7 @@
 // The words of a line.
-ghost use Rattle.std.specs.Prelude.{◌≡◌, ◌∷◌, [], length, min, not, IfSome, IfNone, position};
+ghost use Rattle.std.specs.Prelude.{◌≡◌, ◌<◌, ◌∷◌, [], length, min, not, IfSome, IfNone, position};
 ghost use Rattle.std.specs.List.{position_or_len};
+ghost use Rattle.script_words.specs.Ranges.{spelled, is_all as are_all};
 ghost use Rattle.script_words.specs.Words.{is_gap, words_of, behind_word, without_one_gap};
 
 use std::marker::Model;
@@ -37,6 +38,29 @@ impl<'a> Words<'a> {
         let (word, rest) = text.split_at(word_length(text.as_bytes()));
         self.rest = rest;
         Some(word)
+    }
+
+    /// The two words of a range of traces, which are read by that: `all` stands for `1 last`.
+    pub(crate) fn range(&mut self) -> Option<(&'a str, &'a str)>
+        ensures none { IfNone result (length (spelled (words_of self.old)) < 2) }
+        ensures some { IfSome result (λ t. spelled (words_of self.old)
+            ≡ t.0.now ∷ t.1.now ∷ words_of self.new) }
+    {
+        let first = self.next()?;
+        if first == "all" {
+            return Some(("1", "last"));
+        }
+        let last = self.next()?;
+        Some((first, last))
+    }
+
+    /// The next three words, which are read by that.
+    pub(crate) fn next_three(&mut self) -> Option<(&'a str, &'a str, &'a str)>
+        ensures none { IfNone result (length (words_of self.old) < 3) }
+        ensures some { IfSome result (λ t. words_of self.old
+            ≡ t.0.now ∷ t.1.now ∷ t.2.now ∷ words_of self.new) }
+    {
+        Some((self.next()?, self.next()?, self.next()?))
     }
 
     /// What is still to be read.
@@ -85,6 +109,16 @@ fn word_length(text: &[u8]) -> usize
     ensures { result ≡ position_or_len is_gap text.now }
 {
     first_gap(text).unwrap_or(text.len())
+}
+
+/// Whether the words of the text begin with `all`.
+pub(crate) fn is_all(text: &str) -> bool
+    ensures { result ≡ are_all (words_of text.now) }
+{
+    match Words::new(text).next() {
+        Some(word) => word == "all",
+        None => false,
+    }
 }
 
 /// The number of words of the text, up to `most`.

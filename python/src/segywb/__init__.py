@@ -28,6 +28,7 @@ from .gains import Gain
 from .grids import Grid, Slice
 from .history import Step
 from .looks import Look, look
+from .problems import Problem, ProblemRun
 from .repairs import InPlace, Recovered, recover
 from .sections import Section
 from .lines import Path
@@ -37,8 +38,8 @@ __version__ = "0.1.0"
 
 __all__ = [
     "Answer", "BinField", "Closed", "CsvImport", "CsvRefused", "Error", "Extremes", "Fault", "FileChanged", "Fit", "FitRefused", "FloatStatistics",
-    "FloatTotals", "Gain", "Geometry", "Grid", "InPlace", "Info", "LoadRefused", "Look", "OptionRefused", "PathRefused", "ProgramEnded", "ProgramNotFound", "Recovered", "Refused",
-    "RepairCutOff", "SaveFailed", "Section", "Slice", "Stanza", "Statistics", "Step", "TraceField", "Volume", "look", "open", "recover", "tools",
+    "FloatTotals", "Gain", "Geometry", "Grid", "InPlace", "Info", "LoadRefused", "Look", "OptionRefused", "PathRefused", "Problem", "ProblemRun", "ProgramEnded", "ProgramNotFound",
+    "Recovered", "Refused", "RepairCutOff", "SaveFailed", "Section", "Slice", "Stanza", "Statistics", "Step", "TraceField", "Volume", "look", "open", "recover", "tools",
 ]
 
 

@@ -3,6 +3,7 @@
 from __future__ import annotations
 
 import functools
+import re
 from collections import Counter
 from fractions import Fraction
 from math import isfinite
@@ -26,6 +27,17 @@ MEANINGS: Dict[str, str] = {
     "F7": "number of traces in the binary header is wrong",
     "F8": "lines of the textual header that do not begin with C",
     "F9": "trace name (bytes 233-240) is unknown",
+    "S1": "all traces have one inline and crossline: no survey numbers, as in shots",
+    "S2": "no position (x and y are 0), where most traces have one",
+    "S3": "coordinate scalar is not that of most traces",
+    "S4": "delay recording time (bytes 109-110) is not that of most traces",
+    "S5": "inline is far from all others",
+    "S6": "crossline is far from all others",
+    "S7": "inlines are missing between others",
+    "S8": "crosslines are missing between others",
+    "S9": "a few cells have another fold than nearly all",
+    "S12": "dead trace: all its samples have the same value",
+    "S13": "loud trace: more than 100 times the amplitude of the others",
 }
 
 
@@ -146,7 +158,52 @@ class Answer(NamedTuple):
         ...     [answer.accepted for answer in v.run("set 1 inline 7\\ncount")]
         [True, False]
         """
-        return self.text == "ok"
+        return accepted(self.text)
+
+    @property
+    def chosen(self) -> Optional[int]:
+        """Of how many traces an edit with ``where`` was; ``None`` of all other lines.
+
+        >>> with segywb.open("cube.sgy") as v:
+        ...     told = v.run("set all delay 7 where inline = 102\\nset all delay 7")
+        ...     [(answer.text, answer.chosen) for answer in told]
+        [('ok 4', 4), ('ok', None)]
+        """
+        return number(self.text, "ok") if self.text.startswith("ok ") else None
+
+
+_OK = re.compile(r"ok(?: [0-9]+)?")
+_ALL_OK = re.compile(rb"(?:ok(?: [0-9]+)?\n\n)*")
+
+
+def accepted(answer: str) -> bool:
+    """Whether this answers an edit that was done.
+
+    >>> accepted("ok"), accepted("ok 4"), accepted("ok then"), accepted("value 4")
+    (True, True, False, False)
+    """
+    return _OK.fullmatch(answer) is not None
+
+
+def all_accepted(told: bytes, size: int) -> bool:
+    """Whether these are the answers to so many edits that were done.
+
+    >>> all_accepted(b"ok\\n\\nok 4\\n\\n", 2), all_accepted(b"ok\\n\\nrefused S02 words\\n\\n", 2)
+    (True, False)
+    """
+    if told == b"ok\n\n" * size:
+        return True
+    return told.count(b"\n\n") == size and _ALL_OK.fullmatch(told) is not None
+
+
+def all_chosen(told: bytes) -> Optional[int]:
+    """Of how many traces edits with ``where`` were, together; ``None`` where none of them had it.
+
+    >>> all_chosen(b"ok 2\\n\\nok 4\\n\\n"), all_chosen(b"ok\\n\\nok\\n\\n")
+    (6, None)
+    """
+    numbers = [int(one[3:]) for one in told.split(b"\n\n") if one.startswith(b"ok ")] if b"ok " in told else []
+    return sum(numbers) if numbers else None
 
 
 def unexpected(answer: str) -> ProgramEnded:

@@ -7,7 +7,7 @@ from typing import List, Optional
 from . import answers
 from .answers import Info
 from .engine import Engine
-from .lines import encode
+from .lines import choosing, encode
 
 # The sample formats of floats, and of these the one of 4 bytes as IEEE 754 has them: its values are printed so that no other of 4 bytes is meant.
 FLOATS = (1, 5, 6)
@@ -40,15 +40,6 @@ class Asked:
     def __bool__(self) -> bool:
         return True
 
-    def count(self) -> int:
-        """The number of traces, as ``len``.
-
-        >>> with segywb.open("cube.sgy") as v:
-        ...     v.count(), len(v)
-        (12, 12)
-        """
-        return len(self)
-
     @property
     def info(self) -> Info:
         """What the file is.
@@ -59,5 +50,7 @@ class Asked:
         """
         return answers.info(self._one("info"))
 
-    def _edit(self, *words: str) -> None:
-        self._engine.edit(encode(" ".join(words)))
+    def _edit(self, *words: str, where: Optional[str] = None) -> Optional[int]:
+        """One edit. With ``where``: of how many traces it was."""
+        told = self._engine.edit(encode(" ".join([*words, *choosing(where)])))
+        return None if where is None else told

@@ -3,14 +3,14 @@
 from __future__ import annotations
 
 from contextlib import closing
-from typing import Any, List, Union
+from typing import Any, List, Optional, Union
 
 from . import answers, arrays, lines
 from .answers import FloatStatistics, FloatTotals, Stanza, Statistics
 from .asked import FLOATS, NARROW
 from .engine import BATCH_LINES
 from .headers import Headers
-from .lines import Field, encode, number, position
+from .lines import Field, between, encode, number, position
 
 
 class Contents(Headers):
@@ -269,22 +269,51 @@ class Contents(Headers):
         """
         self._edit("copy", position(trace), position(before))
 
-    def delete(self, trace: int) -> None:
-        """Takes a trace out.
+    def delete(
+        self, trace: Optional[int] = None, last_trace: Optional[int] = None,
+        where: Optional[str] = None
+    ) -> Optional[int]:
+        """Takes a trace out, or each of the traces from ``trace`` to ``last_trace`` (which is among
+        them): all, or none where one is refused.
+
+        With ``where`` it takes those out that meet its conditions (see ``count``), of all traces
+        where none is named, and gives their number back: 0 where none does. Neither a trace nor
+        conditions is a ``TypeError``. ``undo`` brings the traces back: the file is loaded anew, and
+        given the edits before.
 
         >>> with segywb.open("twice.sgy") as v:
         ...     v.delete(5)
         ...     v.faults()
+        ...     v.delete(1, 4)
+        ...     v.delete(where="crossline = 204")
+        ...     len(v), v.edits[1:]
         []
+        2
+        (6, ['delete 1 4', 'delete all where crossline = 204'])
         """
-        self._edit("delete", position(trace))
+        if trace is None and where is None:
+            raise TypeError("delete wants a trace, or conditions: delete(where=..)")
+        if trace is None and last_trace is not None:
+            raise TypeError("delete wants the first of the traces, too")
+        if where is None and last_trace is None:
+            return self._edit("delete", position(trace))
+        last = trace if last_trace is None else last_trace
+        return self._edit("delete", between(trace, last), where=where)
 
-    def move(self, trace: int, to: int) -> None:
-        """Takes a trace out and puts it in again, so that its position is ``to``.
+    def move(self, trace: int, to: int, last_trace: Optional[int] = None) -> None:
+        """Takes a trace out and puts it in again, so that its position is ``to``. With ``last_trace``
+        the traces up to it (it too) are moved as one block, in their order, and ``to`` is the
+        position of the first of them, counted without the block.
 
         >>> with segywb.open("cube.sgy") as v:
         ...     v.move(12, 1)
         ...     v.get(1, "crossline"), len(v)
+        ...     v.move(2, 9, last_trace=5)
+        ...     v.headers("crossline", traces=slice(1, 4)).tolist(), v.edits
         (204, 12)
+        ([(204,), (201,), (202,)], ['move 12 1', 'move 2 5 9'])
         """
-        self._edit("move", position(trace), position(to))
+        if last_trace is None:
+            self._edit("move", position(trace), position(to))
+        else:
+            self._edit("move", between(trace, last_trace), position(to))

@@ -9,7 +9,7 @@ import warnings
 from contextlib import closing, contextmanager
 from typing import Iterable, Iterator, List, NamedTuple, Optional, Sequence
 
-from .answers import Answer, info, unexpected
+from .answers import Answer, accepted, all_accepted, all_chosen, info, unexpected
 from .errors import Closed, FileChanged, LoadRefused, OptionRefused, PathRefused, ProgramEnded, Refused, SaveFailed
 from .history import History, Step
 from .lines import decode, dropping, moving, payload, silent
@@ -28,8 +28,8 @@ def batches(lines: Sequence[bytes]) -> Iterator[Batch]:
 
 
 def _refusal(answers: bytes, sent: bytes) -> Exception:
-    """The first answer that is not ``ok``, as an exception."""
-    at, answer = next((at, one) for at, one in enumerate(split(answers)) if one != b"ok")
+    """The first answer that is not ``ok`` or ``ok N``, as an exception."""
+    at, answer = next((at, one) for at, one in enumerate(split(answers)) if not accepted(decode(one)))
     text = decode(answer)
     return Refused(text, decode(sent.split(b"\n")[at])) if text.startswith("refused ") else unexpected(text)
 
@@ -171,13 +171,14 @@ class Engine:
             raise Refused(answer, decode(line))
         return answer.split("\n")
 
-    def edit(self, line: bytes) -> None:
+    def edit(self, line: bytes) -> Optional[int]:
         """One edit, which becomes a step."""
-        self.edit_whole([(line + b"\n", 1)])
+        return self.edit_whole([(line + b"\n", 1)])
 
-    def edit_whole(self, some: Iterable[Batch]) -> None:
-        """Batches of edits as one step: all of them, or none where one is refused."""
+    def edit_whole(self, some: Iterable[Batch]) -> Optional[int]:
+        """Batches of edits as one step: all of them, or none where one is refused. Of how many traces those with ``where`` were."""
         sent: List[Batch] = []
+        chosen: List[int] = []
         refusal: Optional[Exception] = None
 
         def sending() -> Iterator[Batch]:
@@ -188,7 +189,10 @@ class Engine:
         with self._step():
             with closing(self.session().stream(sending())) as told:
                 for at, answers in enumerate(told):
-                    if answers != b"ok\n\n" * sent[at][1]:
+                    if all_accepted(answers, sent[at][1]):
+                        some_chosen = all_chosen(answers)
+                        chosen += [] if some_chosen is None else [some_chosen]
+                    else:
                         refusal = _refusal(answers, sent[at][0])
                         if at > 0 or sent[at][1] > 1 or not isinstance(refusal, Refused):
                             break  # this ends the session: lines before and behind were accepted
@@ -196,6 +200,7 @@ class Engine:
                 raise refusal
             if sent:
                 self.history.add(Step(b"".join(lines for lines, _ in sent), sum(size for _, size in sent)))
+        return sum(chosen) if chosen else None
 
     def run(self, lines: Sequence[bytes]) -> List[Answer]:
         """The answers to the lines of a script. Each accepted edit is a step; lines without an answer have none."""
@@ -366,7 +371,7 @@ def _give(session: Session, history: History) -> None:
     """Gives a session edits that were accepted before."""
     step = history.sent()
     answers = b"".join(session.stream([(step.sent, step.size)]))
-    if answers != b"ok\n\n" * step.size:
+    if not all_accepted(answers, step.size):
         raise _refusal(answers, step.sent)
 
 

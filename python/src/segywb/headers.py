@@ -9,11 +9,13 @@ from . import answers, arrays, csvs, lines
 from .answers import Extremes
 from .asked import Asked
 from .engine import BATCH_LINES
+from .engine import batches as cut
 from .errors import Refused
 from .fields import TRACE_NAMES, kind
-from .lines import Field, Path, encode, field, number, position
+from .lines import Field, Path, between, choosing, encode, field, number, position
 from .selection import positions, runs
 from .session import Batch
+from .stream import split
 
 GET_LINES = 1 << 16
 # So many traces in a line of `table` or `find`, and so many lines and traces of such lines sent at once: this bounds the memory.
@@ -23,6 +25,31 @@ WINDOW_LINES = 1 << 12
 
 class Headers(Asked):
     """A part of ``Volume``: the headers of its traces."""
+
+    def count(self, traces: Any = None, where: Optional[str] = None) -> int:
+        """The number of traces, as ``len``; with ``where`` of those that meet its conditions.
+
+        ``where`` is a text as in a script, ``A OP B`` with ``and`` between two, up to eight: A and B
+        are fields or whole numbers, OP is ``= != < <= > >=``. ``traces`` as for ``headers``, behind
+        ``where`` alone. Conditions that are none are a ``Refused``, an empty text or a line feed in
+        it is a ``ValueError``.
+
+        >>> with segywb.open("cube.sgy") as v:
+        ...     v.count(), v.count(where="inline = 102 and crossline > 202")
+        ...     v.count(traces=slice(1, 8), where="inline = 102")
+        (12, 2)
+        3
+        """
+        if where is None:
+            if traces is not None:
+                raise TypeError("traces are counted with conditions alone: count(traces, where=..)")
+            return len(self)
+        more = choosing(where)
+        if traces is None:
+            return answers.number(self._one("count", "all", *more), "chosen")
+        told = self._windows(self._where(traces), lambda one, last: f"count {one} {last} {more[0]}")
+        each = (lines.decode(one) for some, _ in told for one in split(some))
+        return sum(answers.number(one, "chosen") for one in each)
 
     def get(self, trace: int, name: Field) -> int:
         """The number in a header of a trace, as it stands.
@@ -68,6 +95,32 @@ class Headers(Asked):
 
         self._engine.edit_whole(batches())
 
+    def set_each(
+        self, name: Field, value: int, traces: Any = None, where: Optional[str] = None
+    ) -> Optional[int]:
+        """Writes one number into a header of each of the traces, as one step: all, or none where one
+        is refused. With ``where`` it is of those that meet its conditions (see ``count``), and their
+        number is given back: 0 where none does.
+
+        ``traces`` as for ``headers``; all of the file where it is left out. One that is named twice
+        is meant once. ``undo`` takes all of it back.
+
+        >>> with segywb.open("cube.sgy") as v:
+        ...     v.set_each("delay", 12, where="inline = 102 and crossline > 202")
+        ...     v.set_each("scalar", -1000, traces=slice(1, 5))
+        ...     v.edits
+        2
+        ['set all delay 12 where inline = 102 and crossline > 202', 'set 1 4 scalar -1000']
+        """
+        words = [field(name), number(value), *choosing(where)]
+        if traces is None:
+            spans = ["all"]
+        else:
+            spans = [f"{first} {last}" for first, last in _spans(self._where(traces))]
+        made = [encode(" ".join(["set", span, *words])) for span in spans]
+        told = self._engine.edit_whole(cut(made))
+        return None if where is None else told or 0
+
     def import_csv(self, path: Path, keys: csvs.Columns, values: csvs.Columns, dry_run: bool = False) -> csvs.CsvImport:
         """Writes the value columns of a CSV into the traces whose headers have the numbers of its key columns, as one step: all of it or nothing.
 
@@ -89,18 +142,41 @@ class Headers(Asked):
         plan = csvs.planned(self, csvs.of_file(path), keys, values)
         return plan.told if dry_run else plan.do(self)
 
-    def renumber(self, first_trace: int, last_trace: int, name: Field, first: int, step: int = 0) -> None:
-        """Writes ``first``, ``first + step``, .. into the traces from ``first_trace`` to ``last_trace``, all or none.
+    def renumber(
+        self, first_trace: Optional[int], last_trace: Optional[int], name: Field, first: int,
+        step: int = 0, where: Optional[str] = None
+    ) -> Optional[int]:
+        """Writes ``first``, ``first + step``, .. into the traces from ``first_trace`` to
+        ``last_trace``, all or none. The last one is among them: ``renumber(5, 8, ..)`` is of the
+        traces 5, 6, 7 and 8, as in a script, where ``traces=slice(5, 8)`` of other calls is of 5, 6
+        and 7, as ever in Python. ``None`` is the first of the file, or its last.
+
+        With ``where`` it counts those alone that meet its conditions (see ``count``), and gives
+        their number back. ``undo`` takes it back as any step.
 
         >>> with segywb.open("wrong_line.sgy") as v:
         ...     v.renumber(5, 8, "inline", 102)
         ...     v.inlines()
+        ...     v.renumber(None, None, "delay", 10, 5, where="inline = 102 and crossline > 202")
+        ...     v.headers("delay", traces=slice(5, 8)).tolist()  # the traces 5, 6 and 7
+        ...     v.get(8, "delay")
         {101: 4, 102: 4, 103: 4}
+        2
+        [(0,), (0,), (10,)]
+        15
         """
-        self._edit("renumber", position(first_trace), position(last_trace), field(name), number(first), number(step))
+        span, numbers = between(first_trace, last_trace), (number(first), number(step))
+        return self._edit("renumber", span, field(name), *numbers, where=where)
 
-    def compute(self, first_trace: int, last_trace: int, name: Field, *formula: Field) -> None:
-        """Computes a field of the traces from ``first_trace`` to ``last_trace``, all or none.
+    def compute(
+        self, first_trace: Optional[int], last_trace: Optional[int], name: Field, *formula: Field,
+        where: Optional[str] = None
+    ) -> Optional[int]:
+        """Computes a field of the traces from ``first_trace`` to ``last_trace`` (which is among them,
+        as in ``renumber``), all or none. ``None`` is the first of the file, or its last.
+
+        With ``where`` it is of those that meet its conditions (see ``count``), and their number is
+        given back.
 
         The formula is a text, as ``"cdp / 1000"``, or its parts, as ``TraceField.CDP, "/", 1000``: a field or a number, and then up to eight times
         one of ``+ - * / %`` with a field or a number, strictly from left to right, on whole numbers of the same trace as it was before.
@@ -109,13 +185,18 @@ class Headers(Asked):
         ...     v.compute(1, len(v), "cdp", "inline * 1000 + crossline")
         ...     v.get(6, "cdp")
         102202
+        >>> with segywb.open("cube.sgy") as v:
+        ...     v.compute(None, None, "x", "x + 1000", where="inline >= 102")
+        8
         """
         if not formula:
             raise TypeError("a computation wants a field or a number to begin with")
-        self._edit("compute", position(first_trace), position(last_trace), field(name), *map(lines.term, formula))
+        words = ["compute", between(first_trace, last_trace), field(name), *map(lines.term, formula)]
+        return self._edit(*words, where=where)
 
-    def sort(self, first_trace: int, last_trace: int, *keys: Field) -> None:
-        """Puts the traces from ``first_trace`` to ``last_trace`` in the order of one to eight fields; equal ones stay as they stood.
+    def sort(self, first_trace: Optional[int], last_trace: Optional[int], *keys: Field) -> None:
+        """Puts the traces from ``first_trace`` to ``last_trace`` (which is among them) in the order of one to eight fields; equal ones stay as they
+        stood. ``None`` is the first of the file, or its last.
 
         The numbers of a field fall where it is negative: ``v.sort(1, len(v), "inline", "-offset")``, or ``-TraceField.offset``.
 
@@ -126,7 +207,7 @@ class Headers(Asked):
         """
         if not keys:
             raise TypeError("a sort wants a field")
-        self._edit("sort", position(first_trace), position(last_trace), *map(lines.key, keys))
+        self._edit("sort", between(first_trace, last_trace), *map(lines.key, keys))
 
     def map(self, name: str, place: Field) -> None:
         """Binds a name to a place of trace headers: ``v.map("shot", "@17:4")``. The file is not changed.
@@ -141,6 +222,28 @@ class Headers(Asked):
         55
         """
         self._edit("map", lines.word(name), field(place))
+
+    def map_shot(self) -> None:
+        """Reads the traces as those of shots: ``inline`` is the field record, ``crossline`` the trace
+        in it, ``x`` and ``y`` are those of the receiver group. ``map_usual`` takes it back.
+
+        >>> with segywb.open("cube.sgy") as v:
+        ...     v.map_shot()
+        ...     v.fields()["inline"], v.fields()["x"], v.fields()["offset"]
+        ('@9:4', '@81:4', '@37:4')
+        """
+        self._edit("map", "shot")
+
+    def map_usual(self) -> None:
+        """Takes the six names that are always bound back to their own places.
+
+        >>> with segywb.open("cube.sgy") as v:
+        ...     v.map_shot()
+        ...     v.map_usual()
+        ...     v.fields()["inline"]
+        '@189:4'
+        """
+        self._edit("map", "usual")
 
     def unmap(self, name: str) -> None:
         """Leaves out a name that ``map`` bound.
@@ -162,30 +265,40 @@ class Headers(Asked):
         """
         return answers.fields(self._ask("fields"))
 
-    def headers(self, *names: Field, traces: Any = None, frame: bool = False) -> Any:
+    def headers(
+        self, *names: Field, traces: Any = None, frame: bool = False, where: Optional[str] = None
+    ) -> Any:
         """The numbers of these fields of many traces as a structured array (without numpy: a list of tuples).
 
         Without names: the six that are always bound. ``traces`` selects: a slice of positions from 1 (its end left out, as ever in Python),
         a range, a position, a list of them, or a mask with a truth value for each trace: ``v.headers("x", "y", traces=slice(1, 5))``.
+        ``slice(5, 8)`` is of the traces 5, 6 and 7, where ``renumber(5, 8, ..)`` is of 8 too.
+        With ``where`` it is of those that meet its conditions (see ``count``).
         With ``frame`` the answer is a pandas DataFrame, whose index is the position.
 
         >>> with segywb.open("cube.sgy") as v:
         ...     v.headers("inline", "x", traces=slice(1, 4)).tolist()
         ...     int(v.headers("inline")["inline"].max())
+        ...     v.headers("inline", "crossline", where="crossline = 204").tolist()
         [(101, 45000000), (101, 45002500), (101, 45005000)]
         103
+        [(101, 204), (102, 204), (103, 204)]
         """
         words = [field(name) for name in names] or ["inline", "crossline", "offset", "x", "y", "scalar"]
         if len(set(words)) < len(words):
             raise ValueError("a field stands twice")
-        where = self._where(traces)
+        more, meant = choosing(where), self._where(traces)
         kinds = self._kinds(words)
-        columns = self._columns(words, where, [one == (8, True) for one in kinds])
+        wide = [one == (8, True) for one in kinds]
+        if more:
+            meant, columns = self._chosen(words, meant, wide, more[0])
+        else:
+            columns = self._columns(words, meant, wide)
         made = arrays.table(words, [arrays.type_of(one) for one in kinds], columns)
         if not frame:
             return made
         pandas = arrays.pandas()
-        return pandas.DataFrame(made, columns=words, index=pandas.Index(where, name="trace"))
+        return pandas.DataFrame(made, columns=words, index=pandas.Index(meant, name="trace"))
 
     def header(self, trace: int) -> Dict[str, int]:
         """All named numbers of a trace's headers: those of the standard in the order of their bytes, then the bound names.
@@ -197,51 +310,64 @@ class Headers(Asked):
         """
         return answers.header(self._ask("header", position(trace)))
 
-    def find(self, name: Field, low: int, high: int, traces: Any = None) -> Any:
+    def find(
+        self, name: Field, low: int, high: int, traces: Any = None, where: Optional[str] = None
+    ) -> Any:
         """The traces whose number in this field is from ``low`` to ``high``: an array of ``trace`` and ``value``, in order of ``traces``.
 
         ``traces`` as for ``headers``. The column ``trace`` is what ``headers`` and ``set_many`` take. Without numpy: a list of tuples.
+        With ``where`` those are looked for alone that meet its conditions (see ``count``).
 
         >>> with segywb.open("cube.sgy") as v:
         ...     v.find("crossline", 203, 204, traces=slice(1, 7)).tolist()
+        ...     v.find("crossline", 203, 204, where="inline = 103").tolist()
         [(3, 203), (4, 204)]
+        [(11, 203), (12, 204)]
         """
-        word, bounds = field(name), f"{number(low)} {number(high)}"
-        where = self._where(traces)
+        word, asked = field(name), " ".join([number(low), number(high), *choosing(where)])
+        meant = self._where(traces)
         unsigned = self._kinds([word])[0] == (8, True)
         columns: List[List[Any]] = [[], []]
-        for told, _ in self._windows(where, lambda first, last: f"find {first} {last} {word} {bounds}"):
+        for told, _ in self._windows(meant, lambda first, last: f"find {first} {last} {word} {asked}"):
             rows = _rows(told, b"found ").replace(b"trace ", b"")
             flat = arrays.parse(rows, 2 * rows.count(b"\n"), unsigned)
             columns[0].append(flat[0::2])
             columns[1].append(flat[1::2])
         return arrays.table(["trace", "value"], ["i8", "u8" if unsigned else "i8"], [_join(parts) for parts in columns])
 
-    def extremes(self, traces: Any = None) -> Dict[str, Extremes]:
+    def extremes(self, traces: Any = None, where: Optional[str] = None) -> Dict[str, Extremes]:
         """The least, the greatest, the first and the last number of each named field that is used: fields of zeros alone are left out.
 
-        ``traces`` as for ``headers``, but they follow one another.
+        ``traces`` as for ``headers``, but they follow one another. With ``where`` it is of those that
+        meet its conditions (see ``count``), which need not; there are no fields where none does.
 
         >>> with segywb.open("cube.sgy") as v:
         ...     v.extremes()["crossline"]
+        ...     v.extremes(where="crossline > 202")["crossline"]
         Extremes(least=201, greatest=204, first=201, last=204)
+        Extremes(least=203, greatest=204, first=203, last=204)
         """
-        where = self._where(traces)
-        if not len(where):
+        more = choosing(where)
+        if traces is None and more:
+            return answers.extremes(self._ask("extremes", "all", *more))
+        meant = self._where(traces)
+        if not len(meant):
             return {}
-        (first, last), *more = runs(where, len(where))
-        if more:
+        (first, last), *others = runs(meant, len(meant))
+        if others:
             raise ValueError("these traces do not follow one another")
-        return answers.extremes(self._ask("extremes", str(first), str(last)))
+        return answers.extremes(self._ask("extremes", str(first), str(last), *more))
 
-    def dataframe(self, *names: Field, traces: Any = None) -> Any:
-        """``headers`` as a pandas DataFrame.
+    def dataframe(self, *names: Field, traces: Any = None, where: Optional[str] = None) -> Any:
+        """``headers`` as a pandas DataFrame. Its index is the position, also with ``where``.
 
         >>> with segywb.open("cube.sgy") as v:
         ...     v.dataframe("inline", "crossline").loc[2].tolist()
+        ...     v.dataframe("inline", "crossline", where="crossline = 204").index.tolist()
         [101, 202]
+        [4, 8, 12]
         """
-        return self.headers(*names, traces=traces, frame=True)
+        return self.headers(*names, traces=traces, frame=True, where=where)
 
     def _where(self, traces: Any) -> Sequence[int]:
         """The positions that are meant. How many traces there are is asked where it matters."""
@@ -251,6 +377,15 @@ class Headers(Asked):
         places = {**TRACE_NAMES, **self.fields()}
         return [kind(places.get(word, word)) for word in words]
 
+    def _numbers_of(
+        self, words: Sequence[str], traces: Any, where: Optional[str]
+    ) -> Tuple[Sequence[int], List[Any]]:
+        """The positions that are meant, of those that meet conditions, and a column of each field."""
+        more, meant, wide = choosing(where), self._where(traces), [False] * len(words)
+        if more:
+            return self._chosen(words, meant, wide, more[0])
+        return meant, self._columns(words, meant, wide)
+
     def _columns(self, words: Sequence[str], where: Sequence[int], wide: Sequence[bool]) -> List[Any]:
         """A column for each field; ``wide`` ones are unsigned numbers of 8 bytes."""
         if not where:
@@ -258,13 +393,29 @@ class Headers(Asked):
         if self._table is None:
             self._table = self._knows("table 1 1 inline")
         found: Dict[str, Any] = {}
-        for unsigned in (False, True):
-            some = [word for word, one in zip(words, wide) if one == unsigned]
-            for at in range(0, len(some), 64):
-                part = some[at:at + 64]
-                read = self._by_table if self._table else self._by_get
-                found.update(zip(part, read(part, where, unsigned)))
+        read = self._by_table if self._table else self._by_get
+        for part, unsigned in _parts(words, wide):
+            found.update(zip(part, read(part, where, unsigned)))
         return [found[word] for word in words]
+
+    def _chosen(
+        self, words: Sequence[str], traces: Sequence[int], wide: Sequence[bool], more: str
+    ) -> Tuple[List[int], List[Any]]:
+        """Those of the traces that meet conditions, and a column for each field of them."""
+        found: Dict[str, Any] = {}
+        chosen: Any = []
+        for part, unsigned in _parts(words, wide):
+            columns: List[List[Any]] = [[] for _ in range(len(part) + 1)]
+            named = " ".join([*part, more])
+            asked = self._windows(traces, lambda first, last: f"table {first} {last} {named}")
+            for told, _ in asked:
+                rows = _rows(told, b"table ")
+                numbers = arrays.parse(rows, rows.count(b"\n") * len(columns), unsigned)
+                for at, column in enumerate(columns):
+                    column.append(numbers[at::len(columns)])
+            chosen, *read = map(_join, columns)
+            found.update(zip(part, read))
+        return [int(one) for one in chosen], [found[word] for word in words]
 
     def _knows(self, line: str) -> bool:
         try:
@@ -320,6 +471,24 @@ class Headers(Asked):
                     raise first_refusal(answer, [encode(f"get {one} {word}") for one in some])
                 parts[word].append(arrays.parse(answer.replace(b"value ", b""), len(some), unsigned))
         return [_join(parts[word]) for word in words]
+
+
+def _spans(traces: Sequence[int]) -> Iterator[Tuple[int, int]]:
+    """The first and last of each run of traces that follow one another, in their order.
+
+    >>> list(_spans([7, 3, 4, 7])), list(_spans(range(5, 5)))
+    ([(3, 4), (7, 7)], [])
+    """
+    ordered = traces if isinstance(traces, range) and traces.step == 1 else sorted(set(traces))
+    return runs(ordered, len(ordered)) if len(ordered) else iter(())
+
+
+def _parts(words: Sequence[str], wide: Sequence[bool]) -> Iterator[Tuple[List[str], bool]]:
+    """The fields as many as one line may ask for, those of unsigned numbers of 8 bytes apart."""
+    for unsigned in (False, True):
+        some = [word for word, one in zip(words, wide) if one == unsigned]
+        for at in range(0, len(some), 64):
+            yield some[at:at + 64], unsigned
 
 
 def _join(parts: List[Any]) -> Any:

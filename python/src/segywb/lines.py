@@ -46,6 +46,34 @@ def word(text: str) -> str:
     return text
 
 
+def between(first: Optional[int], last: Optional[int]) -> str:
+    """The traces from the one to the other as words: from the first of the file, or to its last,
+    where that end is not named.
+
+    >>> between(5, 8), between(5, None), between(None, 8), between(None, None)
+    ('5 8', '5 last', '1 8', 'all')
+    """
+    if first is None and last is None:
+        return "all"
+    return f"{'1' if first is None else position(first)} {'last' if last is None else position(last)}"
+
+
+def choosing(where: Optional[str]) -> List[str]:
+    """The words that choose traces, behind all others of a line: none without conditions. What
+    conditions are the program says; a text that is none of a line is refused here.
+
+    >>> choosing("inline = 102 and crossline > 202"), choosing(None)
+    (['where inline = 102 and crossline > 202'], [])
+    """
+    if where is None:
+        return []
+    if not isinstance(where, str):
+        raise TypeError(f"conditions are a text, as 'inline = 102', not {where!r}")
+    if not where.strip():
+        raise ValueError("conditions are wanted, as 'inline = 102', and this text is empty")
+    return ["where " + word(where)]
+
+
 def field(name: Field) -> str:
     """The word for a field of a trace header: a name, a place, a ``TraceField`` or the number of its first byte."""
     return word(name) if isinstance(name, str) else trace_place(TraceField(operator.index(name)))

@@ -90,22 +90,27 @@ def histogram(volume: Volume, axes: Any = None) -> Any:
     return axes
 
 
-def headers(volume: Volume, *fields: Field, traces: Any = None, path: Optional[Path] = None) -> List[Any]:
+def headers(
+    volume: Volume, *fields: Field, traces: Any = None, path: Optional[Path] = None,
+    where: Optional[str] = None
+) -> List[Any]:
     """Header fields against the number of the trace: one picture below the other, each field with its own scale. Without fields: inline and crossline.
 
-    ``traces`` as for ``Volume.headers``. Of many traces the least and the greatest number of each pixel are drawn, so that a wild one is seen.
+    ``traces`` and ``where`` as for ``Volume.headers``. Of many traces the least and the greatest number of each pixel are drawn, so that a wild one is seen.
     With ``path`` the picture is saved there. The axes are given back, one for each field.
     """
     np = _numpy()
     names = [field(one) for one in fields or ("inline", "crossline")]
-    where = np.asarray(volume._where(traces), dtype=np.int64)
-    order = np.argsort(where, kind="stable")
-    found = volume.headers(*names, traces=where[order])
+    known = where is None
+    meant = volume._where(traces) if known else volume._numbers_of(["@1:4"], traces, where)[0]
+    meant = np.asarray(meant, dtype=np.int64)
+    order = np.argsort(meant, kind="stable")
+    found = volume.headers(*names, traces=meant[order])
     rows = _rows(len(names), path is not None)
     for axes, name in zip(rows, names):
         numbers = found[name]
         kept = thinned(numbers, HEADER_PIXELS)
-        axes.plot(where[order][kept], numbers[kept].astype("f8"), "-" if len(kept) < len(numbers) else ".-", linewidth=0.8, markersize=3)
+        axes.plot(meant[order][kept], numbers[kept].astype("f8"), "-" if len(kept) < len(numbers) else ".-", linewidth=0.8, markersize=3)
         axes.set_ylabel(name)
         axes.ticklabel_format(style="plain", useOffset=False)
         axes.grid(alpha=0.3)

@@ -6,12 +6,13 @@ from contextlib import closing
 from fractions import Fraction
 from typing import Any, Dict, List, Optional, Sequence, Tuple
 
-from . import answers, arrays, fitting, lines
+from . import answers, arrays, fitting, lines, problems
 from .answers import Fault, Geometry
 from .contents import Contents
 from .grids import Grid, Slice
 from .headers import first_refusal
 from .lines import encode, number, position
+from .problems import Problem
 
 
 class Reports(Contents):
@@ -26,26 +27,31 @@ class Reports(Contents):
         """
         return answers.geometry(self._one("geometry", position(trace)))
 
-    def positions(self, traces: Any = None, frame: bool = False) -> Any:
+    def positions(
+        self, traces: Any = None, frame: bool = False, where: Optional[str] = None
+    ) -> Any:
         """Where many traces lie: inline, crossline, offset, and x and y under the scalar as floats; ``traces`` as for ``headers``.
+        With ``where`` of those that meet its conditions (see ``count``).
 
         >>> with segywb.open("cube.sgy") as v:
         ...     v.positions(slice(1, 3)).tolist()
+        ...     v.positions(where="inline = 103 and crossline = 204").tolist()
         [(101, 201, 0, 450000.0, 6800000.0), (101, 202, 0, 450025.0, 6800000.0)]
+        [(103, 204, 0, 450075.0, 6800050.0)]
         """
-        where = self._where(traces)
         names = ("inline", "crossline", "offset", "x", "y")
-        columns = arrays.scaled(self._columns([*names, "scalar"], where, [False] * 6))
+        meant, found = self._numbers_of([*names, "scalar"], traces, where)
+        columns = arrays.scaled(found)
         made = arrays.table(names, ["i4", "i4", "i4", "f8", "f8"], columns)
         if not frame:
             return made
         pandas = arrays.pandas()
-        return pandas.DataFrame(made, columns=list(names), index=pandas.Index(where, name="trace"))
+        return pandas.DataFrame(made, columns=list(names), index=pandas.Index(meant, name="trace"))
 
-    def fit(self, traces: Any = None) -> fitting.Fit:
+    def fit(self, traces: Any = None, where: Optional[str] = None) -> fitting.Fit:
         """The bin grid that fits the traces: x and y as linear functions of inline and crossline, by least squares, with the residuals of each trace.
 
-        ``traces`` as for ``headers``. Traces that lie farther from the grid than three times the middle residual are left out of the fit (``used``
+        ``traces`` as for ``headers``, ``where`` as for ``count``: ``v.fit(where="x != 0")``. Traces that lie farther from the grid than three times the middle residual are left out of the fit (``used``
         tells which are in it) and have their residuals all the same: ``v.fit().misfit.argmax() + 1`` is the trace that lies farthest from its bin.
         x and y are under the scalar. Where the traces tell no grid it is a ``FitRefused``, which says why: all on one line, or none with a place.
 
@@ -54,10 +60,10 @@ class Reports(Contents):
         >>> [round(one, 6) for one in grid.spacing], round(float(grid.misfit.max()), 6), [round(one, 3) for one in grid.at(102, 203)]
         ([25.0, 25.0], 0.0, [450050.0, 6800025.0])
         """
-        where = self._where(traces)
-        *numbers, scalar = self._columns(["inline", "crossline", "x", "y", "scalar"], where, [False] * 5)
+        names = ["inline", "crossline", "x", "y", "scalar"]
+        meant, (*numbers, scalar) = self._numbers_of(names, traces, where)
         inline, crossline, x, y = arrays.scaled([*numbers, scalar])
-        return fitting.fitted(inline, crossline, x, y, fitting.rounding(scalar), where)
+        return fitting.fitted(inline, crossline, x, y, fitting.rounding(scalar), meant)
 
     def range(self, which: str) -> Optional[Tuple[Fraction, Fraction]]:
         """The least and the greatest ``inline``, ``crossline``, ``offset``, ``x`` or ``y``, as fractions; ``None`` without traces.
@@ -151,6 +157,20 @@ class Reports(Contents):
         {'F6': 4}
         """
         return answers.fault_counts(self._ask("faults"))
+
+    def problems(self) -> List[Problem]:
+        """All that is wrong or doubtful, in groups: the faults, and what stands out of the others.
+
+        Each tells its ``code`` and its ``meaning``, how many ``traces`` have it, the ``first_runs``
+        of them, and, where one line does, the line of a script that mends it (``mend``). It looks
+        at each trace once.
+
+        >>> with segywb.open("missing.sgy") as v:
+        ...     for one in v.problems():
+        ...         print(one.code, one.traces, one.first_runs[0])
+        F1 5 ProblemRun(first=7, last=11, facts={'shift': 1})
+        """
+        return problems.problems(self._ask("problems"))
 
     def _counts(self, line: str, head: str, row: str) -> Dict[int, int]:
         return answers.counts(self._ask(line), head, row)

@@ -291,10 +291,14 @@ class Volume(Sections):
         except ProgramEnded as error:
             return f"<segywb.Volume {self.path!r}, {error}>"
 
-    def plot_headers(self, *names: Field, traces: Any = None, path: Optional[Path] = None) -> List[Any]:
+    def plot_headers(
+        self, *names: Field, traces: Any = None, path: Optional[Path] = None,
+        where: Optional[str] = None
+    ) -> List[Any]:
         """Draws header fields against the number of the trace, by matplotlib: ``v.plot_headers("inline", "x", path="headers.png")``.
 
-        One picture below the other; of many traces the least and the greatest number of each pixel. The axes are given back, one for each field.
+        One picture below the other; of many traces the least and the greatest number of each pixel. ``traces`` and ``where`` as for ``headers``.
+        The axes are given back, one for each field.
 
         >>> import os, tempfile
         >>> with segywb.open("cube.sgy") as v:
@@ -303,7 +307,7 @@ class Volume(Sections):
         """
         from . import pictures
 
-        return pictures.headers(self, *names, traces=traces, path=path)
+        return pictures.headers(self, *names, traces=traces, path=path, where=where)
 
     def plot_section(
         self, traces: Any = None, style: str = "density", gain: Gain = Gain(), colours: str = "grey", above: Sequence[Field] = (), path: Optional[Path] = None,

@@ -407,7 +407,7 @@ def shown(line: str, text: str) -> Dict[str, Any]:
     """A line and its answer as the page gets them: a list's first rows alone, where there are many."""
     rows = text.split("\n", MOST_ANSWER + 1)
     more = rows[MOST_ANSWER + 1].count("\n") + 1 if len(rows) > MOST_ANSWER + 1 else 0
-    kind = "refused" if text.startswith("refused ") else "edit" if text == "ok" else "query"
+    kind = "refused" if text.startswith("refused ") else "edit" if answers.accepted(text) else "query"
     return {"line": clean(line[:2000]), "text": clean("\n".join(rows[:MOST_ANSWER + 1])), "more": more, "kind": kind}
 
 

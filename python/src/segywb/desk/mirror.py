@@ -17,6 +17,9 @@ SIX = ("inline", "crossline", "offset", "x", "y", "scalar")
 PIECE = 1 << 17
 MOST_MORE = 8
 MOST_MOVES = 2000
+SIGNS = ("=", "!=", "<", "<=", ">", ">=")
+# Words of the traces P to Q, or `all` of them; the first two name a single trace as well.
+RANGED = ("set", "delete", "renumber", "compute", "sort")
 
 Told = Callable[[int, int], None]
 
@@ -164,36 +167,55 @@ class Plan:
         self._gone: List[int] = []
 
     def line(self, words: Sequence[str]) -> None:
-        """One accepted line."""
-        word = words[0] if words else ""
-        if self.lost:
+        """One accepted line. Behind one whose traces only their headers tell, all is read anew."""
+        if self.lost or not words:
             return
-        if word == "delete" and words[1] != "last":
-            self._delete(int(words[1]))
+        word = words[0]
+        if word in RANGED:
+            self._ranged(word, words)
             return
         self.flush()
-        field = written(words)
-        if field is not None:
-            if self._touches(field):
-                self.stale[self._at(words[1]) - 1:self._at(words[1] if word == "set" and len(words) == 4 else words[2])] = True
-        elif word == "delete":
-            self._delete(self._at(words[1]))
+        if word == "map" and len(words) == 2:  # `map shot`, `map usual`
+            self.bound.extend(SIX)
         elif word in ("map", "unmap") and words[1] in self._watched:
             self.bound.append(words[1])
         elif word == "resize":
             self.stale[self._at(words[1]) - 1] = True  # its header tells how many samples it has
         elif word in ("blank", "copy"):
             self._insert(self._at(words[-1]), None, True)
+        elif word == "move" and len(words) == 4:
+            self._move_block(self._at(words[1]), self._at(words[2]), words[3])
         elif word == "move":
             self._move(self._at(words[1]), self._at(words[2]))
-        elif word == "sort":
-            # Where its traces stand is told by their headers alone.
-            self.lost = True
 
-    def _at(self, position: str) -> int:
-        """A position: ``last`` and ``end`` are told by the number of traces in front of the line."""
-        count = len(self.stale)
-        return {"last": count, "end": count + 1}.get(position) or int(position)
+    def _ranged(self, word: str, words: Sequence[str]) -> None:
+        """A line of a range of traces. Conditions choose among these, and may choose each."""
+        plain = chosen_of(words)
+        first, last, rest = self._range(plain)
+        if word == "sort" or word == "delete" and len(plain) < len(words):
+            # Where its traces stand, or which ones are gone, is told by their headers alone.
+            self.flush()
+            self.lost = True
+        elif word == "delete":
+            self._delete(first, last)
+        else:
+            self.flush()
+            if self._touches(rest[0]):
+                self.stale[first - 1:last] = True
+
+    def _range(self, words: Sequence[str]) -> Tuple[int, int, Sequence[str]]:
+        """The first and the last trace of a line, and its words behind these."""
+        if words[1] == "all":
+            return 1, self._at("last"), words[2:]
+        single = len(words) == {"set": 4, "delete": 2}.get(words[0])
+        first = self._at(words[1])
+        return (first, first, words[2:]) if single else (first, self._at(words[2]), words[3:])
+
+    def _at(self, word: str) -> int:
+        """A position: `last` is as many as there are traces in front of the line, `end` one more."""
+        if word not in ("last", "end"):
+            return int(word)
+        return len(self.stale) - len(self._gone) + (word == "end")
 
     def _touches(self, field: str) -> bool:
         """Whether the field may share bytes with one that is kept. Their places are those that hold behind all lines."""
@@ -210,11 +232,11 @@ class Plan:
         self.lost = self.lost or self._moves > MOST_MOVES
         return self.row
 
-    def _delete(self, position: int) -> None:
+    def _delete(self, first: int, last: int) -> None:
         """Deletions from the back to the front name the rows as they were: they are done together."""
-        if self._gone and position >= self._gone[-1]:
+        if self._gone and last >= self._gone[-1]:
             self.flush()
-        self._gone.append(position)
+        self._gone.extend(range(last, first - 1, -1))
 
     def flush(self) -> None:
         """Does the deletions that wait."""
@@ -240,15 +262,40 @@ class Plan:
         self._insert(to, row, stale)
 
 
+    def _move_block(self, first: int, last: int, to: str) -> None:
+        """Traces as one block; `last` is the place behind the others, counted without the block."""
+        rows = self._rows()
+        if self.lost:
+            return
+        at = len(rows) - (last - first) if to == "last" else int(to)
+        block = np.arange(first - 1, last)
+        order = np.insert(np.delete(np.arange(len(rows)), block), at - 1, block)
+        self.row, self.stale = rows[order], self.stale[order]
+
+
 def written(words: Sequence[str]) -> Optional[str]:
     """The field of trace headers into which a line writes numbers.
 
-    >>> written("set 1 x 5".split()), written("set 1 9 x 5".split()), written("renumber 1 9 x 5 1".split()), written("delete 4".split())
-    ('x', 'x', 'x', None)
+    >>> [written(line.split()) for line in ("set 1 x 5", "set all x 5 where y = 1", "compute 1 9 x y", "delete 4")]
+    ['x', 'x', 'x', None]
     """
-    if words and words[0] in ("set", "renumber", "compute"):
-        return words[2] if words[0] == "set" and len(words) == 4 else words[3]
-    return None
+    if not words or words[0] not in ("set", "renumber", "compute"):
+        return None
+    plain = chosen_of(words)
+    return plain[2] if plain[1] == "all" or words[0] == "set" and len(plain) == 4 else plain[3]
+
+
+def chosen_of(words: Sequence[str]) -> Sequence[str]:
+    """The words of a line without the conditions that choose traces. Before a sign behind the next
+    word alone `where` begins them: it may be the name of a field, too.
+
+    >>> chosen_of("set all where 7 where where = 5".split()), chosen_of("delete 5".split())
+    (['set', 'all', 'where', '7'], ['delete', '5'])
+    """
+    for at, word in enumerate(words[:-2]):
+        if word == "where" and words[at + 2] in SIGNS and words[0] != "sort":
+            return words[:at]
+    return words
 
 
 def spanned(place: str) -> Optional[Tuple[int, int]]:

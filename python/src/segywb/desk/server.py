@@ -15,6 +15,7 @@ from ..errors import Error, FileChanged, LoadRefused, ProgramEnded, Refused, Rep
 from . import fieldmaps, graphs, places, saving, sections, tables, views
 from .desk import Desk, clean
 from .faults import Kept
+from .problems import Kept as KeptProblems
 from .guard import HEADERS, Guard, Handler
 from .refusals import Reading
 from .words import words
@@ -87,6 +88,7 @@ class Server:
         self._worker = ThreadPoolExecutor(max_workers=1, thread_name_prefix="desk")
         self._at_work = 0
         self._faults = Kept()
+        self._problems = KeptProblems()
         self._slices = views.Slices()
         self._maps = fieldmaps.FieldMaps()
         self._sections = sections.Sections(READING_SECONDS)
@@ -105,6 +107,7 @@ class Server:
             "slice": lambda q: self._slices.view(desk, number(q, "sample"), window(q), q.get("all") == "1"),
             "positions": lambda q: places.positions(desk, *window(q), q.get("all") == "1"),
             "histogram": lambda q: views.histogram(desk, window(q).compare),
+            "problems": lambda q: views.problems(desk, self._problems),
             "faults": lambda q: views.faults(desk, self._answer()),
             "fault": lambda q: views.fault_window(desk, self._answer(), q["code"], number(q, "skip", 0)),
             "table": lambda q: views.table(desk, number(q, "first"), number(q, "size", 25), q["names"].split(), window(q).compare),

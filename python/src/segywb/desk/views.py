@@ -16,11 +16,14 @@ from .bundles import Bundle, bundle_for, farthest
 from .desk import RANGES, Desk, Shot, clean, span
 from .faults import counts as fault_counts
 from .faults import window
+from .problems import Kept
 from .marks import marked
 
 UNITS = {2: "seconds of arc", 3: "degrees", 4: "degrees, minutes, seconds"}
 LENGTHS = {1: "m", 2: "ft"}
 MOST_RUNS = 20000
+# Problems are found by a look at each trace: of more than these the page asks for them when it is told to.
+MOST_LOOKED_AT = 1_000_000
 MOST_STEPS = 300
 MOST_ROWS = 500
 
@@ -42,6 +45,7 @@ def state(desk: Desk) -> Dict[str, Any]:
     info = answers.info(now.told["info"])
     return {
         "version": desk.version, "file": clean(desk.path), "out": clean(desk.out) if desk.out else None, "opaque": desk.opaque, "large": desk.large,
+        "costly": bool(desk.large) or len(now.mirror) > MOST_LOOKED_AT,
         "traces": len(now.mirror), "samples": info.samples, "tail": info.tail or 0,
         "edits": sum(step.size for step in volume.steps), "reading": " ".join(desk.reading), "declarable": desk.declarable, "recovered": desk.recovered, "undoable": volume.undoable, "redoable": volume.redoable,
         "fields": answers.fields(now.told["fields"].split("\n")), **facts(volume),
@@ -295,6 +299,11 @@ def extremes(desk: Desk) -> Dict[str, Any]:
     """The headers that are used: each named field whose numbers are not all 0, with the least, the greatest, the first and the last."""
     found = desk.volume.extremes()
     return {"version": desk.version, "rows": [[name, *map(str, numbers)] for name, numbers in found.items()]}
+
+
+def problems(desk: Desk, kept: Kept) -> Dict[str, Any]:
+    """All that is wrong or doubtful, in groups."""
+    return {"version": desk.version, "problems": kept.answer(desk.volume, desk.version)}
 
 
 def faults(desk: Desk, answer: bytes) -> Dict[str, Any]:

@@ -5,6 +5,8 @@ from __future__ import annotations
 from pathlib import Path
 from typing import Any, Dict, List
 
+from ..answers import MEANINGS
+
 HERE = Path(__file__).resolve().parent
 
 
@@ -22,7 +24,7 @@ def words() -> Dict[str, Any]:
     """All that the page asks for.
 
     >>> [one["usage"] for one in words()["commands"] if one["word"] == "set"]
-    ['set P [Q] FIELD NUMBER']
+    ['set P [Q] FIELD NUMBER [where A OP B ..]']
     """
     return {
         "commands": [{"word": usage.split()[0], "usage": usage, "told": told} for usage, told in rows("command")],
@@ -30,4 +32,5 @@ def words() -> Dict[str, Any]:
         "binary": [{"name": name, "place": place, "told": told} for name, place, told in rows("binary")],
         "refusals": [{"code": code, "text": text, "when": when, "do": do} for code, text, when, do in rows("refusal")],
         "faults": {code: {"text": text, "when": when, "do": do} for code, text, when, do in rows("fault")},
+        "problems": {code: {"meaning": MEANINGS[code], "do": do} for code, do in rows("problem")},
     }

@@ -10,6 +10,7 @@ from fractions import Fraction
 from typing import Any, Dict, Iterator, List, Optional, Sequence, Tuple
 
 from .. import answers
+from ..problems import problems
 from .facts import Facts
 from .outlines import Point, hull
 from .sieve import HEAD_BYTES
@@ -83,7 +84,12 @@ def _block(lines: Iterator[str]) -> str:
 
 
 def _problems(talk: Talk, report: str, path: str) -> Dict[str, int]:
-    """How often each code stands in the report, of a program that may not know it."""
+    """How many have each problem, of a program that may not know the report.
+
+    Of `problems` these are traces, of F8 lines of the textual header, of F7 one; of S7 and S8 the
+    inlines or crosslines that are missing, of S9 the cells of another fold. A program that does not
+    know it is asked for `faults`.
+    """
     lines = talk.answer()
     head = next(lines, "")
     if report == "problems" and head.startswith("refused S01 "):
@@ -92,6 +98,8 @@ def _problems(talk: Talk, report: str, path: str) -> Dict[str, int]:
         talk.send(["faults"])
         return _problems(talk, "faults", path)
     accepted(head)
+    if report == "problems":
+        return {one.code: one.how_many for one in problems([head, *lines])}
     return counted(lines)
 
 

@@ -34,8 +34,20 @@ def of(data: bytes) -> Script:
 
 
 def all_sets(script: Script) -> bool:
-    """Whether each edit of it sets a number, so that the numbers of before take it back."""
-    return len(script.data) <= MOST_REVERSE and all(_word(line) in _SETTING or _asks(line) for line in script.lines if not silent(line))
+    """Whether each edit of it sets a number, so that the numbers of before take it back.
+
+    >>> all_sets(of(b"set 5 inline 102\\nbin job 7\\n")), all_sets(of(b"set all inline 102\\n"))
+    (True, False)
+    """
+    return len(script.data) <= MOST_REVERSE and all(_sets_one(line) or _asks(line) for line in script.lines if not silent(line))
+
+
+def _sets_one(line: bytes) -> bool:
+    """Whether it sets a single number. Those of many traces, also of chosen ones, would be as many
+    answers and lines as there are traces: their old bytes are kept, or else they are not taken back.
+    """
+    words = line.split()
+    return _word(line) in _SETTING and len(words) == {b"set": 4, b"bin": 3}[words[0]] and words[1] != b"all"
 
 
 def saves(script: Script) -> bool:
@@ -51,6 +63,8 @@ def stays(script: Script) -> bool:
     """Whether no line of it moves, adds, takes away or resizes traces, so that a file can be repaired in place by it.
 
     >>> stays(of(b"set 5 inline 102\\n")), stays(of(b"# why\\ndelete 5\\n"))
+    (True, False)
+    >>> stays(of(b"set all delay 0 where delay = 7\\n")), stays(of(b"delete all where delay = 7\\n"))
     (True, False)
     """
     return moving(script.data) is None

@@ -1,43 +1,14 @@
-use Rattle.std.proofs.Common.{◌≡◌, ◌+◌, ◌++◌, ◌∙◌, ℕ, List, length, map, drop, codes, decimal, sym, ap, arith}
+use Rattle.std.proofs.Common.{ℕ, List, map, subst, sym}
 use Rattle.std.proofs.lemmas.List.{length-map}
-use Rattle.script_text.specs.Texts.{with_line_end, with_line_ends}
-use Rattle.script_text.proofs.OutLemmas.{by_fault, not_yet, next_line, no_line, line_more, line_breaks, head_breaks, lines_break, lines_end}
+use Rattle.script_text.specs.Devices.{device_of}
+use Rattle.script_text.specs.Printing.{Pushes}
+use Rattle.script_text.specs.Texts.{counted_lines}
 use Rattle.script_text.proofs.list_texts.push_list.Goals as goal
 
-pub returns-in_err-push : goal.returns-in_err-push
-returns-in_err-push g c =
-    let f = g.T.Listed.text c.args.word.now in
-    let xs = c.args.items.now in
-    let head : List ℕ = with_line_end (c.args.list.now ++ codes " " ++ decimal (length (map f xs))) in
-    let is_head : c.as_slice.result.now ≡ head = c.as_slice.ensures.bytes ∙ c.push_head.ensures ∙ ap (λ n. with_line_end (c.args.list.now ++ codes " " ++ decimal n)) (sym (length-map xs f)) in
-    by_fault c.from_residual.result c.in_err-push.field-0.0 _ _ c.from_residual.ensures.1
-    (head_breaks _ _ _ c.as_slice.result.now head (with_line_ends (map f xs)) is_head c.in_err-push.field-0.0.written c.in_err-push.ensures)
-
-pub loop-item-init : goal.loop-item-init
-loop-item-init g c = not_yet _ _ _ (omega (arith, c.in_ok-push.ensures.counted))
-
-pub returns-in_err-push-2 : goal.returns-in_err-push-2
-returns-in_err-push-2 g c =
-    let f = g.T.Listed.text c.args.word.now in
-    let xs = c.args.items.now in
-    let head : List ℕ = with_line_end (c.args.list.now ++ codes " " ++ decimal (length (map f xs))) in
-    let is_head : c.as_slice.result.now ≡ head = c.as_slice.ensures.bytes ∙ c.push_head.ensures ∙ ap (λ n. with_line_end (c.args.list.now ++ codes " " ++ decimal n)) (sym (length-map xs f)) in
-    by_fault c.from_residual-in_err-push-2.result c.in_err-push-2.field-0.0 _ _ c.from_residual-in_err-push-2.ensures.1
-    (lines_break _ _ _ c.as_slice.result.now head (with_line_ends (map f xs)) is_head _ _ c.in_err-push-2.field-0.0.written c.in_ok-push.ensures
-    (line_breaks _ _ _ _ _ c.as_slice-in-loop-item.result.now (with_line_end (f c.item-item.result)) _ (with_line_ends (map f (drop (c.loop-item.item-index + 1) xs))) (with_line_ends (map f xs))
-    (c.as_slice-in-loop-item.ensures.bytes ∙ c.push_byte.ensures ∙ ap (λ (s : List ℕ). with_line_end s) c.push_text.ensures.text) (next_line f xs c.loop-item.item-index c.item-item.result c.loop-item-test.true c.item-item.is) c.loop-item.invariant c.in_err-push-2.field-0.0.written c.in_err-push-2.ensures))
-
-pub loop-item-preserved : goal.loop-item-preserved
-loop-item-preserved g c =
-    let f = g.T.Listed.text c.args.word.now in
-    let xs = c.args.items.now in
-    line_more _ _ _ _ _ c.as_slice-in-loop-item.result.now (with_line_end (f c.item-item.result)) _ (with_line_ends (map f (drop (c.loop-item.item-index + 1) xs))) (with_line_ends (map f xs))
-    (c.as_slice-in-loop-item.ensures.bytes ∙ c.push_byte.ensures ∙ ap (λ (s : List ℕ). with_line_end s) c.push_text.ensures.text) (next_line f xs c.loop-item.item-index c.item-item.result c.loop-item-test.true c.item-item.is) c.loop-item.invariant _ c.in_ok-push-2.ensures
-
+-- as many lines follow as the list has items
 pub returns : goal.returns
 returns g c =
-    let f = g.T.Listed.text c.args.word.now in
-    let xs = c.args.items.now in
-    let head : List ℕ = with_line_end (c.args.list.now ++ codes " " ++ decimal (length (map f xs))) in
-    let is_head : c.as_slice.result.now ≡ head = c.as_slice.ensures.bytes ∙ c.push_head.ensures ∙ ap (λ n. with_line_end (c.args.list.now ++ codes " " ++ decimal n)) (sym (length-map xs f)) in
-    lines_end _ _ _ c.as_slice.result.now head (with_line_ends (map f xs)) is_head _ _ _ _ c.in_ok-push.ensures c.loop-item.invariant (no_line f xs c.loop-item.item-index c.loop-item-test.false)
+    let a = c.args in
+    let lines : List (List ℕ) = map (g.T.Listed.text a.word.now) a.items.now in
+    subst (λ (n : ℕ). Pushes (device_of g.W.Write.contents a.writer.now) (device_of g.W.Write.contents c.push_counted.new.writer) a.out.now c.push_counted.new.out (counted_lines a.list.now n lines) c.push_counted.result)
+    (sym (length-map a.items.now (g.T.Listed.text a.word.now))) c.push_counted.ensures

@@ -1,5 +1,6 @@
 use Rattle.std.proofs.Common.{◌≡◌, ◌∙◌, ◌<◌, sym, ap, arith, is_some, ℕ, length, List, ◌∷◌, Some, true}
 use Rattle.script_words.specs.Words.{words_of}
+use Rattle.script_words.specs.Ranges.{spelled}
 use Rattle.script_words.specs.Numbers.{trace_of}
 use Rattle.script_words.specs.Readers.{field_of, operand_of}
 use Rattle.script_words.specs.HeaderCommands.{is_step_count}
@@ -7,19 +8,18 @@ use Rattle.script_words.proofs.ListLemmas.{step_count, read_is, no_field, no_sou
 use Rattle.script_words.proofs.compute_command.compute.Goals as goal
 use Rattle.script_words.proofs.compute_command.compute.Goals.{then-not-is_field-via-then-not-is_field, then-not-is_field-via-else-not-is_field+then-not-is_operand}
 
-four_words : {ws xs ys zs us : List (List ℕ)} {t u v w : List ℕ} → ws ≡ t ∷ xs → xs ≡ u ∷ ys → ys ≡ v ∷ zs → zs ≡ w ∷ us → ws ≡ t ∷ u ∷ v ∷ w ∷ us
-four_words {t = t} {u = u} {v = v} e f g h =
-    e ∙ ap (λ (x : List (List ℕ)). t ∷ x) (f ∙ ap (λ (x : List (List ℕ)). u ∷ x) (g ∙ ap (λ (x : List (List ℕ)). v ∷ x) h))
+four_words : {ws ys zs us : List (List ℕ)} {t u v w : List ℕ} → ws ≡ t ∷ u ∷ ys → ys ≡ v ∷ zs → zs ≡ w ∷ us → ws ≡ t ∷ u ∷ v ∷ w ∷ us
+four_words {t = t} {u = u} {v = v} f g h = f ∙ ap (λ (x : List (List ℕ)). t ∷ u ∷ x) (g ∙ ap (λ (x : List (List ℕ)). v ∷ x) h)
 
 pub returns-then-not-is_field : goal.returns-then-not-is_field
 returns-then-not-is_field c =
-    let words : words_of c.args.words ≡ c.in_ok-a.a.now ∷ c.in_ok-b.b.now ∷ c.in_ok-at.at.now ∷ c.in_ok-source.source.now ∷ words_of c.rest-rest.result.now =
-    four_words (rw c.in_ok-a.ensures.ok_part at c.next.ensures.some) (rw c.in_ok-b.ensures.ok_part at c.next-2.ensures.some) (rw c.in_ok-at.ensures.ok_part at c.next-3.ensures.some)
-    (rw c.in_ok-source.ensures.ok_part at c.next-4.ensures.some ∙ ap (λ (t : List ℕ). c.in_ok-source.source.now ∷ words_of t) (sym c.rest-rest.ensures)) in
+    let words : spelled (words_of c.args.words) ≡ c.in_ok-a.a.now ∷ c.in_ok-a.b.now ∷ c.in_ok-at.at.now ∷ c.in_ok-source.source.now ∷ words_of c.rest-rest.result.now =
+    four_words (rw c.in_ok-a.ensures.ok_part at c.range.ensures.some) (rw c.in_ok-at.ensures.ok_part at c.next.ensures.some)
+    (rw c.in_ok-source.ensures.ok_part at c.next-2.ensures.some ∙ ap (λ (t : List ℕ). c.in_ok-source.source.now ∷ words_of t) (sym c.rest-rest.ensures)) in
     let few : c.number_of_words-count.result < 17 = omega (arith, c.number_of_words-count.ensures, c.if-count-eq17.false) in
     let fits : is_step_count (length (words_of c.rest-rest.result.now)) ≡ true = step_count _ _ c.number_of_words-count.ensures few c.if-count-ne0.false in
     let from : trace_of c.args.traces c.in_ok-a.a.now ≡ Some c.in_ok-a-2.a = sym c.trace.ensures ∙ c.in_ok-a-2.ensures.ok_part in
-    let to : trace_of c.args.traces c.in_ok-b.b.now ≡ Some c.in_ok-b-2.b = sym c.trace-2.ensures ∙ c.in_ok-b-2.ensures.ok_part in
+    let to : trace_of c.args.traces c.in_ok-a.b.now ≡ Some c.in_ok-b.b = sym c.trace-2.ensures ∙ c.in_ok-b.ensures.ok_part in
     let is = read_is c.args.traces _ _ _ _ _ _ _ _ words fits from to in
     rw is (elim c.then-not-is_field.branch [
       | then-not-is_field-via-then-not-is_field w ↦ no_field _ _ _ _ _ (sym c.is_field.ensures ∙ w.if-not-is_field.true)
@@ -28,13 +28,13 @@ returns-then-not-is_field c =
 
 pub returns-in_err-steps : goal.returns-in_err-steps
 returns-in_err-steps c =
-    let words : words_of c.args.words ≡ c.in_ok-a.a.now ∷ c.in_ok-b.b.now ∷ c.in_ok-at.at.now ∷ c.in_ok-source.source.now ∷ words_of c.rest-rest.result.now =
-    four_words (rw c.in_ok-a.ensures.ok_part at c.next.ensures.some) (rw c.in_ok-b.ensures.ok_part at c.next-2.ensures.some) (rw c.in_ok-at.ensures.ok_part at c.next-3.ensures.some)
-    (rw c.in_ok-source.ensures.ok_part at c.next-4.ensures.some ∙ ap (λ (t : List ℕ). c.in_ok-source.source.now ∷ words_of t) (sym c.rest-rest.ensures)) in
+    let words : spelled (words_of c.args.words) ≡ c.in_ok-a.a.now ∷ c.in_ok-a.b.now ∷ c.in_ok-at.at.now ∷ c.in_ok-source.source.now ∷ words_of c.rest-rest.result.now =
+    four_words (rw c.in_ok-a.ensures.ok_part at c.range.ensures.some) (rw c.in_ok-at.ensures.ok_part at c.next.ensures.some)
+    (rw c.in_ok-source.ensures.ok_part at c.next-2.ensures.some ∙ ap (λ (t : List ℕ). c.in_ok-source.source.now ∷ words_of t) (sym c.rest-rest.ensures)) in
     let few : c.number_of_words-count.result < 17 = omega (arith, c.number_of_words-count.ensures, c.if-count-eq17.false) in
     let fits : is_step_count (length (words_of c.rest-rest.result.now)) ≡ true = step_count _ _ c.number_of_words-count.ensures few c.if-count-ne0.false in
     let from : trace_of c.args.traces c.in_ok-a.a.now ≡ Some c.in_ok-a-2.a = sym c.trace.ensures ∙ c.in_ok-a-2.ensures.ok_part in
-    let to : trace_of c.args.traces c.in_ok-b.b.now ≡ Some c.in_ok-b-2.b = sym c.trace-2.ensures ∙ c.in_ok-b-2.ensures.ok_part in
+    let to : trace_of c.args.traces c.in_ok-a.b.now ≡ Some c.in_ok-b.b = sym c.trace-2.ensures ∙ c.in_ok-b.ensures.ok_part in
     let is = read_is c.args.traces _ _ _ _ _ _ _ _ words fits from to in
     let at : is_some (field_of c.in_ok-at.at.now) ≡ true = sym c.is_field.ensures ∙ c.if-not-is_field.false in
     let source : is_some (operand_of c.in_ok-source.source.now) ≡ true = sym c.is_operand.ensures ∙ c.if-not-is_operand.false in
@@ -42,13 +42,13 @@ returns-in_err-steps c =
 
 pub returns-in_err-at-2 : goal.returns-in_err-at-2
 returns-in_err-at-2 c =
-    let words : words_of c.args.words ≡ c.in_ok-a.a.now ∷ c.in_ok-b.b.now ∷ c.in_ok-at.at.now ∷ c.in_ok-source.source.now ∷ words_of c.rest-rest.result.now =
-    four_words (rw c.in_ok-a.ensures.ok_part at c.next.ensures.some) (rw c.in_ok-b.ensures.ok_part at c.next-2.ensures.some) (rw c.in_ok-at.ensures.ok_part at c.next-3.ensures.some)
-    (rw c.in_ok-source.ensures.ok_part at c.next-4.ensures.some ∙ ap (λ (t : List ℕ). c.in_ok-source.source.now ∷ words_of t) (sym c.rest-rest.ensures)) in
+    let words : spelled (words_of c.args.words) ≡ c.in_ok-a.a.now ∷ c.in_ok-a.b.now ∷ c.in_ok-at.at.now ∷ c.in_ok-source.source.now ∷ words_of c.rest-rest.result.now =
+    four_words (rw c.in_ok-a.ensures.ok_part at c.range.ensures.some) (rw c.in_ok-at.ensures.ok_part at c.next.ensures.some)
+    (rw c.in_ok-source.ensures.ok_part at c.next-2.ensures.some ∙ ap (λ (t : List ℕ). c.in_ok-source.source.now ∷ words_of t) (sym c.rest-rest.ensures)) in
     let few : c.number_of_words-count.result < 17 = omega (arith, c.number_of_words-count.ensures, c.if-count-eq17.false) in
     let fits : is_step_count (length (words_of c.rest-rest.result.now)) ≡ true = step_count _ _ c.number_of_words-count.ensures few c.if-count-ne0.false in
     let from : trace_of c.args.traces c.in_ok-a.a.now ≡ Some c.in_ok-a-2.a = sym c.trace.ensures ∙ c.in_ok-a-2.ensures.ok_part in
-    let to : trace_of c.args.traces c.in_ok-b.b.now ≡ Some c.in_ok-b-2.b = sym c.trace-2.ensures ∙ c.in_ok-b-2.ensures.ok_part in
+    let to : trace_of c.args.traces c.in_ok-a.b.now ≡ Some c.in_ok-b.b = sym c.trace-2.ensures ∙ c.in_ok-b.ensures.ok_part in
     let is = read_is c.args.traces _ _ _ _ _ _ _ _ words fits from to in
     let at : is_some (field_of c.in_ok-at.at.now) ≡ true = sym c.is_field.ensures ∙ c.if-not-is_field.false in
     let source : is_some (operand_of c.in_ok-source.source.now) ≡ true = sym c.is_operand.ensures ∙ c.if-not-is_operand.false in
@@ -56,13 +56,13 @@ returns-in_err-at-2 c =
 
 pub returns-in_err-source-2 : goal.returns-in_err-source-2
 returns-in_err-source-2 c =
-    let words : words_of c.args.words ≡ c.in_ok-a.a.now ∷ c.in_ok-b.b.now ∷ c.in_ok-at.at.now ∷ c.in_ok-source.source.now ∷ words_of c.rest-rest.result.now =
-    four_words (rw c.in_ok-a.ensures.ok_part at c.next.ensures.some) (rw c.in_ok-b.ensures.ok_part at c.next-2.ensures.some) (rw c.in_ok-at.ensures.ok_part at c.next-3.ensures.some)
-    (rw c.in_ok-source.ensures.ok_part at c.next-4.ensures.some ∙ ap (λ (t : List ℕ). c.in_ok-source.source.now ∷ words_of t) (sym c.rest-rest.ensures)) in
+    let words : spelled (words_of c.args.words) ≡ c.in_ok-a.a.now ∷ c.in_ok-a.b.now ∷ c.in_ok-at.at.now ∷ c.in_ok-source.source.now ∷ words_of c.rest-rest.result.now =
+    four_words (rw c.in_ok-a.ensures.ok_part at c.range.ensures.some) (rw c.in_ok-at.ensures.ok_part at c.next.ensures.some)
+    (rw c.in_ok-source.ensures.ok_part at c.next-2.ensures.some ∙ ap (λ (t : List ℕ). c.in_ok-source.source.now ∷ words_of t) (sym c.rest-rest.ensures)) in
     let few : c.number_of_words-count.result < 17 = omega (arith, c.number_of_words-count.ensures, c.if-count-eq17.false) in
     let fits : is_step_count (length (words_of c.rest-rest.result.now)) ≡ true = step_count _ _ c.number_of_words-count.ensures few c.if-count-ne0.false in
     let from : trace_of c.args.traces c.in_ok-a.a.now ≡ Some c.in_ok-a-2.a = sym c.trace.ensures ∙ c.in_ok-a-2.ensures.ok_part in
-    let to : trace_of c.args.traces c.in_ok-b.b.now ≡ Some c.in_ok-b-2.b = sym c.trace-2.ensures ∙ c.in_ok-b-2.ensures.ok_part in
+    let to : trace_of c.args.traces c.in_ok-a.b.now ≡ Some c.in_ok-b.b = sym c.trace-2.ensures ∙ c.in_ok-b.ensures.ok_part in
     let is = read_is c.args.traces _ _ _ _ _ _ _ _ words fits from to in
     let at : is_some (field_of c.in_ok-at.at.now) ≡ true = sym c.is_field.ensures ∙ c.if-not-is_field.false in
     let source : is_some (operand_of c.in_ok-source.source.now) ≡ true = sym c.is_operand.ensures ∙ c.if-not-is_operand.false in
@@ -70,12 +70,12 @@ returns-in_err-source-2 c =
 
 pub returns : goal.returns
 returns c =
-    let words : words_of c.args.words ≡ c.in_ok-a.a.now ∷ c.in_ok-b.b.now ∷ c.in_ok-at.at.now ∷ c.in_ok-source.source.now ∷ words_of c.rest-rest.result.now =
-    four_words (rw c.in_ok-a.ensures.ok_part at c.next.ensures.some) (rw c.in_ok-b.ensures.ok_part at c.next-2.ensures.some) (rw c.in_ok-at.ensures.ok_part at c.next-3.ensures.some)
-    (rw c.in_ok-source.ensures.ok_part at c.next-4.ensures.some ∙ ap (λ (t : List ℕ). c.in_ok-source.source.now ∷ words_of t) (sym c.rest-rest.ensures)) in
+    let words : spelled (words_of c.args.words) ≡ c.in_ok-a.a.now ∷ c.in_ok-a.b.now ∷ c.in_ok-at.at.now ∷ c.in_ok-source.source.now ∷ words_of c.rest-rest.result.now =
+    four_words (rw c.in_ok-a.ensures.ok_part at c.range.ensures.some) (rw c.in_ok-at.ensures.ok_part at c.next.ensures.some)
+    (rw c.in_ok-source.ensures.ok_part at c.next-2.ensures.some ∙ ap (λ (t : List ℕ). c.in_ok-source.source.now ∷ words_of t) (sym c.rest-rest.ensures)) in
     let few : c.number_of_words-count.result < 17 = omega (arith, c.number_of_words-count.ensures, c.if-count-eq17.false) in
     let fits : is_step_count (length (words_of c.rest-rest.result.now)) ≡ true = step_count _ _ c.number_of_words-count.ensures few c.if-count-ne0.false in
     let from : trace_of c.args.traces c.in_ok-a.a.now ≡ Some c.in_ok-a-2.a = sym c.trace.ensures ∙ c.in_ok-a-2.ensures.ok_part in
-    let to : trace_of c.args.traces c.in_ok-b.b.now ≡ Some c.in_ok-b-2.b = sym c.trace-2.ensures ∙ c.in_ok-b-2.ensures.ok_part in
+    let to : trace_of c.args.traces c.in_ok-a.b.now ≡ Some c.in_ok-b.b = sym c.trace-2.ensures ∙ c.in_ok-b.ensures.ok_part in
     let is = read_is c.args.traces _ _ _ _ _ _ _ _ words fits from to in
     rw is (compute_ok _ _ _ _ _ c.in_ok-at-2.at c.in_ok-source-2.source c.in_ok-steps.steps c.in_ok-at-2.ensures c.in_ok-source-2.ensures c.in_ok-steps.ensures)

@@ -5,13 +5,14 @@ use mir.Val.{SFits}
 use Rattle.bench_rules.specs.declared.query.Query.TheVariants as queries
 use Rattle.script_words.specs.declared.command.Command.TheVariants.{Ask}
 use Rattle.script_words.specs.Words.{words_of}
+use Rattle.script_words.specs.Ranges.{spelled}
 use Rattle.script_words.specs.Numbers.{trace_of, number_of}
 use Rattle.script_words.proofs.ParseLemmas.{five_ok, five_err}
 use Rattle.script_words.proofs.header_commands.find.Goals as goal
 
 pub returns-in_err-at : goal.returns-in_err-at
 returns-in_err-at c =
-    let words : words_of c.args.words ≡ c.in_ok-a.a.now ∷ c.in_ok-a.b.now ∷ c.in_ok-a.at.now ∷ c.in_ok-a.low.now ∷ c.in_ok-a.high.now ∷ [] = rw c.in_ok-a.ensures.ok_part at c.five.ensures.some in
+    let words : spelled (words_of c.args.words) ≡ c.in_ok-a.a.now ∷ c.in_ok-a.b.now ∷ c.in_ok-a.at.now ∷ c.in_ok-a.low.now ∷ c.in_ok-a.high.now ∷ [] = rw c.in_ok-a.ensures.ok_part at c.range_and_three.ensures.some in
     let from : trace_of c.args.traces c.in_ok-a.a.now ≡ Some c.in_ok-a-2.a = sym c.trace.ensures ∙ c.in_ok-a-2.ensures.ok_part in
     let to : trace_of c.args.traces c.in_ok-a.b.now ≡ Some c.in_ok-b.b = sym c.trace-2.ensures ∙ c.in_ok-b.ensures.ok_part in
     let first : number_of c.in_ok-a.low.now ≡ Some c.in_ok-low.low = sym c.number.ensures ∙ c.in_ok-low.ensures.ok_part in
@@ -20,7 +21,7 @@ returns-in_err-at c =
 
 pub returns : goal.returns
 returns c =
-    let words : words_of c.args.words ≡ c.in_ok-a.a.now ∷ c.in_ok-a.b.now ∷ c.in_ok-a.at.now ∷ c.in_ok-a.low.now ∷ c.in_ok-a.high.now ∷ [] = rw c.in_ok-a.ensures.ok_part at c.five.ensures.some in
+    let words : spelled (words_of c.args.words) ≡ c.in_ok-a.a.now ∷ c.in_ok-a.b.now ∷ c.in_ok-a.at.now ∷ c.in_ok-a.low.now ∷ c.in_ok-a.high.now ∷ [] = rw c.in_ok-a.ensures.ok_part at c.range_and_three.ensures.some in
     let from : trace_of c.args.traces c.in_ok-a.a.now ≡ Some c.in_ok-a-2.a = sym c.trace.ensures ∙ c.in_ok-a-2.ensures.ok_part in
     let to : trace_of c.args.traces c.in_ok-a.b.now ≡ Some c.in_ok-b.b = sym c.trace-2.ensures ∙ c.in_ok-b.ensures.ok_part in
     let first : number_of c.in_ok-a.low.now ≡ Some c.in_ok-low.low = sym c.number.ensures ∙ c.in_ok-low.ensures.ok_part in

@@ -88,8 +88,12 @@ export function begin(text) {
 function kindAt(words, index) {
   if (index === 0) return "COMMAND";
   const command = store.words.commands.find((one) => one.word === words[0]);
-  const wanted = command ? command.usage.split(" ") : [];
-  const at = Math.min(index, wanted.length - 1);
+  const where = words.indexOf("where");
+  if (where > 1 && index > where) return (index - where) % 2 ? "FIELD" : "OP"; // A OP B and A OP B ..
+  const wanted = command ? command.usage.replace(/ \[[^\]]*where .*$/, "").split(" ") : [];
+  const single = wanted[2] === "[Q]" && index > 1 && !/^(\d+|last)$/.test(words[2]); // P alone, and what follows it
+  const shift = single || (words[1] === "all" && index > 1) ? 1 : 0; // `all` stands for P and Q
+  const at = Math.min(index + shift, wanted.length - 1);
   const kind = wanted[at] === ".." ? wanted[at - 1] : wanted[at];
   return kind === "FIELD" && /^(get)?bin$/.test(words[0]) ? "BINARY" : kind;
 }

@@ -1,59 +1,95 @@
-// The panel beside the map: faults, numbers, texts, edits.
+// The panel beside the map: problems, numbers, texts, edits.
 
 import { ask } from "./api.js";
 import { at, fill, make, many, tabs } from "./dom.js";
-import { runScript } from "./command.js";
+import { begin, runScript } from "./command.js";
 import { part, store } from "./store.js";
 import { goTo } from "./table.js";
 
-const PANELS = [["faults", "Faults"], ["numbers", "Numbers"], ["text", "Text"], ["edits", "Edits"]];
-let chosen = "faults";
-let counts = { version: 0, now: null, before: null };
+const PANELS = [["problems", "Problems"], ["numbers", "Numbers"], ["text", "Text"], ["edits", "Edits"]];
+let chosen = "problems";
+let found = { version: 0, now: null, before: null };
+let looked = -1;
 let open = null;
 let block = 0;
 let texts = { version: 0, lines: null, before: null };
 
-const shows = { faults, numbers, text, edits };
+const shows = { problems, numbers, text, edits };
 
 async function show() {
   await shows[chosen]();
 }
 
-// ---- faults
+// ---- problems
 
-async function faults() {
-  const got = await ask("faults");
-  const now = Object.fromEntries(got.counts.map((one) => [one.code, one.count]));
-  if (got.version !== counts.version) counts = { version: got.version, now, before: counts.now };
-  const codes = [...new Set([...Object.keys(now), ...Object.keys(counts.before || {})])].sort();
-  const rows = codes.map((code) => faultRow(code, now[code] || 0));
-  const whole = Object.values(now).reduce((sum, one) => sum + one, 0);
-  if (chosen !== "faults") return;
-  at("tab-faults").textContent = `Faults ${whole.toLocaleString("en")}`;
-  fill(at("panel"), make("p", { id: "faults-said" }, whole ? `${many(whole, "fault")} in the headers. Not every one is an error.` : "No faults in the headers. The survey can still be wrong."),
-    codes.length ? make("table", {}, make("tbody", {}, ...rows)) : null, make("div", { id: "fault-window" }));
-  if (open && now[open]) await faultWindow(open, 0);
+async function problems() {
+  const { version, costly, traces } = store.state || await ask("state");
+  if (costly && looked !== version) return offerLook(version, traces);
+  const got = await ask("problems").catch((error) => error);
+  if (got.refused) return notTold(got.message); // the file could not be read again, or is another now
+  if (got instanceof Error) throw got;
+  const now = Object.fromEntries(got.problems.map((one) => [one.code, one]));
+  if (got.version !== found.version) found = { version: got.version, now, before: found.now };
+  const codes = Object.keys(store.words.problems).filter((code) => now[code] || (found.before || {})[code]);
+  const count = got.problems.length;
+  if (chosen !== "problems") return;
+  at("tab-problems").textContent = `Problems ${count}`;
+  fill(at("panel"), make("p", { id: "problems-said" }, count ? `${many(count, "problem")}. Not every one is an error.` : "No problems found. The survey can still be wrong."),
+    codes.length ? make("table", {}, make("tbody", {}, ...codes.map((code) => problemRow(code, now[code])))) : null, make("div", { id: "problem-window" }));
+  if (open && now[open]) await problemWindow(now[open]);
 }
 
-function faultRow(code, count) {
-  const before = counts.before ? counts.before[code] || 0 : count;
-  const told = store.words.faults[code];
-  return make("tr", { class: before !== count ? "mark" : "" },
-    make("td", {}, make("button", { class: "link", type: "button", "aria-label": `show the faults ${code}`, on: { click: () => { open = code; faultWindow(code, 0); } } }, code)),
+function notTold(why) {
+  if (chosen !== "problems") return;
+  at("tab-problems").textContent = "Problems";
+  fill(at("panel"), make("p", { id: "problems-said" }, `Not told: ${why}`));
+}
+
+// Where there are so many traces that a look at each of them takes long, it is taken when it is asked for.
+function offerLook(version, traces) {
+  if (chosen !== "problems") return;
+  at("tab-problems").textContent = "Problems";
+  fill(at("panel"), make("p", { id: "problems-said" }, `To find what is wrong or doubtful, each of ${many(traces, "trace")} is looked at.`),
+    make("button", { type: "button", id: "look", on: { click: () => { looked = version; show().catch((error) => fill(at("panel"), error.message)); } } }, "Look for problems"));
+}
+
+const told = (one) => (one ? one.count : 0);
+const leads = (run) => (run.trace ? make("button", { class: "link", type: "button", on: { click: () => goTo(run.trace) } }, run.text) : run.text);
+
+// A group: how many have it, what it means, where it begins, and a line for the command line.
+function problemRow(code, one) {
+  const before = found.before ? told(found.before[code]) : told(one);
+  const { meaning, do: mend } = store.words.problems[code];
+  const count = told(one);
+  const name = one ? make("button", { class: "link", type: "button", "aria-label": `show where ${code} is`, on: { click: () => { open = code; problemWindow(one); } } }, code) : code;
+  return make("tr", { class: before !== count ? "mark" : "" }, make("td", {}, name),
     make("td", { class: "count" }, count.toLocaleString("en"), before !== count ? make("span", { class: "was" }, `was ${before.toLocaleString("en")}`) : null),
-    make("td", {}, told.when, make("span", { class: "was" }, `To mend: ${told.do}`)));
+    make("td", {}, meaning, ...(one ? where(one) : []), mend ? make("span", { class: "was" }, `To mend: ${mend}`) : null,
+      one && one.line ? make("button", { class: "link line", type: "button", "aria-label": `put a line for ${code} into the command line`, on: { click: () => begin(one.line) } }, one.line) : null));
 }
 
-async function faultWindow(code, skip) {
-  const got = await ask("fault", { code, skip });
+function where(one) {
+  const more = one.runs > 1 ? ` and ${(one.runs - 1).toLocaleString("en")} more` : "";
+  return [one.facts ? make("span", { class: "was" }, one.facts) : null, one.first.length ? make("span", { class: "was" }, leads(one.first[0]), more) : null];
+}
+
+// The first runs of a group, and below them each fault of its code.
+async function problemWindow(one) {
+  const more = one.runs - one.first.length;
+  const said = one.runs ? `${one.code}: ${many(one.runs, "run")}` : `${one.code}: ${one.facts || one.meaning}`;
+  fill(at("problem-window"), make("p", {}, said), make("ul", { class: "lines" }, ...one.first.map((run) => make("li", {}, leads(run)))),
+    more > 0 ? make("p", {}, `.. and ${more.toLocaleString("en")} more runs`) : null, make("div", { id: "fault-window" }));
+  if (one.single) await faultWindow(one, 0);
+}
+
+async function faultWindow(one, skip) {
+  const got = await ask("fault", { code: one.code, skip });
   const room = at("fault-window");
   if (!room) return;
-  const whole = counts.now[code] || 0;
-  const items = got.faults.map((one) => make("li", {}, one.trace
-    ? make("button", { class: "link", type: "button", on: { click: () => goTo(one.trace) } }, one.text) : one.text,
-  one.first ? make("span", {}, "  ", make("button", { class: "link", type: "button", on: { click: () => goTo(one.first) } }, `to trace ${one.first}`)) : null));
-  const step = (by, text) => make("button", { type: "button", disabled: skip + by < 0 || skip + by >= whole, on: { click: () => faultWindow(code, skip + by) } }, text);
-  fill(room, make("p", {}, `${code}: ${skip + 1} to ${skip + got.faults.length} of ${whole.toLocaleString("en")} `, whole > 100 ? step(-100, "◀") : null, whole > 100 ? step(100, "▶") : null),
+  const items = got.faults.map((fault) => make("li", {}, fault.trace ? leads(fault) : fault.text,
+    fault.first ? make("span", {}, "  ", leads({ trace: fault.first, text: `to trace ${fault.first}` })) : null));
+  const step = (by, text) => make("button", { type: "button", disabled: skip + by < 0 || skip + by >= one.count, on: { click: () => faultWindow(one, skip + by) } }, text);
+  fill(room, make("p", {}, `Each of them: ${skip + 1} to ${skip + got.faults.length} of ${one.count.toLocaleString("en")} `, one.count > 100 ? step(-100, "◀") : null, one.count > 100 ? step(100, "▶") : null),
     make("ul", { class: "lines" }, ...items));
 }
 

@@ -36,4 +36,4 @@ returns-clause-kept c =
 pub returns-in_err-moved-clause-step : goal.returns-in_err-moved-clause-step
 returns-in_err-moved-clause-step c =
     rw (← c.self.view_is)
-    (λ sure. refused_too Bool (Unit {0}) c.self.inside.volume.state c.change.new.volume.state c.args.edit.now c.in_err-moved.field-0.0 c.from_residual.result c.from_residual.ensures.1 (c.in_err-moved.ensures.step sure))
+    (λ sure. refused_too _ _ c.self.inside.volume.state c.change.new.volume.state c.args.edit.now c.in_err-moved.field-0.0 c.from_residual.result c.from_residual.ensures.1 (c.in_err-moved.ensures.step sure))

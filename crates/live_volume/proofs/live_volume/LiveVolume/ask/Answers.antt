@@ -81,6 +81,18 @@ returns-in-Faults-clause-reply c = λ sure.
     subst (λ (fs : List Facts). Same (tally_of_faults c.triples.result.now) (tally_of keys_of_faults fs)) records (c.triples.ensures (records_in c.self.inside) c.self.invariant.reports) in
     subst (λ (q : Query). IsReply c.args.self.now.state q c.faults_answer.result) (sym c.in-Faults.is) (c.faults_answer.ensures c.args.self.now.state (sym (ap (λ (t : Session). t.state.volume) c.self.view_is)) records counted)
 
+pub returns-in-Problems-clause-reply : goal.returns-in-Problems-clause-reply
+returns-in-Problems-clause-reply c = λ sure.
+    let before : IsTrue c.self.inside.overlay.agreed = c.problems_answer.ensures.seen.agreed sure in
+    let records : AreRecordsOf c.args.self.now.state (records_in c.self.inside) = rw (← c.self.view_is) (c.self.invariant.records before) in
+    subst (λ (q : Query). IsReply c.args.self.now.state q c.problems_answer.result) (sym c.in-Problems.is) (c.problems_answer.ensures.reply c.args.self.now.state (sym (ap (λ (t : Session). t.state.volume) c.self.view_is)) (sym (ap (λ (t : Session). t.state.on_disk) c.self.view_is)) sure records)
+
+pub invariant_of-self-in-Problems : goal.invariant_of-self-in-Problems
+invariant_of-self-in-Problems c = held_again c.self.inside c.problems_answer.new.overlay _ c.problems_answer.ensures.seen c.self.invariant
+
+pub returns-in-Problems-clause-unchanged : goal.returns-in-Problems-clause-unchanged
+returns-in-Problems-clause-unchanged c = rw (← c.self.view_is) (looked_at c.self.inside c.problems_answer.new.overlay _ c.problems_answer.ensures.seen).state
+
 pub returns-in-Slice-clause-reply : goal.returns-in-Slice-clause-reply
 returns-in-Slice-clause-reply c = λ sure.
     let before : IsTrue c.self.inside.overlay.agreed = c.slice_answer.ensures.seen.agreed sure in

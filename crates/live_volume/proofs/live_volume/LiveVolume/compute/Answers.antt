@@ -6,6 +6,8 @@ use Rattle.bench_rules.specs.State.{State}
 use Rattle.bench_rules.specs.Steps.{IsAfter}
 use Rattle.bench_rules.proofs.FirstLemmas.{AreTraces}
 use Rattle.bench_rules.proofs.HeaderEditLemmas.{after_cut}
+use Rattle.frame_cut.specs.Traces.{count_of}
+use Rattle.live_volume.proofs.ChosenLemmas.{counted_either}
 use Rattle.live_volume.proofs.ComputedLemmas.{Lays, compute_told, computed_looks, computed_twice, in_range, lays}
 use Rattle.live_volume.proofs.HeldLemmas.{on_ok, read_as_either, read_as_through, stepped, under}
 use Rattle.live_volume.proofs.RoomLemmas.{ArePartsOf, each_inside, parts_of}
@@ -101,3 +103,8 @@ pub returns-clause-looks : goal.returns-clause-looks
 returns-clause-looks c =
     computed_twice c.args.self.now.state c.args.a c.args.b c.args.field.now c.args.source.now c.args.steps.now c.in-Some-place_in_trace.place c.args.self.now.looks c.computed.new.self.looks c.put_each.new.self.looks
     (range c.before.before) (sym c.in-Some-place_in_trace.is ∙ c.place_in_trace.ensures) c.in-Ok.ensures.looked c.computed.ensures.seen.looks c.put_each.ensures.looks
+
+pub returns-clause-count : goal.returns-clause-count
+returns-clause-count c =
+    counted_either c.put_each.result _ _ _ c.args.a c.from-at.result c.from.result c.as_slice.result.now c.put_each.ensures.ok c.put_each.ensures.err
+    ∙ ap (λ (s : State). count_of s.volume) c.computed.ensures.seen.state

@@ -13,6 +13,7 @@ use Rattle.bench_rules.proofs.HeaderEditLemmas.{after_cut}
 use Rattle.bench_rules.proofs.ManyValueLemmas.{ValuesFitIn}
 use Rattle.bench_rules.proofs.RenumberLemmas.{renumber_fits, renumber_done}
 use Rattle.live_volume.specs.Held.{state_of}
+use Rattle.live_volume.proofs.ChosenLemmas.{counted_either}
 use Rattle.live_volume.proofs.HeldLemmas.{on_ok, read_as_either}
 use Rattle.live_volume.proofs.RoomLemmas.{ArePartsOf, each_inside, length-counted, parts_of}
 use Rattle.live_volume.proofs.live_volume.LiveVolume.count_up.Goals as goal
@@ -106,3 +107,7 @@ returns-clause-ok c =
 
 pub returns-clause-same : goal.returns-clause-same
 returns-clause-same c = read_as_either _ c.put_each.result _ _ _ c.put_each.ensures.ok c.put_each.ensures.err
+
+pub returns-clause-count : goal.returns-clause-count
+returns-clause-count c =
+    counted_either c.put_each.result _ _ _ c.args.a c.from-at.result c.from.result c.as_slice.result.now c.put_each.ensures.ok c.put_each.ensures.err

@@ -1,0 +1,29 @@
+use crate::field::Field;
+use crate::items::Items;
+use crate::operand::Operand;
+use crate::operator::Operator;
+
+/// An edit of chosen traces.
+#[derive(Drop)]
+pub enum ChosenEdit {
+    /// Nothing is done to them. Refused: E02 where one of these fields has no place.
+    Nothing(Items<Field>),
+    /// The field of each of them counted up from the first value by the step, in their order.
+    /// Refused: E02, then the first refusal of the lowest trace whose value is refused, each judged
+    /// in the file as it was: E03, E04, E06.
+    Renumber {
+        field: Field,
+        first_value: i128,
+        step: i128,
+    },
+    /// The field of each of them from the source by the steps, strictly one after another, on whole
+    /// numbers of that trace as it was. Refused: E02 where a field has no place, then the first
+    /// refusal of the lowest trace that has one: E03, E13 or E04, E06.
+    Compute {
+        field: Field,
+        source: Operand,
+        steps: Items<(Operator, Operand)>,
+    },
+    /// All of them out.
+    Delete,
+}

@@ -1,0 +1,5 @@
+pub mod GatheredLemmas
+pub mod FrontLemmas
+pub mod ComputedFrontLemmas
+mod ChoosingLemmas
+mod ToldLemmas

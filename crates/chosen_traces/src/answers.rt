@@ -1,0 +1,148 @@
+// The answers to queries about the traces that conditions choose.
+ghost use Rattle.std.specs.Prelude.{◌≡◌, ◌⊎◌, ◌+◌, ◌<◌, None, Ok, Err, IsTrue, IfOk, IfErr, length};
+ghost use Rattle.frame_cut.specs.Traces.{count_of};
+ghost use Rattle.edit_overlay.specs.CountedVolume.{IsSeen, RisesAtMost};
+ghost use Rattle.bench_rules.specs.declared.ask_fault.AskFault.TheVariants.{OutOfMemory as no_memory};
+ghost use Rattle.bench_rules.specs.declared.query.Query.TheVariants as queries;
+ghost use Rattle.bench_rules.specs.Answer.{IsReply, Reply};
+ghost use Rattle.bench_rules.specs.ChosenQueries.{answer_of_each, asks_for_fields as asks_for_fields_of, found_answer_of_each, of_range};
+ghost use Rattle.bench_rules.specs.Conditions.{AreRising};
+ghost use Rattle.bench_rules.specs.Looks.{asking_looks, chosen_query_looks, most_query_looks};
+ghost use Rattle.bench_rules.specs.Places.{place_in_trace as place_of_field};
+ghost use Rattle.bench_rules.specs.RangeFaults.{or_fault};
+ghost use Rattle.bench_rules.specs.RangeRefusals.{range_refusal};
+ghost use Rattle.bench_rules.specs.ReadFaults.{IsReadFault};
+ghost use Rattle.bench_rules.specs.State.{State};
+
+use crate::choosing::choose;
+use bench_rules::{Answer, AskFault, Chosen, ChosenQuery, Field, place_in_trace, range_fault};
+use edit_overlay::Overlay;
+use field_map::FieldMap;
+use header_answers::{extremes_among, found_among, named_places};
+use many_traces::{have_places, table_among};
+use std::alloc::Global;
+use trace_record::PackedRecord;
+
+/// What is asked of the traces that are chosen. Looks once at each trace of the range, where there
+/// is a condition, to choose them, and then once at most at each of them; at none where the range
+/// is refused or a field has no place. Takes memory. Refused: E01, else E02, E03, and E11 in the
+/// place of any of these. On disk also where a trace could not be read (E14, E15).
+pub fn chosen_answer(
+    alloc: Global,
+    overlay: &mut Overlay<PackedRecord>,
+    map: &FieldMap,
+    chosen: &Chosen,
+    query: &ChosenQuery,
+) -> Result<Answer, AskFault>
+    ensures reply { (s : State) → s.volume ≡ overlay.old.volume → s.fields ≡ map.now.pairs →
+        s.on_disk ≡ overlay.old.loaded.on_disk → IsTrue overlay.new.agreed →
+        IsReply s (queries.OfChosen chosen.now query.now) result }
+
+    // Where the reads do not agree, others may have been chosen, but none that is not of the range.
+    ensures seen { IsSeen overlay.old overlay.new
+        (most_query_looks overlay.old.volume map.now.pairs chosen.now query.now) }
+    ensures looks { IsTrue overlay.new.agreed → RisesAtMost overlay.old.looks overlay.new.looks
+        (chosen_query_looks overlay.old.volume map.now.pairs chosen.now query.now) }
+{
+    if let Some(fault) = fault_of_range(overlay, chosen) {
+        return Err(fault);
+    }
+    if !asks_for_fields(map, query) {
+        return Err(AskFault::NoField);
+    }
+    let traces = match choose(alloc, overlay, map, chosen) {
+        Ok(traces) => traces,
+        Err(fault) => return Err(fault),
+    };
+    told(alloc, overlay, map, traces, query)
+}
+
+// The first fault of the range, where there is one.
+fn fault_of_range(overlay: &Overlay<PackedRecord>, chosen: &Chosen) -> Option<AskFault>
+    ensures told { (reply : Reply) → of_range overlay.now.volume chosen.now.traces reply
+        ≡ or_fault result reply }
+    ensures free { result ≡ None → range_refusal overlay.now.volume chosen.now.traces ≡ None }
+{
+    match chosen.traces {
+        Some((first, last)) => range_fault(overlay, first, last),
+        None => None,
+    }
+}
+
+// Whether each field of the query has a place.
+fn asks_for_fields(map: &FieldMap, query: &ChosenQuery) -> bool
+    ensures { result ≡ asks_for_fields_of map.now.pairs query.now }
+{
+    match query {
+        ChosenQuery::Count | ChosenQuery::Extremes => true,
+        ChosenQuery::Table(fields) => have_places(map, fields.as_slice()),
+        ChosenQuery::Find(field, _low, _high) => place_in_trace(map, field).is_some(),
+    }
+}
+
+// What is asked of these traces, which rise.
+fn told(
+    alloc: Global,
+    overlay: &mut Overlay<PackedRecord>,
+    map: &FieldMap,
+    traces: Vec<u32>,
+    query: &ChosenQuery,
+) -> Result<Answer, AskFault>
+    requires { AreRising 1 (count_of overlay.old.volume) traces.items }
+    ensures ok { IfOk result (λ answer. IsTrue overlay.new.agreed → answer_of_each
+        overlay.old.volume map.now.pairs query.now traces.items ≡ Ok answer) }
+    ensures err { IfErr result (λ fault. (fault ≡ no_memory) ⊎
+        (IsReadFault overlay.old.loaded.on_disk fault
+        × (0 < asking_looks query.now (length traces.items))) ⊎
+        (IsTrue overlay.new.agreed → answer_of_each overlay.old.volume map.now.pairs query.now
+        traces.items ≡ Err fault)) }
+    ensures seen { IsSeen overlay.old overlay.new (asking_looks query.now (length traces.items)) }
+{
+    match query {
+        ChosenQuery::Count => {
+            // Read for the proof alone: they are no more than there are traces, which a `u32`
+            // counts.
+            let _count = overlay.count();
+            Ok(Answer::Chosen(traces.len() as u32))
+        }
+        ChosenQuery::Table(fields) => {
+            let rows = table_among(alloc, overlay, map, traces, fields.as_slice())?;
+            Ok(Answer::Table(rows))
+        }
+        ChosenQuery::Find(field, low, high) => {
+            found(alloc, overlay, map, traces.as_slice(), field, *low, *high)
+        }
+        ChosenQuery::Extremes => {
+            let names = named_places(alloc, map)?;
+            let extremes = extremes_among(alloc, overlay, traces.as_slice(), names)?;
+            Ok(Answer::Extremes(extremes))
+        }
+    }
+}
+
+// Those of these traces whose field has a number from low to high: E02 where it has no place.
+fn found(
+    alloc: Global,
+    overlay: &mut Overlay<PackedRecord>,
+    map: &FieldMap,
+    traces: &[u32],
+    field: &Field,
+    low: i128,
+    high: i128,
+) -> Result<Answer, AskFault>
+    requires { AreRising 1 (count_of overlay.old.volume) traces.now }
+    ensures ok { IfOk result (λ answer. IsTrue overlay.new.agreed → found_answer_of_each
+        overlay.old.volume traces.now low high (place_of_field map.now.pairs field.now)
+        ≡ Ok answer) }
+    ensures err { IfErr result (λ fault. (fault ≡ no_memory) ⊎
+        (IsReadFault overlay.old.loaded.on_disk fault × (0 < length traces.now)) ⊎
+        (IsTrue overlay.new.agreed → found_answer_of_each overlay.old.volume traces.now low high
+        (place_of_field map.now.pairs field.now) ≡ Err fault)) }
+    ensures seen { IsSeen overlay.old overlay.new (length traces.now) }
+{
+    let Some(place) = place_in_trace(map, field) else {
+        return Err(AskFault::NoField);
+    };
+    let found = found_among(alloc, overlay, place, low, high, traces)?;
+    Ok(Answer::Found(found))
+}

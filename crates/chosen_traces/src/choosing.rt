@@ -1,0 +1,142 @@
+// The list of the traces that conditions choose.
+ghost use Rattle.std.specs.Prelude.{◌≡◌, ◌⊎◌, ◌+◌, ◌-◌, ◌<◌, ◌≤◌, [], ◌∷◌, ◌++◌, length, None, Some, IsTrue, IfOk, IfErr, OnOk, if◌then◌else◌};
+ghost use Rattle.std.specs.List.{range_with_len};
+ghost use Rattle.frame_cut.specs.Traces.{count_of, is_trace, trace_at};
+ghost use Rattle.edit_overlay.specs.CountedVolume.{IsSeen};
+ghost use Rattle.bench_rules.specs.declared.ask_fault.AskFault.TheVariants.{NoField as no_field, NoPlace as no_place, OutOfMemory as no_memory};
+ghost use Rattle.bench_rules.specs.Conditions.{chosen as chosen_traces, chosen_among, meets, tests_of as tests_of_conditions, AreRising};
+ghost use Rattle.bench_rules.specs.Looks.{choosing_looks, most_chosen};
+ghost use Rattle.bench_rules.specs.RangeRefusals.{range_refusal};
+ghost use Rattle.bench_rules.specs.ReadFaults.{IsReadFault};
+ghost use Rattle.chosen_traces.specs.Choosing.{choosing_fault};
+
+use bench_rules::{AskFault, Chosen, Condition, Test, meets_all, test_of};
+use edit_overlay::{Overlay, ReadFault};
+use field_map::FieldMap;
+use std::alloc::{AllocError, Global};
+use trace_record::PackedRecord;
+
+/// The traces of the range that meet all conditions, in order. Looks once at each trace of the
+/// range, where there is a condition and their fields have places. Takes memory. Refused: E02 where
+/// a field has no place, E03 where a trace lacks one; E11 may come in the place of either. On disk
+/// also where a trace could not be read (E14, E15).
+pub fn choose(
+    alloc: Global,
+    overlay: &mut Overlay<PackedRecord>,
+    map: &FieldMap,
+    chosen: &Chosen,
+) -> Result<Vec<u32>, AskFault>
+    requires { range_refusal overlay.old.volume chosen.now.traces ≡ None }
+    ensures ok { IfOk result (λ traces. IsTrue overlay.new.agreed →
+        chosen_traces overlay.old.volume map.now.pairs chosen.now ≡ Some traces.items) }
+    ensures rising { IfOk result (λ traces. AreRising 1 (count_of overlay.old.volume)
+        traces.items) }
+    ensures few { IfOk result (λ traces. length traces.items ≤ most_chosen overlay.old.volume
+        map.now.pairs chosen.now) }
+    ensures err { IfErr result (λ fault. (fault ≡ no_memory) ⊎
+        (IsReadFault overlay.old.loaded.on_disk fault
+        × (0 < choosing_looks overlay.old.volume map.now.pairs chosen.now)) ⊎
+        (IsTrue overlay.new.agreed →
+        choosing_fault overlay.old.volume map.now.pairs chosen.now ≡ Some fault)) }
+    ensures seen { IsSeen overlay.old overlay.new
+        (choosing_looks overlay.old.volume map.now.pairs chosen.now) }
+{
+    let tests = tests_of(alloc, map, chosen.conditions.as_slice())?;
+    let Some((first, last)) = chosen.traces else {
+        return Ok(Vec::new(alloc));
+    };
+    if tests.len() == 0 {
+        return Ok(all(alloc, first, last)?);
+    }
+    chosen_from(alloc, overlay, first, last, tests.as_slice())
+}
+
+// The conditions with the places of their fields: E02 where one has none.
+fn tests_of(alloc: Global, map: &FieldMap, conditions: &[Condition]) -> Result<Vec<Test>, AskFault>
+    ensures ok { IfOk result (λ tests. tests_of_conditions map.now.pairs conditions.now
+        ≡ Some tests.items) }
+    ensures err { IfErr result (λ fault. (fault ≡ no_memory) ⊎ ((fault ≡ no_field) ×
+        (tests_of_conditions map.now.pairs conditions.now ≡ None))) }
+{
+    let mut tests = Vec::with_capacity(alloc, conditions.len())?;
+    for condition in conditions {
+        let Some(test) = test_of(map, condition) else {
+            return Err(AskFault::NoField);
+        };
+        tests.push(test)?;
+    }
+    Ok(tests)
+}
+
+// All traces from one to another.
+fn all(alloc: Global, first: u32, last: u32) -> Result<Vec<u32>, AllocError>
+    requires { first ≤ last }
+    ensures { IfOk result (λ traces. traces.items ≡ range_with_len first (last + 1 - first)) }
+{
+    let count = last - first;
+    let mut traces = Vec::with_capacity(alloc, count as usize + 1)?;
+    for k in 0..count {
+        traces.push(first + k)?;
+    }
+    traces.push(last)?;
+    Ok(traces)
+}
+
+// Those of traces a to b that meet all conditions: E03 where one of the traces lacks a place.
+fn chosen_from(
+    alloc: Global,
+    overlay: &mut Overlay<PackedRecord>,
+    a: u32,
+    b: u32,
+    tests: &[Test],
+) -> Result<Vec<u32>, AskFault>
+    requires first { 1 ≤ a }
+    requires range { a ≤ b }
+    requires last { b ≤ count_of overlay.old.volume }
+    ensures ok { IfOk result (λ traces. IsTrue overlay.new.agreed → chosen_among
+        overlay.old.volume tests.now (range_with_len a (b + 1 - a)) ≡ Some traces.items) }
+    ensures rising { IfOk result (λ traces. AreRising a b traces.items) }
+    ensures err { IfErr result (λ fault. (fault ≡ no_memory) ⊎
+        IsReadFault overlay.old.loaded.on_disk fault ⊎
+        ((fault ≡ no_place) × (IsTrue overlay.new.agreed → chosen_among overlay.old.volume
+        tests.now (range_with_len a (b + 1 - a)) ≡ None))) }
+    ensures seen { IsSeen overlay.old overlay.new (b + 1 - a) }
+{
+    let mut traces = Vec::new(alloc);
+    for k in 0..b - a + 1 {
+        let Some(is_chosen) = judged(overlay, a + k, tests)? else {
+            return Err(AskFault::NoPlace);
+        };
+        keep(&mut traces, a + k, is_chosen)?;
+    }
+    Ok(traces)
+}
+
+// Puts the trace behind others, where it is chosen.
+fn keep(traces: &mut Vec<u32>, p: u32, is_chosen: bool) -> Result<(), AllocError>
+    ensures { OnOk result (traces.new.items ≡ (if is_chosen then traces.old.items ++ p ∷ []
+        else traces.old.items)) }
+{
+    if is_chosen {
+        traces.push(p)?;
+    }
+    Ok(())
+}
+
+// Whether trace p meets all conditions, in one look; `None` where it lacks a place.
+fn judged(
+    overlay: &mut Overlay<PackedRecord>,
+    p: u32,
+    tests: &[Test],
+) -> Result<Option<bool>, ReadFault>
+    requires { IsTrue (is_trace overlay.old.volume p) }
+    ensures told { IfOk result (λ told. IsTrue overlay.new.agreed → told ≡ meets
+        overlay.old.volume.head (trace_at overlay.old.volume p) tests.now) }
+    ensures seen { IsSeen overlay.old overlay.new 1 }
+    ensures read { IfErr result (λ _. IsTrue overlay.old.loaded.on_disk) }
+{
+    let Some(trace) = overlay.look(p)? else {
+        unreachable!()
+    };
+    Ok(meets_all(&trace, tests))
+}

@@ -1,0 +1,53 @@
+ghost use Rattle.std.specs.Prelude.{◌≡◌, ◌∷◌, IfOk};
+ghost use Rattle.std.specs.List.Sorted.{IsSorted};
+ghost use Rattle.std.specs.Ordering.{int_cmp};
+ghost use Rattle.common_numbers.specs.Commonest.{IsCommonest, commonest as commonest_of};
+
+use std::alloc::{AllocError, Global};
+
+// A number with how often it stands in a list.
+#[derive(Clone, Copy)]
+struct Run {
+    number: i64,
+    times: usize,
+}
+
+/// The number that stands most often in the list, and of several the least; nothing of an empty
+/// list. Takes 8 bytes a number, for a copy that it sorts, and is refused only where those are.
+pub fn commonest(alloc: Global, numbers: &[i64]) -> Result<Option<i64>, AllocError>
+    ensures { IfOk result (λ c. c ≡ commonest_of numbers.now) }
+{
+    let mut rising = Vec::new(alloc);
+    rising.extend_from_slice(numbers)?;
+    rising.sort_unstable();
+    let Some((first, others)) = rising.split_first() else {
+        return Ok(None);
+    };
+    Ok(Some(longest_run(first, others)))
+}
+
+// The number whose run is longest, of several the least, where the numbers rise.
+fn longest_run(first: &i64, others: &[i64]) -> i64
+    requires { IsSorted int_cmp (first.now ∷ others.now) }
+    ensures { IsCommonest (first.now ∷ others.now) result }
+{
+    let mut last = Run {
+        number: *first,
+        times: 1,
+    };
+    let mut longest = last;
+    for number in others {
+        if *number == last.number {
+            last.times += 1;
+        } else {
+            last = Run {
+                number: *number,
+                times: 1,
+            };
+        }
+        if longest.times < last.times {
+            longest = last;
+        }
+    }
+    longest.number
+}

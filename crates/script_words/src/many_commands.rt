@@ -1,0 +1,95 @@
+// The commands that set a field of many traces, delete them or count them: `all` stands for the two
+// words of their range.
+ghost use Rattle.std.specs.Prelude.{◌≡◌};
+ghost use Rattle.script_words.specs.Words.{words_of};
+ghost use Rattle.script_words.specs.Ranges.{spelled};
+ghost use Rattle.script_words.specs.RangeCommands.{read_set_one, read_set_each, read_renumber, read_delete_one, read_delete_each, read_count_each};
+ghost use Rattle.script_words.specs.Commands.{IsRead};
+
+use crate::command::Command;
+use crate::fields::field;
+use crate::line_fault::LineFault;
+use crate::numbers::{number, trace};
+use crate::parse::{one, range_alone, range_and_three, range_and_two, three};
+use crate::words::Words;
+use bench_rules::{Chosen, ChosenEdit, ChosenQuery, Edit, Items, Query};
+use std::alloc::Global;
+
+pub(crate) fn set_one(alloc: Global, traces: u32, words: Words) -> Result<Command, LineFault>
+    ensures { IsRead (read_set_one traces (words_of words.entry)) result }
+{
+    let (p, at, value) = three(words).ok_or(LineFault::Words)?;
+    let p = trace(traces, p).ok_or(LineFault::Number)?;
+    let value = number(value).ok_or(LineFault::Number)?;
+    let at = field(alloc, at)?;
+    Ok(Command::Apply(Edit::Set(p, at, value)))
+}
+
+pub(crate) fn renumber(alloc: Global, traces: u32, words: Words) -> Result<Command, LineFault>
+    ensures { IsRead (read_renumber traces (spelled (words_of words.entry))) result }
+{
+    let (a, b, at, first, step) = range_and_three(words).ok_or(LineFault::Words)?;
+    let a = trace(traces, a).ok_or(LineFault::Number)?;
+    let b = trace(traces, b).ok_or(LineFault::Number)?;
+    let first = number(first).ok_or(LineFault::Number)?;
+    let step = number(step).ok_or(LineFault::Number)?;
+    let at = field(alloc, at)?;
+    Ok(Command::Apply(Edit::Renumber {
+        first_trace: a,
+        last_trace: b,
+        field: at,
+        first_value: first,
+        step,
+    }))
+}
+
+pub(crate) fn set_each(alloc: Global, traces: u32, words: Words) -> Result<Command, LineFault>
+    ensures { IsRead (read_set_each traces (spelled (words_of words.entry))) result }
+{
+    let (a, b, at, value) = range_and_two(words).ok_or(LineFault::Words)?;
+    let a = trace(traces, a).ok_or(LineFault::Number)?;
+    let b = trace(traces, b).ok_or(LineFault::Number)?;
+    let value = number(value).ok_or(LineFault::Number)?;
+    let at = field(alloc, at)?;
+    Ok(Command::Apply(Edit::Renumber {
+        first_trace: a,
+        last_trace: b,
+        field: at,
+        first_value: value,
+        step: 0,
+    }))
+}
+
+pub(crate) fn delete_one(traces: u32, words: Words) -> Result<Command, LineFault>
+    ensures { result ≡ read_delete_one traces (words_of words.entry) }
+{
+    let p = one(words).ok_or(LineFault::Words)?;
+    let p = trace(traces, p).ok_or(LineFault::Number)?;
+    Ok(Command::Apply(Edit::Delete(p)))
+}
+
+pub(crate) fn delete_each(alloc: Global, traces: u32, words: Words) -> Result<Command, LineFault>
+    ensures { result ≡ read_delete_each traces (spelled (words_of words.entry)) }
+{
+    let (a, b) = range_alone(words).ok_or(LineFault::Words)?;
+    let a = trace(traces, a).ok_or(LineFault::Number)?;
+    let b = trace(traces, b).ok_or(LineFault::Number)?;
+    let chosen = Chosen {
+        traces: Some((a, b)),
+        conditions: Items::new(Vec::new(alloc)),
+    };
+    Ok(Command::Apply(Edit::OfChosen(chosen, ChosenEdit::Delete)))
+}
+
+pub(crate) fn count_each(alloc: Global, traces: u32, words: Words) -> Result<Command, LineFault>
+    ensures { result ≡ read_count_each traces (spelled (words_of words.entry)) }
+{
+    let (a, b) = range_alone(words).ok_or(LineFault::Words)?;
+    let a = trace(traces, a).ok_or(LineFault::Number)?;
+    let b = trace(traces, b).ok_or(LineFault::Number)?;
+    let chosen = Chosen {
+        traces: Some((a, b)),
+        conditions: Items::new(Vec::new(alloc)),
+    };
+    Ok(Command::Ask(Query::OfChosen(chosen, ChosenQuery::Count)))
+}

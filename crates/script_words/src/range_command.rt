@@ -1,0 +1,12 @@
+/// A command on a range of traces, which conditions may stand behind.
+#[derive(Clone, Copy, Debug, PartialEq, Eq)]
+pub(crate) enum RangeCommand {
+    Table,
+    Find,
+    Extremes,
+    Set,
+    Renumber,
+    Compute,
+    Delete,
+    Count,
+}

@@ -1,0 +1,160 @@
+// The commands on a range of traces, with conditions behind `where` or without.
+ghost use Rattle.std.specs.Prelude.{◌≡◌, [], true};
+ghost use Rattle.script_words.specs.Words.{words_of};
+ghost use Rattle.script_words.specs.Ranges.{spelled, is_of_none as are_of_none, of_range as read_of_range, of_conditions, under as under_conditions};
+ghost use Rattle.script_words.specs.HeaderCommands.{read_sort};
+ghost use Rattle.script_words.specs.RangeCommands.{read_each, read_set, read_delete, read_plain, read_ranged};
+ghost use Rattle.script_words.specs.Commands.{IsRead};
+
+use crate::chosen::under;
+use crate::command::Command;
+use crate::compute_command::compute;
+use crate::conditions::{conditions, fault_without_memory, has_conditions, split_where};
+use crate::header_commands::{extremes, find, table};
+use crate::line_fault::LineFault;
+use crate::many_commands::{count_each, delete_each, delete_one, renumber, set_each, set_one};
+use crate::parse::query_alone;
+use crate::range_command::RangeCommand;
+use crate::sort_command::sort_each;
+use crate::words::{Words, is_all, number_of_words};
+use bench_rules::{Items, Query};
+use std::alloc::Global;
+
+/// The command, with conditions or without. Of the words in front of the conditions and of those
+/// of the conditions, wrong numbers of both come before what any of them is.
+pub(crate) fn ranged(
+    alloc: Global,
+    traces: u32,
+    which: RangeCommand,
+    words: Words,
+) -> Result<Command, LineFault>
+    ensures { IsRead (read_ranged traces which (words_of words.entry)) result }
+{
+    match split_where(words.rest()) {
+        Some((front, behind)) => with_conditions(alloc, traces, which, front, behind),
+        None => plain(alloc, traces, which, words),
+    }
+}
+
+// The command of what stands in front of `where`, on the traces that meet the conditions behind
+// it.
+fn with_conditions(
+    alloc: Global,
+    traces: u32,
+    which: RangeCommand,
+    front: &str,
+    behind: &str,
+) -> Result<Command, LineFault>
+    ensures { IsRead (of_conditions traces (read_each traces which)
+        (words_of front.now) (words_of behind.now)) result }
+{
+    if !has_conditions(behind) {
+        return Err(LineFault::Words);
+    }
+    match each(alloc, traces, which, Words::new(front)) {
+        Ok(command) => {
+            let conditions = conditions(alloc, behind)?;
+            Ok(under(is_of_none(traces, front), conditions, command))
+        }
+        Err(LineFault::OutOfMemory) => Err(fault_without_memory(behind)),
+        Err(fault) => Err(fault),
+    }
+}
+
+// Whether the words are about all traces of a file that has none.
+fn is_of_none(traces: u32, text: &str) -> bool
+    ensures { result ≡ are_of_none traces (words_of text.now) }
+{
+    is_all(text) && traces == 0
+}
+
+// The command, where two words or `all` tell its range.
+fn each(alloc: Global, traces: u32, which: RangeCommand, words: Words) -> Result<Command, LineFault>
+    ensures { IsRead (read_each traces which (spelled (words_of words.entry))) result }
+{
+    match which {
+        RangeCommand::Table => table(alloc, traces, words),
+        RangeCommand::Find => find(alloc, traces, words),
+        RangeCommand::Extremes => extremes(traces, words),
+        RangeCommand::Set => set_each(alloc, traces, words),
+        RangeCommand::Renumber => renumber(alloc, traces, words),
+        RangeCommand::Compute => compute(alloc, traces, words),
+        RangeCommand::Delete => delete_each(alloc, traces, words),
+        RangeCommand::Count => count_each(alloc, traces, words),
+    }
+}
+
+// The same without conditions: in a file without traces, `all` is a range of none.
+fn of_range(
+    alloc: Global,
+    traces: u32,
+    which: RangeCommand,
+    words: Words,
+) -> Result<Command, LineFault>
+    ensures { IsRead (read_of_range traces (read_each traces which)
+        (words_of words.entry)) result }
+{
+    let none = is_of_none(traces, words.rest());
+    let command = each(alloc, traces, which, words)?;
+    Ok(if none {
+        of_none(alloc, command)
+    } else {
+        command
+    })
+}
+
+fn of_none(alloc: Global, command: Command) -> Command
+    ensures { result ≡ under_conditions true [] command }
+{
+    under(true, Items::new(Vec::new(alloc)), command)
+}
+
+// The command without conditions.
+fn plain(
+    alloc: Global,
+    traces: u32,
+    which: RangeCommand,
+    words: Words,
+) -> Result<Command, LineFault>
+    ensures { IsRead (read_plain traces which (words_of words.entry)) result }
+{
+    match which {
+        RangeCommand::Set => set(alloc, traces, words),
+        RangeCommand::Delete => delete(alloc, traces, words),
+        RangeCommand::Count => query_alone(words, Query::Count),
+        _ => of_range(alloc, traces, which, words),
+    }
+}
+
+fn set(alloc: Global, traces: u32, words: Words) -> Result<Command, LineFault>
+    ensures { IsRead (read_set traces (words_of words.entry)) result }
+{
+    if is_all(words.rest()) || number_of_words(words.rest(), 5) == 4 {
+        of_range(alloc, traces, RangeCommand::Set, words)
+    } else {
+        set_one(alloc, traces, words)
+    }
+}
+
+fn delete(alloc: Global, traces: u32, words: Words) -> Result<Command, LineFault>
+    ensures { IsRead (read_delete traces (words_of words.entry)) result }
+{
+    if is_all(words.rest()) || number_of_words(words.rest(), 3) == 2 {
+        of_range(alloc, traces, RangeCommand::Delete, words)
+    } else {
+        delete_one(traces, words)
+    }
+}
+
+/// Traces in order, which no conditions choose.
+pub(crate) fn sort(alloc: Global, traces: u32, words: Words) -> Result<Command, LineFault>
+    ensures { IsRead (read_of_range traces (read_sort traces) (words_of words.entry)) result }
+{
+    let none = is_of_none(traces, words.rest());
+    let command = sort_each(alloc, traces, words)?;
+    Ok(if none {
+        of_none(alloc, command)
+    } else {
+        command
+    })
+}

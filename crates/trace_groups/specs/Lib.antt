@@ -1,0 +1,15 @@
+pub mod Groups
+pub mod OfTally
+pub mod GroupsExamples
+pub mod Others
+pub mod OthersExamples
+pub mod Medians
+pub mod MediansExamples
+pub mod Suspects
+pub mod SuspectsExamples
+pub mod Loud
+pub mod LoudExamples
+pub mod OfOrigins
+pub mod FaultGroups
+pub mod FaultGroupsExamples
+pub mod OfFaultTallies

@@ -1,0 +1,142 @@
+"""What `problems` answers: what is wrong or doubtful with a file, in groups."""
+
+from __future__ import annotations
+
+from typing import Dict, List, NamedTuple, Optional
+
+from .answers import MEANINGS, strict, unexpected, words
+
+
+class ProblemRun(NamedTuple):
+    """The traces ``first`` to ``last``, one after another, that have a problem with the same facts;
+    of S7 and S8 the first and the last line of a gap that is missing.
+
+    The facts are numbers by their words, as ``{"scalar": 100, "usual": -100}``."""
+
+    first: int
+    last: int
+    facts: Dict[str, int]
+
+
+class Problem(NamedTuple):
+    """A problem of a file: its code, how many traces have it (``None`` where it is not of traces:
+    F7, F8, S7, S8, S9), in how many runs they stand, the first ten of these, the other numbers of
+    its line, and the whole text.
+
+    The runs of S7 and S8 are gaps, of inlines or crosslines that are missing."""
+
+    code: str
+    traces: Optional[int]
+    runs: int
+    first_runs: List[ProblemRun]
+    facts: Dict[str, int]
+    text: str
+
+    @property
+    def meaning(self) -> str:
+        """What the code means, in words.
+
+        >>> with segywb.open("missing.sgy") as v:
+        ...     [(one.code, one.meaning) for one in v.problems()]
+        [('F1', 'number in the file (bytes 5-8) is not the position')]
+        """
+        return MEANINGS.get(self.code, self.code)
+
+    @property
+    def mend(self) -> Optional[str]:
+        """The line of a script that mends it, where one line does, else ``None``. It is for you to
+        say whether it is meant.
+
+        >>> with segywb.open("missing.sgy") as v:
+        ...     v.problems()[0].mend
+        'renumber all sequence_file 1 1'
+        """
+        if self.code == "F1":
+            return "renumber all sequence_file 1 1"
+        if self.code == "F7":
+            return f"bin trace_count {self.facts['traces']}"
+        if self.code in _USUAL and self.first_runs:
+            name, usual = _USUAL[self.code], self.first_runs[0].facts["usual"]
+            return f"set all {name} {usual} where {name} != {usual}"
+        return None
+
+    @property
+    def how_many(self) -> int:
+        """How many have it: traces, or lines of the textual header (F8), lines of the survey that
+        are missing (S7, S8) or cells of another fold (S9); 1 for the binary header (F7).
+
+        >>> with segywb.open("missing.sgy") as v:
+        ...     v.problems()[0].how_many
+        5
+        """
+        if self.traces is not None:
+            return self.traces
+        if self.code == "S9":
+            return self.facts["less"] + self.facts["more"]
+        return self.facts.get("lines", self.facts.get("missing", 1))
+
+
+# the codes that one number mends, that of most traces, and the field that it is written to
+_USUAL = {"S3": "scalar", "S4": "delay"}
+# the words behind the code: those of a problem without runs stand here, and those of S7 and S8
+_PLAIN = {
+    "F7": ["count", "traces"],
+    "F8": ["lines"],
+    "S1": ["traces", "inline", "crossline"],
+    "S7": ["missing", "runs"],
+    "S8": ["missing", "runs"],
+    "S9": ["cells", "usual", "less", "more", "least", "greatest"],
+}
+
+
+def _numbers(got: List[str]) -> Dict[str, int]:
+    """
+    >>> _numbers(["scalar", "7", "usual", "-100"])
+    {'scalar': 7, 'usual': -100}
+    """
+    if len(got) % 2:
+        raise unexpected(" ".join(got))
+    return {word: int(number) for word, number in zip(got[0::2], got[1::2])}
+
+
+def _run(line: str) -> ProblemRun:
+    """
+    >>> _run("run 2 3 before 1")
+    ProblemRun(first=2, last=3, facts={'before': 1})
+    """
+    first, last, *facts = words(line, "run")
+    return ProblemRun(int(first), int(last), _numbers(facts))
+
+
+def _problem(lines: List[str]) -> Problem:
+    """
+    >>> _problem(["problem S7 missing 3 runs 1", "run 103 107 step 2"]).first_runs[0].facts
+    {'step': 2}
+    """
+    code, *got = words(lines[0], "problem")
+    facts = _numbers(got)
+    if list(facts) != _PLAIN.get(code, ["traces", "runs"]):
+        raise unexpected(lines[0])
+    runs = facts.pop("runs", 0)
+    traces = None if code == "F7" else facts.pop("traces", None)
+    told = [_run(line) for line in lines[1:]]
+    if len(told) != min(runs, 10):
+        raise unexpected(lines[0])
+    return Problem(code, traces, runs, told, facts, "\n".join(lines))
+
+
+@strict
+def problems(lines: List[str]) -> List[Problem]:
+    """
+    >>> told = ["problem F8 lines 3", "problem S12 traces 2 runs 1", "run 5 6 value 0"]
+    >>> [(one.code, one.traces, one.facts) for one in problems(["problems 2", *told])]
+    [('F8', None, {'lines': 3}), ('S12', 2, {})]
+    """
+    groups: List[List[str]] = []
+    for line in lines[1:]:
+        if line.startswith("problem "):
+            groups.append([])
+        groups[-1].append(line)
+    if words(lines[0], "problems") != [str(len(groups))]:
+        raise unexpected(lines[0])
+    return [_problem(group) for group in groups]

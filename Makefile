@@ -50,6 +50,7 @@ test:
 	@echo 'The whole gate: each proof, must-fail edit, test and run. docs/TIMES.md says how long it takes.'
 	@test -x $(SHIPPED) || { echo 'There is no shipped program $(SHIPPED): make build, then make dist.'; exit 1; }
 	bash tests/lines.sh
+	python3 tests/edits_fit.py
 	cd dist && sha256sum -c SHA256SUMS
 	rm -f $(BUILT)
 	bash tests/gate.sh $(BUILT) $(SHIPPED)

@@ -1,3 +1,4 @@
 pub mod Passing
 pub mod Ending
+pub mod Standing
 pub mod Recovering

@@ -1,7 +1,9 @@
 // The end of a run: the save, the exit status, and what standard error says.
 ghost use Rattle.run_ending.specs.Ending.{IsExitStatus};
+ghost use Rattle.run_ending.specs.Standing.{IsStatusOf, MayTell};
 
 use crate::ending::{Message, SaveEnd, exit_status, told, told_of_change};
+use crate::out_end::{OutEnd, told_end};
 use crate::refused::tell_refused;
 use crate::target::Target;
 use crate::where_to::OutRefusal;
@@ -16,20 +18,24 @@ use std::rt::Files;
 // No message has more bytes beside the paths of FILE and OUT.
 const MESSAGE_ROOM: u64 = 600;
 
-/// Ends the save of a run, tells what there is to tell, and gives the exit status.
+/// Tells what there is to tell of a run and of its save, which ended so in `target`, and gives the
+/// exit status: 0 and 1 are told of a save only where OUT is what the writer was given.
 pub fn finish<'a, R: Files<File = File> + AllocGlobal + Eprint>(
     rt: &'a R,
     arguments: &Arguments<'a>,
     original: Option<Original<'a>>,
     end: RunEnd,
-    writer: BufWriter<Save<Target<'a, R>>>,
-    mode: Option<u32>,
+    target: Target<'a, R>,
+    out: OutEnd,
     notes: &Notes,
 ) -> u8
-    ensures { IsExitStatus end result }
+    ensures { IsStatusOf end out result }
 {
-    let (save, error, is_beside) = end_of_save(rt, arguments, end, writer, mode);
-    let save = doubted(rt, arguments, original, save, is_beside);
+    let is_beside = target.is_beside();
+    if !matches!(out, OutEnd::NotBegun) {
+        tell_cleared(rt, arguments, target.cleared());
+    }
+    let (save, error) = save_end(rt, arguments, original, &target, out);
     if !arguments.quiet {
         tell_refused(rt, arguments, end, save, notes);
     }
@@ -58,21 +64,46 @@ pub fn finish_told<'a, R: Files<File = File> + AllocGlobal + Eprint>(
     exit_status(end, not_begun)
 }
 
-/// The end of a save during which FILE may have changed. Beside OUT that was seen before the
-/// rename; over OUT itself the copy has been made by now.
-pub(crate) fn doubted<'a, R: Files>(
+/// How the save ended for the one who called the program; where it was refused also why. Beside OUT
+/// a change of FILE was seen before the rename; over OUT itself the copy has been made by now.
+pub(crate) fn save_end<'a, R: Files<File = File> + AllocGlobal>(
     rt: &R,
     arguments: &Arguments<'a>,
     original: Option<Original<'a>>,
-    save: SaveEnd,
-    is_beside: bool,
-) -> SaveEnd {
-    let is_copied = arguments.on_disk && !is_beside && save == SaveEnd::Saved;
-    if is_copied && original.is_some_and(|original| original.is_changed(rt)) {
-        SaveEnd::Doubtful
-    } else {
-        save
+    target: &Target<'a, R>,
+    out: OutEnd,
+) -> (SaveEnd, Option<SaveError>)
+    ensures { MayTell out result.0 }
+{
+    match out {
+        OutEnd::NotBegun => (SaveEnd::NotBegun, None),
+        OutEnd::Saved if is_doubtful(rt, arguments, original, target) => (SaveEnd::Doubtful, None),
+        OutEnd::Saved => (SaveEnd::Saved, None),
+        OutEnd::Refused(SaveError::NotSettled(error)) => {
+            (SaveEnd::Unsettled, Some(SaveError::NotSettled(error)))
+        }
+        OutEnd::Refused(SaveError::NotSaved(fault)) => {
+            let save = if target.is_stale() {
+                SaveEnd::Stale
+            } else if target.is_unseen() {
+                SaveEnd::Unseen
+            } else {
+                SaveEnd::Failed
+            };
+            (save, Some(SaveError::NotSaved(fault)))
+        }
     }
+}
+
+// Whether FILE, whose bytes stay on disk, was changed while they were copied to OUT itself.
+fn is_doubtful<'a, R: Files<File = File> + AllocGlobal>(
+    rt: &R,
+    arguments: &Arguments<'a>,
+    original: Option<Original<'a>>,
+    target: &Target<'a, R>,
+) -> bool {
+    let is_copied = arguments.on_disk && !target.is_beside();
+    is_copied && original.is_some_and(|original| original.is_changed(rt))
 }
 
 /// Tells, where FILE was changed by another program, what this means.
@@ -151,45 +182,20 @@ pub(crate) fn tell<R: Files + AllocGlobal + Eprint>(
     }
 }
 
-// Ends the save, or gives it up; also whether it went beside OUT.
-fn end_of_save<'a, R: Files<File = File> + AllocGlobal + Eprint>(
-    rt: &R,
-    arguments: &Arguments,
-    end: RunEnd,
-    writer: BufWriter<Save<Target<'a, R>>>,
-    mode: Option<u32>,
-) -> (SaveEnd, Option<SaveError>, bool) {
-    let (target, result) = match end {
-        RunEnd::Done { .. } if arguments.out.is_some() => end_save(writer, mode),
-        RunEnd::Save(_) => {
-            let (save, _waiting) = writer.into_parts();
-            give_up(save)
-        }
-        _ => {
-            let (save, _waiting) = writer.into_parts();
-            let _ = save.discard();
-            return (SaveEnd::NotBegun, None, false);
-        }
-    };
-    tell_cleared(rt, arguments, target.cleared());
-    how_it_ended(&target, result)
-}
-
-/// Ends a save of a session, or gives it up where not all was written; also the target, which knows
-/// FILE as a later save is to find it.
+/// Ends a save of a session, or gives it up where not all was written. The target comes back: it
+/// knows FILE as a later save is to find it.
 pub(crate) fn end_of_one_save<'a, R: Files<File = File> + AllocGlobal>(
     writer: BufWriter<Save<Target<'a, R>>>,
     mode: Option<u32>,
     is_whole: bool,
-) -> (Target<'a, R>, (SaveEnd, Option<SaveError>, bool)) {
-    let (target, result) = if is_whole {
+) -> (Target<'a, R>, OutEnd) {
+    let (target, ended) = if is_whole {
         end_save(writer, mode)
     } else {
         let (save, _waiting) = writer.into_parts();
         give_up(save)
     };
-    let ended = how_it_ended(&target, result);
-    (target, ended)
+    (target, told_end(ended))
 }
 
 /// Tells of the files of earlier saves to OUT that were taken away.
@@ -208,28 +214,6 @@ pub(crate) fn tell_cleared<R: Files + AllocGlobal + Eprint>(
         let _ = eprintln!(rt;
             "segywb: {out}: {cleared} files that saves had left beside it are taken away"
         );
-    }
-}
-
-fn how_it_ended<'a, R: Files<File = File> + AllocGlobal>(
-    target: &Target<'a, R>,
-    ended: std::result::Result<(), SaveError>,
-) -> (SaveEnd, Option<SaveError>, bool) {
-    let is_beside = target.is_beside();
-    match ended {
-        Ok(()) => (SaveEnd::Saved, None, is_beside),
-        Err(error) if target.is_stale() => (SaveEnd::Stale, Some(error), is_beside),
-        Err(error) if target.is_unseen() => (SaveEnd::Unseen, Some(error), is_beside),
-        Err(SaveError::NotSaved(fault)) => {
-            (SaveEnd::Failed, Some(SaveError::NotSaved(fault)), is_beside)
-        }
-        Err(SaveError::NotSettled(error)) => {
-            (
-                SaveEnd::Unsettled,
-                Some(SaveError::NotSettled(error)),
-                is_beside,
-            )
-        }
     }
 }
 

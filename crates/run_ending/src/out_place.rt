@@ -3,7 +3,7 @@ ghost use Rattle.std.specs.Prelude.{None, Option, ℕ, List};
 ghost use Rattle.safe_save.specs.Places.{IsEnded};
 
 use crate::ending::{Message, SaveEnd, told_of_save};
-use crate::finishing::{doubted, end_of_one_save, refused_out, tell, tell_change, tell_cleared};
+use crate::finishing::{end_of_one_save, refused_out, save_end, tell, tell_change, tell_cleared};
 use crate::target::Target;
 use crate::where_to::target_of;
 use command_line::Arguments;
@@ -79,9 +79,10 @@ impl<'a, R: Files<File = File> + AllocGlobal + Eprint + Clock> SavePlace for Out
     fn end(&mut self, writer: BufWriter<Save<Target<'a, R>>>, is_whole: bool) -> Ended {
         // Where no write failed, a read of FILE did.
         let is_unread = !is_whole && writer.get_ref().failure().is_none();
-        let (target, (save, error, is_beside)) = end_of_one_save(writer, self.mode, is_whole);
+        let (target, out) = end_of_one_save(writer, self.mode, is_whole);
+        let is_beside = target.is_beside();
         tell_cleared(self.rt, &self.arguments, target.cleared());
-        let save = doubted(self.rt, &self.arguments, self.original, save, is_beside);
+        let (save, error) = save_end(self.rt, &self.arguments, self.original, &target, out);
         let ended = ended(save, &error, is_beside);
         if is_unread {
             tell(

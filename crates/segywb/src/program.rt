@@ -12,15 +12,16 @@ use run_ending::{
     look_at_file, misuse, reading_of, recover_file, refused_out, target_of, tell_how_to_begin,
 };
 use safe_save::{
-    BoundedFile, Original, Save, answers_limit, hold_standard_streams, keep_from_clearing,
+    BoundedFile, Folder, Original, Save, answers_limit, hold_standard_streams, keep_from_clearing,
 };
+use saved_run::{ToOut, run_on_disk_to_out, run_to_out};
 use script_hints::Notes;
 use script_run::{
-    InPlace, Options, Outside, RepairRun, RunEnd, Saves, refuse_load, run, run_in_place,
-    run_on_disk, run_on_disk_in_place, session, session_on_disk,
+    InPlace, Options, Outside, RepairRun, RunEnd, Saves, refuse_load, run_in_place,
+    run_on_disk_in_place, session, session_on_disk,
 };
 use std::fs::{File, Metadata, OpenFile};
-use std::io::{BufWriter, Read, Write};
+use std::io::{BufWriter, Read};
 use std::rt::{Clock, Env, Files};
 use std::{env, fs, io};
 
@@ -427,96 +428,85 @@ fn run_to<'a, R: Files<File = File> + AllocGlobal + Print + Eprint + Input>(
 {
     let mode = target.mode();
     let room = if arguments.out.is_some() { ROOM } else { 0 };
-    let Ok(out) = BufWriter::with_capacity(rt.alloc(), room, Save::new(target)) else {
+    let Ok(writer) = BufWriter::with_capacity(rt.alloc(), room, Save::new(target)) else {
         let _ = eprintln!(rt; "segywb: out of memory");
         return 4;
     };
-    let mut out = Sink::new(out);
     let mut notes = Notes::new();
     let options = options(arguments, false);
-    let end = match volume {
-        Volume::Memory(mut volume) => answer(rt, &mut volume, lines, &mut out, options, &mut notes),
+    let ran = match volume {
+        Volume::Memory(mut volume) => {
+            answer(rt, &mut volume, lines, writer, mode, options, &mut notes)
+        }
         Volume::Disk(volume, bytes) => {
-            answer_on_disk(rt, volume, bytes, lines, &mut out, options, &mut notes)
+            answer_on_disk(rt, volume, bytes, lines, writer, mode, options, &mut notes)
         }
     };
-    finish(rt, arguments, original, end, out.into_inner(), mode, &notes)
+    finish(rt, arguments, original, ran.end, ran.folder, ran.out, &notes)
 }
 
-// Answers the lines of a script on standard output. The refused ones are noted.
-fn answer<R: Files + AllocGlobal + Print + Input, O: Write>(
+// Answers the lines of a script on standard output, and ends the save. The refused ones are noted.
+fn answer<R: Files + AllocGlobal + Print + Input, F: Folder + Drop>(
     rt: &R,
     volume: &mut Source<R::File>,
     lines: Lines<R::File>,
-    out: &mut Sink<O>,
+    writer: BufWriter<Save<F>>,
+    mode: Option<u32>,
     options: Options,
     notes: &mut Notes,
-) -> RunEnd {
+) -> ToOut<F> {
     let answers = &mut Sink::new(BoundedFile::new(io::writer(rt), answers_limit(rt)));
+    let alloc = rt.alloc();
     match lines {
-        Lines::File(file) => run(
-            rt.alloc(),
-            volume,
-            &mut Source::new(file),
-            answers,
-            out,
-            options,
-            notes,
-        ),
-        Lines::Standard => run(
-            rt.alloc(),
-            volume,
-            &mut Source::new(rt.reader()),
-            answers,
-            out,
-            options,
-            notes,
-        ),
+        Lines::File(file) => {
+            let script = &mut Source::new(file);
+            run_to_out(alloc, volume, script, answers, writer, mode, options, notes)
+        }
+        Lines::Standard => {
+            let script = &mut Source::new(rt.reader());
+            run_to_out(alloc, volume, script, answers, writer, mode, options, notes)
+        }
     }
 }
 
 // The same over a file that stays on disk, which has so many bytes.
-fn answer_on_disk<R: Files<File = File> + AllocGlobal + Print + Input, O: Write>(
+fn answer_on_disk<R: Files<File = File> + AllocGlobal + Print + Input, F: Folder + Drop>(
     rt: &R,
     volume: File,
     bytes: u64,
     lines: Lines<File>,
-    out: &mut Sink<O>,
+    writer: BufWriter<Save<F>>,
+    mode: Option<u32>,
     options: Options,
     notes: &mut Notes,
-) -> RunEnd {
+) -> ToOut<F> {
     match lines {
         Lines::File(file) => {
             let script = &mut Source::new(file);
-            script_on_disk(rt, volume, bytes, script, out, options, notes)
+            script_on_disk(rt, volume, bytes, script, writer, mode, options, notes)
         }
         Lines::Standard => {
             let script = &mut Source::new(rt.reader());
-            script_on_disk(rt, volume, bytes, script, out, options, notes)
+            script_on_disk(rt, volume, bytes, script, writer, mode, options, notes)
         }
     }
 }
 
 // The lines of a script. The volume that the run gives back is closed here.
-fn script_on_disk<R: Files + AllocGlobal + Print, S: Read, O: Write>(
+fn script_on_disk<R: Files + AllocGlobal + Print, S: Read, F: Folder + Drop>(
     rt: &R,
     volume: File,
     bytes: u64,
     script: &mut Source<S>,
-    out: &mut Sink<O>,
+    writer: BufWriter<Save<F>>,
+    mode: Option<u32>,
     options: Options,
     notes: &mut Notes,
-) -> RunEnd {
+) -> ToOut<F> {
     let answers = &mut Sink::new(BoundedFile::new(io::writer(rt), answers_limit(rt)));
-    run_on_disk(
-        rt.alloc(),
-        volume,
-        bytes,
-        script,
-        answers,
-        out,
-        options,
-        notes,
+    let alloc = rt.alloc();
+    run_on_disk_to_out(
+        alloc, volume, bytes, script, answers, writer, mode, options, notes,
     )
     .close()
 }

@@ -1,4 +1,5 @@
 pub mod Passing
 pub mod Ending
 pub mod Standing
+pub mod StandingExamples
 pub mod Recovering

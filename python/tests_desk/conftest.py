@@ -24,6 +24,9 @@ from selenium.webdriver.chrome.service import Service  # noqa: E402
 from page import Page  # noqa: E402
 from segywb import program  # noqa: E402
 
+# So many seconds something may take on a machine that proves beside the tests; one that is idle takes a hundredth.
+PATIENCE = 120.0
+
 WORDS = ("--headless=new", "--no-sandbox", "--disable-gpu", "--disable-dev-shm-usage", "--hide-scrollbars", "--window-size=1280,900")
 
 
@@ -58,7 +61,7 @@ class Started:
     def end(self):
         if self.process.poll() is None:
             self.process.send_signal(signal.SIGTERM)
-        out, told = self.process.communicate(timeout=20)
+        out, told = self.process.communicate(timeout=120)
         return self.process.returncode, told
 
 
@@ -92,7 +95,9 @@ def browser_of():
     for word in WORDS:
         options.add_argument(word)
     options.set_capability("goog:loggingPrefs", {"browser": "ALL"})
-    return webdriver.Chrome(service=Service("/usr/bin/chromedriver"), options=options)
+    made = webdriver.Chrome(service=Service("/usr/bin/chromedriver"), options=options)
+    made.set_script_timeout(PATIENCE)
+    return made
 
 
 @pytest.fixture(scope="session")
@@ -130,7 +135,7 @@ def run(path, script, *options):
     return done.stdout.decode(), done.returncode
 
 
-def wait_for(question, seconds=20.0):
+def wait_for(question, seconds=PATIENCE):
     """Asks until the answer is true, and gives it."""
     until = time.monotonic() + seconds
     while True:

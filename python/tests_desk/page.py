@@ -53,7 +53,7 @@ class Page:
         """The header table as texts."""
         return self.js("return [...document.querySelectorAll('#table-room tbody tr')].map((row) => [...row.children].map((one) => one.firstChild.textContent))")
 
-    def wait(self, question, seconds=20.0):
+    def wait(self, question, seconds=120.0):
         until = time.monotonic() + seconds
         while True:
             try:

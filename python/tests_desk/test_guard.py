@@ -23,7 +23,7 @@ HOSTILE = [
 
 def asked(desk, path=None, method="GET", body=None, **headers):
     """Asks the server by hand; a header that is None is left out."""
-    link = http.client.HTTPConnection("127.0.0.1", desk.port, timeout=20)
+    link = http.client.HTTPConnection("127.0.0.1", desk.port, timeout=120)
     link.putrequest(method, f"/{desk.token}/ask/state" if path is None else path, skip_host=True, skip_accept_encoding=True)
     sent = {"Host": f"127.0.0.1:{desk.port}", **{name.replace("_", "-"): value for name, value in headers.items()}}
     data = json.dumps(body).encode() if body is not None else b""
@@ -71,7 +71,7 @@ def test_the_host_and_the_origin(started):
 def raw(desk, *lines, body=b""):
     """The status of a request that is written line by line."""
     sent = "\r\n".join([*lines, "Connection: close", "", ""]).encode() + body
-    with socket.create_connection(("127.0.0.1", desk.port), timeout=20) as link:
+    with socket.create_connection(("127.0.0.1", desk.port), timeout=120) as link:
         link.sendall(sent)
         told = b"".join(iter(lambda: link.recv(65536), b""))
     return int(told.split()[1])

@@ -190,7 +190,7 @@ def test_a_journal_that_is_rotten(started, browser, example):
         assert "rotten; nothing was written" in page.text("recover-said")
     assert path.read_bytes() == before and journal.exists()
     page.desk.process.send_signal(signal.SIGTERM)
-    assert page.desk.process.wait(timeout=20) == 3
+    assert page.desk.process.wait(timeout=120) == 3
     browser.get("about:blank")
     browser.get_log("browser")
 

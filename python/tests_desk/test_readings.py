@@ -131,7 +131,7 @@ def test_the_page_offers_the_reading(started, browser, tmp_path, form):
 def test_the_page_without_a_reading(started, browser, tmp_path):
     page = refused_page(started, browser, short(tmp_path / "short.sgy"))
     assert "load refused L14 truncated trace 1 (" in page.text("banner") and "No reading" in page.text("banner") and not page.all("#banner button")
-    assert page.desk.process.wait(timeout=20) == 3
+    assert page.desk.process.wait(timeout=120) == 3
     page.wait(lambda: "The desk has ended" in page.text("banner"))
     assert "load refused L14 truncated trace 1 (" in page.text("banner")
     browser.get("about:blank")
@@ -146,7 +146,7 @@ def test_the_refusal_is_said_before_the_address(tmp_path):
         desk = subprocess.Popen(command, env={**os.environ, "PYTHONPATH": str(SOURCES), "BROWSER": "true"}, stdout=both, stderr=subprocess.STDOUT)
     wait_for(lambda: said.read_text().count("\n") >= 3 + TAIL)
     desk.send_signal(signal.SIGINT)
-    assert desk.wait(timeout=20) == 3
+    assert desk.wait(timeout=120) == 3
     lines = said.read_text().splitlines()
     assert "refused L14" in lines[0] and "with --fixed" in lines[1] and lines[2 + len(behind(2))].startswith("http://127.0.0.1:")
 
@@ -166,7 +166,7 @@ def test_the_file_is_open_before_the_browser_is(tmp_path, example):
     (tmp_path / "go").touch()
     assert desk.stdout.readline().startswith("http://127.0.0.1:") and wait_for(seen.exists)
     desk.send_signal(signal.SIGINT)
-    out, told = desk.communicate(timeout=20)
+    out, told = desk.communicate(timeout=120)
     assert desk.returncode == 0 and told == ""
 
 

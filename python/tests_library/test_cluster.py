@@ -57,7 +57,7 @@ def test_a_worker_of_two_is_killed(master, undisturbed, tmp_path):
     some = workers(scan.pid)
     assert some and scan.poll() is None
     os.kill(some[0], signal.SIGKILL)
-    assert scan.wait(180) == 0
+    assert scan.wait(600) == 0
     assert held(database) == held(undisturbed)
 
 

@@ -49,13 +49,13 @@ def test_interrupted(master, tmp_path):
     while count(database) < 10 and scan.poll() is None:
         time.sleep(0.01)
     scan.send_signal(signal.SIGINT)
-    assert scan.wait(30) == 130 and count(database) >= 10
+    assert scan.wait(300) == 130 and count(database) >= 10
 
 
 def test_two_at_once(master, undisturbed, tmp_path):
     database = tmp_path / "lib.db"
     scans = [started("scan", "--db", database, "--quiet", "--jobs", "2", master) for _ in range(2)]
-    assert [scan.wait(120) for scan in scans] == [0, 0]
+    assert [scan.wait(600) for scan in scans] == [0, 0]
     assert held(database) == held(undisturbed)
 
 

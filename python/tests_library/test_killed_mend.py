@@ -156,7 +156,7 @@ def test_interrupted(wrong, tmp_path):
     while rows(database, "SELECT count(*) FROM trail")[0][0] < 20 and mend.poll() is None:
         time.sleep(0.005)
     mend.send_signal(signal.SIGINT)
-    assert mend.wait(60) == 130
+    assert mend.wait(300) == 130
     assert " 0 are not" in library("verify", "--db", database)
     now, trail = digests(folder), states(database)
     assert {path for path in now if now[path] != old[path]} == {path for path, (event, _, _) in trail.items() if event == "saved"}

@@ -232,7 +232,7 @@ def interrupted(words, database, more):
     done_more(database, mend, more)
     if mend.poll() is None:
         os.killpg(mend.pid, signal.SIGINT)
-    return mend.wait(60)
+    return mend.wait(300)
 
 
 @pytest.mark.parametrize("words", [(), ("--in-place",)], ids=["over", "in place"])

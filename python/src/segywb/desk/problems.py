@@ -9,7 +9,6 @@ from ..volume import Volume
 
 # how the line begins that is finished by hand, of the first run and of the file
 _BEGINS = {"F4": "scalar", "S5": "inline", "S6": "crossline"}
-_ALONE = {"F8": "text ", "S1": "map shot"}
 _NOUNS = {"S7": "inline", "S8": "crossline"}
 # the greatest number of samples that bytes 115-116 tell
 _MOST_SAMPLES = 65535
@@ -81,11 +80,22 @@ def _stands_twice(run: ProblemRun, volume: Volume) -> bool:
     return valued and all(texts[0::2] == texts[1::2] for texts in (places, samples))
 
 
+def _elsewhere(volume: Volume) -> Optional[str]:
+    """S1: where numbers that differ from trace to trace stand, of shots or of a line of ensembles."""
+    found = volume.extremes()
+    varies = {name for name, numbers in found.items() if numbers.least != numbers.greatest}
+    if "trace_in_record" in varies:
+        return "map shot"
+    return "map crossline ensemble" if "ensemble" in varies and "field_record" not in varies else None
+
+
 def line_of(one: Problem, volume: Volume) -> Optional[str]:
     """The line that may mend it, or how the line begins that mends its first run; to be looked at,
     and run by hand. Traces are deleted by none that have samples or positions of their own."""
-    if one.mend or one.code in _ALONE:
-        return one.mend or _ALONE[one.code]
+    if one.mend or one.code == "F8":
+        return one.mend or "text "
+    if one.code == "S1":
+        return _elsewhere(volume)
     if one.traces is None or not one.first_runs:
         return None
     run = one.first_runs[0]

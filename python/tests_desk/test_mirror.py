@@ -299,6 +299,7 @@ def mended(path, edits, code, **options):
     ("set 2 samples 4\nset 7 9 samples 6\nset 11 samples 0", "F2", "set all samples 5 where samples != 5 and samples != 0"),
     ("copy 4 5", "F6", "delete 5"), ("move 5 8 1", "F6", None), ("copy 4 5\nset 5 x 7", "F6", None), ("copy 4 5\npatch 4 0 0 0 0 0 0\npatch 5 0 0 0 0 0 0", "F6", None),
     ("renumber 5 8 inline 101 0", "F6", None), ("copy 8 9\ncopy 7 9\ncopy 6 9\ncopy 5 9", "F6", "delete 9 12"), ("move 7 3", "F1", None),
+    ("copy 8 9\ncopy 7 9\ncopy 6 9\ncopy 5 9\npatch 10 0 99", "F6", None), ("copy 8 9\ncopy 7 9\ncopy 6 9\ncopy 5 9\nset 11 y 99", "F6", None),
     ("renumber all delay 8 8", "S4", None),
     ("set all inline 0\nset all crossline 0\nrenumber all trace_in_record 1 1", "S1", "map shot"),
     ("set all inline 0\nset all crossline 0\nrenumber all cdp 1 1", "S1", "map crossline ensemble"),

@@ -12,6 +12,8 @@ _BEGINS = {"F4": "scalar", "S5": "inline", "S6": "crossline"}
 _NOUNS = {"S7": "inline", "S8": "crossline"}
 # the greatest number of samples that bytes 115-116 tell
 _MOST_SAMPLES = 65535
+# of a longer run (F6) about so many traces are compared with the earlier ones
+_MOST_COMPARED = 500
 
 
 def _span(first: int, last: int) -> str:
@@ -72,8 +74,11 @@ def _units(one: Problem) -> Optional[str]:
 
 
 def _stands_twice(run: ProblemRun, volume: Volume) -> bool:
-    """Whether the ends of a run (F6) have the positions and the samples of the earlier traces."""
-    traces = [one - run.facts["before"] * before for one in (run.first, run.last) for before in (0, 1)]
+    """Whether the traces of a run (F6) have the positions and the samples of the earlier ones; of a
+    long run every second, or third, .., and its last."""
+    step = 1 + (run.last - run.first) // _MOST_COMPARED
+    ones = [*range(run.first, run.last, step), run.last]
+    traces = [one - run.facts["before"] * before for one in ones for before in (0, 1)]
     places, samples = ([one.text for one in volume.run([f"{word} {trace}" for trace in traces])] for word in ("geometry", "stat"))
     told = [text.split() for text in samples]
     valued = all(words[0] == "stat" and len(words) > 4 and words[2] != words[4] for words in told)

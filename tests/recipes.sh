@@ -191,7 +191,7 @@ grep -l '^for file in' "$work"/wrong/* | while read -r recipe; do bash "$recipe"
 for file in *.sgy; do
     case $file in
         *torn*) printf '%q load refused L14 truncated trace 10\n' "$file" ;;
-        *'of three'*) printf '%q \n' "$file" ;;
+        *'of three'*) printf '%q none\n' "$file" ;;
         *) printf '%q F6\n' "$file" ;;
     esac
 done | sort > ../wanted

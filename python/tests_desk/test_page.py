@@ -240,7 +240,7 @@ def test_a_line_that_mends_a_problem(opened):
     """It is put into the command line, and runs when it is entered."""
     page = opened("wrong_count")
     page.wait(lambda: len(page.all("#panel button.line")) == 2)
-    assert [one.text for one in page.all("#panel button.line")] == ["set 1 12 interval 2000", "bin trace_count 12"]
+    assert [one.text for one in page.all("#panel button.line")] == ["bin interval 4000", "bin trace_count 12"]
     page.all("#panel button.line")[1].click()
     assert page.find("line").get_attribute("value") == "bin trace_count 12"
     page.find("line").send_keys(Keys.ENTER)

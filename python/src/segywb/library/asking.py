@@ -3,14 +3,13 @@
 from __future__ import annotations
 
 import json
-import os
-import re
 from collections import Counter
 from fractions import Fraction
 from typing import Any, Dict, Iterator, List, Optional, Sequence, Tuple
 
 from .. import answers
 from ..problems import problems
+from . import tails
 from .facts import Facts
 from .outlines import Point, hull
 from .sieve import HEAD_BYTES
@@ -21,8 +20,6 @@ MOST_BLOCKS = 100
 POINTS = 50
 WHICH = ("inline", "crossline", "offset", "x", "y")
 IN_MEMORY_BYTES = 1 << 26
-JUNK_BYTES = 1 << 24
-_INSIDE = re.compile(r"ends (\d+) bytes? inside trace")
 _GOLDEN = 0.6180339887498949
 
 # Programs that answered `problems` by an unknown word, by path: they are asked for `faults`.
@@ -37,7 +34,7 @@ def options(size: int, option: str) -> List[str]:
 def ask(talk: Talk, facts: Facts, path: str) -> Tuple[int, int]:
     """Fills the columns; how many bytes stand in front of the traces, and how many behind them."""
     report = "faults" if _older.get(path) else "problems"
-    talk.send(["info", "getbin interval", *(f"range {which}" for which in WHICH), "inlines", "crosslines", "code 0", "lines 0", report])
+    talk.send(["info", "getbin interval", *(f"range {which}" for which in WHICH), "inlines", "crosslines", "code 0", "lines 0", tails.LAST, report])
     info = answers.info(talk.one())
     columns = facts.columns
     columns.update(
@@ -54,8 +51,10 @@ def ask(talk: Talk, facts: Facts, path: str) -> Tuple[int, int]:
         ends += [first, info.traces - last + 1]
     columns["alphabet"] = answers.name(talk.one(), "code")
     facts.texts.append((0, _block(talk.answer())))
+    final = tails.last(talk)
     facts.problems = _problems(talk, report, path)
     _more(talk, facts, info, positions(info.traces, ends))
+    columns.update(tails.columns(talk, info, columns["interval"], final))
     # The manual's cut of a file: texts of 3200 bytes behind the two headers, then the traces, then trailer records of 3200 bytes.
     return HEAD_BYTES + BLOCK_BYTES * info.blocks, BLOCK_BYTES * info.trailer
 
@@ -186,12 +185,3 @@ def lengths(info: answers.Info, told: Optional[Tuple[int, int]], wrong: int) -> 
         return info.samples, info.samples
     return told if told is not None and told[0] > 0 and not wrong else (None, None)
 
-
-def trailing(descriptor: int, size: int, hint: str) -> Dict[str, Any]:
-    """What stands behind the last whole trace of a file that ends inside one (L14). The hint says how many bytes that is."""
-    told = _INSIDE.search(hint)
-    if not told:
-        return {}
-    rest = int(told[1])
-    tail = os.pread(descriptor, rest, size - rest) if rest <= JUNK_BYTES else b"?"
-    return {"trailing_bytes": rest, "trailing_zeros": int(not any(tail))}

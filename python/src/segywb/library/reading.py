@@ -9,7 +9,7 @@ import time
 from typing import List, Optional, Tuple
 
 from ..errors import Error
-from . import asking, digests, sieve, talk
+from . import asking, digests, sieve, tails, talk
 from .facts import READ, REFUSED, Facts, Stamp, Task, failed, stamp
 
 # A file that was written so short a time ago may change once more without other times: those of most disks step every few milliseconds,
@@ -113,7 +113,7 @@ def _fill(facts: Facts, descriptor: int, deadline: float) -> None:
     except talk.LoadRefused as refusal:
         facts.columns.update(state=REFUSED, refusal=refusal.code, refusal_text=refusal.text, hint=refusal.hint)
         if refusal.code == "L14":
-            facts.columns.update(asking.trailing(descriptor, size, refusal.hint))
+            facts.columns.update(tails.of_cut(descriptor, size, refusal.hint, asking.options(size, program.option), deadline))
     facts.columns.update(digests.of(descriptor, size, span, deadline)._asdict())
 
 

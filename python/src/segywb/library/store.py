@@ -22,7 +22,7 @@ FILLED = (
     "state", "refusal", "refusal_text", "hint", "trouble", "size", "modified", "changed", "inode", "settled", "sha256", "md5", "trace_md5",
     "byte_order", "revision", "format", "fixed", "extensions", "blocks", "trailer", "traces", "samples", "interval", "inlines", "crosslines", "least_length",
     "greatest_length", "least_inline", "greatest_inline", "least_crossline", "greatest_crossline", "least_offset", "greatest_offset", "least_x",
-    "greatest_x", "least_y", "greatest_y", "least_scalar", "greatest_scalar", "outline", "alphabet", "trailing_bytes", "trailing_zeros", "program",
+    "greatest_x", "least_y", "greatest_y", "least_scalar", "greatest_scalar", "outline", "alphabet", "trailing_bytes", "trailing_zeros", "trailing_traces", "program",
 )
 FILE_COLUMNS = ("path", "name", "root", "gone", "scan", "read_at", *FILLED)
 _SCAN = "mark, begun, folders, program, program_sha256, package, user, host"

@@ -75,6 +75,7 @@ class Talk:
 
     def __init__(self, descriptor: int, options: Sequence[str], deadline: float) -> None:
         os.set_inheritable(descriptor, True)
+        self.descriptor = descriptor
         self._deadline = deadline
         self._name = f"/proc/self/fd/{descriptor}"
         words = [found().path, self._name, "--session", *options]

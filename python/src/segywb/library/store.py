@@ -9,7 +9,7 @@ import socket
 import sqlite3
 import time
 import uuid
-from typing import Any, List, NamedTuple, Optional, Tuple
+from typing import Any, List, NamedTuple, Optional, Sequence, Tuple
 
 from .. import __version__
 from .facts import FAILED, Facts, Stamp
@@ -103,13 +103,16 @@ def end(database: sqlite3.Connection, scan: int) -> None:
         database.execute("UPDATE scan SET ended = ? WHERE id = ?", (now(), scan))
 
 
-def put(database: sqlite3.Connection, facts: Facts, scan: int) -> Tuple[bool, int]:
-    """Writes what was found of a file, in one transaction: whether it is one of SEG-Y, and its number."""
-    path = text_of(facts.task.path)
+def put(database: sqlite3.Connection, found: Sequence[Facts], scan: int) -> List[Tuple[bool, int]]:
+    """Writes what was found of some files, in one transaction: of each whether it is one of SEG-Y, and its number."""
     with transaction(database):
-        if facts.other:
-            return False, _put_other(database, path, facts, scan)
-        return True, _put_file(database, path, facts, scan)
+        return [_put(database, text_of(facts.task.path), facts, scan) for facts in found]
+
+
+def _put(database: sqlite3.Connection, path: str, facts: Facts, scan: int) -> Tuple[bool, int]:
+    if facts.other:
+        return False, _put_other(database, path, facts, scan)
+    return True, _put_file(database, path, facts, scan)
 
 
 def _name(path: str) -> str:

@@ -8,7 +8,7 @@ import files
 import pytest
 from conftest import TOP, library, rows, settle
 
-from segywb.library import facts, reading, tails
+from segywb.library import asking, facts, reading, tails
 
 KINDS = ("cube", "floats", "varying", "stanzas", "extended")
 FILLS = (b"\xff", b"These are no traces. ", b"\x40", b"\x20", b"\xde\xad\xbe\xef")
@@ -55,6 +55,15 @@ def test_bytes_at_random(tmp_path):
     data, size = made(tmp_path, "cube")
     dice = random.Random(5)
     assert [told(tmp_path / "a", data + dice.randbytes(count * size))[0] for count in (1, 2, 40)] == [1, 2, 40]
+
+
+def test_left_on_disk(tmp_path, monkeypatch):
+    """The same of large files, of which the program's hint does not say how many bytes are left."""
+    data, size = made(tmp_path, "cube")
+    monkeypatch.setattr(asking, "IN_MEMORY_BYTES", 0)
+    assert told(tmp_path / "a", data + bytes(700 * size)) == (700, 700 * size, 1)
+    assert told(tmp_path / "a", data + bytes(3 * size + 9)) == (3, 3 * size + 9, 1)
+    assert told(tmp_path / "a", data[:-9]) == (0, size - 9, 0)
 
 
 def changed(data, *places):

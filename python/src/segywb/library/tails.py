@@ -17,6 +17,7 @@ from .talk import LoadRefused, Talk, Trouble, rows
 # Numbers in the line and in the file, field record, kind of trace, scalar, units, samples, interval.
 FIELDS = "@1:4 @5:4 @9:4 @29:2 @71:2 @89:2 @115:2u @117:2u"
 LAST = f"table last last {FIELDS}"
+_ZEROS = " and ".join(f"{field} = 0" for field in FIELDS.split(" "))
 # Of each of these a writer of traces fills one at least, in each trace.
 FILLED = ("sequence_line", "sequence_file", "field_record", "trace_code", "samples", "interval")
 SCALARS = {0, *(sign * 10 ** power for sign in (1, -1) for power in range(5))}
@@ -56,18 +57,19 @@ def columns(talk: Talk, info: answers.Info, interval: int, told: Optional[Sequen
 
 
 def of_cut(descriptor: int, size: int, hint: str, options: Sequence[str], deadline: float) -> Dict[str, int]:
-    """The columns of a file that ends inside a trace (L14). The hint says how many bytes that is; traces of junk in front of them are junk too."""
-    told = _INSIDE.search(hint)
-    if not told:
-        return {}
-    rest = int(told[1])
-    zeros = _zeros(descriptor, size, rest) == rest
+    """The columns of a file that ends inside a trace (L14), by a reading that keeps what is behind the last whole one; traces of junk in front are junk too."""
     try:
         with Talk(descriptor, [*options, "--tail"], deadline) as talk:
             talk.send(["info", "getbin interval", LAST])
-            found = junk(talk, answers.info(talk.one()), answers.number(talk.one(), "value"), last(talk))
-    except (LoadRefused, Trouble):  # a program of before, or one that gets no memory: the bytes of no trace alone are known then
-        found = None
+            info = answers.info(talk.one())
+            found = junk(talk, info, answers.number(talk.one(), "value"), last(talk))
+            rest = info.tail or 0
+    except (LoadRefused, Trouble):  # a program of before, or one that gets no memory: its hint may say how many bytes that is
+        told = _INSIDE.search(hint)
+        if not told:
+            return {}
+        found, rest = None, int(told[1])
+    zeros = _zeros(descriptor, size, rest) == rest
     if found is None:
         return {"trailing_bytes": rest, "trailing_zeros": int(zeros)}
     return {"trailing_traces": found.traces, "trailing_bytes": rest + found.bytes, "trailing_zeros": int(zeros and found.zeros)}
@@ -117,7 +119,7 @@ class _File:
 
     def first_of_junk(self) -> Tuple[int, bool]:
         """From which trace on all may be junk, and whether one of them has a header of other bytes than zeros. The last one may be."""
-        first, strange, step = self._traces + 1, False, 1
+        first, strange, step = self._first_blank(), False, 1
         while first > 1:
             low = max(1, first - step)
             begin, more = first, False
@@ -131,6 +133,25 @@ class _File:
             if reached:
                 break
         return first, strange
+
+    def _first_blank(self) -> int:
+        """From which trace on all headers are zeros; one behind the last where that is not. By counts: there may be millions of them."""
+        first, step = self._traces + 1, 1
+        while first > 1 and self._blank(max(1, first - step)):
+            first, step = max(1, first - step), 2 * step
+        low = max(1, first - step)
+        while low < first:
+            middle = (low + first) // 2
+            if self._blank(middle):
+                first = middle
+            else:
+                low = middle + 1
+        return first
+
+    def _blank(self, position: int) -> bool:
+        """Whether all headers from this one on are zeros, in what a trace has a number in."""
+        self._talk.send([f"count {position} last where {_ZEROS}"])
+        return answers.number(self._talk.one(), "chosen") == self._traces - position + 1
 
     def _table(self, low: int, high: int) -> Iterator[List[int]]:
         self._talk.send([f"table {low} {high} {FIELDS}"])
@@ -157,7 +178,7 @@ def _zeros(descriptor: int, end: int, most: int) -> int:
     while at > end - most:
         begin = max(at - BLOCK, end - most)
         block = os.pread(descriptor, at - begin, begin)
-        if block.strip(b"\0"):
+        if block != bytes(len(block)):
             return end - at + len(block) - len(block.rstrip(b"\0"))
         at = begin
     return end - at

@@ -109,7 +109,7 @@ def test_sound_examples(undisturbed, tmp_path):
 
 
 def test_it_is_mended(tmp_path):
-    """By one script for files with whole traces of zeros, with some bytes more, and with both."""
+    """By a script for each number of traces: files with whole traces of zeros, with some bytes more, and with both."""
     whole = (TOP / "examples" / "cube.sgy").read_bytes()
     folder, database = tmp_path / "files", tmp_path / "lib.db"
     folder.mkdir()
@@ -122,9 +122,11 @@ def test_it_is_mended(tmp_path):
     library("report", "--db", database, "--out", tmp_path / "page.html")
     assert "<td class=\"number\">1,100</td><td class=\"number\">4</td>" in (tmp_path / "page.html").read_text()
     script = tmp_path / "drop.txt"
-    script.write_text("drop tail\ndelete all where sequence_file = 0 and samples = 0 and interval = 0 and scalar = 0\n")
-    words = ["mend", "--db", database, "--script", script, "--tail", "--where", "trailing_zeros", "--over", "--keep", tmp_path / "old", "--apply"]
-    assert "4 were mended" in library(*words)
+    for count, in rows(database, "SELECT trailing_traces FROM file WHERE trailing_zeros ORDER BY 1"):
+        script.write_text("drop tail\n" + "delete last\n" * count)
+        where = f"trailing_traces = {count} AND trailing_zeros"
+        words = ["mend", "--db", database, "--script", script, "--tail", "--where", where, "--over", "--keep", tmp_path / "old", "--apply"]
+        assert "1 were mended" in library(*words)
     assert {path.read_bytes() for path in folder.glob("*.sgy")} == {whole}
     assert rows(database, query) == []
 

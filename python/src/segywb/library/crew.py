@@ -25,6 +25,8 @@ GOODBYE_SECONDS = 2.0
 FEW = 4
 FEW_BYTES = 1 << 22
 MOMENT_SECONDS = 0.004
+# Processes that were ended and are not gone yet, as behind a disk that does not answer, or where others have all processors.
+_BEHIND: "List[subprocess.Popen[bytes]]" = []
 
 
 class Worker:
@@ -87,7 +89,7 @@ class Worker:
         try:
             self._process.wait(GOODBYE_SECONDS)
         except subprocess.TimeoutExpired:
-            pass
+            _BEHIND.append(self._process)
         status = early if early is not None else self._process.returncode
         if status is None:
             return "it does not end"

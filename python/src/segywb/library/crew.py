@@ -116,10 +116,11 @@ class Crew:
 
     def give(self, tasks: List[Task]) -> None:
         """Files for the worker that has the fewest. One that had none and has died since is not blamed on them."""
-        for worker in [one for one in self._workers if not one.tasks and one.ended]:
-            worker.end()
-            self._workers.remove(worker)
-        worker = min([one for one in self._workers if one.short], key=lambda one: len(one.tasks), default=None)
+        for dead in [one for one in self._workers if not one.tasks and one.ended]:
+            dead.end()
+            self._workers.remove(dead)
+        short = [one for one in self._workers if one.short]
+        worker = min(short, key=lambda one: len(one.tasks)) if short else None
         if worker is None or (worker.tasks and len(self._workers) < self._size):
             worker = Worker()
             self._workers.append(worker)

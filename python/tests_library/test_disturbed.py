@@ -4,6 +4,7 @@ import errno
 import os
 import signal
 import time
+import warnings
 
 import pytest
 from conftest import HERE, held, library, rows, started
@@ -173,3 +174,18 @@ def test_a_file_that_went_away(few, tmp_path):
     assert reading.read(facts.Task(os.fsencode(tmp_path / "absent"), 0, 1), 60).columns["trouble"] == "No such file or directory"
     os.mkfifo(tmp_path / "pipe")
     assert reading.read(facts.Task(os.fsencode(tmp_path / "pipe"), 0, 1), 60).other == "no file"
+
+
+def test_a_worker_that_is_slow_to_die(monkeypatch):
+    """It is not waited for, and nobody is warned of it."""
+    monkeypatch.setattr(crew, "GOODBYE_SECONDS", 0.0)
+    monkeypatch.setattr(crew.os, "killpg", lambda *_: None)
+    with warnings.catch_warnings(record=True) as told:
+        warnings.simplefilter("always")
+        worker = crew.Worker()
+        process = worker.pid
+        assert worker.end() == "it does not end"
+        del worker
+    os.kill(process, signal.SIGKILL)
+    crew._BEHIND.pop().wait()
+    assert [str(one.message) for one in told] == []

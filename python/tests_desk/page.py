@@ -53,7 +53,7 @@ class Page:
         """The header table as texts."""
         return self.js("return [...document.querySelectorAll('#table-room tbody tr')].map((row) => [...row.children].map((one) => one.firstChild.textContent))")
 
-    def wait(self, question, seconds=20.0):
+    def wait(self, question, seconds=60.0):
         until = time.monotonic() + seconds
         while True:
             try:
@@ -84,6 +84,12 @@ class Page:
         if answer == "ok":
             self.shown(before + 1)
         return answer
+
+    def step_of_line(self):
+        """Runs what stands in the command line."""
+        before = self.version()
+        self.find("line").send_keys(Keys.ENTER)
+        self.shown(before + 1)
 
     def answer(self, line=None):
         """The last answer."""

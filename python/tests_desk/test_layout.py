@@ -41,6 +41,19 @@ def test_a_laptop_is_enough(laptop):
         assert room(laptop, "commands")[1] >= max(room(laptop, name)[3], room(laptop, left)[3])
 
 
+def test_a_large_screen_is_used(laptop):
+    """Of 3,840 by 2,160 pixels: the plots are as high as the command line leaves room."""
+    laptop.browser.execute_cdp_cmd("Emulation.setDeviceMetricsOverride", {"width": 3840, "height": 2160, "deviceScaleFactor": 1, "mobile": False})
+    laptop.open()
+    assert no_wider(laptop) and room(laptop, "line")[3] <= 2160
+    wide, tall = laptop.js("const {width, height} = document.getElementById('plot-now')._fullLayout; return [width, height]")
+    assert wide > 2200 and tall == 1600 and room(laptop, "plot-now")[3] <= 2160
+    laptop.press("#section .to-right")
+    laptop.wait(lambda: laptop.data("sectionVersion"))
+    canvas = laptop.find("section-canvas").rect
+    assert canvas["width"] > 1200 and canvas["height"] == 1600 and no_wider(laptop)
+
+
 def test_two_panels_side_by_side(laptop):
     laptop.press("#graph .to-right")
     laptop.wait(lambda: laptop.data("graphKind") == "against-trace")

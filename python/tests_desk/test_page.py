@@ -236,6 +236,39 @@ def test_a_run_of_a_problem_leads_to_its_first_trace(opened):
     assert page.wait(lambda: page.all("tr.here"))[0].get_attribute("data-trace") == "7"
 
 
+SHAPES = "return (document.getElementById(arguments[0])._fullLayout.shapes || []).map(({x0, x1, y0, y1}) => [x0, x1, y0, y1])"
+
+
+def test_a_problem_is_shown_everywhere(opened, tmp_path):
+    """On the map, in the section, on the graph and in the table, while the page stays where it is; all that are alike are mended by one line."""
+    page = opened(survey(tmp_path / "survey.sgy"))
+    for name in ("section", "graph"):
+        page.press(f"#{name} .fold")
+    page.run("set 6 7 delay 30")
+    page.run("set 50 delay 30")
+    lead = "return [...document.querySelectorAll('#panel button')].find((one) => one.textContent === arguments[0]).click()"
+    page.wait(lambda: "traces 6 to 7: delay 30 usual 0" in page.text("panel"))
+    page.js("document.querySelector('[aria-label=\"show where S4 is\"]').click()")
+    page.wait(lambda: page.text("problem-window").startswith("S4: 2 runs"))
+    lines = page.js("return [...document.querySelectorAll('#problem-window .line')].map((one) => one.textContent)")
+    assert lines == ["set 6 7 delay 0", "set all delay 0 where delay = 30", "set 50 delay 0", "set all delay 0 where delay = 30"]
+    page.js("window.scrollTo(0, 0)")
+    page.js(lead, "traces 6 to 7: delay 30 usual 0")
+    page.wait(lambda: page.js(SHAPES, "plot-now") == [[4.5, 5.5, -0.5, 0.5], [5.5, 6.5, -0.5, 0.5]])
+    page.wait(lambda: page.js("return document.getElementById('section-canvas').shown.told.sides[0].marks") == [[5, 7]])
+    assert page.find("section-value").get_attribute("value") == "101"
+    page.wait(lambda: page.js(SHAPES, "plot-graph")[0][:2] == [5.5, 7.5])
+    page.wait(lambda: page.js("return [...document.querySelectorAll('tr.spot')].map((one) => one.dataset.trace)") == ["6", "7"])
+    assert page.js("return window.scrollY") == 0 and page.text("spot-said").startswith("Marked on the map, ")
+    assert page.browser.save_screenshot(f"{os.environ.get('SEGYWB_PICTURES') or tmp_path}/desk-problems.png")
+    page.js(lead, "set all delay 0 where delay = 30")
+    page.step_of_line()
+    page.wait(lambda: "traces 6 to 7" not in page.text("panel") and page.js(SHAPES, "plot-now") == [] and page.js(SHAPES, "plot-graph") == [])
+    assert run(page.desk.path, "set 6 7 delay 30\nset 50 delay 30\nset all delay 0 where delay = 30\ncount all where delay = 30\n")[0] == "ok\nok\nok 3\nchosen 0\n"
+    page.js(lead, "inline 112: step 1")
+    page.wait(lambda: page.js(SHAPES, "plot-now") == [[-0.5, 39.5, 10.5, 11.5]])
+
+
 def test_a_line_that_mends_a_problem(opened):
     """It is put into the command line, and runs when it is entered."""
     page = opened("wrong_count")

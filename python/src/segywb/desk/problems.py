@@ -14,6 +14,12 @@ _SETS = {
 }
 _ALONE = {"F8": "text ", "S1": "map shot"}
 _NOUNS = {"S7": "inline", "S8": "crossline"}
+# the field whose number a fact of a run tells, and the fact that says what belongs there
+_TOLD = {
+    "F2": ("samples", "field", "samples"), "F3": ("interval", "interval", "binary"), "F4": ("scalar", "scalar", None),
+    "F5": ("coordinate_units", "units", "first"), "S3": ("scalar", "scalar", "usual"), "S4": ("delay", "delay", "usual"),
+    "S5": ("inline", "inline", None), "S6": ("crossline", "crossline", None),
+}
 
 
 def _span(first: int, last: int) -> str:
@@ -37,13 +43,10 @@ def line_of(one: Problem) -> Optional[str]:
     if one.traces is None or not one.first_runs:
         return None
     run = one.first_runs[0]
-    span = _span(run.first, run.last)
     if one.code in _SETS:
         name, fact = _SETS[one.code]
-        return f"set {span} {name} {run.facts[fact] if fact else ''}"
-    if one.code == "F6":
-        return f"delete {span}"
-    return {"F9": f"set {span} @233:8 0", "S12": f"set {span} trace_code 2"}.get(one.code)
+        return f"set {_span(run.first, run.last)} {name} {run.facts[fact] if fact else ''}"
+    return next(iter(lines_of(one, run)), None)
 
 
 def _facts(facts: Dict[str, int]) -> str:
@@ -54,17 +57,39 @@ def _facts(facts: Dict[str, int]) -> str:
     return " ".join(f"{word} {number}" for word, number in facts.items())
 
 
+def lines_of(one: Problem, run: ProblemRun) -> List[str]:
+    """The lines that mend a run: its traces, and all that have the number that is wrong in it. What
+    nobody knows but the user is NUMBER, which the program refuses.
+
+    >>> run = ProblemRun(5, 8, {"scalar": 10, "usual": -100})
+    >>> lines_of(Problem("S3", 4, 1, [run], {}, ""), run)
+    ['set 5 8 scalar -100', 'set all scalar -100 where scalar = 10']
+    >>> lines_of(Problem("F6", 4, 1, [run], {}, ""), run)
+    ['delete 5 8']
+    """
+    span = _span(run.first, run.last)
+    if one.code in _TOLD:
+        name, wrong, right = _TOLD[one.code]
+        value = run.facts[right] if right else "NUMBER"
+        return [f"set {span} {name} {value}", f"set all {name} {value} where {name} = {run.facts[wrong]}"]
+    alone = {"F6": f"delete {span}", "F9": f"set {span} @233:8 0", "S12": f"set {span} trace_code 2"}.get(one.code)
+    return [alone] if alone else []
+
+
 def where(one: Problem, run: ProblemRun) -> Dict[str, Any]:
-    """A run in words, and the trace that it leads to; a gap of lines leads to none.
+    """A run in words, the traces that it leads to, and the lines that mend it; a gap leads to lines
+    of the survey that are missing.
 
     >>> run = ProblemRun(5, 8, {"before": 4})
     >>> where(Problem("F6", 4, 1, [run], {}, ""), run)
-    {'text': 'traces 5 to 8: before 4', 'trace': 5}
+    {'text': 'traces 5 to 8: before 4', 'trace': 5, 'last': 8, 'gap': None, 'lines': ['delete 5 8']}
     """
     noun = _NOUNS.get(one.code, "trace")
     span = f"{noun} {run.first}" if run.first == run.last else f"{noun}s {run.first} to {run.last}"
     text = ": ".join([span, *([_facts(run.facts)] if run.facts else [])])
-    return {"text": text, "trace": None if one.code in _NOUNS else run.first}
+    gap = _NOUNS.get(one.code)
+    trace = None if gap else run.first
+    return {"text": text, "trace": trace, "last": run.last, "gap": [gap, run.first, run.last] if gap else None, "lines": lines_of(one, run)}
 
 
 def shown(one: Problem) -> Dict[str, Any]:

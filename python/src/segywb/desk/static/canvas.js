@@ -151,10 +151,21 @@ export function draw(canvas, view, layers, axes) {
       const [x0, x1, y0, y1] = [across(plot, view, part[0]), across(plot, view, part[1]), down(plot, view, part[2]), down(plot, view, part[3])];
       for (const picture of pictures[at] || []) pen.drawImage(picture, x0, y0, x1 - x0, y1 - y0);
     }
+    for (const [from, to] of side.marks) tinted(pen, plot, across(plot, view, from), across(plot, view, to));
     pen.restore();
     frame(pen, plot, view, side, axes, colours);
   });
   return places;
+}
+
+// Traces that are marked, from one place to another: never narrower than what is seen.
+function tinted(pen, plot, from, to) {
+  const wide = Math.max(to - from, 3);
+  pen.fillStyle = css("--mark");
+  pen.globalAlpha = 0.3;
+  pen.fillRect(from, plot.y, wide, plot.tall);
+  pen.globalAlpha = 1;
+  pen.fillRect(from, plot.y, wide, 4);
 }
 
 function frame(pen, plot, view, side, axes, colours) {

@@ -104,6 +104,24 @@ def test_a_rectangle(opened, what, wanted):
     assert sum(one or 0 for row in found for one in row) == sum(cells.values())
 
 
+def test_all_that_a_rectangle_finds(opened):
+    """Where its traces stand in too many runs one line with a condition is offered, and does the same."""
+    page = opened("wrong_line", before="import segywb.desk.views as views; views.MOST_RUNS = 1")
+    page.drag([(0, 0), (0, 1)])
+    assert page.text("offer-count") == "4 traces" and page.find("offer-found").is_selected() and not page.find("offer-found").is_enabled()
+    assert "swap" not in page.find("offer-what").text
+    found = "where inline = 101 and crossline >= 201 and crossline <= 202"
+    for what, wanted in (("set", "set all inline 101"), ("compute", "compute all inline inline + 0"), ("delete", "delete all"), ("renumber", "renumber all inline 101 0")):
+        page.js("const one = document.getElementById('offer-what'); one.value = arguments[0]; one.dispatchEvent(new Event('input'))", what)
+        assert page.one("#offers pre").text == f"{wanted} {found}"
+    page.find("offer-value").clear()
+    page.find("offer-value").send_keys("102")
+    page.step("offer-run")
+    both = ["renumber 1 2 inline 102 0", "renumber 5 6 inline 102 0"], [f"renumber all inline 102 0 {found}"]
+    assert len({run(page.desk.path, "\n".join([*lines, "table 1 12 inline", ""]))[0].split("table ")[1] for lines in both}) == 1
+    assert page.map()[:2] == [[None, None, 2, 2], [2, 2, None, None]]
+
+
 def test_select_and_renumber(opened):
     page = opened("wrong_line")
     page.run("renumber 5 8 inline 107 0")

@@ -60,7 +60,7 @@ class Started:
     def end(self):
         if self.process.poll() is None:
             self.process.send_signal(signal.SIGTERM)
-        out, told = self.process.communicate(timeout=20)
+        out, told = self.process.communicate(timeout=60)
         return self.process.returncode, told
 
 

@@ -280,7 +280,7 @@ def shots(desk: Desk) -> Optional[Shots]:
 
 def sought(mirror: Any, told: Asked) -> Asked:
     """The section of the same kind that has the trace which is sought."""
-    trace = min(told.trace, len(mirror))
+    trace, told = min(told.trace, len(mirror)), told._replace(trace=0)
     if trace < 1:
         return told
     if told.field:
@@ -339,7 +339,7 @@ class Sections:
 
     def view(self, desk: Desk, told: Asked, window: Window, look: Look) -> Tuple[Told, bytes]:
         """A section as the page draws it: what is told of it, and the bytes of its pictures."""
-        told = automatic(desk) if told.field == "auto" else told
+        told = automatic(desk)._replace(trace=told.trace) if told.field == "auto" else told
         names = [*([told.field] if told.field else []), *look.fields]
         now = desk.widen(names)[1].mirror
         samples = int(desk.now().told["info"].split(" samples ")[1].split(" ")[0])

@@ -29,9 +29,9 @@ export const shown = () => !at("section").dataset.folded;
 // ---- what is asked
 
 function which() {
-  if (auto && !sought) return { field: "auto" };
-  const of = at("section-of").value;
   const trace = sought ? { trace: sought } : {};
+  if (auto) return { field: "auto", ...trace };
+  const of = at("section-of").value;
   if (of === "traces") return { first: at("section-first").value || 1, last: at("section-last").value || 0, ...trace };
   return { field: of === "field" ? at("section-field").value.trim() : of, value: at("section-value").value.trim(), ...trace };
 }

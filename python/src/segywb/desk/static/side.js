@@ -54,22 +54,30 @@ function offerLook(version, traces) {
 }
 
 const told = (one) => (one ? one.count : 0);
-const leads = (run) => (run.trace || run.gap ? make("button", { class: "link", type: "button", on: { click: () => lead(run).catch((error) => fill(at("spot-said"), error.message)) } }, run.text) : run.text);
+const leads = (run) => (run.trace || run.gap ? make("button", { class: "link", type: "button", on: { click: () => lead(run).catch((error) => say(error.message)) } }, run.text) : run.text);
 const puts = (line) => make("button", { class: "link line", type: "button", "aria-label": `put into the command line: ${line}`, on: { click: () => begin(line) } }, line);
+
+// What is marked, in words, and what takes the marks away.
+const nothing = () => ({ version: store.version, first: 0, last: 0, boxes: [], x: [], y: [] });
+function say(...parts) {
+  const room = at("spot-said");
+  if (room) fill(room, ...parts);
+}
+const unmark = () => make("button", { class: "link", type: "button", id: "spot-none", on: { click: () => { spot(nothing()); say(); } } }, "Take the marks away");
 
 // To the traces of a run, or to the lines that are missing: all that is open shows them, and the page stays where it is.
 async function lead(run) {
   if (run.gap) {
     const [name, low, high] = run.gap;
-    spot({ version: store.version, first: 0, last: 0, boxes: [name === "inline" ? [low, high, null, null] : [null, null, low, high]], x: [], y: [] });
-    fill(at("spot-said"), `Marked on the map: ${run.text}.`);
+    spot({ ...nothing(), boxes: [name === "inline" ? [low, high, null, null] : [null, null, low, high]] });
+    say(`Marked on the map: ${run.text}. `, unmark());
     return;
   }
   const last = run.last || run.trace;
   spot(await ask("spot", { first: run.trace, last }));
   await goTo(run.trace, true);
-  fill(at("spot-said"), `Marked on the map, in the section, on the graph and in the table, where these are open: ${last > run.trace ? `traces ${run.trace} to ${last}` : `trace ${run.trace}`}. `,
-    make("button", { class: "link", type: "button", id: "spot-row", on: { click: () => goTo(run.trace) } }, "To its row"));
+  say(`Marked on the map, in the section, on the graph and in the table, where these are open: ${last > run.trace ? `traces ${run.trace} to ${last}` : `trace ${run.trace}`}. `,
+    make("button", { class: "link", type: "button", id: "spot-row", on: { click: () => goTo(run.trace) } }, "To its row"), ". ", unmark());
 }
 
 // A group: how many have it, what it means, where it begins, and a line for the command line.

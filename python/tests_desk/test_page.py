@@ -266,6 +266,8 @@ def test_a_problem_is_shown_everywhere(opened, tmp_path):
     page.run("set 50 delay 30")
     lead = "return [...document.querySelectorAll('#panel button')].find((one) => one.textContent === arguments[0]).click()"
     page.wait(lambda: "traces 6 to 7: delay 30 usual 0" in page.text("panel"))
+    line = "return document.querySelector('[aria-label=\"put a line for F6 into the command line\"]').textContent"
+    assert page.js(line) == "renumber 441 480 inline 112 0"  # inline 112 lacks, and stands on 111
     page.js("document.querySelector('[aria-label=\"show where S4 is\"]').click()")
     page.wait(lambda: page.text("problem-window").startswith("S4: 2 runs"))
     lines = page.js("return [...document.querySelectorAll('#problem-window .line')].map((one) => one.textContent)")

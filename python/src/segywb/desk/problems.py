@@ -13,6 +13,7 @@ _SETS = {
     "F5": ("coordinate_units", "first"), "S5": ("inline", None), "S6": ("crossline", None),
 }
 _ALONE = {"F8": "text ", "S1": "map shot"}
+_LONGEST = 100_000  # traces of a run whose numbers are looked at
 _NOUNS = {"S7": "inline", "S8": "crossline"}
 # the field whose number a fact of a run tells, and the fact that says what belongs there
 _TOLD = {
@@ -102,6 +103,34 @@ def shown(one: Problem) -> Dict[str, Any]:
     }
 
 
+def renumbers(volume: Volume, found: List[Problem], run: ProblemRun) -> List[str]:
+    """Lines that give a block which stands on the numbers of another one those of a missing line
+    beside it: it may be that line, numbered wrongly, and nothing to delete."""
+    made: List[str] = []
+    for code, name in _NOUNS.items():
+        gaps = [gap for one in found if one.code == code for gap in one.first_runs]
+        if not gaps or run.last - run.first >= _LONGEST:
+            continue
+        numbers = set(volume.headers(name, traces=range(run.first, run.last + 1))[name].tolist())
+        if len(numbers) == 1:
+            here = numbers.pop()
+            near = [end for gap in gaps for end in (gap.first, gap.last) if abs(end - here) == gap.facts["step"]]
+            made += [f"renumber {run.first} {run.last} {name} {number} 0" for number in sorted(set(near))]
+    return made
+
+
+def all_shown(volume: Volume) -> List[Dict[str, Any]]:
+    """All problems of a volume."""
+    found = volume.problems()
+    made = [shown(one) for one in found]
+    for one, told in zip(found, made):
+        if one.code == "F6":
+            for run, row in zip(one.first_runs, told["first"]):
+                row["lines"] = [*renumbers(volume, found, run), *row["lines"]]
+            told["line"] = told["first"][0]["lines"][0]
+    return made
+
+
 class Kept:
     """The problems of one version, kept while they are asked again: each trace is looked at."""
 
@@ -111,5 +140,5 @@ class Kept:
     def answer(self, volume: Volume, version: int) -> List[Dict[str, Any]]:
         """The problems of this version."""
         if self._of is None or self._of[0] != version:
-            self._of = (version, [shown(one) for one in volume.problems()])
+            self._of = (version, all_shown(volume))
         return self._of[1]

@@ -257,6 +257,24 @@ def test_a_run_of_a_problem_leads_to_its_first_trace(opened):
 SHAPES = "return (document.getElementById(arguments[0])._fullLayout.shapes || []).map(({x0, x1, y0, y1}) => [x0, x1, y0, y1])"
 
 
+# What the frame of the traces 6 and 7 of 40 shows at its upper edge, and within.
+FRAME = """
+const one = document.getElementById('section-canvas'), copy = Object.assign(document.createElement('canvas'), {width: one.width, height: one.height});
+const pen = copy.getContext('2d', {willReadFrequently: true}), each = (one.clientWidth - 78) / 40;
+pen.drawImage(one, 0, 0);
+const at = (column, down) => [...pen.getImageData(Math.round(70 + column * each), Math.round(down), 1, 1).data];
+const kind = ([red, green, blue]) => (red === green && green === blue ? 'grey' : red > 150 && green < 80 ? 'mark' : 'other');
+const found = [kind(at(5.5, 26)), kind(at(5.5, one.clientHeight / 2))];
+return found[0] === 'mark' ? found : null;
+"""
+
+
+def test_a_file_without_traces(opened, tmp_path):
+    page = opened(files.write(tmp_path / "empty.sgy", files.header(), files.binary(samples=25)))
+    page.wait(lambda: page.text("problems-said") == "No problems found: the file has no traces.")
+    page.wait(lambda: page.text("section-caption") == "The file has no traces.")
+
+
 def test_a_problem_is_shown_everywhere(opened, tmp_path):
     """On the map, in the section, on the graph and in the table, while the page stays where it is; all that are alike are mended by one line."""
     page = opened(survey(tmp_path / "survey.sgy"))
@@ -276,6 +294,7 @@ def test_a_problem_is_shown_everywhere(opened, tmp_path):
     page.js(lead, "traces 6 to 7: delay 30 usual 0")
     page.wait(lambda: page.js(SHAPES, "plot-now") == [[4.5, 5.5, -0.5, 0.5], [5.5, 6.5, -0.5, 0.5]])
     page.wait(lambda: page.js("return document.getElementById('section-canvas').shown.told.sides[0].marks") == [[5, 7]])
+    assert page.wait(lambda: page.js(FRAME)) == ["mark", "grey"]  # a frame, which leaves the samples their colours
     assert page.find("section-value").get_attribute("value") == "101"
     page.wait(lambda: page.js(SHAPES, "plot-graph")[0][:2] == [5.5, 7.5])
     page.wait(lambda: page.js("return [...document.querySelectorAll('tr.spot')].map((one) => one.dataset.trace)") == ["6", "7"])

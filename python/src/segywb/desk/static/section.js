@@ -164,7 +164,7 @@ function paint() {
     if (!near || !view) return;
     const { head } = near;
     const layers = [far, near].filter((one, index, all) => one && (index === 1 || one !== all[1]));
-    const axes = { start: head.start, step: head.step || 1, unit: head.step ? "time (ms)" : "sample", along: head.along, headers: head.sides[0].headers.length, paper: PAPERS[at("section-style").value],
+    const axes = { empty: !head.samples, start: head.start, step: head.step || 1, unit: head.step ? "time (ms)" : "sample", along: head.along, headers: head.sides[0].headers.length, paper: PAPERS[at("section-style").value],
       sides: head.sides.map((one) => ({ title: head.sides.length > 1 ? TITLES[one.name] : "", label: one.label, part: one.part, headers: one.headers, marks: one.marks })) };
     places = canvas.draw(paper, view, layers, axes);
     document.body.dataset.sectionFrames = String(Number(document.body.dataset.sectionFrames || 0) + 1);
@@ -173,6 +173,7 @@ function paint() {
 
 function caption() {
   const { field, value, whole, every, samples, step, start, traces, sides } = told;
+  if (store.state && !store.state.traces) return "The file has no traces.";
   const [first] = sides;
   const of = field ? `Where ${field} is ${value}` : `Traces ${told.first.toLocaleString("en")} to ${told.last.toLocaleString("en")}`;
   const said = [`${of}: ${many(whole, "trace")} of ${many(samples, "sample")}${step ? `, ${start.toLocaleString("en")} to ${(start + Math.max(samples - 1, 0) * step).toLocaleString("en")} ms` : ""}.`];
@@ -341,7 +342,7 @@ function shots() {
   at("section-shots").hidden = !found;
   if (!found) return;
   const records = found.count === 1 ? `one field record, ${found.first}` : `${many(found.count, "field record")}, ${found.first} to ${found.last}`;
-  at("section-shots").firstChild.textContent = `All traces have inline ${found.inline} and crossline ${found.crossline} (S1), as those of shots: ${records}. The command below makes inlines of the records and crosslines of their traces.`;
+  at("section-shots").firstChild.textContent = `All traces have inline ${found.inline} and crossline ${found.crossline} (S1), as those of shots: ${records}. map shot makes inlines of the records and crosslines of their traces.`;
 }
 
 function line(value) {

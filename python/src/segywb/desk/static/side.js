@@ -34,7 +34,7 @@ async function problems() {
   const count = got.problems.length;
   if (chosen !== "problems") return;
   at("tab-problems").textContent = `Problems ${count}`;
-  fill(at("panel"), make("p", { id: "problems-said" }, count ? `${many(count, "problem")}. Not every one is an error.` : "No problems found. The survey can still be wrong."),
+  fill(at("panel"), make("p", { id: "problems-said" }, count ? `${many(count, "problem")}. Not every one is an error.` : traces ? "No problems found. The survey can still be wrong." : "No problems found: the file has no traces."),
     codes.length ? make("table", {}, make("tbody", {}, ...codes.map((code) => problemRow(code, now[code])))) : null, make("p", { id: "spot-said", "aria-live": "polite" }), make("div", { id: "problem-window" }));
   if (open && now[open]) await problemWindow(now[open]);
 }

@@ -254,9 +254,10 @@ def test_groups_of_problems(desk):
     found = {one["code"]: one for one in got["problems"]}
     assert [one.code for one in desk.volume.problems()] == list(found)
     count = len(desk.volume)
-    assert found["F1"]["first"] == [{"text": f"traces 1 to {count}: shift 1", "trace": 1}] and found["F1"]["single"]
+    assert found["F1"]["first"] == [{"text": f"traces 1 to {count}: shift 1", "trace": 1, "last": count, "gap": None, "lines": []}] and found["F1"]["single"]
     assert found["F1"]["line"] == "renumber all sequence_file 1 1"
-    assert found["F4"]["first"] == [{"text": "traces 3 to 4: scalar 7", "trace": 3}] and found["F4"]["line"] == "set 3 4 scalar "
+    lines = ["set 3 4 scalar NUMBER", "set all scalar NUMBER where scalar = 7"]
+    assert found["F4"]["first"] == [{"text": "traces 3 to 4: scalar 7", "trace": 3, "last": 4, "gap": None, "lines": lines}] and found["F4"]["line"] == "set 3 4 scalar "
     usual = found["S3"]["first"][0]["text"].split()[-1]
     assert found["S3"]["line"] == f"set all scalar {usual} where scalar != {usual}" and not found["S3"]["single"]
     desk.run("set 3 4 scalar 10")

@@ -119,6 +119,20 @@ def test_a_pixel_holds_the_sample_farthest_from_zero(desk):
     assert near.tolist() == codes[100:120, 30:50].tolist()
 
 
+def test_the_section_of_a_trace(desk):
+    """Of the kind that is shown; and which columns are marked. What was loaded beside it is the same section."""
+    view = Sections().view
+    marked = look()._replace(marked=(44, 46), side="both")
+    desk.run("delete 1 10")
+    told = view(desk, Asked("auto", None, 1, 0, 45), ALL, marked)[0]
+    assert (told["field"], told["value"]) == ("field_record", 103)
+    assert [one["marks"] for one in told["sides"]] == [[], [[13, 16]]]
+    assert told["sides"][0]["trace"] == list(range(41, 61)) and told["sides"][1]["trace"] == list(range(31, 51))
+    for first, last, trace, wanted in ((20, 29, 25, (20, 29)), (20, 29, 101, (96, 105)), (20, 29, 3, (1, 10)), (20, 29, 999, (181, 190))):
+        told = view(desk, Asked("", None, first, last, trace), ALL, look())[0]
+        assert (told["first"], told["last"]) == wanted, trace
+
+
 def test_which_traces(desk):
     view = Sections().view
     told = view(desk, Asked("field_record", 103, 1, 0), ALL, look(fields=["offset"]))[0]

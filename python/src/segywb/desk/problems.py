@@ -14,6 +14,13 @@ _NOUNS = {"S7": "inline", "S8": "crossline"}
 _MOST_SAMPLES = 65535
 # of a longer run (F6) about so many traces are compared with the earlier ones
 _MOST_COMPARED = 500
+_LONGEST = 100_000  # traces of a run whose numbers are looked at
+# the field whose number a fact of a run tells, and the fact that says what belongs there
+_TOLD = {
+    "F2": ("samples", "field", "samples"), "F3": ("interval", "interval", "binary"), "F4": ("scalar", "scalar", None),
+    "F5": ("coordinate_units", "units", "first"), "S3": ("scalar", "scalar", "usual"), "S4": ("delay", "delay", "usual"),
+    "S5": ("inline", "inline", None), "S6": ("crossline", "crossline", None),
+}
 
 
 def _span(first: int, last: int) -> str:
@@ -124,27 +131,94 @@ def _facts(facts: Dict[str, int]) -> str:
     return " ".join(f"{word} {number}" for word, number in facts.items())
 
 
+def _right(one: Problem, run: ProblemRun) -> Optional[str]:
+    """What belongs where the wrong number of a run stands: NUMBER, which the program refuses, where
+    nobody knows but the user; nothing where more traces are told than not, since it may be the others.
+
+    >>> run = ProblemRun(5, 8, {"scalar": 10, "usual": -100})
+    >>> [_right(Problem("S3", 4, 1, [run], {}, "", of), run) for of in (12, 6)]
+    ['-100', None]
+    """
+    fact = _TOLD[one.code][2]
+    if fact is None:
+        return "NUMBER"
+    if one.code == "F2":
+        return str(run.facts[fact] if run.facts[fact] <= _MOST_SAMPLES else 0)
+    if one.most or one.code == "F3" and not run.facts[fact]:
+        return None
+    return str(run.facts[fact])
+
+
+def lines_of(one: Problem, run: ProblemRun, volume: Volume) -> List[str]:
+    """The lines that may mend a run: of its traces, and of all that have the number that is wrong in
+    it; of lengths the latter of a fixed file alone, since others have other lengths."""
+    span = _span(run.first, run.last)
+    if one.code in _TOLD:
+        name, wrong, _ = _TOLD[one.code]
+        value = _right(one, run)
+        if value is None:
+            return []
+        alike = f"set all {name} {value} where {name} = {run.facts[wrong]}"
+        return [f"set {span} {name} {value}", *([alike] if one.code != "F2" or volume.info.fixed else [])]
+    if one.code == "F6":
+        return [f"delete {span}"] if _stands_twice(run, volume) else []
+    alone = {"F9": f"set {span} @233:8 0", "S12": f"set {span} trace_code 2"}.get(one.code)
+    return [alone] if alone else []
+
+
 def where(one: Problem, run: ProblemRun) -> Dict[str, Any]:
-    """A run in words, and the trace that it leads to; a gap of lines leads to none.
+    """A run in words, and the traces that it leads to; a gap leads to lines of the survey that are
+    missing.
 
     >>> run = ProblemRun(5, 8, {"before": 4})
     >>> where(Problem("F6", 4, 1, [run], {}, ""), run)
-    {'text': 'traces 5 to 8: before 4', 'trace': 5}
+    {'text': 'traces 5 to 8: before 4', 'trace': 5, 'last': 8, 'gap': None}
     """
     noun = _NOUNS.get(one.code, "trace")
     span = f"{noun} {run.first}" if run.first == run.last else f"{noun}s {run.first} to {run.last}"
     text = ": ".join([span, *([_facts(run.facts)] if run.facts else [])])
-    return {"text": text, "trace": None if one.code in _NOUNS else run.first}
+    gap = _NOUNS.get(one.code)
+    trace = None if gap else run.first
+    return {"text": text, "trace": trace, "last": run.last, "gap": [gap, run.first, run.last] if gap else None}
 
 
 def shown(one: Problem, volume: Volume) -> Dict[str, Any]:
-    """A problem, with its first runs."""
+    """A problem, with its first runs and their lines."""
     return {
         "code": one.code, "count": one.how_many, "meaning": one.meaning, "runs": one.runs,
         "facts": _facts(one.facts) if one.code in ("F7", "S1", "S9") else "",
-        "first": [where(one, run) for run in one.first_runs], "line": line_of(one, volume),
-        "single": one.code.startswith("F") and one.traces is not None,
+        "first": [{**where(one, run), "lines": lines_of(one, run, volume)} for run in one.first_runs],
+        "line": line_of(one, volume), "single": one.code.startswith("F") and one.traces is not None,
     }
+
+
+def renumbers(volume: Volume, found: List[Problem], run: ProblemRun) -> List[str]:
+    """Lines that give a block which stands on the numbers of another one those of a missing line
+    beside it: it may be that line, numbered wrongly, and nothing to delete."""
+    made: List[str] = []
+    for code, name in _NOUNS.items():
+        gaps = [gap for one in found if one.code == code for gap in one.first_runs]
+        if not gaps or run.last - run.first >= _LONGEST:
+            continue
+        numbers = set(volume.headers(name, traces=range(run.first, run.last + 1))[name].tolist())
+        if len(numbers) == 1:
+            here = numbers.pop()
+            near = [end for gap in gaps for end in (gap.first, gap.last) if abs(end - here) == gap.facts["step"]]
+            made += [f"renumber {run.first} {run.last} {name} {number} 0" for number in sorted(set(near))]
+    return made
+
+
+def all_shown(volume: Volume) -> List[Dict[str, Any]]:
+    """All problems of a volume. Of a block that stands on the numbers of another one the traces are
+    taken away where they are copies, and else get the numbers of a missing line beside it."""
+    found = volume.problems()
+    made = [shown(one, volume) for one in found]
+    for one, told in zip(found, made):
+        if one.code == "F6":
+            for run, row in zip(one.first_runs, told["first"]):
+                row["lines"] = row["lines"] or renumbers(volume, found, run)
+            told["line"] = next(iter(told["first"][0]["lines"]), None)
+    return made
 
 
 class Kept:
@@ -156,5 +230,5 @@ class Kept:
     def answer(self, volume: Volume, version: int) -> List[Dict[str, Any]]:
         """The problems of this version."""
         if self._of is None or self._of[0] != version:
-            self._of = (version, [shown(one, volume) for one in volume.problems()])
+            self._of = (version, all_shown(volume))
         return self._of[1]

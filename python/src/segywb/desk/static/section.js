@@ -76,7 +76,7 @@ export async function show() {
       const got = await picture("section", { ...asked, ...look(), ...marked(), ...window_() });
       // An answer to what is asked no more would write its line over the one that was chosen since.
       const still = JSON.stringify(asked) === JSON.stringify(which());
-      if (still && (!again || !near)) took(got, asked.trace);
+      if (!again || (still && !near)) took(got, asked.trace);
       room.classList.remove("busy");
     } while (again || told.read < 1);
     at("section-said").textContent = "";

@@ -41,7 +41,7 @@ def made_line(path, traces=200, samples=300, form=3, records=20, delays=False):
         trace = bytearray(
             files.trace(n + 1, 0, 0, patterns, size=4 if form == 5 else 2, signed=False)
         )
-        trace[8:12] = struct.pack(">i", 101 + n // records)
+        trace[8:16] = struct.pack(">ii", 101 + n // records, 1 + offset)
         trace[36:40] = struct.pack(">i", 25 * offset)
         if delays:
             trace[108:110] = struct.pack(">h", 8 * (n % 3))

@@ -27,6 +27,7 @@ FEW_TRACES = 2000  # how many traces of a line without bins are shown at first
 ROOM = 4  # pixels that a wiggle wants
 MOST_MARKS = 500
 RECORD = "field_record"
+IN_RECORD = "trace_in_record"
 LATER = 4  # behind the first look so many times as much is read until the next one
 COARSE = (
     8  # every so manieth sample is read first, and stands for those behind it until they are there
@@ -263,12 +264,15 @@ def automatic(desk: Desk) -> Asked:
 
 def shots(desk: Desk) -> Optional[Shots]:
     """The records of a file of which ``problems`` tells S1: two or more traces, all of one inline
-    and one crossline.
+    and one crossline; none where its traces have no numbers in their records.
     """
     now = desk.now()
     if len(now.mirror) < 2 or now.inlines.shape[1] > 1 or now.crosslines.shape[1] > 1:
         return None
-    numbers = np.unique(desk.widen([RECORD])[1].mirror.columns[RECORD])
+    columns = desk.widen([RECORD, IN_RECORD])[1].mirror.columns
+    if len(np.unique(columns[IN_RECORD])) < 2:
+        return None
+    numbers = np.unique(columns[RECORD])
     return {
         "count": len(numbers),
         "first": int(numbers[0]),
